@@ -1,0 +1,62 @@
+use Rattle.std.proofs.Common.{◌≤◌, length, arith, rules, inr, refl, ap, subst}
+use Rattle.std.proofs.lemmas.Grind.{common_steps}
+use Rattle.tlv_head.specs.declared.reader.Head.TheVariants.{Whole}
+use Rattle.tlv_head.specs.Progress.{Progress}
+use Rattle.tlv_head.specs.Refusal.{IsRefusedOctet}
+use Rattle.tlv_head.specs.Push.{Answers, IsRefused}
+use Rattle.tlv_head.proofs.Exact.{exact, refused_in, completes_unique, front_not_whole}
+use Rattle.tlv_head.proofs.Unfinished.{length-carried, made_too_deep, made_ends_past, unfinished_part}
+use Rattle.tlv_head.proofs.reader.HeadReader.push.Goals as goal
+
+pub push-requires : goal.push-requires
+push-requires c =
+    let b : length c.self.inside.raw.items ≤ 136 = length-carried c.self.inside.part c.self.inside.raw.items c.self.invariant in
+    (omega arith, omega arith)
+
+pub returns-then-holds : goal.returns-then-holds
+returns-then-holds c =
+    let a : Answers c.args.self.now c.args.octet c.args.room c.args.depth c.args.self.now c.refused-then-holds.result =
+    rw c.refused-then-holds.ensures (
+      (
+        search rules,
+        made_too_deep _ _ _ _ _ _ (c.in-Finished.ensures c.self.inside.raw.items c.self.invariant) (ap (λ (p : Progress). p.octets) c.self.view_is)
+            (search rules) (search rules),
+      ),
+      search rules,
+      refl,
+    ) in
+    record { answer = a; whole = exact _ _ _ _ _ _ a }
+
+pub returns-then-not-fits : goal.returns-then-not-fits
+returns-then-not-fits c =
+    let a : Answers c.args.self.now c.args.octet c.args.room c.args.depth c.args.self.now c.refused-then-not-fits.result =
+    rw c.refused-then-not-fits.ensures (
+      inr (
+        search rules,
+        made_ends_past _ _ _ _ _ _ _ (c.in-Finished.ensures c.self.inside.raw.items c.self.invariant) (ap (λ (p : Progress). p.octets) c.self.view_is)
+            (search rules) (search rules),
+      ),
+      search rules,
+      refl,
+    ) in
+    record { answer = a; whole = exact _ _ _ _ _ _ a }
+
+pub returns-in-Unfinished : goal.returns-in-Unfinished
+returns-in-Unfinished c =
+    let p = unfinished_part c.in-Unfinished.part c.self.inside.raw.items c.args.octet (c.in-Unfinished.ensures c.self.inside.raw.items c.self.invariant) in
+    rw (← c.self.view_is) (record {
+      answer = (search rules, p.0, rw (p.1, c.push.ensures.items) refl);
+      whole = λ h d n f. absurd (front_not_whole _ _ h p.0 d);
+    })
+
+pub returns-in-Refused : goal.returns-in-Refused
+returns-in-Refused c =
+    let q : IsRefused c.in-Refused.code c.args.self.now c.args.octet c.args.room c.args.depth =
+    refused_in _ _ _ _ _ (search rules)
+    (subst (λ (p : Progress). IsRefusedOctet c.in-Refused.code p.octets c.args.octet) c.self.view_is (c.in-Refused.ensures c.self.inside.raw.items c.self.invariant)) in
+    let a : Answers c.args.self.now c.args.octet c.args.room c.args.depth c.args.self.now c.refused-in-Refused.result =
+    rw c.refused-in-Refused.ensures (q, search rules, refl) in
+    record { answer = a; whole = exact _ _ _ _ _ _ a }
+
+pub returns-else-not-fits-clause-whole : goal.returns-else-not-fits-clause-whole
+returns-else-not-fits-clause-whole c = λ h d n f. ap (λ g. Whole g) (completes_unique _ _ _ _ (grind (arith, common_steps)) d)

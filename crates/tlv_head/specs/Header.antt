@@ -1,0 +1,128 @@
+-- Identifier and length octets of an element: X.690 8.1.2 and 8.1.3.
+use Rattle.std.specs.Prelude.{◌≡◌, ◌≢◌, ◌⊎◌, ℕ, ◌+◌, ◌*◌, ◌^◌, ◌<◌, ◌≤◌, Bool, true, false, not, ◌&&◌, ◌||◌, eqb, if◌then◌else◌, List, [], ◌∷◌, ◌++◌, length, map, All}
+use Rattle.tlv_head.specs.declared.header.Class.{Class}
+use Rattle.tlv_head.specs.declared.header.Class.TheVariants.{Universal, Application, Context, Private}
+use Rattle.tlv_head.specs.declared.header.Size.{Size}
+use Rattle.tlv_head.specs.declared.header.Size.TheVariants.{Definite, Indefinite}
+
+-- 8.1.2.2 a): bits 8 and 7 of the first identifier octet
+abbrev pub class_bits : Class → ℕ
+class_bits Universal = 0
+class_bits Application = 1
+class_bits Context = 2
+class_bits Private = 3
+
+-- 8.1.2.5: bit 6 of the first identifier octet, with its weight
+abbrev pub form_bit : Bool → ℕ
+form_bit true = 32
+form_bit false = 0
+
+-- 8.1.2.2, 8.1.2.4.1: the first identifier octet is the class, the form in bit 6, and bits 5 to 1
+abbrev pub leading_octet : Class → Bool → ℕ → ℕ
+leading_octet class constructed low = 64 * class_bits class + form_bit constructed + low
+
+-- 8.1.2.4.2 b), 8.1.3.5 b): the number that digits make, the most significant first
+abbrev pub value_of : ℕ → List ℕ → ℕ
+value_of base [] = 0
+value_of base (d ∷ ds) = d * base ^ length ds + value_of base ds
+
+-- 8.1.2.4.2 a): bit 8 set
+abbrev pub flagged : List ℕ → List ℕ
+flagged digits = map (λ d. 128 + d) digits
+
+-- 8.1.2.2: one octet, for a number up to 30. It is not 00, with which 8.1.5 ends contents
+pub record IsLowForm (class : Class) (constructed : Bool) (number : ℕ) (octets : List ℕ) : Type 0 where
+  pub small : number < 31
+  pub octet : octets ≡ leading_octet class constructed number ∷ []
+  pub nonzero : leading_octet class constructed number ≢ 0
+
+-- 8.1.2.4: a first octet with bits 5 to 1 set, then one to nine digits in base 128, with bit 8 set in all but the last
+pub record IsHighForm (class : Class) (constructed : Bool) (number : ℕ) (octets : List ℕ) : Type 0 where
+  pub digits : List ℕ
+  pub last : ℕ
+  pub each : All (λ d. d < 128) digits
+  pub last_digit : last < 128
+  pub few : length digits ≤ 8
+  pub value : number ≡ value_of 128 (digits ++ last ∷ [])
+  pub octet : octets ≡ leading_octet class constructed 31 ∷ (flagged digits ++ last ∷ [])
+
+-- 8.1.2: identifier octets
+abbrev pub IsIdentifier : Class → Bool → ℕ → List ℕ → Type 0
+IsIdentifier class constructed number octets =
+    IsLowForm class constructed number octets ⊎ IsHighForm class constructed number octets
+
+-- 8.1.3.4: one octet below 80
+abbrev pub IsShortForm : ℕ → List ℕ → Type 0
+IsShortForm n octets = (n < 128) × (octets ≡ n ∷ [])
+
+-- 8.1.3.5: the number of octets that follow, 1 to 126, and the length in base 256, here below 2^40
+pub record IsLongForm (n : ℕ) (octets : List ℕ) : Type 0 where
+  pub digits : List ℕ
+  pub each : All (λ d. d < 256) digits
+  pub some : 1 ≤ length digits
+  pub few : length digits ≤ 126
+  pub value : n ≡ value_of 256 digits
+  pub limit : n < 2 ^ 40
+  pub octet : octets ≡ (128 + length digits) ∷ digits
+
+-- 8.1.3.3, 8.1.3.6.1: length octets
+abbrev pub IsLength : Size → List ℕ → Type 0
+IsLength (Definite n) octets = IsShortForm n octets ⊎ IsLongForm n octets
+IsLength Indefinite octets = octets ≡ 128 ∷ []
+
+-- what contracts see of a `Header`: what its octets say, where its first octet stands, and whether the
+-- offset is one of those that the user named
+pub record Heading : Type 0 where
+  pub offset : ℕ
+  pub named : Bool
+  pub class : Class
+  pub constructed : Bool
+  pub number : ℕ
+  pub size : Size
+  pub identifier : List ℕ
+  pub lengths : List ℕ
+
+-- 8.1.1.1: identifier octets, then length octets
+abbrev pub octets_of : Heading → List ℕ
+octets_of h = h.identifier ++ h.lengths
+
+-- 8.1.3.2 a): a primitive has a definite length
+abbrev pub AllowsSize : Bool → Size → Type 0
+AllowsSize true size = Unit {0}
+AllowsSize false (Definite n) = Unit {0}
+AllowsSize false Indefinite = ⊥
+
+-- 8.1.2, 8.1.3: the fields are those that the octets say
+pub record IsHeading (h : Heading) : Type 0 where
+  pub identifier : IsIdentifier h.class h.constructed h.number h.identifier
+  pub lengths : IsLength h.size h.lengths
+  pub allowed : AllowsSize h.constructed h.size
+
+-- 8.1.3.3: how many contents octets are announced
+abbrev pub announced : Size → ℕ
+announced (Definite n) = n
+announced Indefinite = 0
+
+-- 8.1.2.2 a): the class is universal
+abbrev pub is_universal : Class → Bool
+is_universal Universal = true
+is_universal Application = false
+is_universal Context = false
+is_universal Private = false
+
+-- 8.6.2, 8.7.2: a named primitive that is an OCTET STRING, or a BIT STRING of one or more contents octets:
+-- its contents are to be read as encodings
+abbrev pub is_wrapper : Bool → Class → Bool → ℕ → Size → Bool
+is_wrapper named class constructed number size =
+    named && not constructed && is_universal class && (eqb number 4 || (eqb number 3 && not (eqb (announced size) 0)))
+
+abbrev pub wraps : Heading → Bool
+wraps h = is_wrapper h.named h.class h.constructed h.number h.size
+
+-- 8.1.2.5: the contents are encodings: the element is constructed, or wraps them
+abbrev pub holds : Heading → Bool
+holds h = h.constructed || wraps h
+
+-- 8.1.3.6: identifier octets, and the indefinite form
+abbrev pub indefinite_octets : Heading → List ℕ
+indefinite_octets h = h.identifier ++ 128 ∷ []

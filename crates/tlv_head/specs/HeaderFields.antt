@@ -1,0 +1,20 @@
+-- What the fields of a `Header` say.
+use Rattle.std.specs.Prelude.{◌≤◌, take, drop, length}
+use Rattle.tlv_head.specs.Header.{Heading}
+use Rattle.tlv_head.specs.declared.header.Header.TheInside.{Inside}
+
+abbrev pub heading_of : Inside → Heading
+heading_of h = record {
+  offset = h.offset;
+  named = h.named;
+  class = h.class;
+  constructed = h.constructed;
+  number = h.number;
+  size = h.size;
+  identifier = take h.id_len h.raw.items;
+  lengths = drop h.id_len h.raw.items;
+}
+
+-- the identifier has at most ten octets, and the header at most 137
+abbrev pub IsWithinRoom : Inside → Type 0
+IsWithinRoom h = (h.id_len ≤ length h.raw.items) × (h.id_len ≤ 10) × (length h.raw.items ≤ 137)

@@ -1,0 +1,72 @@
+-- What a `HeadReader` carries of the octets so far.
+use Rattle.std.specs.Prelude.{◌≡◌, ℕ, ◌+◌, ◌^◌, ◌-◌, ◌<◌, ◌≤◌, Bool, true, false, List, [], ◌∷◌, ◌++◌, length}
+use Rattle.tlv_head.specs.declared.header.Size.{Size}
+use Rattle.tlv_head.specs.Header.{value_of, IsIdentifier, IsLength, AllowsSize}
+use Rattle.tlv_head.specs.Progress.{Progress}
+use Rattle.tlv_head.specs.Refusal.{IsNumberFront, IsLengthFront, IsRefusedOctet}
+use Rattle.tlv_head.specs.declared.reader.Identifier.{Identifier}
+use Rattle.tlv_head.specs.declared.reader.Part.{Part}
+use Rattle.tlv_head.specs.declared.reader.Part.TheVariants.{Start, Number, Length, Digits, Done}
+use Rattle.tlv_head.specs.declared.reader.Next.{Next}
+use Rattle.tlv_head.specs.declared.reader.Next.TheVariants.{Unfinished, Finished, Refused}
+use Rattle.tlv_head.specs.declared.reader.HeadReader.TheInside.{Inside}
+
+-- the identifier octets so far are in the high form
+pub record CarriesNumber (id : Identifier) (octets : List ℕ) : Type 0 where
+  pub digits : List ℕ
+  pub front : IsNumberFront id.class id.constructed digits octets
+  pub count : id.octets ≡ length digits + 1
+  pub few : length digits ≤ 8
+  pub value : id.number ≡ value_of 128 digits
+
+-- the octets are the identifier
+pub record CarriesIdentifier (id : Identifier) (octets : List ℕ) : Type 0 where
+  pub identified : IsIdentifier id.class id.constructed id.number octets
+  pub count : id.octets ≡ length octets
+  pub few : length octets ≤ 10
+
+-- the octets are the identifier, the first length octet and digits
+pub record CarriesLength (id : Identifier) (n left : ℕ) (octets : List ℕ) : Type 0 where
+  pub identifier : List ℕ
+  pub digits : List ℕ
+  pub front : IsLengthFront id.class id.constructed id.number identifier digits left octets
+  pub count : id.octets ≡ length identifier
+  pub few : length identifier ≤ 10
+  pub value : n ≡ value_of 256 digits
+  -- so that zeros make a length below 2^40 of it
+  pub small : n < 256 ^ (5 - left)
+
+abbrev pub Carries : Part → List ℕ → Type 0
+Carries Start octets = octets ≡ []
+Carries (Number id) octets = CarriesNumber id octets
+Carries (Length id) octets = CarriesIdentifier id octets
+Carries (Digits id n left) octets = CarriesLength id n left octets
+Carries Done octets = octets ≡ []
+
+-- the octets are a header with these fields
+pub record MakesHeader (id : Identifier) (size : Size) (octets : List ℕ) : Type 0 where
+  pub identifier : List ℕ
+  pub lengths : List ℕ
+  pub identified : CarriesIdentifier id identifier
+  pub sized : IsLength size lengths
+  pub few : length lengths ≤ 127
+  pub some : 1 ≤ length lengths
+  pub allowed : AllowsSize id.constructed size
+  pub octet : octets ≡ identifier ++ lengths
+
+-- what an octet makes of the octets before
+abbrev pub Follows : List ℕ → ℕ → Next → Type 0
+Follows octets x (Unfinished part) = Carries part (octets ++ x ∷ [])
+Follows octets x (Finished id size) = MakesHeader id size (octets ++ x ∷ [])
+Follows octets x (Refused code) = IsRefusedOctet code octets x
+
+abbrev pub is_done : Part → Bool
+is_done Start = false
+is_done (Number id) = false
+is_done (Length id) = false
+is_done (Digits id n left) = false
+is_done Done = true
+
+-- what the fields of a reader say
+abbrev pub progress_of : Inside → Progress
+progress_of r = record { offset = r.offset; named = r.named; octets = r.raw.items; done = is_done r.part }

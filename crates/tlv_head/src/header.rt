@@ -1,0 +1,125 @@
+//! An element's header: its identifier and length octets, and what they say.
+use arrayvec::ArrayVec;
+use std::marker::Model;
+
+/// The class of a tag (8.1.2.2).
+#[derive(Clone, Copy, PartialEq, Eq, Debug)]
+pub enum Class {
+    Universal,
+    Application,
+    Context,
+    Private,
+}
+
+/// What the length octets say (8.1.3).
+#[derive(Clone, Copy, PartialEq, Eq, Debug)]
+pub enum Size {
+    /// So many contents octets follow, fewer than 2^40.
+    Definite(u64),
+    /// Contents follow up to the end-of-contents octets.
+    Indefinite,
+}
+
+/// Identifier and length octets of an element, with what they say.
+#[derive(Debug, Drop)]
+pub struct Header {
+    /// Where the first identifier octet stands, in octets from the start of the input.
+    pub offset: u64,
+    pub class: Class,
+    /// Whether the element is constructed; otherwise it is primitive (8.1.2.5).
+    pub constructed: bool,
+    /// The tag number.
+    pub number: u64,
+    pub size: Size,
+    pub(crate) raw: ArrayVec<u8, 137>,
+    /// How many octets are the identifier.
+    pub id_len: u8,
+    pub(crate) named: bool,
+}
+
+impl Model for Header {
+    ghost use Rattle.tlv_head.specs.Header.{Heading};
+
+    ghost Value = { Heading };
+
+    ghost use Rattle.tlv_head.specs.HeaderFields.{heading_of, IsWithinRoom};
+
+    ghost view = { heading_of };
+
+    ghost invariant = { IsWithinRoom };
+}
+
+impl Header {
+    ghost use Rattle.std.specs.Prelude.{◌≤◌, length};
+    ghost use Rattle.tlv_head.specs.Header.{octets_of, wraps};
+
+    /// The octets as they stand: the identifier octets, of which there are [`Header::id_len`], and
+    /// then the length octets. There are at most 137.
+    pub fn raw(&self) -> &[u8]
+        ensures value { result.now ≡ octets_of self.now }
+        ensures within { length result.now ≤ 137 }
+    {
+        let _id_len = self.id_len;
+        self.raw.as_slice()
+    }
+
+    /// Whether the contents are to be read as encodings although the element is primitive: it is an
+    /// OCTET STRING, or a BIT STRING of one or more contents octets, whose offset the user named.
+    pub fn wraps(&self) -> bool
+        ensures { result ≡ wraps self.now }
+    {
+        is_wrapper(
+            self.named,
+            self.class,
+            self.constructed,
+            self.number,
+            self.size,
+        )
+    }
+}
+
+ghost use Rattle.std.specs.Prelude.{◌≡◌, eqb, true};
+ghost use Rattle.tlv_head.specs.Header.{announced, indefinite_octets, is_wrapper as is_wrapper_of};
+
+/// [`Header::wraps`], of the fields that it goes by (8.6.2, 8.7.2).
+pub(crate) fn is_wrapper(
+    named: bool,
+    class: Class,
+    constructed: bool,
+    number: u64,
+    size: Size,
+) -> bool
+    ensures { result ≡ is_wrapper_of named class constructed number size }
+{
+    if !named || constructed {
+        return false;
+    }
+    match (class, number) {
+        (Class::Universal, 3) => !is_empty(size),
+        (Class::Universal, 4) => true,
+        _ => false,
+    }
+}
+
+/// Whether the length octets announce no contents octet.
+fn is_empty(size: Size) -> bool
+    ensures { result ≡ eqb (announced size) 0 }
+{
+    match size {
+        Size::Definite(length) => length == 0,
+        Size::Indefinite => true,
+    }
+}
+
+/// The identifier octets of a constructed element, and `80`: the same header with the indefinite
+/// form of the length (8.1.3.6).
+pub fn spell_indefinite(header: &Header) -> ArrayVec<u8, 11>
+    requires { header.now.constructed ≡ true }
+    ensures { result.items ≡ indefinite_octets header.now }
+{
+    let mut octets = ArrayVec::new();
+    let identifier = &header.raw()[..usize::from(header.id_len)];
+    let _ = octets.try_extend_from_slice(identifier);
+    octets.push(0x80);
+    octets
+}

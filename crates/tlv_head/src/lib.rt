@@ -1,0 +1,13 @@
+//! Headers of BER, CER and DER encodings (ITU-T X.690, 8.1.2 and 8.1.3): a reader that takes one
+//! octet at a time, the texts of tags, and the faults of an input.
+#![tactic(auto)]
+
+mod fault;
+mod header;
+mod reader;
+mod tag;
+
+pub use fault::{Fault, FaultCode};
+pub use header::{Class, Header, Size, spell_indefinite};
+pub use reader::{Head, HeadReader};
+pub use tag::tag_text;

@@ -1,0 +1,106 @@
+-- What a walk over elements tells, in order.
+use Rattle.std.specs.Prelude.{◌≡◌, ℕ, ◌+◌, if◌then◌else◌, List, [], ◌∷◌, ◌++◌, length, map, Option, Some, None}
+use Rattle.tlv_head.specs.declared.header.Size.{Size}
+use Rattle.tlv_head.specs.declared.header.Size.TheVariants.{Definite, Indefinite}
+use Rattle.tlv_head.specs.Header.{Heading}
+use Rattle.tlv_walk.specs.Forest.{Forest, Stop, Fill, Whole, Closed, Partial, Entered, Awaiting, Begun, Zero, lead, opening, spell}
+
+-- what is told: an event, apart from where its octets lie in memory
+pub data Told : Type 0 where
+  -- 8.1.2.5: a constructed element begins
+  Open : (head : Heading) → Told
+  -- 8.1.2.5: a primitive begins, gives contents octets, and ends
+  Begin : (head : Heading) → Told
+  Bytes : (octets : List ℕ) → Told
+  End : Told
+  -- 8.1.5: a constructed element ends, with the offset of its end-of-contents octets, where it has them
+  Close : (offset : Option ℕ) → Told
+  -- 8.6.2, 8.7.2: a wrapper begins, gives the first contents octet of a BIT STRING, and ends
+  Enter : (head : Heading) → Told
+  Unused : Told
+  Leave : Told
+  -- octets 00 between encodings
+  Pad : (octets : List ℕ) → Told
+
+-- 8.1.5: the offset of the end-of-contents octets, where there are any
+abbrev pub end_offset : Size → ℕ → Option ℕ
+end_offset (Definite n) at = None
+end_offset Indefinite at = Some at
+
+-- an element that holds others begins
+abbrev pub opens : Heading → List Told
+opens h = (if h.constructed then Open h else Enter h) ∷ map (λ z. Unused) (lead h)
+
+-- an element that holds others ends
+abbrev pub closes : Heading → Forest → Told
+closes h inside = if h.constructed then Close (end_offset h.size (h.offset + length (opening h) + length (spell inside))) else Leave
+
+-- an open forest read off in order
+abbrev pub events : Forest → List Told
+events Stop = []
+events (Fill rest) = Pad (0 ∷ []) ∷ events rest
+events (Whole h c rest) = Begin h ∷ Bytes c ∷ End ∷ events rest
+events (Closed h inside rest) = opens h ++ (events inside ++ closes h inside ∷ events rest)
+events (Partial h c) = Begin h ∷ Bytes c ∷ []
+events (Entered h inside) = opens h ++ events inside
+events (Awaiting h) = Enter h ∷ []
+events (Begun octets) = []
+events Zero = []
+
+-- each octet by itself
+abbrev pub apart : List Told → List Told
+apart [] = []
+apart (Open h ∷ es) = Open h ∷ apart es
+apart (Begin h ∷ es) = Begin h ∷ apart es
+apart (Bytes c ∷ es) = map (λ x. Bytes (x ∷ [])) c ++ apart es
+apart (End ∷ es) = End ∷ apart es
+apart (Close o ∷ es) = Close o ∷ apart es
+apart (Enter h ∷ es) = Enter h ∷ apart es
+apart (Unused ∷ es) = Unused ∷ apart es
+apart (Leave ∷ es) = Leave ∷ apart es
+apart (Pad c ∷ es) = map (λ x. Pad (x ∷ [])) c ++ apart es
+
+-- contents octets, and then these events: put together with contents octets that come first
+abbrev pub with_bytes : List ℕ → List Told → List Told
+with_bytes [] es = es
+with_bytes (x ∷ b) [] = Bytes (x ∷ b) ∷ []
+with_bytes (x ∷ b) (Bytes c ∷ es) = Bytes (x ∷ b ++ c) ∷ es
+with_bytes (x ∷ b) (Open h ∷ es) = Bytes (x ∷ b) ∷ Open h ∷ es
+with_bytes (x ∷ b) (Begin h ∷ es) = Bytes (x ∷ b) ∷ Begin h ∷ es
+with_bytes (x ∷ b) (End ∷ es) = Bytes (x ∷ b) ∷ End ∷ es
+with_bytes (x ∷ b) (Close o ∷ es) = Bytes (x ∷ b) ∷ Close o ∷ es
+with_bytes (x ∷ b) (Enter h ∷ es) = Bytes (x ∷ b) ∷ Enter h ∷ es
+with_bytes (x ∷ b) (Unused ∷ es) = Bytes (x ∷ b) ∷ Unused ∷ es
+with_bytes (x ∷ b) (Leave ∷ es) = Bytes (x ∷ b) ∷ Leave ∷ es
+with_bytes (x ∷ b) (Pad c ∷ es) = Bytes (x ∷ b) ∷ Pad c ∷ es
+
+-- padding, and then these events: put together with padding that comes first
+abbrev pub with_pad : List ℕ → List Told → List Told
+with_pad [] es = es
+with_pad (x ∷ b) [] = Pad (x ∷ b) ∷ []
+with_pad (x ∷ b) (Pad c ∷ es) = Pad (x ∷ b ++ c) ∷ es
+with_pad (x ∷ b) (Open h ∷ es) = Pad (x ∷ b) ∷ Open h ∷ es
+with_pad (x ∷ b) (Begin h ∷ es) = Pad (x ∷ b) ∷ Begin h ∷ es
+with_pad (x ∷ b) (Bytes c ∷ es) = Pad (x ∷ b) ∷ Bytes c ∷ es
+with_pad (x ∷ b) (End ∷ es) = Pad (x ∷ b) ∷ End ∷ es
+with_pad (x ∷ b) (Close o ∷ es) = Pad (x ∷ b) ∷ Close o ∷ es
+with_pad (x ∷ b) (Enter h ∷ es) = Pad (x ∷ b) ∷ Enter h ∷ es
+with_pad (x ∷ b) (Unused ∷ es) = Pad (x ∷ b) ∷ Unused ∷ es
+with_pad (x ∷ b) (Leave ∷ es) = Pad (x ∷ b) ∷ Leave ∷ es
+
+-- adjacent `Bytes`, and adjacent `Pad`s, put together, and empty ones dropped
+abbrev pub joined : List Told → List Told
+joined [] = []
+joined (Bytes b ∷ es) = with_bytes b (joined es)
+joined (Pad b ∷ es) = with_pad b (joined es)
+joined (Open h ∷ es) = Open h ∷ joined es
+joined (Begin h ∷ es) = Begin h ∷ joined es
+joined (End ∷ es) = End ∷ joined es
+joined (Close o ∷ es) = Close o ∷ joined es
+joined (Enter h ∷ es) = Enter h ∷ joined es
+joined (Unused ∷ es) = Unused ∷ joined es
+joined (Leave ∷ es) = Leave ∷ joined es
+
+-- the same events, however contents and padding are cut into pieces
+abbrev pub AreEqualJoined : List Told → List Told → Type 0
+AreEqualJoined xs ys = joined xs ≡ joined ys

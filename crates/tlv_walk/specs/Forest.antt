@@ -1,0 +1,83 @@
+-- Elements, of which the last may still be open: X.690 8.1.1, 8.1.4 and 8.1.5.
+use Rattle.std.specs.Prelude.{◌≡◌, ℕ, ◌+◌, Bool, true, false, eqb, if◌then◌else◌, List, [], ◌∷◌, ◌++◌, length}
+use Rattle.tlv_head.specs.declared.header.Size.{Size}
+use Rattle.tlv_head.specs.declared.header.Size.TheVariants.{Definite, Indefinite}
+use Rattle.tlv_head.specs.Header.{Heading, octets_of}
+
+-- 8.1.1.1, 8.1.4: whole elements, one after another, and then at most one open end
+pub data Forest : Type 0 where
+  -- no more
+  Stop : Forest
+  -- an octet 00 between encodings
+  Fill : (rest : Forest) → Forest
+  -- a primitive with all its contents octets
+  Whole : (head : Heading) (contents : List ℕ) (rest : Forest) → Forest
+  -- an element that holds others and has ended: constructed, or a wrapper
+  Closed : (head : Heading) (inside rest : Forest) → Forest
+  -- a primitive with fewer contents octets than its length
+  Partial : (head : Heading) (contents : List ℕ) → Forest
+  -- an element that holds others and has not ended, with what it holds so far
+  Entered : (head : Heading) (inside : Forest) → Forest
+  -- a wrapping BIT STRING without its first contents octet
+  Awaiting : (head : Heading) → Forest
+  -- the front of a header
+  Begun : (octets : List ℕ) → Forest
+  -- the first of the end-of-contents octets
+  Zero : Forest
+
+-- 8.6.2.2: the contents octets of a wrapper before what it holds: in a BIT STRING 00, no bit unused
+abbrev pub lead : Heading → List ℕ
+lead h = if h.constructed then [] else (if eqb h.number 3 then 0 ∷ [] else [])
+
+-- 8.1.1.1: what comes before the elements that an element holds
+abbrev pub opening : Heading → List ℕ
+opening h = octets_of h ++ lead h
+
+-- 8.1.5: what ends the contents
+abbrev pub end_octets : Size → List ℕ
+end_octets (Definite n) = []
+end_octets Indefinite = 0 ∷ 0 ∷ []
+
+-- 8.1.1.1: the octets
+abbrev pub spell : Forest → List ℕ
+spell Stop = []
+spell (Fill rest) = 0 ∷ spell rest
+spell (Whole h c rest) = octets_of h ++ (c ++ spell rest)
+spell (Closed h inside rest) = opening h ++ (spell inside ++ (end_octets h.size ++ spell rest))
+spell (Partial h c) = octets_of h ++ c
+spell (Entered h inside) = opening h ++ spell inside
+spell (Awaiting h) = octets_of h
+spell (Begun octets) = octets
+spell Zero = 0 ∷ []
+
+-- 8.1.4: the number of contents octets so far of an element that holds others
+abbrev pub contents_length : Heading → Forest → ℕ
+contents_length h inside = length (lead h) + length (spell inside)
+
+-- 8.1.1.1: the number of octets of an element that holds others and has ended
+abbrev pub extent : Heading → Forest → ℕ
+extent h inside = length (opening h) + (length (spell inside) + length (end_octets h.size))
+
+-- nothing is open
+abbrev pub is_whole : Forest → Bool
+is_whole Stop = true
+is_whole (Fill rest) = is_whole rest
+is_whole (Whole h c rest) = is_whole rest
+is_whole (Closed h inside rest) = is_whole rest
+is_whole (Partial h c) = false
+is_whole (Entered h inside) = false
+is_whole (Awaiting h) = false
+is_whole (Begun octets) = false
+is_whole Zero = false
+
+-- an octet of an element is there
+abbrev pub has_element : Forest → Bool
+has_element Stop = false
+has_element (Fill rest) = has_element rest
+has_element (Whole h c rest) = true
+has_element (Closed h inside rest) = true
+has_element (Partial h c) = true
+has_element (Entered h inside) = true
+has_element (Awaiting h) = true
+has_element (Begun octets) = true
+has_element Zero = true

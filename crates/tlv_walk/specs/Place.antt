@@ -1,0 +1,144 @@
+-- Where elements may stand, and what may be open there: X.690 8.1.3, 8.1.4 and 8.1.5.
+use Rattle.std.specs.Prelude.{◌≡◌, ℕ, ◌+◌, ◌<◌, ◌≤◌, Bool, true, false, ◌||◌, eqb, List, [], ◌∷◌, length, Option, Some, None, IfSome}
+use Rattle.tlv_head.specs.declared.header.Size.{Size}
+use Rattle.tlv_head.specs.declared.header.Size.TheVariants.{Definite, Indefinite}
+use Rattle.tlv_head.specs.Header.{Heading, IsHeading, announced, holds, octets_of}
+use Rattle.tlv_head.specs.Refusal.{IsFront}
+use Rattle.tlv_walk.specs.declared.framing.Framing.{Framing}
+use Rattle.tlv_walk.specs.Forest.{Forest, Stop, Fill, Whole, Closed, Partial, Entered, Awaiting, Begun, Zero, contents_length, extent, is_whole, lead, opening, spell}
+
+-- the offset is one of those
+abbrev pub is_among : ℕ → List ℕ → Bool
+is_among n [] = false
+is_among n (x ∷ xs) = eqb n x || is_among n xs
+
+-- where a forest stands
+pub record Place : Type 0 where
+  -- the offset of its first octet
+  pub at : ℕ
+  -- how many elements hold it
+  pub depth : ℕ
+  -- the end of the innermost definite element that holds it
+  pub bound : Option ℕ
+  -- the innermost element that holds it has an indefinite length
+  pub indefinite : Bool
+  -- octets 00 may stand there between encodings
+  pub padding : Bool
+  -- the offsets that the user named
+  pub inside : List ℕ
+
+-- the start of the input
+abbrev pub top : Framing → Place
+top framing = record { at = 0; depth = 0; bound = None; indefinite = false; padding = framing.padding; inside = framing.inside }
+
+-- n octets on
+abbrev pub after : Place → ℕ → Place
+after p n = record p { at = p.at + n }
+
+-- 8.1.3.3: the end of contents that begin there, or else the bound outside
+abbrev pub bound_in : Size → ℕ → Option ℕ → Option ℕ
+bound_in (Definite n) start outside = Some (start + n)
+bound_in Indefinite start outside = outside
+
+-- 8.1.3.6: the length is indefinite
+abbrev pub is_indefinite : Size → Bool
+is_indefinite (Definite n) = false
+is_indefinite Indefinite = true
+
+-- 8.1.4: where the elements stand that an element with this header holds
+abbrev pub inside_of : Place → Heading → Place
+inside_of p h = record {
+  at = p.at + length (opening h);
+  depth = p.depth + 1;
+  bound = bound_in h.size (p.at + length (octets_of h)) p.bound;
+  indefinite = is_indefinite h.size;
+  padding = false;
+  inside = p.inside;
+}
+
+-- n octets from there on do not pass the bound
+abbrev pub Fits : Place → ℕ → Type 0
+Fits p n = IfSome p.bound (λ b. p.at + n ≤ b)
+
+-- 8.1.2, 8.1.3: a header stands there, of an element that holds others or of one that does not
+pub record IsHeadAt (p : Place) (holding : Bool) (h : Heading) : Type 0 where
+  pub valid : IsHeading h
+  pub offset : h.offset ≡ p.at
+  pub named : h.named ≡ is_among p.at p.inside
+  pub form : holds h ≡ holding
+
+-- 8.1.3.3: a definite length is that of the contents
+abbrev pub HasLength : Size → ℕ → Type 0
+HasLength (Definite n) m = m ≡ n
+HasLength Indefinite m = Unit {0}
+
+-- 8.1.3.3: contents so far of that length lack octets of a definite length
+abbrev pub LacksOctets : Size → ℕ → Type 0
+LacksOctets (Definite n) m = m < n
+LacksOctets Indefinite m = Unit {0}
+
+-- 8.1.4: a primitive with all its contents octets
+pub record IsWhole (p : Place) (h : Heading) (c : List ℕ) : Type 0 where
+  pub header : IsHeadAt p false h
+  pub size : h.size ≡ Definite (length c)
+  pub fits : Fits p (length (octets_of h) + length c)
+
+-- 8.1.4: a primitive that lacks contents octets
+pub record IsPartial (p : Place) (h : Heading) (c : List ℕ) : Type 0 where
+  pub header : IsHeadAt p false h
+  pub announces : ℕ
+  pub size : h.size ≡ Definite announces
+  pub fewer : length c < announces
+  pub fits : Fits p (length (octets_of h) + announces)
+
+-- 8.1.4, 8.1.5: an element that holds others and has ended
+pub record IsClosed (p : Place) (h : Heading) (inside : Forest) : Type 0 where
+  pub header : IsHeadAt p true h
+  pub depth : p.depth < 128
+  pub whole : is_whole inside ≡ true
+  pub filled : HasLength h.size (contents_length h inside)
+  pub fits : Fits p (extent h inside)
+
+-- 8.1.4: the header of an element that holds others, with its contents inside the bound
+pub record IsEntry (p : Place) (h : Heading) : Type 0 where
+  pub header : IsHeadAt p true h
+  pub depth : p.depth < 128
+  pub fits : Fits p (length (octets_of h) + announced h.size)
+
+-- 8.1.4: such an element that has not ended: where what it holds is whole, contents octets are lacking
+pub record IsEntered (p : Place) (h : Heading) (inside : Forest) : Type 0 where
+  pub entry : IsEntry p h
+  pub lacks : is_whole inside ≡ true → LacksOctets h.size (contents_length h inside)
+
+-- 8.6.2.2: a wrapping BIT STRING of which the header alone is there
+pub record IsAwaiting (p : Place) (h : Heading) : Type 0 where
+  pub entry : IsEntry p h
+  pub lead : lead h ≡ 0 ∷ []
+
+-- an octet 00 between encodings
+pub record IsFill (p : Place) : Type 0 where
+  pub allowed : p.padding ≡ true
+  pub definite : p.indefinite ≡ false
+  pub fits : Fits p 1
+
+-- the front of a header, or the first of the end-of-contents octets, inside the bound
+pub record IsBegun (p : Place) (octets : List ℕ) : Type 0 where
+  pub some : octets ≡ [] → ⊥
+  pub front : IsFront octets
+  pub fits : Fits p (length octets)
+
+pub record IsZero (p : Place) : Type 0 where
+  pub indefinite : p.indefinite ≡ true
+  pub fits : Fits p 1
+
+-- an open forest: each element in it stands by the rules, and no octet and no announced end lies past the bound
+abbrev pub IsOpen : Place → Forest → Type 0
+IsOpen p Stop = Unit {0}
+IsOpen p (Fill rest) = IsFill p × IsOpen (after p 1) rest
+IsOpen p (Whole h c rest) = IsWhole p h c × IsOpen (after p (length (octets_of h) + length c)) rest
+IsOpen p (Closed h inside rest) = IsClosed p h inside × IsOpen (inside_of p h) inside × IsOpen (after p (extent h inside)) rest
+IsOpen p (Partial h c) = IsPartial p h c
+IsOpen p (Entered h inside) = IsEntered p h inside × IsOpen (inside_of p h) inside
+IsOpen p (Awaiting h) = IsAwaiting p h
+IsOpen p (Begun octets) = IsBegun p octets
+IsOpen p Zero = IsZero p

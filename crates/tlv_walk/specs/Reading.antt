@@ -1,0 +1,40 @@
+-- What an input is read as, and which inputs are sound.
+use Rattle.std.specs.Prelude.{◌≡◌, ℕ, ◌+◌, ◌<◌, ◌≤◌, true, false, List, ◌++◌, length}
+use Rattle.tlv_head.specs.declared.header.Size.TheVariants.{Definite}
+use Rattle.tlv_head.specs.Header.{octets_of}
+use Rattle.tlv_walk.specs.declared.framing.Framing.{Framing}
+use Rattle.tlv_walk.specs.Forest.{Forest, Stop, Fill, Whole, Closed, Partial, Entered, Awaiting, Begun, Zero, contents_length, extent, has_element, opening, spell}
+use Rattle.tlv_walk.specs.Place.{HasLength, IsHeadAt, IsOpen, Place, after, inside_of, top}
+
+-- p is a front of b
+abbrev pub IsPrefixOf : List ℕ → List ℕ → Type 0
+IsPrefixOf p b = (rest : List ℕ) × (p ++ rest ≡ b)
+
+-- the reading of an input: the open forest that spells the longest front of it that any open forest spells
+pub record IsReading (framing : Framing) (b : List ℕ) (f : Forest) : Type 0 where
+  pub is_open : IsOpen (top framing) f
+  pub front : IsPrefixOf (spell f) b
+  pub longest : (g : Forest) → IsOpen (top framing) g → IsPrefixOf (spell g) b → length (spell g) ≤ length (spell f)
+
+-- 8.1.1 to 8.1.5: nothing is open, each definite length is that of the contents, and no element is held by
+-- more than 127 others; padding stands between the outermost elements alone
+abbrev pub IsSound : Place → Forest → Type 0
+IsSound p Stop = Unit {0}
+IsSound p (Fill rest) = (p.padding ≡ true) × IsSound (after p 1) rest
+IsSound p (Whole h c rest) =
+    IsHeadAt p false h × (h.size ≡ Definite (length c)) × IsSound (after p (length (octets_of h) + length c)) rest
+IsSound p (Closed h inside rest) =
+    IsHeadAt p true h × HasLength h.size (contents_length h inside) × (p.depth < 128)
+    × IsSound (inside_of p h) inside × IsSound (after p (extent h inside)) rest
+IsSound p (Partial h c) = ⊥
+IsSound p (Entered h inside) = ⊥
+IsSound p (Awaiting h) = ⊥
+IsSound p (Begun octets) = ⊥
+IsSound p Zero = ⊥
+
+-- the octets of one or more sound elements, with padding where the framing has it
+pub record IsSoundList (framing : Framing) (b : List ℕ) : Type 0 where
+  pub forest : Forest
+  pub sound : IsSound (top framing) forest
+  pub some : has_element forest ≡ true
+  pub octets : spell forest ≡ b

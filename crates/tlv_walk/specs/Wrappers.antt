@@ -1,0 +1,30 @@
+-- Which of the named offsets are those of strings that hold encodings.
+use Rattle.std.specs.Prelude.{ℕ, if◌then◌else◌, List, [], ◌∷◌, ◌++◌, Option, Some, None}
+use Rattle.tlv_head.specs.Header.{Heading}
+use Rattle.tlv_walk.specs.Forest.{Forest, Stop, Fill, Whole, Closed, Partial, Entered, Awaiting, Begun, Zero}
+use Rattle.tlv_walk.specs.Place.{is_among}
+
+-- of an element that holds others: the offset, where it is a wrapper
+abbrev pub wrapper_at : Heading → List ℕ
+wrapper_at h = if h.constructed then [] else h.offset ∷ []
+
+-- the offsets of the wrappers
+abbrev pub wrappers : Forest → List ℕ
+wrappers Stop = []
+wrappers (Fill rest) = wrappers rest
+wrappers (Whole h c rest) = wrappers rest
+wrappers (Closed h inside rest) = wrapper_at h ++ (wrappers inside ++ wrappers rest)
+wrappers (Partial h c) = []
+wrappers (Entered h inside) = wrapper_at h ++ wrappers inside
+wrappers (Awaiting h) = wrapper_at h
+wrappers (Begun octets) = []
+wrappers Zero = []
+
+-- the first offset of the list that is not among the others
+abbrev pub first_other : List ℕ → List ℕ → Option ℕ
+first_other [] others = None
+first_other (n ∷ ns) others = if is_among n others then first_other ns others else Some n
+
+-- the first named offset that is no wrapper's
+abbrev pub unused_of : List ℕ → Forest → Option ℕ
+unused_of inside f = first_other inside (wrappers f)

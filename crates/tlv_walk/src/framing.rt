@@ -1,0 +1,60 @@
+//! How an input is to be read.
+use arrayvec::ArrayVec;
+use std::marker::Model;
+
+/// The offsets of strings whose contents are to be read as encodings: at most 16, rising, each at
+/// most 2^40.
+#[derive(Debug, Drop)]
+pub struct Inside {
+    offsets: ArrayVec<u64, 16>,
+}
+
+impl Model for Inside {
+    ghost use Rattle.std.specs.Prelude.{List, ℕ};
+
+    ghost Value = { List ℕ };
+
+    ghost use Rattle.tlv_walk.specs.Inside.{CanName};
+
+    ghost view = { λ i. i.offsets.items };
+
+    ghost invariant = { λ i. CanName i.offsets.items };
+}
+
+/// How an input is to be read.
+#[derive(Debug, Drop)]
+pub struct Framing {
+    /// The strings whose contents are to be read as encodings.
+    pub inside: Inside,
+    /// Whether octets `00` may stand between the encodings at the top.
+    pub padding: bool,
+}
+
+impl Inside {
+    ghost use Rattle.std.specs.Prelude.{IfNone, IfSome, ◌≡◌};
+    ghost use Rattle.tlv_walk.specs.Inside.{CanName};
+
+    /// The offsets, where there are at most 16, each larger than the one before and at most 2^40;
+    /// otherwise nothing. There may be none.
+    pub fn new(offsets: &[u64]) -> Option<Inside>
+        ensures named { IfSome result (λ inside. inside ≡ offsets.now) }
+        ensures some { IfSome result (λ inside. CanName offsets.now) }
+        ensures none { IfNone result (CanName offsets.now → ⊥) }
+    {
+        let mut named = ArrayVec::new();
+        let mut least = 0;
+        for &offset in offsets {
+            if named.is_full() || offset < least || offset > 1 << 40 {
+                return None;
+            }
+            named.push(offset);
+            least = offset + 1;
+        }
+        Some(Inside { offsets: named })
+    }
+
+    /// Whether the offset is one of them.
+    pub(crate) fn contains(&self, offset: u64) -> bool {
+        self.offsets.contains(&offset)
+    }
+}

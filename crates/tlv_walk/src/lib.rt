@@ -1,0 +1,9 @@
+//! A walk over BER, CER and DER encodings (ITU-T X.690): in whatever pieces the octets come, what is
+//! told is what a recursive grammar of identifier, length and contents octets gives.
+#![tactic(auto)]
+
+mod ending;
+mod framing;
+
+pub use ending::Ending;
+pub use framing::{Framing, Inside};
