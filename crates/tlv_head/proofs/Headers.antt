@@ -9,7 +9,7 @@ use Rattle.tlv_head.specs.declared.fault.FaultCode.TheVariants.{Empty, Short, St
 use Rattle.tlv_head.proofs.Scan.{Scan, Origin, origin_of, start, Fresh, High, Named, Long, Ready, Stuck, Over, leads, class_of, step, scan, scan_from-append, scan_from-past, scan-moved, moved, IsHighState, IsLongState, Reads, reads-step, reads-scan, is_more, front-from_more, more-from_front, front-bytes, no-front, same-header}
 
 -- lists that go on to one list: one is a front of the other
-fronts : (a b x y : List ℕ) → a ++ x ≡ b ++ y → ((z : List ℕ) × (a ++ z ≡ b) × (x ≡ z ++ y)) ⊎ ((z : List ℕ) × (b ++ z ≡ a) × (y ≡ z ++ x))
+pub fronts : (a b x y : List ℕ) → a ++ x ≡ b ++ y → ((z : List ℕ) × (a ++ z ≡ b) × (x ≡ z ++ y)) ⊎ ((z : List ℕ) × (b ++ z ≡ a) × (y ≡ z ++ x))
 fronts [] b x y e = inl (b, refl, e)
 fronts (c ∷ a) [] x y e = inr (c ∷ a, refl, sym e)
 fronts (c ∷ a) (d ∷ b) x y e =

@@ -5,3 +5,4 @@ pub mod Scan
 pub mod Headers
 pub mod Refused
 pub mod Exact
+pub mod Front

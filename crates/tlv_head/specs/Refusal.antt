@@ -17,6 +17,18 @@ pub record IsFront (octets : List ℕ) : Type 0 where
 abbrev pub BeginsNone : List ℕ → Type 0
 BeginsNone octets = (h : Heading) (more : List ℕ) → IsHeading h → octets ++ more ≡ octets_of h → ⊥
 
+-- the octets begin with this header, which stands at that offset
+pub record BeginsWith (input : List ℕ) (at : ℕ) (is_named : Bool) (h : Heading) : Type 0 where
+  pub valid : IsHeading h
+  pub offset : h.offset ≡ at
+  pub named : h.named ≡ is_named
+  pub rest : List ℕ
+  pub octets : input ≡ octets_of h ++ rest
+
+-- no header is a front of the octets
+abbrev pub BeginsWithNone : List ℕ → Type 0
+BeginsWithNone octets = (h : Heading) (rest : List ℕ) → IsHeading h → octets ≡ octets_of h ++ rest → ⊥
+
 -- 8.1.2.4.2: the high form so far: digits, each with bit 8 set, behind the first octet
 pub record IsNumberFront (class : Class) (constructed : Bool) (digits octets : List ℕ) : Type 0 where
   pub each : All (λ d. d < 128) digits

@@ -9,5 +9,5 @@ mod tag;
 
 pub use fault::{Fault, FaultCode};
 pub use header::{Class, Header, Size, spell_indefinite};
-pub use reader::{Head, HeadReader};
+pub use reader::{Head, HeadReader, read_header};
 pub use tag::tag_text;

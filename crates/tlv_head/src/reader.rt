@@ -1,8 +1,9 @@
 //! Reads a header, one octet at a time.
-ghost use Rattle.std.specs.Prelude.{◌≡◌, ◌≢◌, ℕ, ◌+◌, ◌/◌, ◌^◌, ◌<◌, ◌≤◌, ◌↔◌, List, [], ◌∷◌, ◌++◌, ◌||◌, false, IsTrue, Some};
+ghost use Rattle.std.specs.Prelude.{◌≡◌, ◌≢◌, ℕ, ◌+◌, ◌/◌, ◌^◌, ◌<◌, ◌≤◌, ◌↔◌, List, [], ◌∷◌, ◌++◌, ◌||◌, false, IsTrue, Some, MatchOption};
 ghost use Rattle.tlv_head.specs.Header.{class_bits, is_wrapper as is_wrapper_of};
 ghost use Rattle.tlv_head.specs.Progress.{Fits};
-ghost use Rattle.tlv_head.specs.Part.{Carries, CarriesNumber, CarriesIdentifier, CarriesLength, Follows, is_done};
+ghost use Rattle.tlv_head.specs.Refusal.{BeginsWith, BeginsWithNone};
+ghost use Rattle.tlv_head.specs.Part.{Carries, CarriesNumber, CarriesIdentifier, CarriesLength, Follows, MakesHeader, is_done};
 
 use crate::header::is_wrapper;
 use crate::{Class, Fault, FaultCode, Header, Size};
@@ -150,6 +151,53 @@ impl HeadReader {
                 })
             }
         }
+    }
+}
+
+/// The header with which the octets begin, whatever follows it. `None` where they begin with none:
+/// a header is unfinished or refused, or there is no octet. A header that is cut into pieces goes
+/// through a [`HeadReader`].
+pub fn read_header(offset: u64, named: bool, octets: &[u8]) -> Option<Header>
+    ensures { MatchOption result (BeginsWithNone octets.now) (λ h. BeginsWith octets.now offset named h) }
+{
+    let mut part = Part::Start;
+    for i in 0..octets.len() {
+        if i == 0 && octets[i] == 0 {
+            return None;
+        }
+        match read_octet(part, octets[i]) {
+            Next::Unfinished(next) => part = next,
+            Next::Finished(identifier, size) => {
+                return Some(header_of(offset, named, identifier, size, &octets[..=i]));
+            }
+            Next::Refused(_) => return None,
+        }
+    }
+    None
+}
+
+/// The header that these octets are.
+fn header_of(
+    offset: u64,
+    named: bool,
+    identifier: Identifier,
+    size: Size,
+    octets: &[u8],
+) -> Header
+    requires { MakesHeader identifier size octets.now }
+    ensures { (rest : List ℕ) → BeginsWith (octets.now ++ rest) offset named result }
+{
+    let mut raw = ArrayVec::new();
+    let _ = raw.try_extend_from_slice(octets);
+    Header {
+        offset,
+        class: identifier.class,
+        constructed: identifier.constructed,
+        number: identifier.number,
+        size,
+        raw,
+        id_len: identifier.octets,
+        named,
     }
 }
 

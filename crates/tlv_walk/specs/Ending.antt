@@ -8,7 +8,8 @@ use Rattle.tlv_walk.specs.declared.framing.Framing.{Framing}
 use Rattle.tlv_walk.specs.declared.ending.Ending.{Ending}
 use Rattle.tlv_walk.specs.declared.ending.Ending.TheVariants.{Done, Fault}
 use Rattle.tlv_walk.specs.Forest.{Forest, Stop, Fill, Whole, Closed, Partial, Entered, Awaiting, Begun, Zero, extent, has_element, is_whole, spell}
-use Rattle.tlv_walk.specs.Place.{Place, after, inside_of, is_among, top}
+use Rattle.tlv_walk.specs.Place.{Place, after, inside_of, top}
+use Rattle.tlv_walk.specs.Inside.{is_among}
 use Rattle.tlv_walk.specs.Reading.{IsReading}
 
 -- the innermost open end

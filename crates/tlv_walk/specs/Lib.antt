@@ -5,3 +5,6 @@ pub mod Reading
 pub mod Events
 pub mod Ending
 pub mod Wrappers
+pub mod Stack
+pub mod Machine
+pub mod WalkerFields

@@ -1,16 +1,12 @@
 -- Where elements may stand, and what may be open there: X.690 8.1.3, 8.1.4 and 8.1.5.
-use Rattle.std.specs.Prelude.{◌≡◌, ℕ, ◌+◌, ◌<◌, ◌≤◌, Bool, true, false, ◌||◌, eqb, List, [], ◌∷◌, length, Option, Some, None, IfSome}
+use Rattle.std.specs.Prelude.{◌≡◌, ℕ, ◌+◌, ◌<◌, ◌≤◌, Bool, true, false, List, [], ◌∷◌, length, Option, Some, None, IfSome}
 use Rattle.tlv_head.specs.declared.header.Size.{Size}
 use Rattle.tlv_head.specs.declared.header.Size.TheVariants.{Definite, Indefinite}
 use Rattle.tlv_head.specs.Header.{Heading, IsHeading, announced, holds, octets_of}
 use Rattle.tlv_head.specs.Refusal.{IsFront}
 use Rattle.tlv_walk.specs.declared.framing.Framing.{Framing}
+use Rattle.tlv_walk.specs.Inside.{is_among}
 use Rattle.tlv_walk.specs.Forest.{Forest, Stop, Fill, Whole, Closed, Partial, Entered, Awaiting, Begun, Zero, contents_length, extent, is_whole, lead, opening, spell}
-
--- the offset is one of those
-abbrev pub is_among : ℕ → List ℕ → Bool
-is_among n [] = false
-is_among n (x ∷ xs) = eqb n x || is_among n xs
 
 -- where a forest stands
 pub record Place : Type 0 where

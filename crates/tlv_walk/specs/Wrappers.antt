@@ -2,7 +2,7 @@
 use Rattle.std.specs.Prelude.{ℕ, if◌then◌else◌, List, [], ◌∷◌, ◌++◌, Option, Some, None}
 use Rattle.tlv_head.specs.Header.{Heading}
 use Rattle.tlv_walk.specs.Forest.{Forest, Stop, Fill, Whole, Closed, Partial, Entered, Awaiting, Begun, Zero}
-use Rattle.tlv_walk.specs.Place.{is_among}
+use Rattle.tlv_walk.specs.Inside.{is_among}
 
 -- of an element that holds others: the offset, where it is a wrapper
 abbrev pub wrapper_at : Heading → List ℕ

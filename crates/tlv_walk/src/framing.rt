@@ -31,8 +31,8 @@ pub struct Framing {
 }
 
 impl Inside {
-    ghost use Rattle.std.specs.Prelude.{IfNone, IfSome, ◌≡◌};
-    ghost use Rattle.tlv_walk.specs.Inside.{CanName};
+    ghost use Rattle.std.specs.Prelude.{◌≡◌, IfNone, IfSome, slice_get};
+    ghost use Rattle.tlv_walk.specs.Inside.{CanName, is_among};
 
     /// The offsets, where there are at most 16, each larger than the one before and at most 2^40;
     /// otherwise nothing. There may be none.
@@ -54,7 +54,37 @@ impl Inside {
     }
 
     /// Whether the offset is one of them.
-    pub(crate) fn contains(&self, offset: u64) -> bool {
+    pub(crate) fn contains(&self, offset: u64) -> bool
+        ensures { result ≡ is_among offset self.now }
+    {
         self.offsets.contains(&offset)
+    }
+
+    /// The offset at this index, if there is one.
+    pub(crate) fn get(&self, index: usize) -> Option<u64>
+        ensures { result ≡ slice_get self.now index }
+    {
+        self.offsets.get(index).copied()
+    }
+
+    pub(crate) fn copied(&self) -> Inside
+        ensures { result ≡ self.now }
+    {
+        let mut offsets = ArrayVec::new();
+        let _ = offsets.try_extend_from_slice(self.offsets.as_slice());
+        Inside { offsets }
+    }
+}
+
+impl Framing {
+    ghost use Rattle.std.specs.Prelude.{◌≡◌};
+
+    pub(crate) fn copied(&self) -> Framing
+        ensures { result ≡ self.now }
+    {
+        Framing {
+            inside: self.inside.copied(),
+            padding: self.padding,
+        }
     }
 }

@@ -3,7 +3,12 @@
 #![tactic(auto)]
 
 mod ending;
+mod event;
 mod framing;
+mod stack;
+mod walker;
 
 pub use ending::Ending;
+pub use event::{Event, Step};
 pub use framing::{Framing, Inside};
+pub use walker::Walker;

@@ -1,0 +1,48 @@
+-- The open elements that hold others, innermost first.
+use Rattle.std.specs.Prelude.{◌≡◌, ℕ, ◌-◌, ◌≤◌, true, List, [], ◌∷◌, Option, Some, None, IfSome}
+use Rattle.tlv_walk.specs.declared.stack.Frame.{Frame}
+
+abbrev pub innermost_of : List Frame → Option Frame
+innermost_of [] = None
+innermost_of (f ∷ fs) = Some f
+
+-- the end of the innermost definite element
+abbrev pub bound_of : List Frame → Option ℕ
+bound_of [] = None
+bound_of (f ∷ fs) = f.bound
+
+-- how many octets there are from an offset to a bound
+abbrev pub left_to : Option ℕ → ℕ → Option ℕ
+left_to None offset = None
+left_to (Some b) offset = Some (b - offset)
+
+abbrev pub room_of : List Frame → ℕ → Option ℕ
+room_of stack offset = left_to (bound_of stack) offset
+
+-- the offset does not lie past the bound
+abbrev pub Within : Option ℕ → ℕ → Type 0
+Within bound n = IfSome bound (λ b. n ≤ b)
+
+-- the innermost element has the indefinite length
+abbrev pub IsInIndefinite : List Frame → Type 0
+IsInIndefinite [] = ⊥
+IsInIndefinite (f ∷ fs) = f.end ≡ None
+
+-- the innermost element wraps encodings
+abbrev pub IsInWrapper : List Frame → Type 0
+IsInWrapper [] = ⊥
+IsInWrapper (f ∷ fs) = f.wrapper ≡ true
+
+-- the innermost element is definite, and its contents end at the offset
+abbrev pub IsFilled : List Frame → ℕ → Type 0
+IsFilled [] offset = ⊥
+IsFilled (f ∷ fs) offset = f.end ≡ Some offset
+
+-- an element's bound is where it ends, or else the bound around it
+abbrev pub IsBound : Option ℕ → Option ℕ → Option ℕ → Type 0
+IsBound outer None bound = bound ≡ outer
+IsBound outer (Some e) bound = (bound ≡ Some e) × Within outer e
+
+abbrev pub IsNested : List Frame → Type 0
+IsNested [] = Unit {0}
+IsNested (f ∷ fs) = IsBound (bound_of fs) f.end f.bound × IsNested fs

@@ -1,0 +1,36 @@
+//! What a walk tells.
+use tlv_head::{Fault, Header};
+
+/// What a walk tells, in the order of the octets.
+#[derive(Debug, Drop)]
+pub enum Event<'a> {
+    /// The header of a constructed element.
+    Open(Header),
+    /// The header of a primitive.
+    Begin(Header),
+    /// A part of a primitive's contents, never empty.
+    Bytes(&'a [u8]),
+    /// The end of a primitive.
+    End,
+    /// The end of a constructed element, with the offset of its end-of-contents octets if it has
+    /// any.
+    Close(Option<u64>),
+    /// The header of a string whose contents are read as encodings.
+    Enter(Header),
+    /// The first contents octet of such a BIT STRING: `00`, no unused bits (8.6.2.2).
+    Unused,
+    /// The end of such a string.
+    Leave,
+    /// A part of the octets `00` between two encodings, never empty.
+    Pad(&'a [u8]),
+}
+
+/// What a step came to.
+#[derive(Debug, Drop)]
+pub enum Step<'a> {
+    Event(Event<'a>),
+    /// The piece is used up, and no event is waiting.
+    NeedMore,
+    /// An octet is refused. The walker takes nothing more.
+    Fault(Fault),
+}
