@@ -1,3 +1,9 @@
+pub mod Device
+pub mod LastRead
+pub mod MemDrain
+pub mod MemSource
+pub mod Out
+pub mod Prefix
 pub mod Inside
 pub mod Forest
 pub mod Place

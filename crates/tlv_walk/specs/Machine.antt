@@ -1,5 +1,5 @@
 -- What contracts see of a `Walker`: the state of a machine that takes octets and tells events.
-use Rattle.std.specs.Prelude.{◌≡◌, ◌≢◌, ℕ, ◌+◌, ◌^◌, ◌<◌, ◌≤◌, Bool, true, false, eqb, if◌then◌else◌, slice_get, List, [], ◌∷◌, length, Some}
+use Rattle.std.specs.Prelude.{◌≡◌, ◌≢◌, ℕ, ◌+◌, ◌^◌, ◌<◌, ◌≤◌, Bool, true, false, eqb, if◌then◌else◌, slice_get, List, [], ◌∷◌, length, Option, Some}
 use Rattle.std.specs.Option.{option_map_or}
 use Rattle.tlv_head.specs.declared.fault.Fault.{Fault as FaultOf}
 use Rattle.tlv_head.specs.declared.fault.FaultCode.{FaultCode}
@@ -67,6 +67,18 @@ IsWaitingIn (Failed fault) stack offset = ⊥
 abbrev pub IsWaiting : Machine → Type 0
 IsWaiting w = IsWaitingIn w.phase w.stack w.offset
 
+-- nothing is waiting, and nothing was refused
+abbrev pub IsReadyIn : Phase → List Frame → ℕ → Type 0
+IsReadyIn Between stack offset = IsFilled stack offset → ⊥
+IsReadyIn (Header r) stack offset = Unit {0}
+IsReadyIn (Contents left) stack offset = left ≢ 0
+IsReadyIn Unused stack offset = Unit {0}
+IsReadyIn Zero stack offset = Unit {0}
+IsReadyIn (Failed fault) stack offset = ⊥
+
+abbrev pub IsReady : Machine → Type 0
+IsReady w = IsReadyIn w.phase w.stack w.offset
+
 -- an event was told, and the walker stands at this offset
 pub record Tells (old new : Machine) (at : ℕ) : Type 0 where
   pub offset : new.offset ≡ at
@@ -76,7 +88,7 @@ pub record Tells (old new : Machine) (at : ℕ) : Type 0 where
 -- what a step took from the front of a piece
 abbrev pub Steps : Machine → Machine → List ℕ → List ℕ → Step → Type 0
 Steps old new before after (Event e) = (new.offset + length after ≡ old.offset + length before) × (new.events ≡ old.events + 1) × (new.events ≤ new.offset)
-Steps old new before after NeedMore = (new.offset ≡ old.offset + length before) × (after ≡ []) × (new.events ≡ old.events) × (IsWaiting new → ⊥)
+Steps old new before after NeedMore = (new.offset ≡ old.offset + length before) × (after ≡ []) × (new.events ≡ old.events) × IsReady new
 Steps old new before after (Fault f) = (new.offset + length after ≡ old.offset + length before) × (new.events ≡ old.events) × (new.phase ≡ Failed f)
 
 -- the walker stands at the first octet of a header, or behind the octets that the reader has
@@ -100,3 +112,7 @@ fault_at code offset = record { code = code; offset = offset }
 -- how many of the named offsets, from the first on, are wrappers' once one was found at this offset
 abbrev pub next_wrapper : List ℕ → ℕ → ℕ → ℕ
 next_wrapper inside k at = option_map_or (λ n. if eqb n at then k + 1 else k) (slice_get inside k) k
+
+-- the first of the named offsets that is not known to be a wrapper's
+abbrev pub unused_in : Machine → Option ℕ
+unused_in w = slice_get w.framing.inside w.wrappers

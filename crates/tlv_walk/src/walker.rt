@@ -57,7 +57,7 @@ impl Walker {
     ghost use Rattle.std.specs.Prelude.{◌≢◌, ◌∷◌, List, [], Some, slice_get, true};
     ghost use Rattle.tlv_head.specs.Header.{announced, holds, octets_of};
     ghost use Rattle.tlv_walk.specs.declared.walker.Phase.TheVariants as phases;
-    ghost use Rattle.tlv_walk.specs.Machine.{CanEnter, CanRead, IsWaiting, Steps, Tells, fault_at, new_machine, next_wrapper};
+    ghost use Rattle.tlv_walk.specs.Machine.{CanEnter, CanRead, IsWaiting, Steps, Tells, fault_at, new_machine, next_wrapper, unused_in};
     ghost use Rattle.tlv_walk.specs.Stack.{IsFilled, Within, bound_of, room_of};
 
     /// A walker that has taken nothing.
@@ -102,7 +102,7 @@ impl Walker {
 
     /// The first of the named offsets at which no string was found whose contents are encodings.
     pub fn unused(&self) -> Option<u64>
-        ensures { result ≡ slice_get self.now.framing.inside self.now.wrappers }
+        ensures { result ≡ unused_in self.now }
     {
         self.framing.inside.get(self.wrappers)
     }

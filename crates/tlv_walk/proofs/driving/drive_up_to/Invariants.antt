@@ -1,0 +1,15 @@
+use Rattle.std.proofs.Common.{◌≡◌, ◌-◌, ◌≤◌, length}
+use Rattle.tlv_walk.specs.Machine.{IsReady}
+use Rattle.tlv_walk.proofs.driving.drive_up_to.Given as goal
+
+abbrev pub invariant-turns : goal.invariant-turns
+invariant-turns g l = record {
+  taken : l.walker.offset ≤ l.limit;
+  ready : IsReady l.walker;
+  piece : length l.piece ≡ 4096;
+  source : g.S.Source.failures l.source ≡ g.S.Source.failures l.initial.source;
+  drain : g.D.Drain.failures l.drain ≡ g.D.Drain.failures l.initial.drain;
+}
+
+abbrev pub decreases-turns : goal.decreases-turns
+decreases-turns g l = l.limit - l.walker.offset

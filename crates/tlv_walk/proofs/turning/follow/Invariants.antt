@@ -1,0 +1,14 @@
+use Rattle.std.proofs.Common.{◌≡◌, ◌+◌, ◌-◌, ◌^◌, ◌≤◌, length}
+use Rattle.tlv_walk.specs.Out.{lender_of}
+use Rattle.tlv_walk.proofs.turning.follow.Given as goal
+
+abbrev pub invariant-events : goal.invariant-events
+invariant-events g l = record {
+  same_reference : (lender_of l.out).ghost_name ≡ (lender_of l.initial.out).ghost_name;
+  failures : g.D.Drain.failures (lender_of l.out).now ≡ g.D.Drain.failures (lender_of l.initial.out).now;
+  walked : l.walker.offset + length l.rest ≡ l.initial.walker.offset + length l.piece;
+}
+
+-- each event counts, and no more events are told than octets are taken
+abbrev pub decreases-events : goal.decreases-events
+decreases-events g l = l.walker.offset + length l.rest - l.walker.events

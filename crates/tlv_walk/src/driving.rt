@@ -1,0 +1,58 @@
+//! A walk over all that a source gives.
+ghost use Rattle.std.specs.Prelude.{◌≡◌, ◌≤◌, ◌^◌, IsErrOf, OnOk};
+ghost use Rattle.tlv_walk.specs.Device.{counted};
+
+use crate::{DeviceFault, Drain, Follow, Framing, INPUT_LIMIT, Run, Source, Turn, Walker, turn};
+
+/// How many octets are asked for with each read.
+const PIECE: usize = 4096;
+
+/// [`drive_up_to`], with the limit of 2^40 octets.
+///
+/// # Errors
+///
+/// As for [`drive_up_to`].
+pub fn drive<S: Source, F: Follow, D: Drain>(
+    source: &mut S,
+    follower: &mut F,
+    drain: &mut D,
+    framing: &Framing,
+) -> Result<Run, DeviceFault>
+    ensures ok { OnOk result ((S.failures source.new ≡ S.failures source.old) × (D.failures drain.new ≡ D.failures drain.old)) }
+    ensures read { IsErrOf result DeviceFault.ReadFailed → (S.failures source.new ≡ counted (S.failures source.old)) × (D.failures drain.new ≡ D.failures drain.old) }
+    ensures write { IsErrOf result DeviceFault.WriteFailed → (S.failures source.new ≡ S.failures source.old) × (D.failures drain.new ≡ counted (D.failures drain.old)) }
+    ensures long { IsErrOf result DeviceFault.InputTooLong → (S.failures source.new ≡ S.failures source.old) × (D.failures drain.new ≡ D.failures drain.old) }
+{
+    drive_up_to(source, follower, drain, INPUT_LIMIT, framing)
+}
+
+/// Reads the source until it ends, an octet is refused or the follower has enough, and lets the
+/// follower follow what is read. Makes no further read then; at most `limit` + 1 in all.
+///
+/// # Errors
+///
+/// `ReadFailed` exactly where the source's failures rose in the call, and `WriteFailed` exactly where
+/// the drain's did. `InputTooLong` where the source gave more octets than `limit`, and those up to
+/// the limit held neither a fault nor enough; they are followed and flushed.
+pub fn drive_up_to<S: Source, F: Follow, D: Drain>(
+    source: &mut S,
+    follower: &mut F,
+    drain: &mut D,
+    limit: u64,
+    framing: &Framing,
+) -> Result<Run, DeviceFault>
+    requires { limit ≤ 2 ^ 40 }
+    ensures ok { OnOk result ((S.failures source.new ≡ S.failures source.old) × (D.failures drain.new ≡ D.failures drain.old)) }
+    ensures read { IsErrOf result DeviceFault.ReadFailed → (S.failures source.new ≡ counted (S.failures source.old)) × (D.failures drain.new ≡ D.failures drain.old) }
+    ensures write { IsErrOf result DeviceFault.WriteFailed → (S.failures source.new ≡ S.failures source.old) × (D.failures drain.new ≡ counted (D.failures drain.old)) }
+    ensures long { IsErrOf result DeviceFault.InputTooLong → (S.failures source.new ≡ S.failures source.old) × (D.failures drain.new ≡ D.failures drain.old) }
+{
+    let mut piece = [0; PIECE];
+    let mut walker = Walker::new(framing);
+    'turns: loop {
+        match turn(&mut walker, follower, source, drain, &mut piece, limit)? {
+            Turn::Again => {}
+            Turn::Ended(run) => return Ok(run),
+        }
+    }
+}

@@ -1,0 +1,225 @@
+//! Octets on their way to a drain.
+
+ghost use Rattle.std.specs.Prelude.{◌≡◌, ◌+◌, ◌≤◌, ◌++◌, [], length, OnOk, OnErr};
+ghost use Rattle.std.specs.Io.KnownBytes.{Appends, Keeps};
+ghost use Rattle.tlv_walk.specs.Device.{failures_after};
+ghost use Rattle.tlv_walk.specs.Out.{held_in, lender_of, put_to};
+ghost use Rattle.tlv_walk.specs.Prefix.{HasPrefix, TookPrefix};
+
+use crate::drain::{Drain, WriteFault};
+use std::marker::Model;
+
+/// As many octets as an `Out` holds at most.
+const CAPACITY: usize = 4096;
+
+/// Gathers octets, so that a drain takes many with each write.
+///
+/// What the drain took and what is held are together what was put, in order. At a `WriteFault` the drain has a prefix
+/// of that, and the `Out` is of no further use. What is held when an `Out` is let go is lost, so call `flush` first.
+#[derive(Drop)]
+pub struct Out<'d, D> {
+    drain: &'d mut D,
+    held: Held,
+}
+
+impl<'d, D: Drain> Out<'d, D> {
+    /// An `Out` to this drain, which holds no octet yet.
+    pub fn new(drain: &'d mut D) -> Out<'d, D>
+        ensures same_reference { (lender_of result).ghost_name ≡ drain.entry.ghost_name }
+        ensures taken { (lender_of result).now ≡ drain.old }
+        ensures empty { held_in result ≡ [] }
+    {
+        Out {
+            drain,
+            held: Held::new(),
+        }
+    }
+
+    /// Puts the octets behind those that were put before: they are held, or handed to the drain.
+    ///
+    /// # Errors
+    ///
+    /// `WriteFault` where a write failed. The drain then has a prefix of what was put before and these octets.
+    #[inline]
+    pub fn put(&mut self, octets: &[u8]) -> Result<(), WriteFault>
+        ensures same_reference { (lender_of self.new).ghost_name ≡ (lender_of self.old).ghost_name }
+        ensures ok { OnOk result (Appends (put_to D.taken self.old) (put_to D.taken self.new) octets.now) }
+        ensures err { OnErr result (HasPrefix (put_to D.taken self.old) (D.taken (lender_of self.new).now) octets.now) }
+        ensures failed { D.failures (lender_of self.new).now ≡ failures_after result (D.failures (lender_of self.old).now) }
+        ensures bound { length (held_in self.new) ≤ 4096 }
+    {
+        if octets.len() < self.held.room() {
+            self.held.push(octets);
+            return Ok(());
+        }
+        self.put_past_room(octets)
+    }
+
+    /// Puts octets that leave no room, or do not fit. It stands apart so that `put` stays short where it is inlined.
+    #[cold]
+    #[inline(never)]
+    fn put_past_room(&mut self, octets: &[u8]) -> Result<(), WriteFault>
+        ensures same_reference { (lender_of self.new).ghost_name ≡ (lender_of self.old).ghost_name }
+        ensures ok { OnOk result (Appends (put_to D.taken self.old) (put_to D.taken self.new) octets.now) }
+        ensures err { OnErr result (HasPrefix (put_to D.taken self.old) (D.taken (lender_of self.new).now) octets.now) }
+        ensures failed { D.failures (lender_of self.new).now ≡ failures_after result (D.failures (lender_of self.old).now) }
+        ensures bound { length (held_in self.new) ≤ 4096 }
+    {
+        if octets.len() > self.held.room() {
+            self.flush()?;
+        }
+        // Nothing is held by now where there are so many octets, and they need not be gathered.
+        if octets.len() >= CAPACITY {
+            return send(self.drain, octets);
+        }
+        self.held.push(octets);
+        Ok(())
+    }
+
+    /// Hands all octets that are held to the drain.
+    ///
+    /// # Errors
+    ///
+    /// `WriteFault` where a write failed. The drain then has a prefix of what was put.
+    pub fn flush(&mut self) -> Result<(), WriteFault>
+        ensures same_reference { (lender_of self.new).ghost_name ≡ (lender_of self.old).ghost_name }
+        ensures ok { OnOk result (Keeps (put_to D.taken self.old) (put_to D.taken self.new)) }
+        ensures empty { OnOk result (held_in self.new ≡ []) }
+        ensures err { OnErr result (HasPrefix (put_to D.taken self.old) (D.taken (lender_of self.new).now) []) }
+        ensures failed { D.failures (lender_of self.new).now ≡ failures_after result (D.failures (lender_of self.old).now) }
+        ensures bound { length (held_in self.new) ≤ 4096 }
+    {
+        send(self.drain, self.held.as_slice())?;
+        self.held.clear();
+        Ok(())
+    }
+}
+
+/// Hands all of the octets to the drain, in as many writes as that needs.
+fn send<D: Drain>(drain: &mut D, octets: &[u8]) -> Result<(), WriteFault>
+    ensures ok { OnOk result (Appends (D.taken drain.old) (D.taken drain.new) octets.now) }
+    ensures err { OnErr result (TookPrefix (D.taken drain.old) (D.taken drain.new) octets.now) }
+    ensures failed { D.failures drain.new ≡ failures_after result (D.failures drain.old) }
+{
+    let mut sent = 0;
+    while sent < octets.len() {
+        sent += drain.write(&octets[sent..])?;
+    }
+    Ok(())
+}
+
+/// At most `CAPACITY` octets. Where an `ArrayVec` is cleared it is filled with blanks, which an `Out` would pay for at
+/// each flush.
+#[derive(Drop)]
+struct Held {
+    octets: [u8; CAPACITY],
+    len: usize,
+}
+
+impl Model for Held {
+    ghost use Rattle.std.specs.Prelude.{◌≤◌, ℕ, List, take};
+
+    ghost Value = { List ℕ };
+
+    ghost view = { λ held. take held.len held.octets };
+
+    ghost invariant = { λ held. held.len ≤ 4096 };
+}
+
+impl Held {
+    fn new() -> Held
+        ensures { result ≡ [] }
+    {
+        Held {
+            octets: [0; CAPACITY],
+            len: 0,
+        }
+    }
+
+    fn as_slice(&self) -> &[u8]
+        ensures octets { result.now ≡ self.now }
+        ensures bound { length self.now ≤ 4096 }
+    {
+        &self.octets[..self.len]
+    }
+
+    /// How many octets more can be held.
+    #[inline]
+    fn room(&self) -> usize
+        ensures { result + length self.now ≡ 4096 }
+    {
+        CAPACITY - self.len
+    }
+
+    #[inline]
+    fn push(&mut self, octets: &[u8])
+        requires { length self.old + length octets.now ≤ 4096 }
+        ensures { self.new ≡ self.old ++ octets.now }
+    {
+        let end = self.len + octets.len();
+        self.octets[self.len..end].copy_from_slice(octets);
+        self.len = end;
+    }
+
+    fn clear(&mut self)
+        ensures { self.new ≡ [] }
+    {
+        self.len = 0;
+    }
+}
+
+#[cfg(test)]
+mod tests {
+    use super::*;
+    use crate::memory::MemDrain;
+
+    #[test]
+    fn short_writes_take_all(rt: HostRuntime) {
+        let mut room = [0; 16];
+        let mut drain = MemDrain::new(&mut room, 3);
+        {
+            let mut out = Out::new(&mut drain);
+            assert_eq!(rt; out.put(b"tag, "), Ok(()));
+            assert_eq!(rt; out.put(b""), Ok(()));
+            assert_eq!(rt; out.put(b"length"), Ok(()));
+            assert_eq!(rt; out.flush(), Ok(()));
+            assert_eq!(rt; out.flush(), Ok(()));
+        }
+        assert_eq!(rt; drain.written(), b"tag, length".as_slice());
+    }
+
+    #[test]
+    fn more_than_is_held(rt: HostRuntime) {
+        let mut room = [0; 10_000];
+        let mut drain = MemDrain::new(&mut room, 1000);
+        {
+            let mut out = Out::new(&mut drain);
+            assert_eq!(rt; out.put(&[1; 96]), Ok(()));
+            assert_eq!(rt; out.put(&[2; 4000]), Ok(()));
+            assert_eq!(rt; out.put(&[3; 4]), Ok(()));
+            assert_eq!(rt; out.put(&[4; 5000]), Ok(()));
+            assert_eq!(rt; out.flush(), Ok(()));
+        }
+        let written = drain.written();
+        assert_eq!(rt; written.len(), 9100);
+        for (octet, count) in [(1, 96), (2, 4000), (3, 4), (4, 5000)] {
+            assert_eq!(rt;
+                written.iter().filter(|o| **o == octet).count(),
+                count,
+                "of {octet}"
+            );
+        }
+    }
+
+    #[test]
+    fn no_room_is_a_fault(rt: HostRuntime) {
+        let mut room = [0; 3];
+        let mut drain = MemDrain::new(&mut room, 2);
+        {
+            let mut out = Out::new(&mut drain);
+            assert_eq!(rt; out.put(b"abcd"), Ok(()));
+            assert_eq!(rt; out.flush(), Err(WriteFault));
+        }
+        assert_eq!(rt; drain.written(), b"abc".as_slice());
+    }
+}

@@ -1,0 +1,38 @@
+//! What a walk over a source came to.
+use crate::Ending;
+use thiserror::Error;
+
+/// The most octets that an input may have: 2^40.
+pub const INPUT_LIMIT: u64 = 1 << 40;
+
+/// What a walk came to.
+#[derive(Clone, Copy, Debug, PartialEq, Eq)]
+pub struct Run {
+    /// Done where the follower had enough; otherwise what the input comes to.
+    pub ending: Ending,
+    /// How many octets were walked over: those before a fault, or up to the last event followed.
+    pub octets: u64,
+    /// Whether the follower had enough.
+    pub enough: bool,
+    /// The first of the named offsets at which no string was found whose contents are encodings.
+    pub unused: Option<u64>,
+}
+
+/// What one read came to.
+#[derive(Clone, Copy, Debug, PartialEq, Eq)]
+pub enum Turn {
+    /// More is to be read.
+    Again,
+    Ended(Run),
+}
+
+/// Why a walk over a source was left.
+#[derive(Clone, Copy, Debug, PartialEq, Eq, Error)]
+pub enum DeviceFault {
+    #[error("read failed")]
+    ReadFailed,
+    #[error("write failed")]
+    WriteFailed,
+    #[error("input too long")]
+    InputTooLong,
+}

@@ -1,0 +1,108 @@
+//! One read of a source, followed.
+ghost use Rattle.std.specs.Prelude.{◌≡◌, ◌+◌, ◌<◌, ◌≤◌, ◌^◌, IfOk, IsErrOf, OnOk, length};
+ghost use Rattle.tlv_walk.specs.Device.{counted, failures_after};
+ghost use Rattle.tlv_walk.specs.Machine.{IsReady, unused_in};
+ghost use Rattle.tlv_walk.specs.Out.{lender_of};
+
+use crate::{DeviceFault, Drain, Ending, Follow, Go, Out, Run, Source, Step, Turn, Walker, WriteFault};
+use tlv_head::Fault;
+
+/// Why a piece is not followed any further.
+#[derive(Clone, Copy)]
+enum Stop {
+    /// It is used up, and no event waits.
+    UsedUp,
+    Fault(Fault),
+    Enough,
+}
+
+/// Makes one read into `piece`, lets the follower follow what it gave, and flushes what that put.
+///
+/// `Again` comes where the octets held neither a fault nor enough for the follower, and were not the
+/// end; else `Ended`. The walker's octets count towards `limit`: of those that go past it none is
+/// walked over.
+///
+/// # Errors
+///
+/// `ReadFailed` exactly where the source's failures rose in the call, and `WriteFailed` exactly where
+/// the drain's did. `InputTooLong` where the source gave more octets than `limit`, and those up to
+/// the limit held neither a fault nor enough; they are followed and flushed.
+pub fn turn<F: Follow, S: Source, D: Drain>(
+    walker: &mut Walker,
+    follower: &mut F,
+    source: &mut S,
+    drain: &mut D,
+    piece: &mut [u8],
+    limit: u64,
+) -> Result<Turn, DeviceFault>
+    requires piece { (0 < length piece.old) × (length piece.old ≤ 4096) }
+    requires limit { limit ≤ 2 ^ 40 }
+    requires taken { walker.old.offset ≤ limit }
+    requires ready { IsReady walker.old }
+    ensures again { IfOk result (λ t. t ≡ Turn.Again → (walker.old.offset < walker.new.offset) × (walker.new.offset ≤ limit) × IsReady walker.new) }
+
+    // Which device failed, if one did.
+    ensures ok { OnOk result ((S.failures source.new ≡ S.failures source.old) × (D.failures drain.new ≡ D.failures drain.old)) }
+    ensures read { IsErrOf result DeviceFault.ReadFailed → (S.failures source.new ≡ counted (S.failures source.old)) × (D.failures drain.new ≡ D.failures drain.old) }
+    ensures write { IsErrOf result DeviceFault.WriteFailed → (S.failures source.new ≡ S.failures source.old) × (D.failures drain.new ≡ counted (D.failures drain.old)) }
+    ensures long { IsErrOf result DeviceFault.InputTooLong → (S.failures source.new ≡ S.failures source.old) × (D.failures drain.new ≡ D.failures drain.old) }
+{
+    let Ok(count) = source.read(piece) else {
+        return Err(DeviceFault::ReadFailed);
+    };
+    let left = limit - walker.offset();
+    let walked = left.min(count as u64) as usize;
+    let mut out = Out::new(drain);
+    let Ok(stop) = follow(walker, follower, &piece[..walked], &mut out) else {
+        return Err(DeviceFault::WriteFailed);
+    };
+    if out.flush().is_err() {
+        return Err(DeviceFault::WriteFailed);
+    }
+    match stop {
+        Stop::Enough => Ok(Turn::Ended(run_of(walker, Ending::Done, true))),
+        Stop::Fault(fault) => Ok(Turn::Ended(run_of(walker, Ending::Fault(fault), false))),
+        Stop::UsedUp if walked < count => Err(DeviceFault::InputTooLong),
+        Stop::UsedUp if count == 0 => Ok(Turn::Ended(run_of(walker, walker.finish(), false))),
+        Stop::UsedUp => Ok(Turn::Again),
+    }
+}
+
+fn run_of(walker: &Walker, ending: Ending, enough: bool) -> Run
+    ensures ending { result.ending ≡ ending }
+    ensures enough { result.enough ≡ enough }
+    ensures octets { result.octets ≡ walker.now.offset }
+    ensures unused { result.unused ≡ unused_in walker.now }
+{
+    Run {
+        ending,
+        octets: walker.offset(),
+        enough,
+        unused: walker.unused(),
+    }
+}
+
+/// Walks over a piece, and lets the follower follow each event.
+fn follow<F: Follow, D: Drain>(
+    walker: &mut Walker,
+    follower: &mut F,
+    piece: &[u8],
+    out: &mut Out<'_, D>,
+) -> Result<Stop, WriteFault>
+    requires { walker.old.offset + length piece.now ≤ 2 ^ 40 }
+    ensures same_reference { (lender_of out.new).ghost_name ≡ (lender_of out.old).ghost_name }
+    ensures failed { D.failures (lender_of out.new).now ≡ failures_after result (D.failures (lender_of out.old).now) }
+    ensures used_up { IfOk result (λ s. s ≡ Stop.UsedUp → (walker.new.offset ≡ walker.old.offset + length piece.now) × IsReady walker.new) }
+{
+    let mut rest = piece;
+    'events: loop {
+        match walker.step(&mut rest) {
+            Step::NeedMore => return Ok(Stop::UsedUp),
+            Step::Fault(fault) => return Ok(Stop::Fault(fault)),
+            Step::Event(event) => match follower.on(&event, out)? {
+                Go::On => {}
+                Go::Enough => return Ok(Stop::Enough),
+            },
+        }
+    }
+}
