@@ -1,0 +1,39 @@
+//! `dump`, over a source and a drain.
+ghost use Rattle.std.specs.Prelude.{◌≡◌, IsErrOf, OnOk};
+ghost use Rattle.tlv_walk.specs.Device.{counted};
+
+use crate::Dump;
+use tlv_walk::{DeviceFault, Drain, Ending, Framing, Source, drive};
+
+/// What a dump came to.
+#[derive(Clone, Copy, Debug, PartialEq, Eq)]
+pub struct Outcome {
+    pub ending: Ending,
+    /// The first of the named offsets at which no string was found whose contents are encodings.
+    pub unused: Option<u64>,
+}
+
+/// Writes the lines of the encodings that the source gives, up to its end or the first octet that is
+/// refused. The lines of an element come as soon as its octets allow.
+///
+/// # Errors
+///
+/// `ReadFailed` exactly where the source's failures rose in the call, and `WriteFailed` exactly where
+/// the drain's did. `InputTooLong` past 2^40 octets.
+pub fn dump<S: Source, D: Drain>(
+    source: &mut S,
+    drain: &mut D,
+    framing: &Framing,
+) -> Result<Outcome, DeviceFault>
+    ensures ok { OnOk result ((S.failures source.new ≡ S.failures source.old) × (D.failures drain.new ≡ D.failures drain.old)) }
+    ensures read { IsErrOf result DeviceFault.ReadFailed → (S.failures source.new ≡ counted (S.failures source.old)) × (D.failures drain.new ≡ D.failures drain.old) }
+    ensures write { IsErrOf result DeviceFault.WriteFailed → (S.failures source.new ≡ S.failures source.old) × (D.failures drain.new ≡ counted (D.failures drain.old)) }
+    ensures long { IsErrOf result DeviceFault.InputTooLong → (S.failures source.new ≡ S.failures source.old) × (D.failures drain.new ≡ D.failures drain.old) }
+{
+    let mut follower = Dump::new();
+    let run = drive(source, &mut follower, drain, framing)?;
+    Ok(Outcome {
+        ending: run.ending,
+        unused: run.unused,
+    })
+}
