@@ -38,12 +38,13 @@ pub struct Fault {
 }
 
 impl FaultCode {
-    ghost use Rattle.std.specs.Prelude.{◌≡◌};
+    ghost use Rattle.std.specs.Prelude.{◌≡◌, length};
     ghost use Rattle.tlv_head.specs.Fault.{code_of};
 
     /// The three characters that name the code, as `F01`.
     pub fn name(self) -> &'static [u8]
-        ensures { result.now ≡ code_of self }
+        ensures name { result.now ≡ code_of self }
+        ensures short { length result.now ≡ 3 }
     {
         match self {
             FaultCode::Empty => b"F01",
@@ -63,12 +64,13 @@ impl FaultCode {
 }
 
 impl Fault {
-    ghost use Rattle.std.specs.Prelude.{◌≡◌};
+    ghost use Rattle.std.specs.Prelude.{◌≡◌, ◌≤◌, length};
     ghost use Rattle.tlv_head.specs.Fault.{text_of};
 
-    /// What the code says, in ASCII.
+    /// What the code says, in ASCII: at most 64 octets.
     pub fn text(&self) -> &'static [u8]
-        ensures { result.now ≡ text_of self.now.code }
+        ensures text { result.now ≡ text_of self.now.code }
+        ensures short { length result.now ≤ 64 }
     {
         match self.code {
             FaultCode::Empty => b"empty input",

@@ -31,7 +31,7 @@ pub struct Framing {
 }
 
 impl Inside {
-    ghost use Rattle.std.specs.Prelude.{◌≡◌, IfNone, IfSome, slice_get};
+    ghost use Rattle.std.specs.Prelude.{◌≡◌, IfNone, IfSome, [], slice_get};
     ghost use Rattle.tlv_walk.specs.Inside.{CanName, is_among};
 
     /// The offsets, where there are at most 16, each larger than the one before and at most 2^40;
@@ -51,6 +51,15 @@ impl Inside {
             least = offset + 1;
         }
         Some(Inside { offsets: named })
+    }
+
+    /// No offset.
+    pub fn none() -> Inside
+        ensures { result ≡ [] }
+    {
+        Inside {
+            offsets: ArrayVec::new(),
+        }
     }
 
     /// Whether the offset is one of them.
@@ -77,7 +86,17 @@ impl Inside {
 }
 
 impl Framing {
-    ghost use Rattle.std.specs.Prelude.{◌≡◌};
+    ghost use Rattle.std.specs.Prelude.{◌≡◌, [], false};
+
+    /// No string is read as encodings, and there is no padding.
+    pub fn plain() -> Framing
+        ensures { result ≡ record { inside = []; padding = false } }
+    {
+        Framing {
+            inside: Inside::none(),
+            padding: false,
+        }
+    }
 
     pub(crate) fn copied(&self) -> Framing
         ensures { result ≡ self.now }
