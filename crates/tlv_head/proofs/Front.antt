@@ -5,7 +5,9 @@ use Rattle.std.proofs.Math.Seq.{drop-append_seam, take-append_seam}
 use Rattle.tlv_head.specs.declared.header.Class.{Class}
 use Rattle.tlv_head.specs.declared.header.Size.{Size}
 use Rattle.tlv_head.specs.declared.header.Size.TheVariants.{Definite, Indefinite}
+use Rattle.tlv_head.specs.declared.header.HeaderFields.{HeaderFields}
 use Rattle.tlv_head.specs.declared.reader.Identifier.{Identifier}
+use Rattle.tlv_head.specs.Fields.{heading_with, Suits}
 use Rattle.tlv_head.specs.declared.reader.Part.{Part}
 use Rattle.tlv_head.specs.declared.reader.Part.TheVariants.{Start, Number, Length, Digits, Done}
 use Rattle.tlv_head.specs.Header.{Heading, IsHeading, IsIdentifier, IsLength, announced, octets_of}
@@ -94,3 +96,25 @@ size-lt Indefinite l e = omega arith
 -- and a definite length below 2^40
 pub announced-lt : (h : Heading) → IsHeading h → announced h.size < 2 ^ 40
 announced-lt h v = size-lt h.size h.lengths v.lengths
+
+-- the header that was made
+pub made_suits : (os : List ℕ) (f : HeaderFields) (id : Identifier) (size : Size) → MakesHeader id size os → f.id_len ≡ id.octets → Suits f os
+made_suits os f id size m e =
+    let count : id.octets ≡ length m.identifier = m.identified.count in
+    let few : length m.identifier ≤ 10 = m.identified.few in
+    let most : length m.lengths ≤ 127 = m.few in
+    let all : length os ≡ length m.identifier + length m.lengths = rw m.octet (length-append m.identifier m.lengths) in
+    record { identifier = omega (arith, e); few = omega (arith, e); room = omega arith }
+
+pub made_begins : (os rest : List ℕ) (at : ℕ) (named : Bool) (id : Identifier) (size : Size) → MakesHeader id size os
+    → BeginsWith (os ++ rest) at named (heading_with (record { offset = at; named = named; class = id.class; constructed = id.constructed; number = id.number; size = size; id_len = id.octets }) os)
+made_begins os rest at named id size m =
+    let front : take id.octets os ≡ m.identifier = rw (m.octet, m.identified.count) (take-append_seam m.identifier m.lengths) in
+    let back : drop id.octets os ≡ m.lengths = rw (m.octet, m.identified.count) (drop-append_seam m.identifier m.lengths) in
+    record {
+      valid = rw (front, back) (record { identifier = m.identified.identified; lengths = m.sized; allowed = m.allowed });
+      offset = refl;
+      named = refl;
+      rest = rest;
+      octets = rw (front, back, m.octet) refl;
+    }

@@ -1,8 +1,10 @@
 pub mod Header
 pub mod HeaderFields
+pub mod Fields
 pub mod Fault
 pub mod Tag
 pub mod Refusal
 pub mod Progress
 pub mod Push
 pub mod Part
+pub mod Read

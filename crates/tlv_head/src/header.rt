@@ -37,6 +37,21 @@ pub struct Header {
     pub(crate) named: bool,
 }
 
+/// What the octets of a header say, without the octets: small, where a [`Header`] has room for 137.
+#[derive(Clone, Copy, Debug)]
+pub struct HeaderFields {
+    /// Where the first identifier octet stands, in octets from the start of the input.
+    pub offset: u64,
+    /// Whether the user named this offset as that of a string which holds encodings.
+    pub named: bool,
+    pub class: Class,
+    pub constructed: bool,
+    pub number: u64,
+    pub size: Size,
+    /// How many octets are the identifier.
+    pub id_len: u8,
+}
+
 impl Model for Header {
     ghost use Rattle.tlv_head.specs.Header.{Heading};
 
@@ -49,9 +64,63 @@ impl Model for Header {
     ghost invariant = { IsWithinRoom };
 }
 
+impl HeaderFields {
+    ghost use Rattle.std.specs.Prelude.{◌≡◌};
+    ghost use Rattle.tlv_head.specs.Header.{is_wrapper as is_wrapper_of};
+
+    /// [`Header::wraps`], of the header with these fields.
+    pub fn wraps(&self) -> bool
+        ensures { result ≡ is_wrapper_of self.now.named self.now.class self.now.constructed self.now.number self.now.size }
+    {
+        is_wrapper(
+            self.named,
+            self.class,
+            self.constructed,
+            self.number,
+            self.size,
+        )
+    }
+}
+
 impl Header {
     ghost use Rattle.std.specs.Prelude.{◌≤◌, length};
     ghost use Rattle.tlv_head.specs.Header.{octets_of, wraps};
+    ghost use Rattle.tlv_head.specs.Fields.{heading_with, Suits};
+
+    /// The header with these fields and octets.
+    #[inline]
+    pub fn new(fields: &HeaderFields, octets: &[u8]) -> Header
+        requires { Suits fields.now octets.now }
+        ensures { result ≡ heading_with fields.now octets.now }
+    {
+        let mut raw = ArrayVec::new();
+        let _ = raw.try_extend_from_slice(octets);
+        Header {
+            offset: fields.offset,
+            class: fields.class,
+            constructed: fields.constructed,
+            number: fields.number,
+            size: fields.size,
+            raw,
+            id_len: fields.id_len,
+            named: fields.named,
+        }
+    }
+
+    /// What the octets say.
+    pub fn fields(&self) -> HeaderFields
+        ensures { heading_with result (octets_of self.now) ≡ self.now }
+    {
+        HeaderFields {
+            offset: self.offset,
+            named: self.named,
+            class: self.class,
+            constructed: self.constructed,
+            number: self.number,
+            size: self.size,
+            id_len: self.id_len,
+        }
+    }
 
     /// The octets as they stand: the identifier octets, of which there are [`Header::id_len`], and
     /// then the length octets. There are at most 137.
@@ -68,13 +137,7 @@ impl Header {
     pub fn wraps(&self) -> bool
         ensures { result ≡ wraps self.now }
     {
-        is_wrapper(
-            self.named,
-            self.class,
-            self.constructed,
-            self.number,
-            self.size,
-        )
+        self.fields().wraps()
     }
 }
 

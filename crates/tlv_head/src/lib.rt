@@ -8,6 +8,6 @@ mod reader;
 mod tag;
 
 pub use fault::{Fault, FaultCode};
-pub use header::{Class, Header, Size, spell_indefinite};
+pub use header::{Class, Header, HeaderFields, Size, spell_indefinite};
 pub use reader::{Head, HeadReader, read_header};
 pub use tag::tag_text;

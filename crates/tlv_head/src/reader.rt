@@ -2,11 +2,12 @@
 ghost use Rattle.std.specs.Prelude.{◌≡◌, ◌≢◌, ℕ, ◌+◌, ◌/◌, ◌^◌, ◌<◌, ◌≤◌, ◌↔◌, List, [], ◌∷◌, ◌++◌, ◌||◌, false, IsTrue, Some, MatchOption};
 ghost use Rattle.tlv_head.specs.Header.{class_bits, is_wrapper as is_wrapper_of};
 ghost use Rattle.tlv_head.specs.Progress.{Fits};
-ghost use Rattle.tlv_head.specs.Refusal.{BeginsWith, BeginsWithNone};
-ghost use Rattle.tlv_head.specs.Part.{Carries, CarriesNumber, CarriesIdentifier, CarriesLength, Follows, MakesHeader, is_done};
+ghost use Rattle.tlv_head.specs.Refusal.{BeginsWithNone};
+ghost use Rattle.tlv_head.specs.Read.{BeginsWithFields};
+ghost use Rattle.tlv_head.specs.Part.{Carries, CarriesNumber, CarriesIdentifier, CarriesLength, Follows, is_done};
 
 use crate::header::is_wrapper;
-use crate::{Class, Fault, FaultCode, Header, Size};
+use crate::{Class, Fault, FaultCode, Header, HeaderFields, Size};
 use arrayvec::ArrayVec;
 use std::marker::Model;
 
@@ -154,11 +155,12 @@ impl HeadReader {
     }
 }
 
-/// The header with which the octets begin, whatever follows it. `None` where they begin with none:
-/// a header is unfinished or refused, or there is no octet. A header that is cut into pieces goes
-/// through a [`HeadReader`].
-pub fn read_header(offset: u64, named: bool, octets: &[u8]) -> Option<Header>
-    ensures { MatchOption result (BeginsWithNone octets.now) (λ h. BeginsWith octets.now offset named h) }
+/// The header with which the octets begin, whatever follows it, and how many octets it has. `None`
+/// where they begin with none: a header is unfinished or refused, or there is no octet. A header that
+/// is cut into pieces goes through a [`HeadReader`].
+#[inline]
+pub fn read_header(offset: u64, named: bool, octets: &[u8]) -> Option<(HeaderFields, usize)>
+    ensures { MatchOption result (BeginsWithNone octets.now) (λ found. BeginsWithFields octets.now offset named found.0 found.1) }
 {
     let mut part = Part::Start;
     for i in 0..octets.len() {
@@ -168,7 +170,7 @@ pub fn read_header(offset: u64, named: bool, octets: &[u8]) -> Option<Header>
         match read_octet(part, octets[i]) {
             Next::Unfinished(next) => part = next,
             Next::Finished(identifier, size) => {
-                return Some(header_of(offset, named, identifier, size, &octets[..=i]));
+                return Some((fields_of(offset, named, identifier, size), i + 1));
             }
             Next::Refused(_) => return None,
         }
@@ -176,28 +178,17 @@ pub fn read_header(offset: u64, named: bool, octets: &[u8]) -> Option<Header>
     None
 }
 
-/// The header that these octets are.
-fn header_of(
-    offset: u64,
-    named: bool,
-    identifier: Identifier,
-    size: Size,
-    octets: &[u8],
-) -> Header
-    requires { MakesHeader identifier size octets.now }
-    ensures { (rest : List ℕ) → BeginsWith (octets.now ++ rest) offset named result }
+fn fields_of(offset: u64, named: bool, identifier: Identifier, size: Size) -> HeaderFields
+    ensures { result ≡ record { offset = offset; named = named; class = identifier.class; constructed = identifier.constructed; number = identifier.number; size = size; id_len = identifier.octets } }
 {
-    let mut raw = ArrayVec::new();
-    let _ = raw.try_extend_from_slice(octets);
-    Header {
+    HeaderFields {
         offset,
+        named,
         class: identifier.class,
         constructed: identifier.constructed,
         number: identifier.number,
         size,
-        raw,
         id_len: identifier.octets,
-        named,
     }
 }
 

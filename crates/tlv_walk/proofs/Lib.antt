@@ -1,1 +1,15 @@
+pub mod Spellings
+pub mod Bounds
+pub mod Push
+pub mod Pop
+pub mod Readings
+pub mod Sound
+pub mod Tips
+pub mod Faults
+pub mod Endings
+pub mod Unique
+pub mod Joined
+pub mod Gains
+pub mod Prefixes
+pub mod Wrappers
 pub mod Known

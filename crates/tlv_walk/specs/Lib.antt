@@ -14,3 +14,4 @@ pub mod Wrappers
 pub mod Stack
 pub mod Machine
 pub mod WalkerFields
+pub mod Laws

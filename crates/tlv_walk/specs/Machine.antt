@@ -1,12 +1,15 @@
 -- What contracts see of a `Walker`: the state of a machine that takes octets and tells events.
-use Rattle.std.specs.Prelude.{◌≡◌, ◌≢◌, ℕ, ◌+◌, ◌^◌, ◌<◌, ◌≤◌, Bool, true, false, eqb, if◌then◌else◌, slice_get, List, [], ◌∷◌, length, Option, Some}
+use Rattle.std.specs.Prelude.{◌≡◌, ◌≢◌, ◌⊎◌, ℕ, ◌+◌, ◌^◌, ◌<◌, ◌≤◌, Bool, true, false, eqb, if◌then◌else◌, slice_get, List, [], ◌∷◌, length, Option, Some}
 use Rattle.std.specs.Option.{option_map_or}
 use Rattle.tlv_head.specs.declared.fault.Fault.{Fault as FaultOf}
 use Rattle.tlv_head.specs.declared.fault.FaultCode.{FaultCode}
 use Rattle.tlv_head.specs.Header.{Heading, IsHeading, announced, holds, octets_of}
 use Rattle.tlv_head.specs.Progress.{Progress}
 use Rattle.tlv_walk.specs.declared.event.Step.{Step}
-use Rattle.tlv_walk.specs.declared.event.Step.TheVariants.{Event, NeedMore, Fault}
+use Rattle.tlv_walk.specs.declared.event.Step.TheVariants as step
+use Rattle.tlv_walk.specs.declared.event.Move.{Move}
+use Rattle.tlv_walk.specs.declared.event.Move.TheVariants as move
+use Rattle.tlv_head.specs.Fields.{Suits}
 use Rattle.tlv_walk.specs.declared.framing.Framing.{Framing}
 use Rattle.tlv_walk.specs.declared.stack.Frame.{Frame}
 use Rattle.tlv_walk.specs.declared.walker.Phase.{Phase}
@@ -85,18 +88,84 @@ pub record Tells (old new : Machine) (at : ℕ) : Type 0 where
   pub events : new.events ≡ old.events + 1
   pub within : new.events ≤ new.offset
 
--- what a step took from the front of a piece
-abbrev pub Steps : Machine → Machine → List ℕ → List ℕ → Step → Type 0
-Steps old new before after (Event e) = (new.offset + length after ≡ old.offset + length before) × (new.events ≡ old.events + 1) × (new.events ≤ new.offset)
-Steps old new before after NeedMore = (new.offset ≡ old.offset + length before) × (after ≡ []) × (new.events ≡ old.events) × IsReady new
-Steps old new before after (Fault f) = (new.offset + length after ≡ old.offset + length before) × (new.events ≡ old.events) × (new.phase ≡ Failed f)
+-- a header begins with the piece, inside the bound
+pub record CanBegin (w : Machine) (piece : List ℕ) : Type 0 where
+  pub phase : w.phase ≡ Between
+  pub first : ℕ
+  pub rest : List ℕ
+  pub octets : piece ≡ first ∷ rest
+  pub nonzero : first ≢ 0
+  pub room : room_of w.stack w.offset ≢ Some 0
 
--- the walker stands at the first octet of a header, or behind the octets that the reader has
-pub record CanRead (w : Machine) (r : Progress) (piece : List ℕ) : Type 0 where
+-- a header has begun
+abbrev pub IsHeader : Phase → Type 0
+IsHeader Between = ⊥
+IsHeader (Header r) = Unit {0}
+IsHeader (Contents left) = ⊥
+IsHeader Unused = ⊥
+IsHeader Zero = ⊥
+IsHeader (Failed fault) = ⊥
+
+-- the piece begins with octets of a header
+abbrev pub CanRead : Machine → List ℕ → Type 0
+CanRead w piece = CanBegin w piece ⊎ (IsHeader w.phase × (piece ≢ []))
+
+-- the walker stands behind the octets that the reader has; if those are none, a header begins with the piece
+pub record CanReadOn (w : Machine) (r : Progress) (piece : List ℕ) : Type 0 where
   pub unfinished : r.done ≡ false
   pub place : r.offset + length r.octets ≡ w.offset
   pub fewer : w.events + length w.stack ≤ r.offset
-  pub first : r.octets ≡ [] → (x : ℕ) × (rest : List ℕ) × (piece ≡ x ∷ rest) × (x ≢ 0) × (room_of w.stack w.offset ≢ Some 0)
+  pub first : (r.octets ≢ []) ⊎ CanBegin w piece
+
+-- so many octets were taken, and one event was told
+abbrev pub TellsOne : Machine → Machine → List ℕ → List ℕ → Type 0
+TellsOne old new before after =
+    (new.offset + length after ≡ old.offset + length before) × (new.events ≡ old.events + 1) × (new.events ≤ new.offset)
+
+-- all octets were taken, and no event was told nor waits
+abbrev pub TakesAll : Machine → Machine → List ℕ → List ℕ → Type 0
+TakesAll old new before after = (new.offset ≡ old.offset + length before) × (after ≡ []) × (new.events ≡ old.events) × IsReady new
+
+-- an octet was refused
+abbrev pub Refuses : Machine → Machine → List ℕ → List ℕ → FaultOf → Type 0
+Refuses old new before after fault =
+    (new.offset + length after ≡ old.offset + length before) × (new.events ≡ old.events) × (new.phase ≡ Failed fault)
+
+-- what a step took from the front of a piece
+abbrev pub Steps : Machine → Machine → List ℕ → List ℕ → Step → Type 0
+Steps old new before after (step.Event e) = TellsOne old new before after
+Steps old new before after step.NeedMore = TakesAll old new before after
+Steps old new before after (step.Fault f) = Refuses old new before after f
+
+-- a header's octets are at most 137
+abbrev pub Moves : Machine → Machine → List ℕ → List ℕ → Move → Type 0
+Moves old new before after (move.Open f octets) = TellsOne old new before after × Suits f octets.now
+Moves old new before after (move.Begin f octets) = TellsOne old new before after × Suits f octets.now
+Moves old new before after (move.Enter f octets) = TellsOne old new before after × Suits f octets.now
+Moves old new before after (move.Bytes octets) = TellsOne old new before after
+Moves old new before after move.End = TellsOne old new before after
+Moves old new before after (move.Close at) = TellsOne old new before after
+Moves old new before after move.Unused = TellsOne old new before after
+Moves old new before after move.Leave = TellsOne old new before after
+Moves old new before after (move.Pad octets) = TellsOne old new before after
+Moves old new before after move.Slow = (new ≡ old) × (after ≡ before) × CanRead old before
+Moves old new before after move.NeedMore = TakesAll old new before after
+Moves old new before after (move.Fault f) = Refuses old new before after f
+
+-- an event that needs no octet
+abbrev pub MovesOn : Machine → Machine → ℕ → Move → Type 0
+MovesOn old new at (move.Open f octets) = ⊥
+MovesOn old new at (move.Begin f octets) = ⊥
+MovesOn old new at (move.Enter f octets) = ⊥
+MovesOn old new at (move.Bytes octets) = ⊥
+MovesOn old new at move.End = Tells old new at
+MovesOn old new at (move.Close offset) = Tells old new at
+MovesOn old new at move.Unused = ⊥
+MovesOn old new at move.Leave = Tells old new at
+MovesOn old new at (move.Pad octets) = ⊥
+MovesOn old new at move.Slow = ⊥
+MovesOn old new at move.NeedMore = ⊥
+MovesOn old new at (move.Fault f) = ⊥
 
 -- a header that may stand there, and of which the walker has taken a part at most
 pub record CanEnter (w : Machine) (h : Heading) : Type 0 where

@@ -8,6 +8,7 @@ mod ending;
 mod event;
 mod follow;
 mod framing;
+pub mod laws;
 mod memory;
 mod out;
 mod run;

@@ -3,10 +3,11 @@
 ghost use Rattle.std.specs.Prelude.{◌≡◌, ℕ, ◌+◌, ◌^◌, ◌<◌, ◌≤◌, ◌↔◌, IsTrue, length};
 
 use crate::stack::{Frame, Stack, room_to};
+use crate::event::{Kind, Move};
 use crate::{Ending, Event, Framing, Step};
 use std::marker::Model;
 use std::mem::replace;
-use tlv_head::{Fault, FaultCode, Head, HeadReader, Header, Size, read_header};
+use tlv_head::{Fault, FaultCode, Head, HeadReader, Header, HeaderFields, Size, read_header};
 
 /// What the next octet belongs to.
 #[derive(Drop)]
@@ -55,9 +56,10 @@ impl Model for Walker {
 
 impl Walker {
     ghost use Rattle.std.specs.Prelude.{◌≢◌, ◌∷◌, List, [], Some, slice_get, true};
+    ghost use Rattle.tlv_head.specs.Fields.{Suits, heading_with};
     ghost use Rattle.tlv_head.specs.Header.{announced, holds, octets_of};
     ghost use Rattle.tlv_walk.specs.declared.walker.Phase.TheVariants as phases;
-    ghost use Rattle.tlv_walk.specs.Machine.{CanEnter, CanRead, IsWaiting, Steps, Tells, fault_at, new_machine, next_wrapper, unused_in};
+    ghost use Rattle.tlv_walk.specs.Machine.{CanBegin, CanEnter, CanRead, CanReadOn, IsWaiting, Moves, MovesOn, Steps, Tells, fault_at, new_machine, next_wrapper, unused_in};
     ghost use Rattle.tlv_walk.specs.Stack.{IsFilled, Within, bound_of, room_of};
 
     /// A walker that has taken nothing.
@@ -143,19 +145,38 @@ impl Walker {
         requires { self.old.offset + length piece.old.now ≤ 2 ^ 40 }
         ensures { Steps self.old self.new piece.old.now piece.new.now result }
     {
-        if let Phase::Failed(fault) = &self.phase {
-            return Step::Fault(*fault);
-        }
+        Step::Event(match self.advance(piece) {
+            Move::Open(fields, octets) => Event::Open(Header::new(&fields, octets)),
+            Move::Begin(fields, octets) => Event::Begin(Header::new(&fields, octets)),
+            Move::Enter(fields, octets) => Event::Enter(Header::new(&fields, octets)),
+            Move::Bytes(octets) => Event::Bytes(octets),
+            Move::End => Event::End,
+            Move::Close(offset) => Event::Close(offset),
+            Move::Unused => Event::Unused,
+            Move::Leave => Event::Leave,
+            Move::Pad(octets) => Event::Pad(octets),
+            Move::Slow => return self.slow_header(piece),
+            Move::NeedMore => return Step::NeedMore,
+            Move::Fault(fault) => return Step::Fault(fault),
+        })
+    }
+
+    /// [`Walker::step`], but for headers that are to be read octet by octet.
+    #[inline]
+    pub(crate) fn advance<'a>(&mut self, piece: &mut &'a [u8]) -> Move<'a>
+        requires { self.old.offset + length piece.old.now ≤ 2 ^ 40 }
+        ensures { Moves self.old self.new piece.old.now piece.new.now result }
+    {
         if let Phase::Contents(left) = self.phase {
             return if left == 0 {
-                Step::Event(self.end_primitive())
+                self.end_primitive()
             } else {
                 self.contents(left, piece)
             };
         }
         if matches!(self.phase, Phase::Between) {
             return if self.stack.is_filled(self.offset) {
-                Step::Event(self.end_filled())
+                self.end_filled()
             } else {
                 self.between(piece)
             };
@@ -166,45 +187,51 @@ impl Walker {
         if matches!(self.phase, Phase::Zero) {
             return self.second_zero(piece);
         }
-        let Phase::Header(reader) = replace(&mut self.phase, Phase::Between) else {
-            unreachable!();
-        };
-        self.header(reader, piece)
+        if let Phase::Failed(fault) = &self.phase {
+            return Move::Fault(*fault);
+        }
+        if piece.is_empty() {
+            return Move::NeedMore;
+        }
+        Move::Slow
     }
 
     /// The end of a primitive whose contents have all come.
-    fn end_primitive<'a>(&mut self) -> Event<'a>
+    #[inline]
+    fn end_primitive<'a>(&mut self) -> Move<'a>
         requires { self.old.phase ≡ phases.Contents 0 }
-        ensures { Tells self.old self.new self.old.offset }
+        ensures { MovesOn self.old self.new self.old.offset result }
     {
         self.events += 1;
         self.phase = Phase::Between;
-        Event::End
+        Move::End
     }
 
     /// The end of the innermost element, which is definite and whose contents have all come.
-    fn end_filled<'a>(&mut self) -> Event<'a>
+    #[inline]
+    fn end_filled<'a>(&mut self) -> Move<'a>
         requires phase { self.old.phase ≡ phases.Between }
         requires filled { IsFilled self.old.stack self.old.offset }
-        ensures { Tells self.old self.new self.old.offset }
+        ensures { MovesOn self.old self.new self.old.offset result }
     {
         self.events += 1;
         match self.stack.pop() {
-            Some(Frame { wrapper: true, .. }) => Event::Leave,
-            _ => Event::Close(None),
+            Some(Frame { wrapper: true, .. }) => Move::Leave,
+            _ => Move::Close(None),
         }
     }
 
     /// Takes contents of a primitive.
-    fn contents<'a>(&mut self, left: u64, piece: &mut &'a [u8]) -> Step<'a>
+    #[inline]
+    fn contents<'a>(&mut self, left: u64, piece: &mut &'a [u8]) -> Move<'a>
         requires phase { self.old.phase ≡ phases.Contents left }
         requires some { 0 < left }
         requires limit { self.old.offset + length piece.old.now ≤ 2 ^ 40 }
-        ensures { Steps self.old self.new piece.old.now piece.new.now result }
+        ensures { Moves self.old self.new piece.old.now piece.new.now result }
     {
         let octets: &'a [u8] = *piece;
         if octets.is_empty() {
-            return Step::NeedMore;
+            return Move::NeedMore;
         }
         let count = left.min(octets.len() as u64);
         let (front, rest) = octets.split_at(count as usize);
@@ -212,26 +239,27 @@ impl Walker {
         self.offset += count;
         self.phase = Phase::Contents(left - count);
         self.events += 1;
-        Step::Event(Event::Bytes(front))
+        Move::Bytes(front)
     }
 
     /// Takes what stands between two elements, or begins one.
-    fn between<'a>(&mut self, piece: &mut &'a [u8]) -> Step<'a>
+    #[inline]
+    fn between<'a>(&mut self, piece: &mut &'a [u8]) -> Move<'a>
         requires phase { self.old.phase ≡ phases.Between }
         requires room { IsFilled self.old.stack self.old.offset → ⊥ }
         requires limit { self.old.offset + length piece.old.now ≤ 2 ^ 40 }
-        ensures { Steps self.old self.new piece.old.now piece.new.now result }
+        ensures { Moves self.old self.new piece.old.now piece.new.now result }
     {
         let octets: &'a [u8] = *piece;
         let [octet, rest @ ..] = octets else {
-            return Step::NeedMore;
+            return Move::NeedMore;
         };
         let indefinite = self.stack.is_in_indefinite();
         if indefinite && self.stack.room(self.offset) == Some(0) {
             return self.fail(FaultCode::MissingEnd);
         }
         if *octet != 0 {
-            return self.new_header(piece);
+            return self.fast_header(piece);
         }
         if indefinite {
             *piece = rest;
@@ -246,12 +274,12 @@ impl Walker {
     }
 
     /// Takes the octets `00` at the front of the piece.
-    fn padding<'a>(&mut self, piece: &mut &'a [u8]) -> Step<'a>
+    fn padding<'a>(&mut self, piece: &mut &'a [u8]) -> Move<'a>
         requires phase { self.old.phase ≡ phases.Between }
         requires zero { slice_get piece.old.now 0 ≡ Some 0 }
         requires limit { self.old.offset + length piece.old.now ≤ 2 ^ 40 }
         requires top { self.old.stack ≡ [] }
-        ensures { Steps self.old self.new piece.old.now piece.new.now result }
+        ensures { Moves self.old self.new piece.old.now piece.new.now result }
     {
         let octets: &'a [u8] = *piece;
         let count = octets.iter().position(|octet| *octet != 0).unwrap_or(octets.len());
@@ -259,18 +287,18 @@ impl Walker {
         *piece = rest;
         self.offset += count as u64;
         self.events += 1;
-        Step::Event(Event::Pad(front))
+        Move::Pad(front)
     }
 
     /// Takes the first contents octet of a wrapping BIT STRING.
-    fn unused_octet<'a>(&mut self, piece: &mut &'a [u8]) -> Step<'a>
+    fn unused_octet<'a>(&mut self, piece: &mut &'a [u8]) -> Move<'a>
         requires phase { self.old.phase ≡ phases.Unused }
         requires limit { self.old.offset + length piece.old.now ≤ 2 ^ 40 }
-        ensures { Steps self.old self.new piece.old.now piece.new.now result }
+        ensures { Moves self.old self.new piece.old.now piece.new.now result }
     {
         let octets: &'a [u8] = *piece;
         let [octet, rest @ ..] = octets else {
-            return Step::NeedMore;
+            return Move::NeedMore;
         };
         if *octet != 0 {
             return self.fail(FaultCode::BadInside);
@@ -279,18 +307,19 @@ impl Walker {
         self.offset += 1;
         self.events += 1;
         self.phase = Phase::Between;
-        Step::Event(Event::Unused)
+        Move::Unused
     }
 
     /// Takes the second of the end-of-contents octets.
-    fn second_zero<'a>(&mut self, piece: &mut &'a [u8]) -> Step<'a>
+    #[inline]
+    fn second_zero<'a>(&mut self, piece: &mut &'a [u8]) -> Move<'a>
         requires phase { self.old.phase ≡ phases.Zero }
         requires limit { self.old.offset + length piece.old.now ≤ 2 ^ 40 }
-        ensures { Steps self.old self.new piece.old.now piece.new.now result }
+        ensures { Moves self.old self.new piece.old.now piece.new.now result }
     {
         let octets: &'a [u8] = *piece;
         let [octet, rest @ ..] = octets else {
-            return Step::NeedMore;
+            return Move::NeedMore;
         };
         if self.stack.room(self.offset) == Some(0) {
             return self.fail(FaultCode::MissingEnd);
@@ -304,34 +333,56 @@ impl Walker {
         self.phase = Phase::Between;
         self.offset += 1;
         self.events += 1;
-        Step::Event(Event::Close(Some(offset)))
+        Move::Close(Some(offset))
     }
 
-    /// Begins a header. One that lies whole in the piece is read at once.
-    fn new_header<'a>(&mut self, piece: &mut &'a [u8]) -> Step<'a>
-        requires phase { self.old.phase ≡ phases.Between }
-        requires some { (x : ℕ) × (rest : List ℕ) × (piece.old.now ≡ x ∷ rest) × (x ≢ 0) }
-        requires room { room_of self.old.stack self.old.offset ≢ Some 0 }
+    /// Takes a header that lies whole in the piece, if it may stand here.
+    #[inline]
+    fn fast_header<'a>(&mut self, piece: &mut &'a [u8]) -> Move<'a>
+        requires begins { CanBegin self.old piece.old.now }
         requires limit { self.old.offset + length piece.old.now ≤ 2 ^ 40 }
-        ensures { Steps self.old self.new piece.old.now piece.new.now result }
+        ensures { Moves self.old self.new piece.old.now piece.new.now result }
     {
         let octets: &'a [u8] = *piece;
         let named = self.framing.inside.contains(self.offset);
-        if let Some(header) = read_header(self.offset, named, octets)
-            && self.may_stand(&header)
-        {
-            let (_, rest) = octets.split_at(header.raw().len());
-            *piece = rest;
-            return Step::Event(self.enter(header));
+        let Some((fields, count)) = read_header(self.offset, named, octets) else {
+            return Move::Slow;
+        };
+        let (front, rest) = octets.split_at(count);
+        if !self.may_stand(&fields, front) {
+            return Move::Slow;
         }
-        self.has_element = true;
-        self.header(HeadReader::new(self.offset, named), piece)
+        *piece = rest;
+        match self.enter(&fields, front) {
+            Kind::Constructed => Move::Open(fields, front),
+            Kind::Wrapper => Move::Enter(fields, front),
+            Kind::Primitive => Move::Begin(fields, front),
+        }
     }
 
-    /// Goes on with a header that has begun.
-    fn header<'a>(&mut self, reader: HeadReader, piece: &mut &'a [u8]) -> Step<'a>
+    /// Begins a header or goes on with one, octet by octet.
+    #[cold]
+    pub(crate) fn slow_header<'a>(&mut self, piece: &mut &'a [u8]) -> Step<'a>
+        requires begins { CanRead self.old piece.old.now }
+        requires limit { self.old.offset + length piece.old.now ≤ 2 ^ 40 }
+        ensures { Steps self.old self.new piece.old.now piece.new.now result }
+    {
+        if matches!(self.phase, Phase::Header(_)) {
+            let Phase::Header(reader) = replace(&mut self.phase, Phase::Between) else {
+                unreachable!();
+            };
+            return self.read_on(reader, piece);
+        }
+        let named = self.framing.inside.contains(self.offset);
+        self.has_element = true;
+        self.read_on(HeadReader::new(self.offset, named), piece)
+    }
+
+    /// Goes on with a header, octet by octet.
+    fn read_on<'a>(&mut self, reader: HeadReader, piece: &mut &'a [u8]) -> Step<'a>
         requires phase { self.old.phase ≡ phases.Between }
-        requires read { CanRead self.old reader piece.old.now }
+        requires read { CanReadOn self.old reader piece.old.now }
+        requires some { piece.old.now ≢ [] }
         requires limit { self.old.offset + length piece.old.now ≤ 2 ^ 40 }
         ensures { Steps self.old self.new piece.old.now piece.new.now result }
     {
@@ -347,7 +398,7 @@ impl Walker {
                 }
                 Head::Whole(header) => {
                     *piece = rest;
-                    return Step::Event(self.enter(header));
+                    return Step::Event(self.enter_slowly(header));
                 }
                 Head::Refused(fault) => {
                     self.offset = offset;
@@ -361,37 +412,52 @@ impl Walker {
         Step::NeedMore
     }
 
-    /// Takes a whole header, whose octets have left the piece, and stands behind it.
-    fn enter<'a>(&mut self, header: Header) -> Event<'a>
+    fn enter_slowly<'a>(&mut self, header: Header) -> Event<'a>
         requires phase { self.old.phase ≡ phases.Between }
         requires enter { CanEnter self.old header }
         ensures { Tells self.old self.new (header.offset + length (octets_of header)) }
     {
-        self.offset = header.offset + header.raw().len() as u64;
+        let fields = header.fields();
+        match self.enter(&fields, header.raw()) {
+            Kind::Constructed => Event::Open(header),
+            Kind::Wrapper => Event::Enter(header),
+            Kind::Primitive => Event::Begin(header),
+        }
+    }
+
+    /// Stands behind a header, whose octets have left the piece.
+    #[inline]
+    fn enter(&mut self, fields: &HeaderFields, octets: &[u8]) -> Kind
+        requires phase { self.old.phase ≡ phases.Between }
+        requires suits { Suits fields.now octets.now }
+        requires enter { CanEnter self.old (heading_with fields.now octets.now) }
+        ensures tells { Tells self.old self.new (fields.now.offset + length octets.now) }
+    {
+        self.offset = fields.offset + octets.len() as u64;
         self.events += 1;
         self.has_element = true;
-        let (end, length) = match header.size {
+        let (end, length) = match fields.size {
             Size::Definite(length) => (Some(self.offset + length), length),
             Size::Indefinite => (None, 0),
         };
-        if !header.constructed && !header.wraps() {
+        if !fields.constructed && !fields.wraps() {
             self.phase = Phase::Contents(length);
-            return Event::Begin(header);
+            return Kind::Primitive;
         }
         let bound = end.or(self.stack.bound());
         self.stack.push(Frame {
             end,
             bound,
-            wrapper: !header.constructed,
+            wrapper: !fields.constructed,
         });
-        if header.constructed {
-            return Event::Open(header);
+        if fields.constructed {
+            return Kind::Constructed;
         }
-        self.found_wrapper(header.offset);
-        if header.number == 3 {
+        self.found_wrapper(fields.offset);
+        if fields.number == 3 {
             self.phase = Phase::Unused;
         }
-        Event::Enter(header)
+        Kind::Wrapper
     }
 
     /// Counts a string that wraps encodings, where its offset is the first of those named that was
@@ -410,36 +476,36 @@ impl Walker {
 
     /// Whether an element with this header may stand here: it is not too deep, and its contents end
     /// within the bound.
-    fn may_stand(&self, header: &Header) -> bool
-        requires place { header.now.offset ≡ self.now.offset }
-        requires limit { header.now.offset + length (octets_of header.now) ≤ 2 ^ 40 }
-        requires length { announced header.now.size < 2 ^ 40 }
-        ensures shallow { IsTrue result → holds header.now ≡ true → length self.now.stack < 128 }
-        ensures fits { IsTrue result → Within (bound_of self.now.stack) (header.now.offset + length (octets_of header.now) + announced header.now.size) }
+    #[inline]
+    fn may_stand(&self, fields: &HeaderFields, octets: &[u8]) -> bool
+        requires place { fields.now.offset ≡ self.now.offset }
+        requires limit { fields.now.offset + length octets.now ≤ 2 ^ 40 }
+        requires length { announced fields.now.size < 2 ^ 40 }
+        ensures shallow { IsTrue result → holds (heading_with fields.now octets.now) ≡ true → length self.now.stack < 128 }
+        ensures fits { IsTrue result → Within (bound_of self.now.stack) (fields.now.offset + length octets.now + announced fields.now.size) }
     {
-        let holds = header.constructed || header.wraps();
-        if holds && self.stack.len() == 128 {
+        if self.stack.len() == 128 && (fields.constructed || fields.wraps()) {
             return false;
         }
-        let length = match header.size {
+        let length = match fields.size {
             Size::Definite(length) => length,
             Size::Indefinite => 0,
         };
         match self.stack.bound() {
-            Some(bound) => self.offset + header.raw().len() as u64 + length <= bound,
+            Some(bound) => self.offset + octets.len() as u64 + length <= bound,
             None => true,
         }
     }
 
     /// Refuses the next octet.
-    fn fail<'a>(&mut self, code: FaultCode) -> Step<'a>
-        ensures { (result ≡ Step.Fault (fault_at code self.old.offset)) × (self.new ≡ record self.old { phase = phases.Failed (fault_at code self.old.offset) }) }
+    fn fail<'a>(&mut self, code: FaultCode) -> Move<'a>
+        ensures { (result ≡ Move.Fault (fault_at code self.old.offset)) × (self.new ≡ record self.old { phase = phases.Failed (fault_at code self.old.offset) }) }
     {
         let fault = Fault {
             code,
             offset: self.offset,
         };
         self.phase = Phase::Failed(fault);
-        Step::Fault(fault)
+        Move::Fault(fault)
     }
 }

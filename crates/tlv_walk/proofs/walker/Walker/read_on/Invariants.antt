@@ -1,6 +1,6 @@
-use Rattle.std.proofs.Common.{◌≡◌, ◌≢◌, ◌+◌, ◌^◌, ◌≤◌, ℕ, List, [], ◌∷◌, false, length, Some}
+use Rattle.std.proofs.Common.{◌≡◌, ◌≢◌, ◌⊎◌, ◌+◌, ◌≤◌, ℕ, List, [], ◌∷◌, false, length, Some}
 use Rattle.tlv_walk.specs.Stack.{Within, left_to}
-use Rattle.tlv_walk.proofs.walker.Walker.header.Given as goal
+use Rattle.tlv_walk.proofs.walker.Walker.read_on.Given as goal
 
 abbrev pub invariant-loop-piece : goal.invariant-loop-piece
 invariant-loop-piece l = record {
@@ -10,7 +10,7 @@ invariant-loop-piece l = record {
   place : l.reader.offset + length l.reader.octets ≡ l.offset;
   taken : l.offset + length l.piece.now ≡ l.fn.self.offset + length l.fn.piece.now;
   within : Within l.bound l.offset;
-  first : l.reader.octets ≡ [] → (x : ℕ) × (rest : List ℕ) × (l.piece.now ≡ x ∷ rest) × (x ≢ 0) × (left_to l.bound l.offset ≢ Some 0);
+  first : (l.reader.octets ≢ []) ⊎ ((x : ℕ) × (rest : List ℕ) × (l.piece.now ≡ x ∷ rest) × (x ≢ 0) × (left_to l.bound l.offset ≢ Some 0));
 }
 
 abbrev pub decreases-loop-piece : goal.decreases-loop-piece

@@ -1,0 +1,23 @@
+-- The fields of a header, and its octets.
+use Rattle.std.specs.Prelude.{ℕ, ◌≤◌, List, length, take, drop}
+use Rattle.tlv_head.specs.declared.header.HeaderFields.{HeaderFields}
+use Rattle.tlv_head.specs.Header.{Heading}
+
+-- the header with these fields and octets
+abbrev pub heading_with : HeaderFields → List ℕ → Heading
+heading_with f octets = record {
+  offset = f.offset;
+  named = f.named;
+  class = f.class;
+  constructed = f.constructed;
+  number = f.number;
+  size = f.size;
+  identifier = take f.id_len octets;
+  lengths = drop f.id_len octets;
+}
+
+-- the identifier has at most ten of the octets, which are at most 137
+pub record Suits (f : HeaderFields) (octets : List ℕ) : Type 0 where
+  pub identifier : f.id_len ≤ length octets
+  pub few : f.id_len ≤ 10
+  pub room : length octets ≤ 137

@@ -1,0 +1,355 @@
+-- Every open forest with an octet is a shorter one, and the octet pushed.
+use Rattle.std.proofs.Common.{◌≡◌, ◌≢◌, ◌⊎◌, inl, inr, ℕ, ◌+◌, ◌<◌, ◌≤◌, Bool, true, false, ◌&&◌, leb, List, [], ◌∷◌, ◌++◌, length, refl, sym, ap, ◌∙◌, arith, append_assoc, append-nil, length-append, eq-eqb, ne_eqb}
+use Rattle.std.proofs.lemmas.Bool.{cases_Bool, and_from, lt-leb, true≢false}
+use Rattle.tlv_head.specs.declared.header.Class.{Class}
+use Rattle.tlv_head.specs.declared.header.Size.{Size}
+use Rattle.tlv_head.specs.declared.header.Size.TheVariants.{Definite, Indefinite}
+use Rattle.tlv_head.specs.Header.{Heading, IsHeading, IsIdentifier, IsLength, announced, holds, octets_of}
+use Rattle.tlv_head.specs.Refusal.{IsFront}
+use Rattle.tlv_head.proofs.Scan.{Origin, Scan, Fresh, High, Named, Long, Ready, Stuck, Over, origin_of, scan, scan_from-append, scan-header, is_more, more-from_front}
+use Rattle.tlv_walk.specs.Forest.{Forest, Stop, Fill, Whole, Closed, Partial, Entered, Awaiting, Begun, Zero, contents_length, end_octets, extent, is_whole, lead, opening, spell}
+use Rattle.tlv_walk.specs.Place.{Fits, IsClosed, IsEntry, IsFill, IsHeadAt, IsOpen, IsPartial, IsWhole, LacksOctets, Place, after, inside_of, is_indefinite}
+use Rattle.tlv_walk.proofs.Bounds.{IsEndless, IsFull, definite-length, fits, fits-inside, fits-within, has_length, indefinite-endless, lacks-length, lead-zero, length-full, within-lacks, within-le}
+use Rattle.tlv_walk.proofs.Spellings.{append_assoc-3, append_assoc-4, length-closed, length-opening, length-whole}
+use Rattle.tlv_walk.proofs.Push.{Grown, Ended, begin, begun, begun-sound, complete, entered, entered-sound, follow, is_filled, opened, origin, partial, push, reaches, settle}
+
+-- a list is empty, or has a last element
+pub data Back (o : List ℕ) : Type 0 where
+  is_nil : o ≡ [] → Back o
+  is_push : (front : List ℕ) (last : ℕ) → o ≡ front ++ last ∷ [] → Back o
+
+-- one more element before a list
+back-cons : (x : ℕ) (xs : List ℕ) → Back xs → Back (x ∷ xs)
+back-cons x xs (is_nil e) = is_push [] x (ap (λ (t : List ℕ). x ∷ t) e)
+back-cons x xs (is_push front last e) = is_push (x ∷ front) last (ap (λ (t : List ℕ). x ∷ t) e)
+
+-- each list is one or the other
+pub back : (xs : List ℕ) → Back xs
+back [] = is_nil refl
+back (x ∷ xs) = back-cons x xs (back xs)
+
+-- an open forest, and the octet that makes g of it
+pub record Popped (p : Place) (g : Forest) : Type 0 where
+  pub from : Forest
+  pub last : ℕ
+  pub is_open : IsOpen p from
+  pub spelled : spell g ≡ spell from ++ last ∷ []
+  pub pushed : push p from last ≡ Grown g
+
+-- identifier octets are one or more
+identifier-some : (c : Class) (k : Bool) (n : ℕ) (i : List ℕ) → IsIdentifier c k n i → 1 ≤ length i
+identifier-some c k n i (inl low) = rw low.octet (omega arith)
+identifier-some c k n i (inr high) = rw high.octet (omega arith)
+
+-- length octets are one or more
+lengths-some : (s : Size) (l : List ℕ) → IsLength s l → 1 ≤ length l
+lengths-some (Definite n) l (inl short) = rw (short.1) (omega arith)
+lengths-some (Definite n) l (inr long) = rw long.octet (omega arith)
+lengths-some Indefinite l e = rw e (omega arith)
+
+-- a header has at least two octets
+pub header-length : (h : Heading) → IsHeading h → 2 ≤ length (octets_of h)
+header-length h valid =
+    omega (arith, length-append h.identifier h.lengths, identifier-some h.class h.constructed h.number h.identifier valid.identifier, lengths-some h.size h.lengths valid.lengths)
+
+-- an octet behind the front of a header, by what all of them say
+pub push-scan : (p : Place) (o : List ℕ) (x : ℕ) (s : Scan) → Fits p (length o + 1) → scan (origin p) (o ++ x ∷ []) ≡ s → push p (Begun o) x ≡ begin p (o ++ x ∷ []) s
+push-scan p o x s f e = rw (fits-within p.bound _ f) (ap (begin p (o ++ x ∷ [])) (sym (scan_from-append (origin p) Fresh o (x ∷ [])) ∙ e))
+
+-- an octet that completes a header
+pub push-header : (p : Place) (h : Heading) (o : List ℕ) (x : ℕ) → IsHeading h → origin_of h ≡ origin p → octets_of h ≡ o ++ x ∷ [] → Fits p (length o + 1)
+    → push p (Begun o) x ≡ complete p h
+push-header p h o x valid at e f =
+    push-scan p o x (Ready h) f
+    (ap (scan (origin p)) (sym e) ∙ (ap (λ (a : Origin). scan a (octets_of h)) (sym at) ∙ scan-header h valid))
+
+-- octets that make no header yet are the front of one
+begin-more : (p : Place) (o : List ℕ) (s : Scan) → is_more s ≡ true → begin p o s ≡ Grown (Begun o)
+begin-more p o Fresh e = refl
+begin-more p o (High c k ds) e = refl
+begin-more p o (Named c k n i) e = refl
+begin-more p o (Long c k n i m ds) e = refl
+begin-more p o (Ready h) e = absurd (cc)
+begin-more p o (Stuck code) e = absurd (cc)
+begin-more p o Over e = absurd (cc)
+
+-- an octet that makes a longer front of a header
+pub push-front : (p : Place) (o : List ℕ) (x : ℕ) → IsFront (o ++ x ∷ []) → Fits p (length o + 1) → push p (Begun o) x ≡ Grown (Begun (o ++ x ∷ []))
+push-front p o x front f = push-scan p o x _ f refl ∙ begin-more p (o ++ x ∷ []) _ (more-from_front (origin p) (o ++ x ∷ []) front)
+
+-- a header that may stand there is a forest
+pub complete-begun : (p : Place) (h : Heading) (k : Bool) → holds h ≡ k → (k && leb 128 p.depth) ≡ false → Fits p (length (octets_of h) + announced h.size) → complete p h ≡ Grown (begun k h)
+complete-begun p h k e d f = rw (e, d, fits-within p.bound _ f)
+
+-- a header that stands there begins there
+pub header-origin : (p : Place) (k : Bool) (h : Heading) → IsHeadAt p k h → origin_of h ≡ origin p
+header-origin p k h header = λ i. record { offset = header.offset i; named = header.named i }
+
+-- a header alone is popped by its last octet
+header-popped : (p : Place) (h : Heading) (k : Bool) → IsHeadAt p k h → (k && leb 128 p.depth) ≡ false → Fits p (length (octets_of h) + announced h.size) → Popped p (begun k h)
+header-popped p h k header d f = elim (back (octets_of h)) [
+  | is_nil e ↦ absurd (omega (arith, ap length e, header-length h header.valid))
+  | is_push o x e ↦
+      let size : length (octets_of h) ≡ length o + 1 = ap length e ∙ length-append o (x ∷ []) in
+      let two : 2 ≤ length (octets_of h) = header-length h header.valid in
+      record {
+        from = Begun o;
+        last = x;
+        is_open = record {
+          some = λ z. omega (arith, ap length z);
+          front = record { head = h; more = x ∷ []; valid = header.valid; proper = λ z. omega (arith, ap length z); front = sym e };
+          fits = within-le p.bound _ _ (omega arith) f;
+        };
+        spelled = (begun-sound p h k header d f).spelled ∙ e;
+        pushed = push-header p h o x header.valid (header-origin p k h header) e (within-le p.bound _ _ (omega arith) f)
+            ∙ complete-begun p h k header.form d f;
+      }
+]
+
+-- an element that holds none yet is popped by the last octet of its header
+opened-popped : (p : Place) (h : Heading) (l : List ℕ) → lead h ≡ l → IsEntry p h → Popped p (opened h l)
+opened-popped p h l e entry =
+    let r : Popped p (opened h (lead h)) = header-popped p h true entry.header (lt-leb 128 p.depth entry.depth) entry.fits in
+    rw (ap (opened h) e) at r
+
+-- an element that holds none yet
+lead-popped : (p : Place) (h : Heading) (l : List ℕ) → lead h ≡ l → IsEntry p h → Popped p (entered h Stop)
+lead-popped p h [] e entry = opened-popped p h [] e entry
+lead-popped p h (x ∷ xs) e entry =
+    let one : lead h ≡ 0 ∷ [] = lead-zero h x xs e in
+    record {
+      from = Awaiting h;
+      last = 0;
+      is_open = record { entry = entry; lead = one };
+      spelled = (entered-sound p h Stop entry tt).spelled ∙ append-nil (opening h) ∙ ap (λ (t : List ℕ). octets_of h ++ t) one;
+      pushed = refl;
+    }
+
+-- a primitive with all its contents octets
+partial-whole : (h : Heading) (c : List ℕ) → h.size ≡ Definite (length c) → partial h c ≡ Whole h c Stop
+partial-whole h c e = rw (eq-eqb (length c) (announced h.size) (sym (ap announced e)))
+
+-- a primitive that lacks contents octets
+partial-partial : (h : Heading) (c : List ℕ) (n : ℕ) → h.size ≡ Definite n → length c < n → partial h c ≡ Partial h c
+partial-partial h c n e less =
+    let all : announced h.size ≡ n = ap announced e in
+    rw (ne_eqb (length c) (announced h.size) (λ z. omega arith))
+
+-- a primitive is popped by a contents octet
+contents-popped : (p : Place) (h : Heading) (c : List ℕ) (x n : ℕ) (g : Forest) → IsHeadAt p false h → h.size ≡ Definite n → length c < n → Fits p (length (octets_of h) + n)
+    → partial h (c ++ x ∷ []) ≡ g → spell g ≡ octets_of h ++ (c ++ x ∷ []) → Popped p g
+contents-popped p h c x n g header e less f same spelled = record {
+  from = Partial h c;
+  last = x;
+  is_open = record { header = header; announces = n; size = e; fewer = less; fits = f };
+  spelled = spelled ∙ sym (append_assoc (octets_of h) c (x ∷ []));
+  pushed = ap Grown same;
+}
+
+-- a primitive is popped by its last contents octet, or by that of its header
+primitive-popped : (p : Place) (h : Heading) (c : List ℕ) (n : ℕ) (g : Forest) → IsHeadAt p false h → h.size ≡ Definite n → length c ≤ n → Fits p (length (octets_of h) + n)
+    → partial h c ≡ g → spell g ≡ octets_of h ++ c → Popped p g
+primitive-popped p h c n g header e most f same spelled = elim (back c) [
+  | is_nil z ↦
+      let f' : Fits p (length (octets_of h) + announced h.size) = rw (ap announced e) f in
+      let r : Popped p (partial h []) = header-popped p h false header refl f' in
+      let same' : partial h [] ≡ g = ap (partial h) (sym z) ∙ same in
+      rw same' at r
+  | is_push ys y z ↦
+      let most' : length (ys ++ y ∷ []) ≤ n = rw z at most in
+      contents-popped p h ys y n g header e (omega (arith, length-append ys (y ∷ []))) f (ap (partial h) (sym z) ∙ same) (spelled ∙ ap (λ (t : List ℕ). octets_of h ++ t) z)
+]
+
+-- a whole primitive is popped
+whole-popped : (p : Place) (h : Heading) (c : List ℕ) → IsWhole p h c → Popped p (Whole h c Stop)
+whole-popped p h c w =
+    primitive-popped p h c (length c) (Whole h c Stop) w.header w.size (omega arith) w.fits (partial-whole h c w.size) (ap (λ (t : List ℕ). octets_of h ++ t) (append-nil c))
+
+-- a primitive that lacks contents octets is popped
+partial-popped : (p : Place) (h : Heading) (c : List ℕ) → IsPartial p h c → Popped p (Partial h c)
+partial-popped p h c w =
+    primitive-popped p h c w.announces (Partial h c) w.header w.size (omega (arith, w.fewer)) w.fits (partial-partial h c w.announces w.size w.fewer) refl
+
+-- an element that lacks contents octets is entered
+lacking-entered : (h : Heading) (f : Forest) → (is_whole f ≡ true → LacksOctets h.size (contents_length h f)) → entered h f ≡ Entered h f
+lacking-entered h f lacks = elim (cases_Bool (is_whole f)) [
+  | inl e ↦ rw (e, lacks-length h.size (contents_length h f) (lacks e))
+  | inr e ↦ rw e
+]
+
+-- contents before the last octet lack octets
+lacks-before : (p : Place) (h : Heading) (f g : Forest) (x : ℕ) → IsEntry p h → IsOpen (inside_of p h) g → spell g ≡ spell f ++ x ∷ [] → LacksOctets h.size (contents_length h f)
+lacks-before p h f g x entry w spelled =
+    within-lacks h.size (p.at + length (octets_of h)) p.bound (contents_length h f)
+    (within-le (inside_of p h).bound _ _ (omega (arith, ap length spelled, length-append (spell f) (x ∷ []), length-opening h))
+    (reaches (inside_of p h) g (fits-inside p h entry.header.form entry.fits) w))
+
+-- an element that holds octets is popped by the last of them, or by that of what comes before
+settled : (p : Place) (h : Heading) (inside g : Forest) → IsEntry p h → IsOpen (inside_of p h) inside → (inside ≡ Stop) ⊎ Popped (inside_of p h) inside
+    → entered h inside ≡ g → spell g ≡ opening h ++ spell inside → Popped p g
+settled p h inside g entry w (inl stop) same spelled =
+    let same' : entered h Stop ≡ g = ap (entered h) (sym stop) ∙ same in
+    rw same' at (lead-popped p h (lead h) refl entry)
+settled p h inside g entry w (inr q) same spelled = record {
+  from = Entered h q.from;
+  last = q.last;
+  is_open = (record { entry = entry; lacks = λ _. lacks-before p h q.from inside q.last entry w q.spelled }, q.is_open);
+  spelled = spelled ∙ ap (λ (t : List ℕ). opening h ++ t) q.spelled ∙ sym (append_assoc (opening h) (spell q.from) (q.last ∷ []));
+  pushed = ap (settle h) q.pushed ∙ ap Grown same;
+}
+
+-- whole elements, and behind them the first of the end-of-contents octets
+abbrev zeroed : Forest → Forest
+zeroed Stop = Zero
+zeroed (Fill rest) = Fill (zeroed rest)
+zeroed (Whole h c rest) = Whole h c (zeroed rest)
+zeroed (Closed h inside rest) = Closed h inside (zeroed rest)
+zeroed (Partial h c) = Partial h c
+zeroed (Entered h inside) = Entered h inside
+zeroed (Awaiting h) = Awaiting h
+zeroed (Begun o) = Begun o
+zeroed Zero = Zero
+
+-- g is f with the first of the end-of-contents octets, and the second ends f
+record IsZeroed (p : Place) (f g : Forest) : Type 0 where
+  is_open : IsOpen p g
+  spelled : spell g ≡ spell f ++ 0 ∷ []
+  pushed : push p g 0 ≡ Ended f
+
+-- whole elements in an element of indefinite length are so
+is-zeroed : (p : Place) (f : Forest) → IsOpen p f → is_whole f ≡ true → p.indefinite ≡ true → Fits p (length (spell f) + 2) → IsZeroed p f (zeroed f)
+is-zeroed p Stop w whole i f =
+    record { is_open = record { indefinite = i; fits = within-le p.bound _ _ (omega arith) f }; spelled = refl; pushed = rw (fits-within p.bound (p.at + 2) f) }
+is-zeroed p (Fill rest) w whole i f = absurd (true≢false (sym i ∙ w.0.definite))
+is-zeroed p (Whole h c rest) w whole i f =
+    let r : IsZeroed (after p (length (octets_of h) + length c)) rest (zeroed rest) =
+    is-zeroed (after p (length (octets_of h) + length c)) rest w.1 whole i
+    (within-le p.bound _ _ (omega (arith, length-whole h c rest)) f) in
+    record {
+      is_open = (w.0, r.is_open);
+      spelled = rw (r.spelled, append_assoc-3 (octets_of h) c (spell rest) (0 ∷ []));
+      pushed = ap (follow (Whole h c)) r.pushed;
+    }
+is-zeroed p (Closed h inside rest) w whole i f =
+    let r : IsZeroed (after p (extent h inside)) rest (zeroed rest) =
+    is-zeroed (after p (extent h inside)) rest w.2 whole i
+    (within-le p.bound _ _ (omega (arith, length-closed h inside rest)) f) in
+    record {
+      is_open = (w.0, w.1, r.is_open);
+      spelled = rw (r.spelled, append_assoc-4 (opening h) (spell inside) (end_octets h.size) (spell rest) (0 ∷ []));
+      pushed = ap (follow (Closed h inside)) r.pushed;
+    }
+is-zeroed p (Partial h c) w whole i f = absurd (cc)
+is-zeroed p (Entered h inside) w whole i f = absurd (cc)
+is-zeroed p (Awaiting h) w whole i f = absurd (cc)
+is-zeroed p (Begun o) w whole i f = absurd (cc)
+is-zeroed p Zero w whole i f = absurd (cc)
+
+-- an element of indefinite length is popped by the second of its end-of-contents octets
+endless-popped : (p : Place) (h : Heading) (inside : Forest) → is_indefinite h.size ≡ true → IsClosed p h inside → IsOpen (inside_of p h) inside → Popped p (Closed h inside Stop)
+endless-popped p h inside i w v =
+    let e : IsEndless h.size (p.at + length (octets_of h)) p.bound (contents_length h inside) = indefinite-endless h.size _ p.bound _ i in
+    let two : length (end_octets h.size) ≡ 2 = ap length e.ends in
+    let f : Fits (inside_of p h) (length (spell inside) + 2) = rw e.bound (within-le p.bound _ _ (omega arith) w.fits) in
+    let r : IsZeroed (inside_of p h) inside (zeroed inside) = is-zeroed (inside_of p h) inside v w.whole i f in
+    record {
+      from = Entered h (zeroed inside);
+      last = 0;
+      is_open = (
+        record {
+          entry = record { header = w.header; depth = w.depth; fits = within-le p.bound _ _ (omega (arith, e.none, length-opening h)) w.fits };
+          lacks = λ _. e.lacks _;
+        },
+        r.is_open,
+      );
+      spelled = ap (λ (t : List ℕ). opening h ++ (spell inside ++ (t ++ []))) e.ends
+          ∙ rw (r.spelled, append_assoc-3 (opening h) (spell inside) (0 ∷ []) (0 ∷ []));
+      pushed = ap (settle h) r.pushed;
+    }
+
+-- an element of definite length is popped as its last octet is
+definite-popped : (p : Place) (h : Heading) (inside : Forest) → is_indefinite h.size ≡ false → IsClosed p h inside → IsOpen (inside_of p h) inside
+    → (inside ≡ Stop) ⊎ Popped (inside_of p h) inside → Popped p (Closed h inside Stop)
+definite-popped p h inside i w v below =
+    let test : has_length h.size (contents_length h inside) ≡ true = definite-length h.size _ i w.filled in
+    let full : IsFull h.size (contents_length h inside) = length-full h.size _ test in
+    let none : length (end_octets h.size) ≡ 0 = ap length full.ends in
+    let entry : IsEntry p h = record { header = w.header; depth = w.depth; fits = within-le p.bound _ _ (omega (arith, full.all, length-opening h)) w.fits } in
+    let filled : is_filled h inside ≡ true = and_from _ _ w.whole test in
+    settled p h inside (Closed h inside Stop) entry v below (rw filled)
+    (ap (λ (t : List ℕ). opening h ++ (spell inside ++ (t ++ []))) full.ends ∙ ap (λ (t : List ℕ). opening h ++ t) (append-nil (spell inside)))
+
+-- an element that holds others and has ended is popped
+closed-popped : (p : Place) (h : Heading) (inside : Forest) → IsClosed p h inside → IsOpen (inside_of p h) inside → (inside ≡ Stop) ⊎ Popped (inside_of p h) inside
+    → Popped p (Closed h inside Stop)
+closed-popped p h inside w v below = elim (cases_Bool (is_indefinite h.size)) [
+  | inl i ↦ endless-popped p h inside i w v
+  | inr i ↦ definite-popped p h inside i w v below
+]
+
+-- no header begins with 00
+more-nonzero : (at : Origin) (x : ℕ) → is_more (scan at (x ∷ [])) ≡ true → x ≢ 0
+more-nonzero at x e z = let e' : is_more (scan at (0 ∷ [])) ≡ true = rw z at e in cc
+
+-- the front of a header is popped
+front-popped : (p : Place) (o : List ℕ) (x : ℕ) → IsFront (o ++ x ∷ []) → Fits p (length (o ++ x ∷ [])) → Popped p (Begun (o ++ x ∷ []))
+front-popped p [] x front f =
+    let nz : x ≢ 0 = more-nonzero (origin p) x (more-from_front (origin p) (x ∷ []) front) in
+    record { from = Stop; last = x; is_open = tt; spelled = refl; pushed = rw (fits-within p.bound (p.at + 1) f, ne_eqb x 0 nz) }
+front-popped p (y ∷ o) x front f = record {
+  from = Begun (y ∷ o);
+  last = x;
+  is_open = record {
+    some = λ z. omega (arith, ap length z);
+    front = record {
+      head = front.head;
+      more = x ∷ front.more;
+      valid = front.valid;
+      proper = λ z. omega (arith, ap length z);
+      front = sym (append_assoc (y ∷ o) (x ∷ []) front.more) ∙ front.front;
+    };
+    fits = within-le p.bound _ _ (omega (arith, length-append (y ∷ o) (x ∷ []))) f;
+  };
+  spelled = refl;
+  pushed = push-front p (y ∷ o) x front (within-le p.bound _ _ (omega (arith, length-append (y ∷ o) (x ∷ []))) f);
+}
+
+-- padding is popped
+fill-popped : (p : Place) → IsFill p → Popped p (Fill Stop)
+fill-popped p w = record { from = Stop; last = 0; is_open = tt; spelled = refl; pushed = rw (fits-within p.bound (p.at + 1) w.fits, w.definite, w.allowed) }
+
+-- what follows an element is popped: so are both
+followed : (p q : Place) (f : Forest → Forest) (o : List ℕ) (rest : Forest) → (r : Popped q rest) → IsOpen p (f r.from) → ((g : Forest) → spell (f g) ≡ o ++ spell g)
+    → ((x : ℕ) → push p (f r.from) x ≡ follow f (push q r.from x)) → Popped p (f rest)
+followed p q f o rest r w spelled pushed = record {
+  from = f r.from;
+  last = r.last;
+  is_open = w;
+  spelled = spelled rest ∙ ap (λ (t : List ℕ). o ++ t) r.spelled ∙ sym (append_assoc o (spell r.from) (r.last ∷ [])) ∙ ap (λ (t : List ℕ). t ++ r.last ∷ []) (sym (spelled r.from));
+  pushed = pushed r.last ∙ ap (follow f) r.pushed;
+}
+
+-- an open forest has no octet, or is a shorter one and the octet pushed
+pub pop : (p : Place) (g : Forest) → IsOpen p g → (g ≡ Stop) ⊎ Popped p g
+pop p Stop w = inl refl
+pop p (Fill rest) w = inr (elim (pop (after p 1) rest w.1) [
+  | inl e ↦ rw e (fill-popped p w.0)
+  | inr r ↦ followed p (after p 1) Fill (0 ∷ []) rest r (w.0, r.is_open) (λ g. refl) (λ x. refl)
+])
+pop p (Whole h c rest) w = inr (elim (pop (after p (length (octets_of h) + length c)) rest w.1) [
+  | inl e ↦ rw e (whole-popped p h c w.0)
+  | inr r ↦ followed p _ (Whole h c) (octets_of h ++ c) rest r (w.0, r.is_open) (λ g. sym (append_assoc (octets_of h) c (spell g))) (λ x. refl)
+])
+pop p (Closed h inside rest) w = inr (elim (pop (after p (extent h inside)) rest w.2) [
+  | inl e ↦ rw e (closed-popped p h inside w.0 w.1 (pop (inside_of p h) inside w.1))
+  | inr r ↦ followed p _ (Closed h inside) (opening h ++ (spell inside ++ end_octets h.size)) rest r (w.0, w.1, r.is_open)
+      (λ g. sym (append_assoc-3 (opening h) (spell inside) (end_octets h.size) (spell g))) (λ x. refl)
+])
+pop p (Partial h c) w = inr (partial-popped p h c w)
+pop p (Entered h inside) w = inr (settled p h inside (Entered h inside) w.0.entry w.1 (pop (inside_of p h) inside w.1) (lacking-entered h inside w.0.lacks) refl)
+pop p (Awaiting h) w = inr (opened-popped p h (0 ∷ []) w.lead w.entry)
+pop p (Begun o) w = inr (elim (back o) [
+  | is_nil e ↦ absurd (w.some e)
+  | is_push ys y e ↦ rw e (front-popped p ys y (rw e at w.front) (rw e at w.fits))
+])
+pop p Zero w = inr (record { from = Stop; last = 0; is_open = tt; spelled = refl; pushed = rw (fits-within p.bound (p.at + 1) w.fits, w.indefinite) })

@@ -1,0 +1,381 @@
+-- One more octet behind an open forest.
+use Rattle.std.proofs.Common.{◌≡◌, ◌≢◌, inl, inr, ℕ, ◌+◌, ◌<◌, ◌≤◌, Bool, true, false, cond, ◌&&◌, ◌||◌, eqb, leb, List, [], ◌∷◌, ◌++◌, length, refl, sym, ap, ◌∙◌, arith, append_assoc, append-nil, length-append, eq-eqb, ne_eqb, leb-false}
+use Rattle.std.proofs.lemmas.Bool.{cases_eq, cases_Bool, and_parts, true≢false}
+use Rattle.tlv_head.specs.declared.fault.FaultCode.{FaultCode}
+use Rattle.tlv_head.specs.declared.fault.FaultCode.TheVariants.{StrayEnd, BadEnd, MissingEnd, TooDeep, Overrun, BadInside}
+use Rattle.tlv_head.specs.declared.header.Size.{Size}
+use Rattle.tlv_head.specs.declared.header.Size.TheVariants.{Definite, Indefinite}
+use Rattle.tlv_head.specs.Header.{AllowsSize, Heading, IsHeading, announced, holds, octets_of, wraps}
+use Rattle.tlv_head.specs.Refusal.{IsFront}
+use Rattle.tlv_head.proofs.Scan.{Origin, Scan, Fresh, High, Named, Long, Ready, Stuck, Over, origin_of, step, scan, Reads, reads-step, reads-scan, front-from_more, front-bytes, first-more}
+use Rattle.tlv_walk.specs.Forest.{Forest, Stop, Fill, Whole, Closed, Partial, Entered, Awaiting, Begun, Zero, contents_length, end_octets, extent, is_whole, lead, opening, spell}
+use Rattle.tlv_walk.specs.Inside.{is_among}
+use Rattle.tlv_walk.specs.Place.{Fits, IsAwaiting, IsClosed, IsEntry, IsFill, IsHeadAt, IsOpen, IsPartial, IsWhole, LacksOctets, Place, after, inside_of}
+use Rattle.tlv_walk.proofs.Bounds.{IsEndless, IsFull, fits, fits-inside, has_length, indefinite-endless, lead-zero, length-full, length-lacks, within-fits, within-le, within-outside}
+use Rattle.tlv_walk.proofs.Spellings.{append_assoc-3, append_assoc-4, length-closed, length-opening, length-whole}
+
+-- what an octet makes of an open forest
+pub data Step : Type 0 where
+  -- this forest
+  Grown : (grown : Forest) → Step
+  -- the end of the contents, which are these elements
+  Ended : (contents : Forest) → Step
+  Refused : (code : FaultCode) → Step
+
+-- where a header that begins there begins
+abbrev pub origin : Place → Origin
+origin p = record { offset = p.at; named = is_among p.at p.inside }
+
+-- what an element holds is whole, and as long as was announced
+abbrev pub is_filled : Heading → Forest → Bool
+is_filled h f = is_whole f && has_length h.size (contents_length h f)
+
+-- an element that holds these others so far
+abbrev pub entered : Heading → Forest → Forest
+entered h f = cond (is_filled h f) (Closed h f Stop) (Entered h f)
+
+-- a primitive with these contents octets so far
+abbrev pub partial : Heading → List ℕ → Forest
+partial h c = cond (eqb (length c) (announced h.size)) (Whole h c Stop) (Partial h c)
+
+-- an element that holds none yet, behind its header: the octets are those to come before the first
+abbrev pub opened : Heading → List ℕ → Forest
+opened h [] = entered h Stop
+opened h (x ∷ xs) = Awaiting h
+
+-- a header alone, of an element that holds others or of one that does not
+abbrev pub begun : Bool → Heading → Forest
+begun true h = opened h (lead h)
+begun false h = partial h []
+
+-- a header is complete
+abbrev pub complete : Place → Heading → Step
+complete p h = cond (holds h && leb 128 p.depth) (Refused TooDeep)
+    (cond (fits p (length (octets_of h) + announced h.size)) (Grown (begun (holds h) h)) (Refused Overrun))
+
+-- octets of a header, by what they say
+abbrev pub begin : Place → List ℕ → Scan → Step
+begin p o Fresh = Grown (Begun o)
+begin p o (High c k ds) = Grown (Begun o)
+begin p o (Named c k n i) = Grown (Begun o)
+begin p o (Long c k n i m ds) = Grown (Begun o)
+begin p o (Ready h) = complete p h
+begin p o (Stuck code) = Refused code
+begin p o Over = Refused StrayEnd
+
+-- an octet 00 between encodings: inside an element of indefinite length, or where there is padding, or neither
+abbrev pub zero_between : Bool → Bool → Step
+zero_between true padding = Grown Zero
+zero_between false true = Grown (Fill Stop)
+zero_between false false = Refused StrayEnd
+
+-- a step of what follows an element is a step of both
+abbrev pub follow : (Forest → Forest) → Step → Step
+follow f (Grown g) = Grown (f g)
+follow f (Ended g) = Ended (f g)
+follow f (Refused code) = Refused code
+
+-- a step of what an element holds is a step of the element
+abbrev pub settle : Heading → Step → Step
+settle h (Grown g) = Grown (entered h g)
+settle h (Ended g) = Grown (Closed h g Stop)
+settle h (Refused code) = Refused code
+
+-- the octet x behind an open forest
+abbrev pub push : Place → Forest → ℕ → Step
+push p Stop x = cond (fits p 1) (cond (eqb x 0) (zero_between p.indefinite p.padding) (Grown (Begun (x ∷ [])))) (Refused MissingEnd)
+push p (Fill rest) x = follow Fill (push (after p 1) rest x)
+push p (Whole h c rest) x = follow (Whole h c) (push (after p (length (octets_of h) + length c)) rest x)
+push p (Closed h inside rest) x = follow (Closed h inside) (push (after p (extent h inside)) rest x)
+push p (Partial h c) x = Grown (partial h (c ++ x ∷ []))
+push p (Entered h inside) x = settle h (push (inside_of p h) inside x)
+push p (Awaiting h) x = cond (eqb x 0) (Grown (entered h Stop)) (Refused BadInside)
+push p (Begun o) x = cond (fits p (length o + 1)) (begin p (o ++ x ∷ []) (step (origin p) (scan (origin p) o) x)) (Refused Overrun)
+push p Zero x = cond (fits p 2) (cond (eqb x 0) (Ended Stop) (Refused BadEnd)) (Refused MissingEnd)
+
+-- an open forest there spells the octets
+pub record Spells (p : Place) (o : List ℕ) (g : Forest) : Type 0 where
+  pub is_open : IsOpen p g
+  pub spelled : spell g ≡ o
+
+-- the octets are whole elements and the end-of-contents octets
+pub record Ends (p : Place) (o : List ℕ) (g : Forest) : Type 0 where
+  pub is_open : IsOpen p g
+  pub whole : is_whole g ≡ true
+  pub indefinite : p.indefinite ≡ true
+  pub spelled : spell g ++ 0 ∷ 0 ∷ [] ≡ o
+  pub fits : Fits p (length (spell g) + 2)
+
+-- a step is right
+abbrev pub IsStep : Place → List ℕ → Step → Type 0
+IsStep p o (Grown g) = Spells p o g
+IsStep p o (Ended g) = Ends p o g
+IsStep p o (Refused code) = Unit {0}
+
+-- where what an element holds ends within the bound inside, the element so far ends within that outside
+reaches-entered : (p : Place) (h : Heading) (inside : Forest) → Fits p (length (octets_of h) + announced h.size) → Fits (inside_of p h) (length (spell inside))
+    → Fits p (length (opening h ++ spell inside))
+reaches-entered p h inside f g =
+    let size : length (opening h ++ spell inside) ≡ length (octets_of h) + (length (lead h) + length (spell inside)) = omega (arith, length-append (opening h) (spell inside), length-opening h) in
+    within-le p.bound _ _ (omega arith)
+    (within-outside h.size (p.at + length (octets_of h)) p.bound (length (lead h) + length (spell inside)) (within-le p.bound _ _ (omega arith) f)
+    (within-le (inside_of p h).bound _ _ (omega (arith, length-opening h)) g))
+
+-- an open forest ends within the bound
+pub reaches : (p : Place) (f : Forest) → Fits p 0 → IsOpen p f → Fits p (length (spell f))
+reaches p Stop z w = z
+reaches p (Fill rest) z w = within-le p.bound _ _ (omega arith) (reaches (after p 1) rest (within-le p.bound _ _ (omega arith) w.0.fits) w.1)
+reaches p (Whole h c rest) z w =
+    within-le p.bound _ _ (omega (arith, length-whole h c rest))
+    (reaches (after p (length (octets_of h) + length c)) rest (within-le p.bound _ _ (omega arith) w.0.fits) w.1)
+reaches p (Closed h inside rest) z w =
+    within-le p.bound _ _ (omega (arith, length-closed h inside rest))
+    (reaches (after p (extent h inside)) rest (within-le p.bound _ _ (omega arith) w.0.fits) w.2)
+reaches p (Partial h c) z w = within-le p.bound _ _ (omega (arith, length-append (octets_of h) c, w.fewer)) w.fits
+reaches p (Entered h inside) z w =
+    reaches-entered p h inside w.0.entry.fits (reaches (inside_of p h) inside (fits-inside p h w.0.entry.header.form w.0.entry.fits) w.1)
+reaches p (Awaiting h) z w = within-le p.bound _ _ (omega arith) w.entry.fits
+reaches p (Begun o) z w = w.fits
+reaches p Zero z w = w.fits
+
+-- 8.1.3.2 a): the length of a primitive is definite
+definite-primitive : (constructed : Bool) (s : Size) → constructed ≡ false → AllowsSize constructed s → (n : ℕ) × (s ≡ Definite n)
+definite-primitive true s e a = absurd (true≢false e)
+definite-primitive false (Definite n) e a = (n, refl)
+definite-primitive false Indefinite e a = absurd a
+
+-- what holds no others is no constructed element
+not-holding : (constructed wraps : Bool) → (constructed || wraps) ≡ false → constructed ≡ false
+not-holding true wraps e = absurd (true≢false e)
+not-holding false wraps e = refl
+
+-- an element that holds no others has a definite length
+pub size-definite : (h : Heading) → IsHeading h → holds h ≡ false → (n : ℕ) × (h.size ≡ Definite n)
+size-definite h valid e = definite-primitive h.constructed h.size (not-holding h.constructed (wraps h) e) valid.allowed
+
+-- contents octets of a primitive, no more than announced
+partial-sound : (p : Place) (h : Heading) (c : List ℕ) (n : ℕ) → IsHeadAt p false h → h.size ≡ Definite n → length c ≤ n → Fits p (length (octets_of h) + n)
+    → Spells p (octets_of h ++ c) (partial h c)
+partial-sound p h c n header e most f =
+    let all : announced h.size ≡ n = ap announced e in
+    elim (cases_eq (length c) n) [
+      | inl full ↦ rw (eq-eqb (length c) (announced h.size) (full ∙ sym all)) (record {
+        is_open = (record { header = header; size = e ∙ ap Definite (sym full); fits = rw full f }, tt);
+        spelled = ap (λ (t : List ℕ). octets_of h ++ t) (append-nil c);
+      })
+      | inr less ↦ rw (ne_eqb (length c) (announced h.size) (λ z. less (z ∙ all))) (record {
+        is_open = record { header = header; announces = n; size = e; fewer = omega arith; fits = f };
+        spelled = refl;
+      })
+    ]
+
+-- an element that holds others, with all its contents octets by its definite length
+closed-sound : (p : Place) (h : Heading) (g : Forest) → IsEntry p h → IsOpen (inside_of p h) g → is_whole g ≡ true → IsFull h.size (contents_length h g)
+    → Spells p (opening h ++ spell g) (Closed h g Stop)
+closed-sound p h g entry w whole full =
+    let none : length (end_octets h.size) ≡ 0 = ap length full.ends in
+    record {
+      is_open = (
+        record {
+          header = entry.header;
+          depth = entry.depth;
+          whole = whole;
+          filled = full.filled;
+          fits = within-le p.bound _ _ (omega (arith, full.all, length-opening h)) entry.fits;
+        },
+        w,
+        tt,
+      );
+      spelled = ap (λ (t : List ℕ). opening h ++ (spell g ++ (t ++ []))) full.ends ∙ ap (λ (t : List ℕ). opening h ++ t) (append-nil (spell g));
+    }
+
+-- an element that is not filled lacks octets, where what it holds is whole
+unfilled-lacks : (p : Place) (h : Heading) (g : Forest) → is_filled h g ≡ false → is_whole g ≡ true → Fits (inside_of p h) (length (spell g)) → LacksOctets h.size (contents_length h g)
+unfilled-lacks p h g e whole there =
+    let short : has_length h.size (contents_length h g) ≡ false = rw whole at e in
+    length-lacks h.size (p.at + length (octets_of h)) p.bound _ (within-le (inside_of p h).bound _ _ (omega (arith, length-opening h)) there) short
+
+-- what an element holds is open: so is the element
+pub entered-sound : (p : Place) (h : Heading) (g : Forest) → IsEntry p h → IsOpen (inside_of p h) g → Spells p (opening h ++ spell g) (entered h g)
+entered-sound p h g entry w = elim (cases_Bool (is_filled h g)) [
+  | inl e ↦
+      let parts : (is_whole g ≡ true) × (has_length h.size (contents_length h g) ≡ true) = and_parts _ _ e in
+      rw e (closed-sound p h g entry w parts.0 (length-full h.size _ parts.1))
+  | inr e ↦
+      let there : Fits (inside_of p h) (length (spell g)) = reaches (inside_of p h) g (fits-inside p h entry.header.form entry.fits) w in
+      rw e (record { is_open = (record { entry = entry; lacks = λ whole. unfilled-lacks p h g e whole there }, w); spelled = refl })
+]
+
+-- an element that holds none yet
+opened-sound : (p : Place) (h : Heading) (l : List ℕ) → lead h ≡ l → IsEntry p h → Spells p (octets_of h) (opened h l)
+opened-sound p h [] e entry =
+    let r : Spells p (opening h ++ []) (entered h Stop) = entered-sound p h Stop entry tt in
+    let none : opening h ++ [] ≡ octets_of h = append-nil (opening h) ∙ ap (λ (t : List ℕ). octets_of h ++ t) e ∙ append-nil (octets_of h) in
+    record { is_open = r.is_open; spelled = r.spelled ∙ none }
+opened-sound p h (x ∷ xs) e entry = record { is_open = record { entry = entry; lead = lead-zero h x xs e }; spelled = refl }
+
+-- a header where one may stand is an open forest
+pub begun-sound : (p : Place) (h : Heading) (k : Bool) → IsHeadAt p k h → (k && leb 128 p.depth) ≡ false → Fits p (length (octets_of h) + announced h.size)
+    → Spells p (octets_of h) (begun k h)
+begun-sound p h true header d f = opened-sound p h (lead h) refl (record { header = header; depth = leb-false 128 p.depth d; fits = f })
+begun-sound p h false header d f =
+    let n : (n : ℕ) × (h.size ≡ Definite n) = size-definite h header.valid header.form in
+    let f' : Fits p (length (octets_of h) + n.0) = rw (ap announced n.1) at f in
+    rw (append-nil (octets_of h)) at (partial-sound p h [] n.0 header n.1 (omega arith) f')
+
+-- a header that is complete
+complete-sound : (p : Place) (h : Heading) → IsHeading h → origin_of h ≡ origin p → IsStep p (octets_of h) (complete p h)
+complete-sound p h valid at =
+    let header : IsHeadAt p (holds h) h = record { valid = valid; offset = ap (λ (o : Origin). o.offset) at; named = ap (λ (o : Origin). o.named) at; form = refl } in
+    elim (cases_Bool (holds h && leb 128 p.depth)) [
+      | inl deep ↦ rw deep tt
+      | inr room ↦ elim (cases_Bool (fits p (length (octets_of h) + announced h.size))) [
+        | inl f ↦ rw (room, f) (begun-sound p h (holds h) header room (within-fits p.bound _ f))
+        | inr f ↦ rw (room, f) tt
+      ]
+    ]
+
+-- the front of a header
+front-sound : (p : Place) (o : List ℕ) → o ≢ [] → IsFront o → Fits p (length o) → Spells p o (Begun o)
+front-sound p o some front f = record { is_open = record { some = some; front = front; fits = f }; spelled = refl }
+
+-- octets of a header, by what they say
+begin-sound : (p : Place) (o : List ℕ) (s : Scan) → Reads (origin p) s o → o ≢ [] → Fits p (length o) → IsStep p o (begin p o s)
+begin-sound p o Fresh r some f = absurd (some r)
+begin-sound p o (High c k ds) r some f = front-sound p o some (front-from_more (origin p) (High c k ds) o r some refl) f
+begin-sound p o (Named c k n i) r some f = front-sound p o some (front-from_more (origin p) (Named c k n i) o r some refl) f
+begin-sound p o (Long c k n i m ds) r some f = front-sound p o some (front-from_more (origin p) (Long c k n i m ds) o r some refl) f
+begin-sound p o (Ready h) r some f = rw (r.1) (complete-sound p h r.0 r.2)
+begin-sound p o (Stuck code) r some f = tt
+begin-sound p o Over r some f = tt
+
+-- a list with one more is not empty
+pub push≢nil : (o : List ℕ) (x : ℕ) → o ++ x ∷ [] ≢ []
+push≢nil o x e = omega (arith, ap length e, length-append o (x ∷ []))
+
+-- behind the front of a header
+front-step : (p : Place) (o : List ℕ) (x : ℕ) → x < 256 → IsFront o → IsStep p (o ++ x ∷ []) (push p (Begun o) x)
+front-step p o x h front = elim (cases_Bool (fits p (length o + 1))) [
+  | inl f ↦ rw f
+      (begin-sound p (o ++ x ∷ []) (step (origin p) (scan (origin p) o) x) (reads-step (origin p) x (scan (origin p) o) o h (reads-scan (origin p) o (front-bytes o front))) (push≢nil o x)
+      (within-le p.bound _ _ (omega (arith, length-append o (x ∷ []))) (within-fits p.bound _ f)))
+  | inr f ↦ rw f tt
+]
+
+-- an octet 00 between encodings
+zero-sound : (p : Place) (i a : Bool) → p.indefinite ≡ i → p.padding ≡ a → Fits p 1 → IsStep p (0 ∷ []) (zero_between i a)
+zero-sound p true a e d f = record { is_open = record { indefinite = e; fits = f }; spelled = refl }
+zero-sound p false true e d f = record { is_open = (record { allowed = d; definite = e; fits = f }, tt); spelled = refl }
+zero-sound p false false e d f = tt
+
+-- between encodings
+stop-step : (p : Place) (x : ℕ) → x < 256 → IsStep p (x ∷ []) (push p Stop x)
+stop-step p x h = elim (cases_Bool (fits p 1)) [
+  | inl f ↦ elim (cases_eq x 0) [
+    | inl z ↦ rw (f, eq-eqb x 0 z, z) (zero-sound p p.indefinite p.padding refl refl (within-fits p.bound _ f))
+    | inr nz ↦ rw (f, ne_eqb x 0 nz)
+        (front-sound p (x ∷ []) (push≢nil [] x)
+        (front-from_more (origin p) (step (origin p) Fresh x) (x ∷ []) (reads-step (origin p) x Fresh [] h refl) (push≢nil [] x) (first-more (origin p) x nz))
+        (within-fits p.bound _ f))
+  ]
+  | inr f ↦ rw f tt
+]
+
+-- behind the first of the end-of-contents octets
+zero-step : (p : Place) (x : ℕ) → p.indefinite ≡ true → IsStep p (0 ∷ x ∷ []) (push p Zero x)
+zero-step p x i = elim (cases_Bool (fits p 2)) [
+  | inl f ↦ elim (cases_eq x 0) [
+    | inl z ↦ rw (f, eq-eqb x 0 z, z) (record { is_open = tt; whole = refl; indefinite = i; spelled = refl; fits = within-fits p.bound _ f })
+    | inr nz ↦ rw (f, ne_eqb x 0 nz) tt
+  ]
+  | inr f ↦ rw f tt
+]
+
+-- inside the contents of a primitive
+partial-step : (p : Place) (h : Heading) (c : List ℕ) (x : ℕ) → IsPartial p h c → IsStep p ((octets_of h ++ c) ++ x ∷ []) (push p (Partial h c) x)
+partial-step p h c x w =
+    rw (append_assoc (octets_of h) c (x ∷ []))
+    (partial-sound p h (c ++ x ∷ []) w.announces w.header w.size (omega (arith, length-append c (x ∷ []), w.fewer)) w.fits)
+
+-- before the first contents octet of a wrapping BIT STRING
+awaiting-step : (p : Place) (h : Heading) (x : ℕ) → IsAwaiting p h → IsStep p (octets_of h ++ x ∷ []) (push p (Awaiting h) x)
+awaiting-step p h x w = elim (cases_eq x 0) [
+  | inl z ↦
+      let r : Spells p (opening h ++ []) (entered h Stop) = entered-sound p h Stop w.entry tt in
+      rw (eq-eqb x 0 z, z) (record { is_open = r.is_open; spelled = r.spelled ∙ append-nil (opening h) ∙ ap (λ (t : List ℕ). octets_of h ++ t) w.lead })
+  | inr nz ↦ rw (ne_eqb x 0 nz) tt
+]
+
+-- a step of what follows padding
+fill-step : (p : Place) (o : List ℕ) (s : Step) → IsFill p → IsStep (after p 1) o s → IsStep p (0 ∷ o) (follow Fill s)
+fill-step p o (Grown g) w r = record { is_open = (w, r.is_open); spelled = ap (λ (t : List ℕ). 0 ∷ t) r.spelled }
+fill-step p o (Ended g) w r = absurd (true≢false (sym r.indefinite ∙ w.definite))
+fill-step p o (Refused code) w r = tt
+
+-- a step of what follows a primitive
+whole-step : (p : Place) (h : Heading) (c o : List ℕ) (s : Step) → IsWhole p h c → IsStep (after p (length (octets_of h) + length c)) o s
+    → IsStep p (octets_of h ++ (c ++ o)) (follow (Whole h c) s)
+whole-step p h c o (Grown g) w r = record { is_open = (w, r.is_open); spelled = ap (λ (t : List ℕ). octets_of h ++ (c ++ t)) r.spelled }
+whole-step p h c o (Ended g) w r = record {
+  is_open = (w, r.is_open);
+  whole = r.whole;
+  indefinite = r.indefinite;
+  spelled = append_assoc-3 (octets_of h) c (spell g) (0 ∷ 0 ∷ []) ∙ ap (λ (t : List ℕ). octets_of h ++ (c ++ t)) r.spelled;
+  fits = within-le p.bound _ _ (omega (arith, length-whole h c g)) r.fits;
+}
+whole-step p h c o (Refused code) w r = tt
+
+-- a step of what follows an element that holds others
+closed-step : (p : Place) (h : Heading) (inside : Forest) (o : List ℕ) (s : Step) → IsClosed p h inside → IsOpen (inside_of p h) inside → IsStep (after p (extent h inside)) o s
+    → IsStep p (opening h ++ (spell inside ++ (end_octets h.size ++ o))) (follow (Closed h inside) s)
+closed-step p h inside o (Grown g) w v r = record { is_open = (w, v, r.is_open); spelled = ap (λ (t : List ℕ). opening h ++ (spell inside ++ (end_octets h.size ++ t))) r.spelled }
+closed-step p h inside o (Ended g) w v r = record {
+  is_open = (w, v, r.is_open);
+  whole = r.whole;
+  indefinite = r.indefinite;
+  spelled = append_assoc-4 (opening h) (spell inside) (end_octets h.size) (spell g) (0 ∷ 0 ∷ []) ∙ ap (λ (t : List ℕ). opening h ++ (spell inside ++ (end_octets h.size ++ t))) r.spelled;
+  fits = within-le p.bound _ _ (omega (arith, length-closed h inside g)) r.fits;
+}
+closed-step p h inside o (Refused code) w v r = tt
+
+-- a step of what an element holds
+entered-step : (p : Place) (h : Heading) (o : List ℕ) (s : Step) → IsEntry p h → IsStep (inside_of p h) o s → IsStep p (opening h ++ o) (settle h s)
+entered-step p h o (Grown g) entry r =
+    let e : Spells p (opening h ++ spell g) (entered h g) = entered-sound p h g entry r.is_open in
+    record { is_open = e.is_open; spelled = e.spelled ∙ ap (λ (t : List ℕ). opening h ++ t) r.spelled }
+entered-step p h o (Ended g) entry r =
+    let e : IsEndless h.size (p.at + length (octets_of h)) p.bound (contents_length h g) = indefinite-endless h.size _ p.bound _ r.indefinite in
+    let two : length (end_octets h.size) ≡ 2 = ap length e.ends in
+    record {
+      is_open = (
+        record {
+          header = entry.header;
+          depth = entry.depth;
+          whole = r.whole;
+          filled = e.filled;
+          fits = within-le p.bound _ _ (omega arith) (rw e.bound at r.fits);
+        },
+        r.is_open,
+        tt,
+      );
+      spelled = ap (λ (t : List ℕ). opening h ++ (spell g ++ (t ++ []))) e.ends ∙ ap (λ (t : List ℕ). opening h ++ t) r.spelled;
+    }
+entered-step p h o (Refused code) entry r = tt
+
+-- a step of an open forest is right: the forest that it gives is open, and spells the octet too
+pub push-sound : (p : Place) (f : Forest) (x : ℕ) → x < 256 → IsOpen p f → IsStep p (spell f ++ x ∷ []) (push p f x)
+push-sound p Stop x h w = stop-step p x h
+push-sound p (Fill rest) x h w = fill-step p _ _ w.0 (push-sound (after p 1) rest x h w.1)
+push-sound p (Whole head c rest) x h w =
+    rw (append_assoc-3 (octets_of head) c (spell rest) (x ∷ []))
+    (whole-step p head c _ _ w.0 (push-sound (after p (length (octets_of head) + length c)) rest x h w.1))
+push-sound p (Closed head inside rest) x h w =
+    rw (append_assoc-4 (opening head) (spell inside) (end_octets head.size) (spell rest) (x ∷ []))
+    (closed-step p head inside _ _ w.0 w.1 (push-sound (after p (extent head inside)) rest x h w.2))
+push-sound p (Partial head c) x h w = partial-step p head c x w
+push-sound p (Entered head inside) x h w =
+    rw (append_assoc (opening head) (spell inside) (x ∷ []))
+    (entered-step p head _ _ w.0.entry (push-sound (inside_of p head) inside x h w.1))
+push-sound p (Awaiting head) x h w = awaiting-step p head x w
+push-sound p (Begun o) x h w = front-step p o x h w.front
+push-sound p Zero x h w = zero-step p x w.indefinite

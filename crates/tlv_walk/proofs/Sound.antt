@@ -1,0 +1,68 @@
+-- Sound elements are open forests in which nothing is open, and the other way.
+use Rattle.std.proofs.Common.{◌≡◌, ◌+◌, true, false, length, refl, arith}
+use Rattle.tlv_head.specs.Header.{Heading, octets_of}
+use Rattle.tlv_walk.specs.declared.framing.Framing.{Framing}
+use Rattle.tlv_walk.specs.Forest.{Forest, Stop, Fill, Whole, Closed, Partial, Entered, Awaiting, Begun, Zero, contents_length, extent, is_whole, spell}
+use Rattle.tlv_walk.specs.Place.{Fits, HasLength, IsOpen, Place, after, inside_of, top}
+use Rattle.tlv_walk.specs.Reading.{IsSound}
+use Rattle.tlv_walk.proofs.Bounds.{filled-within, within-le}
+use Rattle.tlv_walk.proofs.Spellings.{length-closed, length-opening, length-whole}
+
+-- nothing is open in sound elements
+pub sound-whole : (p : Place) (f : Forest) → IsSound p f → is_whole f ≡ true
+sound-whole p Stop s = refl
+sound-whole p (Fill rest) s = sound-whole (after p 1) rest s.1
+sound-whole p (Whole h c rest) s = sound-whole (after p (length (octets_of h) + length c)) rest s.2
+sound-whole p (Closed h inside rest) s = sound-whole (after p (extent h inside)) rest s.4
+sound-whole p (Partial h c) s = absurd s
+sound-whole p (Entered h inside) s = absurd s
+sound-whole p (Awaiting h) s = absurd s
+sound-whole p (Begun octets) s = absurd s
+sound-whole p Zero s = absurd s
+
+-- the contents of an element within the bound are within the bound inside
+fits-contents : (p : Place) (h : Heading) (inside : Forest) → HasLength h.size (contents_length h inside) → Fits p (extent h inside) → Fits (inside_of p h) (length (spell inside))
+fits-contents p h inside same f =
+    within-le (inside_of p h).bound _ _ (omega (arith, length-opening h))
+    (filled-within h.size (p.at + length (octets_of h)) p.bound (contents_length h inside) same
+    (within-le p.bound _ _ (omega (arith, length-opening h)) f))
+
+-- sound elements that end within the bound are an open forest
+pub sound-open : (p : Place) (f : Forest) → (p.padding ≡ true → p.indefinite ≡ false) → Fits p (length (spell f)) → IsSound p f → IsOpen p f
+sound-open p Stop d z s = tt
+sound-open p (Fill rest) d z s = (
+  record { allowed = s.0; definite = d s.0; fits = within-le p.bound _ _ (omega arith) z },
+  sound-open (after p 1) rest d (within-le p.bound _ _ (omega arith) z) s.1,
+)
+sound-open p (Whole h c rest) d z s = (
+  record { header = s.0; size = s.1; fits = within-le p.bound _ _ (omega (arith, length-whole h c rest)) z },
+  sound-open (after p (length (octets_of h) + length c)) rest d (within-le p.bound _ _ (omega (arith, length-whole h c rest)) z) s.2,
+)
+sound-open p (Closed h inside rest) d z s =
+    let f : Fits p (extent h inside) = within-le p.bound _ _ (omega (arith, length-closed h inside rest)) z in (
+      record { header = s.0; depth = s.2; whole = sound-whole (inside_of p h) inside s.3; filled = s.1; fits = f },
+      sound-open (inside_of p h) inside (λ e. absurd (cc)) (fits-contents p h inside s.1 f) s.3,
+      sound-open (after p (extent h inside)) rest d (within-le p.bound _ _ (omega (arith, length-closed h inside rest)) z) s.4,
+    )
+sound-open p (Partial h c) d z s = absurd s
+sound-open p (Entered h inside) d z s = absurd s
+sound-open p (Awaiting h) d z s = absurd s
+sound-open p (Begun octets) d z s = absurd s
+sound-open p Zero d z s = absurd s
+
+-- an open forest in which nothing is open is sound
+pub open-sound : (p : Place) (f : Forest) → IsOpen p f → is_whole f ≡ true → IsSound p f
+open-sound p Stop w t = tt
+open-sound p (Fill rest) w t = (w.0.allowed, open-sound (after p 1) rest w.1 t)
+open-sound p (Whole h c rest) w t = (w.0.header, w.0.size, open-sound (after p (length (octets_of h) + length c)) rest w.1 t)
+open-sound p (Closed h inside rest) w t =
+    (w.0.header, w.0.filled, w.0.depth, open-sound (inside_of p h) inside w.1 w.0.whole, open-sound (after p (extent h inside)) rest w.2 t)
+open-sound p (Partial h c) w t = absurd (cc)
+open-sound p (Entered h inside) w t = absurd (cc)
+open-sound p (Awaiting h) w t = absurd (cc)
+open-sound p (Begun octets) w t = absurd (cc)
+open-sound p Zero w t = absurd (cc)
+
+-- at the start of the input
+pub sound-open_top : (w : Framing) (f : Forest) → IsSound (top w) f → IsOpen (top w) f
+sound-open_top w f s = sound-open (top w) f (λ _. refl) tt s

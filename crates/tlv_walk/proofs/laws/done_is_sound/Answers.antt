@@ -1,0 +1,5 @@
+use Rattle.tlv_walk.proofs.Endings.{done-sound, sound-done}
+use Rattle.tlv_walk.proofs.laws.done_is_sound.Goals as goal
+
+pub returns : goal.returns
+returns c = λ framing b. (done-sound framing b, sound-done framing b)

@@ -1,0 +1,5 @@
+use Rattle.tlv_walk.proofs.Prefixes.{events-prefix}
+use Rattle.tlv_walk.proofs.laws.events_go_on.Goals as goal
+
+pub returns : goal.returns
+returns c = events-prefix

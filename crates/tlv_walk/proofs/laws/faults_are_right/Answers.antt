@@ -1,0 +1,5 @@
+use Rattle.tlv_walk.proofs.Endings.{no-false-alarm}
+use Rattle.tlv_walk.proofs.laws.faults_are_right.Goals as goal
+
+pub returns : goal.returns
+returns c = λ framing b more code offset final. no-false-alarm framing b more code offset final.0 final.1

@@ -1,0 +1,10 @@
+use Rattle.std.proofs.Common.{sym}
+use Rattle.tlv_walk.specs.Forest.{Forest}
+use Rattle.tlv_walk.proofs.Push.{Spells}
+use Rattle.tlv_walk.proofs.Readings.{prefix}
+use Rattle.tlv_walk.proofs.laws.fronts_are_open.Goals as goal
+
+pub returns : goal.returns
+returns c = λ p f s w front.
+    let g : (g : Forest) × Spells p s g = prefix p f s front.0 w (sym front.1) in
+    (g.0, g.1.is_open, g.1.spelled)

@@ -1,0 +1,5 @@
+use Rattle.tlv_walk.proofs.Joined.{equal-joined}
+use Rattle.tlv_walk.proofs.laws.joined_is_apart.Goals as goal
+
+pub returns : goal.returns
+returns c = equal-joined

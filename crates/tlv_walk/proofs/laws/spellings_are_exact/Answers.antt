@@ -1,0 +1,5 @@
+use Rattle.tlv_walk.proofs.Readings.{unique}
+use Rattle.tlv_walk.proofs.laws.spellings_are_exact.Goals as goal
+
+pub returns : goal.returns
+returns c = unique

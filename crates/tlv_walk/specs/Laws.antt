@@ -1,0 +1,54 @@
+-- Laws of open forests, of the readings and endings of inputs, and of their events.
+use Rattle.std.specs.Prelude.{◌≡◌, ◌≢◌, ℕ, ◌<◌, List, ◌++◌, All}
+use Rattle.tlv_head.specs.declared.fault.FaultCode.{FaultCode}
+use Rattle.tlv_head.specs.declared.fault.FaultCode.TheVariants.{Empty, Short}
+use Rattle.tlv_walk.specs.declared.ending.Ending.{Ending}
+use Rattle.tlv_walk.specs.declared.framing.Framing.{Framing}
+use Rattle.tlv_walk.specs.Forest.{Forest, spell}
+use Rattle.tlv_walk.specs.Place.{IsOpen, Place}
+use Rattle.tlv_walk.specs.Reading.{IsPrefixOf, IsReading, IsSoundList}
+use Rattle.tlv_walk.specs.Events.{AreEqualJoined, Told, events}
+use Rattle.tlv_walk.specs.Ending.{IsEnding, fault}
+
+-- octets, each below 256
+abbrev pub AreOctets : List ℕ → Type 0
+AreOctets b = All (λ x. x < 256) b
+
+-- a code other than F01 and F02, which alone say that the input ends too early
+abbrev pub IsFinal : FaultCode → Type 0
+IsFinal code = (code ≢ Empty) × (code ≢ Short)
+
+-- each front of an open forest's spelling is the spelling of an open forest
+abbrev pub FrontsAreOpen : Type 0
+FrontsAreOpen = (p : Place) (f : Forest) (s : List ℕ) → IsOpen p f → IsPrefixOf s (spell f)
+    → (g : Forest) × IsOpen p g × (spell g ≡ s)
+
+-- open forests that stand at one place and have one spelling are one forest, offsets included
+abbrev pub SpellingsAreExact : Type 0
+SpellingsAreExact = (p : Place) (f g : Forest) → IsOpen p f → IsOpen p g → spell f ≡ spell g → f ≡ g
+
+-- octets have a reading, and no other
+abbrev pub OctetsHaveOneReading : Type 0
+OctetsHaveOneReading = (framing : Framing) (b : List ℕ) → AreOctets b
+    → (f : Forest) × IsReading framing b f × ((g : Forest) → IsReading framing b g → g ≡ f)
+
+-- octets have an ending, and no other
+abbrev pub OctetsHaveOneEnding : Type 0
+OctetsHaveOneEnding = (framing : Framing) (b : List ℕ) → AreOctets b
+    → (e : Ending) × IsEnding framing b e × ((d : Ending) → IsEnding framing b d → d ≡ e)
+
+-- whatever follows an input with a fault other than F01 and F02, the ending and the reading stay
+abbrev pub FaultsAreFinal : Type 0
+FaultsAreFinal = (framing : Framing) (b c : List ℕ) (code : FaultCode) (offset : ℕ) (f : Forest) → IsFinal code
+    → IsEnding framing b (fault code offset) → IsReading framing b f
+    → IsEnding framing (b ++ c) (fault code offset) × IsReading framing (b ++ c) f
+
+-- whatever follows such an input, it is no sound list
+abbrev pub FaultsAreRight : Type 0
+FaultsAreRight = (framing : Framing) (b c : List ℕ) (code : FaultCode) (offset : ℕ) → IsFinal code
+    → IsEnding framing b (fault code offset) → IsSoundList framing (b ++ c) → ⊥
+
+-- the events of a longer input are, joined, those of the shorter and then others
+abbrev pub EventsGoOn : Type 0
+EventsGoOn = (framing : Framing) (b c : List ℕ) (f g : Forest) → IsReading framing b f → IsReading framing (b ++ c) g
+    → (others : List Told) × AreEqualJoined (events g) (events f ++ others)

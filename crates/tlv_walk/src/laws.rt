@@ -1,0 +1,74 @@
+//! Laws of the definitions: each is the contract of a function that does nothing.
+
+ghost use Rattle.std.specs.Prelude.{◌≡◌, ◌↔◌, ℕ, List, true};
+ghost use Rattle.tlv_walk.specs.declared.ending.Ending.TheVariants.{Done};
+ghost use Rattle.tlv_walk.specs.declared.framing.Framing.{Framing};
+ghost use Rattle.tlv_walk.specs.Ending.{IsEnding};
+ghost use Rattle.tlv_walk.specs.Events.{AreEqualJoined, Told, apart};
+ghost use Rattle.tlv_walk.specs.Forest.{Forest, is_whole};
+ghost use Rattle.tlv_walk.specs.Laws.{
+  EventsGoOn,
+  FaultsAreFinal,
+  FaultsAreRight,
+  FrontsAreOpen,
+  OctetsHaveOneEnding,
+  OctetsHaveOneReading,
+  SpellingsAreExact,
+};
+ghost use Rattle.tlv_walk.specs.Place.{IsOpen, top};
+ghost use Rattle.tlv_walk.specs.Reading.{IsSound, IsSoundList};
+
+/// Wherever an open forest is cut off, what is left is an open forest.
+pub fn fronts_are_open()
+    ensures { FrontsAreOpen }
+{}
+
+/// Octets can be read in one way only: two open forests that stand at one place and have one spelling
+/// are the same, with their headers' offsets.
+pub fn spellings_are_exact()
+    ensures { SpellingsAreExact }
+{}
+
+/// Each input has a reading, and only one.
+pub fn one_reading()
+    ensures { OctetsHaveOneReading }
+{}
+
+/// Each input has an ending, and only one.
+pub fn one_ending()
+    ensures { OctetsHaveOneEnding }
+{}
+
+/// A fault other than F01 and F02 is final: with whatever the input goes on, its ending stays the same
+/// fault at the same offset, and nothing more of it is read.
+pub fn faults_are_final()
+    ensures { FaultsAreFinal }
+{}
+
+/// No false alarm: with whatever an input goes on behind a fault other than F01 and F02, it is no sound
+/// list of encodings.
+pub fn faults_are_right()
+    ensures { FaultsAreRight }
+{}
+
+/// The inputs that end without a fault are the sound lists of encodings.
+pub fn done_is_sound()
+    ensures { (framing : Framing) (b : List ℕ) → IsEnding framing b Done ↔ IsSoundList framing b }
+{}
+
+/// What has been told stays true: the events of a longer input are those of the shorter, and then others,
+/// however contents octets and padding are cut into pieces.
+pub fn events_go_on()
+    ensures { EventsGoOn }
+{}
+
+/// Events are equal joined where they are equal with contents and padding cut into single octets.
+pub fn joined_is_apart()
+    ensures { (xs ys : List Told) → AreEqualJoined xs ys ↔ (apart xs ≡ apart ys) }
+{}
+
+/// A sound list is an open forest in which nothing is open.
+pub fn sound_is_whole()
+    ensures { (framing : Framing) (f : Forest)
+        → IsSound (top framing) f ↔ (IsOpen (top framing) f × (is_whole f ≡ true)) }
+{}
