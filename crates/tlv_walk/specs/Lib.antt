@@ -15,3 +15,4 @@ pub mod Stack
 pub mod Machine
 pub mod WalkerFields
 pub mod Laws
+pub mod State

@@ -1,0 +1,191 @@
+-- What a walker stands for: an open forest, seen from its open end.
+use Rattle.std.specs.Prelude.{◌≡◌, ℕ, ◌+◌, ◌<◌, Bool, true, false, not, eqb, if◌then◌else◌, List, [], ◌∷◌, ◌++◌, length, Option, Some, None}
+use Rattle.tlv_head.specs.declared.header.Size.{Size}
+use Rattle.tlv_head.specs.declared.header.Size.TheVariants.{Definite, Indefinite}
+use Rattle.tlv_head.specs.Header.{Heading, octets_of}
+use Rattle.tlv_walk.specs.declared.framing.Framing.{Framing}
+use Rattle.tlv_walk.specs.declared.stack.Frame.{Frame}
+use Rattle.tlv_walk.specs.declared.walker.Phase.{Phase}
+use Rattle.tlv_walk.specs.declared.walker.Phase.TheVariants as phase
+use Rattle.tlv_walk.specs.Events.{Told, AreEqualJoined, Begin, Bytes, End, Enter, Close, Leave, events, opens}
+use Rattle.tlv_walk.specs.Forest.{Forest, Stop, Fill, Whole, Closed, Partial, Entered, Awaiting, Begun, Zero, contents_length, has_element, is_whole, opening, spell}
+use Rattle.tlv_walk.specs.Inside.{is_among}
+use Rattle.tlv_walk.specs.Machine.{Machine}
+use Rattle.tlv_walk.specs.Place.{Fits, IsAwaiting, IsBegun, IsEntry, IsHeadAt, IsOpen, IsZero, Place, after, bound_in, inside_of, top}
+use Rattle.tlv_walk.specs.Reading.{IsReading}
+use Rattle.tlv_walk.specs.Wrappers.{wrapper_at, wrappers}
+
+-- an open element that holds others, and the whole elements before it in the element around it
+pub record Layer : Type 0 where
+  pub before : Forest
+  pub head : Heading
+
+-- what is open behind the whole elements of the innermost open element
+pub data Tail : Type 0 where
+  Nothing : Tail
+  -- contents octets so far, which may be all: the end is then still to be told
+  Contents : (head : Heading) (contents : List ℕ) → Tail
+  -- a wrapping BIT STRING without its first contents octet
+  Lead : (head : Heading) → Tail
+  -- the front of a header
+  Front : (octets : List ℕ) → Tail
+  -- the first of the end-of-contents octets
+  Lone : Tail
+
+-- the open elements that hold others, innermost first; the whole elements in the innermost of them; and
+-- what is open behind those
+pub record State : Type 0 where
+  pub layers : List Layer
+  pub here : Forest
+  pub tail : Tail
+
+-- where the elements in the innermost open element begin
+abbrev pub place_in : Framing → List Layer → Place
+place_in w [] = top w
+place_in w (l ∷ ls) = inside_of (after (place_in w ls) (length (spell l.before))) l.head
+
+-- behind the whole elements there
+abbrev pub place_of : Framing → State → Place
+place_of w s = after (place_in w s.layers) (length (spell s.here))
+
+-- whole elements stand there, and nothing is open
+pub record AreWhole (p : Place) (f : Forest) : Type 0 where
+  pub is_open : IsOpen p f
+  pub whole : is_whole f ≡ true
+
+-- each layer's elements are whole, and its header may stand behind them
+abbrev pub AreLayers : Framing → List Layer → Type 0
+AreLayers w [] = Unit {0}
+AreLayers w (l ∷ ls) =
+    AreLayers w ls × AreWhole (place_in w ls) l.before × IsEntry (after (place_in w ls) (length (spell l.before))) l.head
+
+-- 8.1.3.3: a primitive of which so many contents octets are still to come
+pub record IsContents (p : Place) (h : Heading) (c : List ℕ) (left : ℕ) : Type 0 where
+  pub header : IsHeadAt p false h
+  pub size : h.size ≡ Definite (length c + left)
+  pub fits : Fits p (length (octets_of h) + (length c + left))
+
+-- the frame of an element that stands there
+abbrev pub frame_of : Place → Heading → Frame
+frame_of p h = record {
+  end = bound_in h.size (p.at + length (octets_of h)) None;
+  bound = bound_in h.size (p.at + length (octets_of h)) p.bound;
+  wrapper = not h.constructed;
+}
+
+abbrev pub frames_of : Framing → List Layer → List Frame
+frames_of w [] = []
+frames_of w (l ∷ ls) = frame_of (after (place_in w ls) (length (spell l.before))) l.head ∷ frames_of w ls
+
+-- the frames of a state: a wrapping BIT STRING has one before its first contents octet
+abbrev pub stack_of : Framing → List Layer → Place → Tail → List Frame
+stack_of w ls p Nothing = frames_of w ls
+stack_of w ls p (Contents h c) = frames_of w ls
+stack_of w ls p (Lead h) = frame_of p h ∷ frames_of w ls
+stack_of w ls p (Front octets) = frames_of w ls
+stack_of w ls p Lone = frames_of w ls
+
+-- the phase of a walker is what is open there
+abbrev pub IsPhaseOf : Phase → Tail → Place → Type 0
+IsPhaseOf phase.Between Nothing p = Unit {0}
+IsPhaseOf (phase.Header r) (Front octets) p =
+    (r.octets ≡ octets) × (r.offset ≡ p.at) × (r.named ≡ is_among p.at p.inside) × IsBegun p octets
+IsPhaseOf (phase.Contents left) (Contents h c) p = IsContents p h c left
+IsPhaseOf phase.Unused (Lead h) p = IsAwaiting p h
+IsPhaseOf phase.Zero Lone p = IsZero p
+IsPhaseOf f t p = ⊥
+
+-- the octets
+abbrev pub spell_layers : List Layer → List ℕ
+spell_layers [] = []
+spell_layers (l ∷ ls) = spell_layers ls ++ (spell l.before ++ opening l.head)
+
+abbrev pub spell_tail : Tail → List ℕ
+spell_tail Nothing = []
+spell_tail (Contents h c) = octets_of h ++ c
+spell_tail (Lead h) = octets_of h
+spell_tail (Front octets) = octets
+spell_tail Lone = 0 ∷ []
+
+abbrev pub spell_state : State → List ℕ
+spell_state s = spell_layers s.layers ++ (spell s.here ++ spell_tail s.tail)
+
+-- the events told: of a primitive and of an element that is filled, not yet the end
+abbrev pub events_layers : List Layer → List Told
+events_layers [] = []
+events_layers (l ∷ ls) = events_layers ls ++ (events l.before ++ opens l.head)
+
+abbrev pub events_tail : Tail → List Told
+events_tail Nothing = []
+events_tail (Contents h c) = Begin h ∷ Bytes c ∷ []
+events_tail (Lead h) = Enter h ∷ []
+events_tail (Front octets) = []
+events_tail Lone = []
+
+abbrev pub events_state : State → List Told
+events_state s = events_layers s.layers ++ (events s.here ++ events_tail s.tail)
+
+-- the wrappers
+abbrev pub wrappers_layers : List Layer → List ℕ
+wrappers_layers [] = []
+wrappers_layers (l ∷ ls) = wrappers_layers ls ++ (wrappers l.before ++ wrapper_at l.head)
+
+abbrev pub wrappers_tail : Tail → List ℕ
+wrappers_tail Nothing = []
+wrappers_tail (Contents h c) = []
+wrappers_tail (Lead h) = wrapper_at h
+wrappers_tail (Front octets) = []
+wrappers_tail Lone = []
+
+abbrev pub wrappers_state : State → List ℕ
+wrappers_state s = wrappers_layers s.layers ++ (wrappers s.here ++ wrappers_tail s.tail)
+
+-- an octet of an element came
+abbrev pub begins_element : List Layer → Forest → Tail → Bool
+begins_element [] here Nothing = has_element here
+begins_element layers here tail = true
+
+-- the walker has this state: octets so far, frames, phase and counts are the state's
+pub record HasState (w : Machine) (b : List ℕ) (told : List Told) (s : State) : Type 0 where
+  pub spelled : spell_state s ≡ b
+  pub offset : w.offset ≡ length b
+  pub stack : w.stack ≡ stack_of w.framing s.layers (place_of w.framing s) s.tail
+  pub layers : AreLayers w.framing s.layers
+  pub here : AreWhole (place_in w.framing s.layers) s.here
+  pub phase : IsPhaseOf w.phase s.tail (place_of w.framing s)
+  pub told_of : AreEqualJoined told (events_state s)
+  pub element : w.has_element ≡ begins_element s.layers s.here s.tail
+
+-- 8.1.5: the end of an element that is filled
+abbrev pub ending_of : Frame → Told
+ending_of f = if f.wrapper then Leave else Close None
+
+abbrev pub is_end : Option ℕ → ℕ → Bool
+is_end None at = false
+is_end (Some e) at = eqb e at
+
+-- the ends of the elements that are filled at the offset, innermost first
+abbrev pub endings_at : ℕ → List Frame → List Told
+endings_at at [] = []
+endings_at at (f ∷ fs) = if is_end f.end at then ending_of f ∷ endings_at at fs else []
+
+-- the events that need no further octet
+abbrev pub waiting_in : Phase → List Frame → ℕ → List Told
+waiting_in phase.Between stack at = endings_at at stack
+waiting_in (phase.Header r) stack at = []
+waiting_in (phase.Contents left) stack at = if eqb left 0 then End ∷ endings_at at stack else []
+waiting_in phase.Unused stack at = []
+waiting_in phase.Zero stack at = []
+waiting_in (phase.Failed fault) stack at = []
+
+abbrev pub waiting_of : Machine → List Told
+waiting_of w = waiting_in w.phase w.stack w.offset
+
+-- what a walker stands for that was refused nothing: octets, and the events told of them. Told and waiting
+-- together they are those of the reading
+pub record Stands (w : Machine) (b : List ℕ) (told : List Told) : Type 0 where
+  pub reading : Forest
+  pub is_reading : IsReading w.framing b reading
+  pub all_told : AreEqualJoined (told ++ waiting_of w) (events reading)
+  pub state : State
+  pub has_state : HasState w b told state
