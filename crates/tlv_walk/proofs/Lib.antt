@@ -12,4 +12,6 @@ pub mod Joined
 pub mod Gains
 pub mod Prefixes
 pub mod Wrappers
+pub mod Zipper
+pub mod Moves
 pub mod Known

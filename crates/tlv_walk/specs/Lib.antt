@@ -16,3 +16,4 @@ pub mod Machine
 pub mod WalkerFields
 pub mod Laws
 pub mod State
+pub mod Tells

@@ -141,9 +141,16 @@ abbrev pub wrappers_state : State → List ℕ
 wrappers_state s = wrappers_layers s.layers ++ (wrappers s.here ++ wrappers_tail s.tail)
 
 -- an octet of an element came
+abbrev pub begins_among : List Layer → Forest → Bool
+begins_among [] here = has_element here
+begins_among (l ∷ ls) here = true
+
 abbrev pub begins_element : List Layer → Forest → Tail → Bool
-begins_element [] here Nothing = has_element here
-begins_element layers here tail = true
+begins_element layers here Nothing = begins_among layers here
+begins_element layers here (Contents h c) = true
+begins_element layers here (Lead h) = true
+begins_element layers here (Front octets) = true
+begins_element layers here Lone = true
 
 -- the walker has this state: octets so far, frames, phase and counts are the state's
 pub record HasState (w : Machine) (b : List ℕ) (told : List Told) (s : State) : Type 0 where

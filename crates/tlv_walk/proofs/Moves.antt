@@ -1,0 +1,143 @@
+-- Each move of a walker, on its state.
+use Rattle.std.proofs.Common.{◌≡◌, ℕ, ◌+◌, ◌-◌, ◌≤◌, Bool, true, ◌||◌, List, [], ◌∷◌, ◌++◌, length, map, refl, sym, ap, ◌∙◌, subst, arith, append_assoc, append-nil, length-append}
+use Rattle.std.proofs.lemmas.List.{map-append}
+use Rattle.std.proofs.Math.Bool.{or-true}
+use Rattle.tlv_head.specs.declared.header.Size.TheVariants.{Definite}
+use Rattle.tlv_head.specs.Header.{Heading, octets_of}
+use Rattle.tlv_walk.specs.declared.walker.Phase.{Phase}
+use Rattle.tlv_walk.specs.declared.walker.Phase.TheVariants as phase
+use Rattle.tlv_walk.specs.Events.{AreEqualJoined, Told, Begin, Bytes, End, apart, events}
+use Rattle.tlv_walk.specs.Forest.{Forest, Stop, Whole, has_element, is_whole, spell}
+use Rattle.tlv_walk.specs.Machine.{Machine}
+use Rattle.tlv_walk.specs.Place.{Fits, IsOpen, Place, after}
+use Rattle.tlv_walk.specs.State.{AreWhole, HasState, IsContents, IsPhaseOf, Layer, Tail, Nothing, Contents, Lead, Front, Lone, State, begins_among, events_layers, place_in, place_of, spell_layers}
+use Rattle.tlv_walk.specs.Tells.{Continues}
+use Rattle.tlv_walk.proofs.Joined.{apart-before, apart-from_joined, apart-more, joined-from_apart}
+use Rattle.tlv_walk.proofs.Spellings.{append_assoc-3}
+use Rattle.tlv_walk.proofs.Zipper.{behind, element-behind, events-behind, open-behind, spell-behind, whole-behind}
+
+-- events told one after another
+pub told_more : (told es new es' : List Told) → AreEqualJoined told es → apart es' ≡ apart (es ++ new) → AreEqualJoined (told ++ new) es'
+told_more told es new es' h e = joined-from_apart (told ++ new) es' (apart-before told es new (apart-from_joined told es h) ∙ sym e)
+
+pub continues_both : (u v w : Machine) (s t : List ℕ) (d e : List Told) → Continues u v s d → Continues v w t e → Continues u w (s ++ t) (d ++ e)
+continues_both u v w s t d e f g = record {
+  goes = λ b told st has.
+    let one = f.goes b told st has in
+    let two = g.goes (b ++ s) (told ++ d) one.0 one.1 in (
+      two.0,
+      subst (λ (x : List ℕ). HasState w x (told ++ (d ++ e)) two.0) (append_assoc b s t)
+          (subst (λ (x : List Told). HasState w ((b ++ s) ++ t) x two.0) (append_assoc told d e) two.1),
+    );
+}
+
+-- the events of a state, where the open end goes on
+told_behind : (told : List Told) (ls : List Layer) (here : Forest) (old new more : List Told) → AreEqualJoined told (events_layers ls ++ (events here ++ old))
+    → apart new ≡ apart (old ++ more) → AreEqualJoined (told ++ more) (events_layers ls ++ (events here ++ new))
+told_behind told ls here old new more h e =
+    told_more told (events_layers ls ++ (events here ++ old)) more (events_layers ls ++ (events here ++ new)) h
+    (apart-more (events_layers ls) (events here ++ new) (events here ++ old) more (apart-more (events here) new old more e))
+
+-- its octets likewise
+spelled_behind : (ls : List Layer) (here : Forest) (old new t b : List ℕ) → new ≡ old ++ t → spell_layers ls ++ (spell here ++ old) ≡ b
+    → spell_layers ls ++ (spell here ++ new) ≡ b ++ t
+spelled_behind ls here old new t b e f =
+    ap (λ (s : List ℕ). spell_layers ls ++ (spell here ++ s)) e ∙ (sym (append_assoc-3 (spell_layers ls) (spell here) old t) ∙ ap (λ (s : List ℕ). s ++ t) f)
+
+-- the same, where the open end is whole now
+told_whole : (told : List Told) (ls : List Layer) (here new : Forest) (old more : List Told) → is_whole here ≡ true → AreEqualJoined told (events_layers ls ++ (events here ++ old))
+    → apart (events new) ≡ apart (old ++ more) → AreEqualJoined (told ++ more) (events_layers ls ++ (events (behind here new) ++ []))
+told_whole told ls here new old more whole h e =
+    subst (λ (es : List Told). AreEqualJoined (told ++ more) (events_layers ls ++ es)) (sym (append-nil (events (behind here new)) ∙ events-behind here new whole))
+    (told_behind told ls here old (events new) more h e)
+
+spelled_whole : (ls : List Layer) (here more : Forest) (old t b : List ℕ) → is_whole here ≡ true → spell more ≡ old ++ t → spell_layers ls ++ (spell here ++ old) ≡ b
+    → spell_layers ls ++ (spell (behind here more) ++ []) ≡ b ++ t
+spelled_whole ls here more old t b whole e f =
+    ap (λ (s : List ℕ). spell_layers ls ++ s) (append-nil (spell (behind here more)) ∙ spell-behind here more whole) ∙ spelled_behind ls here old (spell more) t b e f
+
+-- whole elements, and then one more
+are_whole : (p : Place) (here more : Forest) → AreWhole p here → IsOpen (after p (length (spell here))) more → is_whole more ≡ true → AreWhole p (behind here more)
+are_whole p here more h o w = record { is_open = open-behind p here more h o; whole = whole-behind here more h.whole ∙ w }
+
+-- an element came
+began : (ls : List Layer) (here more : Forest) → is_whole here ≡ true → has_element more ≡ true → begins_among ls (behind here more) ≡ true
+began [] here more w e = element-behind here more w ∙ (ap (λ (k : Bool). has_element here || k) e ∙ or-true (has_element here))
+began (l ∷ ls) here more w e = refl
+
+-- a state with this tail
+abbrev pub with_tail : State → Tail → State
+with_tail s t = record { layers = s.layers; here = s.here; tail = t }
+
+tail_state : (w : Machine) (b : List ℕ) (told : List Told) (s : State) (t : Tail) → s.tail ≡ t → HasState w b told s → HasState w b told (with_tail s t)
+tail_state w b told s t e has = subst (λ (u : Tail). HasState w b told (with_tail s u)) e has
+
+phase_at : (w : Machine) (b : List ℕ) (told : List Told) (s : State) (f : Phase) → w.phase ≡ f → HasState w b told s → IsPhaseOf f s.tail (place_of w.framing s)
+phase_at w b told s f e has = subst (λ (g : Phase). IsPhaseOf g s.tail (place_of w.framing s)) e has.phase
+
+-- contents of a primitive
+contents_tail : (left : ℕ) (t : Tail) (p : Place) → IsPhaseOf (phase.Contents left) t p → (h : Heading) × (c : List ℕ) × (t ≡ Contents h c)
+contents_tail left Nothing p x = absurd x
+contents_tail left (Contents h c) p x = (h, c, refl)
+contents_tail left (Lead h) p x = absurd x
+contents_tail left (Front o) p x = absurd x
+contents_tail left Lone p x = absurd x
+
+contents_state : (w : Machine) (b : List ℕ) (told : List Told) (s : State) (h : Heading) (c t : List ℕ) (left : ℕ)
+    → HasState w b told (with_tail s (Contents h c)) → w.phase ≡ phase.Contents left → length t ≤ left
+    → HasState (record w { phase = phase.Contents (left - length t); offset = w.offset + length t; events = w.events + 1 }) (b ++ t) (told ++ Bytes t ∷ [])
+    (with_tail s (Contents h (c ++ t)))
+contents_state w b told s h c t left has e most =
+    let k : IsContents (place_of w.framing s) h c left = phase_at w b told _ _ e has in
+    let same : length c + left ≡ length (c ++ t) + (left - length t) = omega (arith, length-append c t) in
+    record {
+      spelled = spelled_behind s.layers s.here (octets_of h ++ c) _ t b (sym (append_assoc (octets_of h) c t)) has.spelled;
+      offset = omega (arith, has.offset, length-append b t);
+      stack = has.stack;
+      layers = has.layers;
+      here = has.here;
+      phase = record {
+        header = k.header;
+        size = k.size ∙ ap Definite same;
+        fits = subst (λ (n : ℕ). Fits (place_of w.framing s) (length (octets_of h) + n)) same k.fits;
+      };
+      told_of = told_behind told s.layers s.here (Begin h ∷ Bytes c ∷ []) (Begin h ∷ Bytes (c ++ t) ∷ []) (Bytes t ∷ []) has.told_of (bytes_more h c t);
+      element = has.element;
+    }
+  where
+    bytes_more : (h : Heading) (c t : List ℕ) → apart (Begin h ∷ Bytes (c ++ t) ∷ []) ≡ apart (Begin h ∷ Bytes c ∷ Bytes t ∷ [])
+    bytes_more h c t = ap (λ (es : List Told). Begin h ∷ es) (ap (λ (es : List Told). es ++ []) (map-append (λ x. Bytes (x ∷ [])) c t) ∙ append_assoc (map (λ x. Bytes (x ∷ [])) c) _ [])
+
+pub tells_contents : (w : Machine) (left : ℕ) (t : List ℕ) → w.phase ≡ phase.Contents left → length t ≤ left
+    → Continues w (record w { phase = phase.Contents (left - length t); offset = w.offset + length t; events = w.events + 1 }) t (Bytes t ∷ [])
+tells_contents w left t e most = record {
+  goes = λ b told s has.
+    let k = contents_tail left s.tail _ (phase_at w b told s _ e has) in
+    (_, contents_state w b told s k.0 k.1 t left (tail_state w b told s _ k.2 has) e most);
+}
+
+-- the end of a primitive
+end_state : (w : Machine) (b : List ℕ) (told : List Told) (s : State) (h : Heading) (c : List ℕ) → HasState w b told (with_tail s (Contents h c)) → w.phase ≡ phase.Contents 0
+    → HasState (record w { phase = phase.Between; events = w.events + 1 }) (b ++ []) (told ++ End ∷ [])
+    (record { layers = s.layers; here = behind s.here (Whole h c Stop); tail = Nothing })
+end_state w b told s h c has e =
+    let p : Place = place_of w.framing s in
+    let k : IsContents p h c 0 = phase_at w b told _ _ e has in
+    let same : length c + 0 ≡ length c = omega arith in
+    record {
+      spelled = spelled_whole s.layers s.here (Whole h c Stop) (octets_of h ++ c) [] b has.here.whole (ap (λ (x : List ℕ). octets_of h ++ x) (append-nil c) ∙ sym (append-nil (octets_of h ++ c))) has.spelled;
+      offset = omega (arith, has.offset, ap length (append-nil b));
+      stack = has.stack;
+      layers = has.layers;
+      here = are_whole _ s.here (Whole h c Stop) has.here (record { header = k.header; size = k.size ∙ ap Definite same; fits = subst (λ (n : ℕ). Fits p (length (octets_of h) + n)) same k.fits }, tt) refl;
+      phase = tt;
+      told_of = told_whole told s.layers s.here (Whole h c Stop) (Begin h ∷ Bytes c ∷ []) (End ∷ []) has.here.whole has.told_of refl;
+      element = has.element ∙ sym (began s.layers s.here (Whole h c Stop) has.here.whole refl);
+    }
+
+pub tells_end : (w : Machine) → w.phase ≡ phase.Contents 0 → Continues w (record w { phase = phase.Between; events = w.events + 1 }) [] (End ∷ [])
+tells_end w e = record {
+  goes = λ b told s has.
+    let k = contents_tail 0 s.tail _ (phase_at w b told s _ e has) in
+    (_, end_state w b told s k.0 k.1 (tail_state w b told s _ k.2 has) e);
+}
