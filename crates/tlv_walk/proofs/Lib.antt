@@ -13,5 +13,7 @@ pub mod Gains
 pub mod Prefixes
 pub mod Wrappers
 pub mod Zipper
+pub mod Places
 pub mod Moves
+pub mod Closing
 pub mod Known

@@ -2,18 +2,21 @@
 use Rattle.std.proofs.Common.{◌≡◌, ℕ, ◌+◌, ◌-◌, ◌≤◌, Bool, true, ◌||◌, List, [], ◌∷◌, ◌++◌, length, map, refl, sym, ap, ◌∙◌, subst, arith, append_assoc, append-nil, length-append}
 use Rattle.std.proofs.lemmas.List.{map-append}
 use Rattle.std.proofs.Math.Bool.{or-true}
-use Rattle.tlv_head.specs.declared.header.Size.TheVariants.{Definite}
+use Rattle.tlv_head.specs.declared.header.Size.TheVariants.{Definite, Indefinite}
 use Rattle.tlv_head.specs.Header.{Heading, octets_of}
 use Rattle.tlv_walk.specs.declared.walker.Phase.{Phase}
 use Rattle.tlv_walk.specs.declared.walker.Phase.TheVariants as phase
 use Rattle.tlv_walk.specs.Events.{AreEqualJoined, Told, Begin, Bytes, End, apart, events}
-use Rattle.tlv_walk.specs.Forest.{Forest, Stop, Whole, has_element, is_whole, spell}
+use Rattle.tlv_walk.specs.Forest.{Forest, Stop, Whole, Closed, has_element, is_whole, spell}
 use Rattle.tlv_walk.specs.Machine.{Machine}
-use Rattle.tlv_walk.specs.Place.{Fits, IsOpen, Place, after}
-use Rattle.tlv_walk.specs.State.{AreWhole, HasState, IsContents, IsPhaseOf, Layer, Tail, Nothing, Contents, Lead, Front, Lone, State, begins_among, events_layers, place_in, place_of, spell_layers}
+use Rattle.tlv_walk.specs.Place.{Fits, IsOpen, Place, after, is_indefinite}
+use Rattle.tlv_walk.specs.declared.stack.Frame.{Frame}
+use Rattle.tlv_walk.specs.Stack.{IsFilled, IsInIndefinite, Within, bound_of}
+use Rattle.tlv_walk.specs.State.{AreWhole, HasState, IsContents, IsPhaseOf, Layer, Tail, Nothing, Contents, Lead, Front, Lone, State, begins_among, events_layers, frames_of, place_in, place_of, spell_layers}
 use Rattle.tlv_walk.specs.Tells.{Continues}
 use Rattle.tlv_walk.proofs.Joined.{apart-before, apart-from_joined, apart-more, joined-from_apart}
 use Rattle.tlv_walk.proofs.Spellings.{append_assoc-3}
+use Rattle.tlv_walk.proofs.Places.{definite-size, indefinite-size, place-at, place-bound, place-depth, place-offset}
 use Rattle.tlv_walk.proofs.Zipper.{behind, element-behind, events-behind, open-behind, spell-behind, whole-behind}
 
 -- events told one after another
@@ -61,7 +64,7 @@ are_whole : (p : Place) (here more : Forest) → AreWhole p here → IsOpen (aft
 are_whole p here more h o w = record { is_open = open-behind p here more h o; whole = whole-behind here more h.whole ∙ w }
 
 -- an element came
-began : (ls : List Layer) (here more : Forest) → is_whole here ≡ true → has_element more ≡ true → begins_among ls (behind here more) ≡ true
+pub began : (ls : List Layer) (here more : Forest) → is_whole here ≡ true → has_element more ≡ true → begins_among ls (behind here more) ≡ true
 began [] here more w e = element-behind here more w ∙ (ap (λ (k : Bool). has_element here || k) e ∙ or-true (has_element here))
 began (l ∷ ls) here more w e = refl
 
@@ -69,10 +72,10 @@ began (l ∷ ls) here more w e = refl
 abbrev pub with_tail : State → Tail → State
 with_tail s t = record { layers = s.layers; here = s.here; tail = t }
 
-tail_state : (w : Machine) (b : List ℕ) (told : List Told) (s : State) (t : Tail) → s.tail ≡ t → HasState w b told s → HasState w b told (with_tail s t)
+pub tail_state : (w : Machine) (b : List ℕ) (told : List Told) (s : State) (t : Tail) → s.tail ≡ t → HasState w b told s → HasState w b told (with_tail s t)
 tail_state w b told s t e has = subst (λ (u : Tail). HasState w b told (with_tail s u)) e has
 
-phase_at : (w : Machine) (b : List ℕ) (told : List Told) (s : State) (f : Phase) → w.phase ≡ f → HasState w b told s → IsPhaseOf f s.tail (place_of w.framing s)
+pub phase_at : (w : Machine) (b : List ℕ) (told : List Told) (s : State) (f : Phase) → w.phase ≡ f → HasState w b told s → IsPhaseOf f s.tail (place_of w.framing s)
 phase_at w b told s f e has = subst (λ (g : Phase). IsPhaseOf g s.tail (place_of w.framing s)) e has.phase
 
 -- contents of a primitive
@@ -141,3 +144,60 @@ tells_end w e = record {
     let k = contents_tail 0 s.tail _ (phase_at w b told s _ e has) in
     (_, end_state w b told s k.0 k.1 (tail_state w b told s _ k.2 has) e);
 }
+
+-- between elements
+pub between_tail : (t : Tail) (p : Place) → IsPhaseOf phase.Between t p → t ≡ Nothing
+between_tail Nothing p x = refl
+between_tail (Contents h c) p x = absurd x
+between_tail (Lead h) p x = absurd x
+between_tail (Front o) p x = absurd x
+between_tail Lone p x = absurd x
+
+pub lone_tail : (t : Tail) (p : Place) → IsPhaseOf phase.Zero t p → t ≡ Lone
+lone_tail Nothing p x = absurd x
+lone_tail (Contents h c) p x = absurd x
+lone_tail (Lead h) p x = absurd x
+lone_tail (Front o) p x = absurd x
+lone_tail Lone p x = refl
+
+-- a state inside an element that has these layers
+abbrev pub with_layers : State → List Layer → Tail → State
+with_layers s ls t = record { layers = ls; here = s.here; tail = t }
+
+-- the innermost element closes
+abbrev pub closed_here : Layer → Forest → Forest
+closed_here l inside = behind l.before (Closed l.head inside Stop)
+
+-- the first of the end-of-contents octets
+zero_state : (w : Machine) (b : List ℕ) (told : List Told) (s : State) (l : Layer) (ls : List Layer)
+    → HasState w b told (record { layers = l ∷ ls; here = s.here; tail = Nothing }) → l.head.size ≡ Indefinite → Fits (after (place_in w.framing (l ∷ ls)) (length (spell s.here))) 1
+    → HasState (record w { phase = phase.Zero; offset = w.offset + 1 }) (b ++ 0 ∷ []) (told ++ []) (record { layers = l ∷ ls; here = s.here; tail = Lone })
+zero_state w b told s l ls has e f = record {
+  spelled = spelled_behind (l ∷ ls) s.here [] (0 ∷ []) (0 ∷ []) b refl has.spelled;
+  offset = omega (arith, has.offset, length-append b (0 ∷ []));
+  stack = has.stack;
+  layers = has.layers;
+  here = has.here;
+  phase = record { indefinite = ap is_indefinite e; fits = f };
+  told_of = told_behind told (l ∷ ls) s.here [] [] [] has.told_of refl;
+  element = has.element;
+}
+
+pub tells_zero : (w : Machine) → w.phase ≡ phase.Between → IsInIndefinite w.stack → Within (bound_of w.stack) (w.offset + 1)
+    → Continues w (record w { phase = phase.Zero; offset = w.offset + 1 }) (0 ∷ []) []
+tells_zero w e i f = record {
+  goes = λ b told s has.
+    let t = between_tail s.tail _ (phase_at w b told s _ e has) in
+    let has' : HasState w b told (with_tail s Nothing) = tail_state w b told s _ t has in
+    zero_from w b told s s.layers refl has' i f;
+}
+  where
+    zero_from : (w : Machine) (b : List ℕ) (told : List Told) (s : State) (ls : List Layer) → s.layers ≡ ls → HasState w b told (with_layers s ls Nothing) → IsInIndefinite w.stack
+        → Within (bound_of w.stack) (w.offset + 1) → (t : State) × HasState (record w { phase = phase.Zero; offset = w.offset + 1 }) (b ++ 0 ∷ []) (told ++ []) t
+    zero_from w b told s [] q has i f = absurd (subst IsInIndefinite has.stack i)
+    zero_from w b told s (l ∷ ls) q has i f =
+        let inside : IsInIndefinite (frames_of w.framing (l ∷ ls)) = subst IsInIndefinite has.stack i in
+        let fits : Within (place_in w.framing (l ∷ ls)).bound (w.offset + 1) = subst (λ (fs : List Frame). Within (bound_of fs) (w.offset + 1)) has.stack f in
+        let at : w.offset ≡ (place_of w.framing (with_layers s (l ∷ ls) Nothing)).at + 0 = place-offset w b told _ has in
+        (_, zero_state w b told s l ls has (indefinite-size l.head.size _ inside)
+            (subst (λ (n : ℕ). Within (place_in w.framing (l ∷ ls)).bound n) (omega (arith, at)) fits))

@@ -1,0 +1,160 @@
+-- The innermost element of a walker's state ends.
+use Rattle.std.proofs.Common.{◌≡◌, ℕ, ◌+◌, ◌-◌, Bool, true, false, not, if◌then◌else◌, List, [], ◌∷◌, ◌++◌, length, drop, Some, None, refl, sym, ap, ◌∙◌, subst, arith, append_assoc, append-nil, length-append}
+use Rattle.std.proofs.lemmas.Bool.{true≢false}
+use Rattle.tlv_head.specs.declared.header.Size.{Size}
+use Rattle.tlv_head.specs.declared.header.Size.TheVariants.{Definite, Indefinite}
+use Rattle.tlv_head.specs.Header.{AllowsSize, Heading, announced, octets_of}
+use Rattle.tlv_walk.specs.declared.stack.Frame.{Frame}
+use Rattle.tlv_walk.specs.declared.walker.Phase.TheVariants as phase
+use Rattle.tlv_walk.specs.Events.{AreEqualJoined, Told, Close, Leave, apart, closes, end_offset, events, opens}
+use Rattle.tlv_walk.specs.Forest.{Forest, Stop, Closed, contents_length, end_octets, extent, is_whole, lead, opening, spell}
+use Rattle.tlv_walk.specs.Machine.{Machine}
+use Rattle.tlv_walk.specs.Place.{Fits, HasLength, IsEntry, IsZero, Place, after, bound_in, is_indefinite}
+use Rattle.tlv_walk.specs.Stack.{Within, bound_of}
+use Rattle.tlv_walk.specs.Tells.{Continues}
+use Rattle.tlv_walk.specs.State.{AreWhole, HasState, Layer, Tail, Nothing, Lone, State, ending_of, events_layers, events_tail, frame_of, frames_of, place_in, place_of, spell_layers, spell_tail}
+use Rattle.tlv_walk.proofs.Moves.{began, between_tail, closed_here, lone_tail, phase_at, tail_state, told_more, with_layers, with_tail}
+use Rattle.tlv_walk.proofs.Places.{definite-size, place-offset}
+use Rattle.tlv_walk.proofs.Spellings.{length-opening}
+use Rattle.tlv_walk.proofs.Zipper.{behind, events-behind, open-behind, spell-behind, whole-behind}
+
+regroup : (a b c d e t : List ℕ) → a ++ ((b ++ (c ++ (d ++ ((e ++ t) ++ [])))) ++ []) ≡ ((a ++ (b ++ c)) ++ (d ++ e)) ++ t
+regroup a b c d e t = simp (append_assoc, append-nil) refl
+
+spelled_closed : (ls : List Layer) (l : Layer) (here : Forest) (old t b : List ℕ) → is_whole l.before ≡ true → old ++ t ≡ end_octets l.head.size
+    → spell_layers (l ∷ ls) ++ (spell here ++ old) ≡ b → spell_layers ls ++ (spell (closed_here l here) ++ []) ≡ b ++ t
+spelled_closed ls l here old t b whole e f =
+    ap (λ (s : List ℕ). spell_layers ls ++ (s ++ [])) (spell-behind l.before (Closed l.head here Stop) whole)
+    ∙ ap (λ (s : List ℕ). spell_layers ls ++ ((spell l.before ++ (opening l.head ++ (spell here ++ (s ++ [])))) ++ [])) (sym e)
+    ∙ regroup (spell_layers ls) (spell l.before) (opening l.head) (spell here) old t
+    ∙ ap (λ (s : List ℕ). s ++ t) f
+
+regroup_told : (a b c d : List Told) (e : Told) → a ++ ((b ++ (c ++ (d ++ e ∷ []))) ++ []) ≡ ((a ++ (b ++ c)) ++ (d ++ [])) ++ e ∷ []
+regroup_told a b c d e = simp (append_assoc, append-nil) refl
+
+told_closed : (told : List Told) (ls : List Layer) (l : Layer) (here : Forest) → is_whole l.before ≡ true → AreEqualJoined told (events_layers (l ∷ ls) ++ (events here ++ []))
+    → AreEqualJoined (told ++ closes l.head here ∷ []) (events_layers ls ++ (events (closed_here l here) ++ []))
+told_closed told ls l here whole h =
+    told_more told (events_layers (l ∷ ls) ++ (events here ++ [])) (closes l.head here ∷ []) (events_layers ls ++ (events (closed_here l here) ++ [])) h
+    (ap apart (ap (λ (es : List Told). events_layers ls ++ (es ++ [])) (events-behind l.before (Closed l.head here Stop) whole)
+    ∙ regroup_told (events_layers ls) (events l.before) (opens l.head) (events here) (closes l.head here)))
+
+closed_whole : (w : Machine) (l : Layer) (ls : List Layer) (here : Forest) → AreWhole (place_in w.framing ls) l.before → IsEntry (after (place_in w.framing ls) (length (spell l.before))) l.head
+    → AreWhole (place_in w.framing (l ∷ ls)) here → HasLength l.head.size (contents_length l.head here) → Fits (after (place_in w.framing ls) (length (spell l.before))) (extent l.head here)
+    → AreWhole (place_in w.framing ls) (closed_here l here)
+closed_whole w l ls here before entry inside filled fits = record {
+  is_open = open-behind (place_in w.framing ls) l.before (Closed l.head here Stop) before
+      (record { header = entry.header; depth = entry.depth; whole = inside.whole; filled = filled; fits = fits }, inside.is_open, tt);
+  whole = whole-behind l.before (Closed l.head here Stop) before.whole;
+}
+
+-- the state of a walker whose innermost element ends with these octets
+pub close_state : (w v : Machine) (b : List ℕ) (told : List Told) (l : Layer) (ls : List Layer) (here : Forest) (tail : Tail) (t : List ℕ)
+    → HasState w b told (record { layers = l ∷ ls; here = here; tail = tail }) → w.stack ≡ frames_of w.framing (l ∷ ls) → events_tail tail ≡ []
+    → spell_tail tail ++ t ≡ end_octets l.head.size → HasLength l.head.size (contents_length l.head here)
+    → Fits (after (place_in w.framing ls) (length (spell l.before))) (extent l.head here)
+    → v ≡ record w { stack = drop 1 w.stack; phase = phase.Between; offset = w.offset + length t; events = w.events + 1 } → w.has_element ≡ true
+    → HasState v (b ++ t) (told ++ closes l.head here ∷ []) (record { layers = ls; here = closed_here l here; tail = Nothing })
+close_state w v b told l ls here tail t has stack quiet ends filled fits is_v element =
+    subst (λ (u : Machine). HasState u (b ++ t) (told ++ closes l.head here ∷ []) (record { layers = ls; here = closed_here l here; tail = Nothing })) (sym is_v) (record {
+      spelled = spelled_closed ls l here (spell_tail tail) t b has.layers.1.whole ends has.spelled;
+      offset = omega (arith, has.offset, length-append b t);
+      stack = ap (drop 1) stack;
+      layers = has.layers.0;
+      here = closed_whole w l ls here has.layers.1 has.layers.2 has.here filled fits;
+      phase = tt;
+      told_of = told_closed told ls l here has.layers.1.whole
+          (subst (λ (es : List Told). AreEqualJoined told (events_layers (l ∷ ls) ++ (events here ++ es))) quiet has.told_of);
+      element = element ∙ sym (began ls l.before (Closed l.head here Stop) has.layers.1.whole refl);
+    })
+
+constructed_indefinite : (k : Bool) (s : Size) → s ≡ Indefinite → AllowsSize k s → k ≡ true
+constructed_indefinite true s e a = refl
+constructed_indefinite false (Definite n) e a = absurd (cc)
+constructed_indefinite false Indefinite e a = absurd a
+
+size_indefinite : (s : Size) → is_indefinite s ≡ true → s ≡ Indefinite
+size_indefinite (Definite n) e = absurd (cc)
+size_indefinite Indefinite e = refl
+
+length_of : (h : Heading) (s : Size) (m : ℕ) → h.size ≡ s → HasLength s m → HasLength h.size m
+length_of h s m e x = subst (λ (t : Size). HasLength t m) (sym e) x
+
+-- an element of indefinite length told to end at its end-of-contents octets
+closes_indefinite : (h : Heading) (here : Forest) (n : ℕ) → h.constructed ≡ true → h.size ≡ Indefinite → h.offset + length (opening h) + length (spell here) ≡ n → closes h here ≡ Close (Some n)
+closes_indefinite h here n k s e =
+    ap (λ (c : Bool). if c then Close (end_offset h.size (h.offset + length (opening h) + length (spell here))) else Leave) k
+    ∙ ap (λ (t : Size). Close (end_offset t (h.offset + length (opening h) + length (spell here)))) s ∙ ap (λ (m : ℕ). Close (Some m)) e
+
+second_from : (w : Machine) (b : List ℕ) (told : List Told) (s : State) (ls : List Layer) → HasState w b told (with_layers s ls Lone) → IsZero (place_of w.framing (with_layers s ls Lone))
+    → Within (bound_of w.stack) (w.offset + 1)
+    → (t : State) × HasState (record w { stack = drop 1 w.stack; phase = phase.Between; offset = w.offset + 1; events = w.events + 1 }) (b ++ 0 ∷ []) (told ++ Close (Some (w.offset - 1)) ∷ []) t
+second_from w b told s [] has zero room = absurd (true≢false (sym zero.indefinite))
+second_from w b told s (l ∷ ls) has zero room =
+    let p : Place = after (place_in w.framing ls) (length (spell l.before)) in
+    let size : l.head.size ≡ Indefinite = size_indefinite l.head.size zero.indefinite in
+    let at : w.offset ≡ (place_of w.framing (with_layers s (l ∷ ls) Lone)).at + 1 = place-offset w b told _ has in
+    let head : l.head.offset ≡ p.at = has.layers.2.header.offset in
+    let k : l.head.constructed ≡ true = constructed_indefinite l.head.constructed l.head.size size has.layers.2.header.valid.allowed in
+    let ends : end_octets l.head.size ≡ 0 ∷ 0 ∷ [] = ap end_octets size in
+    let event : closes l.head s.here ≡ Close (Some (w.offset - 1)) = closes_indefinite l.head s.here (w.offset - 1) k size (omega arith) in
+    let bound : Within (bound_in l.head.size (p.at + length (octets_of l.head)) p.bound) (w.offset + 1) = subst (λ (fs : List Frame). Within (bound_of fs) (w.offset + 1)) has.stack room in
+    let outer : Within p.bound (w.offset + 1) = subst (λ (t : Size). Within (bound_in t (p.at + length (octets_of l.head)) p.bound) (w.offset + 1)) size bound in
+    let two : length (end_octets l.head.size) ≡ 2 = ap length ends in
+    let fits : Fits p (extent l.head s.here) = subst (λ (n : ℕ). Within p.bound n) (omega arith) outer in
+    (
+      _,
+      subst (λ (e : Told). HasState (record w { stack = drop 1 w.stack; phase = phase.Between; offset = w.offset + 1; events = w.events + 1 }) (b ++ 0 ∷ []) (told ++ e ∷ []) (record { layers = ls; here = closed_here l s.here; tail = Nothing })) event
+          (close_state w _ b told l ls s.here Lone (0 ∷ []) has has.stack refl (sym ends) (length_of l.head Indefinite _ size tt) fits refl (has.element)),
+    )
+
+-- the second of the end-of-contents octets
+pub tells_second : (w : Machine) → w.phase ≡ phase.Zero → Within (bound_of w.stack) (w.offset + 1)
+    → Continues w (record w { stack = drop 1 w.stack; phase = phase.Between; offset = w.offset + 1; events = w.events + 1 }) (0 ∷ []) (Close (Some (w.offset - 1)) ∷ [])
+tells_second w e room = record {
+  goes = λ b told s has.
+    let t = lone_tail s.tail _ (phase_at w b told s _ e has) in
+    let has' : HasState w b told (with_tail s Lone) = tail_state w b told s _ t has in
+    second_from w b told s s.layers has' (phase_at w b told (with_tail s Lone) _ e has') room;
+}
+
+-- an element that is filled told to end
+closes_definite : (k : Bool) (s : Size) (n m : ℕ) → s ≡ Definite n → (if k then Close (end_offset s m) else Leave) ≡ (if not k then Leave else Close None)
+closes_definite true (Definite n) m o e = refl
+closes_definite true Indefinite m o e = absurd (cc)
+closes_definite false s m o e = refl
+
+head_frame : (f g : Frame) (fs gs : List Frame) → f ∷ fs ≡ g ∷ gs → f ≡ g
+head_frame f g fs gs e = cc
+
+filled_from : (w : Machine) (b : List ℕ) (told : List Told) (s : State) (ls : List Layer) → HasState w b told (with_layers s ls Nothing) → w.phase ≡ phase.Between
+    → (f : Frame) (fs : List Frame) → w.stack ≡ f ∷ fs → f.end ≡ Some w.offset
+    → (t : State) × HasState (record w { stack = drop 1 w.stack; events = w.events + 1 }) (b ++ []) (told ++ ending_of f ∷ []) t
+filled_from w b told s [] has e f fs is full = absurd (cc (has.stack))
+filled_from w b told s (l ∷ ls) has e f fs is full =
+    let p : Place = after (place_in w.framing ls) (length (spell l.before)) in
+    let same : f ≡ frame_of p l.head = head_frame f (frame_of p l.head) fs (frames_of w.framing ls) (sym is ∙ has.stack) in
+    let size : (n : ℕ) × (l.head.size ≡ Definite n) × (p.at + length (octets_of l.head) + n ≡ w.offset) = definite-size l.head.size _ w.offset (sym (ap (λ (g : Frame). g.end) same) ∙ full) in
+    let at : w.offset ≡ (place_of w.framing (with_layers s (l ∷ ls) Nothing)).at + 0 = place-offset w b told _ has in
+    let long : contents_length l.head s.here ≡ size.0 = omega (arith, size.2, at, length-opening l.head) in
+    let none : end_octets l.head.size ≡ [] = ap end_octets size.1 in
+    let zero : length (end_octets l.head.size) ≡ 0 = ap length none in
+    let event : closes l.head s.here ≡ ending_of f = closes_definite l.head.constructed l.head.size size.0 _ size.1 ∙ ap ending_of (sym same) in
+    let entry : Fits p (length (octets_of l.head) + size.0) = subst (λ (t : Size). Fits p (length (octets_of l.head) + announced t)) size.1 has.layers.2.fits in
+    let fits : Fits p (extent l.head s.here) = subst (λ (n : ℕ). Fits p n) (omega (arith, long, zero, length-opening l.head)) entry in
+    let still : w.offset ≡ w.offset + 0 = omega arith in
+    (
+      _,
+      subst (λ (t : Told). HasState (record w { stack = drop 1 w.stack; events = w.events + 1 }) (b ++ []) (told ++ t ∷ []) (record { layers = ls; here = closed_here l s.here; tail = Nothing })) event
+          (close_state w _ b told l ls s.here Nothing [] has has.stack refl (sym none) (length_of l.head (Definite size.0) _ size.1 long) fits
+              (λ i. record w { stack = drop 1 w.stack; phase = e i; offset = still i; events = w.events + 1 }) has.element),
+    )
+
+-- the innermost element, which is filled, ends
+pub tells_filled : (w : Machine) → w.phase ≡ phase.Between → (f : Frame) (fs : List Frame) → w.stack ≡ f ∷ fs → f.end ≡ Some w.offset
+    → Continues w (record w { stack = drop 1 w.stack; events = w.events + 1 }) [] (ending_of f ∷ [])
+tells_filled w e f fs is full = record {
+  goes = λ b told s has.
+    let t = between_tail s.tail _ (phase_at w b told s _ e has) in
+    filled_from w b told s s.layers (tail_state w b told s _ t has) e f fs is full;
+}
