@@ -16,4 +16,5 @@ pub mod Zipper
 pub mod Places
 pub mod Moves
 pub mod Closing
+pub mod Entering
 pub mod Known

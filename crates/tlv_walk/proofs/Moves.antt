@@ -35,14 +35,14 @@ continues_both u v w s t d e f g = record {
 }
 
 -- the events of a state, where the open end goes on
-told_behind : (told : List Told) (ls : List Layer) (here : Forest) (old new more : List Told) → AreEqualJoined told (events_layers ls ++ (events here ++ old))
+pub told_behind : (told : List Told) (ls : List Layer) (here : Forest) (old new more : List Told) → AreEqualJoined told (events_layers ls ++ (events here ++ old))
     → apart new ≡ apart (old ++ more) → AreEqualJoined (told ++ more) (events_layers ls ++ (events here ++ new))
 told_behind told ls here old new more h e =
     told_more told (events_layers ls ++ (events here ++ old)) more (events_layers ls ++ (events here ++ new)) h
     (apart-more (events_layers ls) (events here ++ new) (events here ++ old) more (apart-more (events here) new old more e))
 
 -- its octets likewise
-spelled_behind : (ls : List Layer) (here : Forest) (old new t b : List ℕ) → new ≡ old ++ t → spell_layers ls ++ (spell here ++ old) ≡ b
+pub spelled_behind : (ls : List Layer) (here : Forest) (old new t b : List ℕ) → new ≡ old ++ t → spell_layers ls ++ (spell here ++ old) ≡ b
     → spell_layers ls ++ (spell here ++ new) ≡ b ++ t
 spelled_behind ls here old new t b e f =
     ap (λ (s : List ℕ). spell_layers ls ++ (spell here ++ s)) e ∙ (sym (append_assoc-3 (spell_layers ls) (spell here) old t) ∙ ap (λ (s : List ℕ). s ++ t) f)

@@ -1,0 +1,251 @@
+-- A walker's state goes on behind a header.
+use Rattle.std.proofs.Common.{◌≡◌, ℕ, ◌+◌, ◌<◌, ◌≤◌, Bool, true, false, not, ◌||◌, eqb, if◌then◌else◌, List, [], ◌∷◌, ◌++◌, length, map, Option, Some, None, refl, sym, ap, ◌∙◌, subst, arith, append_assoc, append-nil, length-append}
+use Rattle.tlv_head.specs.declared.header.Size.{Size}
+use Rattle.tlv_head.specs.declared.header.Size.TheVariants.{Definite, Indefinite}
+use Rattle.tlv_head.specs.Header.{Heading, IsHeading, announced, holds, octets_of}
+use Rattle.tlv_head.specs.Progress.{Progress}
+use Rattle.tlv_head.specs.Refusal.{IsFront}
+use Rattle.tlv_walk.specs.declared.stack.Frame.{Frame}
+use Rattle.tlv_walk.specs.declared.walker.Phase.{Phase}
+use Rattle.tlv_walk.specs.declared.walker.Phase.TheVariants as phase
+use Rattle.tlv_walk.specs.Events.{AreEqualJoined, Told, Open, Begin, Bytes, Enter, Unused, apart, events, opens}
+use Rattle.tlv_walk.specs.Forest.{Forest, Stop, has_element, lead, opening, spell}
+use Rattle.tlv_walk.specs.Inside.{is_among}
+use Rattle.tlv_walk.specs.Machine.{Machine}
+use Rattle.tlv_walk.specs.Place.{Fits, IsAwaiting, IsBegun, IsEntry, IsHeadAt, Place, after}
+use Rattle.tlv_walk.specs.Stack.{Within, bound_of}
+use Rattle.tlv_walk.specs.State.{HasState, IsPhaseOf, Layer, Tail, Nothing, Contents, Lead, Front, Lone, State, events_layers, events_tail, frame_of, frames_of, place_in, place_of, spell_layers, spell_tail}
+use Rattle.tlv_walk.specs.Tells.{Continues}
+use Rattle.tlv_walk.proofs.Moves.{between_tail, phase_at, spelled_behind, tail_state, told_behind, told_more, with_tail}
+use Rattle.tlv_walk.proofs.Places.{place-bound, place-depth, place-inside, place-offset}
+
+-- a walker that stands at a header, or behind the octets of one that the reader has
+pub record AtHeader (w : Machine) (b : List ℕ) (told : List Told) (s : State) (r : Progress) : Type 0 where
+  pub has : HasState w b told s
+  pub octets : spell_tail s.tail ≡ r.octets
+  pub offset : r.offset ≡ (place_of w.framing s).at
+  pub named : r.named ≡ is_among r.offset w.framing.inside
+  pub quiet : events_tail s.tail ≡ []
+  pub stack : w.stack ≡ frames_of w.framing s.layers
+
+pub at_new : (w : Machine) (b : List ℕ) (told : List Told) (s : State) (r : Progress) → HasState w b told s → w.phase ≡ phase.Between → r.octets ≡ [] → r.offset ≡ w.offset
+    → r.named ≡ is_among w.offset w.framing.inside → AtHeader w b told (with_tail s Nothing) r
+at_new w b told s r has e none at named =
+    let t : s.tail ≡ Nothing = between_tail s.tail _ (phase_at w b told s _ e has) in
+    let has' : HasState w b told (with_tail s Nothing) = tail_state w b told s _ t has in
+    let place : w.offset ≡ (place_of w.framing (with_tail s Nothing)).at + 0 = place-offset w b told _ has' in
+    record {
+      has = has';
+      octets = sym none;
+      offset = omega (arith, at, place);
+      named = named ∙ ap (λ (n : ℕ). is_among n w.framing.inside) (sym at);
+      quiet = refl;
+      stack = has'.stack;
+    }
+
+front_tail : (r : Progress) (t : Tail) (p : Place) → IsPhaseOf (phase.Header r) t p → (o : List ℕ) × (t ≡ Front o)
+front_tail r Nothing p x = absurd x
+front_tail r (Contents h c) p x = absurd x
+front_tail r (Lead h) p x = absurd x
+front_tail r (Front o) p x = (o, refl)
+front_tail r Lone p x = absurd x
+
+pub at_front : (w : Machine) (b : List ℕ) (told : List Told) (s : State) (r : Progress) → HasState w b told s → w.phase ≡ phase.Header r
+    → (o : List ℕ) × AtHeader w b told (with_tail s (Front o)) r
+at_front w b told s r has e =
+    let t = front_tail r s.tail _ (phase_at w b told s _ e has) in
+    let has' : HasState w b told (with_tail s (Front t.0)) = tail_state w b told s _ t.1 has in
+    let at : IsPhaseOf (phase.Header r) (Front t.0) (place_of w.framing s) = phase_at w b told _ _ e has' in (
+      t.0,
+      record {
+        has = has';
+        octets = sym at.0;
+        offset = at.1;
+        named = at.2 ∙ ap (λ (n : ℕ). is_among n (place_in w.framing s.layers).inside) (sym at.1) ∙ ap (λ (ns : List ℕ). is_among r.offset ns) (place-inside w.framing s.layers);
+        quiet = refl;
+        stack = has'.stack;
+      },
+    )
+
+-- a header that is complete with these octets more, and may stand there
+pub record Completed (w : Machine) (r : Progress) (t : List ℕ) (h : Heading) : Type 0 where
+  pub valid : IsHeading h
+  pub octets : octets_of h ≡ r.octets ++ t
+  pub offset : h.offset ≡ r.offset
+  pub named : h.named ≡ r.named
+  pub shallow : holds h ≡ true → length w.stack < 128
+  pub fits : Within (bound_of w.stack) (h.offset + length (octets_of h) + announced h.size)
+
+head_at : (w : Machine) (b : List ℕ) (told : List Told) (s : State) (r : Progress) (t : List ℕ) (h : Heading) (k : Bool) → AtHeader w b told s r → Completed w r t h → holds h ≡ k
+    → IsHeadAt (place_of w.framing s) k h
+head_at w b told s r t h k at c e = record {
+  valid = c.valid;
+  offset = c.offset ∙ at.offset;
+  named = c.named ∙ at.named ∙ ap (λ (n : ℕ). is_among n w.framing.inside) at.offset ∙ ap (λ (ns : List ℕ). is_among (place_of w.framing s).at ns) (sym (place-inside w.framing s.layers));
+  form = e;
+}
+
+fits_at : (w : Machine) (b : List ℕ) (told : List Told) (s : State) (r : Progress) (t : List ℕ) (h : Heading) → AtHeader w b told s r → Completed w r t h
+    → Fits (place_of w.framing s) (length (octets_of h) + announced h.size)
+fits_at w b told s r t h at c =
+    let bound : bound_of w.stack ≡ (place_in w.framing s.layers).bound = ap bound_of at.stack ∙ sym (place-bound w.framing s.layers) in
+    let fits : Within (place_in w.framing s.layers).bound (h.offset + length (octets_of h) + announced h.size) = subst (λ (x : Option ℕ). Within x (h.offset + length (octets_of h) + announced h.size)) bound c.fits in
+    subst (λ (n : ℕ). Within (place_in w.framing s.layers).bound n) (omega (arith, c.offset, at.offset)) fits
+
+entry_at : (w : Machine) (b : List ℕ) (told : List Told) (s : State) (r : Progress) (t : List ℕ) (h : Heading) → AtHeader w b told s r → Completed w r t h → holds h ≡ true
+    → IsEntry (place_of w.framing s) h
+entry_at w b told s r t h at c e = record {
+  header = head_at w b told s r t h true at c e;
+  depth = omega (arith, c.shallow e, place-depth w.framing s.layers, ap length at.stack);
+  fits = fits_at w b told s r t h at c;
+}
+
+-- the events so far, and no open end
+quiet_told : (w : Machine) (b : List ℕ) (told : List Told) (s : State) (r : Progress) → AtHeader w b told s r → AreEqualJoined told (events_layers s.layers ++ (events s.here ++ []))
+quiet_told w b told s r at = subst (λ (es : List Told). AreEqualJoined told (events_layers s.layers ++ (events s.here ++ es))) at.quiet at.has.told_of
+
+-- behind the header
+abbrev pub behind_header : Machine → Phase → ℕ → Machine
+behind_header w f n = record w { phase = f; offset = n; events = w.events + 1; has_element = true }
+
+-- where the header of a walker ends
+header_end : (w : Machine) (b : List ℕ) (told : List Told) (s : State) (r : Progress) (t : List ℕ) (h : Heading) → AtHeader w b told s r → Completed w r t h
+    → h.offset + length (octets_of h) ≡ length (b ++ t)
+header_end w b told s r t h at c =
+    omega (arith, c.offset, at.offset, ap length c.octets, ap length at.octets, length-append r.octets t, length-append b t, at.has.offset, place-offset w b told s at.has)
+
+-- a primitive begins
+pub primitive_state : (w : Machine) (b : List ℕ) (told : List Told) (s : State) (r : Progress) (t : List ℕ) (h : Heading) (n : ℕ) → AtHeader w b told s r → Completed w r t h
+    → holds h ≡ false → h.size ≡ Definite n
+    → HasState (behind_header w (phase.Contents n) (h.offset + length (octets_of h))) (b ++ t) (told ++ Begin h ∷ []) (with_tail s (Contents h []))
+primitive_state w b told s r t h n at c e size =
+    let zero : n ≡ 0 + n = omega arith in
+    record {
+      spelled = spelled_behind s.layers s.here (spell_tail s.tail) (octets_of h ++ []) t b (append-nil (octets_of h) ∙ (c.octets ∙ ap (λ (o : List ℕ). o ++ t) (sym at.octets))) at.has.spelled;
+      offset = header_end w b told s r t h at c;
+      stack = at.stack;
+      layers = at.has.layers;
+      here = at.has.here;
+      phase = record {
+        header = head_at w b told s r t h false at c e;
+        size = size ∙ ap Definite zero;
+        fits = subst (λ (m : ℕ). Fits (place_of w.framing s) (length (octets_of h) + m)) (ap announced size ∙ zero) (fits_at w b told s r t h at c);
+      };
+      told_of = told_behind told s.layers s.here [] (Begin h ∷ Bytes [] ∷ []) (Begin h ∷ []) (quiet_told w b told s r at) refl;
+      element = refl;
+    }
+
+-- a layer more
+layer_spelled : (ls : List Layer) (here : Forest) (h : Heading) (old t b : List ℕ) → old ++ t ≡ opening h → spell_layers ls ++ (spell here ++ old) ≡ b
+    → spell_layers (record { before = here; head = h } ∷ ls) ++ ([] ++ []) ≡ b ++ t
+layer_spelled ls here h old t b e f = append-nil (spell_layers ls ++ (spell here ++ opening h)) ∙ spelled_behind ls here old (opening h) t b (sym e) f
+
+layer_told : (told : List Told) (ls : List Layer) (here : Forest) (h : Heading) (old more : List Told) → opens h ≡ old ++ more → AreEqualJoined told (events_layers ls ++ (events here ++ old))
+    → AreEqualJoined (told ++ more) (events_layers (record { before = here; head = h } ∷ ls) ++ ([] ++ []))
+layer_told told ls here h old more e f =
+    subst (λ (es : List Told). AreEqualJoined (told ++ more) es) (sym (append-nil (events_layers ls ++ (events here ++ opens h)))) (told_behind told ls here old (opens h) more f (ap apart e))
+
+-- the event that an element which holds others begins with
+abbrev pub opening_event : Heading → Told
+opening_event h = if h.constructed then Open h else Enter h
+
+-- an element that holds others begins with the next octet
+pub holding_state : (w : Machine) (b : List ℕ) (told : List Told) (s : State) (r : Progress) (t : List ℕ) (h : Heading) (k : ℕ) → AtHeader w b told s r → Completed w r t h
+    → holds h ≡ true → lead h ≡ []
+    → HasState (record (behind_header w phase.Between (h.offset + length (octets_of h))) { stack = frame_of (place_of w.framing s) h ∷ w.stack; wrappers = k }) (b ++ t) (told ++ opening_event h ∷ [])
+    (record { layers = record { before = s.here; head = h } ∷ s.layers; here = Stop; tail = Nothing })
+holding_state w b told s r t h k at c e none = record {
+  spelled = layer_spelled s.layers s.here h (spell_tail s.tail) t b
+      (ap (λ (o : List ℕ). o ++ t) at.octets ∙ (sym c.octets ∙ (sym (append-nil (octets_of h)) ∙ ap (λ (l : List ℕ). octets_of h ++ l) (sym none)))) at.has.spelled;
+  offset = header_end w b told s r t h at c;
+  stack = ap (λ (fs : List Frame). frame_of (place_of w.framing s) h ∷ fs) at.stack;
+  layers = (at.has.layers, at.has.here, entry_at w b told s r t h at c e);
+  here = record { is_open = tt; whole = refl };
+  phase = tt;
+  told_of = layer_told told s.layers s.here h [] (opening_event h ∷ []) (ap (λ (l : List ℕ). opening_event h ∷ map (λ z. Unused) l) none) (quiet_told w b told s r at);
+  element = refl;
+}
+
+-- a wrapping BIT STRING begins
+pub lead_state : (w : Machine) (b : List ℕ) (told : List Told) (s : State) (r : Progress) (t : List ℕ) (h : Heading) (k : ℕ) → AtHeader w b told s r → Completed w r t h
+    → holds h ≡ true → lead h ≡ 0 ∷ []
+    → HasState (record (behind_header w phase.Unused (h.offset + length (octets_of h))) { stack = frame_of (place_of w.framing s) h ∷ w.stack; wrappers = k }) (b ++ t) (told ++ Enter h ∷ [])
+    (with_tail s (Lead h))
+lead_state w b told s r t h k at c e one = record {
+  spelled = spelled_behind s.layers s.here (spell_tail s.tail) (octets_of h) t b (c.octets ∙ ap (λ (o : List ℕ). o ++ t) (sym at.octets)) at.has.spelled;
+  offset = header_end w b told s r t h at c;
+  stack = ap (λ (fs : List Frame). frame_of (place_of w.framing s) h ∷ fs) at.stack;
+  layers = at.has.layers;
+  here = at.has.here;
+  phase = record { entry = entry_at w b told s r t h at c e; lead = one };
+  told_of = told_behind told s.layers s.here [] (Enter h ∷ []) (Enter h ∷ []) (quiet_told w b told s r at) refl;
+  element = refl;
+}
+
+-- its first contents octet
+lead_tail : (t : Tail) (p : Place) → IsPhaseOf phase.Unused t p → (h : Heading) × (t ≡ Lead h)
+lead_tail Nothing p x = absurd x
+lead_tail (Contents h c) p x = absurd x
+lead_tail (Lead h) p x = (h, refl)
+lead_tail (Front o) p x = absurd x
+lead_tail Lone p x = absurd x
+
+abbrev lead_by : Bool → Bool → List ℕ
+lead_by constructed bits = if constructed then [] else (if bits then 0 ∷ [] else [])
+
+lead_primitive : (k n : Bool) → lead_by k n ≡ 0 ∷ [] → k ≡ false
+lead_primitive true n e = absurd (cc)
+lead_primitive false n e = refl
+
+unused_state : (w : Machine) (b : List ℕ) (told : List Told) (s : State) (h : Heading) → HasState w b told (with_tail s (Lead h)) → IsAwaiting (place_of w.framing s) h
+    → HasState (record w { phase = phase.Between; offset = w.offset + 1; events = w.events + 1 }) (b ++ 0 ∷ []) (told ++ Unused ∷ [])
+    (record { layers = record { before = s.here; head = h } ∷ s.layers; here = Stop; tail = Nothing })
+unused_state w b told s h has a =
+    let k : h.constructed ≡ false = lead_primitive h.constructed (eqb h.number 3) a.lead in
+    record {
+      spelled = layer_spelled s.layers s.here h (octets_of h) (0 ∷ []) b (ap (λ (l : List ℕ). octets_of h ++ l) (sym a.lead)) has.spelled;
+      offset = omega (arith, has.offset, length-append b (0 ∷ []));
+      stack = has.stack;
+      layers = (has.layers, has.here, a.entry);
+      here = record { is_open = tt; whole = refl };
+      phase = tt;
+      told_of = layer_told told s.layers s.here h (Enter h ∷ []) (Unused ∷ [])
+          (ap (λ (c : Bool). (if c then Open h else Enter h) ∷ map (λ z. Unused) (lead h)) k ∙ ap (λ (l : List ℕ). Enter h ∷ map (λ z. Unused) l) a.lead) has.told_of;
+      element = has.element;
+    }
+
+pub tells_unused : (w : Machine) → w.phase ≡ phase.Unused
+    → Continues w (record w { phase = phase.Between; offset = w.offset + 1; events = w.events + 1 }) (0 ∷ []) (Unused ∷ [])
+tells_unused w e = record {
+  goes = λ b told s has.
+    let t = lead_tail s.tail _ (phase_at w b told s _ e has) in
+    let has' : HasState w b told (with_tail s (Lead t.0)) = tail_state w b told s _ t.1 has in
+    (_, unused_state w b told s t.0 has' (phase_at w b told (with_tail s (Lead t.0)) _ e has'));
+}
+
+-- more octets of a header
+pub front_state : (w : Machine) (b : List ℕ) (told : List Told) (s : State) (r q : Progress) (t : List ℕ) → AtHeader w b told s r → q.octets ≡ r.octets ++ t → q.offset ≡ r.offset
+    → q.named ≡ r.named → (q.octets ≡ [] → ⊥) → IsFront q.octets → Within (bound_of w.stack) (q.offset + length q.octets)
+    → HasState (record w { phase = phase.Header q; offset = q.offset + length q.octets; has_element = true }) (b ++ t) (told ++ []) (with_tail s (Front q.octets))
+front_state w b told s r q t at o f n some front fits =
+    let bound : bound_of w.stack ≡ (place_in w.framing s.layers).bound = ap bound_of at.stack ∙ sym (place-bound w.framing s.layers) in
+    let place : q.offset ≡ (place_of w.framing s).at = f ∙ at.offset in
+    record {
+      spelled = spelled_behind s.layers s.here (spell_tail s.tail) q.octets t b (o ∙ ap (λ (x : List ℕ). x ++ t) (sym at.octets)) at.has.spelled;
+      offset = omega (arith, f, at.offset, ap length o, ap length at.octets, length-append r.octets t, length-append b t, at.has.offset, place-offset w b told s at.has);
+      stack = at.stack;
+      layers = at.has.layers;
+      here = at.has.here;
+      phase = (
+        refl,
+        place,
+        n ∙ at.named ∙ ap (λ (m : ℕ). is_among m w.framing.inside) at.offset ∙ ap (λ (ns : List ℕ). is_among (place_of w.framing s).at ns) (sym (place-inside w.framing s.layers)),
+        record {
+          some = some;
+          front = front;
+          fits = subst (λ (m : ℕ). Within (place_in w.framing s.layers).bound (m + length q.octets)) place (subst (λ (x : Option ℕ). Within x (q.offset + length q.octets)) bound fits);
+        },
+      );
+      told_of = told_behind told s.layers s.here [] [] [] (quiet_told w b told s r at) refl;
+      element = refl;
+    }
