@@ -17,4 +17,5 @@ pub mod Places
 pub mod Moves
 pub mod Closing
 pub mod Entering
+pub mod Padding
 pub mod Known

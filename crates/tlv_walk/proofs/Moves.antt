@@ -48,19 +48,19 @@ spelled_behind ls here old new t b e f =
     ap (λ (s : List ℕ). spell_layers ls ++ (spell here ++ s)) e ∙ (sym (append_assoc-3 (spell_layers ls) (spell here) old t) ∙ ap (λ (s : List ℕ). s ++ t) f)
 
 -- the same, where the open end is whole now
-told_whole : (told : List Told) (ls : List Layer) (here new : Forest) (old more : List Told) → is_whole here ≡ true → AreEqualJoined told (events_layers ls ++ (events here ++ old))
+pub told_whole : (told : List Told) (ls : List Layer) (here new : Forest) (old more : List Told) → is_whole here ≡ true → AreEqualJoined told (events_layers ls ++ (events here ++ old))
     → apart (events new) ≡ apart (old ++ more) → AreEqualJoined (told ++ more) (events_layers ls ++ (events (behind here new) ++ []))
 told_whole told ls here new old more whole h e =
     subst (λ (es : List Told). AreEqualJoined (told ++ more) (events_layers ls ++ es)) (sym (append-nil (events (behind here new)) ∙ events-behind here new whole))
     (told_behind told ls here old (events new) more h e)
 
-spelled_whole : (ls : List Layer) (here more : Forest) (old t b : List ℕ) → is_whole here ≡ true → spell more ≡ old ++ t → spell_layers ls ++ (spell here ++ old) ≡ b
+pub spelled_whole : (ls : List Layer) (here more : Forest) (old t b : List ℕ) → is_whole here ≡ true → spell more ≡ old ++ t → spell_layers ls ++ (spell here ++ old) ≡ b
     → spell_layers ls ++ (spell (behind here more) ++ []) ≡ b ++ t
 spelled_whole ls here more old t b whole e f =
     ap (λ (s : List ℕ). spell_layers ls ++ s) (append-nil (spell (behind here more)) ∙ spell-behind here more whole) ∙ spelled_behind ls here old (spell more) t b e f
 
 -- whole elements, and then one more
-are_whole : (p : Place) (here more : Forest) → AreWhole p here → IsOpen (after p (length (spell here))) more → is_whole more ≡ true → AreWhole p (behind here more)
+pub are_whole : (p : Place) (here more : Forest) → AreWhole p here → IsOpen (after p (length (spell here))) more → is_whole more ≡ true → AreWhole p (behind here more)
 are_whole p here more h o w = record { is_open = open-behind p here more h o; whole = whole-behind here more h.whole ∙ w }
 
 -- an element came

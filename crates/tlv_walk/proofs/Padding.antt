@@ -1,0 +1,71 @@
+-- Padding, on a walker's state.
+use Rattle.std.proofs.Common.{◌≡◌, ℕ, ◌+◌, Bool, true, false, ◌||◌, List, [], ◌∷◌, ◌++◌, length, map, All, Option, None, refl, sym, ap, ◌∙◌, subst, arith, append-nil, length-append}
+use Rattle.std.proofs.lemmas.List.Elements.{All-head, All-tail}
+use Rattle.tlv_walk.specs.declared.walker.Phase.{Phase}
+use Rattle.tlv_walk.specs.declared.walker.Phase.TheVariants as phase
+use Rattle.tlv_walk.specs.Events.{Told, Pad, apart, events}
+use Rattle.tlv_walk.specs.Forest.{Forest, Stop, Fill, has_element, is_whole, spell}
+use Rattle.tlv_walk.specs.Machine.{Machine}
+use Rattle.tlv_walk.specs.Place.{IsOpen, Place, after}
+use Rattle.tlv_walk.specs.State.{HasState, IsPhaseOf, Layer, Nothing, State, place_in, place_of}
+use Rattle.tlv_walk.specs.Tells.{Continues}
+use Rattle.tlv_walk.proofs.Moves.{are_whole, between_tail, phase_at, spelled_whole, tail_state, told_whole, with_layers, with_tail}
+use Rattle.tlv_walk.proofs.Zipper.{behind, element-behind}
+
+-- octets 00 between encodings
+abbrev pub fills : List ℕ → Forest
+fills [] = Stop
+fills (x ∷ xs) = Fill (fills xs)
+
+spell-fills : (t : List ℕ) → All (λ x. x ≡ 0) t → spell (fills t) ≡ t
+spell-fills [] z = refl
+spell-fills (x ∷ t) z =
+    ap (λ (s : List ℕ). 0 ∷ s) (spell-fills t (All-tail (λ x. x ≡ 0) x t z)) ∙ ap (λ (y : ℕ). y ∷ t) (sym (All-head (λ x. x ≡ 0) x t z))
+
+events-fills : (t : List ℕ) → All (λ x. x ≡ 0) t → apart (events (fills t)) ≡ map (λ x. Pad (x ∷ [])) t
+events-fills [] z = refl
+events-fills (x ∷ t) z =
+    ap (λ (es : List Told). Pad (0 ∷ []) ∷ es) (events-fills t (All-tail (λ x. x ≡ 0) x t z))
+    ∙ ap (λ (y : ℕ). Pad (y ∷ []) ∷ map (λ x. Pad (x ∷ [])) t) (sym (All-head (λ x. x ≡ 0) x t z))
+
+whole-fills : (t : List ℕ) → is_whole (fills t) ≡ true
+whole-fills [] = refl
+whole-fills (x ∷ t) = whole-fills t
+
+element-fills : (t : List ℕ) → has_element (fills t) ≡ false
+element-fills [] = refl
+element-fills (x ∷ t) = element-fills t
+
+open-fills : (p : Place) (t : List ℕ) → p.padding ≡ true → p.indefinite ≡ false → p.bound ≡ None → IsOpen p (fills t)
+open-fills p [] a d n = tt
+open-fills p (x ∷ t) a d n = (record { allowed = a; definite = d; fits = rw n tt }, open-fills (after p 1) t a d n)
+
+or-false : (k : Bool) → (k || false) ≡ k
+or-false true = refl
+or-false false = refl
+
+pad_state : (w : Machine) (b : List ℕ) (told : List Told) (s : State) (t : List ℕ) → HasState w b told (with_layers s [] Nothing) → w.phase ≡ phase.Between → w.framing.padding ≡ true → All (λ x. x ≡ 0) t
+    → HasState (record w { offset = w.offset + length t; events = w.events + 1 }) (b ++ t) (told ++ Pad t ∷ []) (record { layers = []; here = behind s.here (fills t); tail = Nothing })
+pad_state w b told s t has e padding zeros = record {
+  spelled = spelled_whole [] s.here (fills t) [] t b has.here.whole (spell-fills t zeros) has.spelled;
+  offset = omega (arith, has.offset, length-append b t);
+  stack = has.stack;
+  layers = tt;
+  here = are_whole (place_in w.framing []) s.here (fills t) has.here (open-fills _ t padding refl refl) (whole-fills t);
+  phase = subst (λ (f : Phase). IsPhaseOf f Nothing (place_of w.framing (record { layers = []; here = behind s.here (fills t); tail = Nothing }))) (sym e) tt;
+  told_of = told_whole told [] s.here (fills t) [] (Pad t ∷ []) has.here.whole has.told_of (events-fills t zeros ∙ sym (append-nil (map (λ x. Pad (x ∷ [])) t)));
+  element = has.element ∙ sym (element-behind s.here (fills t) has.here.whole ∙ (ap (λ (k : Bool). has_element s.here || k) (element-fills t) ∙ or-false (has_element s.here)));
+}
+
+pad_from : (w : Machine) (b : List ℕ) (told : List Told) (s : State) (t : List ℕ) (ls : List Layer) → HasState w b told (with_layers s ls Nothing) → w.phase ≡ phase.Between → w.stack ≡ [] → w.framing.padding ≡ true → All (λ x. x ≡ 0) t
+    → (u : State) × HasState (record w { offset = w.offset + length t; events = w.events + 1 }) (b ++ t) (told ++ Pad t ∷ []) u
+pad_from w b told s t [] has e none padding zeros = (_, pad_state w b told s t has e padding zeros)
+pad_from w b told s t (l ∷ ls) has e none padding zeros = absurd (cc (has.stack))
+
+pub tells_pad : (w : Machine) (t : List ℕ) → w.phase ≡ phase.Between → w.stack ≡ [] → w.framing.padding ≡ true → All (λ x. x ≡ 0) t
+    → Continues w (record w { offset = w.offset + length t; events = w.events + 1 }) t (Pad t ∷ [])
+tells_pad w t e none padding zeros = record {
+  goes = λ b told s has.
+    let tail = between_tail s.tail _ (phase_at w b told s _ e has) in
+    pad_from w b told s t s.layers (tail_state w b told s _ tail has) e none padding zeros;
+}
