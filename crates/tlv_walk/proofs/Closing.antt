@@ -16,7 +16,8 @@ use Rattle.tlv_walk.specs.State.{AreWhole, HasState, Layer, Tail, Nothing, Lone,
 use Rattle.tlv_walk.proofs.Moves.{began, between_tail, closed_here, lone_tail, phase_at, tail_state, told_more, with_layers, with_tail}
 use Rattle.tlv_walk.proofs.Places.{definite-size, place-offset}
 use Rattle.tlv_walk.proofs.Spellings.{length-opening}
-use Rattle.tlv_walk.proofs.Zipper.{behind, events-behind, open-behind, spell-behind, whole-behind}
+use Rattle.tlv_walk.proofs.Zipper.{behind, open-behind, spell-behind, whole-behind}
+use Rattle.tlv_walk.proofs.ZipperEvents.{events-behind}
 
 regroup : (a b c d e t : List ℕ) → a ++ ((b ++ (c ++ (d ++ ((e ++ t) ++ [])))) ++ []) ≡ ((a ++ (b ++ c)) ++ (d ++ e)) ++ t
 regroup a b c d e t = simp (append_assoc, append-nil) refl

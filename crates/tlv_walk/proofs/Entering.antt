@@ -11,7 +11,7 @@ use Rattle.tlv_walk.specs.declared.walker.Phase.TheVariants as phase
 use Rattle.tlv_walk.specs.Events.{AreEqualJoined, Told, Open, Begin, Bytes, Enter, Unused, apart, events, opens}
 use Rattle.tlv_walk.specs.Forest.{Forest, Stop, has_element, lead, opening, spell}
 use Rattle.tlv_walk.specs.Inside.{is_among}
-use Rattle.tlv_walk.specs.Machine.{Machine}
+use Rattle.tlv_walk.specs.Machine.{Machine, behind_header}
 use Rattle.tlv_walk.specs.Place.{Fits, IsAwaiting, IsBegun, IsEntry, IsHeadAt, Place, after}
 use Rattle.tlv_walk.specs.Stack.{Within, bound_of}
 use Rattle.tlv_walk.specs.State.{HasState, IsPhaseOf, Layer, Tail, Nothing, Contents, Lead, Front, Lone, State, events_layers, events_tail, frame_of, frames_of, place_in, place_of, spell_layers, spell_tail}
@@ -103,10 +103,6 @@ entry_at w b told s r t h at c e = record {
 -- the events so far, and no open end
 quiet_told : (w : Machine) (b : List ℕ) (told : List Told) (s : State) (r : Progress) → AtHeader w b told s r → AreEqualJoined told (events_layers s.layers ++ (events s.here ++ []))
 quiet_told w b told s r at = subst (λ (es : List Told). AreEqualJoined told (events_layers s.layers ++ (events s.here ++ es))) at.quiet at.has.told_of
-
--- behind the header
-abbrev pub behind_header : Machine → Phase → ℕ → Machine
-behind_header w f n = record w { phase = f; offset = n; events = w.events + 1; has_element = true }
 
 -- where the header of a walker ends
 header_end : (w : Machine) (b : List ℕ) (told : List Told) (s : State) (r : Progress) (t : List ℕ) (h : Heading) → AtHeader w b told s r → Completed w r t h

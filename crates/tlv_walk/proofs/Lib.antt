@@ -13,6 +13,11 @@ pub mod Gains
 pub mod Prefixes
 pub mod Wrappers
 pub mod Zipper
+pub mod Settled
+pub mod ZipperEvents
+pub mod StateReading
+pub mod StateEndings
+pub mod OpenCounts
 pub mod Places
 pub mod Moves
 pub mod Closing

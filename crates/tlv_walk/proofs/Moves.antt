@@ -7,7 +7,7 @@ use Rattle.tlv_head.specs.Header.{Heading, octets_of}
 use Rattle.tlv_walk.specs.declared.walker.Phase.{Phase}
 use Rattle.tlv_walk.specs.declared.walker.Phase.TheVariants as phase
 use Rattle.tlv_walk.specs.Events.{AreEqualJoined, Told, Begin, Bytes, End, apart, events}
-use Rattle.tlv_walk.specs.Forest.{Forest, Stop, Whole, Closed, has_element, is_whole, spell}
+use Rattle.tlv_walk.specs.Forest.{Forest, Stop, Fill, Whole, Closed, Partial, Entered, Awaiting, Begun, Zero, has_element, is_whole, spell}
 use Rattle.tlv_walk.specs.Machine.{Machine}
 use Rattle.tlv_walk.specs.Place.{Fits, IsOpen, Place, after, is_indefinite}
 use Rattle.tlv_walk.specs.declared.stack.Frame.{Frame}
@@ -17,7 +17,8 @@ use Rattle.tlv_walk.specs.Tells.{Continues}
 use Rattle.tlv_walk.proofs.Joined.{apart-before, apart-from_joined, apart-more, joined-from_apart}
 use Rattle.tlv_walk.proofs.Spellings.{append_assoc-3}
 use Rattle.tlv_walk.proofs.Places.{definite-size, indefinite-size, place-at, place-bound, place-depth, place-offset}
-use Rattle.tlv_walk.proofs.Zipper.{behind, element-behind, events-behind, open-behind, spell-behind, whole-behind}
+use Rattle.tlv_walk.proofs.Zipper.{behind, open-behind, spell-behind, whole-behind}
+use Rattle.tlv_walk.proofs.ZipperEvents.{events-behind}
 
 -- events told one after another
 pub told_more : (told es new es' : List Told) → AreEqualJoined told es → apart es' ≡ apart (es ++ new) → AreEqualJoined (told ++ new) es'
@@ -64,8 +65,19 @@ pub are_whole : (p : Place) (here more : Forest) → AreWhole p here → IsOpen 
 are_whole p here more h o w = record { is_open = open-behind p here more h o; whole = whole-behind here more h.whole ∙ w }
 
 -- an element came
+pub element-either : (f g : Forest) → is_whole f ≡ true → has_element (behind f g) ≡ (has_element f || has_element g)
+element-either Stop g e = refl
+element-either (Fill rest) g e = element-either rest g e
+element-either (Whole h c rest) g e = refl
+element-either (Closed h inside rest) g e = refl
+element-either (Partial h c) g e = absurd (cc)
+element-either (Entered h inside) g e = absurd (cc)
+element-either (Awaiting h) g e = absurd (cc)
+element-either (Begun octets) g e = absurd (cc)
+element-either Zero g e = absurd (cc)
+
 pub began : (ls : List Layer) (here more : Forest) → is_whole here ≡ true → has_element more ≡ true → begins_among ls (behind here more) ≡ true
-began [] here more w e = element-behind here more w ∙ (ap (λ (k : Bool). has_element here || k) e ∙ or-true (has_element here))
+began [] here more w e = element-either here more w ∙ (ap (λ (k : Bool). has_element here || k) e ∙ or-true (has_element here))
 began (l ∷ ls) here more w e = refl
 
 -- a state with this tail

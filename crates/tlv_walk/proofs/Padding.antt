@@ -9,8 +9,8 @@ use Rattle.tlv_walk.specs.Machine.{Machine}
 use Rattle.tlv_walk.specs.Place.{IsOpen, Place, after}
 use Rattle.tlv_walk.specs.State.{HasState, IsPhaseOf, Layer, Nothing, State, place_in, place_of}
 use Rattle.tlv_walk.specs.Tells.{Continues}
-use Rattle.tlv_walk.proofs.Moves.{are_whole, between_tail, phase_at, spelled_whole, tail_state, told_whole, with_layers, with_tail}
-use Rattle.tlv_walk.proofs.Zipper.{behind, element-behind}
+use Rattle.tlv_walk.proofs.Moves.{are_whole, element-either, between_tail, phase_at, spelled_whole, tail_state, told_whole, with_layers, with_tail}
+use Rattle.tlv_walk.proofs.Zipper.{behind}
 
 -- octets 00 between encodings
 abbrev pub fills : List ℕ → Forest
@@ -54,7 +54,7 @@ pad_state w b told s t has e padding zeros = record {
   here = are_whole (place_in w.framing []) s.here (fills t) has.here (open-fills _ t padding refl refl) (whole-fills t);
   phase = subst (λ (f : Phase). IsPhaseOf f Nothing (place_of w.framing (record { layers = []; here = behind s.here (fills t); tail = Nothing }))) (sym e) tt;
   told_of = told_whole told [] s.here (fills t) [] (Pad t ∷ []) has.here.whole has.told_of (events-fills t zeros ∙ sym (append-nil (map (λ x. Pad (x ∷ [])) t)));
-  element = has.element ∙ sym (element-behind s.here (fills t) has.here.whole ∙ (ap (λ (k : Bool). has_element s.here || k) (element-fills t) ∙ or-false (has_element s.here)));
+  element = has.element ∙ sym (element-either s.here (fills t) has.here.whole ∙ (ap (λ (k : Bool). has_element s.here || k) (element-fills t) ∙ or-false (has_element s.here)));
 }
 
 pad_from : (w : Machine) (b : List ℕ) (told : List Told) (s : State) (t : List ℕ) (ls : List Layer) → HasState w b told (with_layers s ls Nothing) → w.phase ≡ phase.Between → w.stack ≡ [] → w.framing.padding ≡ true → All (λ x. x ≡ 0) t

@@ -170,7 +170,7 @@ partial-sound p h c n header e most f =
     ]
 
 -- an element that holds others, with all its contents octets by its definite length
-closed-sound : (p : Place) (h : Heading) (g : Forest) → IsEntry p h → IsOpen (inside_of p h) g → is_whole g ≡ true → IsFull h.size (contents_length h g)
+pub closed-sound : (p : Place) (h : Heading) (g : Forest) → IsEntry p h → IsOpen (inside_of p h) g → is_whole g ≡ true → IsFull h.size (contents_length h g)
     → Spells p (opening h ++ spell g) (Closed h g Stop)
 closed-sound p h g entry w whole full =
     let none : length (end_octets h.size) ≡ 0 = ap length full.ends in
@@ -190,7 +190,7 @@ closed-sound p h g entry w whole full =
     }
 
 -- an element that is not filled lacks octets, where what it holds is whole
-unfilled-lacks : (p : Place) (h : Heading) (g : Forest) → is_filled h g ≡ false → is_whole g ≡ true → Fits (inside_of p h) (length (spell g)) → LacksOctets h.size (contents_length h g)
+pub unfilled-lacks : (p : Place) (h : Heading) (g : Forest) → is_filled h g ≡ false → is_whole g ≡ true → Fits (inside_of p h) (length (spell g)) → LacksOctets h.size (contents_length h g)
 unfilled-lacks p h g e whole there =
     let short : has_length h.size (contents_length h g) ≡ false = rw whole at e in
     length-lacks h.size (p.at + length (octets_of h)) p.bound _ (within-le (inside_of p h).bound _ _ (omega (arith, length-opening h)) there) short

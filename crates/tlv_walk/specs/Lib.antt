@@ -17,3 +17,4 @@ pub mod WalkerFields
 pub mod Laws
 pub mod State
 pub mod Tells
+pub mod OpenCount

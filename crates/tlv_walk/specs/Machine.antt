@@ -1,12 +1,17 @@
 -- What contracts see of a `Walker`: the state of a machine that takes octets and tells events.
-use Rattle.std.specs.Prelude.{◌≡◌, ◌≢◌, ◌⊎◌, ℕ, ◌+◌, ◌^◌, ◌<◌, ◌≤◌, Bool, true, false, eqb, if◌then◌else◌, slice_get, List, [], ◌∷◌, length, Option, Some}
+use Rattle.std.specs.Prelude.{◌≡◌, ◌≢◌, ◌⊎◌, ℕ, ◌+◌, ◌^◌, ◌<◌, ◌≤◌, Bool, true, false, not, ◌||◌, eqb, if◌then◌else◌, slice_get, List, [], ◌∷◌, length, Option, Some, None}
 use Rattle.std.specs.Option.{option_map_or}
 use Rattle.tlv_head.specs.declared.fault.Fault.{Fault as FaultOf}
 use Rattle.tlv_head.specs.declared.fault.FaultCode.{FaultCode}
-use Rattle.tlv_head.specs.Header.{Heading, IsHeading, announced, holds, octets_of}
+use Rattle.tlv_head.specs.Header.{Heading, IsHeading, announced, holds, is_wrapper, octets_of}
 use Rattle.tlv_head.specs.Progress.{Progress}
 use Rattle.tlv_walk.specs.declared.event.Step.{Step}
 use Rattle.tlv_walk.specs.declared.event.Step.TheVariants as step
+use Rattle.tlv_walk.specs.declared.event.Kind.{Kind}
+use Rattle.tlv_walk.specs.declared.event.Kind.TheVariants as kind
+use Rattle.tlv_head.specs.declared.header.HeaderFields.{HeaderFields}
+use Rattle.tlv_head.specs.declared.header.Size.{Size}
+use Rattle.tlv_walk.specs.Place.{bound_in}
 use Rattle.tlv_walk.specs.declared.event.Move.{Move}
 use Rattle.tlv_walk.specs.declared.event.Move.TheVariants as move
 use Rattle.tlv_head.specs.Fields.{Suits}
@@ -185,3 +190,27 @@ next_wrapper inside k at = option_map_or (λ n. if eqb n at then k + 1 else k) (
 -- the first of the named offsets that is not known to be a wrapper's
 abbrev pub unused_in : Machine → Option ℕ
 unused_in w = slice_get w.framing.inside w.wrappers
+
+-- behind a whole header
+abbrev pub behind_header : Machine → Phase → ℕ → Machine
+behind_header w phase at = record w { phase = phase; offset = at; events = w.events + 1; has_element = true }
+
+-- the frame of an element whose contents begin at the offset
+abbrev pub frame_with : ℕ → Option ℕ → Size → Bool → Frame
+frame_with start outer size constructed = record { end = bound_in size start None; bound = bound_in size start outer; wrapper = not constructed }
+
+-- where a walker stands behind a header
+abbrev pub Enters : Machine → Machine → HeaderFields → ℕ → Kind → Type 0
+Enters old new f at kind.Primitive =
+    ((f.constructed || is_wrapper f.named f.class f.constructed f.number f.size) ≡ false)
+    × (new ≡ behind_header old (Contents (announced f.size)) at)
+Enters old new f at kind.Constructed =
+    (f.constructed ≡ true)
+    × (new ≡ record (behind_header old Between at) { stack = frame_with at (bound_of old.stack) f.size f.constructed ∷ old.stack })
+Enters old new f at kind.Wrapper =
+    (f.constructed ≡ false)
+    × (is_wrapper f.named f.class f.constructed f.number f.size ≡ true)
+    × (new ≡ record (behind_header old (if eqb f.number 3 then Unused else Between) at) {
+      stack = frame_with at (bound_of old.stack) f.size f.constructed ∷ old.stack;
+      wrappers = next_wrapper old.framing.inside old.wrappers f.offset;
+    })

@@ -10,8 +10,8 @@ use Rattle.tlv_walk.specs.declared.walker.Phase.TheVariants as phase
 use Rattle.tlv_walk.specs.Events.{Told, AreEqualJoined, Begin, Bytes, End, Enter, Close, Leave, events, opens}
 use Rattle.tlv_walk.specs.Forest.{Forest, Stop, Fill, Whole, Closed, Partial, Entered, Awaiting, Begun, Zero, contents_length, has_element, is_whole, opening, spell}
 use Rattle.tlv_walk.specs.Inside.{is_among}
-use Rattle.tlv_walk.specs.Machine.{Machine}
-use Rattle.tlv_walk.specs.Place.{Fits, IsAwaiting, IsBegun, IsEntry, IsHeadAt, IsOpen, IsZero, Place, after, bound_in, inside_of, top}
+use Rattle.tlv_walk.specs.Machine.{Machine, frame_with}
+use Rattle.tlv_walk.specs.Place.{Fits, IsAwaiting, IsBegun, IsEntry, IsHeadAt, IsOpen, IsZero, Place, after, inside_of, top}
 use Rattle.tlv_walk.specs.Reading.{IsReading}
 use Rattle.tlv_walk.specs.Wrappers.{wrapper_at, wrappers}
 
@@ -67,11 +67,7 @@ pub record IsContents (p : Place) (h : Heading) (c : List ℕ) (left : ℕ) : Ty
 
 -- the frame of an element that stands there
 abbrev pub frame_of : Place → Heading → Frame
-frame_of p h = record {
-  end = bound_in h.size (p.at + length (octets_of h)) None;
-  bound = bound_in h.size (p.at + length (octets_of h)) p.bound;
-  wrapper = not h.constructed;
-}
+frame_of p h = frame_with (p.at + length (octets_of h)) p.bound h.size h.constructed
 
 abbrev pub frames_of : Framing → List Layer → List Frame
 frames_of w [] = []

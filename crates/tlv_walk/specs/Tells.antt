@@ -1,9 +1,68 @@
--- What a walker's moves tell.
-use Rattle.std.specs.Prelude.{◌≡◌, ℕ, List, [], ◌∷◌, ◌++◌}
-use Rattle.tlv_walk.specs.Events.{Told}
-use Rattle.tlv_walk.specs.Machine.{Machine}
+-- What a walker's moves and steps tell.
+use Rattle.std.specs.Prelude.{◌≡◌, ◌⊎◌, ℕ, List, [], ◌∷◌, ◌++◌}
+use Rattle.tlv_head.specs.declared.fault.Fault.{Fault}
+use Rattle.tlv_head.specs.Fields.{heading_with}
+use Rattle.tlv_walk.specs.declared.ending.Ending.TheVariants as ending
+use Rattle.tlv_walk.specs.declared.event.Event.{Event}
+use Rattle.tlv_walk.specs.declared.event.Event.TheVariants as event
+use Rattle.tlv_walk.specs.declared.event.Move.{Move}
+use Rattle.tlv_walk.specs.declared.event.Move.TheVariants as move
+use Rattle.tlv_walk.specs.declared.event.Step.{Step}
+use Rattle.tlv_walk.specs.declared.event.Step.TheVariants as step
+use Rattle.tlv_walk.specs.declared.walker.Phase.TheVariants.{Failed}
+use Rattle.tlv_walk.specs.Ending.{IsEnding}
+use Rattle.tlv_walk.specs.Events.{Told, Open, Begin, Bytes, End, Close, Enter, Unused, Leave, Pad}
+use Rattle.tlv_walk.specs.Machine.{IsWaiting, Machine}
 use Rattle.tlv_walk.specs.State.{HasState, State}
 
 -- from whatever state the walker had, it came to one with these octets and events more
 pub record Continues (old new : Machine) (taken : List ℕ) (more : List Told) : Type 0 where
   pub goes : (b : List ℕ) (told : List Told) (s : State) → HasState old b told s → (t : State) × HasState new (b ++ taken) (told ++ more) t
+
+-- octets were taken from the front of a piece, and one event was told
+abbrev pub TellsEvent : Machine → Machine → List ℕ → List ℕ → Told → Type 0
+TellsEvent old new before after e = (taken : List ℕ) × (before ≡ taken ++ after) × Continues old new taken (e ∷ [])
+
+-- an event, apart from where its octets lie in memory
+abbrev pub told_of : Event → Told
+told_of (event.Open h) = Open h
+told_of (event.Begin h) = Begin h
+told_of (event.Bytes octets) = Bytes octets.now
+told_of event.End = End
+told_of (event.Close at) = Close at
+told_of (event.Enter h) = Enter h
+told_of event.Unused = Unused
+told_of event.Leave = Leave
+told_of (event.Pad octets) = Pad octets.now
+
+-- the octet behind those that were taken is refused, whatever follows it
+abbrev pub RefusesOctet : Machine → List ℕ → List ℕ → Fault → Type 0
+RefusesOctet old before after f = (taken : List ℕ) × (x : ℕ) × (rest : List ℕ) × (before ≡ taken ++ x ∷ rest) × (after ≡ x ∷ rest)
+    × ((b : List ℕ) (told : List Told) (s : State) → HasState old b told s
+      → (m : Machine) × (t : State) × HasState m (b ++ taken) told t × (IsWaiting m → ⊥)
+      × ((c : List ℕ) → IsEnding old.framing ((b ++ taken) ++ x ∷ c) (ending.Fault f)))
+
+-- an octet is refused, or was refused before
+abbrev pub TellsFault : Machine → Machine → List ℕ → List ℕ → Fault → Type 0
+TellsFault old new before after f = RefusesOctet old before after f ⊎ ((old.phase ≡ Failed f) × (new ≡ old) × (after ≡ before))
+
+-- what a move tells
+abbrev pub TellsMove : Machine → Machine → List ℕ → List ℕ → Move → Type 0
+TellsMove old new before after (move.Open f octets) = TellsEvent old new before after (Open (heading_with f octets.now))
+TellsMove old new before after (move.Begin f octets) = TellsEvent old new before after (Begin (heading_with f octets.now))
+TellsMove old new before after (move.Enter f octets) = TellsEvent old new before after (Enter (heading_with f octets.now))
+TellsMove old new before after (move.Bytes octets) = TellsEvent old new before after (Bytes octets.now)
+TellsMove old new before after move.End = TellsEvent old new before after End
+TellsMove old new before after (move.Close at) = TellsEvent old new before after (Close at)
+TellsMove old new before after move.Unused = TellsEvent old new before after Unused
+TellsMove old new before after move.Leave = TellsEvent old new before after Leave
+TellsMove old new before after (move.Pad octets) = TellsEvent old new before after (Pad octets.now)
+TellsMove old new before after move.Slow = (new ≡ old) × (after ≡ before)
+TellsMove old new before after move.NeedMore = Continues old new before []
+TellsMove old new before after (move.Fault f) = TellsFault old new before after f
+
+-- what a step tells
+abbrev pub TellsStep : Machine → Machine → List ℕ → List ℕ → Step → Type 0
+TellsStep old new before after (step.Event e) = TellsEvent old new before after (told_of e)
+TellsStep old new before after step.NeedMore = Continues old new before []
+TellsStep old new before after (step.Fault f) = TellsFault old new before after f

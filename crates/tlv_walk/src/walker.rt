@@ -59,7 +59,7 @@ impl Walker {
     ghost use Rattle.tlv_head.specs.Fields.{Suits, heading_with};
     ghost use Rattle.tlv_head.specs.Header.{announced, holds, octets_of};
     ghost use Rattle.tlv_walk.specs.declared.walker.Phase.TheVariants as phases;
-    ghost use Rattle.tlv_walk.specs.Machine.{CanBegin, CanEnter, CanRead, CanReadOn, IsWaiting, Moves, MovesOn, Steps, Tells, fault_at, new_machine, next_wrapper, unused_in};
+    ghost use Rattle.tlv_walk.specs.Machine.{CanBegin, CanEnter, CanRead, CanReadOn, Enters, IsWaiting, Moves, MovesOn, Steps, Tells, fault_at, new_machine, next_wrapper, unused_in};
     ghost use Rattle.tlv_walk.specs.Stack.{IsFilled, Within, bound_of, room_of};
 
     /// A walker that has taken nothing.
@@ -432,6 +432,7 @@ impl Walker {
         requires suits { Suits fields.now octets.now }
         requires enter { CanEnter self.old (heading_with fields.now octets.now) }
         ensures tells { Tells self.old self.new (fields.now.offset + length octets.now) }
+        ensures enters { Enters self.old self.new fields.now (fields.now.offset + length octets.now) result }
     {
         self.offset = fields.offset + octets.len() as u64;
         self.events += 1;

@@ -1,0 +1,160 @@
+-- The end of the input, or an octet that is refused, behind what a walker has taken, where no event is waiting.
+use Rattle.std.proofs.Common.{◌≡◌, ℕ, true, false, List, [], ◌∷◌, ◌++◌, ◌+◌, length, refl, sym, ap, ◌∙◌, subst, arith}
+use Rattle.tlv_head.specs.declared.fault.FaultCode.{FaultCode}
+use Rattle.tlv_head.specs.declared.fault.FaultCode.TheVariants.{Empty, Short}
+use Rattle.tlv_walk.specs.declared.ending.Ending.TheVariants.{Done}
+use Rattle.tlv_walk.specs.declared.framing.Framing.{Framing}
+use Rattle.tlv_walk.specs.declared.stack.Frame.{Frame}
+use Rattle.tlv_walk.specs.declared.walker.Phase.{Phase}
+use Rattle.tlv_walk.specs.declared.walker.Phase.TheVariants as phase
+use Rattle.tlv_walk.specs.Ending.{IsEnding, IsFault, IsFaultAt, Tip, done, empty, fault, short, tip}
+use Rattle.tlv_walk.specs.Events.{Told}
+use Rattle.tlv_walk.specs.Forest.{Forest, Stop, Partial, Awaiting, Begun, Zero, has_element, is_whole, spell}
+use Rattle.tlv_walk.specs.Machine.{IsReady, IsReadyIn, IsWaiting, IsWaitingIn, Machine}
+use Rattle.tlv_walk.specs.Place.{Place, top}
+use Rattle.tlv_walk.specs.State.{HasState, IsPhaseOf, Layer, Tail, Nothing, Contents, Lead, Front, Lone, State, begins_element, frames_of, place_in, place_of, spell_tail, stack_of}
+use Rattle.tlv_walk.proofs.Endings.{halt-ending}
+use Rattle.tlv_walk.proofs.Faults.{fault-refused}
+use Rattle.tlv_walk.proofs.Push.{Spells}
+use Rattle.tlv_walk.proofs.Readings.{IsHalt}
+use Rattle.tlv_walk.proofs.Settled.{end_in, settled-within}
+use Rattle.tlv_walk.proofs.StateReading.{contents-less, place_behind, state-offset, state-reading, state-spells}
+use Rattle.tlv_walk.proofs.Zipper.{behind, behind-none, open_end_of, reading_in, reading_of, tip-behind, tip-within, whole-behind, whole-within, within}
+
+-- what is open behind the whole elements, as a forest: of a primitive, one that lacks contents octets
+abbrev pub forest_of : Tail → Forest
+forest_of Nothing = Stop
+forest_of (Contents h c) = Partial h c
+forest_of (Lead h) = Awaiting h
+forest_of (Front octets) = Begun octets
+forest_of Lone = Zero
+
+-- an element that is filled is so at the offset that is said
+filled-at : (w : Framing) (ls : List Layer) (here : Forest) (at : ℕ) → at ≡ end_in w ls here + 0 → (IsWaitingIn phase.Between (frames_of w ls) at → ⊥) → IsWaitingIn phase.Between (frames_of w ls) (end_in w ls here) → ⊥
+filled-at w ls here at e n f = let there : end_in w ls here ≡ at = omega arith in n (subst (λ (k : ℕ). IsWaitingIn phase.Between (frames_of w ls) k) there f)
+
+-- where nothing is waiting, no element has ended
+reading-within : (w : Framing) (ls : List Layer) (here : Forest) (f : Phase) (t : Tail) (at : ℕ) → IsPhaseOf f t (place_behind w ls here)
+    → at ≡ (place_behind w ls here).at + length (spell_tail t) → (IsWaitingIn f (stack_of w ls (place_behind w ls here) t) at → ⊥)
+    → reading_in ls here t ≡ within ls (behind here (forest_of t))
+reading-within w ls here phase.Between Nothing at j e n =
+    settled-within w ls here (filled-at w ls here at e n) ∙ ap (within ls) (sym (behind-none here))
+reading-within w ls here (phase.Contents left) (Contents h c) at j e n = rw (contents-less _ h c left j n) refl
+reading-within w ls here (phase.Header r) (Front octets) at j e n = refl
+reading-within w ls here phase.Unused (Lead h) at j e n = refl
+reading-within w ls here phase.Zero Lone at j e n = refl
+reading-within w ls here f t at j e n = absurd j
+
+-- so of a walker
+pub state-within : (w : Machine) (b : List ℕ) (told : List Told) (s : State) → HasState w b told s → (IsWaiting w → ⊥) → reading_of s ≡ within s.layers (behind s.here (forest_of s.tail))
+state-within w b told s h n =
+    reading-within w.framing s.layers s.here w.phase s.tail w.offset h.phase (state-offset w b told s h)
+    (λ i. n (subst (λ (stack : List Frame). IsWaitingIn w.phase stack w.offset) (sym h.stack) i))
+
+-- where nothing is waiting and nothing was refused, nothing is waiting
+pub ready-waits : (w : Machine) → IsReady w → IsWaiting w → ⊥
+ready-waits w = ready-waits-in w.phase w.stack w.offset where
+  ready-waits-in : (f : Phase) (stack : List Frame) (at : ℕ) → IsReadyIn f stack at → IsWaitingIn f stack at → ⊥
+  ready-waits-in phase.Between stack at r i = r i
+  ready-waits-in (phase.Contents left) stack at r i = r i
+  ready-waits-in (phase.Header p) stack at r i = i
+  ready-waits-in phase.Unused stack at r i = i
+  ready-waits-in phase.Zero stack at r i = i
+  ready-waits-in (phase.Failed f) stack at r i = i
+
+-- ---- the open end
+
+-- what is open behind the whole elements is the open end
+tip-tail : (p : Place) (t : Tail) → tip p (forest_of t) ≡ record { place = p; open_end = open_end_of t }
+tip-tail p Nothing = refl
+tip-tail p (Contents h c) = refl
+tip-tail p (Lead h) = refl
+tip-tail p (Front octets) = refl
+tip-tail p Lone = refl
+
+-- the open end of the reading is that of the state
+pub state-tip : (w : Machine) (b : List ℕ) (told : List Told) (s : State) → HasState w b told s → (IsWaiting w → ⊥)
+    → tip (top w.framing) (reading_of s) ≡ record { place = place_of w.framing s; open_end = open_end_of s.tail }
+state-tip w b told s h n =
+    ap (λ (f : Forest). tip (top w.framing) f) (state-within w b told s h n)
+    ∙ tip-within w.framing s.layers (behind s.here (forest_of s.tail)) h.layers
+    ∙ tip-behind (place_in w.framing s.layers) s.here (forest_of s.tail) h.here.whole
+    ∙ tip-tail (place_of w.framing s) s.tail
+
+-- an octet with a fault of the list at the open end gives the ending, whatever follows
+pub state-fault : (w : Machine) (b : List ℕ) (told : List Told) (s : State) (x : ℕ) (rest : List ℕ) (code : FaultCode) → HasState w b told s → (IsWaiting w → ⊥)
+    → IsFault (place_of w.framing s) x (open_end_of s.tail) code → IsEnding w.framing (b ++ x ∷ rest) (fault code (length b))
+state-fault w b told s x rest code h n k =
+    let r : Spells (top w.framing) b (reading_of s) = state-spells w b told s h in
+    let there : IsFaultAt (tip (top w.framing) (reading_of s)) x code = subst (λ (t : Tip). IsFaultAt t x code) (sym (state-tip w b told s h n)) k in
+    let halt : IsHalt w.framing (reading_of s) code (b ++ x ∷ rest) =
+    record { is_open = r.is_open; octet = x; rest = rest; front = ap (λ (o : List ℕ). o ++ x ∷ rest) r.spelled; refused = fault-refused w.framing (reading_of s) x code r.is_open there } in
+    subst (λ (o : List ℕ). IsEnding w.framing (b ++ x ∷ rest) (fault code (length o))) r.spelled (halt-ending w.framing (reading_of s) code (b ++ x ∷ rest) halt there)
+
+-- ---- the end of the input
+
+-- outside all elements that hold others, between encodings, the whole elements are the reading
+outermost-reading : (w : Framing) (ls : List Layer) (here : Forest) (t : Tail) → IsPhaseOf phase.Between t (place_behind w ls here) → stack_of w ls (place_behind w ls here) t ≡ []
+    → reading_in ls here t ≡ here
+outermost-reading w [] here Nothing j e = refl
+outermost-reading w (l ∷ ls) here Nothing j e = absurd (cc)
+outermost-reading w ls here t j e = absurd j
+
+-- there an octet of an element came where one is in the reading
+outermost-element : (w : Framing) (ls : List Layer) (here : Forest) (t : Tail) → IsPhaseOf phase.Between t (place_behind w ls here) → stack_of w ls (place_behind w ls here) t ≡ []
+    → begins_element ls here t ≡ has_element here
+outermost-element w [] here Nothing j e = refl
+outermost-element w (l ∷ ls) here Nothing j e = absurd (cc)
+outermost-element w ls here t j e = absurd j
+
+-- what a walker has read between encodings and outside all elements that hold others
+record IsOutermost (w : Machine) (b : List ℕ) (s : State) : Type 0 where
+  reading : reading_of s ≡ s.here
+  element : has_element s.here ≡ w.has_element
+  spelled : spell (reading_of s) ≡ b
+
+-- it is the whole elements there
+state-outermost : (w : Machine) (b : List ℕ) (told : List Told) (s : State) → HasState w b told s → w.phase ≡ phase.Between → w.stack ≡ [] → IsOutermost w b s
+state-outermost w b told s h e none =
+    let j : IsPhaseOf phase.Between s.tail (place_of w.framing s) = subst (λ (f : Phase). IsPhaseOf f s.tail (place_of w.framing s)) e h.phase in
+    let empty : stack_of w.framing s.layers (place_of w.framing s) s.tail ≡ [] = sym h.stack ∙ none in
+    let r : Spells (top w.framing) b (reading_of s) = state-spells w b told s h in
+    record {
+      reading = outermost-reading w.framing s.layers s.here s.tail j empty;
+      element = sym (outermost-element w.framing s.layers s.here s.tail j empty) ∙ sym h.element;
+      spelled = r.spelled;
+    }
+
+-- there, behind an octet of an element, the input is done
+pub state-done : (w : Machine) (b : List ℕ) (told : List Told) (s : State) → HasState w b told s → w.phase ≡ phase.Between → w.stack ≡ [] → w.has_element ≡ true
+    → IsEnding w.framing b Done
+state-done w b told s h e none some =
+    let o : IsOutermost w b s = state-outermost w b told s h e none in
+    done (reading_of s) (state-reading w b told s h) o.spelled (ap has_element o.reading ∙ o.element ∙ some) (ap is_whole o.reading ∙ h.here.whole)
+
+-- and where no octet of an element came, there is none
+pub state-empty : (w : Machine) (b : List ℕ) (told : List Told) (s : State) → HasState w b told s → w.phase ≡ phase.Between → w.stack ≡ [] → w.has_element ≡ false
+    → IsEnding w.framing b (fault Empty (length b))
+state-empty w b told s h e none no_element =
+    let o : IsOutermost w b s = state-outermost w b told s h e none in
+    empty (reading_of s) (state-reading w b told s h) o.spelled (ap has_element o.reading ∙ o.element ∙ no_element)
+
+-- elsewhere something is open: an element that holds others, or what is behind the whole elements
+open-elsewhere : (w : Framing) (ls : List Layer) (here : Forest) (f : Phase) (t : Tail) → IsPhaseOf f t (place_behind w ls here)
+    → (f ≡ phase.Between → stack_of w ls (place_behind w ls here) t ≡ [] → ⊥) → ls ≡ [] → is_whole (forest_of t) ≡ false
+open-elsewhere w ls here phase.Between Nothing j n e = absurd (n refl (ap (frames_of w) e))
+open-elsewhere w ls here (phase.Header r) (Front octets) j n e = refl
+open-elsewhere w ls here (phase.Contents left) (Contents h c) j n e = refl
+open-elsewhere w ls here phase.Unused (Lead h) j n e = refl
+open-elsewhere w ls here phase.Zero Lone j n e = refl
+open-elsewhere w ls here f t j n e = absurd j
+
+-- there the input is too short
+pub state-short : (w : Machine) (b : List ℕ) (told : List Told) (s : State) → HasState w b told s → (IsWaiting w → ⊥) → (w.phase ≡ phase.Between → w.stack ≡ [] → ⊥)
+    → IsEnding w.framing b (fault Short (length b))
+state-short w b told s h n outside =
+    let r : Spells (top w.framing) b (reading_of s) = state-spells w b told s h in
+    let part : is_whole (within s.layers (behind s.here (forest_of s.tail))) ≡ false =
+    whole-within w.framing s.layers (behind s.here (forest_of s.tail)) h.layers
+    (λ e. whole-behind s.here (forest_of s.tail) h.here.whole ∙ open-elsewhere w.framing s.layers s.here w.phase s.tail h.phase (λ p q. outside p (h.stack ∙ q)) e) in
+    short (reading_of s) (state-reading w b told s h) r.spelled (ap is_whole (state-within w b told s h n) ∙ part)

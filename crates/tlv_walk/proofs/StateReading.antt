@@ -1,0 +1,226 @@
+-- What a walker stands for: the reading of its octets, whose events are those told and those waiting.
+use Rattle.std.proofs.Common.{◌≡◌, inl, inr, ℕ, ◌+◌, true, false, eqb, List, [], ◌∷◌, ◌++◌, length, refl, sym, ap, ◌∙◌, arith, append_assoc, append-nil, length-append, eq-eqb, ne_eqb}
+use Rattle.std.proofs.lemmas.Bool.{cases_eq}
+use Rattle.tlv_head.specs.declared.header.Size.TheVariants.{Definite}
+use Rattle.tlv_head.specs.Header.{Heading, announced, octets_of}
+use Rattle.tlv_walk.specs.declared.framing.Framing.{Framing}
+use Rattle.tlv_walk.specs.declared.stack.Frame.{Frame}
+use Rattle.tlv_walk.specs.declared.walker.Phase.{Phase}
+use Rattle.tlv_walk.specs.declared.walker.Phase.TheVariants as phase
+use Rattle.tlv_walk.specs.Events.{Told, AreEqualJoined, Begin, Bytes, End, apart, events}
+use Rattle.tlv_walk.specs.Forest.{Forest, Stop, Whole, Partial, Awaiting, Begun, Zero, is_whole, spell}
+use Rattle.tlv_walk.specs.Machine.{Machine, new_machine}
+use Rattle.tlv_walk.specs.Place.{IsAwaiting, IsBegun, IsOpen, IsPartial, IsZero, Place, after, top}
+use Rattle.tlv_walk.specs.Reading.{IsReading}
+use Rattle.tlv_walk.specs.State.{AreLayers, AreWhole, HasState, IsContents, IsPhaseOf, Layer, Tail, Nothing, Contents, Lead, Front, Lone, Stands, State, endings_at, events_layers, events_state, events_tail, frames_of, place_in, place_of, spell_layers, spell_state, spell_tail, stack_of, waiting_in, waiting_of, wrappers_layers, wrappers_state, wrappers_tail}
+use Rattle.tlv_walk.specs.Wrappers.{wrappers}
+use Rattle.tlv_walk.proofs.Joined.{apart-before, apart-from_joined, joined-from_apart}
+use Rattle.tlv_walk.proofs.Push.{Spells}
+use Rattle.tlv_walk.proofs.Readings.{Going, run-reading}
+use Rattle.tlv_walk.proofs.Settled.{end_in, settled-spells}
+use Rattle.tlv_walk.proofs.Zipper.{behind, open-behind, open-within, place-at, reading_in, reading_of, room-if_open, settled, spell-behind, spell-within, whole-behind, within}
+use Rattle.tlv_walk.proofs.ZipperEvents.{events-behind, events-settled, events-within, wrappers-behind, wrappers-settled, wrappers-within}
+
+-- behind the whole elements of the innermost open one
+abbrev pub place_behind : Framing → List Layer → Forest → Place
+place_behind w ls here = after (place_in w ls) (length (spell here))
+
+-- the place behind whole elements is where they end
+pub behind-end : (w : Framing) (ls : List Layer) (here g : Forest) → is_whole here ≡ true → end_in w ls (behind here g) ≡ (place_behind w ls here).at + length (spell g)
+behind-end w ls here g e = omega (arith, ap length (spell-behind here g e), length-append (spell here) (spell g))
+
+-- ---- whole elements, and then an open end
+
+-- they are open, with these octets
+open-spells : (w : Framing) (ls : List Layer) (here g : Forest) → AreLayers w ls → AreWhole (place_in w ls) here → IsOpen (place_behind w ls here) g → is_whole g ≡ false
+    → Spells (top w) (spell_layers ls ++ (spell here ++ spell g)) (within ls (behind here g))
+open-spells w ls here g a i v e = record {
+  is_open = open-within w ls (behind here g) a (open-behind (place_in w ls) here g i v) (room-if_open ls (behind here g) (whole-behind here g i.whole ∙ e));
+  spelled = spell-within w ls (behind here g) a ∙ ap (λ (t : List ℕ). spell_layers ls ++ t) (spell-behind here g i.whole);
+}
+
+-- they have these events
+open-events : (w : Framing) (ls : List Layer) (here g : Forest) → AreLayers w ls → AreWhole (place_in w ls) here
+    → (events_layers ls ++ (events here ++ events g)) ++ [] ≡ events (within ls (behind here g))
+open-events w ls here g a i =
+    append-nil _ ∙ sym (events-within w ls (behind here g) a ∙ ap (λ (t : List Told). events_layers ls ++ t) (events-behind here g i.whole))
+
+-- and these wrappers
+open-wrappers : (w : Framing) (ls : List Layer) (here g : Forest) → AreLayers w ls → AreWhole (place_in w ls) here
+    → wrappers (within ls (behind here g)) ≡ wrappers_layers ls ++ (wrappers here ++ wrappers g)
+open-wrappers w ls here g a i = wrappers-within w ls (behind here g) a ∙ ap (λ (t : List ℕ). wrappers_layers ls ++ t) (wrappers-behind here g i.whole)
+
+-- ---- whole elements, and then others that are whole
+
+-- all are whole
+more-whole : (w : Framing) (ls : List Layer) (here g : Forest) → AreWhole (place_in w ls) here → AreWhole (place_behind w ls here) g → AreWhole (place_in w ls) (behind here g)
+more-whole w ls here g i j = record { is_open = open-behind (place_in w ls) here g i j.is_open; whole = whole-behind here g i.whole ∙ j.whole }
+
+-- they are open, with these octets
+whole-spells : (w : Framing) (ls : List Layer) (here g : Forest) → AreLayers w ls → AreWhole (place_in w ls) here → AreWhole (place_behind w ls here) g
+    → Spells (top w) (spell_layers ls ++ (spell here ++ spell g)) (settled ls (behind here g))
+whole-spells w ls here g a i j =
+    let r : Spells (top w) (spell_layers ls ++ spell (behind here g)) (settled ls (behind here g)) = settled-spells w ls (behind here g) a (more-whole w ls here g i j) in
+    record { is_open = r.is_open; spelled = r.spelled ∙ ap (λ (t : List ℕ). spell_layers ls ++ t) (spell-behind here g i.whole) }
+
+-- they have these events, and then the ends of the elements that are filled
+whole-events : (w : Framing) (ls : List Layer) (here g : Forest) (at : ℕ) → AreLayers w ls → AreWhole (place_in w ls) here → AreWhole (place_behind w ls here) g
+    → at ≡ (place_behind w ls here).at + length (spell g)
+    → events (settled ls (behind here g)) ≡ (events_layers ls ++ (events here ++ events g)) ++ endings_at at (frames_of w ls)
+whole-events w ls here g at a i j e =
+    events-settled w ls (behind here g) a (more-whole w ls here g i j)
+    ∙ ap (λ (t : List Told). (events_layers ls ++ t) ++ endings_at (end_in w ls (behind here g)) (frames_of w ls)) (events-behind here g i.whole)
+    ∙ ap (λ (n : ℕ). (events_layers ls ++ (events here ++ events g)) ++ endings_at n (frames_of w ls)) (behind-end w ls here g i.whole ∙ sym e)
+
+-- and these wrappers
+whole-wrappers : (w : Framing) (ls : List Layer) (here g : Forest) → AreLayers w ls → AreWhole (place_in w ls) here → AreWhole (place_behind w ls here) g
+    → wrappers (settled ls (behind here g)) ≡ wrappers_layers ls ++ (wrappers here ++ wrappers g)
+whole-wrappers w ls here g a i j =
+    wrappers-settled w ls (behind here g) a (more-whole w ls here g i j) ∙ ap (λ (t : List ℕ). wrappers_layers ls ++ t) (wrappers-behind here g i.whole)
+
+-- ---- a primitive
+
+-- with all its contents octets it is whole
+contents-whole : (p : Place) (h : Heading) (c : List ℕ) (left : ℕ) → IsContents p h c left → left ≡ 0 → AreWhole p (Whole h c Stop)
+contents-whole p h c left i e =
+    let size : length c + left ≡ length c = omega arith in
+    record { is_open = (record { header = i.header; size = i.size ∙ ap Definite size; fits = rw size at i.fits }, tt); whole = refl }
+
+-- else it lacks contents octets
+contents-partial : (p : Place) (h : Heading) (c : List ℕ) (left : ℕ) → IsContents p h c left → (left ≡ 0 → ⊥) → IsPartial p h c
+contents-partial p h c left i n = record { header = i.header; announces = length c + left; size = i.size; fewer = omega arith; fits = i.fits }
+
+-- the test of its length says which
+contents-all : (p : Place) (h : Heading) (c : List ℕ) (left : ℕ) → IsContents p h c left → left ≡ 0 → eqb (length c) (announced h.size) ≡ true
+contents-all p h c left i e = let all : announced h.size ≡ length c + left = ap announced i.size in eq-eqb (length c) (announced h.size) (omega arith)
+
+pub contents-less : (p : Place) (h : Heading) (c : List ℕ) (left : ℕ) → IsContents p h c left → (left ≡ 0 → ⊥) → eqb (length c) (announced h.size) ≡ false
+contents-less p h c left i n =
+    let all : announced h.size ≡ length c + left = ap announced i.size in
+    ne_eqb (length c) (announced h.size) (λ z. n (omega arith))
+
+-- ---- by what is open
+
+-- what holds of what is open behind the whole elements, whatever the phase
+abbrev pub IsTailAt : Place → Tail → Type 0
+IsTailAt p Nothing = Unit {0}
+IsTailAt p (Contents h c) = (left : ℕ) × IsContents p h c left
+IsTailAt p (Lead h) = IsAwaiting p h
+IsTailAt p (Front octets) = IsBegun p octets
+IsTailAt p Lone = IsZero p
+
+-- the phase says so
+pub phase-tail : (f : Phase) (t : Tail) (p : Place) → IsPhaseOf f t p → IsTailAt p t
+phase-tail phase.Between Nothing p i = tt
+phase-tail (phase.Header r) (Front octets) p i = i.3
+phase-tail (phase.Contents left) (Contents h c) p i = (left, i)
+phase-tail phase.Unused (Lead h) p i = i
+phase-tail phase.Zero Lone p i = i
+phase-tail f t p i = absurd i
+
+-- what a state has been read as is open, with the state's octets
+reading-spells : (w : Framing) (ls : List Layer) (here : Forest) (t : Tail) → AreLayers w ls → AreWhole (place_in w ls) here → IsTailAt (place_behind w ls here) t
+    → Spells (top w) (spell_layers ls ++ (spell here ++ spell_tail t)) (reading_in ls here t)
+reading-spells w ls here Nothing a i j =
+    let r : Spells (top w) (spell_layers ls ++ spell here) (settled ls here) = settled-spells w ls here a i in
+    record { is_open = r.is_open; spelled = r.spelled ∙ ap (λ (t : List ℕ). spell_layers ls ++ t) (sym (append-nil (spell here))) }
+reading-spells w ls here (Contents h c) a i j = elim (cases_eq j.0 0) [
+  | inl z ↦
+      let r : Spells (top w) (spell_layers ls ++ (spell here ++ (octets_of h ++ (c ++ [])))) (settled ls (behind here (Whole h c Stop))) =
+      whole-spells w ls here (Whole h c Stop) a i (contents-whole _ h c j.0 j.1 z) in
+      rw (contents-all _ h c j.0 j.1 z)
+      (record { is_open = r.is_open; spelled = r.spelled ∙ ap (λ (t : List ℕ). spell_layers ls ++ (spell here ++ (octets_of h ++ t))) (append-nil c) })
+  | inr n ↦ rw (contents-less _ h c j.0 j.1 n) (open-spells w ls here (Partial h c) a i (contents-partial _ h c j.0 j.1 n) refl)
+]
+reading-spells w ls here (Lead h) a i j = open-spells w ls here (Awaiting h) a i j refl
+reading-spells w ls here (Front octets) a i j = open-spells w ls here (Begun octets) a i j refl
+reading-spells w ls here Lone a i j = open-spells w ls here Zero a i j refl
+
+-- its wrappers are the state's
+reading-wrappers : (w : Framing) (ls : List Layer) (here : Forest) (t : Tail) → AreLayers w ls → AreWhole (place_in w ls) here → IsTailAt (place_behind w ls here) t
+    → wrappers (reading_in ls here t) ≡ wrappers_layers ls ++ (wrappers here ++ wrappers_tail t)
+reading-wrappers w ls here Nothing a i j = wrappers-settled w ls here a i ∙ ap (λ (t : List ℕ). wrappers_layers ls ++ t) (sym (append-nil (wrappers here)))
+reading-wrappers w ls here (Contents h c) a i j = elim (cases_eq j.0 0) [
+  | inl z ↦ rw (contents-all _ h c j.0 j.1 z) (whole-wrappers w ls here (Whole h c Stop) a i (contents-whole _ h c j.0 j.1 z))
+  | inr n ↦ rw (contents-less _ h c j.0 j.1 n) (open-wrappers w ls here (Partial h c) a i)
+]
+reading-wrappers w ls here (Lead h) a i j = open-wrappers w ls here (Awaiting h) a i
+reading-wrappers w ls here (Front octets) a i j = open-wrappers w ls here (Begun octets) a i
+reading-wrappers w ls here Lone a i j = open-wrappers w ls here Zero a i
+
+-- a primitive's end, told behind what has been told of it
+contents-end : (around before ends : List Told) (h : Heading) (c : List ℕ)
+    → (around ++ (before ++ (Begin h ∷ Bytes c ∷ []))) ++ (End ∷ ends) ≡ (around ++ (before ++ (Begin h ∷ Bytes c ∷ End ∷ []))) ++ ends
+contents-end around before ends h c = simp append_assoc
+
+-- its events are the state's, and then those waiting
+reading-events : (w : Framing) (ls : List Layer) (here : Forest) (f : Phase) (t : Tail) (at : ℕ) → AreLayers w ls → AreWhole (place_in w ls) here → IsPhaseOf f t (place_behind w ls here)
+    → at ≡ (place_behind w ls here).at + length (spell_tail t)
+    → (events_layers ls ++ (events here ++ events_tail t)) ++ waiting_in f (stack_of w ls (place_behind w ls here) t) at ≡ events (reading_in ls here t)
+reading-events w ls here phase.Between Nothing at a i j e =
+    let there : at ≡ end_in w ls here = omega arith in
+    rw (append-nil (events here), there) (sym (events-settled w ls here a i))
+reading-events w ls here (phase.Contents left) (Contents h c) at a i j e = elim (cases_eq left 0) [
+  | inl z ↦
+      let there : at ≡ (place_behind w ls here).at + length (octets_of h ++ (c ++ [])) = e ∙ ap (λ (t : List ℕ). (place_behind w ls here).at + length (octets_of h ++ t)) (sym (append-nil c)) in
+      rw (contents-all _ h c left j z, eq-eqb left 0 z)
+      (contents-end (events_layers ls) (events here) (endings_at at (frames_of w ls)) h c ∙ sym (whole-events w ls here (Whole h c Stop) at a i (contents-whole _ h c left j z) there))
+  | inr n ↦ rw (contents-less _ h c left j n, ne_eqb left 0 n) (open-events w ls here (Partial h c) a i)
+]
+reading-events w ls here (phase.Header r) (Front octets) at a i j e = open-events w ls here (Begun octets) a i
+reading-events w ls here phase.Unused (Lead h) at a i j e = open-events w ls here (Awaiting h) a i
+reading-events w ls here phase.Zero Lone at a i j e = open-events w ls here Zero a i
+reading-events w ls here f t at a i j e = absurd j
+
+-- ---- of a walker
+
+-- the walker has taken the octets up to the open end, and those of what is open
+pub state-offset : (w : Machine) (b : List ℕ) (told : List Told) (s : State) → HasState w b told s → w.offset ≡ (place_of w.framing s).at + length (spell_tail s.tail)
+state-offset w b told s h =
+    omega (arith, h.offset, ap length h.spelled, place-at w.framing s.layers, length-append (spell_layers s.layers) (spell s.here ++ spell_tail s.tail), length-append (spell s.here) (spell_tail s.tail))
+
+-- what its state has been read as is open, with the octets taken
+pub state-spells : (w : Machine) (b : List ℕ) (told : List Told) (s : State) → HasState w b told s → Spells (top w.framing) b (reading_of s)
+state-spells w b told s h =
+    let r : Spells (top w.framing) (spell_state s) (reading_of s) =
+    reading-spells w.framing s.layers s.here s.tail h.layers h.here (phase-tail w.phase s.tail (place_of w.framing s) h.phase) in
+    record { is_open = r.is_open; spelled = r.spelled ∙ h.spelled }
+
+-- it is their reading
+pub state-reading : (w : Machine) (b : List ℕ) (told : List Told) (s : State) → HasState w b told s → IsReading w.framing b (reading_of s)
+state-reading w b told s h = run-reading w.framing (Going (reading_of s)) b (state-spells w b told s h)
+
+-- what was told and what is waiting are its events
+pub state-events : (w : Machine) (b : List ℕ) (told : List Told) (s : State) → HasState w b told s → AreEqualJoined (told ++ waiting_of w) (events (reading_of s))
+state-events w b told s h =
+    let all : events_state s ++ waiting_of w ≡ events (reading_of s) =
+    ap (λ (stack : List Frame). events_state s ++ waiting_in w.phase stack w.offset) h.stack
+    ∙ reading-events w.framing s.layers s.here w.phase s.tail w.offset h.layers h.here h.phase (state-offset w b told s h) in
+    joined-from_apart (told ++ waiting_of w) (events (reading_of s))
+    (apart-before told (events_state s) (waiting_of w) (apart-from_joined told (events_state s) h.told_of) ∙ ap apart all)
+
+-- its wrappers are those of the state
+pub state-wrappers : (w : Machine) (b : List ℕ) (told : List Told) (s : State) → HasState w b told s → wrappers (reading_of s) ≡ wrappers_state s
+state-wrappers w b told s h = reading-wrappers w.framing s.layers s.here s.tail h.layers h.here (phase-tail w.phase s.tail (place_of w.framing s) h.phase)
+
+-- a walker with a state stands for what was told and what was taken
+pub stands : (w : Machine) (b : List ℕ) (told : List Told) (s : State) → HasState w b told s → Stands w b told
+stands w b told s h =
+    record { reading = reading_of s; is_reading = state-reading w b told s h; all_told = state-events w b told s h; state = s; has_state = h }
+
+-- the state of a new walker: nothing is open, and nothing came
+abbrev pub new_state : State
+new_state = record { layers = []; here = Stop; tail = Nothing }
+
+-- a new walker has it
+pub state-new : (framing : Framing) → HasState (new_machine framing) [] [] new_state
+state-new framing = record {
+  spelled = refl;
+  offset = refl;
+  stack = refl;
+  layers = tt;
+  here = record { is_open = tt; whole = refl };
+  phase = tt;
+  told_of = refl;
+  element = refl;
+}
