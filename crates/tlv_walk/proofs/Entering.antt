@@ -179,7 +179,7 @@ lead_state w b told s r t h k at c e one = record {
 }
 
 -- its first contents octet
-lead_tail : (t : Tail) (p : Place) → IsPhaseOf phase.Unused t p → (h : Heading) × (t ≡ Lead h)
+pub lead_tail : (t : Tail) (p : Place) → IsPhaseOf phase.Unused t p → (h : Heading) × (t ≡ Lead h)
 lead_tail Nothing p x = absurd x
 lead_tail (Contents h c) p x = absurd x
 lead_tail (Lead h) p x = (h, refl)

@@ -23,4 +23,5 @@ pub mod Moves
 pub mod Closing
 pub mod Entering
 pub mod Padding
+pub mod Refusals
 pub mod Known

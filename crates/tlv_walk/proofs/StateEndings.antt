@@ -29,7 +29,7 @@ forest_of (Lead h) = Awaiting h
 forest_of (Front octets) = Begun octets
 forest_of Lone = Zero
 
--- an element that is filled is so at the offset that is said
+-- the whole elements end at the offset: no element is filled there
 filled-at : (w : Framing) (ls : List Layer) (here : Forest) (at : ℕ) → at ≡ end_in w ls here + 0 → (IsWaitingIn phase.Between (frames_of w ls) at → ⊥) → IsWaitingIn phase.Between (frames_of w ls) (end_in w ls here) → ⊥
 filled-at w ls here at e n f = let there : end_in w ls here ≡ at = omega arith in n (subst (λ (k : ℕ). IsWaitingIn phase.Between (frames_of w ls) k) there f)
 
@@ -45,13 +45,13 @@ reading-within w ls here phase.Unused (Lead h) at j e n = refl
 reading-within w ls here phase.Zero Lone at j e n = refl
 reading-within w ls here f t at j e n = absurd j
 
--- so of a walker
+-- so what a walker with nothing waiting has read is its layers, its whole elements and what is open
 pub state-within : (w : Machine) (b : List ℕ) (told : List Told) (s : State) → HasState w b told s → (IsWaiting w → ⊥) → reading_of s ≡ within s.layers (behind s.here (forest_of s.tail))
 state-within w b told s h n =
     reading-within w.framing s.layers s.here w.phase s.tail w.offset h.phase (state-offset w b told s h)
     (λ i. n (subst (λ (stack : List Frame). IsWaitingIn w.phase stack w.offset) (sym h.stack) i))
 
--- where nothing is waiting and nothing was refused, nothing is waiting
+-- a walker that is ready has no event waiting
 pub ready-waits : (w : Machine) → IsReady w → IsWaiting w → ⊥
 ready-waits w = ready-waits-in w.phase w.stack w.offset where
   ready-waits-in : (f : Phase) (stack : List Frame) (at : ℕ) → IsReadyIn f stack at → IsWaitingIn f stack at → ⊥

@@ -1,5 +1,5 @@
 -- A walker's state is an open forest, seen from its open end.
-use Rattle.std.proofs.Common.{◌≡◌, ◌↔◌, ℕ, ◌+◌, Bool, true, false, cond, eqb, List, [], ◌∷◌, ◌++◌, length, None, refl, sym, ap, ◌∙◌, subst, arith, append_assoc, length-append}
+use Rattle.std.proofs.Common.{◌≡◌, ◌↔◌, ℕ, ◌+◌, Bool, true, false, cond, ◌||◌, eqb, List, [], ◌∷◌, ◌++◌, length, None, refl, sym, ap, ◌∙◌, subst, arith, append_assoc, length-append}
 use Rattle.std.proofs.lemmas.Bool.{true≢false}
 use Rattle.tlv_head.specs.declared.header.Size.{Size}
 use Rattle.tlv_head.specs.declared.header.Size.TheVariants.{Definite, Indefinite}
@@ -101,17 +101,17 @@ whole-behind (Awaiting h) g e = absurd (true≢false (sym e))
 whole-behind (Begun octets) g e = absurd (true≢false (sym e))
 whole-behind Zero g e = absurd (true≢false (sym e))
 
--- an octet of an element is there where one of the others' is
-pub element-behind : (f g : Forest) → has_element g ≡ true → has_element (behind f g) ≡ true
-element-behind Stop g e = e
-element-behind (Fill rest) g e = element-behind rest g e
-element-behind (Whole h c rest) g e = refl
-element-behind (Closed h inside rest) g e = refl
-element-behind (Partial h c) g e = refl
-element-behind (Entered h inside) g e = refl
-element-behind (Awaiting h) g e = refl
-element-behind (Begun octets) g e = refl
-element-behind Zero g e = refl
+-- an octet of an element is there where one of theirs or of the others' is
+pub element-behind : (f g : Forest) → has_element (behind f g) ≡ (has_element f || has_element g)
+element-behind Stop g = refl
+element-behind (Fill rest) g = element-behind rest g
+element-behind (Whole h c rest) g = refl
+element-behind (Closed h inside rest) g = refl
+element-behind (Partial h c) g = refl
+element-behind (Entered h inside) g = refl
+element-behind (Awaiting h) g = refl
+element-behind (Begun octets) g = refl
+element-behind Zero g = refl
 
 -- they are open where the others are behind them
 pub open-behind : (p : Place) (f g : Forest) → AreWhole p f → IsOpen (after p (length (spell f))) g → IsOpen p (behind f g)

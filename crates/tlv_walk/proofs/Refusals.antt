@@ -1,0 +1,123 @@
+-- What a walker refuses is a fault, whatever follows.
+use Rattle.std.proofs.Common.{◌≡◌, ◌≢◌, ◌⊎◌, inl, inr, ℕ, ◌+◌, ◌-◌, ◌<◌, ◌≤◌, Bool, true, false, List, [], ◌∷◌, ◌++◌, length, Option, Some, None, IfSome, refl, sym, ap, ◌∙◌, subst, arith, append-nil, length-append}
+use Rattle.std.proofs.lemmas.Bool.{true≢false, cases_Bool}
+use Rattle.tlv_head.specs.declared.header.Size.{Size}
+use Rattle.tlv_head.specs.declared.header.Size.TheVariants.{Definite, Indefinite}
+use Rattle.tlv_head.specs.declared.fault.FaultCode.{FaultCode}
+use Rattle.tlv_head.specs.declared.fault.FaultCode.TheVariants.{Empty, Short, StrayEnd, BadEnd, MissingEnd, TagTooLong, ReservedLength, IndefinitePrimitive, LengthTooLarge, TooDeep, Overrun, BadInside}
+use Rattle.tlv_head.specs.Header.{Heading, IsIdentifier, announced, holds, octets_of}
+use Rattle.tlv_head.specs.Progress.{Fits, Progress}
+use Rattle.tlv_head.specs.Push.{EndsPast, IsRefused, IsTooDeep}
+use Rattle.tlv_head.specs.Refusal.{IsFront, IsRefusedOctet}
+use Rattle.tlv_head.proofs.Front.{header-two}
+use Rattle.tlv_walk.specs.declared.ending.Ending.TheVariants as ending
+use Rattle.tlv_walk.specs.declared.walker.Phase.TheVariants as phase
+use Rattle.tlv_walk.specs.Ending.{AtBound, BelowBound, Between, InContents, BeforeUnused, InHeader, InEnd, IsEnding, IsFault, IsPastBound, OpenEnd, bad_end, bad_inside, fault, indefinite_primitive, length_too_large, missing_end, no_end, no_room, overrun, reserved_length, stray_end, tag_too_long, too_deep}
+use Rattle.tlv_walk.specs.Events.{Told}
+use Rattle.tlv_walk.specs.Inside.{is_among}
+use Rattle.tlv_walk.specs.Machine.{IsWaiting, Machine, fault_at}
+use Rattle.tlv_walk.specs.Place.{Place}
+use Rattle.tlv_walk.specs.Stack.{IsInIndefinite, Within, bound_of, left_to, room_of}
+use Rattle.tlv_walk.specs.State.{HasState, Layer, Tail, Nothing, Lead, Front, Lone, State, frames_of, place_in, place_of}
+use Rattle.tlv_walk.specs.Tells.{RefusesOctet}
+use Rattle.tlv_walk.proofs.Entering.{AtHeader, front_state, lead_tail}
+use Rattle.tlv_walk.proofs.Moves.{between_tail, lone_tail, phase_at, tail_state, with_layers, with_tail}
+use Rattle.tlv_walk.proofs.Places.{place-bound, place-depth, place-inside, place-offset}
+use Rattle.tlv_walk.proofs.StateEndings.{state-fault}
+use Rattle.tlv_walk.proofs.Zipper.{open_end_of, place-indefinite}
+
+-- no octets are left to the bound, which is reached
+at_bound : (b : Option ℕ) (n : ℕ) → Within b n → left_to b n ≡ Some 0 → b ≡ Some n
+at_bound None n w e = absurd (cc)
+at_bound (Some m) n w e = let z : m - n ≡ 0 = cc in ap Some (omega arith)
+
+below_bound : (b : Option ℕ) (n : ℕ) → (left_to b n ≡ Some 0 → ⊥) → b ≡ Some n → ⊥
+below_bound b n f e = f (ap (λ (x : Option ℕ). left_to x n) e ∙ ap Some (omega arith))
+
+-- an octet that has a fault in each state of a walker is refused
+pub refuses_here : (w : Machine) (x : ℕ) (rest : List ℕ) (code : FaultCode) → (IsWaiting w → ⊥)
+    → ((b : List ℕ) (told : List Told) (s : State) → HasState w b told s → (t : State) × HasState w b told t × IsFault (place_of w.framing t) x (open_end_of t.tail) code)
+    → RefusesOctet w (x ∷ rest) (x ∷ rest) (fault_at code w.offset)
+refuses_here w x rest code idle faulty = (
+  [],
+  x,
+  rest,
+  refl,
+  refl,
+  λ b told s has.
+    let f = faulty b told s has in (
+      w,
+      f.0,
+      subst (λ (o : List ℕ). HasState w o told f.0) (sym (append-nil b)) f.1,
+      idle,
+      λ c. subst (λ (o : List ℕ). IsEnding w.framing (o ++ x ∷ c) (ending.Fault (fault_at code w.offset))) (sym (append-nil b))
+          (subst (λ (n : ℕ). IsEnding w.framing (b ++ x ∷ c) (fault code n)) (sym f.1.offset) (state-fault w b told f.0 x c code f.1 idle f.2)),
+    ),
+)
+
+bound_there : (w : Machine) (b : List ℕ) (told : List Told) (s : State) → HasState w b told s → w.stack ≡ frames_of w.framing s.layers → bound_of w.stack ≡ (place_of w.framing s).bound
+bound_there w b told s has stack = ap bound_of stack ∙ sym (place-bound w.framing s.layers)
+
+-- the bound is reached before the end-of-contents octets
+pub refuses_missing : (w : Machine) (x : ℕ) (rest : List ℕ) → w.phase ≡ phase.Between → (IsWaiting w → ⊥) → IsInIndefinite w.stack → Within (bound_of w.stack) w.offset → room_of w.stack w.offset ≡ Some 0
+    → RefusesOctet w (x ∷ rest) (x ∷ rest) (fault_at MissingEnd w.offset)
+refuses_missing w x rest e idle inside within room = refuses_here w x rest MissingEnd idle (λ b told s has.
+    let t = between_tail s.tail _ (phase_at w b told s _ e has) in
+    let has' : HasState w b told (with_tail s Nothing) = tail_state w b told s _ t has in
+    let place : w.offset ≡ (place_of w.framing (with_tail s Nothing)).at + 0 = place-offset w b told _ has' in
+    let bound : (place_of w.framing (with_tail s Nothing)).bound ≡ Some w.offset = sym (bound_there w b told _ has' has'.stack) ∙ at_bound (bound_of w.stack) w.offset within room in
+    (
+      with_tail s Nothing,
+      has',
+      no_end ((place-indefinite w.framing s.layers).1 (subst IsInIndefinite has'.stack inside)) (bound ∙ ap Some place),
+    ))
+
+-- 00 where no end-of-contents octets can stand, and no padding
+not_padding : (w : Machine) (ls : List Layer) → w.stack ≡ frames_of w.framing ls → (w.framing.padding ≡ true → w.stack ≡ [] → ⊥) → (place_in w.framing ls).padding ≡ false
+not_padding w [] e f = elim (cases_Bool w.framing.padding) [
+  | inl yes' ↦ absurd (f yes' e)
+  | inr no' ↦ no'
+]
+not_padding w (l ∷ ls) e f = refl
+
+not_indefinite : (k : Bool) → (k ≡ true → ⊥) → k ≡ false
+not_indefinite true f = absurd (f refl)
+not_indefinite false f = refl
+
+pub refuses_stray : (w : Machine) (rest : List ℕ) → w.phase ≡ phase.Between → (IsWaiting w → ⊥) → (IsInIndefinite w.stack → ⊥) → (w.framing.padding ≡ true → w.stack ≡ [] → ⊥)
+    → RefusesOctet w (0 ∷ rest) (0 ∷ rest) (fault_at StrayEnd w.offset)
+refuses_stray w rest e idle outside padding = refuses_here w 0 rest StrayEnd idle (λ b told s has.
+    let t = between_tail s.tail _ (phase_at w b told s _ e has) in
+    let has' : HasState w b told (with_tail s Nothing) = tail_state w b told s _ t has in
+    (
+      with_tail s Nothing,
+      has',
+      stray_end (not_indefinite _ (λ i. outside (subst IsInIndefinite (sym has'.stack) ((place-indefinite w.framing s.layers).0 i)))) (not_padding w s.layers has'.stack padding) refl,
+    ))
+
+-- the second of the end-of-contents octets
+pub refuses_second_missing : (w : Machine) (x : ℕ) (rest : List ℕ) → w.phase ≡ phase.Zero → (IsWaiting w → ⊥) → Within (bound_of w.stack) w.offset → room_of w.stack w.offset ≡ Some 0
+    → RefusesOctet w (x ∷ rest) (x ∷ rest) (fault_at MissingEnd w.offset)
+refuses_second_missing w x rest e idle within room = refuses_here w x rest MissingEnd idle (λ b told s has.
+    let t = lone_tail s.tail _ (phase_at w b told s _ e has) in
+    let has' : HasState w b told (with_tail s Lone) = tail_state w b told s _ t has in
+    let place : w.offset ≡ (place_of w.framing (with_tail s Lone)).at + 1 = place-offset w b told _ has' in
+    (with_tail s Lone, has', missing_end (sym (bound_there w b told _ has' has'.stack) ∙ at_bound (bound_of w.stack) w.offset within room ∙ ap Some place)))
+
+pub refuses_second : (w : Machine) (x : ℕ) (rest : List ℕ) → w.phase ≡ phase.Zero → (IsWaiting w → ⊥) → (room_of w.stack w.offset ≡ Some 0 → ⊥) → x ≢ 0
+    → RefusesOctet w (x ∷ rest) (x ∷ rest) (fault_at BadEnd w.offset)
+refuses_second w x rest e idle room nonzero = refuses_here w x rest BadEnd idle (λ b told s has.
+    let t = lone_tail s.tail _ (phase_at w b told s _ e has) in
+    let has' : HasState w b told (with_tail s Lone) = tail_state w b told s _ t has in
+    let place : w.offset ≡ (place_of w.framing (with_tail s Lone)).at + 1 = place-offset w b told _ has' in
+    (
+      with_tail s Lone,
+      has',
+      bad_end (λ at. below_bound (bound_of w.stack) w.offset room (bound_there w b told _ has' has'.stack ∙ at ∙ ap Some (sym place))) nonzero,
+    ))
+
+-- the first contents octet of a wrapping BIT STRING
+pub refuses_unused : (w : Machine) (x : ℕ) (rest : List ℕ) → w.phase ≡ phase.Unused → (IsWaiting w → ⊥) → x ≢ 0 → RefusesOctet w (x ∷ rest) (x ∷ rest) (fault_at BadInside w.offset)
+refuses_unused w x rest e idle nonzero = refuses_here w x rest BadInside idle (λ b told s has.
+    let t = lead_tail s.tail _ (phase_at w b told s _ e has) in
+    (with_tail s (Lead t.0), tail_state w b told s _ t.1 has, bad_inside nonzero))
