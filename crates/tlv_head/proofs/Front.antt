@@ -47,7 +47,7 @@ pub begun_none : (os : List ℕ) → IsBegun os → (h : Heading) (rest : List �
 begun_none os (inl none) h rest v e = header-some h v (front_nil (octets_of h) rest (e ∙ none))
 begun_none os (inr f) h rest v e =
     no-front h f.head (rest ++ f.more) v f.valid (λ z. f.proper (rest_nil rest f.more z))
-        (sym (append_assoc (octets_of h) rest f.more) ∙ (ap (λ s. s ++ f.more) e ∙ f.front))
+    (sym (append_assoc (octets_of h) rest f.more) ∙ (ap (λ s. s ++ f.more) e ∙ f.front))
 
 -- nor of that and an octet with which no header begins
 refused_none : (os : List ℕ) (x : ℕ) → IsBegun os → BeginsNone (os ++ x ∷ []) → (h : Heading) (rest : List ℕ) → IsHeading h → octets_of h ++ rest ≡ os ++ x ∷ [] → ⊥

@@ -38,22 +38,22 @@ too_long-stuck at o x r =
     let nonzero : leading_octet r.class r.constructed 31 ≡ 0 → ⊥ = omega arith in
     let below : 31 < 32 = omega arith in
     let front : scan at o ≡ High r.class r.constructed r.digits =
-        rw r.front.octet (ap (λ (s : Scan). scan_from at s (flagged r.digits)) (step-leading at r.class r.constructed 31 below nonzero)
-        ∙ scan-flagged at r.class r.constructed [] r.digits r.front.each (omega (arith, r.eight))) in
+    rw r.front.octet (ap (λ (s : Scan). scan_from at s (flagged r.digits)) (step-leading at r.class r.constructed 31 below nonzero)
+    ∙ scan-flagged at r.class r.constructed [] r.digits r.front.each (omega (arith, r.eight))) in
     scan-step at o x (High r.class r.constructed r.digits) TagTooLong front
-        (rw (le-ltb x 128 r.flag, le-ltb (length r.digits) 8 (omega (arith, r.eight))))
+    (rw (le-ltb x 128 r.flag, le-ltb (length r.digits) 8 (omega (arith, r.eight))))
 
 -- a first length octet ff
 reserved-stuck : (at : Origin) (o : List ℕ) (x : ℕ) → IsReservedLength o x → scan at (o ++ x ∷ []) ≡ Stuck ReservedLength
 reserved-stuck at o x r =
     scan-step at o x (Named r.front.class r.constructed r.front.number o) ReservedLength
-        (scan-identifier at r.front.class r.constructed r.front.number o r.front.identifier) (rw r.all_ones refl)
+    (scan-identifier at r.front.class r.constructed r.front.number o r.front.identifier) (rw r.all_ones refl)
 
 -- a first length octet 80 of a primitive
 primitive-stuck : (at : Origin) (o : List ℕ) (x : ℕ) → IsIndefinitePrimitive o x → scan at (o ++ x ∷ []) ≡ Stuck IndefinitePrimitive
 primitive-stuck at o x r =
     scan-step at o x (Named r.front.class false r.front.number o) IndefinitePrimitive
-        (scan-identifier at r.front.class false r.front.number o r.front.identifier) (rw r.indefinite refl)
+    (scan-identifier at r.front.class false r.front.number o r.front.identifier) (rw r.indefinite refl)
 
 -- an octet was refused already
 abbrev is_off : Scan → Bool
@@ -109,21 +109,21 @@ too_large-stuck at o x r =
     let m : ℕ = length r.digits + r.left in
     let i : List ℕ = r.identifier in
     let lead : scan at (i ++ (128 + m) ∷ r.digits) ≡ scan_from at (step at (Named r.class r.constructed r.number i) (128 + m)) r.digits =
-        scan_from-append at Fresh i ((128 + m) ∷ r.digits)
-        ∙ ap (λ (s : Scan). scan_from at s ((128 + m) ∷ r.digits)) (scan-identifier at r.class r.constructed r.number i r.front.identified) in
+    scan_from-append at Fresh i ((128 + m) ∷ r.digits)
+    ∙ ap (λ (s : Scan). scan_from at s ((128 + m) ∷ r.digits)) (scan-identifier at r.class r.constructed r.number i r.front.identified) in
     let above : 128 ≤ 128 + m = omega arith in
     let apart : 128 + m ≡ 255 → ⊥ = omega (arith, r.front.few) in
     let other : 128 + m ≡ 128 → ⊥ = omega (arith, r.many) in
     let back : 128 + m - 128 ≡ m = omega arith in
     let one : step at (Named r.class r.constructed r.number i) (128 + m) ≡ Long r.class r.constructed r.number i m [] =
-        rw (le-ltb (128 + m) 128 above, ne_eqb (128 + m) 255 apart, ne_eqb (128 + m) 128 other, back) in
+    rw (le-ltb (128 + m) 128 above, ne_eqb (128 + m) 255 apart, ne_eqb (128 + m) 128 other, back) in
     let here : scan at o ≡ scan_from at (Long r.class r.constructed r.number i m []) r.digits =
-        ap (scan at) r.front.octet ∙ (lead ∙ ap (λ (s : Scan). scan_from at s r.digits) one) in
+    ap (scan at) r.front.octet ∙ (lead ∙ ap (λ (s : Scan). scan_from at s r.digits) one) in
     let many : length r.digits + 5 < m = omega (arith, r.many) in
     ⊎_elim
     (λ (on : scan_from at (Long r.class r.constructed r.number i m []) r.digits ≡ Long r.class r.constructed r.number i m r.digits).
     inl (scan-step at o x (Long r.class r.constructed r.number i m r.digits) LengthTooLarge (here ∙ on)
-        (rw (ne_eqb x 0 r.nonzero, lt-ltb (length r.digits + 5) m many))))
+    (rw (ne_eqb x 0 r.nonzero, lt-ltb (length r.digits + 5) m many))))
     (λ (off : is_off (scan_from at (Long r.class r.constructed r.number i m []) r.digits) ≡ true). inr (ap is_off here ∙ off))
     (long-or-off at r.class r.constructed r.number i m [] r.digits (omega (arith, r.many)))
 

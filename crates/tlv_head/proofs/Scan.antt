@@ -407,7 +407,7 @@ long-front : (c : Class) (k : Bool) (n : ℕ) (i : List ℕ) (m : ℕ) (ds o : L
 long-front c k n i m ds o some s =
     let total : length (ds ++ replicate (m - length ds) 0) ≡ m = omega (arith, length-append ds (replicate (m - length ds) 0), length-replicate {A = ℕ} (m - length ds) 0, s.short) in
     record {
-          head = head_of start c k n i (Definite (value_of 256 (ds ++ replicate (m - length ds) 0))) ((128 + m) ∷ (ds ++ replicate (m - length ds) 0));
+      head = head_of start c k n i (Definite (value_of 256 (ds ++ replicate (m - length ds) 0))) ((128 + m) ∷ (ds ++ replicate (m - length ds) 0));
       more = replicate (m - length ds) 0;
       proper = λ z. omega (arith, ap length z, length-replicate {A = ℕ} (m - length ds) 0, s.short);
       valid = record {

@@ -6,6 +6,8 @@ mod fault;
 mod header;
 mod reader;
 mod tag;
+#[cfg(test)]
+mod tests;
 
 pub use fault::{Fault, FaultCode};
 pub use header::{Class, Header, HeaderFields, Size, spell_indefinite};

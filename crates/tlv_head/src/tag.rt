@@ -1,11 +1,11 @@
 //! The texts of tags.
-use crate::Class;
-use arrayvec::ArrayVec;
-use itoa::Buffer;
-
 ghost use Rattle.std.specs.Prelude.{◌≡◌};
 ghost use Rattle.std.specs.Option.{option_copied};
 ghost use Rattle.tlv_head.specs.Tag.{tag_text_of, universal_name};
+
+use crate::Class;
+use arrayvec::ArrayVec;
+use itoa::Buffer;
 
 /// The name of a universal type (X.680, table 1), in ASCII; none where the number is not assigned.
 fn name_of(number: u64) -> Option<&'static [u8]>

@@ -54,7 +54,8 @@ impl Dump {
         }
         self.line.push(b": ");
         self.line.spaces(2 * usize::from(self.level));
-        self.line.push(tag_text(header.class, header.number).as_slice());
+        self.line
+            .push(tag_text(header.class, header.number).as_slice());
         self.offset = header.offset.saturating_add(header.raw().len() as u64);
     }
 
@@ -75,11 +76,7 @@ impl Dump {
     }
 
     /// An element that holds others ends: `at` is where its end-of-contents octets stand.
-    fn close<D: Drain>(
-        &mut self,
-        at: Option<u64>,
-        out: &mut Out<'_, D>,
-    ) -> Result<(), WriteFault>
+    fn close<D: Drain>(&mut self, at: Option<u64>, out: &mut Out<'_, D>) -> Result<(), WriteFault>
         ensures same_reference { (lender_of out.new).ghost_name ≡ (lender_of out.old).ghost_name }
         ensures failed { D.failures (lender_of out.new).now ≡ failures_after result (D.failures (lender_of out.old).now) }
     {
@@ -99,11 +96,7 @@ impl Dump {
     }
 
     /// A primitive begins.
-    fn begin<D: Drain>(
-        &mut self,
-        header: &Header,
-        out: &mut Out<'_, D>,
-    ) -> Result<(), WriteFault>
+    fn begin<D: Drain>(&mut self, header: &Header, out: &mut Out<'_, D>) -> Result<(), WriteFault>
         ensures same_reference { (lender_of out.new).ghost_name ≡ (lender_of out.old).ghost_name }
         ensures failed { D.failures (lender_of out.new).now ≡ failures_after result (D.failures (lender_of out.old).now) }
     {
@@ -118,11 +111,7 @@ impl Dump {
     }
 
     /// Contents of a primitive go on.
-    fn contents<D: Drain>(
-        &mut self,
-        octets: &[u8],
-        out: &mut Out<'_, D>,
-    ) -> Result<(), WriteFault>
+    fn contents<D: Drain>(&mut self, octets: &[u8], out: &mut Out<'_, D>) -> Result<(), WriteFault>
         ensures same_reference { (lender_of out.new).ghost_name ≡ (lender_of out.old).ghost_name }
         ensures failed { D.failures (lender_of out.new).now ≡ failures_after result (D.failures (lender_of out.old).now) }
     {
@@ -149,11 +138,7 @@ impl Dump {
     }
 
     /// Puts the full rows at the front of the octets, and keeps the rest.
-    fn put_rows<D: Drain>(
-        &mut self,
-        octets: &[u8],
-        out: &mut Out<'_, D>,
-    ) -> Result<(), WriteFault>
+    fn put_rows<D: Drain>(&mut self, octets: &[u8], out: &mut Out<'_, D>) -> Result<(), WriteFault>
         requires { self.old.used ≡ 0 }
         ensures same_reference { (lender_of out.new).ghost_name ≡ (lender_of out.old).ghost_name }
         ensures failed { D.failures (lender_of out.new).now ≡ failures_after result (D.failures (lender_of out.old).now) }

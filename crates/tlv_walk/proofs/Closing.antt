@@ -102,8 +102,7 @@ second_from w b told s (l ∷ ls) has zero room =
     let bound : Within (bound_in l.head.size (p.at + length (octets_of l.head)) p.bound) (w.offset + 1) = subst (λ (fs : List Frame). Within (bound_of fs) (w.offset + 1)) has.stack room in
     let outer : Within p.bound (w.offset + 1) = subst (λ (t : Size). Within (bound_in t (p.at + length (octets_of l.head)) p.bound) (w.offset + 1)) size bound in
     let two : length (end_octets l.head.size) ≡ 2 = ap length ends in
-    let fits : Fits p (extent l.head s.here) = subst (λ (n : ℕ). Within p.bound n) (omega arith) outer in
-    (
+    let fits : Fits p (extent l.head s.here) = subst (λ (n : ℕ). Within p.bound n) (omega arith) outer in (
       _,
       subst (λ (e : Told). HasState (record w { stack = drop 1 w.stack; phase = phase.Between; offset = w.offset + 1; events = w.events + 1 }) (b ++ 0 ∷ []) (told ++ e ∷ []) (record { layers = ls; here = closed_here l s.here; tail = Nothing })) event
           (close_state w _ b told l ls s.here Lone (0 ∷ []) has has.stack refl (sym ends) (length_of l.head Indefinite _ size tt) fits refl (has.element)),
@@ -114,9 +113,9 @@ pub tells_second : (w : Machine) → w.phase ≡ phase.Zero → Within (bound_of
     → Continues w (record w { stack = drop 1 w.stack; phase = phase.Between; offset = w.offset + 1; events = w.events + 1 }) (0 ∷ []) (Close (Some (w.offset - 1)) ∷ [])
 tells_second w e room = record {
   goes = λ b told s has.
-    let t = lone_tail s.tail _ (phase_at w b told s _ e has) in
-    let has' : HasState w b told (with_tail s Lone) = tail_state w b told s _ t has in
-    second_from w b told s s.layers has' (phase_at w b told (with_tail s Lone) _ e has') room;
+      let t = lone_tail s.tail _ (phase_at w b told s _ e has) in
+      let has' : HasState w b told (with_tail s Lone) = tail_state w b told s _ t has in
+      second_from w b told s s.layers has' (phase_at w b told (with_tail s Lone) _ e has') room;
 }
 
 -- an element that is filled told to end
@@ -143,12 +142,11 @@ filled_from w b told s (l ∷ ls) has e f fs is full =
     let event : closes l.head s.here ≡ ending_of f = closes_definite l.head.constructed l.head.size size.0 _ size.1 ∙ ap ending_of (sym same) in
     let entry : Fits p (length (octets_of l.head) + size.0) = subst (λ (t : Size). Fits p (length (octets_of l.head) + announced t)) size.1 has.layers.2.fits in
     let fits : Fits p (extent l.head s.here) = subst (λ (n : ℕ). Fits p n) (omega (arith, long, zero, length-opening l.head)) entry in
-    let still : w.offset ≡ w.offset + 0 = omega arith in
-    (
+    let still : w.offset ≡ w.offset + 0 = omega arith in (
       _,
       subst (λ (t : Told). HasState (record w { stack = drop 1 w.stack; events = w.events + 1 }) (b ++ []) (told ++ t ∷ []) (record { layers = ls; here = closed_here l s.here; tail = Nothing })) event
           (close_state w _ b told l ls s.here Nothing [] has has.stack refl (sym none) (length_of l.head (Definite size.0) _ size.1 long) fits
-              (λ i. record w { stack = drop 1 w.stack; phase = e i; offset = still i; events = w.events + 1 }) has.element),
+          (λ i. record w { stack = drop 1 w.stack; phase = e i; offset = still i; events = w.events + 1 }) has.element),
     )
 
 -- the innermost element, which is filled, ends
@@ -156,6 +154,6 @@ pub tells_filled : (w : Machine) → w.phase ≡ phase.Between → (f : Frame) (
     → Continues w (record w { stack = drop 1 w.stack; events = w.events + 1 }) [] (ending_of f ∷ [])
 tells_filled w e f fs is full = record {
   goes = λ b told s has.
-    let t = between_tail s.tail _ (phase_at w b told s _ e has) in
-    filled_from w b told s s.layers (tail_state w b told s _ t has) e f fs is full;
+      let t = between_tail s.tail _ (phase_at w b told s _ e has) in
+      filled_from w b told s s.layers (tail_state w b told s _ t has) e f fs is full;
 }

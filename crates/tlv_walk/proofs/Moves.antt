@@ -27,12 +27,12 @@ told_more told es new es' h e = joined-from_apart (told ++ new) es' (apart-befor
 pub continues_both : (u v w : Machine) (s t : List ℕ) (d e : List Told) → Continues u v s d → Continues v w t e → Continues u w (s ++ t) (d ++ e)
 continues_both u v w s t d e f g = record {
   goes = λ b told st has.
-    let one = f.goes b told st has in
-    let two = g.goes (b ++ s) (told ++ d) one.0 one.1 in (
-      two.0,
-      subst (λ (x : List ℕ). HasState w x (told ++ (d ++ e)) two.0) (append_assoc b s t)
-          (subst (λ (x : List Told). HasState w ((b ++ s) ++ t) x two.0) (append_assoc told d e) two.1),
-    );
+      let one = f.goes b told st has in
+      let two = g.goes (b ++ s) (told ++ d) one.0 one.1 in (
+        two.0,
+        subst (λ (x : List ℕ). HasState w x (told ++ (d ++ e)) two.0) (append_assoc b s t)
+            (subst (λ (x : List Told). HasState w ((b ++ s) ++ t) x two.0) (append_assoc told d e) two.1),
+      );
 }
 
 -- the events of a state, where the open end goes on
@@ -127,8 +127,8 @@ pub tells_contents : (w : Machine) (left : ℕ) (t : List ℕ) → w.phase ≡ p
     → Continues w (record w { phase = phase.Contents (left - length t); offset = w.offset + length t; events = w.events + 1 }) t (Bytes t ∷ [])
 tells_contents w left t e most = record {
   goes = λ b told s has.
-    let k = contents_tail left s.tail _ (phase_at w b told s _ e has) in
-    (_, contents_state w b told s k.0 k.1 t left (tail_state w b told s _ k.2 has) e most);
+      let k = contents_tail left s.tail _ (phase_at w b told s _ e has) in
+      (_, contents_state w b told s k.0 k.1 t left (tail_state w b told s _ k.2 has) e most);
 }
 
 -- the end of a primitive
@@ -153,8 +153,8 @@ end_state w b told s h c has e =
 pub tells_end : (w : Machine) → w.phase ≡ phase.Contents 0 → Continues w (record w { phase = phase.Between; events = w.events + 1 }) [] (End ∷ [])
 tells_end w e = record {
   goes = λ b told s has.
-    let k = contents_tail 0 s.tail _ (phase_at w b told s _ e has) in
-    (_, end_state w b told s k.0 k.1 (tail_state w b told s _ k.2 has) e);
+      let k = contents_tail 0 s.tail _ (phase_at w b told s _ e has) in
+      (_, end_state w b told s k.0 k.1 (tail_state w b told s _ k.2 has) e);
 }
 
 -- between elements
@@ -199,9 +199,9 @@ pub tells_zero : (w : Machine) → w.phase ≡ phase.Between → IsInIndefinite 
     → Continues w (record w { phase = phase.Zero; offset = w.offset + 1 }) (0 ∷ []) []
 tells_zero w e i f = record {
   goes = λ b told s has.
-    let t = between_tail s.tail _ (phase_at w b told s _ e has) in
-    let has' : HasState w b told (with_tail s Nothing) = tail_state w b told s _ t has in
-    zero_from w b told s s.layers refl has' i f;
+      let t = between_tail s.tail _ (phase_at w b told s _ e has) in
+      let has' : HasState w b told (with_tail s Nothing) = tail_state w b told s _ t has in
+      zero_from w b told s s.layers refl has' i f;
 }
   where
     zero_from : (w : Machine) (b : List ℕ) (told : List Told) (s : State) (ls : List Layer) → s.layers ≡ ls → HasState w b told (with_layers s ls Nothing) → IsInIndefinite w.stack
@@ -210,6 +210,8 @@ tells_zero w e i f = record {
     zero_from w b told s (l ∷ ls) q has i f =
         let inside : IsInIndefinite (frames_of w.framing (l ∷ ls)) = subst IsInIndefinite has.stack i in
         let fits : Within (place_in w.framing (l ∷ ls)).bound (w.offset + 1) = subst (λ (fs : List Frame). Within (bound_of fs) (w.offset + 1)) has.stack f in
-        let at : w.offset ≡ (place_of w.framing (with_layers s (l ∷ ls) Nothing)).at + 0 = place-offset w b told _ has in
-        (_, zero_state w b told s l ls has (indefinite-size l.head.size _ inside)
-            (subst (λ (n : ℕ). Within (place_in w.framing (l ∷ ls)).bound n) (omega (arith, at)) fits))
+        let at : w.offset ≡ (place_of w.framing (with_layers s (l ∷ ls) Nothing)).at + 0 = place-offset w b told _ has in (
+          _,
+          zero_state w b told s l ls has (indefinite-size l.head.size _ inside)
+              (subst (λ (n : ℕ). Within (place_in w.framing (l ∷ ls)).bound n) (omega (arith, at)) fits),
+        )

@@ -66,6 +66,6 @@ pub tells_pad : (w : Machine) (t : List ℕ) → w.phase ≡ phase.Between → w
     → Continues w (record w { offset = w.offset + length t; events = w.events + 1 }) t (Pad t ∷ [])
 tells_pad w t e none padding zeros = record {
   goes = λ b told s has.
-    let tail = between_tail s.tail _ (phase_at w b told s _ e has) in
-    pad_from w b told s t s.layers (tail_state w b told s _ tail has) e none padding zeros;
+      let tail = between_tail s.tail _ (phase_at w b told s _ e has) in
+      pad_from w b told s t s.layers (tail_state w b told s _ tail has) e none padding zeros;
 }

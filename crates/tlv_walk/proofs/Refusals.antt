@@ -45,14 +45,14 @@ refuses_here w x rest code idle faulty = (
   refl,
   refl,
   λ b told s has.
-    let f = faulty b told s has in (
-      w,
-      f.0,
-      subst (λ (o : List ℕ). HasState w o told f.0) (sym (append-nil b)) f.1,
-      idle,
-      λ c. subst (λ (o : List ℕ). IsEnding w.framing (o ++ x ∷ c) (ending.Fault (fault_at code w.offset))) (sym (append-nil b))
-          (subst (λ (n : ℕ). IsEnding w.framing (b ++ x ∷ c) (fault code n)) (sym f.1.offset) (state-fault w b told f.0 x c code f.1 idle f.2)),
-    ),
+      let f = faulty b told s has in (
+        w,
+        f.0,
+        subst (λ (o : List ℕ). HasState w o told f.0) (sym (append-nil b)) f.1,
+        idle,
+        λ c. subst (λ (o : List ℕ). IsEnding w.framing (o ++ x ∷ c) (ending.Fault (fault_at code w.offset))) (sym (append-nil b))
+            (subst (λ (n : ℕ). IsEnding w.framing (b ++ x ∷ c) (fault code n)) (sym f.1.offset) (state-fault w b told f.0 x c code f.1 idle f.2)),
+      ),
 )
 
 bound_there : (w : Machine) (b : List ℕ) (told : List Told) (s : State) → HasState w b told s → w.stack ≡ frames_of w.framing s.layers → bound_of w.stack ≡ (place_of w.framing s).bound
@@ -65,8 +65,7 @@ refuses_missing w x rest e idle inside within room = refuses_here w x rest Missi
     let t = between_tail s.tail _ (phase_at w b told s _ e has) in
     let has' : HasState w b told (with_tail s Nothing) = tail_state w b told s _ t has in
     let place : w.offset ≡ (place_of w.framing (with_tail s Nothing)).at + 0 = place-offset w b told _ has' in
-    let bound : (place_of w.framing (with_tail s Nothing)).bound ≡ Some w.offset = sym (bound_there w b told _ has' has'.stack) ∙ at_bound (bound_of w.stack) w.offset within room in
-    (
+    let bound : (place_of w.framing (with_tail s Nothing)).bound ≡ Some w.offset = sym (bound_there w b told _ has' has'.stack) ∙ at_bound (bound_of w.stack) w.offset within room in (
       with_tail s Nothing,
       has',
       no_end ((place-indefinite w.framing s.layers).1 (subst IsInIndefinite has'.stack inside)) (bound ∙ ap Some place),
@@ -88,8 +87,7 @@ pub refuses_stray : (w : Machine) (rest : List ℕ) → w.phase ≡ phase.Betwee
     → RefusesOctet w (0 ∷ rest) (0 ∷ rest) (fault_at StrayEnd w.offset)
 refuses_stray w rest e idle outside padding = refuses_here w 0 rest StrayEnd idle (λ b told s has.
     let t = between_tail s.tail _ (phase_at w b told s _ e has) in
-    let has' : HasState w b told (with_tail s Nothing) = tail_state w b told s _ t has in
-    (
+    let has' : HasState w b told (with_tail s Nothing) = tail_state w b told s _ t has in (
       with_tail s Nothing,
       has',
       stray_end (not_indefinite _ (λ i. outside (subst IsInIndefinite (sym has'.stack) ((place-indefinite w.framing s.layers).0 i)))) (not_padding w s.layers has'.stack padding) refl,
@@ -109,8 +107,7 @@ pub refuses_second : (w : Machine) (x : ℕ) (rest : List ℕ) → w.phase ≡ p
 refuses_second w x rest e idle room nonzero = refuses_here w x rest BadEnd idle (λ b told s has.
     let t = lone_tail s.tail _ (phase_at w b told s _ e has) in
     let has' : HasState w b told (with_tail s Lone) = tail_state w b told s _ t has in
-    let place : w.offset ≡ (place_of w.framing (with_tail s Lone)).at + 1 = place-offset w b told _ has' in
-    (
+    let place : w.offset ≡ (place_of w.framing (with_tail s Lone)).at + 1 = place-offset w b told _ has' in (
       with_tail s Lone,
       has',
       bad_end (λ at. below_bound (bound_of w.stack) w.offset room (bound_there w b told _ has' has'.stack ∙ at ∙ ap Some (sym place))) nonzero,

@@ -39,8 +39,8 @@ told_of (event.Pad octets) = Pad octets.now
 abbrev pub RefusesOctet : Machine → List ℕ → List ℕ → Fault → Type 0
 RefusesOctet old before after f = (taken : List ℕ) × (x : ℕ) × (rest : List ℕ) × (before ≡ taken ++ x ∷ rest) × (after ≡ x ∷ rest)
     × ((b : List ℕ) (told : List Told) (s : State) → HasState old b told s
-      → (m : Machine) × (t : State) × HasState m (b ++ taken) told t × (IsWaiting m → ⊥)
-      × ((c : List ℕ) → IsEnding old.framing ((b ++ taken) ++ x ∷ c) (ending.Fault f)))
+    → (m : Machine) × (t : State) × HasState m (b ++ taken) told t × (IsWaiting m → ⊥)
+    × ((c : List ℕ) → IsEnding old.framing ((b ++ taken) ++ x ∷ c) (ending.Fault f)))
 
 -- an octet is refused, or was refused before
 abbrev pub TellsFault : Machine → Machine → List ℕ → List ℕ → Fault → Type 0

@@ -5,7 +5,9 @@ ghost use Rattle.tlv_walk.specs.Machine.{IsReady, unused_in};
 ghost use Rattle.tlv_walk.specs.Out.{lender_of};
 
 use crate::event::Move;
-use crate::{DeviceFault, Drain, Ending, Event, Follow, Go, Out, Run, Source, Step, Turn, Walker, WriteFault};
+use crate::{
+    DeviceFault, Drain, Ending, Event, Follow, Go, Out, Run, Source, Step, Turn, Walker, WriteFault,
+};
 use tlv_head::{Fault, Header};
 
 /// Why a piece is not followed any further.

@@ -2,8 +2,8 @@
 //! others.
 ghost use Rattle.std.specs.Prelude.{◌≡◌, ℕ, ◌+◌, ◌^◌, ◌<◌, ◌≤◌, ◌↔◌, IsTrue, length};
 
-use crate::stack::{Frame, Stack, room_to};
 use crate::event::{Kind, Move};
+use crate::stack::{Frame, Stack, room_to};
 use crate::{Ending, Event, Framing, Step};
 use std::marker::Model;
 use std::mem::replace;
@@ -282,7 +282,10 @@ impl Walker {
         ensures { Moves self.old self.new piece.old.now piece.new.now result }
     {
         let octets: &'a [u8] = *piece;
-        let count = octets.iter().position(|octet| *octet != 0).unwrap_or(octets.len());
+        let count = octets
+            .iter()
+            .position(|octet| *octet != 0)
+            .unwrap_or(octets.len());
         let (front, rest) = octets.split_at(count);
         *piece = rest;
         self.offset += count as u64;

@@ -3,7 +3,8 @@
 
 mod report;
 mod running;
-
+#[cfg(test)]
+mod tests;
 
 use crate::report::Report;
 use crate::running::run;

@@ -1,12 +1,12 @@
 //! The exit status and the message of a run.
+ghost use Rattle.std.specs.Prelude.{◌≡◌, ◌+◌, ◌++◌, ◌≤◌, decimal, length};
+ghost use Rattle.tlvdump.specs.Report.{device_text_of, fault_line, message_of, status_of};
+
 use arrayvec::ArrayVec;
 use itoa::Buffer;
 use tlv_head::Fault;
 use tlv_show::Outcome;
 use tlv_walk::{DeviceFault, Ending};
-
-ghost use Rattle.std.specs.Prelude.{◌≡◌, ◌+◌, ◌++◌, ◌≤◌, decimal, length};
-ghost use Rattle.tlvdump.specs.Report.{device_text_of, fault_line, message_of, status_of};
 
 /// What a run came to.
 #[derive(Debug, Drop)]
@@ -28,11 +28,21 @@ pub fn report_of(outcome: Result<Outcome, DeviceFault>) -> Report
             status: 3,
             message: text(device_text(fault)),
         },
-        Ok(Outcome { ending: Ending::Fault(fault), .. }) => Report {
+        Ok(
+            Outcome {
+                ending: Ending::Fault(fault),
+                ..
+            },
+        ) => Report {
             status: 2,
             message: fault_message(fault),
         },
-        Ok(Outcome { unused: Some(offset), .. }) => Report {
+        Ok(
+            Outcome {
+                unused: Some(offset),
+                ..
+            },
+        ) => Report {
             status: 1,
             message: numbered(b"E7 no string to read at offset ", offset),
         },

@@ -13,7 +13,7 @@ returns-in-Finished c =
     let i = c.loop-i.i in
     let octets = take (i + 1) xs in
     let made : MakesHeader c.in-Finished.identifier c.in-Finished.size octets =
-        subst (MakesHeader c.in-Finished.identifier c.in-Finished.size) (sym (take_more xs i 0 (omega arith))) (c.in-Finished.ensures (take i xs) c.loop-i.invariant.carries) in
+    subst (MakesHeader c.in-Finished.identifier c.in-Finished.size) (sym (take_more xs i 0 (omega arith))) (c.in-Finished.ensures (take i xs) c.loop-i.invariant.carries) in
     rw c.fields_of.ensures (record {
       within = omega arith;
       suits = made_suits octets _ c.in-Finished.identifier c.in-Finished.size made refl;
@@ -24,11 +24,11 @@ returns-in-Finished c =
 pub returns-in-Refused : goal.returns-in-Refused
 returns-in-Refused c =
     refused_input c.args.octets.now (take c.loop-i.i c.args.octets.now) _ (drop (c.loop-i.i + 1) c.args.octets.now)
-        (begun_part _ _ c.loop-i.invariant.carries c.loop-i.invariant.unfinished)
-        (refused-none _ _ _ (c.in-Refused.ensures (take c.loop-i.i c.args.octets.now) c.loop-i.invariant.carries))
-        (around c.args.octets.now c.loop-i.i (omega arith))
+    (begun_part _ _ c.loop-i.invariant.carries c.loop-i.invariant.unfinished)
+    (refused-none _ _ _ (c.in-Refused.ensures (take c.loop-i.i c.args.octets.now) c.loop-i.invariant.carries))
+    (around c.args.octets.now c.loop-i.i (omega arith))
 
 pub returns : goal.returns
 returns c = λ h rest v e.
     begun_none _ (begun_part _ _ c.loop-i.invariant.carries c.loop-i.invariant.unfinished) h rest v
-        (sym e ∙ sym (take_all c.loop-i.i c.args.octets.now (omega arith)))
+    (sym e ∙ sym (take_all c.loop-i.i c.args.octets.now (omega arith)))
