@@ -229,7 +229,7 @@ fn strings_wrap(rt: HostRuntime) {
         (b"\x0c\x05", false),
         (b"\x30\x05", false),
     ] {
-        let Some(named) = read_header(OFFSET, true, octets) else {
+        let Some((named, _)) = read_header(OFFSET, true, octets) else {
             panic!(rt; "{:?} begins with no header", octets);
         };
         assert_eq!(rt; named.wraps(), wraps, "{:?}", octets);
