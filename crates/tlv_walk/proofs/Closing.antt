@@ -10,7 +10,7 @@ use Rattle.tlv_walk.specs.Events.{AreEqualJoined, Told, Close, Leave, apart, clo
 use Rattle.tlv_walk.specs.Forest.{Forest, Stop, Closed, contents_length, end_octets, extent, is_whole, lead, opening, spell}
 use Rattle.tlv_walk.specs.Machine.{Machine}
 use Rattle.tlv_walk.specs.Place.{Fits, HasLength, IsEntry, IsZero, Place, after, bound_in, is_indefinite}
-use Rattle.tlv_walk.specs.Stack.{Within, bound_of}
+use Rattle.tlv_walk.specs.Stack.{IsFilled, Within, bound_of, innermost_of}
 use Rattle.tlv_walk.specs.Tells.{Continues}
 use Rattle.tlv_walk.specs.State.{AreWhole, HasState, Layer, Tail, Nothing, Lone, State, ending_of, events_layers, events_tail, frame_of, frames_of, place_in, place_of, spell_layers, spell_tail}
 use Rattle.tlv_walk.proofs.Moves.{began, between_tail, closed_here, lone_tail, phase_at, tail_state, told_more, with_layers, with_tail}
@@ -157,3 +157,21 @@ tells_filled w e f fs is full = record {
       let t = between_tail s.tail _ (phase_at w b told s _ e has) in
       filled_from w b told s s.layers (tail_state w b told s _ t has) e f fs is full;
 }
+
+innermost_cons : (fs : List Frame) (f : Frame) → innermost_of fs ≡ Some f → fs ≡ f ∷ drop 1 fs
+innermost_cons [] f e = absurd (cc)
+innermost_cons (g ∷ fs) f e = ap (λ (k : Frame). k ∷ fs) (cc)
+
+filled_end : (stack : List Frame) (f : Frame) (fs : List Frame) (at : ℕ) → stack ≡ f ∷ fs → IsFilled stack at → f.end ≡ Some at
+filled_end stack f fs at e full = subst (λ (s : List Frame). IsFilled s at) e full
+
+-- the same, by the frame that was popped
+pub tells_popped : (w : Machine) (f : Frame) (t : Told) → w.phase ≡ phase.Between → IsFilled w.stack w.offset → innermost_of w.stack ≡ Some f → ending_of f ≡ t
+    → Continues w (record w { stack = drop 1 w.stack; events = w.events + 1 }) [] (t ∷ [])
+tells_popped w f t e full is same =
+    let stack : w.stack ≡ f ∷ drop 1 w.stack = innermost_cons w.stack f is in
+    subst (λ (x : Told). Continues w (record w { stack = drop 1 w.stack; events = w.events + 1 }) [] (x ∷ [])) same
+        (tells_filled w e f (drop 1 w.stack) stack (filled_end w.stack f (drop 1 w.stack) w.offset stack full))
+
+pub ending_by : (f : Frame) (k : Bool) → f.wrapper ≡ k → ending_of f ≡ (if k then Leave else Close None)
+ending_by f k e = ap (λ (w : Bool). if w then Leave else Close None) e

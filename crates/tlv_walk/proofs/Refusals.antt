@@ -1,5 +1,5 @@
 -- What a walker refuses is a fault, whatever follows.
-use Rattle.std.proofs.Common.{◌≡◌, ◌≢◌, ◌⊎◌, inl, inr, ℕ, ◌+◌, ◌-◌, ◌<◌, ◌≤◌, Bool, true, false, List, [], ◌∷◌, ◌++◌, length, Option, Some, None, IfSome, refl, sym, ap, ◌∙◌, subst, arith, append-nil, length-append}
+use Rattle.std.proofs.Common.{◌≡◌, ◌≢◌, ◌⊎◌, inl, inr, ℕ, ◌+◌, ◌-◌, ◌<◌, ◌≤◌, get_or, drop, Bool, true, false, List, [], ◌∷◌, ◌++◌, length, Option, Some, None, IfSome, refl, sym, ap, ◌∙◌, subst, arith, append-nil, length-append}
 use Rattle.std.proofs.lemmas.Bool.{true≢false, cases_Bool}
 use Rattle.tlv_head.specs.declared.header.Size.{Size}
 use Rattle.tlv_head.specs.declared.header.Size.TheVariants.{Definite, Indefinite}
@@ -11,13 +11,15 @@ use Rattle.tlv_head.specs.Push.{EndsPast, IsRefused, IsTooDeep}
 use Rattle.tlv_head.specs.Refusal.{IsFront, IsRefusedOctet}
 use Rattle.tlv_head.proofs.Front.{header-two}
 use Rattle.tlv_walk.specs.declared.ending.Ending.TheVariants as ending
+use Rattle.tlv_head.specs.declared.fault.Fault.{Fault}
+use Rattle.tlv_walk.specs.declared.walker.Phase.{Phase}
 use Rattle.tlv_walk.specs.declared.walker.Phase.TheVariants as phase
 use Rattle.tlv_walk.specs.Ending.{AtBound, BelowBound, Between, InContents, BeforeUnused, InHeader, InEnd, IsEnding, IsFault, IsPastBound, OpenEnd, bad_end, bad_inside, fault, indefinite_primitive, length_too_large, missing_end, no_end, no_room, overrun, reserved_length, stray_end, tag_too_long, too_deep}
 use Rattle.tlv_walk.specs.Events.{Told}
 use Rattle.tlv_walk.specs.Inside.{is_among}
-use Rattle.tlv_walk.specs.Machine.{IsWaiting, Machine, fault_at}
+use Rattle.tlv_walk.specs.Machine.{IsWaiting, IsWaitingIn, Machine, fault_at}
 use Rattle.tlv_walk.specs.Place.{Place}
-use Rattle.tlv_walk.specs.Stack.{IsInIndefinite, Within, bound_of, left_to, room_of}
+use Rattle.tlv_walk.specs.Stack.{IsFilled, IsInIndefinite, Within, bound_of, left_to, room_of}
 use Rattle.tlv_walk.specs.State.{HasState, Layer, Tail, Nothing, Lead, Front, Lone, State, frames_of, place_in, place_of}
 use Rattle.tlv_walk.specs.Tells.{RefusesOctet}
 use Rattle.tlv_walk.proofs.Entering.{AtHeader, front_state, lead_tail}
@@ -33,6 +35,18 @@ at_bound (Some m) n w e = let z : m - n ≡ 0 = cc in ap Some (omega arith)
 
 below_bound : (b : Option ℕ) (n : ℕ) → (left_to b n ≡ Some 0 → ⊥) → b ≡ Some n → ⊥
 below_bound b n f e = f (ap (λ (x : Option ℕ). left_to x n) e ∙ ap Some (omega arith))
+
+-- no event waits in that phase
+pub idle_at : (w : Machine) (f : Phase) → w.phase ≡ f → (IsWaitingIn f w.stack w.offset → ⊥) → IsWaiting w → ⊥
+idle_at w f e n k = n (subst (λ (g : Phase). IsWaitingIn g w.stack w.offset) e k)
+
+-- the octet at the front of a piece
+pub front_octet : (piece : List ℕ) → 1 ≤ length piece → piece ≡ get_or piece 0 0 ∷ drop 1 piece
+front_octet [] h = absurd (omega arith)
+front_octet (x ∷ xs) h = refl
+
+pub refuses_front : (w : Machine) (piece : List ℕ) (f : Fault) → 1 ≤ length piece → RefusesOctet w (get_or piece 0 0 ∷ drop 1 piece) (get_or piece 0 0 ∷ drop 1 piece) f → RefusesOctet w piece piece f
+refuses_front w piece f h r = subst (λ (o : List ℕ). RefusesOctet w o o f) (sym (front_octet piece h)) r
 
 -- an octet that has a fault in each state of a walker is refused
 pub refuses_here : (w : Machine) (x : ℕ) (rest : List ℕ) (code : FaultCode) → (IsWaiting w → ⊥)
@@ -59,9 +73,9 @@ bound_there : (w : Machine) (b : List ℕ) (told : List Told) (s : State) → Ha
 bound_there w b told s has stack = ap bound_of stack ∙ sym (place-bound w.framing s.layers)
 
 -- the bound is reached before the end-of-contents octets
-pub refuses_missing : (w : Machine) (x : ℕ) (rest : List ℕ) → w.phase ≡ phase.Between → (IsWaiting w → ⊥) → IsInIndefinite w.stack → Within (bound_of w.stack) w.offset → room_of w.stack w.offset ≡ Some 0
+pub refuses_missing : (w : Machine) (x : ℕ) (rest : List ℕ) → w.phase ≡ phase.Between → (IsFilled w.stack w.offset → ⊥) → IsInIndefinite w.stack → Within (bound_of w.stack) w.offset → room_of w.stack w.offset ≡ Some 0
     → RefusesOctet w (x ∷ rest) (x ∷ rest) (fault_at MissingEnd w.offset)
-refuses_missing w x rest e idle inside within room = refuses_here w x rest MissingEnd idle (λ b told s has.
+refuses_missing w x rest e unfilled inside within room = refuses_here w x rest MissingEnd (idle_at w phase.Between e unfilled) (λ b told s has.
     let t = between_tail s.tail _ (phase_at w b told s _ e has) in
     let has' : HasState w b told (with_tail s Nothing) = tail_state w b told s _ t has in
     let place : w.offset ≡ (place_of w.framing (with_tail s Nothing)).at + 0 = place-offset w b told _ has' in
@@ -83,9 +97,9 @@ not_indefinite : (k : Bool) → (k ≡ true → ⊥) → k ≡ false
 not_indefinite true f = absurd (f refl)
 not_indefinite false f = refl
 
-pub refuses_stray : (w : Machine) (rest : List ℕ) → w.phase ≡ phase.Between → (IsWaiting w → ⊥) → (IsInIndefinite w.stack → ⊥) → (w.framing.padding ≡ true → w.stack ≡ [] → ⊥)
+pub refuses_stray : (w : Machine) (rest : List ℕ) → w.phase ≡ phase.Between → (IsFilled w.stack w.offset → ⊥) → (IsInIndefinite w.stack → ⊥) → (w.framing.padding ≡ true → w.stack ≡ [] → ⊥)
     → RefusesOctet w (0 ∷ rest) (0 ∷ rest) (fault_at StrayEnd w.offset)
-refuses_stray w rest e idle outside padding = refuses_here w 0 rest StrayEnd idle (λ b told s has.
+refuses_stray w rest e unfilled outside padding = refuses_here w 0 rest StrayEnd (idle_at w phase.Between e unfilled) (λ b told s has.
     let t = between_tail s.tail _ (phase_at w b told s _ e has) in
     let has' : HasState w b told (with_tail s Nothing) = tail_state w b told s _ t has in (
       with_tail s Nothing,
@@ -94,17 +108,17 @@ refuses_stray w rest e idle outside padding = refuses_here w 0 rest StrayEnd idl
     ))
 
 -- the second of the end-of-contents octets
-pub refuses_second_missing : (w : Machine) (x : ℕ) (rest : List ℕ) → w.phase ≡ phase.Zero → (IsWaiting w → ⊥) → Within (bound_of w.stack) w.offset → room_of w.stack w.offset ≡ Some 0
+pub refuses_second_missing : (w : Machine) (x : ℕ) (rest : List ℕ) → w.phase ≡ phase.Zero → Within (bound_of w.stack) w.offset → room_of w.stack w.offset ≡ Some 0
     → RefusesOctet w (x ∷ rest) (x ∷ rest) (fault_at MissingEnd w.offset)
-refuses_second_missing w x rest e idle within room = refuses_here w x rest MissingEnd idle (λ b told s has.
+refuses_second_missing w x rest e within room = refuses_here w x rest MissingEnd (idle_at w phase.Zero e (λ k. k)) (λ b told s has.
     let t = lone_tail s.tail _ (phase_at w b told s _ e has) in
     let has' : HasState w b told (with_tail s Lone) = tail_state w b told s _ t has in
     let place : w.offset ≡ (place_of w.framing (with_tail s Lone)).at + 1 = place-offset w b told _ has' in
     (with_tail s Lone, has', missing_end (sym (bound_there w b told _ has' has'.stack) ∙ at_bound (bound_of w.stack) w.offset within room ∙ ap Some place)))
 
-pub refuses_second : (w : Machine) (x : ℕ) (rest : List ℕ) → w.phase ≡ phase.Zero → (IsWaiting w → ⊥) → (room_of w.stack w.offset ≡ Some 0 → ⊥) → x ≢ 0
+pub refuses_second : (w : Machine) (x : ℕ) (rest : List ℕ) → w.phase ≡ phase.Zero → (room_of w.stack w.offset ≡ Some 0 → ⊥) → x ≢ 0
     → RefusesOctet w (x ∷ rest) (x ∷ rest) (fault_at BadEnd w.offset)
-refuses_second w x rest e idle room nonzero = refuses_here w x rest BadEnd idle (λ b told s has.
+refuses_second w x rest e room nonzero = refuses_here w x rest BadEnd (idle_at w phase.Zero e (λ k. k)) (λ b told s has.
     let t = lone_tail s.tail _ (phase_at w b told s _ e has) in
     let has' : HasState w b told (with_tail s Lone) = tail_state w b told s _ t has in
     let place : w.offset ≡ (place_of w.framing (with_tail s Lone)).at + 1 = place-offset w b told _ has' in (
@@ -114,7 +128,7 @@ refuses_second w x rest e idle room nonzero = refuses_here w x rest BadEnd idle 
     ))
 
 -- the first contents octet of a wrapping BIT STRING
-pub refuses_unused : (w : Machine) (x : ℕ) (rest : List ℕ) → w.phase ≡ phase.Unused → (IsWaiting w → ⊥) → x ≢ 0 → RefusesOctet w (x ∷ rest) (x ∷ rest) (fault_at BadInside w.offset)
-refuses_unused w x rest e idle nonzero = refuses_here w x rest BadInside idle (λ b told s has.
+pub refuses_unused : (w : Machine) (x : ℕ) (rest : List ℕ) → w.phase ≡ phase.Unused → x ≢ 0 → RefusesOctet w (x ∷ rest) (x ∷ rest) (fault_at BadInside w.offset)
+refuses_unused w x rest e nonzero = refuses_here w x rest BadInside (idle_at w phase.Unused e (λ k. k)) (λ b told s has.
     let t = lead_tail s.tail _ (phase_at w b told s _ e has) in
     (with_tail s (Lead t.0), tail_state w b told s _ t.1 has, bad_inside nonzero))
