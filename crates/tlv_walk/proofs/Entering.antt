@@ -186,7 +186,7 @@ lead_tail (Lead h) p x = (h, refl)
 lead_tail (Front o) p x = absurd x
 lead_tail Lone p x = absurd x
 
-abbrev lead_by : Bool → Bool → List ℕ
+abbrev pub lead_by : Bool → Bool → List ℕ
 lead_by constructed bits = if constructed then [] else (if bits then 0 ∷ [] else [])
 
 lead_primitive : (k n : Bool) → lead_by k n ≡ 0 ∷ [] → k ≡ false

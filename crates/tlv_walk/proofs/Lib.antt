@@ -22,6 +22,8 @@ pub mod Places
 pub mod Moves
 pub mod Closing
 pub mod Entering
+pub mod HeaderKinds
 pub mod Padding
 pub mod Refusals
+pub mod Behind
 pub mod Known

@@ -107,6 +107,12 @@ refuses_stray w rest e unfilled outside padding = refuses_here w 0 rest StrayEnd
       stray_end (not_indefinite _ (λ i. outside (subst IsInIndefinite (sym has'.stack) ((place-indefinite w.framing s.layers).0 i)))) (not_padding w s.layers has'.stack padding) refl,
     ))
 
+pub refuses_stray_front : (w : Machine) (piece : List ℕ) → 1 ≤ length piece → get_or piece 0 0 ≡ 0 → w.phase ≡ phase.Between → (IsFilled w.stack w.offset → ⊥) → (IsInIndefinite w.stack → ⊥)
+    → (w.framing.padding ≡ true → w.stack ≡ [] → ⊥) → RefusesOctet w piece piece (fault_at StrayEnd w.offset)
+refuses_stray_front w piece some zero e unfilled outside padding =
+    refuses_front w piece _ some (subst (λ (x : ℕ). RefusesOctet w (x ∷ drop 1 piece) (x ∷ drop 1 piece) (fault_at StrayEnd w.offset)) (sym zero)
+        (refuses_stray w (drop 1 piece) e unfilled outside padding))
+
 -- the second of the end-of-contents octets
 pub refuses_second_missing : (w : Machine) (x : ℕ) (rest : List ℕ) → w.phase ≡ phase.Zero → Within (bound_of w.stack) w.offset → room_of w.stack w.offset ≡ Some 0
     → RefusesOctet w (x ∷ rest) (x ∷ rest) (fault_at MissingEnd w.offset)

@@ -1,0 +1,132 @@
+-- What a header begins, on a walker's state.
+use Rattle.std.proofs.Common.{◌≡◌, ℕ, ◌+◌, ◌<◌, Bool, true, false, ◌||◌, eqb, if◌then◌else◌, List, [], ◌∷◌, ◌++◌, length, take, drop, Option, refl, sym, ap, ◌∙◌, subst, arith}
+use Rattle.std.proofs.lemmas.Bool.{cases_Bool}
+use Rattle.std.proofs.lemmas.List.{take-append-drop}
+use Rattle.tlv_head.specs.declared.header.HeaderFields.{HeaderFields}
+use Rattle.tlv_head.specs.declared.header.Size.{Size}
+use Rattle.tlv_head.specs.declared.header.Size.TheVariants.{Definite}
+use Rattle.tlv_head.specs.Fields.{heading_with}
+use Rattle.tlv_head.specs.Header.{Heading, announced, holds, is_wrapper, octets_of}
+use Rattle.tlv_head.specs.Progress.{Progress}
+use Rattle.tlv_walk.specs.declared.event.Kind.{Kind}
+use Rattle.tlv_walk.specs.declared.event.Kind.TheVariants as kind
+use Rattle.tlv_walk.specs.declared.stack.Frame.{Frame}
+use Rattle.tlv_walk.specs.declared.walker.Phase.{Phase}
+use Rattle.tlv_walk.specs.declared.walker.Phase.TheVariants as phase
+use Rattle.tlv_walk.specs.Events.{Told, Open, Begin, Enter}
+use Rattle.tlv_walk.specs.Forest.{Stop, lead}
+use Rattle.tlv_walk.specs.Machine.{Enters, Machine, behind_header, frame_with, next_wrapper}
+use Rattle.tlv_walk.specs.Inside.{is_among}
+use Rattle.tlv_walk.specs.Stack.{Within, bound_of}
+use Rattle.tlv_walk.specs.Tells.{Continues}
+use Rattle.tlv_head.specs.Read.{BeginsWithFields}
+use Rattle.tlv_head.specs.Refusal.{BeginsWith}
+use Rattle.tlv_walk.specs.State.{HasState, Contents, Nothing, State, frame_of, place_in, place_of}
+use Rattle.tlv_walk.proofs.Entering.{AtHeader, Completed, at_new, holding_state, lead_by, lead_state, primitive_state}
+use Rattle.tlv_walk.proofs.Moves.{with_tail}
+use Rattle.tlv_walk.proofs.Places.{place-bound}
+use Rattle.tlv_walk.proofs.Push.{size-definite}
+
+-- the event that a header is told with
+abbrev pub event_of : Kind → Heading → Told
+event_of kind.Constructed h = Open h
+event_of kind.Wrapper h = Enter h
+event_of kind.Primitive h = Begin h
+
+-- the frame that the walker pushes is that of the place
+frame_there : (w : Machine) (b : List ℕ) (told : List Told) (s : State) (r : Progress) (t : List ℕ) (h : Heading) → AtHeader w b told s r → Completed w r t h
+    → frame_of (place_of w.framing s) h ≡ frame_with (h.offset + length (octets_of h)) (bound_of w.stack) h.size h.constructed
+frame_there w b told s r t h at c =
+    ap (λ (n : ℕ). frame_with (n + length (octets_of h)) (place_of w.framing s).bound h.size h.constructed) (sym (c.offset ∙ at.offset))
+    ∙ ap (λ (x : Option ℕ). frame_with (h.offset + length (octets_of h)) x h.size h.constructed) (place-bound w.framing s.layers ∙ ap bound_of (sym at.stack))
+
+-- an element that holds others, with the frame that the walker pushes
+abbrev entered_machine : Machine → Heading → Phase → ℕ → Machine
+entered_machine w h f k =
+    record (behind_header w f (h.offset + length (octets_of h))) { stack = frame_with (h.offset + length (octets_of h)) (bound_of w.stack) h.size h.constructed ∷ w.stack; wrappers = k }
+
+-- the state is that of a walker which pushed the frame
+pushed : (w : Machine) (b : List ℕ) (told : List Told) (s : State) (r : Progress) (t : List ℕ) (h : Heading) (f : Phase) (k : ℕ) (e : Told) (u : State) → AtHeader w b told s r → Completed w r t h
+    → HasState (record (behind_header w f (h.offset + length (octets_of h))) { stack = frame_of (place_of w.framing s) h ∷ w.stack; wrappers = k }) (b ++ t) (told ++ e ∷ []) u
+    → HasState (entered_machine w h f k) (b ++ t) (told ++ e ∷ []) u
+pushed w b told s r t h f k e u at c has =
+    subst (λ (x : Frame). HasState (record (behind_header w f (h.offset + length (octets_of h))) { stack = x ∷ w.stack; wrappers = k }) (b ++ t) (told ++ e ∷ []) u) (frame_there w b told s r t h at c) has
+
+lead_at : (h : Heading) (k n : Bool) → h.constructed ≡ k → eqb h.number 3 ≡ n → lead h ≡ lead_by k n
+lead_at h k n e f = ap (λ (c : Bool). lead_by c (eqb h.number 3)) e ∙ ap (lead_by k) f
+
+or-left : (a b : Bool) → a ≡ true → (a || b) ≡ true
+or-left a b e = ap (λ (x : Bool). x || b) e
+
+or-right : (a b : Bool) → a ≡ false → b ≡ true → (a || b) ≡ true
+or-right a b e f = ap (λ (x : Bool). x || b) e ∙ f
+
+-- the state inside an element that has just begun
+abbrev inside_state : State → Heading → State
+inside_state s h = record { layers = record { before = s.here; head = h } ∷ s.layers; here = Stop; tail = Nothing }
+
+constructed_enters : (w : Machine) (b : List ℕ) (told : List Told) (s : State) (r : Progress) (t : List ℕ) (h : Heading) → AtHeader w b told s r → Completed w r t h → h.constructed ≡ true
+    → (u : State) × HasState (entered_machine w h phase.Between w.wrappers) (b ++ t) (told ++ Open h ∷ []) u
+constructed_enters w b told s r t h at c k =
+    let none : lead h ≡ [] = lead_at h true (eqb h.number 3) k refl in
+    let has = holding_state w b told s r t h w.wrappers at c (or-left h.constructed _ k) none in
+    (_, pushed w b told s r t h phase.Between w.wrappers (Open h) _ at c
+        (subst (λ (e : Told). HasState (record (behind_header w phase.Between (h.offset + length (octets_of h))) { stack = frame_of (place_of w.framing s) h ∷ w.stack; wrappers = w.wrappers }) (b ++ t) (told ++ e ∷ []) (inside_state s h))
+            (ap (λ (x : Bool). if x then Open h else Enter h) k) has))
+
+wrapper_enters : (w : Machine) (b : List ℕ) (told : List Told) (s : State) (r : Progress) (t : List ℕ) (h : Heading) (n : ℕ) → AtHeader w b told s r → Completed w r t h → h.constructed ≡ false → holds h ≡ true
+    → (bits : Bool) → eqb h.number 3 ≡ bits → (u : State) × HasState (entered_machine w h (if bits then phase.Unused else phase.Between) n) (b ++ t) (told ++ Enter h ∷ []) u
+wrapper_enters w b told s r t h n at c k hold true bits =
+    let one : lead h ≡ 0 ∷ [] = lead_at h false true k bits in
+    (_, pushed w b told s r t h phase.Unused n (Enter h) _ at c (lead_state w b told s r t h n at c hold one))
+wrapper_enters w b told s r t h n at c k hold false bits =
+    let none : lead h ≡ [] = lead_at h false false k bits in
+    let has = holding_state w b told s r t h n at c hold none in
+    (_, pushed w b told s r t h phase.Between n (Enter h) _ at c
+        (subst (λ (e : Told). HasState (record (behind_header w phase.Between (h.offset + length (octets_of h))) { stack = frame_of (place_of w.framing s) h ∷ w.stack; wrappers = n }) (b ++ t) (told ++ e ∷ []) (inside_state s h))
+            (ap (λ (x : Bool). if x then Open h else Enter h) k) has))
+
+primitive_enters : (w : Machine) (b : List ℕ) (told : List Told) (s : State) (r : Progress) (t : List ℕ) (h : Heading) → AtHeader w b told s r → Completed w r t h → holds h ≡ false
+    → (u : State) × HasState (behind_header w (phase.Contents (announced h.size)) (h.offset + length (octets_of h))) (b ++ t) (told ++ Begin h ∷ []) u
+primitive_enters w b told s r t h at c no_hold =
+    let size : (n : ℕ) × (h.size ≡ Definite n) = size-definite h c.valid no_hold in
+    (_, subst (λ (n : ℕ). HasState (behind_header w (phase.Contents n) (h.offset + length (octets_of h))) (b ++ t) (told ++ Begin h ∷ []) (with_tail s (Contents h []))) (sym (ap announced size.1))
+        (primitive_state w b told s r t h size.0 at c no_hold size.1))
+
+-- behind a header a walker stands as it says
+pub enters_state : (w v : Machine) (b : List ℕ) (told : List Told) (s : State) (r : Progress) (t : List ℕ) (f : HeaderFields) (o : List ℕ) (k : Kind) → AtHeader w b told s r
+    → Completed w r t (heading_with f o) → Enters w v f (f.offset + length (octets_of (heading_with f o))) k
+    → (u : State) × HasState v (b ++ t) (told ++ event_of k (heading_with f o) ∷ []) u
+enters_state w v b told s r t f o kind.Primitive at c e =
+    let u = primitive_enters w b told s r t (heading_with f o) at c e.0 in
+    (u.0, subst (λ (m : Machine). HasState m (b ++ t) (told ++ Begin (heading_with f o) ∷ []) u.0) (sym e.1) u.1)
+enters_state w v b told s r t f o kind.Constructed at c e =
+    let u = constructed_enters w b told s r t (heading_with f o) at c e.0 in
+    (u.0, subst (λ (m : Machine). HasState m (b ++ t) (told ++ Open (heading_with f o) ∷ []) u.0) (sym e.1) u.1)
+enters_state w v b told s r t f o kind.Wrapper at c e =
+    let u = wrapper_enters w b told s r t (heading_with f o) (next_wrapper w.framing.inside w.wrappers f.offset) at c e.0 (or-right f.constructed _ e.0 e.1) (eqb f.number 3) refl in
+    (u.0, subst (λ (m : Machine). HasState m (b ++ t) (told ++ Enter (heading_with f o) ∷ []) u.0) (sym e.2) u.1)
+
+-- octets that begin with a header, at a walker between elements
+pub fast_enters : (w v : Machine) (piece : List ℕ) (named : Bool) (f : HeaderFields) (count : ℕ) (o : List ℕ) (k : Kind) → w.phase ≡ phase.Between
+    → BeginsWithFields piece w.offset named f count → o ≡ take count piece → named ≡ is_among w.offset w.framing.inside
+    → (holds (heading_with f o) ≡ true → length w.stack < 128) → Within (bound_of w.stack) (f.offset + length o + announced f.size)
+    → Enters w v f (f.offset + length o) k → Continues w v o (event_of k (heading_with f o) ∷ [])
+fast_enters w v piece named f count o k e begins front name shallow fits enters =
+    let h : Heading = heading_with f o in
+    let whole : octets_of h ≡ o = take-append-drop f.id_len o in
+    let begins' : BeginsWith piece w.offset named h = subst (λ (x : List ℕ). BeginsWith piece w.offset named (heading_with f x)) (sym front) begins.begins in
+    let r : Progress = record { offset = w.offset; named = named; octets = []; done = false } in
+    let completed : Completed w r o h = record {
+      valid = begins'.valid;
+      octets = whole;
+      offset = begins'.offset;
+      named = begins'.named;
+      shallow = shallow;
+      fits = subst (λ (x : List ℕ). Within (bound_of w.stack) (f.offset + length x + announced f.size)) (sym whole) fits;
+    } in
+    record {
+      goes = λ b told s has.
+        enters_state w v b told (with_tail s Nothing) r o f o k (at_new w b told s r has e refl refl name) completed
+            (subst (λ (x : List ℕ). Enters w v f (f.offset + length x) k) (sym whole) enters);
+    }

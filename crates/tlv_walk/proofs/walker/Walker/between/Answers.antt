@@ -1,0 +1,28 @@
+use Rattle.std.proofs.Common.{◌≡◌, ℕ, ◌+◌, ◌-◌, List, ◌∷◌, length, take, drop, refl, sym, subst, inl, arith, rules}
+use Rattle.std.proofs.lemmas.Grind.{common_steps}
+use Rattle.tlv_walk.specs.Stack.{Within, bound_of}
+use Rattle.tlv_walk.specs.Tells.{TellsMove}
+use Rattle.tlv_walk.proofs.Behind.{move_behind, room_more, zero_slow}
+use Rattle.tlv_walk.proofs.Moves.{tells_zero}
+use Rattle.tlv_walk.proofs.walker.Walker.between.Goals.{else-indefinite-via-then-indefinite+else-eq, else-indefinite-via-else-indefinite}
+use Rattle.tlv_walk.proofs.Refusals.{refuses_front, refuses_missing, refuses_stray_front}
+use Rattle.tlv_walk.proofs.walker.Walker.between.Goals as goal
+
+pub returns-then-eq-clause-tells : goal.returns-then-eq-clause-tells
+returns-then-eq-clause-tells c =
+    rw c.fail.ensures.0 (inl (rw (← c.self.view_is) (refuses_front _ c.args.piece.now.now _ c.in-len1-up.len_at_least (refuses_missing _ _ _ (search rules) (search rules) (search rules) (search rules) (search rules)))))
+
+pub returns-then-indefinite-2-clause-tells : goal.returns-then-indefinite-2-clause-tells
+returns-then-indefinite-2-clause-tells c =
+    let room : Within (bound_of c.self.inside.stack) (c.self.inside.offset + 1) = elim c.else-indefinite.branch [
+      | else-indefinite-via-then-indefinite+else-eq w ↦ room_more _ _ (search rules) (search rules)
+      | else-indefinite-via-else-indefinite w ↦ absurd (search rules)
+    ] in
+    let piece : c.args.piece.now.now ≡ 0 ∷ take (length c.args.piece.now.now - 1) (drop 1 c.args.piece.now.now) = grind (arith, common_steps) in
+    subst (λ (o : List ℕ). TellsMove c.args.self.now c.second_zero.new.self o c.second_zero.new.piece.now c.second_zero.result) (sym piece)
+        (move_behind _ _ _ 0 (rw (← c.self.view_is) (tells_zero _ (search rules) (search rules) room)) (search rules) _ _ _ refl
+        (zero_slow _ _ _ _ _ refl c.second_zero.ensures.moves) c.second_zero.ensures.tells)
+
+pub returns-clause-tells : goal.returns-clause-tells
+returns-clause-tells c =
+    rw c.fail-2.ensures.0 (inl (refuses_stray_front _ c.args.piece.now.now c.in-len1-up.len_at_least (search rules) (search rules) (search rules) (search rules) (search rules)))
