@@ -26,4 +26,5 @@ pub mod HeaderKinds
 pub mod Padding
 pub mod Refusals
 pub mod Behind
+pub mod Finishing
 pub mod Known

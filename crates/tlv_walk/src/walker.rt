@@ -60,12 +60,18 @@ impl Walker {
     ghost use Rattle.tlv_head.specs.Header.{announced, holds, octets_of};
     ghost use Rattle.tlv_walk.specs.declared.walker.Phase.TheVariants as phases;
     ghost use Rattle.tlv_walk.specs.Machine.{CanBegin, CanEnter, CanRead, CanReadOn, Enters, IsWaiting, Moves, MovesOn, Steps, Tells, fault_at, new_machine, next_wrapper, unused_in};
+    ghost use Rattle.tlv_head.specs.declared.fault.Fault.{Fault as FaultOf};
+    ghost use Rattle.tlv_walk.specs.Ending.{IsEnding};
+    ghost use Rattle.tlv_walk.specs.Events.{Told};
+    ghost use Rattle.tlv_walk.specs.OpenCount.{open_count};
+    ghost use Rattle.tlv_walk.specs.State.{Stands};
     ghost use Rattle.tlv_walk.specs.Tells.{TellsMove};
     ghost use Rattle.tlv_walk.specs.Stack.{IsFilled, Within, bound_of, room_of};
 
     /// A walker that has taken nothing.
     pub fn new(framing: &Framing) -> Walker
-        ensures { result ≡ new_machine framing.now }
+        ensures machine { result ≡ new_machine framing.now }
+        ensures stands { Stands result [] [] }
     {
         Walker {
             stack: Stack::new(),
@@ -83,6 +89,7 @@ impl Walker {
     pub fn depth(&self) -> u8
         ensures value { result ≡ length self.now.stack }
         ensures within { result ≤ 128 }
+        ensures open_elements { (b : List ℕ) (told : List Told) → (IsWaiting self.now → ⊥) → (stands : Stands self.now b told) → result ≡ open_count stands.reading }
     {
         self.stack.len()
     }
@@ -91,6 +98,7 @@ impl Walker {
     pub fn offset(&self) -> u64
         ensures value { result ≡ self.now.offset }
         ensures within { result ≤ 2 ^ 40 }
+        ensures taken { (b : List ℕ) (told : List Told) → Stands self.now b told → result ≡ length b }
     {
         self.offset
     }
@@ -121,17 +129,38 @@ impl Walker {
         }
     }
 
-    /// What the input is, if it ends here.
+    /// What the input comes to, if it ends here. After a fault it is that fault.
     pub fn finish(&self) -> Ending
         requires { IsWaiting self.now → ⊥ }
+        ensures stands { (b : List ℕ) (told : List Told) → Stands self.now b told → IsEnding self.now.framing b result }
+        ensures failed { (f : FaultOf) → self.now.phase ≡ phases.Failed f → result ≡ Ending.Fault f }
     {
-        let code = match &self.phase {
-            Phase::Failed(fault) => return Ending::Fault(*fault),
-            Phase::Between if !self.stack.is_empty() => FaultCode::Short,
-            Phase::Between if self.has_element => return Ending::Done,
-            Phase::Between => FaultCode::Empty,
-            _ => FaultCode::Short,
-        };
+        if let Phase::Failed(fault) = &self.phase {
+            return Ending::Fault(*fault);
+        }
+        if !self.is_outermost() {
+            return self.ended_by(FaultCode::Short);
+        }
+        if self.has_element {
+            return Ending::Done;
+        }
+        self.ended_by(FaultCode::Empty)
+    }
+
+    /// Whether nothing is open.
+    fn is_outermost(&self) -> bool
+        ensures { IsTrue result ↔ ((self.now.phase ≡ phases.Between) × (self.now.stack ≡ [])) }
+    {
+        match &self.phase {
+            Phase::Between => self.stack.is_empty(),
+            _ => false,
+        }
+    }
+
+    /// A fault at the end of the input.
+    fn ended_by(&self, code: FaultCode) -> Ending
+        ensures { result ≡ Ending.Fault (fault_at code self.now.offset) }
+    {
         Ending::Fault(Fault {
             code,
             offset: self.offset,
