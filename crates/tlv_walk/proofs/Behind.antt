@@ -1,5 +1,5 @@
 -- A move behind the first of the end-of-contents octets is one of both.
-use Rattle.std.proofs.Common.{◌≡◌, inl, inr, ℕ, ◌+◌, ◌-◌, Option, Some, None, arith, List, [], ◌∷◌, ◌++◌, refl, ap, subst, append_assoc, append-nil}
+use Rattle.std.proofs.Common.{◌≡◌, inl, inr, ℕ, ◌+◌, ◌-◌, Option, Some, None, arith, List, [], ◌∷◌, ◌++◌, refl, ap, ◌∙◌, subst, append_assoc, append-nil}
 use Rattle.tlv_head.specs.declared.fault.Fault.{Fault}
 use Rattle.tlv_walk.specs.declared.ending.Ending.TheVariants as ending
 use Rattle.tlv_walk.specs.declared.event.Move.{Move}
@@ -35,6 +35,7 @@ module _ (old mid new : Machine) (x : ℕ) (first : Continues old mid (x ∷ [])
         two.3,
         λ c. subst (λ (w : Framing). IsEnding w ((b ++ x ∷ r.0) ++ r.1 ∷ c) (ending.Fault f)) same
             (subst (λ (o : List ℕ). IsEnding mid.framing (o ++ r.1 ∷ c) (ending.Fault f)) spelled (two.4 c)),
+        two.5 ∙ same,
       ),
   )
 

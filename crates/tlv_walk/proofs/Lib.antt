@@ -27,4 +27,5 @@ pub mod Padding
 pub mod Refusals
 pub mod Behind
 pub mod Finishing
+pub mod Standing
 pub mod Known

@@ -11,9 +11,11 @@ use Rattle.tlv_walk.specs.declared.event.Step.{Step}
 use Rattle.tlv_walk.specs.declared.event.Step.TheVariants as step
 use Rattle.tlv_walk.specs.declared.walker.Phase.TheVariants.{Failed}
 use Rattle.tlv_walk.specs.Ending.{IsEnding}
-use Rattle.tlv_walk.specs.Events.{Told, Open, Begin, Bytes, End, Close, Enter, Unused, Leave, Pad}
+use Rattle.tlv_walk.specs.Events.{AreEqualJoined, Told, events, Open, Begin, Bytes, End, Close, Enter, Unused, Leave, Pad}
 use Rattle.tlv_walk.specs.Machine.{IsWaiting, Machine}
-use Rattle.tlv_walk.specs.State.{HasState, State}
+use Rattle.tlv_walk.specs.State.{HasState, Stands, State, waiting_of}
+use Rattle.tlv_walk.specs.Forest.{Forest}
+use Rattle.tlv_walk.specs.Reading.{IsReading}
 
 -- from whatever state the walker had, it came to one with these octets and events more
 pub record Continues (old new : Machine) (taken : List ℕ) (more : List Told) : Type 0 where
@@ -40,7 +42,7 @@ abbrev pub RefusesOctet : Machine → List ℕ → List ℕ → Fault → Type 0
 RefusesOctet old before after f = (taken : List ℕ) × (x : ℕ) × (rest : List ℕ) × (before ≡ taken ++ x ∷ rest) × (after ≡ x ∷ rest)
     × ((b : List ℕ) (told : List Told) (s : State) → HasState old b told s
     → (m : Machine) × (t : State) × HasState m (b ++ taken) told t × (IsWaiting m → ⊥)
-    × ((c : List ℕ) → IsEnding old.framing ((b ++ taken) ++ x ∷ c) (ending.Fault f)))
+    × ((c : List ℕ) → IsEnding old.framing ((b ++ taken) ++ x ∷ c) (ending.Fault f)) × (m.framing ≡ old.framing))
 
 -- an octet is refused, or was refused before
 abbrev pub TellsFault : Machine → Machine → List ℕ → List ℕ → Fault → Type 0
@@ -66,3 +68,27 @@ abbrev pub TellsStep : Machine → Machine → List ℕ → List ℕ → Step �
 TellsStep old new before after (step.Event e) = TellsEvent old new before after (told_of e)
 TellsStep old new before after step.NeedMore = Continues old new before []
 TellsStep old new before after (step.Fault f) = TellsFault old new before after f
+
+-- octets were taken from the front of a piece, and one event was told: the walker stands for both
+abbrev pub StandsBehind : Machine → Machine → List ℕ → List ℕ → Told → Type 0
+StandsBehind old new before after e = (taken : List ℕ) × (before ≡ taken ++ after)
+    × ((b : List ℕ) (told : List Told) → Stands old b told → Stands new (b ++ taken) (told ++ e ∷ []))
+
+-- the octet behind those that were taken is refused: the events told are those of the reading, and the fault
+-- is the ending, whatever follows
+pub record IsRefused (old : Machine) (before after : List ℕ) (f : Fault) : Type 0 where
+  pub taken : List ℕ
+  pub octet : ℕ
+  pub rest : List ℕ
+  pub before_is : before ≡ taken ++ octet ∷ rest
+  pub after_is : after ≡ octet ∷ rest
+  pub ends : (b : List ℕ) (told : List Told) → Stands old b told → (reading : Forest) × IsReading old.framing (b ++ taken) reading × AreEqualJoined told (events reading)
+      × ((c : List ℕ) → IsEnding old.framing ((b ++ taken) ++ octet ∷ c) (ending.Fault f))
+
+-- what a step makes of a walker that stands for octets, and of the front of a piece
+abbrev pub StandsStep : Machine → Machine → List ℕ → List ℕ → Step → Type 0
+StandsStep old new before after (step.Event e) = StandsBehind old new before after (told_of e)
+StandsStep old new before after step.NeedMore =
+    (after ≡ []) × ((b : List ℕ) (told : List Told) → Stands old b told → Stands new (b ++ before) told × (waiting_of new ≡ []))
+-- the first fault, or the same again
+StandsStep old new before after (step.Fault f) = IsRefused old before after f ⊎ ((old.phase ≡ Failed f) × (new ≡ old) × (after ≡ before))

@@ -1,0 +1,76 @@
+-- What a step tells, of what a walker stands for.
+use Rattle.std.proofs.Common.{◌≡◌, inl, inr, ℕ, Bool, false, if◌then◌else◌, List, [], ◌∷◌, ◌++◌, Option, Some, None, refl, ap, ◌∙◌, subst, append-nil, ne_eqb}
+use Rattle.tlv_head.specs.declared.fault.Fault.{Fault}
+use Rattle.tlv_walk.specs.declared.event.Step.{Step}
+use Rattle.tlv_walk.specs.declared.event.Step.TheVariants as step
+use Rattle.tlv_walk.specs.declared.framing.Framing.{Framing}
+use Rattle.tlv_walk.specs.declared.stack.Frame.{Frame}
+use Rattle.tlv_walk.specs.declared.walker.Phase.{Phase}
+use Rattle.tlv_walk.specs.declared.walker.Phase.TheVariants as phase
+use Rattle.tlv_walk.specs.Events.{AreEqualJoined, End, Told, events}
+use Rattle.tlv_walk.specs.Machine.{IsWaiting, IsWaitingIn, Machine, Steps}
+use Rattle.tlv_walk.specs.Reading.{IsReading}
+use Rattle.tlv_walk.specs.Stack.{IsFilled}
+use Rattle.tlv_walk.specs.State.{Stands, ending_of, endings_at, is_end, waiting_in, waiting_of}
+use Rattle.tlv_walk.specs.Tells.{IsRefused, RefusesOctet, StandsBehind, StandsStep, TellsEvent, TellsFault, TellsStep, told_of}
+use Rattle.tlv_walk.proofs.StateEndings.{ready-waits}
+use Rattle.tlv_walk.proofs.StateReading.{stands, state-events, state-reading}
+use Rattle.tlv_walk.proofs.Zipper.{reading_of}
+
+stands_behind : (old new : Machine) (before after : List ℕ) (e : Told) → TellsEvent old new before after e → StandsBehind old new before after e
+stands_behind old new before after e t =
+    (t.0, t.1, λ b told st. let u = t.2.goes b told st.state st.has_state in stands new (b ++ t.0) (told ++ e ∷ []) u.0 u.1)
+
+-- where nothing waits no events do
+no_endings : (at : ℕ) (fs : List Frame) → (IsFilled fs at → ⊥) → endings_at at fs ≡ []
+no_endings at [] n = refl
+no_endings at (f ∷ fs) n = ap (λ (k : Bool). if k then ending_of f ∷ endings_at at fs else []) (unfilled f.end n)
+  where
+    unfilled : (e : Option ℕ) → (e ≡ Some at → ⊥) → is_end e at ≡ false
+    unfilled None n = refl
+    unfilled (Some m) n = ne_eqb m at (λ e. n (ap Some e))
+
+quiet_in : (f : Phase) (stack : List Frame) (at : ℕ) → (IsWaitingIn f stack at → ⊥) → waiting_in f stack at ≡ []
+quiet_in phase.Between stack at n = no_endings at stack n
+quiet_in (phase.Header r) stack at n = refl
+quiet_in (phase.Contents left) stack at n = ap (λ (k : Bool). if k then End ∷ endings_at at stack else []) (ne_eqb left 0 n)
+quiet_in phase.Unused stack at n = refl
+quiet_in phase.Zero stack at n = refl
+quiet_in (phase.Failed fault) stack at n = refl
+
+quiet : (w : Machine) → (IsWaiting w → ⊥) → waiting_of w ≡ []
+quiet w n = quiet_in w.phase w.stack w.offset n
+
+is_refused : (old : Machine) (before after : List ℕ) (f : Fault) → RefusesOctet old before after f → IsRefused old before after f
+is_refused old before after f r = record {
+  taken = r.0;
+  octet = r.1;
+  rest = r.2;
+  before_is = r.3;
+  after_is = r.4;
+  ends = λ b told st.
+    let u = r.5 b told st.state st.has_state in
+    let m : Machine = u.0 in
+    let all : AreEqualJoined (told ++ waiting_of m) (events (reading_of u.1)) = state-events m (b ++ r.0) told u.1 u.2 in
+    (
+      reading_of u.1,
+      subst (λ (w : Framing). IsReading w (b ++ r.0) (reading_of u.1)) u.5 (state-reading m (b ++ r.0) told u.1 u.2),
+      subst (λ (es : List Told). AreEqualJoined es (events (reading_of u.1))) (ap (λ (es : List Told). told ++ es) (quiet m u.3) ∙ append-nil told) all,
+      u.4,
+    );
+}
+
+stands_fault : (old new : Machine) (before after : List ℕ) (f : Fault) → TellsFault old new before after f → StandsStep old new before after (step.Fault f)
+stands_fault old new before after f (inl r) = inl (is_refused old before after f r)
+stands_fault old new before after f (inr r) = inr r
+
+-- what a step makes of a walker that stands for octets
+pub stands_step : (old new : Machine) (before after : List ℕ) (s : Step) → Steps old new before after s → TellsStep old new before after s → StandsStep old new before after s
+stands_step old new before after (step.Event e) k t = stands_behind old new before after (told_of e) t
+stands_step old new before after step.NeedMore k t = (
+  k.1,
+  λ b told st.
+    let u = t.goes b told st.state st.has_state in
+    (subst (λ (es : List Told). Stands new (b ++ before) es) (append-nil told) (stands new (b ++ before) (told ++ []) u.0 u.1), quiet new (ready-waits new k.3)),
+)
+stands_step old new before after (step.Fault f) k t = stands_fault old new before after f t
