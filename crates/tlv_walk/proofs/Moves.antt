@@ -123,13 +123,14 @@ contents_state w b told s h c t left has e most =
     bytes_more : (h : Heading) (c t : List ℕ) → apart (Begin h ∷ Bytes (c ++ t) ∷ []) ≡ apart (Begin h ∷ Bytes c ∷ Bytes t ∷ [])
     bytes_more h c t = ap (λ (es : List Told). Begin h ∷ es) (ap (λ (es : List Told). es ++ []) (map-append (λ x. Bytes (x ∷ [])) c t) ∙ append_assoc (map (λ x. Bytes (x ∷ [])) c) _ [])
 
-pub tells_contents : (w : Machine) (left : ℕ) (t : List ℕ) → w.phase ≡ phase.Contents left → length t ≤ left
-    → Continues w (record w { phase = phase.Contents (left - length t); offset = w.offset + length t; events = w.events + 1 }) t (Bytes t ∷ [])
-tells_contents w left t e most = record {
-  goes = λ b told s has.
-      let k = contents_tail left s.tail _ (phase_at w b told s _ e has) in
-      (_, contents_state w b told s k.0 k.1 t left (tail_state w b told s _ k.2 has) e most);
-}
+pub tells_contents : (w : Machine) (left : ℕ) (t : List ℕ) (n : ℕ) → w.phase ≡ phase.Contents left → length t ≤ left → n ≡ length t
+    → Continues w (record w { phase = phase.Contents (left - n); offset = w.offset + n; events = w.events + 1 }) t (Bytes t ∷ [])
+tells_contents w left t n e most len =
+    subst (λ (m : ℕ). Continues w (record w { phase = phase.Contents (left - m); offset = w.offset + m; events = w.events + 1 }) t (Bytes t ∷ [])) (sym len) (record {
+      goes = λ b told s has.
+        let k = contents_tail left s.tail _ (phase_at w b told s _ e has) in
+        (_, contents_state w b told s k.0 k.1 t left (tail_state w b told s _ k.2 has) e most);
+    })
 
 -- the end of a primitive
 end_state : (w : Machine) (b : List ℕ) (told : List Told) (s : State) (h : Heading) (c : List ℕ) → HasState w b told (with_tail s (Contents h c)) → w.phase ≡ phase.Contents 0

@@ -62,10 +62,11 @@ pad_from : (w : Machine) (b : List ℕ) (told : List Told) (s : State) (t : List
 pad_from w b told s t [] has e none padding zeros = (_, pad_state w b told s t has e padding zeros)
 pad_from w b told s t (l ∷ ls) has e none padding zeros = absurd (cc (has.stack))
 
-pub tells_pad : (w : Machine) (t : List ℕ) → w.phase ≡ phase.Between → w.stack ≡ [] → w.framing.padding ≡ true → All (λ x. x ≡ 0) t
-    → Continues w (record w { offset = w.offset + length t; events = w.events + 1 }) t (Pad t ∷ [])
-tells_pad w t e none padding zeros = record {
-  goes = λ b told s has.
-      let tail = between_tail s.tail _ (phase_at w b told s _ e has) in
-      pad_from w b told s t s.layers (tail_state w b told s _ tail has) e none padding zeros;
-}
+pub tells_pad : (w : Machine) (t : List ℕ) (n : ℕ) → w.phase ≡ phase.Between → w.stack ≡ [] → w.framing.padding ≡ true → All (λ x. x ≡ 0) t → n ≡ length t
+    → Continues w (record w { offset = w.offset + n; events = w.events + 1 }) t (Pad t ∷ [])
+tells_pad w t n e none padding zeros len =
+    subst (λ (m : ℕ). Continues w (record w { offset = w.offset + m; events = w.events + 1 }) t (Pad t ∷ [])) (sym len) (record {
+      goes = λ b told s has.
+        let tail = between_tail s.tail _ (phase_at w b told s _ e has) in
+        pad_from w b told s t s.layers (tail_state w b told s _ tail has) e none padding zeros;
+    })

@@ -1,9 +1,9 @@
 //! A machine that takes an encoding in pieces, and keeps a frame for each open element that holds
 //! others.
-ghost use Rattle.std.specs.Prelude.{◌≡◌, ℕ, ◌+◌, ◌^◌, ◌<◌, ◌≤◌, ◌↔◌, IsTrue, length};
+ghost use Rattle.std.specs.Prelude.{◌≡◌, ◌≢◌, ℕ, ◌+◌, ◌^◌, ◌<◌, ◌≤◌, ◌↔◌, All, IsTrue, Some, length, slice_get, take};
 
-use crate::event::{Kind, Move};
 use crate::stack::{Frame, Stack, room_to};
+use crate::event::{Kind, Move};
 use crate::{Ending, Event, Framing, Step};
 use std::marker::Model;
 use std::mem::replace;
@@ -60,6 +60,7 @@ impl Walker {
     ghost use Rattle.tlv_head.specs.Header.{announced, holds, octets_of};
     ghost use Rattle.tlv_walk.specs.declared.walker.Phase.TheVariants as phases;
     ghost use Rattle.tlv_walk.specs.Machine.{CanBegin, CanEnter, CanRead, CanReadOn, Enters, IsWaiting, Moves, MovesOn, Steps, Tells, fault_at, new_machine, next_wrapper, unused_in};
+    ghost use Rattle.tlv_walk.specs.Tells.{TellsMove};
     ghost use Rattle.tlv_walk.specs.Stack.{IsFilled, Within, bound_of, room_of};
 
     /// A walker that has taken nothing.
@@ -165,7 +166,8 @@ impl Walker {
     #[inline]
     pub(crate) fn advance<'a>(&mut self, piece: &mut &'a [u8]) -> Move<'a>
         requires { self.old.offset + length piece.old.now ≤ 2 ^ 40 }
-        ensures { Moves self.old self.new piece.old.now piece.new.now result }
+        ensures moves { Moves self.old self.new piece.old.now piece.new.now result }
+        ensures tells { TellsMove self.old self.new piece.old.now piece.new.now result }
     {
         if let Phase::Contents(left) = self.phase {
             return if left == 0 {
@@ -200,7 +202,8 @@ impl Walker {
     #[inline]
     fn end_primitive<'a>(&mut self) -> Move<'a>
         requires { self.old.phase ≡ phases.Contents 0 }
-        ensures { MovesOn self.old self.new self.old.offset result }
+        ensures moves { MovesOn self.old self.new self.old.offset result }
+        ensures tells { TellsMove self.old self.new [] [] result }
     {
         self.events += 1;
         self.phase = Phase::Between;
@@ -212,7 +215,8 @@ impl Walker {
     fn end_filled<'a>(&mut self) -> Move<'a>
         requires phase { self.old.phase ≡ phases.Between }
         requires filled { IsFilled self.old.stack self.old.offset }
-        ensures { MovesOn self.old self.new self.old.offset result }
+        ensures moves { MovesOn self.old self.new self.old.offset result }
+        ensures tells { TellsMove self.old self.new [] [] result }
     {
         self.events += 1;
         match self.stack.pop() {
@@ -227,7 +231,8 @@ impl Walker {
         requires phase { self.old.phase ≡ phases.Contents left }
         requires some { 0 < left }
         requires limit { self.old.offset + length piece.old.now ≤ 2 ^ 40 }
-        ensures { Moves self.old self.new piece.old.now piece.new.now result }
+        ensures moves { Moves self.old self.new piece.old.now piece.new.now result }
+        ensures tells { TellsMove self.old self.new piece.old.now piece.new.now result }
     {
         let octets: &'a [u8] = *piece;
         if octets.is_empty() {
@@ -248,7 +253,8 @@ impl Walker {
         requires phase { self.old.phase ≡ phases.Between }
         requires room { IsFilled self.old.stack self.old.offset → ⊥ }
         requires limit { self.old.offset + length piece.old.now ≤ 2 ^ 40 }
-        ensures { Moves self.old self.new piece.old.now piece.new.now result }
+        ensures moves { Moves self.old self.new piece.old.now piece.new.now result }
+        ensures tells { TellsMove self.old self.new piece.old.now piece.new.now result }
     {
         let octets: &'a [u8] = *piece;
         let [octet, rest @ ..] = octets else {
@@ -279,13 +285,12 @@ impl Walker {
         requires zero { slice_get piece.old.now 0 ≡ Some 0 }
         requires limit { self.old.offset + length piece.old.now ≤ 2 ^ 40 }
         requires top { self.old.stack ≡ [] }
-        ensures { Moves self.old self.new piece.old.now piece.new.now result }
+        requires padding { self.old.framing.padding ≡ true }
+        ensures moves { Moves self.old self.new piece.old.now piece.new.now result }
+        ensures tells { TellsMove self.old self.new piece.old.now piece.new.now result }
     {
         let octets: &'a [u8] = *piece;
-        let count = octets
-            .iter()
-            .position(|octet| *octet != 0)
-            .unwrap_or(octets.len());
+        let count = zeros(octets);
         let (front, rest) = octets.split_at(count);
         *piece = rest;
         self.offset += count as u64;
@@ -297,7 +302,8 @@ impl Walker {
     fn unused_octet<'a>(&mut self, piece: &mut &'a [u8]) -> Move<'a>
         requires phase { self.old.phase ≡ phases.Unused }
         requires limit { self.old.offset + length piece.old.now ≤ 2 ^ 40 }
-        ensures { Moves self.old self.new piece.old.now piece.new.now result }
+        ensures moves { Moves self.old self.new piece.old.now piece.new.now result }
+        ensures tells { TellsMove self.old self.new piece.old.now piece.new.now result }
     {
         let octets: &'a [u8] = *piece;
         let [octet, rest @ ..] = octets else {
@@ -318,7 +324,8 @@ impl Walker {
     fn second_zero<'a>(&mut self, piece: &mut &'a [u8]) -> Move<'a>
         requires phase { self.old.phase ≡ phases.Zero }
         requires limit { self.old.offset + length piece.old.now ≤ 2 ^ 40 }
-        ensures { Moves self.old self.new piece.old.now piece.new.now result }
+        ensures moves { Moves self.old self.new piece.old.now piece.new.now result }
+        ensures tells { TellsMove self.old self.new piece.old.now piece.new.now result }
     {
         let octets: &'a [u8] = *piece;
         let [octet, rest @ ..] = octets else {
@@ -344,7 +351,8 @@ impl Walker {
     fn fast_header<'a>(&mut self, piece: &mut &'a [u8]) -> Move<'a>
         requires begins { CanBegin self.old piece.old.now }
         requires limit { self.old.offset + length piece.old.now ≤ 2 ^ 40 }
-        ensures { Moves self.old self.new piece.old.now piece.new.now result }
+        ensures moves { Moves self.old self.new piece.old.now piece.new.now result }
+        ensures tells { TellsMove self.old self.new piece.old.now piece.new.now result }
     {
         let octets: &'a [u8] = *piece;
         let named = self.framing.inside.contains(self.offset);
@@ -512,4 +520,18 @@ impl Walker {
         self.phase = Phase::Failed(fault);
         Move::Fault(fault)
     }
+}
+
+/// How many octets `00` there are before the first that is another.
+fn zeros(octets: &[u8]) -> usize
+    ensures within { result ≤ length octets.now }
+    ensures zeros { All (λ x. x ≡ 0) (take result octets.now) }
+    ensures some { slice_get octets.now 0 ≡ Some 0 → 0 < result }
+    ensures all { slice_get octets.now result ≢ Some 0 }
+{
+    let mut count = 0;
+    while count < octets.len() && octets[count] == 0 {
+        count += 1;
+    }
+    count
 }
