@@ -24,4 +24,6 @@ pub mod Closing
 pub mod Entering
 pub mod Padding
 pub mod Refusals
+pub mod HeaderSteps
+pub mod HeaderRefusals
 pub mod Known
