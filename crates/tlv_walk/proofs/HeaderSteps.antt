@@ -1,12 +1,14 @@
 -- A walker goes on behind the octets of a header that its reader takes.
-use Rattle.std.proofs.Common.{◌≡◌, ◌≢◌, ◌⊎◌, inl, inr, ℕ, ◌+◌, ◌<◌, ◌≤◌, Bool, true, false, not, ◌||◌, eqb, if◌then◌else◌, List, [], ◌∷◌, ◌++◌, length, Option, Some, None, refl, sym, ap, ◌∙◌, subst, arith, append_assoc, append-nil}
-use Rattle.std.proofs.lemmas.Bool.{cases_Bool}
+use Rattle.std.proofs.Common.{◌≡◌, ◌≢◌, ◌⊎◌, inl, inr, ℕ, ◌+◌, ◌-◌, ◌^◌, ◌<◌, ◌≤◌, Bool, true, false, not, ◌||◌, eqb, if◌then◌else◌, List, [], ◌∷◌, ◌++◌, length, get_or, take, drop, Option, Some, None, refl, sym, ap, ◌∙◌, subst, arith, append_assoc, append-nil, length-append}
+use Rattle.std.proofs.lemmas.Bool.{cases_eq}
+use Rattle.std.proofs.lemmas.List.{take_all}
 use Rattle.tlv_head.specs.declared.header.HeaderFields.{HeaderFields}
 use Rattle.tlv_head.specs.declared.header.Size.{Size}
 use Rattle.tlv_head.specs.declared.header.Size.TheVariants.{Definite, Indefinite}
 use Rattle.tlv_head.specs.Fields.{heading_with}
 use Rattle.tlv_head.specs.Header.{AllowsSize, Heading, IsHeading, announced, holds, is_wrapper, octets_of, wraps}
-use Rattle.tlv_head.specs.Progress.{Progress, with_octet}
+use Rattle.tlv_head.specs.Progress.{Fits, Progress, with_octet}
+use Rattle.tlv_head.specs.Push.{Completes, FitsThere}
 use Rattle.tlv_head.specs.Refusal.{IsFront}
 use Rattle.tlv_walk.specs.declared.event.Kind.{Kind}
 use Rattle.tlv_walk.specs.declared.event.Kind.TheVariants as kind
@@ -18,9 +20,9 @@ use Rattle.tlv_walk.specs.Forest.{Stop, lead}
 use Rattle.tlv_walk.specs.Machine.{CanEnter, Enters, Machine, behind_header, frame_with, next_wrapper}
 use Rattle.tlv_walk.specs.Place.{IsBegun, Place}
 use Rattle.tlv_walk.specs.ReadsOn.{HandsOver, Makes, TellsHeader}
-use Rattle.tlv_walk.specs.Stack.{Within, bound_of}
+use Rattle.tlv_walk.specs.Stack.{Within, bound_of, left_to}
 use Rattle.tlv_walk.specs.State.{HasState, IsPhaseOf, Nothing, Contents, Lead, Front, State, frame_of, place_in, place_of}
-use Rattle.tlv_walk.specs.Tells.{Continues}
+use Rattle.tlv_walk.specs.Tells.{Continues, TellsEvent}
 use Rattle.tlv_walk.proofs.Entering.{AtHeader, Completed, at_front, at_new, front_state, holding_state, lead_state, opening_event, primitive_state}
 use Rattle.tlv_walk.proofs.Moves.{phase_at, with_tail}
 use Rattle.tlv_walk.proofs.Places.{place-bound}
@@ -240,3 +242,51 @@ pub tells_header : (u new : Machine) (f : HeaderFields) (h : Heading) (at : ℕ)
 tells_header u new f h at k can same e enters =
     subst (λ (g : Heading). TellsHeader u new g (event_of k g)) same
     (tells_behind u new f (octets_of h) at k (subst (CanEnter u) (sym same) can) (e ∙ ap (λ (g : Heading). f.offset + length (octets_of g)) (sym same)) enters)
+
+-- ---- the octet that a reader is given
+
+-- the first octet of a piece, and the others
+pub first_octet : (p : List ℕ) → 1 ≤ length p → p ≡ get_or p 0 0 ∷ take (length p - 1) (drop 1 p)
+first_octet [] h = absurd (omega arith)
+first_octet (x ∷ p) h = ap (λ (l : List ℕ). x ∷ l) (sym (take_all (length (x ∷ p) - 1) p (omega arith)))
+
+-- an octet below the bound
+pub within_next : (b : Option ℕ) (n : ℕ) → Within b n → left_to b n ≢ Some 0 → Within b (n + 1)
+within_next None n h some = tt
+within_next (Some m) n h some = elim (cases_eq m n) [
+  | inl e ↦ let z : m - n ≡ 0 = omega arith in absurd (some (ap Some z))
+  | inr less ↦ omega arith
+]
+
+-- contents that fit behind it
+within_announced : (size : Size) (b : Option ℕ) (n : ℕ) → Fits size (left_to b n) → Within b (n + 1 + announced size)
+within_announced (Definite k) None n h = tt
+within_announced (Definite k) (Some m) n h = omega (arith, h)
+within_announced Indefinite None n h = tt
+within_announced Indefinite (Some m) n h = omega (arith, h)
+
+-- the header that it completes may stand there
+pub whole_enters : (u : Machine) (q : Progress) (x depth at : ℕ) (h : Heading) → u.events + length u.stack ≤ q.offset → q.offset + length q.octets ≡ at → at + 1 ≤ 2 ^ 40 → depth ≡ length u.stack
+    → Completes q x h → FitsThere h (left_to (bound_of u.stack) at) depth → CanEnter u h
+whole_enters u q x depth at h fewer place limit deep c f =
+    let end : h.offset + length (octets_of h) ≡ at + 1 = omega (arith, c.offset, ap length c.octets, length-append q.octets (x ∷ [])) in
+    record {
+      valid = c.valid;
+      fewer = omega (arith, c.offset);
+      limit = omega arith;
+      shallow = λ e. subst (λ (n : ℕ). n < 128) deep (f.shallow e);
+      fits = subst (λ (n : ℕ). Within (bound_of u.stack) (n + announced h.size)) (sym end) (within_announced h.size (bound_of u.stack) at f.within);
+    }
+
+-- and the walker tells it
+pub whole_tells : (w u new : Machine) (r q : Progress) (before after rest : List ℕ) (x : ℕ) (h : Heading) (e : Told) → HandsOver w u r → HasTaken r q before after → after ≡ x ∷ rest → Completes q x h
+    → TellsHeader u new h e → TellsEvent w new before rest e
+whole_tells w u new r q before after rest x h e over k f c tells = (
+  k.taken ++ x ∷ [],
+  k.piece ∙ (ap (λ (l : List ℕ). k.taken ++ l) f ∙ sym (append_assoc k.taken (x ∷ []) rest)),
+  tells w r (k.taken ++ x ∷ []) over (record {
+    offset = c.offset ∙ k.offset;
+    named = c.named ∙ k.named;
+    octets = c.octets ∙ (ap (λ (l : List ℕ). l ++ x ∷ []) k.octets ∙ append_assoc r.octets k.taken (x ∷ []));
+  }),
+)
