@@ -290,3 +290,25 @@ whole_tells w u new r q before after rest x h e over k f c tells = (
     octets = c.octets ∙ (ap (λ (l : List ℕ). l ++ x ∷ []) k.octets ∙ append_assoc r.octets k.taken (x ∷ []));
   }),
 )
+
+-- ---- what a reader has before an octet
+
+-- octets, or a piece that begins with another octet than 00, below the bound
+abbrev pub CanGive : List ℕ → List ℕ → Option ℕ → Type 0
+CanGive octets piece room = (octets ≢ []) ⊎ ((x : ℕ) × (rest : List ℕ) × (piece ≡ x ∷ rest) × (x ≢ 0) × (room ≢ Some 0))
+
+pub give_room : (octets piece : List ℕ) (room : Option ℕ) → CanGive octets piece room → octets ≡ [] → room ≢ Some 0
+give_room octets piece room (inl some) none = absurd (some none)
+give_room octets piece room (inr k) none = k.4
+
+-- where the piece is used up, it has octets
+pub give_some : (octets piece : List ℕ) (room : Option ℕ) → CanGive octets piece room → piece ≡ [] → octets ≢ []
+give_some octets piece room (inl some) used = some
+give_some octets piece room (inr k) used = let z : [] ≡ k.0 ∷ k.1 = sym used ∙ k.2 in absurd (cc)
+
+-- with another octet
+pub pushed_place : (q p : Progress) (x at : ℕ) → p ≡ with_octet q x → q.offset + length q.octets ≡ at → p.offset + length p.octets ≡ at + 1
+pushed_place q p x at e place = omega (arith, ap (λ (r : Progress). r.offset) e, ap (λ (r : Progress). length r.octets) e, length-append q.octets (x ∷ []))
+
+pub pushed_some : (q p : Progress) (x : ℕ) → p ≡ with_octet q x → p.octets ≢ []
+pushed_some q p x e none = omega (arith, ap (λ (r : Progress). length r.octets) e, ap length none, length-append q.octets (x ∷ []))
