@@ -1,5 +1,5 @@
 -- What is refused behind octets of a header is a fault, whatever follows.
-use Rattle.std.proofs.Common.{◌≡◌, ◌≢◌, ◌⊎◌, inl, inr, ℕ, ◌+◌, ◌-◌, ◌<◌, ◌≤◌, Bool, true, false, List, [], ◌∷◌, ◌++◌, length, Option, Some, None, IfSome, refl, sym, ap, ◌∙◌, subst, arith, append-nil, length-append}
+use Rattle.std.proofs.Common.{◌≡◌, ◌≢◌, inl, inr, ℕ, ◌+◌, ◌-◌, ◌<◌, ◌≤◌, Bool, true, false, List, [], ◌∷◌, ◌++◌, length, Option, Some, None, refl, sym, ap, ◌∙◌, subst, arith, append-nil, length-append}
 use Rattle.tlv_head.specs.declared.fault.Fault.{Fault}
 use Rattle.tlv_head.specs.declared.fault.FaultCode.{FaultCode}
 use Rattle.tlv_head.specs.declared.fault.FaultCode.TheVariants.{Empty, Short, StrayEnd, BadEnd, MissingEnd, TagTooLong, ReservedLength, IndefinitePrimitive, LengthTooLarge, TooDeep, Overrun, BadInside}
@@ -10,21 +10,20 @@ use Rattle.tlv_head.specs.Header.{Heading, IsIdentifier, announced, octets_of}
 use Rattle.tlv_head.specs.Progress.{Fits, Progress}
 use Rattle.tlv_head.specs.Push.{Completes, IsRefused}
 use Rattle.tlv_head.proofs.Front.{header-two}
-use Rattle.tlv_walk.specs.declared.ending.Ending.TheVariants as ending
 use Rattle.tlv_walk.specs.declared.stack.Frame.{Frame}
 use Rattle.tlv_walk.specs.declared.walker.Phase.TheVariants as phase
-use Rattle.tlv_walk.specs.Ending.{AtBound, BelowBound, Completed, InHeader, IsEnding, IsFault, fault, indefinite_primitive, length_too_large, no_room, overrun, reserved_length, tag_too_long, too_deep}
+use Rattle.tlv_walk.specs.Ending.{BelowBound, Completed, InHeader, IsEnding, IsFault, fault, indefinite_primitive, length_too_large, no_room, overrun, reserved_length, tag_too_long, too_deep}
 use Rattle.tlv_walk.specs.Events.{Told}
 use Rattle.tlv_walk.specs.Inside.{is_among}
-use Rattle.tlv_walk.specs.Machine.{IsWaiting, Machine}
+use Rattle.tlv_walk.specs.Machine.{Machine}
 use Rattle.tlv_walk.specs.Place.{Place}
 use Rattle.tlv_walk.specs.ReadsOn.{HandsOver}
 use Rattle.tlv_walk.specs.Stack.{Within, bound_of, left_to}
-use Rattle.tlv_walk.specs.State.{HasState, Front, State, frames_of, place_in, place_of}
+use Rattle.tlv_walk.specs.State.{HasState, Front, State, place_of}
 use Rattle.tlv_walk.specs.Tells.{RefusesOctet}
-use Rattle.tlv_walk.proofs.HeaderSteps.{HasTaken, TakenState, taken_state}
+use Rattle.tlv_walk.proofs.HeaderSteps.{HasTaken, TakenState, in_header, taken_state}
 use Rattle.tlv_walk.proofs.Moves.{phase_at, with_tail}
-use Rattle.tlv_walk.proofs.Places.{place-bound, place-depth, place-inside}
+use Rattle.tlv_walk.proofs.Places.{place-bound, place-depth}
 use Rattle.tlv_walk.proofs.StateEndings.{state-fault}
 
 -- ---- a reader without octets refuses none but 00
@@ -125,32 +124,33 @@ reader_there w b told s q depth e has d =
       within = at.3.fits;
     }
 
-pub refuses_header : (w u : Machine) (r q : Progress) (before after rest : List ℕ) (x depth offset : ℕ) (f : Fault) → HandsOver w u r → HasTaken r q before after → after ≡ x ∷ rest
-    → Within (bound_of u.stack) offset → q.offset + length q.octets ≡ offset → depth ≡ length u.stack
-    → (q.octets ≡ [] → left_to (bound_of u.stack) offset ≢ Some 0) → IsRefused f.code q x (left_to (bound_of u.stack) offset) depth → f.offset ≡ q.offset + length q.octets
+-- the octet that its reader refuses
+pub refuses_header : (w u : Machine) (r q : Progress) (before after rest : List ℕ) (x depth at : ℕ) (f : Fault) → HandsOver w u r → HasTaken r q before after → after ≡ x ∷ rest
+    → Within (bound_of u.stack) at → q.offset + length q.octets ≡ at → depth ≡ length u.stack
+    → (q.octets ≡ [] → left_to (bound_of u.stack) at ≢ Some 0) → IsRefused f.code q x (left_to (bound_of u.stack) at) depth → f.offset ≡ q.offset + length q.octets
     → RefusesOctet w before after f
-refuses_header w u r q before after rest x depth offset f over k e within at deep room refused there =
-    let some : q.octets ≡ [] → ⊥ = λ none. refused-some f.code q x _ depth refused (room none) none in
-    let fits : Within (bound_of u.stack) (q.offset + length q.octets) = subst (Within (bound_of u.stack)) (sym at) within in
-    let refused' : IsRefused f.code q x (left_to (bound_of u.stack) (q.offset + length q.octets)) depth =
-    subst (λ (n : ℕ). IsRefused f.code q x (left_to (bound_of u.stack) n) depth) (sym at) refused in (
+refuses_header w u r q before after rest x depth at f over k e within place deep room refused there =
+    let some : q.octets ≡ [] → ⊥ = λ none. refused-some f.code q x _ depth refused (room none) none in (
       k.taken,
       x,
       rest,
       k.piece ∙ ap (λ (l : List ℕ). k.taken ++ l) e,
       e,
       λ b told s has.
-          let t : TakenState w u q k.taken b told = taken_state w u r q before after over k some fits b told s has in
-          let m : Machine = record w { phase = phase.Header q; offset = q.offset + length q.octets; has_element = true } in
-          let same : u.stack ≡ w.stack = ap (λ (v : Machine). v.stack) t.same in
-          let refused'' : IsRefused f.code q x (left_to (bound_of w.stack) (q.offset + length q.octets)) depth =
-          subst (λ (fs : List Frame). IsRefused f.code q x (left_to (bound_of fs) (q.offset + length q.octets)) depth) same refused' in
-          let fault_here = refused_fault _ q _ depth x f.code (reader_there m (b ++ k.taken) told t.state q depth refl t.has (deep ∙ ap length same)) refused'' in (
-            m,
+          let t : TakenState w u q k.taken b told = taken_state w u r q before after over k some (subst (Within (bound_of u.stack)) (sym place) within) b told s has in
+          let has' : HasState (in_header w q) (b ++ k.taken) told (with_tail t.state (Front q.octets)) =
+          subst (λ (es : List Told). HasState (in_header w q) (b ++ k.taken) es (with_tail t.state (Front q.octets))) (append-nil told) t.has in
+          let same : u.stack ≡ w.stack = ap (λ (m : Machine). m.stack) t.same in
+          let left : left_to (bound_of u.stack) at ≡ left_to (bound_of w.stack) (q.offset + length q.octets) =
+          ap (λ (fs : List Frame). left_to (bound_of fs) at) same ∙ ap (left_to (bound_of w.stack)) (sym place) in
+          let faulty : IsFault (place_of w.framing t.state) x (InHeader q.octets) f.code =
+          refused_fault _ q _ depth x f.code (reader_there (in_header w q) (b ++ k.taken) told t.state q depth refl has' (deep ∙ ap length same))
+          (subst (λ (o : Option ℕ). IsRefused f.code q x o depth) left refused) in (
+            in_header w q,
             with_tail t.state (Front q.octets),
-            t.has,
+            has',
             λ z. z,
-            λ c. subst (λ (n : ℕ). IsEnding w.framing ((b ++ k.taken) ++ x ∷ c) (fault f.code n)) (sym t.has.offset ∙ sym there)
-                (state-fault m (b ++ k.taken) told (with_tail t.state (Front q.octets)) x c f.code t.has (λ z. z) fault_here),
+            λ c. subst (λ (n : ℕ). IsEnding w.framing ((b ++ k.taken) ++ x ∷ c) (fault f.code n)) (sym has'.offset ∙ sym there)
+                (state-fault (in_header w q) (b ++ k.taken) told (with_tail t.state (Front q.octets)) x c f.code has' (λ z. z) faulty),
           ),
     )

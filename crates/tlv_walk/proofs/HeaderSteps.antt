@@ -1,12 +1,12 @@
 -- A walker goes on behind the octets of a header that its reader takes.
-use Rattle.std.proofs.Common.{◌≡◌, ◌≢◌, ◌⊎◌, inl, inr, ℕ, ◌+◌, ◌-◌, ◌^◌, ◌<◌, ◌≤◌, Bool, true, false, not, ◌||◌, eqb, if◌then◌else◌, List, [], ◌∷◌, ◌++◌, length, get_or, take, drop, Option, Some, None, refl, sym, ap, ◌∙◌, subst, arith, append_assoc, append-nil, length-append}
+use Rattle.std.proofs.Common.{◌≡◌, ◌≢◌, ◌⊎◌, inl, inr, ℕ, ◌+◌, ◌-◌, ◌^◌, ◌<◌, ◌≤◌, Bool, true, false, ◌||◌, eqb, if◌then◌else◌, List, [], ◌∷◌, ◌++◌, length, get_or, take, drop, Option, Some, None, refl, sym, ap, ◌∙◌, subst, arith, append_assoc, append-nil, length-append}
 use Rattle.std.proofs.lemmas.Bool.{cases_eq}
 use Rattle.std.proofs.lemmas.List.{take_all}
 use Rattle.tlv_head.specs.declared.header.HeaderFields.{HeaderFields}
 use Rattle.tlv_head.specs.declared.header.Size.{Size}
 use Rattle.tlv_head.specs.declared.header.Size.TheVariants.{Definite, Indefinite}
 use Rattle.tlv_head.specs.Fields.{heading_with}
-use Rattle.tlv_head.specs.Header.{AllowsSize, Heading, IsHeading, announced, holds, is_wrapper, octets_of, wraps}
+use Rattle.tlv_head.specs.Header.{AllowsSize, Heading, announced, holds, octets_of, wraps}
 use Rattle.tlv_head.specs.Progress.{Fits, Progress, with_octet}
 use Rattle.tlv_head.specs.Push.{Completes, FitsThere}
 use Rattle.tlv_head.specs.Refusal.{IsFront}
@@ -18,10 +18,9 @@ use Rattle.tlv_walk.specs.declared.walker.Phase.TheVariants as phase
 use Rattle.tlv_walk.specs.Events.{Told, Open, Begin, Enter}
 use Rattle.tlv_walk.specs.Forest.{Stop, lead}
 use Rattle.tlv_walk.specs.Machine.{CanEnter, Enters, Machine, behind_header, frame_with, next_wrapper}
-use Rattle.tlv_walk.specs.Place.{IsBegun, Place}
 use Rattle.tlv_walk.specs.ReadsOn.{HandsOver, Makes, TellsHeader}
 use Rattle.tlv_walk.specs.Stack.{Within, bound_of, left_to}
-use Rattle.tlv_walk.specs.State.{HasState, IsPhaseOf, Nothing, Contents, Lead, Front, State, frame_of, place_in, place_of}
+use Rattle.tlv_walk.specs.State.{HasState, IsPhaseOf, Nothing, Contents, Lead, Front, State, frame_of, place_of}
 use Rattle.tlv_walk.specs.Tells.{Continues, TellsEvent}
 use Rattle.tlv_walk.proofs.Entering.{AtHeader, Completed, at_front, at_new, front_state, holding_state, lead_state, opening_event, primitive_state}
 use Rattle.tlv_walk.proofs.Moves.{phase_at, with_tail}
@@ -74,10 +73,14 @@ taken_more r q p before after rest x k e front same =
       front = inr front;
     })
 
+-- the walker behind the octets of a reader that it has
+abbrev pub in_header : Machine → Progress → Machine
+in_header w q = record w { phase = phase.Header q; offset = q.offset + length q.octets; has_element = true }
+
 -- the state behind them, of the walker that the reader was taken from
 pub record TakenState (w u : Machine) (q : Progress) (t b : List ℕ) (told : List Told) : Type 0 where
   pub state : State
-  pub has : HasState (record w { phase = phase.Header q; offset = q.offset + length q.octets; has_element = true }) (b ++ t) told (with_tail state (Front q.octets))
+  pub has : HasState (in_header w q) (b ++ t) (told ++ []) (with_tail state (Front q.octets))
   pub same : u ≡ record w { phase = phase.Between; has_element = true }
 
 pub taken_state : (w u : Machine) (r q : Progress) (before after : List ℕ) → HandsOver w u r → (k : HasTaken r q before after) → (q.octets ≡ [] → ⊥)
@@ -85,12 +88,7 @@ pub taken_state : (w u : Machine) (r q : Progress) (before after : List ℕ) →
 taken_state w u r q before after over k some fits b told s has =
     let h = handed w u r over b told s has in
     let within : Within (bound_of w.stack) (q.offset + length q.octets) = subst (λ (m : Machine). Within (bound_of m.stack) (q.offset + length q.octets)) h.2 fits in
-    let more = front_state w b told h.0 r q k.taken h.1 k.octets k.offset k.named some (front_taken k.front) within in
-    record {
-      state = h.0;
-      has = subst (λ (es : List Told). HasState (record w { phase = phase.Header q; offset = q.offset + length q.octets; has_element = true }) (b ++ k.taken) es (with_tail h.0 (Front q.octets))) (append-nil told) more;
-      same = h.2;
-    }
+    record { state = h.0; has = front_state w b told h.0 r q k.taken h.1 k.octets k.offset k.named some (front_taken k.front) within; same = h.2 }
   where
     front_taken : (q.octets ≡ r.octets) ⊎ IsFront q.octets → IsFront q.octets
     front_taken (inl e) = subst IsFront (sym e) (handed_front w u r over b told s has (λ none. some (e ∙ none)))
@@ -101,16 +99,13 @@ pub tells_unfinished : (w u : Machine) (r q : Progress) (before : List ℕ) (at 
     → Within (bound_of u.stack) at → Continues w (record u { phase = phase.Header q; offset = at }) before []
 tells_unfinished w u r q before at over k some e fits = record {
   goes = λ b told s has.
-      let within : Within (bound_of u.stack) (q.offset + length q.octets) = subst (Within (bound_of u.stack)) (sym e) fits in
-      let t : TakenState w u q k.taken b told = taken_state w u r q before [] over k some within b told s has in
-      let new : record w { phase = phase.Header q; offset = q.offset + length q.octets; has_element = true } ≡ record u { phase = phase.Header q; offset = at } =
+      let t : TakenState w u q k.taken b told = taken_state w u r q before [] over k some (subst (Within (bound_of u.stack)) (sym e) fits) b told s has in
+      let new : in_header w q ≡ record u { phase = phase.Header q; offset = at } =
       ap (λ (n : ℕ). record w { phase = phase.Header q; offset = n; has_element = true }) e ∙ ap (λ (m : Machine). record m { phase = phase.Header q; offset = at }) (sym t.same) in
-      let octets : k.taken ≡ before = sym (k.piece ∙ append-nil k.taken) in
-      (
+      let all : k.taken ≡ before = sym (k.piece ∙ append-nil k.taken) in (
         with_tail t.state (Front q.octets),
         subst (λ (m : Machine). HasState m (b ++ before) (told ++ []) (with_tail t.state (Front q.octets))) new
-            (subst (λ (es : List Told). HasState (record w { phase = phase.Header q; offset = q.offset + length q.octets; has_element = true }) (b ++ before) es (with_tail t.state (Front q.octets))) (sym (append-nil told))
-            (subst (λ (o : List ℕ). HasState (record w { phase = phase.Header q; offset = q.offset + length q.octets; has_element = true }) (b ++ o) told (with_tail t.state (Front q.octets))) octets t.has)),
+            (subst (λ (o : List ℕ). HasState (in_header w q) (b ++ o) (told ++ []) (with_tail t.state (Front q.octets))) all t.has),
       );
 }
 
@@ -170,8 +165,7 @@ primitive_entered : (w new : Machine) (b : List ℕ) (told : List Told) (s : Sta
     → (u : State) × HasState new (b ++ t) (told ++ Begin (heading_with f o) ∷ []) u
 primitive_entered w new b told s r t f o at k c e enters =
     let h : Heading = heading_with f o in
-    let size : h.size ≡ Definite (announced h.size) = definite h.constructed h.size c.valid.allowed (either_false h.constructed (wraps h) enters.0) in
-    (
+    let size : h.size ≡ Definite (announced h.size) = definite h.constructed h.size c.valid.allowed (either_false h.constructed (wraps h) enters.0) in (
       _,
       subst (λ (m : Machine). HasState m (b ++ t) (told ++ Begin h ∷ []) (with_tail s (Contents h []))) (ap (behind_header w (phase.Contents (announced h.size))) (sym e) ∙ sym enters.1)
           (primitive_state w b told s r t h (announced h.size) k c enters.0 size),
@@ -184,8 +178,7 @@ constructed_entered w new b told s r t f o at k c e enters =
     let h : Heading = heading_with f o in
     let holding : holds h ≡ true = ap (λ (x : Bool). x || wraps h) enters.0 in
     let none : lead h ≡ [] = ap (λ (x : Bool). lead_by x h.number) enters.0 in
-    let state = holding_state w b told s r t h w.wrappers k c holding none in
-    (
+    let state = holding_state w b told s r t h w.wrappers k c holding none in (
       _,
       subst (λ (x : Bool). HasState new (b ++ t) (told ++ (if x then Open h else Enter h) ∷ []) (inside_state s h)) enters.0
           (subst (λ (m : Machine). HasState m (b ++ t) (told ++ opening_event h ∷ []) (inside_state s h)) (behind_opening w new b told s r h phase.Between w.wrappers at k c.offset e enters.1) state),
@@ -202,8 +195,7 @@ wrapper_by w new b told s r t h at n k c e primitive wrapping true number same =
     (_, subst (λ (m : Machine). HasState m (b ++ t) (told ++ Enter h ∷ []) (with_tail s (Lead h))) (behind_opening w new b told s r h phase.Unused n at k c.offset e same) state)
 wrapper_by w new b told s r t h at n k c e primitive wrapping false number same =
     let none : lead h ≡ [] = lead_of h primitive ∙ ap (λ (x : Bool). if x then 0 ∷ [] else []) number in
-    let state = holding_state w b told s r t h n k c (either_true h.constructed (wraps h) wrapping) none in
-    (
+    let state = holding_state w b told s r t h n k c (either_true h.constructed (wraps h) wrapping) none in (
       _,
       subst (λ (x : Bool). HasState new (b ++ t) (told ++ (if x then Open h else Enter h) ∷ []) (inside_state s h)) primitive
           (subst (λ (m : Machine). HasState m (b ++ t) (told ++ opening_event h ∷ []) (inside_state s h)) (behind_opening w new b told s r h phase.Between n at k c.offset e same) state),
@@ -244,6 +236,11 @@ tells_header u new f h at k can same e enters =
     (tells_behind u new f (octets_of h) at k (subst (CanEnter u) (sym same) can) (e ∙ ap (λ (g : Heading). f.offset + length (octets_of g)) (sym same)) enters)
 
 -- ---- the octet that a reader is given
+
+-- a piece without octets
+pub used_up : (p : List ℕ) → length p < 1 → p ≡ []
+used_up [] h = refl
+used_up (x ∷ p) h = absurd (omega arith)
 
 -- the first octet of a piece, and the others
 pub first_octet : (p : List ℕ) → 1 ≤ length p → p ≡ get_or p 0 0 ∷ take (length p - 1) (drop 1 p)

@@ -1,4 +1,4 @@
-use Rattle.std.proofs.Common.{refl, ◌∷◌, ◌≡◌, ◌≢◌, inl, ℕ, ◌+◌, ◌<◌, ◌≤◌, get_or, List, [], length, Option, Some, sym, ap, ◌∙◌, subst, arith}
+use Rattle.std.proofs.Common.{◌≡◌, inl, ℕ, ◌+◌, ◌≤◌, get_or, [], length, Option, sym, ap, ◌∙◌, subst, arith}
 use Rattle.tlv_head.specs.Progress.{Progress}
 use Rattle.tlv_head.specs.Push.{FitsThere, IsRefused}
 use Rattle.tlv_walk.specs.Machine.{Machine}
@@ -7,7 +7,7 @@ use Rattle.tlv_walk.specs.Stack.{Within, bound_of, left_to}
 use Rattle.tlv_walk.specs.Tells.{told_of}
 use Rattle.tlv_walk.specs.WalkerFields.{machine_of}
 use Rattle.tlv_walk.proofs.HeaderRefusals.{refuses_header}
-use Rattle.tlv_walk.proofs.HeaderSteps.{HasTaken, first_octet, give_room, give_some, pushed_place, pushed_some, taken_more, tells_unfinished, whole_enters, whole_tells, within_next}
+use Rattle.tlv_walk.proofs.HeaderSteps.{HasTaken, first_octet, give_room, give_some, pushed_place, pushed_some, taken_more, tells_unfinished, used_up, whole_enters, whole_tells, within_next}
 use Rattle.tlv_walk.proofs.walker.Walker.read_on.Goals as goal
 
 pub loop-piece-preserved : goal.loop-piece-preserved
@@ -59,13 +59,9 @@ returns-in-Refused-clause-tells c = λ w over.
 pub returns-clause-tells : goal.returns-clause-tells
 returns-clause-tells c = λ w over.
     let i = c.loop-piece.invariant in
-    let used : c.loop-piece.piece.now ≡ [] = nothing c.loop-piece.piece.now c.in_default.len_below in
+    let used : c.loop-piece.piece.now ≡ [] = used_up c.loop-piece.piece.now c.in_default.len_below in
     let same = c.self-2.view_is ∙ i.same in
     let bound : c.bound-bound.result ≡ bound_of c.self-2.inside.stack = c.bound-bound.ensures ∙ ap (λ (m : Machine). bound_of m.stack) (c.self.view_is ∙ sym same) in
     tells_unfinished w (machine_of c.self-2.inside) c.args.reader c.loop-piece.reader c.args.piece.now.now c.loop-piece.offset (subst (λ (m : Machine). HandsOver w m c.args.reader) (sym same) over)
     (subst (HasTaken c.args.reader c.loop-piece.reader c.args.piece.now.now) used i.read) (give_some c.loop-piece.reader.octets c.loop-piece.piece.now _ i.first used) i.place
     (subst (λ (b : Option ℕ). Within b c.loop-piece.offset) bound i.within)
-  where
-    nothing : (p : List ℕ) → length p < 1 → p ≡ []
-    nothing [] h = refl
-    nothing (x ∷ p) h = absurd (omega arith)
