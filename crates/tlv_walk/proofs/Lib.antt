@@ -27,5 +27,7 @@ pub mod Padding
 pub mod Refusals
 pub mod Behind
 pub mod Finishing
+pub mod HeaderSteps
+pub mod HeaderRefusals
 pub mod Standing
 pub mod Known

@@ -17,4 +17,5 @@ pub mod WalkerFields
 pub mod Laws
 pub mod State
 pub mod Tells
+pub mod ReadsOn
 pub mod OpenCount

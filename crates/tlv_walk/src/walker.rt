@@ -65,7 +65,8 @@ impl Walker {
     ghost use Rattle.tlv_walk.specs.Events.{Told};
     ghost use Rattle.tlv_walk.specs.OpenCount.{open_count};
     ghost use Rattle.tlv_walk.specs.State.{Stands};
-    ghost use Rattle.tlv_walk.specs.Tells.{TellsMove};
+    ghost use Rattle.tlv_walk.specs.ReadsOn.{TellsFrom, TellsHeader};
+    ghost use Rattle.tlv_walk.specs.Tells.{TellsMove, TellsStep, told_of};
     ghost use Rattle.tlv_walk.specs.Stack.{IsFilled, Within, bound_of, room_of};
 
     /// A walker that has taken nothing.
@@ -408,7 +409,8 @@ impl Walker {
     pub(crate) fn slow_header<'a>(&mut self, piece: &mut &'a [u8]) -> Step<'a>
         requires begins { CanRead self.old piece.old.now }
         requires limit { self.old.offset + length piece.old.now ≤ 2 ^ 40 }
-        ensures { Steps self.old self.new piece.old.now piece.new.now result }
+        ensures steps { Steps self.old self.new piece.old.now piece.new.now result }
+        ensures tells { TellsStep self.old self.new piece.old.now piece.new.now result }
     {
         if matches!(self.phase, Phase::Header(_)) {
             let Phase::Header(reader) = replace(&mut self.phase, Phase::Between) else {
@@ -427,7 +429,8 @@ impl Walker {
         requires read { CanReadOn self.old reader piece.old.now }
         requires some { piece.old.now ≢ [] }
         requires limit { self.old.offset + length piece.old.now ≤ 2 ^ 40 }
-        ensures { Steps self.old self.new piece.old.now piece.new.now result }
+        ensures steps { Steps self.old self.new piece.old.now piece.new.now result }
+        ensures tells { TellsFrom self.old reader self.new piece.old.now piece.new.now result }
     {
         let mut reader = reader;
         let depth = self.stack.len();
@@ -458,7 +461,8 @@ impl Walker {
     fn enter_slowly<'a>(&mut self, header: Header) -> Event<'a>
         requires phase { self.old.phase ≡ phases.Between }
         requires enter { CanEnter self.old header }
-        ensures { Tells self.old self.new (header.offset + length (octets_of header)) }
+        ensures tells { Tells self.old self.new (header.offset + length (octets_of header)) }
+        ensures enters { TellsHeader self.old self.new header (told_of result) }
     {
         let fields = header.fields();
         match self.enter(&fields, header.raw()) {

@@ -1,5 +1,6 @@
-use Rattle.std.proofs.Common.{◌≡◌, ◌≢◌, ◌⊎◌, ◌+◌, ◌≤◌, ℕ, List, [], ◌∷◌, false, length, Some}
+use Rattle.std.proofs.Common.{◌≡◌, ◌+◌, false, length}
 use Rattle.tlv_walk.specs.Stack.{Within, left_to}
+use Rattle.tlv_walk.proofs.HeaderSteps.{CanGive, HasTaken}
 use Rattle.tlv_walk.proofs.walker.Walker.read_on.Given as goal
 
 abbrev pub invariant-loop-piece : goal.invariant-loop-piece
@@ -10,7 +11,8 @@ invariant-loop-piece l = record {
   place : l.reader.offset + length l.reader.octets ≡ l.offset;
   taken : l.offset + length l.piece.now ≡ l.fn.self.offset + length l.fn.piece.now;
   within : Within l.bound l.offset;
-  first : (l.reader.octets ≢ []) ⊎ ((x : ℕ) × (rest : List ℕ) × (l.piece.now ≡ x ∷ rest) × (x ≢ 0) × (left_to l.bound l.offset ≢ Some 0));
+  read : HasTaken l.fn.reader l.reader l.fn.piece.now l.piece.now;
+  first : CanGive l.reader.octets l.piece.now (left_to l.bound l.offset);
 }
 
 abbrev pub decreases-loop-piece : goal.decreases-loop-piece

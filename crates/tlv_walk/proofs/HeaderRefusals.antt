@@ -1,0 +1,157 @@
+-- What is refused behind octets of a header is a fault, whatever follows.
+use Rattle.std.proofs.Common.{◌≡◌, ◌≢◌, inl, inr, ℕ, ◌+◌, ◌-◌, ◌<◌, ◌≤◌, Bool, false, List, [], ◌∷◌, ◌++◌, length, Option, Some, None, refl, sym, ap, ◌∙◌, subst, arith, append-nil, length-append}
+use Rattle.tlv_head.specs.declared.fault.Fault.{Fault}
+use Rattle.tlv_head.specs.declared.fault.FaultCode.{FaultCode}
+use Rattle.tlv_head.specs.declared.fault.FaultCode.TheVariants.{Empty, Short, StrayEnd, BadEnd, MissingEnd, TagTooLong, ReservedLength, IndefinitePrimitive, LengthTooLarge, TooDeep, Overrun, BadInside}
+use Rattle.tlv_head.specs.declared.header.Class.{Class}
+use Rattle.tlv_head.specs.declared.header.Size.{Size}
+use Rattle.tlv_head.specs.declared.header.Size.TheVariants.{Definite, Indefinite}
+use Rattle.tlv_head.specs.Header.{Heading, IsIdentifier, announced, octets_of}
+use Rattle.tlv_head.specs.Progress.{Fits, Progress}
+use Rattle.tlv_head.specs.Push.{Completes, IsRefused}
+use Rattle.tlv_head.proofs.Front.{header-two}
+use Rattle.tlv_walk.specs.declared.stack.Frame.{Frame}
+use Rattle.tlv_walk.specs.declared.walker.Phase.TheVariants as phase
+use Rattle.tlv_walk.specs.Ending.{BelowBound, Completed, InHeader, IsEnding, IsFault, fault, indefinite_primitive, length_too_large, no_room, overrun, reserved_length, tag_too_long, too_deep}
+use Rattle.tlv_walk.specs.Events.{Told}
+use Rattle.tlv_walk.specs.Inside.{is_among}
+use Rattle.tlv_walk.specs.Machine.{Machine}
+use Rattle.tlv_walk.specs.Place.{Place}
+use Rattle.tlv_walk.specs.ReadsOn.{HandsOver}
+use Rattle.tlv_walk.specs.Stack.{Within, bound_of, left_to}
+use Rattle.tlv_walk.specs.State.{HasState, Front, State, place_of}
+use Rattle.tlv_walk.specs.Tells.{RefusesOctet}
+use Rattle.tlv_walk.proofs.HeaderSteps.{HasTaken, TakenState, in_header, taken_state}
+use Rattle.tlv_walk.proofs.Moves.{phase_at, with_tail}
+use Rattle.tlv_walk.proofs.Places.{place-bound, place-depth}
+use Rattle.tlv_walk.proofs.StateEndings.{state-fault}
+
+-- ---- a reader without octets refuses none but 00
+
+identifier-nil : (class : Class) (k : Bool) (n : ℕ) (o : List ℕ) → IsIdentifier class k n o → o ≡ [] → ⊥
+identifier-nil class k n o (inl low) e = let z : [] ≡ _ ∷ [] = sym e ∙ low.octet in absurd (cc)
+identifier-nil class k n o (inr high) e = let z : [] ≡ _ ∷ _ = sym e ∙ high.octet in absurd (cc)
+
+-- one octet is no header
+completes-two : (r : Progress) (x : ℕ) (h : Heading) → Completes r x h → r.octets ≡ [] → ⊥
+completes-two r x h c e =
+    let two : 2 ≤ length (octets_of h) = header-two h c.valid in
+    let one : octets_of h ≡ x ∷ [] = c.octets ∙ ap (λ (o : List ℕ). o ++ x ∷ []) e in
+    omega (arith, ap length one)
+
+pub refused-some : (code : FaultCode) (r : Progress) (x : ℕ) (room : Option ℕ) (depth : ℕ) → IsRefused code r x room depth → room ≢ Some 0 → r.octets ≡ [] → ⊥
+refused-some Overrun r x room depth (inl none) some e = some none
+refused-some Overrun r x room depth (inr past) some e = completes-two r x past.1.head past.1.completes e
+refused-some TooDeep r x room depth k some e = completes-two r x k.1.head k.1.completes e
+refused-some TagTooLong r x room depth k some e = let z : [] ≡ _ ∷ _ = sym e ∙ k.1.front.octet in absurd (cc)
+refused-some ReservedLength r x room depth k some e = identifier-nil k.1.front.class k.1.constructed k.1.front.number r.octets k.1.front.identifier e
+refused-some IndefinitePrimitive r x room depth k some e = identifier-nil k.1.front.class false k.1.front.number r.octets k.1.front.identifier e
+refused-some LengthTooLarge r x room depth k some e =
+    omega (arith, ap length (sym e ∙ k.1.front.octet), length-append k.1.identifier ((128 + (length k.1.digits + k.1.left)) ∷ k.1.digits))
+refused-some Empty r x room depth k some e = k.1
+refused-some Short r x room depth k some e = k.1
+refused-some StrayEnd r x room depth k some e = k.1
+refused-some BadEnd r x room depth k some e = k.1
+refused-some MissingEnd r x room depth k some e = k.1
+refused-some BadInside r x room depth k some e = k.1
+
+-- ---- what a reader refuses is a fault there
+
+-- no octets are left to the bound, which is reached
+bound_reached : (b : Option ℕ) (n : ℕ) → Within b n → left_to b n ≡ Some 0 → b ≡ Some n
+bound_reached None n w e = absurd (cc)
+bound_reached (Some m) n w e = let z : m - n ≡ 0 = cc in ap Some (omega arith)
+
+bound_ahead : (b : Option ℕ) (n : ℕ) → (left_to b n ≡ Some 0 → ⊥) → b ≡ Some n → ⊥
+bound_ahead b n f e = f (ap (λ (x : Option ℕ). left_to x n) e ∙ ap Some (omega arith))
+
+-- the contents end past the bound
+past_bound : (size : Size) (b : Option ℕ) (n : ℕ) → left_to b n ≢ Some 0 → (Fits size (left_to b n) → ⊥) → (m : ℕ) × (b ≡ Some m) × (m < n + 1 + announced size)
+past_bound (Definite k) None n some past = absurd (past tt)
+past_bound Indefinite None n some past = absurd (past tt)
+past_bound (Definite k) (Some m) n some past = (m, refl, omega (arith, past))
+past_bound Indefinite (Some m) n some past = (m, refl, omega (arith, past))
+
+-- where a reader stands
+pub record IsReader (p : Place) (q : Progress) (room : Option ℕ) (depth : ℕ) : Type 0 where
+  pub offset : q.offset ≡ p.at
+  pub named : q.named ≡ is_among p.at p.inside
+  pub depths : depth ≡ p.depth
+  pub left : room ≡ left_to p.bound (p.at + length q.octets)
+  pub within : Within p.bound (p.at + length q.octets)
+
+completed_there : (p : Place) (q : Progress) (room : Option ℕ) (depth x : ℕ) (h : Heading) → IsReader p q room depth → Completes q x h → Completed p (q.octets ++ x ∷ []) h
+completed_there p q room depth x h k c = record { spelled = record { valid = c.valid; octets = c.octets }; named = c.named ∙ k.named }
+
+below_there : (p : Place) (q : Progress) (room : Option ℕ) (depth : ℕ) → IsReader p q room depth → room ≢ Some 0 → BelowBound p (length q.octets)
+below_there p q room depth k some = bound_ahead p.bound (p.at + length q.octets) (λ e. some (k.left ∙ e))
+
+pub refused_fault : (p : Place) (q : Progress) (room : Option ℕ) (depth x : ℕ) (code : FaultCode) → IsReader p q room depth → IsRefused code q x room depth → IsFault p x (InHeader q.octets) code
+refused_fault p q room depth x Overrun k (inl none) = no_room (bound_reached p.bound (p.at + length q.octets) k.within (sym k.left ∙ none))
+refused_fault p q room depth x Overrun k (inr past) =
+    let h : Heading = past.1.head in
+    let some : left_to p.bound (p.at + length q.octets) ≢ Some 0 = λ e. past.0 (k.left ∙ e) in
+    let m = past_bound h.size p.bound (p.at + length q.octets) some (λ f. past.1.past (subst (Fits h.size) (sym k.left) f)) in
+    overrun (below_there p q room depth k past.0) h (completed_there p q room depth x h k past.1.completes) (λ e. subst (λ (n : ℕ). n < 128) k.depths (past.1.shallow e))
+    (record { bound = m.0; is_bound = m.1; past = omega (arith, m.2, ap length past.1.completes.octets, length-append q.octets (x ∷ [])) })
+refused_fault p q room depth x TooDeep k f =
+    too_deep (below_there p q room depth k f.0) f.1.head (completed_there p q room depth x f.1.head k f.1.completes) f.1.holding (subst (λ (n : ℕ). 128 ≤ n) k.depths f.1.deep)
+refused_fault p q room depth x TagTooLong k f = tag_too_long (below_there p q room depth k f.0) f.1
+refused_fault p q room depth x ReservedLength k f = reserved_length (below_there p q room depth k f.0) f.1
+refused_fault p q room depth x IndefinitePrimitive k f = indefinite_primitive (below_there p q room depth k f.0) f.1
+refused_fault p q room depth x LengthTooLarge k f = length_too_large (below_there p q room depth k f.0) f.1
+refused_fault p q room depth x Empty k f = absurd f.1
+refused_fault p q room depth x Short k f = absurd f.1
+refused_fault p q room depth x StrayEnd k f = absurd f.1
+refused_fault p q room depth x BadEnd k f = absurd f.1
+refused_fault p q room depth x MissingEnd k f = absurd f.1
+refused_fault p q room depth x BadInside k f = absurd f.1
+
+-- ---- a walker refuses it
+
+-- the reader of a walker inside a header stands where its state says
+reader_there : (w : Machine) (b : List ℕ) (told : List Told) (s : State) (q : Progress) (depth : ℕ) → w.phase ≡ phase.Header q → HasState w b told (with_tail s (Front q.octets)) → depth ≡ length w.stack
+    → IsReader (place_of w.framing s) q (left_to (bound_of w.stack) (q.offset + length q.octets)) depth
+reader_there w b told s q depth e has d =
+    let p : Place = place_of w.framing s in
+    let at = phase_at w b told (with_tail s (Front q.octets)) (phase.Header q) e has in
+    let bound : bound_of w.stack ≡ p.bound = ap bound_of has.stack ∙ sym (place-bound w.framing s.layers) in
+    record {
+      offset = at.1;
+      named = at.2;
+      depths = d ∙ ap length has.stack ∙ sym (place-depth w.framing s.layers);
+      left = ap (λ (o : Option ℕ). left_to o (q.offset + length q.octets)) bound ∙ ap (λ (n : ℕ). left_to p.bound (n + length q.octets)) at.1;
+      within = at.3.fits;
+    }
+
+-- the octet that its reader refuses
+pub refuses_header : (w u : Machine) (r q : Progress) (before after rest : List ℕ) (x depth at : ℕ) (f : Fault) → HandsOver w u r → HasTaken r q before after → after ≡ x ∷ rest
+    → Within (bound_of u.stack) at → q.offset + length q.octets ≡ at → depth ≡ length u.stack
+    → (q.octets ≡ [] → left_to (bound_of u.stack) at ≢ Some 0) → IsRefused f.code q x (left_to (bound_of u.stack) at) depth → f.offset ≡ q.offset + length q.octets
+    → RefusesOctet w before after f
+refuses_header w u r q before after rest x depth at f over k e within place deep room refused there =
+    let some : q.octets ≡ [] → ⊥ = λ none. refused-some f.code q x _ depth refused (room none) none in (
+      k.taken,
+      x,
+      rest,
+      k.piece ∙ ap (λ (l : List ℕ). k.taken ++ l) e,
+      e,
+      λ b told s has.
+          let t : TakenState w u q k.taken b told = taken_state w u r q before after over k some (subst (Within (bound_of u.stack)) (sym place) within) b told s has in
+          let has' : HasState (in_header w q) (b ++ k.taken) told (with_tail t.state (Front q.octets)) =
+          subst (λ (es : List Told). HasState (in_header w q) (b ++ k.taken) es (with_tail t.state (Front q.octets))) (append-nil told) t.has in
+          let same : u.stack ≡ w.stack = ap (λ (m : Machine). m.stack) t.same in
+          let left : left_to (bound_of u.stack) at ≡ left_to (bound_of w.stack) (q.offset + length q.octets) =
+          ap (λ (fs : List Frame). left_to (bound_of fs) at) same ∙ ap (left_to (bound_of w.stack)) (sym place) in
+          let faulty : IsFault (place_of w.framing t.state) x (InHeader q.octets) f.code =
+          refused_fault _ q _ depth x f.code (reader_there (in_header w q) (b ++ k.taken) told t.state q depth refl has' (deep ∙ ap length same))
+          (subst (λ (o : Option ℕ). IsRefused f.code q x o depth) left refused) in (
+            in_header w q,
+            with_tail t.state (Front q.octets),
+            has',
+            λ z. z,
+            λ c. subst (λ (n : ℕ). IsEnding w.framing ((b ++ k.taken) ++ x ∷ c) (fault f.code n)) (sym has'.offset ∙ sym there)
+                (state-fault (in_header w q) (b ++ k.taken) told (with_tail t.state (Front q.octets)) x c f.code has' (λ z. z) faulty),
+            refl,
+          ),
+    )
