@@ -17,7 +17,7 @@ use Rattle.tlv_walk.proofs.StateEndings.{ready-waits}
 use Rattle.tlv_walk.proofs.StateReading.{stands, state-events, state-reading}
 use Rattle.tlv_walk.proofs.Zipper.{reading_of}
 
-stands_behind : (old new : Machine) (before after : List ℕ) (e : Told) → TellsEvent old new before after e → StandsBehind old new before after e
+pub stands_behind : (old new : Machine) (before after : List ℕ) (e : Told) → TellsEvent old new before after e → StandsBehind old new before after e
 stands_behind old new before after e t =
     (t.0, t.1, λ b told st. let u = t.2.goes b told st.state st.has_state in stands new (b ++ t.0) (told ++ e ∷ []) u.0 u.1)
 

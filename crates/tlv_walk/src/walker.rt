@@ -66,7 +66,7 @@ impl Walker {
     ghost use Rattle.tlv_walk.specs.OpenCount.{open_count};
     ghost use Rattle.tlv_walk.specs.State.{Stands};
     ghost use Rattle.tlv_walk.specs.ReadsOn.{TellsFrom, TellsHeader};
-    ghost use Rattle.tlv_walk.specs.Tells.{TellsMove, TellsStep, told_of};
+    ghost use Rattle.tlv_walk.specs.Tells.{StandsStep, TellsMove, TellsStep, told_of};
     ghost use Rattle.tlv_walk.specs.Stack.{IsFilled, Within, bound_of, room_of};
 
     /// A walker that has taken nothing.
@@ -174,7 +174,8 @@ impl Walker {
     /// the same fault and takes nothing.
     pub fn step<'a>(&mut self, piece: &mut &'a [u8]) -> Step<'a>
         requires { self.old.offset + length piece.old.now ≤ 2 ^ 40 }
-        ensures { Steps self.old self.new piece.old.now piece.new.now result }
+        ensures steps { Steps self.old self.new piece.old.now piece.new.now result }
+        ensures stands { StandsStep self.old self.new piece.old.now piece.new.now result }
     {
         Step::Event(match self.advance(piece) {
             Move::Open(fields, octets) => Event::Open(Header::new(&fields, octets)),
