@@ -59,9 +59,11 @@ pub record HasTaken (r q : Progress) (before after : List ℕ) : Type 0 where
   pub named : q.named ≡ r.named
   pub front : (q.octets ≡ r.octets) ⊎ IsFront q.octets
 
+-- none yet
 pub taken_none : (r : Progress) (piece : List ℕ) → HasTaken r r piece piece
 taken_none r piece = record { taken = []; piece = refl; octets = sym (append-nil r.octets); offset = refl; named = refl; front = inl refl }
 
+-- one more
 pub taken_more : (r q p : Progress) (before after rest : List ℕ) (x : ℕ) → HasTaken r q before after → after ≡ x ∷ rest → IsFront (q.octets ++ x ∷ []) → p ≡ with_octet q x → HasTaken r p before rest
 taken_more r q p before after rest x k e front same =
     subst (λ (p : Progress). HasTaken r p before rest) (sym same) (record {
@@ -156,6 +158,7 @@ inside_state s h = record { layers = record { before = s.here; head = h } ∷ s.
 abbrev lead_by : Bool → ℕ → List ℕ
 lead_by constructed number = if constructed then [] else (if eqb number 3 then 0 ∷ [] else [])
 
+-- the first contents octet of a wrapper
 lead_of : (h : Heading) → h.constructed ≡ false → lead h ≡ (if eqb h.number 3 then 0 ∷ [] else [])
 lead_of h e = ap (λ (x : Bool). lead_by x h.number) e
 
@@ -210,17 +213,19 @@ tells_entered w new b told s r t f o at kind.Constructed k c e enters = construc
 tells_entered w new b told s r t f o at kind.Wrapper k c e enters =
     wrapper_by w new b told s r t (heading_with f o) at (next_wrapper w.framing.inside w.wrappers f.offset) k c e enters.0 enters.1 (eqb f.number 3) refl enters.2
 
--- so does the walker that the reader was taken from
+-- the walker that the reader was taken from enters it too
 enters_without : (w u new : Machine) (f : HeaderFields) (at : ℕ) (k : Kind) → u ≡ record w { phase = phase.Between; has_element = true } → Enters u new f at k → Enters w new f at k
 enters_without w u new f at kind.Primitive e enters = subst (λ (m : Machine). Enters m new f at kind.Primitive) e enters
 enters_without w u new f at kind.Constructed e enters = subst (λ (m : Machine). Enters m new f at kind.Constructed) e enters
 enters_without w u new f at kind.Wrapper e enters = subst (λ (m : Machine). Enters m new f at kind.Wrapper) e enters
 
+-- and the header that it completes may stand there
 completed_without : (w u : Machine) (r : Progress) (t : List ℕ) (h : Heading) → u ≡ record w { phase = phase.Between; has_element = true } → CanEnter u h → Makes r t h → Completed w r t h
 completed_without w u r t h e can makes =
     let can' : CanEnter (record w { phase = phase.Between; has_element = true }) h = subst (λ (m : Machine). CanEnter m h) e can in
     record { valid = can'.valid; octets = makes.octets; offset = makes.offset; named = makes.named; shallow = can'.shallow; fits = can'.fits }
 
+-- so it tells a header with the fields that were entered
 tells_behind : (u new : Machine) (f : HeaderFields) (o : List ℕ) (at : ℕ) (k : Kind) → CanEnter u (heading_with f o) → at ≡ f.offset + length (octets_of (heading_with f o)) → Enters u new f at k
     → TellsHeader u new (heading_with f o) (event_of k (heading_with f o))
 tells_behind u new f o at k can e enters w r t over makes = record {
@@ -229,6 +234,7 @@ tells_behind u new f o at k can e enters w r t over makes = record {
       tells_entered w new b told h.0 r t f o at k h.1 (completed_without w u r t (heading_with f o) h.2 can makes) e (enters_without w u new f at k h.2 enters);
 }
 
+-- the same of a header that has these fields
 pub tells_header : (u new : Machine) (f : HeaderFields) (h : Heading) (at : ℕ) (k : Kind) → CanEnter u h → heading_with f (octets_of h) ≡ h → at ≡ f.offset + length (octets_of h) → Enters u new f at k
     → TellsHeader u new h (event_of k h)
 tells_header u new f h at k can same e enters =
@@ -294,6 +300,7 @@ whole_tells w u new r q before after rest x h e over k f c tells = (
 abbrev pub CanGive : List ℕ → List ℕ → Option ℕ → Type 0
 CanGive octets piece room = (octets ≢ []) ⊎ ((x : ℕ) × (rest : List ℕ) × (piece ≡ x ∷ rest) × (x ≢ 0) × (room ≢ Some 0))
 
+-- where it has none, there is room
 pub give_room : (octets piece : List ℕ) (room : Option ℕ) → CanGive octets piece room → octets ≡ [] → room ≢ Some 0
 give_room octets piece room (inl some) none = absurd (some none)
 give_room octets piece room (inr k) none = k.4
