@@ -26,7 +26,7 @@ use Rattle.tlv_walk.proofs.Moves.{phase_at, with_tail}
 use Rattle.tlv_walk.proofs.Places.{place-bound, place-depth}
 use Rattle.tlv_walk.proofs.StateEndings.{state-fault}
 
--- ---- a reader without octets refuses none but 00
+-- ---- where there is room, a reader without octets refuses none
 
 -- an identifier has octets
 identifier-nil : (class : Class) (k : Bool) (n : ℕ) (o : List ℕ) → IsIdentifier class k n o → o ≡ [] → ⊥
@@ -40,7 +40,7 @@ completes-two r x h c e =
     let one : octets_of h ≡ x ∷ [] = c.octets ∙ ap (λ (o : List ℕ). o ++ x ∷ []) e in
     omega (arith, ap length one)
 
--- so the refusals have octets before them
+-- so a refusal has octets before it, or no room
 pub refused-some : (code : FaultCode) (r : Progress) (x : ℕ) (room : Option ℕ) (depth : ℕ) → IsRefused code r x room depth → room ≢ Some 0 → r.octets ≡ [] → ⊥
 refused-some Overrun r x room depth (inl none) some e = some none
 refused-some Overrun r x room depth (inr past) some e = completes-two r x past.1.head past.1.completes e
