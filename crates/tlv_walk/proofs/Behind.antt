@@ -10,7 +10,7 @@ use Rattle.tlv_walk.specs.Ending.{IsEnding}
 use Rattle.tlv_walk.specs.Events.{Told}
 use Rattle.tlv_walk.specs.Machine.{CanRead, IsHeader, Machine, Moves}
 use Rattle.tlv_walk.specs.Stack.{Within, left_to}
-use Rattle.tlv_walk.specs.State.{HasState, State}
+use Rattle.tlv_walk.specs.State.{HasState}
 use Rattle.tlv_walk.specs.Tells.{Continues, RefusesOctet, TellsEvent, TellsFault, TellsMove}
 use Rattle.tlv_walk.proofs.Moves.{continues_both}
 
@@ -26,17 +26,17 @@ module _ (old mid new : Machine) (x : ℕ) (first : Continues old mid (x ∷ [])
     ap (λ (o : List ℕ). x ∷ o) r.3,
     r.4,
     λ b told s has.
-      let one = first.goes b told s has in
-      let two = r.5 (b ++ x ∷ []) (told ++ []) one.0 one.1 in
-      let spelled : (b ++ x ∷ []) ++ r.0 ≡ b ++ x ∷ r.0 = append_assoc b (x ∷ []) r.0 in (
-        two.0,
-        two.1,
-        subst (λ (o : List ℕ). HasState two.0 o told two.1) spelled (subst (λ (es : List Told). HasState two.0 ((b ++ x ∷ []) ++ r.0) es two.1) (append-nil told) two.2),
-        two.3,
-        λ c. subst (λ (w : Framing). IsEnding w ((b ++ x ∷ r.0) ++ r.1 ∷ c) (ending.Fault f)) same
-            (subst (λ (o : List ℕ). IsEnding mid.framing (o ++ r.1 ∷ c) (ending.Fault f)) spelled (two.4 c)),
-        two.5 ∙ same,
-      ),
+        let one = first.goes b told s has in
+        let two = r.5 (b ++ x ∷ []) (told ++ []) one.0 one.1 in
+        let spelled : (b ++ x ∷ []) ++ r.0 ≡ b ++ x ∷ r.0 = append_assoc b (x ∷ []) r.0 in (
+          two.0,
+          two.1,
+          subst (λ (o : List ℕ). HasState two.0 o told two.1) spelled (subst (λ (es : List Told). HasState two.0 ((b ++ x ∷ []) ++ r.0) es two.1) (append-nil told) two.2),
+          two.3,
+          λ c. subst (λ (w : Framing). IsEnding w ((b ++ x ∷ r.0) ++ r.1 ∷ c) (ending.Fault f)) same
+              (subst (λ (o : List ℕ). IsEnding mid.framing (o ++ r.1 ∷ c) (ending.Fault f)) spelled (two.4 c)),
+          two.5 ∙ same,
+        ),
   )
 
   fault_behind : (rest after : List ℕ) (f : Fault) → mid.phase ≡ phase.Zero → TellsFault mid new rest after f → TellsFault old new (x ∷ rest) after f

@@ -7,7 +7,7 @@ use Rattle.tlv_head.specs.Header.{AllowsSize, Heading, announced, octets_of}
 use Rattle.tlv_walk.specs.declared.stack.Frame.{Frame}
 use Rattle.tlv_walk.specs.declared.walker.Phase.TheVariants as phase
 use Rattle.tlv_walk.specs.Events.{AreEqualJoined, Told, Close, Leave, apart, closes, end_offset, events, opens}
-use Rattle.tlv_walk.specs.Forest.{Forest, Stop, Closed, contents_length, end_octets, extent, is_whole, lead, opening, spell}
+use Rattle.tlv_walk.specs.Forest.{Forest, Stop, Closed, contents_length, end_octets, extent, is_whole, opening, spell}
 use Rattle.tlv_walk.specs.Machine.{Machine}
 use Rattle.tlv_walk.specs.Place.{Fits, HasLength, IsEntry, IsZero, Place, after, bound_in, is_indefinite}
 use Rattle.tlv_walk.specs.Stack.{IsFilled, Within, bound_of, innermost_of}
@@ -16,7 +16,7 @@ use Rattle.tlv_walk.specs.State.{AreWhole, HasState, Layer, Tail, Nothing, Lone,
 use Rattle.tlv_walk.proofs.Moves.{began, between_tail, closed_here, lone_tail, phase_at, tail_state, told_more, with_layers, with_tail}
 use Rattle.tlv_walk.proofs.Places.{definite-size, place-offset}
 use Rattle.tlv_walk.proofs.Spellings.{length-opening}
-use Rattle.tlv_walk.proofs.Zipper.{behind, open-behind, spell-behind, whole-behind}
+use Rattle.tlv_walk.proofs.Zipper.{open-behind, spell-behind, whole-behind}
 use Rattle.tlv_walk.proofs.ZipperEvents.{events-behind}
 
 regroup : (a b c d e t : List ℕ) → a ++ ((b ++ (c ++ (d ++ ((e ++ t) ++ [])))) ++ []) ≡ ((a ++ (b ++ c)) ++ (d ++ e)) ++ t
@@ -171,7 +171,7 @@ pub tells_popped : (w : Machine) (f : Frame) (t : Told) → w.phase ≡ phase.Be
 tells_popped w f t e full is same =
     let stack : w.stack ≡ f ∷ drop 1 w.stack = innermost_cons w.stack f is in
     subst (λ (x : Told). Continues w (record w { stack = drop 1 w.stack; events = w.events + 1 }) [] (x ∷ [])) same
-        (tells_filled w e f (drop 1 w.stack) stack (filled_end w.stack f (drop 1 w.stack) w.offset stack full))
+    (tells_filled w e f (drop 1 w.stack) stack (filled_end w.stack f (drop 1 w.stack) w.offset stack full))
 
 pub ending_by : (f : Frame) (k : Bool) → f.wrapper ≡ k → ending_of f ≡ (if k then Leave else Close None)
 ending_by f k e = ap (λ (w : Bool). if w then Leave else Close None) e

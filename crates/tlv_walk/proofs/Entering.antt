@@ -1,22 +1,20 @@
 -- A walker's state goes on behind a header.
-use Rattle.std.proofs.Common.{◌≡◌, ℕ, ◌+◌, ◌<◌, ◌≤◌, Bool, true, false, not, ◌||◌, eqb, if◌then◌else◌, List, [], ◌∷◌, ◌++◌, length, map, Option, Some, None, refl, sym, ap, ◌∙◌, subst, arith, append_assoc, append-nil, length-append}
-use Rattle.tlv_head.specs.declared.header.Size.{Size}
-use Rattle.tlv_head.specs.declared.header.Size.TheVariants.{Definite, Indefinite}
+use Rattle.std.proofs.Common.{◌≡◌, ℕ, ◌+◌, ◌<◌, Bool, true, false, eqb, if◌then◌else◌, List, [], ◌∷◌, ◌++◌, length, map, Option, refl, sym, ap, ◌∙◌, subst, arith, append-nil, length-append}
+use Rattle.tlv_head.specs.declared.header.Size.TheVariants.{Definite}
 use Rattle.tlv_head.specs.Header.{Heading, IsHeading, announced, holds, octets_of}
 use Rattle.tlv_head.specs.Progress.{Progress}
 use Rattle.tlv_head.specs.Refusal.{IsFront}
 use Rattle.tlv_walk.specs.declared.stack.Frame.{Frame}
-use Rattle.tlv_walk.specs.declared.walker.Phase.{Phase}
 use Rattle.tlv_walk.specs.declared.walker.Phase.TheVariants as phase
 use Rattle.tlv_walk.specs.Events.{AreEqualJoined, Told, Open, Begin, Bytes, Enter, Unused, apart, events, opens}
-use Rattle.tlv_walk.specs.Forest.{Forest, Stop, has_element, lead, opening, spell}
+use Rattle.tlv_walk.specs.Forest.{Forest, Stop, lead, opening, spell}
 use Rattle.tlv_walk.specs.Inside.{is_among}
 use Rattle.tlv_walk.specs.Machine.{Machine, behind_header}
-use Rattle.tlv_walk.specs.Place.{Fits, IsAwaiting, IsBegun, IsEntry, IsHeadAt, Place, after}
+use Rattle.tlv_walk.specs.Place.{Fits, IsAwaiting, IsEntry, IsHeadAt, Place}
 use Rattle.tlv_walk.specs.Stack.{Within, bound_of}
 use Rattle.tlv_walk.specs.State.{HasState, IsPhaseOf, Layer, Tail, Nothing, Contents, Lead, Front, Lone, State, events_layers, events_tail, frame_of, frames_of, place_in, place_of, spell_layers, spell_tail}
 use Rattle.tlv_walk.specs.Tells.{Continues}
-use Rattle.tlv_walk.proofs.Moves.{between_tail, phase_at, spelled_behind, tail_state, told_behind, told_more, with_tail}
+use Rattle.tlv_walk.proofs.Moves.{between_tail, phase_at, spelled_behind, tail_state, told_behind, with_tail}
 use Rattle.tlv_walk.proofs.Places.{place-bound, place-depth, place-inside, place-offset}
 
 -- a walker that stands at a header, or behind the octets of one that the reader has

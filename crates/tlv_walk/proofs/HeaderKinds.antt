@@ -1,12 +1,10 @@
 -- What a header begins, on a walker's state.
-use Rattle.std.proofs.Common.{◌≡◌, ℕ, ◌+◌, ◌<◌, Bool, true, false, ◌||◌, eqb, if◌then◌else◌, List, [], ◌∷◌, ◌++◌, length, take, drop, Option, refl, sym, ap, ◌∙◌, subst, arith}
-use Rattle.std.proofs.lemmas.Bool.{cases_Bool}
+use Rattle.std.proofs.Common.{◌≡◌, ℕ, ◌+◌, ◌<◌, Bool, true, false, ◌||◌, eqb, if◌then◌else◌, List, [], ◌∷◌, ◌++◌, length, take, Option, refl, sym, ap, ◌∙◌, subst}
 use Rattle.std.proofs.lemmas.List.{take-append-drop}
 use Rattle.tlv_head.specs.declared.header.HeaderFields.{HeaderFields}
-use Rattle.tlv_head.specs.declared.header.Size.{Size}
 use Rattle.tlv_head.specs.declared.header.Size.TheVariants.{Definite}
 use Rattle.tlv_head.specs.Fields.{heading_with}
-use Rattle.tlv_head.specs.Header.{Heading, announced, holds, is_wrapper, octets_of}
+use Rattle.tlv_head.specs.Header.{Heading, announced, holds, octets_of}
 use Rattle.tlv_head.specs.Progress.{Progress}
 use Rattle.tlv_walk.specs.declared.event.Kind.{Kind}
 use Rattle.tlv_walk.specs.declared.event.Kind.TheVariants as kind
@@ -21,7 +19,7 @@ use Rattle.tlv_walk.specs.Stack.{Within, bound_of}
 use Rattle.tlv_walk.specs.Tells.{Continues}
 use Rattle.tlv_head.specs.Read.{BeginsWithFields}
 use Rattle.tlv_head.specs.Refusal.{BeginsWith}
-use Rattle.tlv_walk.specs.State.{HasState, Contents, Nothing, State, frame_of, place_in, place_of}
+use Rattle.tlv_walk.specs.State.{HasState, Contents, Nothing, State, frame_of, place_of}
 use Rattle.tlv_walk.proofs.Entering.{AtHeader, Completed, at_new, holding_state, lead_by, lead_state, primitive_state}
 use Rattle.tlv_walk.proofs.Moves.{with_tail}
 use Rattle.tlv_walk.proofs.Places.{place-bound}
@@ -69,10 +67,12 @@ constructed_enters : (w : Machine) (b : List ℕ) (told : List Told) (s : State)
     → (u : State) × HasState (entered_machine w h phase.Between w.wrappers) (b ++ t) (told ++ Open h ∷ []) u
 constructed_enters w b told s r t h at c k =
     let none : lead h ≡ [] = lead_at h true (eqb h.number 3) k refl in
-    let has = holding_state w b told s r t h w.wrappers at c (or-left h.constructed _ k) none in
-    (_, pushed w b told s r t h phase.Between w.wrappers (Open h) _ at c
-        (subst (λ (e : Told). HasState (record (behind_header w phase.Between (h.offset + length (octets_of h))) { stack = frame_of (place_of w.framing s) h ∷ w.stack; wrappers = w.wrappers }) (b ++ t) (told ++ e ∷ []) (inside_state s h))
-            (ap (λ (x : Bool). if x then Open h else Enter h) k) has))
+    let has = holding_state w b told s r t h w.wrappers at c (or-left h.constructed _ k) none in (
+      _,
+      pushed w b told s r t h phase.Between w.wrappers (Open h) _ at c
+          (subst (λ (e : Told). HasState (record (behind_header w phase.Between (h.offset + length (octets_of h))) { stack = frame_of (place_of w.framing s) h ∷ w.stack; wrappers = w.wrappers }) (b ++ t) (told ++ e ∷ []) (inside_state s h))
+          (ap (λ (x : Bool). if x then Open h else Enter h) k) has),
+    )
 
 wrapper_enters : (w : Machine) (b : List ℕ) (told : List Told) (s : State) (r : Progress) (t : List ℕ) (h : Heading) (n : ℕ) → AtHeader w b told s r → Completed w r t h → h.constructed ≡ false → holds h ≡ true
     → (bits : Bool) → eqb h.number 3 ≡ bits → (u : State) × HasState (entered_machine w h (if bits then phase.Unused else phase.Between) n) (b ++ t) (told ++ Enter h ∷ []) u
@@ -81,17 +81,21 @@ wrapper_enters w b told s r t h n at c k hold true bits =
     (_, pushed w b told s r t h phase.Unused n (Enter h) _ at c (lead_state w b told s r t h n at c hold one))
 wrapper_enters w b told s r t h n at c k hold false bits =
     let none : lead h ≡ [] = lead_at h false false k bits in
-    let has = holding_state w b told s r t h n at c hold none in
-    (_, pushed w b told s r t h phase.Between n (Enter h) _ at c
-        (subst (λ (e : Told). HasState (record (behind_header w phase.Between (h.offset + length (octets_of h))) { stack = frame_of (place_of w.framing s) h ∷ w.stack; wrappers = n }) (b ++ t) (told ++ e ∷ []) (inside_state s h))
-            (ap (λ (x : Bool). if x then Open h else Enter h) k) has))
+    let has = holding_state w b told s r t h n at c hold none in (
+      _,
+      pushed w b told s r t h phase.Between n (Enter h) _ at c
+          (subst (λ (e : Told). HasState (record (behind_header w phase.Between (h.offset + length (octets_of h))) { stack = frame_of (place_of w.framing s) h ∷ w.stack; wrappers = n }) (b ++ t) (told ++ e ∷ []) (inside_state s h))
+          (ap (λ (x : Bool). if x then Open h else Enter h) k) has),
+    )
 
 primitive_enters : (w : Machine) (b : List ℕ) (told : List Told) (s : State) (r : Progress) (t : List ℕ) (h : Heading) → AtHeader w b told s r → Completed w r t h → holds h ≡ false
     → (u : State) × HasState (behind_header w (phase.Contents (announced h.size)) (h.offset + length (octets_of h))) (b ++ t) (told ++ Begin h ∷ []) u
 primitive_enters w b told s r t h at c no_hold =
-    let size : (n : ℕ) × (h.size ≡ Definite n) = size-definite h c.valid no_hold in
-    (_, subst (λ (n : ℕ). HasState (behind_header w (phase.Contents n) (h.offset + length (octets_of h))) (b ++ t) (told ++ Begin h ∷ []) (with_tail s (Contents h []))) (sym (ap announced size.1))
-        (primitive_state w b told s r t h size.0 at c no_hold size.1))
+    let size : (n : ℕ) × (h.size ≡ Definite n) = size-definite h c.valid no_hold in (
+      _,
+      subst (λ (n : ℕ). HasState (behind_header w (phase.Contents n) (h.offset + length (octets_of h))) (b ++ t) (told ++ Begin h ∷ []) (with_tail s (Contents h []))) (sym (ap announced size.1))
+          (primitive_state w b told s r t h size.0 at c no_hold size.1),
+    )
 
 -- behind a header a walker stands as it says
 pub enters_state : (w v : Machine) (b : List ℕ) (told : List Told) (s : State) (r : Progress) (t : List ℕ) (f : HeaderFields) (o : List ℕ) (k : Kind) → AtHeader w b told s r
@@ -127,6 +131,6 @@ fast_enters w v piece named f count o k e begins front name shallow fits enters 
     } in
     record {
       goes = λ b told s has.
-        enters_state w v b told (with_tail s Nothing) r o f o k (at_new w b told s r has e refl refl name) completed
-            (subst (λ (x : List ℕ). Enters w v f (f.offset + length x) k) (sym whole) enters);
+          enters_state w v b told (with_tail s Nothing) r o f o k (at_new w b told s r has e refl refl name) completed
+          (subst (λ (x : List ℕ). Enters w v f (f.offset + length x) k) (sym whole) enters);
     }

@@ -1,5 +1,5 @@
 -- What is refused behind octets of a header is a fault, whatever follows.
-use Rattle.std.proofs.Common.{◌≡◌, ◌≢◌, inl, inr, ℕ, ◌+◌, ◌-◌, ◌<◌, ◌≤◌, Bool, false, List, [], ◌∷◌, ◌++◌, length, Option, Some, None, refl, sym, ap, ◌∙◌, subst, arith, append-nil, length-append}
+use Rattle.std.proofs.Common.{◌≡◌, ◌≢◌, inl, inr, ℕ, ◌+◌, ◌<◌, ◌≤◌, Bool, false, List, [], ◌∷◌, ◌++◌, length, Option, Some, None, refl, sym, ap, ◌∙◌, subst, arith, append-nil, length-append}
 use Rattle.tlv_head.specs.declared.fault.Fault.{Fault}
 use Rattle.tlv_head.specs.declared.fault.FaultCode.{FaultCode}
 use Rattle.tlv_head.specs.declared.fault.FaultCode.TheVariants.{Empty, Short, StrayEnd, BadEnd, MissingEnd, TagTooLong, ReservedLength, IndefinitePrimitive, LengthTooLarge, TooDeep, Overrun, BadInside}
@@ -24,10 +24,12 @@ use Rattle.tlv_walk.specs.Tells.{RefusesOctet}
 use Rattle.tlv_walk.proofs.HeaderSteps.{HasTaken, TakenState, in_header, taken_state}
 use Rattle.tlv_walk.proofs.Moves.{phase_at, with_tail}
 use Rattle.tlv_walk.proofs.Places.{place-bound, place-depth}
+use Rattle.tlv_walk.proofs.Refusals.{at_bound, below_bound}
 use Rattle.tlv_walk.proofs.StateEndings.{state-fault}
 
--- ---- a reader without octets refuses none but 00
+-- ---- where there is room, a reader without octets refuses none
 
+-- an identifier has octets
 identifier-nil : (class : Class) (k : Bool) (n : ℕ) (o : List ℕ) → IsIdentifier class k n o → o ≡ [] → ⊥
 identifier-nil class k n o (inl low) e = let z : [] ≡ _ ∷ [] = sym e ∙ low.octet in absurd (cc)
 identifier-nil class k n o (inr high) e = let z : [] ≡ _ ∷ _ = sym e ∙ high.octet in absurd (cc)
@@ -39,6 +41,7 @@ completes-two r x h c e =
     let one : octets_of h ≡ x ∷ [] = c.octets ∙ ap (λ (o : List ℕ). o ++ x ∷ []) e in
     omega (arith, ap length one)
 
+-- so a refusal has octets before it, or no room
 pub refused-some : (code : FaultCode) (r : Progress) (x : ℕ) (room : Option ℕ) (depth : ℕ) → IsRefused code r x room depth → room ≢ Some 0 → r.octets ≡ [] → ⊥
 refused-some Overrun r x room depth (inl none) some e = some none
 refused-some Overrun r x room depth (inr past) some e = completes-two r x past.1.head past.1.completes e
@@ -57,14 +60,6 @@ refused-some BadInside r x room depth k some e = k.1
 
 -- ---- what a reader refuses is a fault there
 
--- no octets are left to the bound, which is reached
-bound_reached : (b : Option ℕ) (n : ℕ) → Within b n → left_to b n ≡ Some 0 → b ≡ Some n
-bound_reached None n w e = absurd (cc)
-bound_reached (Some m) n w e = let z : m - n ≡ 0 = cc in ap Some (omega arith)
-
-bound_ahead : (b : Option ℕ) (n : ℕ) → (left_to b n ≡ Some 0 → ⊥) → b ≡ Some n → ⊥
-bound_ahead b n f e = f (ap (λ (x : Option ℕ). left_to x n) e ∙ ap Some (omega arith))
-
 -- the contents end past the bound
 past_bound : (size : Size) (b : Option ℕ) (n : ℕ) → left_to b n ≢ Some 0 → (Fits size (left_to b n) → ⊥) → (m : ℕ) × (b ≡ Some m) × (m < n + 1 + announced size)
 past_bound (Definite k) None n some past = absurd (past tt)
@@ -80,14 +75,17 @@ pub record IsReader (p : Place) (q : Progress) (room : Option ℕ) (depth : ℕ)
   pub left : room ≡ left_to p.bound (p.at + length q.octets)
   pub within : Within p.bound (p.at + length q.octets)
 
+-- a header that its octets make
 completed_there : (p : Place) (q : Progress) (room : Option ℕ) (depth x : ℕ) (h : Heading) → IsReader p q room depth → Completes q x h → Completed p (q.octets ++ x ∷ []) h
 completed_there p q room depth x h k c = record { spelled = record { valid = c.valid; octets = c.octets }; named = c.named ∙ k.named }
 
+-- there is room
 below_there : (p : Place) (q : Progress) (room : Option ℕ) (depth : ℕ) → IsReader p q room depth → room ≢ Some 0 → BelowBound p (length q.octets)
-below_there p q room depth k some = bound_ahead p.bound (p.at + length q.octets) (λ e. some (k.left ∙ e))
+below_there p q room depth k some = below_bound p.bound (p.at + length q.octets) (λ e. some (k.left ∙ e))
 
+-- each cause of a reader is a line of the faults
 pub refused_fault : (p : Place) (q : Progress) (room : Option ℕ) (depth x : ℕ) (code : FaultCode) → IsReader p q room depth → IsRefused code q x room depth → IsFault p x (InHeader q.octets) code
-refused_fault p q room depth x Overrun k (inl none) = no_room (bound_reached p.bound (p.at + length q.octets) k.within (sym k.left ∙ none))
+refused_fault p q room depth x Overrun k (inl none) = no_room (at_bound p.bound (p.at + length q.octets) k.within (sym k.left ∙ none))
 refused_fault p q room depth x Overrun k (inr past) =
     let h : Heading = past.1.head in
     let some : left_to p.bound (p.at + length q.octets) ≢ Some 0 = λ e. past.0 (k.left ∙ e) in

@@ -30,4 +30,5 @@ pub mod Finishing
 pub mod HeaderSteps
 pub mod HeaderRefusals
 pub mod Standing
+pub mod Rows
 pub mod Known

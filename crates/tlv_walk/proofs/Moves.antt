@@ -11,12 +11,12 @@ use Rattle.tlv_walk.specs.Forest.{Forest, Stop, Fill, Whole, Closed, Partial, En
 use Rattle.tlv_walk.specs.Machine.{Machine}
 use Rattle.tlv_walk.specs.Place.{Fits, IsOpen, Place, after, is_indefinite}
 use Rattle.tlv_walk.specs.declared.stack.Frame.{Frame}
-use Rattle.tlv_walk.specs.Stack.{IsFilled, IsInIndefinite, Within, bound_of}
+use Rattle.tlv_walk.specs.Stack.{IsInIndefinite, Within, bound_of}
 use Rattle.tlv_walk.specs.State.{AreWhole, HasState, IsContents, IsPhaseOf, Layer, Tail, Nothing, Contents, Lead, Front, Lone, State, begins_among, events_layers, frames_of, place_in, place_of, spell_layers}
 use Rattle.tlv_walk.specs.Tells.{Continues}
 use Rattle.tlv_walk.proofs.Joined.{apart-before, apart-from_joined, apart-more, joined-from_apart}
 use Rattle.tlv_walk.proofs.Spellings.{append_assoc-3}
-use Rattle.tlv_walk.proofs.Places.{definite-size, indefinite-size, place-at, place-bound, place-depth, place-offset}
+use Rattle.tlv_walk.proofs.Places.{indefinite-size, place-offset}
 use Rattle.tlv_walk.proofs.Zipper.{behind, open-behind, spell-behind, whole-behind}
 use Rattle.tlv_walk.proofs.ZipperEvents.{events-behind}
 
@@ -128,8 +128,8 @@ pub tells_contents : (w : Machine) (left : ℕ) (t : List ℕ) (n : ℕ) → w.p
 tells_contents w left t n e most len =
     subst (λ (m : ℕ). Continues w (record w { phase = phase.Contents (left - m); offset = w.offset + m; events = w.events + 1 }) t (Bytes t ∷ [])) (sym len) (record {
       goes = λ b told s has.
-        let k = contents_tail left s.tail _ (phase_at w b told s _ e has) in
-        (_, contents_state w b told s k.0 k.1 t left (tail_state w b told s _ k.2 has) e most);
+          let k = contents_tail left s.tail _ (phase_at w b told s _ e has) in
+          (_, contents_state w b told s k.0 k.1 t left (tail_state w b told s _ k.2 has) e most);
     })
 
 -- the end of a primitive

@@ -1,5 +1,5 @@
 -- Padding, on a walker's state.
-use Rattle.std.proofs.Common.{◌≡◌, ℕ, ◌+◌, Bool, true, false, ◌||◌, List, [], ◌∷◌, ◌++◌, length, map, All, Option, None, refl, sym, ap, ◌∙◌, subst, arith, append-nil, length-append}
+use Rattle.std.proofs.Common.{◌≡◌, ℕ, ◌+◌, Bool, true, false, ◌||◌, List, [], ◌∷◌, ◌++◌, length, map, All, None, refl, sym, ap, ◌∙◌, subst, arith, append-nil, length-append}
 use Rattle.std.proofs.lemmas.List.Elements.{All-head, All-tail}
 use Rattle.tlv_walk.specs.declared.walker.Phase.{Phase}
 use Rattle.tlv_walk.specs.declared.walker.Phase.TheVariants as phase
@@ -9,7 +9,7 @@ use Rattle.tlv_walk.specs.Machine.{Machine}
 use Rattle.tlv_walk.specs.Place.{IsOpen, Place, after}
 use Rattle.tlv_walk.specs.State.{HasState, IsPhaseOf, Layer, Nothing, State, place_in, place_of}
 use Rattle.tlv_walk.specs.Tells.{Continues}
-use Rattle.tlv_walk.proofs.Moves.{are_whole, element-either, between_tail, phase_at, spelled_whole, tail_state, told_whole, with_layers, with_tail}
+use Rattle.tlv_walk.proofs.Moves.{are_whole, element-either, between_tail, phase_at, spelled_whole, tail_state, told_whole, with_layers}
 use Rattle.tlv_walk.proofs.Zipper.{behind}
 
 -- octets 00 between encodings
@@ -67,6 +67,6 @@ pub tells_pad : (w : Machine) (t : List ℕ) (n : ℕ) → w.phase ≡ phase.Bet
 tells_pad w t n e none padding zeros len =
     subst (λ (m : ℕ). Continues w (record w { offset = w.offset + m; events = w.events + 1 }) t (Pad t ∷ [])) (sym len) (record {
       goes = λ b told s has.
-        let tail = between_tail s.tail _ (phase_at w b told s _ e has) in
-        pad_from w b told s t s.layers (tail_state w b told s _ tail has) e none padding zeros;
+          let tail = between_tail s.tail _ (phase_at w b told s _ e has) in
+          pad_from w b told s t s.layers (tail_state w b told s _ tail has) e none padding zeros;
     })

@@ -1,16 +1,14 @@
 -- Where a walker's state stands, by its frames.
-use Rattle.std.proofs.Common.{◌≡◌, ℕ, ◌+◌, ◌≤◌, Bool, true, false, List, [], ◌∷◌, ◌++◌, length, Option, Some, None, refl, sym, ap, ◌∙◌, arith, length-append}
+use Rattle.std.proofs.Common.{◌≡◌, ℕ, ◌+◌, List, [], ◌∷◌, ◌++◌, length, Some, None, refl, ap, arith, length-append}
 use Rattle.tlv_head.specs.declared.header.Size.{Size}
 use Rattle.tlv_head.specs.declared.header.Size.TheVariants.{Definite, Indefinite}
-use Rattle.tlv_head.specs.Header.{Heading, octets_of}
 use Rattle.tlv_walk.specs.declared.framing.Framing.{Framing}
-use Rattle.tlv_walk.specs.declared.stack.Frame.{Frame}
 use Rattle.tlv_walk.specs.Events.{Told}
 use Rattle.tlv_walk.specs.Forest.{opening, spell}
 use Rattle.tlv_walk.specs.Machine.{Machine}
-use Rattle.tlv_walk.specs.Place.{Place, after, bound_in, is_indefinite}
-use Rattle.tlv_walk.specs.Stack.{IsFilled, IsInIndefinite, Within, bound_of}
-use Rattle.tlv_walk.specs.State.{HasState, Layer, State, Nothing, frame_of, frames_of, place_in, place_of, spell_layers, spell_tail}
+use Rattle.tlv_walk.specs.Place.{bound_in}
+use Rattle.tlv_walk.specs.Stack.{bound_of}
+use Rattle.tlv_walk.specs.State.{HasState, Layer, State, frames_of, place_in, place_of, spell_layers, spell_tail}
 
 pub place-at : (w : Framing) (ls : List Layer) → (place_in w ls).at ≡ length (spell_layers ls)
 place-at w [] = refl

@@ -1,39 +1,30 @@
 -- What a walker refuses is a fault, whatever follows.
-use Rattle.std.proofs.Common.{◌≡◌, ◌≢◌, ◌⊎◌, inl, inr, ℕ, ◌+◌, ◌-◌, ◌<◌, ◌≤◌, get_or, drop, Bool, true, false, List, [], ◌∷◌, ◌++◌, length, Option, Some, None, IfSome, refl, sym, ap, ◌∙◌, subst, arith, append-nil, length-append}
-use Rattle.std.proofs.lemmas.Bool.{true≢false, cases_Bool}
-use Rattle.tlv_head.specs.declared.header.Size.{Size}
-use Rattle.tlv_head.specs.declared.header.Size.TheVariants.{Definite, Indefinite}
+use Rattle.std.proofs.Common.{◌≡◌, ◌≢◌, inl, inr, ℕ, ◌+◌, ◌-◌, ◌≤◌, get_or, drop, Bool, true, false, List, [], ◌∷◌, ◌++◌, length, Option, Some, None, refl, sym, ap, ◌∙◌, subst, arith, append-nil}
+use Rattle.std.proofs.lemmas.Bool.{cases_Bool}
 use Rattle.tlv_head.specs.declared.fault.FaultCode.{FaultCode}
-use Rattle.tlv_head.specs.declared.fault.FaultCode.TheVariants.{Empty, Short, StrayEnd, BadEnd, MissingEnd, TagTooLong, ReservedLength, IndefinitePrimitive, LengthTooLarge, TooDeep, Overrun, BadInside}
-use Rattle.tlv_head.specs.Header.{Heading, IsIdentifier, announced, holds, octets_of}
-use Rattle.tlv_head.specs.Progress.{Fits, Progress}
-use Rattle.tlv_head.specs.Push.{EndsPast, IsRefused, IsTooDeep}
-use Rattle.tlv_head.specs.Refusal.{IsFront, IsRefusedOctet}
-use Rattle.tlv_head.proofs.Front.{header-two}
+use Rattle.tlv_head.specs.declared.fault.FaultCode.TheVariants.{StrayEnd, BadEnd, MissingEnd, BadInside}
 use Rattle.tlv_walk.specs.declared.ending.Ending.TheVariants as ending
 use Rattle.tlv_head.specs.declared.fault.Fault.{Fault}
 use Rattle.tlv_walk.specs.declared.walker.Phase.{Phase}
 use Rattle.tlv_walk.specs.declared.walker.Phase.TheVariants as phase
-use Rattle.tlv_walk.specs.Ending.{AtBound, BelowBound, Between, InContents, BeforeUnused, InHeader, InEnd, IsEnding, IsFault, IsPastBound, OpenEnd, bad_end, bad_inside, fault, indefinite_primitive, length_too_large, missing_end, no_end, no_room, overrun, reserved_length, stray_end, tag_too_long, too_deep}
+use Rattle.tlv_walk.specs.Ending.{IsEnding, IsFault, bad_end, bad_inside, fault, missing_end, no_end, stray_end}
 use Rattle.tlv_walk.specs.Events.{Told}
-use Rattle.tlv_walk.specs.Inside.{is_among}
 use Rattle.tlv_walk.specs.Machine.{IsWaiting, IsWaitingIn, Machine, fault_at}
-use Rattle.tlv_walk.specs.Place.{Place}
 use Rattle.tlv_walk.specs.Stack.{IsFilled, IsInIndefinite, Within, bound_of, left_to, room_of}
-use Rattle.tlv_walk.specs.State.{HasState, Layer, Tail, Nothing, Lead, Front, Lone, State, frames_of, place_in, place_of}
+use Rattle.tlv_walk.specs.State.{HasState, Layer, Nothing, Lead, Lone, State, frames_of, place_in, place_of}
 use Rattle.tlv_walk.specs.Tells.{RefusesOctet}
-use Rattle.tlv_walk.proofs.Entering.{AtHeader, front_state, lead_tail}
-use Rattle.tlv_walk.proofs.Moves.{between_tail, lone_tail, phase_at, tail_state, with_layers, with_tail}
-use Rattle.tlv_walk.proofs.Places.{place-bound, place-depth, place-inside, place-offset}
+use Rattle.tlv_walk.proofs.Entering.{lead_tail}
+use Rattle.tlv_walk.proofs.Moves.{between_tail, lone_tail, phase_at, tail_state, with_tail}
+use Rattle.tlv_walk.proofs.Places.{place-bound, place-offset}
 use Rattle.tlv_walk.proofs.StateEndings.{state-fault}
 use Rattle.tlv_walk.proofs.Zipper.{open_end_of, place-indefinite}
 
 -- no octets are left to the bound, which is reached
-at_bound : (b : Option ℕ) (n : ℕ) → Within b n → left_to b n ≡ Some 0 → b ≡ Some n
+pub at_bound : (b : Option ℕ) (n : ℕ) → Within b n → left_to b n ≡ Some 0 → b ≡ Some n
 at_bound None n w e = absurd (cc)
 at_bound (Some m) n w e = let z : m - n ≡ 0 = cc in ap Some (omega arith)
 
-below_bound : (b : Option ℕ) (n : ℕ) → (left_to b n ≡ Some 0 → ⊥) → b ≡ Some n → ⊥
+pub below_bound : (b : Option ℕ) (n : ℕ) → (left_to b n ≡ Some 0 → ⊥) → b ≡ Some n → ⊥
 below_bound b n f e = f (ap (λ (x : Option ℕ). left_to x n) e ∙ ap Some (omega arith))
 
 -- no event waits in that phase
@@ -112,7 +103,7 @@ pub refuses_stray_front : (w : Machine) (piece : List ℕ) → 1 ≤ length piec
     → (w.framing.padding ≡ true → w.stack ≡ [] → ⊥) → RefusesOctet w piece piece (fault_at StrayEnd w.offset)
 refuses_stray_front w piece some zero e unfilled outside padding =
     refuses_front w piece _ some (subst (λ (x : ℕ). RefusesOctet w (x ∷ drop 1 piece) (x ∷ drop 1 piece) (fault_at StrayEnd w.offset)) (sym zero)
-        (refuses_stray w (drop 1 piece) e unfilled outside padding))
+    (refuses_stray w (drop 1 piece) e unfilled outside padding))
 
 -- the second of the end-of-contents octets
 pub refuses_second_missing : (w : Machine) (x : ℕ) (rest : List ℕ) → w.phase ≡ phase.Zero → Within (bound_of w.stack) w.offset → room_of w.stack w.offset ≡ Some 0

@@ -49,15 +49,14 @@ is_refused old before after f r = record {
   before_is = r.3;
   after_is = r.4;
   ends = λ b told st.
-    let u = r.5 b told st.state st.has_state in
-    let m : Machine = u.0 in
-    let all : AreEqualJoined (told ++ waiting_of m) (events (reading_of u.1)) = state-events m (b ++ r.0) told u.1 u.2 in
-    (
-      reading_of u.1,
-      subst (λ (w : Framing). IsReading w (b ++ r.0) (reading_of u.1)) u.5 (state-reading m (b ++ r.0) told u.1 u.2),
-      subst (λ (es : List Told). AreEqualJoined es (events (reading_of u.1))) (ap (λ (es : List Told). told ++ es) (quiet m u.3) ∙ append-nil told) all,
-      u.4,
-    );
+      let u = r.5 b told st.state st.has_state in
+      let m : Machine = u.0 in
+      let all : AreEqualJoined (told ++ waiting_of m) (events (reading_of u.1)) = state-events m (b ++ r.0) told u.1 u.2 in (
+        reading_of u.1,
+        subst (λ (w : Framing). IsReading w (b ++ r.0) (reading_of u.1)) u.5 (state-reading m (b ++ r.0) told u.1 u.2),
+        subst (λ (es : List Told). AreEqualJoined es (events (reading_of u.1))) (ap (λ (es : List Told). told ++ es) (quiet m u.3) ∙ append-nil told) all,
+        u.4,
+      );
 }
 
 stands_fault : (old new : Machine) (before after : List ℕ) (f : Fault) → TellsFault old new before after f → StandsStep old new before after (step.Fault f)
@@ -70,7 +69,7 @@ stands_step old new before after (step.Event e) k t = stands_behind old new befo
 stands_step old new before after step.NeedMore k t = (
   k.1,
   λ b told st.
-    let u = t.goes b told st.state st.has_state in
-    (subst (λ (es : List Told). Stands new (b ++ before) es) (append-nil told) (stands new (b ++ before) (told ++ []) u.0 u.1), quiet new (ready-waits new k.3)),
+      let u = t.goes b told st.state st.has_state in
+      (subst (λ (es : List Told). Stands new (b ++ before) es) (append-nil told) (stands new (b ++ before) (told ++ []) u.0 u.1), quiet new (ready-waits new k.3)),
 )
 stands_step old new before after (step.Fault f) k t = stands_fault old new before after f t

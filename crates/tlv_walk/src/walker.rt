@@ -2,8 +2,8 @@
 //! others.
 ghost use Rattle.std.specs.Prelude.{◌≡◌, ◌≢◌, ℕ, ◌+◌, ◌^◌, ◌<◌, ◌≤◌, ◌↔◌, All, IsTrue, Some, length, slice_get, take};
 
-use crate::stack::{Frame, Stack, room_to};
 use crate::event::{Kind, Move};
+use crate::stack::{Frame, Stack, room_to};
 use crate::{Ending, Event, Framing, Step};
 use std::marker::Model;
 use std::mem::replace;

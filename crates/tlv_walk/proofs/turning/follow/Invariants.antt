@@ -1,4 +1,4 @@
-use Rattle.std.proofs.Common.{◌≡◌, ◌+◌, ◌-◌, ◌^◌, ◌≤◌, length}
+use Rattle.std.proofs.Common.{◌≡◌, ◌+◌, ◌-◌, length}
 use Rattle.tlv_walk.specs.Out.{lender_of}
 use Rattle.tlv_walk.proofs.turning.follow.Given as goal
 

@@ -1,4 +1,4 @@
-use Rattle.std.proofs.Common.{refl, rules, arith}
+use Rattle.std.proofs.Common.{rules}
 use Rattle.tlv_walk.proofs.Moves.{tells_contents}
 use Rattle.tlv_walk.proofs.walker.Walker.contents.Goals as goal
 

@@ -10,8 +10,7 @@ use Rattle.tlv_walk.proofs.walker.Walker.fast_header.Goals as goal
 pub returns-in-Constructed-clause-tells : goal.returns-in-Constructed-clause-tells
 returns-in-Constructed-clause-tells c =
     let at : c.self.inside.offset ≡ c.args.self.now.offset = ap (λ (m : Machine). m.offset) c.self.view_is in
-    let begins = subst (λ (n : ℕ). BeginsWithFields c.args.piece.now.now n c.contains-named.result c.in-Some.fields c.in-Some.count) at c.in-Some.ensures in
-    (
+    let begins = subst (λ (n : ℕ). BeginsWithFields c.args.piece.now.now n c.contains-named.result c.in-Some.fields c.in-Some.count) at c.in-Some.ensures in (
       c.split_at.result.0.now,
       search rules,
       subst (λ (k : Kind). Continues c.args.self.now c.enter.new.self c.split_at.result.0.now (event_of k (heading_with c.in-Some.fields c.split_at.result.0.now) ∷ [])) c.in-Constructed.is
@@ -22,8 +21,7 @@ returns-in-Constructed-clause-tells c =
 pub returns-in-Wrapper-clause-tells : goal.returns-in-Wrapper-clause-tells
 returns-in-Wrapper-clause-tells c =
     let at : c.self.inside.offset ≡ c.args.self.now.offset = ap (λ (m : Machine). m.offset) c.self.view_is in
-    let begins = subst (λ (n : ℕ). BeginsWithFields c.args.piece.now.now n c.contains-named.result c.in-Some.fields c.in-Some.count) at c.in-Some.ensures in
-    (
+    let begins = subst (λ (n : ℕ). BeginsWithFields c.args.piece.now.now n c.contains-named.result c.in-Some.fields c.in-Some.count) at c.in-Some.ensures in (
       c.split_at.result.0.now,
       search rules,
       subst (λ (k : Kind). Continues c.args.self.now c.enter.new.self c.split_at.result.0.now (event_of k (heading_with c.in-Some.fields c.split_at.result.0.now) ∷ [])) c.in-Wrapper.is
@@ -34,8 +32,7 @@ returns-in-Wrapper-clause-tells c =
 pub returns-in-Primitive-clause-tells : goal.returns-in-Primitive-clause-tells
 returns-in-Primitive-clause-tells c =
     let at : c.self.inside.offset ≡ c.args.self.now.offset = ap (λ (m : Machine). m.offset) c.self.view_is in
-    let begins = subst (λ (n : ℕ). BeginsWithFields c.args.piece.now.now n c.contains-named.result c.in-Some.fields c.in-Some.count) at c.in-Some.ensures in
-    (
+    let begins = subst (λ (n : ℕ). BeginsWithFields c.args.piece.now.now n c.contains-named.result c.in-Some.fields c.in-Some.count) at c.in-Some.ensures in (
       c.split_at.result.0.now,
       search rules,
       subst (λ (k : Kind). Continues c.args.self.now c.enter.new.self c.split_at.result.0.now (event_of k (heading_with c.in-Some.fields c.split_at.result.0.now) ∷ [])) c.in-Primitive.is

@@ -1,4 +1,4 @@
-use Rattle.std.proofs.Common.{refl, rules, arith}
+use Rattle.std.proofs.Common.{rules}
 use Rattle.tlv_walk.proofs.Padding.{tells_pad}
 use Rattle.tlv_walk.proofs.walker.Walker.padding.Goals as goal
 

@@ -1,4 +1,4 @@
-use Rattle.std.proofs.Common.{◌∷◌, [], refl, rules, arith, inl, ap, sym}
+use Rattle.std.proofs.Common.{◌∷◌, [], rules, arith, inl}
 use Rattle.std.proofs.lemmas.Grind.{common_steps}
 use Rattle.tlv_walk.proofs.Closing.{tells_second}
 use Rattle.tlv_walk.proofs.Refusals.{refuses_front, refuses_second, refuses_second_missing}

@@ -1,4 +1,4 @@
-use Rattle.std.proofs.Common.{◌∷◌, [], refl, rules, arith, inl}
+use Rattle.std.proofs.Common.{◌∷◌, [], rules, arith, inl}
 use Rattle.std.proofs.lemmas.Grind.{common_steps}
 use Rattle.tlv_walk.proofs.Entering.{tells_unused}
 use Rattle.tlv_walk.proofs.Refusals.{refuses_front, refuses_unused}

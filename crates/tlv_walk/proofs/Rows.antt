@@ -1,0 +1,97 @@
+-- The definitions on short inputs.
+use Rattle.std.proofs.Common.{◌≡◌, true, false, [], ◌∷◌, Some, refl}
+use Rattle.tlv_head.specs.declared.fault.FaultCode.TheVariants.{Empty, Short, StrayEnd, BadEnd, MissingEnd, ReservedLength, IndefinitePrimitive, LengthTooLarge, Overrun, BadInside}
+use Rattle.tlv_walk.specs.declared.ending.Ending.TheVariants.{Done}
+use Rattle.tlv_walk.specs.declared.framing.Framing.{Framing}
+use Rattle.tlv_walk.specs.Ending.{fault}
+use Rattle.tlv_walk.specs.Wrappers.{wrappers, unused_of}
+use Rattle.tlv_walk.proofs.Readings.{reading}
+use Rattle.tlv_walk.proofs.Endings.{ending}
+
+-- neither padding nor a string that is to be read
+abbrev plain : Framing
+plain = record { inside = []; padding = false }
+
+abbrev padded : Framing
+padded = record { inside = []; padding = true }
+
+abbrev wrapping : Framing
+wrapping = record { inside = 0 ∷ 5 ∷ []; padding = false }
+
+nothing : ending plain [] ≡ fault Empty 0
+nothing = refl
+
+only-padding : ending padded (0 ∷ 0 ∷ []) ≡ fault Empty 2
+only-padding = refl
+
+stray-zero : ending plain (0 ∷ []) ≡ fault StrayEnd 0
+stray-zero = refl
+
+empty-sequence : ending plain (48 ∷ 0 ∷ []) ≡ Done
+empty-sequence = refl
+
+empty-indefinite : ending plain (48 ∷ 128 ∷ 0 ∷ 0 ∷ []) ≡ Done
+empty-indefinite = refl
+
+padded-sequence : ending padded (0 ∷ 48 ∷ 0 ∷ 0 ∷ 0 ∷ []) ≡ Done
+padded-sequence = refl
+
+wrapped-octets : ending wrapping (4 ∷ 2 ∷ 5 ∷ 0 ∷ []) ≡ Done
+wrapped-octets = refl
+
+wrapped-octets-wrapper : wrappers (reading wrapping (4 ∷ 2 ∷ 5 ∷ 0 ∷ [])) ≡ 0 ∷ []
+wrapped-octets-wrapper = refl
+
+wrapped-octets-other : unused_of (0 ∷ 5 ∷ []) (reading wrapping (4 ∷ 2 ∷ 5 ∷ 0 ∷ [])) ≡ Some 5
+wrapped-octets-other = refl
+
+wrapped-bits : ending wrapping (3 ∷ 3 ∷ 0 ∷ 5 ∷ 0 ∷ []) ≡ Done
+wrapped-bits = refl
+
+bits-of-nothing : ending wrapping (3 ∷ 1 ∷ 0 ∷ []) ≡ Done
+bits-of-nothing = refl
+
+bits-without-contents : ending wrapping (3 ∷ 0 ∷ []) ≡ Done
+bits-without-contents = refl
+
+unused-bits : ending wrapping (3 ∷ 1 ∷ 1 ∷ []) ≡ fault BadInside 2
+unused-bits = refl
+
+bits-cut-off : ending wrapping (3 ∷ 1 ∷ []) ≡ fault Short 2
+bits-cut-off = refl
+
+past-wrapper : ending wrapping (4 ∷ 2 ∷ 5 ∷ 1 ∷ []) ≡ fault Overrun 3
+past-wrapper = refl
+
+zero-in-wrapper : ending wrapping (4 ∷ 1 ∷ 0 ∷ []) ≡ fault StrayEnd 2
+zero-in-wrapper = refl
+
+zero-in-sequence : ending padded (48 ∷ 2 ∷ 0 ∷ 0 ∷ []) ≡ fault StrayEnd 2
+zero-in-sequence = refl
+
+bad-end : ending plain (48 ∷ 128 ∷ 0 ∷ 1 ∷ []) ≡ fault BadEnd 3
+bad-end = refl
+
+missing-end : ending plain (48 ∷ 3 ∷ 48 ∷ 128 ∷ 0 ∷ 0 ∷ []) ≡ fault MissingEnd 5
+missing-end = refl
+
+identifier-cut-off : ending plain (255 ∷ []) ≡ fault Short 1
+identifier-cut-off = refl
+
+reserved-length : ending plain (4 ∷ 255 ∷ []) ≡ fault ReservedLength 1
+reserved-length = refl
+
+indefinite-primitive : ending plain (4 ∷ 128 ∷ []) ≡ fault IndefinitePrimitive 1
+indefinite-primitive = refl
+
+length-too-large : ending plain (4 ∷ 134 ∷ 1 ∷ []) ≡ fault LengthTooLarge 2
+length-too-large = refl
+
+past-sequence : ending wrapping (48 ∷ 5 ∷ 4 ∷ 0 ∷ 5 ∷ 3 ∷ 0 ∷ []) ≡ fault Overrun 5
+past-sequence = refl
+
+wrapped-twice : ending wrapping (4 ∷ 5 ∷ 4 ∷ 1 ∷ 7 ∷ 4 ∷ 0 ∷ []) ≡ Done
+wrapped-twice = refl
+
+wrapped-twice-wrappers : wrappers (reading wrapping (4 ∷ 5 ∷ 4 ∷ 1 ∷ 7 ∷ 4 ∷ 0 ∷ [])) ≡ 0 ∷ 5 ∷ []
+wrapped-twice-wrappers = refl
