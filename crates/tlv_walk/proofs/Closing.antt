@@ -112,6 +112,7 @@ second_from w b told s (l ∷ ls) has zero room =
 pub tells_second : (w : Machine) → w.phase ≡ phase.Zero → Within (bound_of w.stack) (w.offset + 1)
     → Continues w (record w { stack = drop 1 w.stack; phase = phase.Between; offset = w.offset + 1; events = w.events + 1 }) (0 ∷ []) (Close (Some (w.offset - 1)) ∷ [])
 tells_second w e room = record {
+  framing = refl;
   goes = λ b told s has.
       let t = lone_tail s.tail _ (phase_at w b told s _ e has) in
       let has' : HasState w b told (with_tail s Lone) = tail_state w b told s _ t has in
@@ -153,6 +154,7 @@ filled_from w b told s (l ∷ ls) has e f fs is full =
 pub tells_filled : (w : Machine) → w.phase ≡ phase.Between → (f : Frame) (fs : List Frame) → w.stack ≡ f ∷ fs → f.end ≡ Some w.offset
     → Continues w (record w { stack = drop 1 w.stack; events = w.events + 1 }) [] (ending_of f ∷ [])
 tells_filled w e f fs is full = record {
+  framing = refl;
   goes = λ b told s has.
       let t = between_tail s.tail _ (phase_at w b told s _ e has) in
       filled_from w b told s s.layers (tail_state w b told s _ t has) e f fs is full;

@@ -111,6 +111,12 @@ enters_state w v b told s r t f o kind.Wrapper at c e =
     let u = wrapper_enters w b told s r t (heading_with f o) (next_wrapper w.framing.inside w.wrappers f.offset) at c e.0 (or-right f.constructed _ e.0 e.1) (eqb f.number 3) refl in
     (u.0, subst (λ (m : Machine). HasState m (b ++ t) (told ++ Enter (heading_with f o) ∷ []) u.0) (sym e.2) u.1)
 
+-- the framing stays
+pub enters_framing : (w v : Machine) (f : HeaderFields) (at : ℕ) (k : Kind) → Enters w v f at k → v.framing ≡ w.framing
+enters_framing w v f at kind.Primitive e = ap (λ (m : Machine). m.framing) e.1
+enters_framing w v f at kind.Constructed e = ap (λ (m : Machine). m.framing) e.1
+enters_framing w v f at kind.Wrapper e = ap (λ (m : Machine). m.framing) e.2
+
 -- octets that begin with a header, at a walker between elements
 pub fast_enters : (w v : Machine) (piece : List ℕ) (named : Bool) (f : HeaderFields) (count : ℕ) (o : List ℕ) (k : Kind) → w.phase ≡ phase.Between
     → BeginsWithFields piece w.offset named f count → o ≡ take count piece → named ≡ is_among w.offset w.framing.inside
@@ -130,6 +136,7 @@ fast_enters w v piece named f count o k e begins front name shallow fits enters 
       fits = subst (λ (x : List ℕ). Within (bound_of w.stack) (f.offset + length x + announced f.size)) (sym whole) fits;
     } in
     record {
+      framing = enters_framing w v f (f.offset + length o) k enters;
       goes = λ b told s has.
           enters_state w v b told (with_tail s Nothing) r o f o k (at_new w b told s r has e refl refl name) completed
           (subst (λ (x : List ℕ). Enters w v f (f.offset + length x) k) (sym whole) enters);

@@ -21,7 +21,7 @@ use Rattle.tlv_walk.specs.Stack.{Within, bound_of, left_to}
 use Rattle.tlv_walk.specs.State.{HasState, IsPhaseOf, Nothing, Front, State, place_of}
 use Rattle.tlv_walk.specs.Tells.{Continues, TellsEvent}
 use Rattle.tlv_walk.proofs.Entering.{AtHeader, Completed, at_front, at_new, front_state}
-use Rattle.tlv_walk.proofs.HeaderKinds.{enters_state, event_of}
+use Rattle.tlv_walk.proofs.HeaderKinds.{enters_framing, enters_state, event_of}
 use Rattle.tlv_walk.proofs.Moves.{phase_at, with_tail}
 
 -- ---- the walker that the reader was taken from
@@ -94,10 +94,16 @@ taken_state w u r q before after over k some fits b told s has =
     front_taken (inl e) = subst IsFront (sym e) (handed_front w u r over b told s has (λ none. some (e ∙ none)))
     front_taken (inr f) = f
 
+-- the framing stays
+handed_framing : (w u : Machine) (r : Progress) → HandsOver w u r → u.framing ≡ w.framing
+handed_framing w u r (inl h) = ap (λ (m : Machine). m.framing) h.1
+handed_framing w u r (inr h) = ap (λ (m : Machine). m.framing) h.1
+
 -- the piece is used up inside a header
 pub tells_unfinished : (w u : Machine) (r q : Progress) (before : List ℕ) (at : ℕ) → HandsOver w u r → HasTaken r q before [] → (q.octets ≡ [] → ⊥) → q.offset + length q.octets ≡ at
     → Within (bound_of u.stack) at → Continues w (record u { phase = phase.Header q; offset = at }) before []
 tells_unfinished w u r q before at over k some e fits = record {
+  framing = handed_framing w u r over;
   goes = λ b told s has.
       let t : TakenState w u q k.taken b told = taken_state w u r q before [] over k some (subst (Within (bound_of u.stack)) (sym e) fits) b told s has in
       let new : in_header w q ≡ record u { phase = phase.Header q; offset = at } =
@@ -127,6 +133,7 @@ completed_without w u r t h e can makes =
 tells_behind : (u new : Machine) (f : HeaderFields) (o : List ℕ) (at : ℕ) (k : Kind) → CanEnter u (heading_with f o) → at ≡ f.offset + length (octets_of (heading_with f o)) → Enters u new f at k
     → TellsHeader u new (heading_with f o) (event_of k (heading_with f o))
 tells_behind u new f o at k can e enters w r t over makes = record {
+  framing = enters_framing u new f at k enters ∙ handed_framing w u r over;
   goes = λ b told s has.
       let h = handed w u r over b told s has in
       enters_state w new b told h.0 r t f o k h.1 (completed_without w u r t (heading_with f o) h.2 can makes) (subst (λ (n : ℕ). Enters w new f n k) e (enters_without w u new f at k h.2 enters));

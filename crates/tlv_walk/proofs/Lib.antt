@@ -32,3 +32,4 @@ pub mod HeaderRefusals
 pub mod Standing
 pub mod Rows
 pub mod Known
+pub mod Followed

@@ -26,6 +26,7 @@ told_more told es new es' h e = joined-from_apart (told ++ new) es' (apart-befor
 
 pub continues_both : (u v w : Machine) (s t : List ℕ) (d e : List Told) → Continues u v s d → Continues v w t e → Continues u w (s ++ t) (d ++ e)
 continues_both u v w s t d e f g = record {
+  framing = g.framing ∙ f.framing;
   goes = λ b told st has.
       let one = f.goes b told st has in
       let two = g.goes (b ++ s) (told ++ d) one.0 one.1 in (
@@ -127,6 +128,7 @@ pub tells_contents : (w : Machine) (left : ℕ) (t : List ℕ) (n : ℕ) → w.p
     → Continues w (record w { phase = phase.Contents (left - n); offset = w.offset + n; events = w.events + 1 }) t (Bytes t ∷ [])
 tells_contents w left t n e most len =
     subst (λ (m : ℕ). Continues w (record w { phase = phase.Contents (left - m); offset = w.offset + m; events = w.events + 1 }) t (Bytes t ∷ [])) (sym len) (record {
+      framing = refl;
       goes = λ b told s has.
           let k = contents_tail left s.tail _ (phase_at w b told s _ e has) in
           (_, contents_state w b told s k.0 k.1 t left (tail_state w b told s _ k.2 has) e most);
@@ -153,6 +155,7 @@ end_state w b told s h c has e =
 
 pub tells_end : (w : Machine) → w.phase ≡ phase.Contents 0 → Continues w (record w { phase = phase.Between; events = w.events + 1 }) [] (End ∷ [])
 tells_end w e = record {
+  framing = refl;
   goes = λ b told s has.
       let k = contents_tail 0 s.tail _ (phase_at w b told s _ e has) in
       (_, end_state w b told s k.0 k.1 (tail_state w b told s _ k.2 has) e);
@@ -199,6 +202,7 @@ zero_state w b told s l ls has e f = record {
 pub tells_zero : (w : Machine) → w.phase ≡ phase.Between → IsInIndefinite w.stack → Within (bound_of w.stack) (w.offset + 1)
     → Continues w (record w { phase = phase.Zero; offset = w.offset + 1 }) (0 ∷ []) []
 tells_zero w e i f = record {
+  framing = refl;
   goes = λ b told s has.
       let t = between_tail s.tail _ (phase_at w b told s _ e has) in
       let has' : HasState w b told (with_tail s Nothing) = tail_state w b told s _ t has in

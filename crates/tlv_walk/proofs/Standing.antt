@@ -19,7 +19,7 @@ use Rattle.tlv_walk.proofs.Zipper.{reading_of}
 
 pub stands_behind : (old new : Machine) (before after : List ℕ) (e : Told) → TellsEvent old new before after e → StandsBehind old new before after e
 stands_behind old new before after e t =
-    (t.0, t.1, λ b told st. let u = t.2.goes b told st.state st.has_state in stands new (b ++ t.0) (told ++ e ∷ []) u.0 u.1)
+    (t.0, t.1, t.2.framing, λ b told st. let u = t.2.goes b told st.state st.has_state in stands new (b ++ t.0) (told ++ e ∷ []) u.0 u.1)
 
 -- where nothing waits no events do
 no_endings : (at : ℕ) (fs : List Frame) → (IsFilled fs at → ⊥) → endings_at at fs ≡ []
@@ -68,6 +68,7 @@ pub stands_step : (old new : Machine) (before after : List ℕ) (s : Step) → S
 stands_step old new before after (step.Event e) k t = stands_behind old new before after (told_of e) t
 stands_step old new before after step.NeedMore k t = (
   k.1,
+  t.framing,
   λ b told st.
       let u = t.goes b told st.state st.has_state in
       (subst (λ (es : List Told). Stands new (b ++ before) es) (append-nil told) (stands new (b ++ before) (told ++ []) u.0 u.1), quiet new (ready-waits new k.3)),

@@ -5,6 +5,7 @@ pub mod MemSource
 pub mod Out
 pub mod Prefix
 pub mod Inside
+pub mod Follow
 pub mod Forest
 pub mod Place
 pub mod Reading

@@ -19,6 +19,7 @@ use Rattle.tlv_walk.specs.Reading.{IsReading}
 
 -- from whatever state the walker had, it came to one with these octets and events more
 pub record Continues (old new : Machine) (taken : List ℕ) (more : List Told) : Type 0 where
+  pub framing : new.framing ≡ old.framing
   pub goes : (b : List ℕ) (told : List Told) (s : State) → HasState old b told s → (t : State) × HasState new (b ++ taken) (told ++ more) t
 
 -- octets were taken from the front of a piece, and one event was told
@@ -71,7 +72,7 @@ TellsStep old new before after (step.Fault f) = TellsFault old new before after 
 
 -- octets were taken from the front of a piece, and one event was told: the walker stands for both
 abbrev pub StandsBehind : Machine → Machine → List ℕ → List ℕ → Told → Type 0
-StandsBehind old new before after e = (taken : List ℕ) × (before ≡ taken ++ after)
+StandsBehind old new before after e = (taken : List ℕ) × (before ≡ taken ++ after) × (new.framing ≡ old.framing)
     × ((b : List ℕ) (told : List Told) → Stands old b told → Stands new (b ++ taken) (told ++ e ∷ []))
 
 -- the octet behind those that were taken is refused: the events told are those of the reading, and the fault
@@ -89,6 +90,6 @@ pub record IsRefused (old : Machine) (before after : List ℕ) (f : Fault) : Typ
 abbrev pub StandsStep : Machine → Machine → List ℕ → List ℕ → Step → Type 0
 StandsStep old new before after (step.Event e) = StandsBehind old new before after (told_of e)
 StandsStep old new before after step.NeedMore =
-    (after ≡ []) × ((b : List ℕ) (told : List Told) → Stands old b told → Stands new (b ++ before) told × (waiting_of new ≡ []))
+    (after ≡ []) × (new.framing ≡ old.framing) × ((b : List ℕ) (told : List Told) → Stands old b told → Stands new (b ++ before) told × (waiting_of new ≡ []))
 -- the first fault, or the same again
 StandsStep old new before after (step.Fault f) = IsRefused old before after f ⊎ ((old.phase ≡ Failed f) × (new ≡ old) × (after ≡ before))

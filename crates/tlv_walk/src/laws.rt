@@ -5,6 +5,7 @@ ghost use Rattle.tlv_walk.specs.declared.ending.Ending.TheVariants.{Done};
 ghost use Rattle.tlv_walk.specs.declared.framing.Framing.{Framing};
 ghost use Rattle.tlv_walk.specs.Ending.{IsEnding};
 ghost use Rattle.tlv_walk.specs.Events.{AreEqualJoined, Told, apart};
+ghost use Rattle.tlv_walk.specs.Follow.{followed};
 ghost use Rattle.tlv_walk.specs.Forest.{Forest, is_whole};
 ghost use Rattle.tlv_walk.specs.Laws.{
   EventsGoOn,
@@ -17,6 +18,8 @@ ghost use Rattle.tlv_walk.specs.Laws.{
 };
 ghost use Rattle.tlv_walk.specs.Place.{IsOpen, top};
 ghost use Rattle.tlv_walk.specs.Reading.{IsSound, IsSoundList};
+
+use crate::Follow;
 
 /// Wherever an open forest is cut off, what is left is an open forest.
 pub fn fronts_are_open()
@@ -71,4 +74,10 @@ pub fn joined_is_apart()
 pub fn sound_is_whole()
     ensures { (framing : Framing) (f : Forest)
         → IsSound (top framing) f ↔ (IsOpen (top framing) f × (is_whole f ≡ true)) }
+{}
+
+/// Nothing that a follower does shows how contents and padding were cut into pieces: of events that
+/// are equal joined it makes the same state and the same octets.
+pub fn pieces_do_not_show<F: Follow>(_follower: &F)
+    ensures { (s : F) (xs ys : List Told) → AreEqualJoined xs ys → followed F.next s xs ≡ followed F.next s ys }
 {}

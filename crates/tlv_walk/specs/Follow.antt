@@ -1,0 +1,46 @@
+-- What a follower makes of events.
+use Rattle.std.specs.Prelude.{◌≡◌, ℕ, List, [], ◌∷◌, ◌++◌}
+use Rattle.tlv_walk.specs.declared.follow.Go.{Go}
+use Rattle.tlv_walk.specs.declared.follow.Go.TheVariants as go
+use Rattle.tlv_walk.specs.Events.{Told}
+
+-- what a follower makes of events: its new state, the octets that it puts, and whether it wants more
+pub record Following (S : Type 0) : Type 0 where
+  pub state : S
+  pub put : List ℕ
+  pub goes : Go
+
+-- of no event
+abbrev pub stay : {S : Type 0} → S → Following S
+stay s = record { state = s; put = []; goes = go.On }
+
+-- of some events, and then of others
+abbrev pub and_then : {S : Type 0} → Following S → (S → Following S) → Following S
+and_then t f = let u = f t.state in record { state = u.state; put = t.put ++ u.put; goes = u.goes }
+
+-- of others only where it wants more
+abbrev pub if_on : {S : Type 0} → Go → Following S → (S → Following S) → Following S
+if_on go.On t f = and_then t f
+if_on go.Enough t f = t
+
+-- of a list of events, up to the first at which it has enough
+abbrev pub followed : {S : Type 0} → (S → Told → Following S) → S → List Told → Following S
+followed next s [] = stay s
+followed next s (e ∷ es) = if_on (next s e).goes (next s e) (λ u. followed next u es)
+
+-- what octets make in two parts they make in one
+abbrev pub Joins : {S : Type 0} → (S → Told → Following S) → (List ℕ → Told) → Type 0
+Joins {S} next part = (s : S) (x y : List ℕ) → next s (part (x ++ y)) ≡ and_then (next s (part x)) (λ u. next u (part y))
+
+-- no octets make nothing
+abbrev pub Rests : {S : Type 0} → (S → Told → Following S) → (List ℕ → Told) → Type 0
+Rests {S} next part = (s : S) → next s (part []) ≡ stay s
+
+-- octets are never enough: an end may be
+abbrev pub GoesOn : {S : Type 0} → (S → Told → Following S) → (List ℕ → Told) → Type 0
+GoesOn {S} next part = (s : S) (x : List ℕ) → (next s (part x)).goes ≡ go.On
+
+-- octet by octet: what a follower makes of octets, from what it makes of one
+abbrev pub each_octet : {S : Type 0} → (S → ℕ → Following S) → S → List ℕ → Following S
+each_octet one s [] = stay s
+each_octet one s (x ∷ xs) = and_then (one s x) (λ u. each_octet one u xs)
