@@ -33,9 +33,10 @@ module _ (old mid new : Machine) (x : ℕ) (first : Continues old mid (x ∷ [])
           two.1,
           subst (λ (o : List ℕ). HasState two.0 o told two.1) spelled (subst (λ (es : List Told). HasState two.0 ((b ++ x ∷ []) ++ r.0) es two.1) (append-nil told) two.2),
           two.3,
+          two.4,
           λ c. subst (λ (w : Framing). IsEnding w ((b ++ x ∷ r.0) ++ r.1 ∷ c) (ending.Fault f)) same
-              (subst (λ (o : List ℕ). IsEnding mid.framing (o ++ r.1 ∷ c) (ending.Fault f)) spelled (two.4 c)),
-          two.5 ∙ same,
+              (subst (λ (o : List ℕ). IsEnding mid.framing (o ++ r.1 ∷ c) (ending.Fault f)) spelled (two.5 c)),
+          two.6 ∙ same,
         ),
   )
 

@@ -1,7 +1,8 @@
 -- Each input of octets has an ending: it is `Done` where the input is sound, and no fault is a false alarm.
-use Rattle.std.proofs.Common.{◌≡◌, ◌≢◌, ◌⊎◌, inl, inr, ℕ, ◌<◌, ◌≤◌, true, cond, List, [], ◌∷◌, ◌++◌, length, All, refl, ap, ◌∙◌, arith, append-nil, length-append}
+use Rattle.std.proofs.Common.{◌≡◌, ◌≢◌, ◌⊎◌, inl, inr, ℕ, ◌<◌, ◌≤◌, true, cond, List, [], ◌∷◌, ◌++◌, length, All, refl, sym, ap, ◌∙◌, subst, arith, append-nil, length-append}
 use Rattle.std.proofs.lemmas.Bool.{cases_Bool}
 use Rattle.std.proofs.lemmas.List.{get_or_at}
+use Rattle.tlv_head.specs.declared.fault.Fault.{Fault as FaultOf}
 use Rattle.tlv_head.specs.declared.fault.FaultCode.{FaultCode}
 use Rattle.tlv_head.specs.declared.fault.FaultCode.TheVariants.{Empty, Short}
 use Rattle.tlv_walk.specs.declared.ending.Ending.{Ending}
@@ -12,7 +13,8 @@ use Rattle.tlv_walk.specs.Place.{top}
 use Rattle.tlv_walk.specs.Reading.{IsReading, IsSoundList}
 use Rattle.tlv_walk.specs.Ending.{IsEnding, IsFaultAt, done, empty, fault, refused, short, tip}
 use Rattle.tlv_walk.proofs.Push.{Spells}
-use Rattle.tlv_walk.proofs.Readings.{Run, Going, Halted, IsHalt, IsRun, halt-longer, halt-longest, is-run, run, run-reading}
+use Rattle.tlv_walk.proofs.Readings.{Run, Going, Halted, IsHalt, IsRun, halt-longer, halt-longest, is-run, run, run-reading, unique}
+use Rattle.tlv_walk.proofs.Spellings.{front-same}
 use Rattle.tlv_walk.proofs.Sound.{open-sound, sound-open_top, sound-whole}
 use Rattle.tlv_walk.proofs.Faults.{fault-refused, refused-fault}
 
@@ -127,3 +129,24 @@ sound-reading w b s = run-reading w (Going s.forest) b (record { is_open = sound
 -- the ending of a sound input is `Done`
 pub sound-done : (w : Framing) (b : List ℕ) → IsSoundList w b → IsEnding w b Done
 sound-done w b s = done s.forest (sound-reading w b s) s.octets s.some (sound-whole (top w) s.forest s.sound)
+
+abbrev offset_in : Ending → ℕ
+offset_in Done = 0
+offset_in (Fault f) = f.offset
+
+-- an ending that is a fault: the input ends there, or an octet of it is refused
+fault-place : (w : Framing) (b : List ℕ) (e : Ending) (f : FaultOf) → IsEnding w b e → e ≡ Fault f
+    → (f.offset ≡ length b) ⊎ ((g : Forest) × IsReading w b g × (f.offset ≡ length (spell g)))
+fault-place w b e f (empty g r s n) i = inl (sym (ap offset_in i))
+fault-place w b e f (short g r s n) i = inl (sym (ap offset_in i))
+fault-place w b e f (done g r s n t) i = absurd (cc (i))
+fault-place w b e f (refused g x rest code r s k) i = inr (g, r, sym (ap offset_in i))
+
+-- where the octet behind p is refused and p is the spelling of an open forest, that is the reading
+pub refused-reading : (w : Framing) (p : List ℕ) (x : ℕ) (c : List ℕ) (f : FaultOf) (g : Forest) → Spells (top w) p g → f.offset ≡ length p → IsEnding w (p ++ x ∷ c) (Fault f) → IsReading w (p ++ x ∷ c) g
+refused-reading w p x c f g v there e = elim (fault-place w (p ++ x ∷ c) (Fault f) f e refl) [
+  | inl end ↦ absurd (omega (arith, end, there, length-append p (x ∷ c)))
+  | inr r ↦
+      let same : spell r.0 ≡ spell g = front-same (spell r.0) (spell g) (r.1.front.0) (x ∷ c) (r.1.front.1 ∙ ap (λ (o : List ℕ). o ++ x ∷ c) (sym v.spelled)) (sym r.2 ∙ there ∙ ap length (sym v.spelled)) in
+      subst (λ (h : Forest). IsReading w (p ++ x ∷ c) h) (unique (top w) r.0 g r.1.is_open v.is_open same) r.1
+]

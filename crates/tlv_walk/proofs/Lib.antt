@@ -33,3 +33,4 @@ pub mod Standing
 pub mod Rows
 pub mod Known
 pub mod Followed
+pub mod Following

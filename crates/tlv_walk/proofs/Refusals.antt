@@ -55,6 +55,7 @@ refuses_here w x rest code idle faulty = (
         f.0,
         subst (λ (o : List ℕ). HasState w o told f.0) (sym (append-nil b)) f.1,
         idle,
+        refl,
         λ c. subst (λ (o : List ℕ). IsEnding w.framing (o ++ x ∷ c) (ending.Fault (fault_at code w.offset))) (sym (append-nil b))
             (subst (λ (n : ℕ). IsEnding w.framing (b ++ x ∷ c) (fault code n)) (sym f.1.offset) (state-fault w b told f.0 x c code f.1 idle f.2)),
         refl,

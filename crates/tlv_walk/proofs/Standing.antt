@@ -1,5 +1,5 @@
 -- What a step tells, of what a walker stands for.
-use Rattle.std.proofs.Common.{◌≡◌, inl, inr, ℕ, Bool, false, if◌then◌else◌, List, [], ◌∷◌, ◌++◌, Option, Some, None, refl, ap, ◌∙◌, subst, append-nil, ne_eqb}
+use Rattle.std.proofs.Common.{◌≡◌, inl, inr, ℕ, Bool, false, if◌then◌else◌, List, [], ◌∷◌, ◌++◌, length, Option, Some, None, refl, ap, ◌∙◌, subst, append-nil, ne_eqb}
 use Rattle.tlv_head.specs.declared.fault.Fault.{Fault}
 use Rattle.tlv_walk.specs.declared.event.Step.{Step}
 use Rattle.tlv_walk.specs.declared.event.Step.TheVariants as step
@@ -9,12 +9,14 @@ use Rattle.tlv_walk.specs.declared.walker.Phase.{Phase}
 use Rattle.tlv_walk.specs.declared.walker.Phase.TheVariants as phase
 use Rattle.tlv_walk.specs.Events.{AreEqualJoined, End, Told, events}
 use Rattle.tlv_walk.specs.Machine.{IsWaiting, IsWaitingIn, Machine, Steps}
-use Rattle.tlv_walk.specs.Reading.{IsReading}
+use Rattle.tlv_walk.specs.Place.{IsOpen, top}
 use Rattle.tlv_walk.specs.Stack.{IsFilled}
 use Rattle.tlv_walk.specs.State.{Stands, ending_of, endings_at, is_end, waiting_in, waiting_of}
 use Rattle.tlv_walk.specs.Tells.{IsRefused, RefusesOctet, StandsBehind, StandsStep, TellsEvent, TellsFault, TellsStep, told_of}
+use Rattle.tlv_walk.proofs.Endings.{refused-reading}
 use Rattle.tlv_walk.proofs.StateEndings.{ready-waits}
-use Rattle.tlv_walk.proofs.StateReading.{stands, state-events, state-reading}
+use Rattle.tlv_walk.proofs.Push.{Spells}
+use Rattle.tlv_walk.proofs.StateReading.{stands, state-events, state-spells}
 use Rattle.tlv_walk.proofs.Zipper.{reading_of}
 
 pub stands_behind : (old new : Machine) (before after : List ℕ) (e : Told) → TellsEvent old new before after e → StandsBehind old new before after e
@@ -51,12 +53,17 @@ is_refused old before after f r = record {
   ends = λ b told st.
       let u = r.5 b told st.state st.has_state in
       let m : Machine = u.0 in
-      let all : AreEqualJoined (told ++ waiting_of m) (events (reading_of u.1)) = state-events m (b ++ r.0) told u.1 u.2 in (
-        reading_of u.1,
-        subst (λ (w : Framing). IsReading w (b ++ r.0) (reading_of u.1)) u.5 (state-reading m (b ++ r.0) told u.1 u.2),
-        subst (λ (es : List Told). AreEqualJoined es (events (reading_of u.1))) (ap (λ (es : List Told). told ++ es) (quiet m u.3) ∙ append-nil told) all,
-        u.4,
-      );
+      let all : AreEqualJoined (told ++ waiting_of m) (events (reading_of u.1)) = state-events m (b ++ r.0) told u.1 u.2 in
+      let spells : Spells (top m.framing) (b ++ r.0) (reading_of u.1) = state-spells m (b ++ r.0) told u.1 u.2 in
+      let there : f.offset ≡ length (b ++ r.0) = u.4 ∙ u.2.offset in record {
+        reading = reading_of u.1;
+        spelled = spells.spelled;
+        offset = there;
+        all_told = subst (λ (es : List Told). AreEqualJoined es (events (reading_of u.1))) (ap (λ (es : List Told). told ++ es) (quiet m u.3) ∙ append-nil told) all;
+        stays = λ c. refused-reading old.framing (b ++ r.0) r.1 c f (reading_of u.1)
+            (record { is_open = subst (λ (w : Framing). IsOpen (top w) (reading_of u.1)) u.6 spells.is_open; spelled = spells.spelled }) there (u.5 c);
+        ends = u.5;
+      };
 }
 
 stands_fault : (old new : Machine) (before after : List ℕ) (f : Fault) → TellsFault old new before after f → StandsStep old new before after (step.Fault f)

@@ -20,3 +20,4 @@ pub mod State
 pub mod Tells
 pub mod ReadsOn
 pub mod OpenCount
+pub mod Follows

@@ -1,8 +1,9 @@
 -- What a walker's moves and steps tell.
-use Rattle.std.specs.Prelude.{◌≡◌, ◌⊎◌, ℕ, List, [], ◌∷◌, ◌++◌}
+use Rattle.std.specs.Prelude.{◌≡◌, ◌⊎◌, ℕ, List, [], ◌∷◌, ◌++◌, length}
 use Rattle.tlv_head.specs.declared.fault.Fault.{Fault}
 use Rattle.tlv_head.specs.Fields.{heading_with}
 use Rattle.tlv_walk.specs.declared.ending.Ending.TheVariants as ending
+use Rattle.tlv_walk.specs.declared.framing.Framing.{Framing}
 use Rattle.tlv_walk.specs.declared.event.Event.{Event}
 use Rattle.tlv_walk.specs.declared.event.Event.TheVariants as event
 use Rattle.tlv_walk.specs.declared.event.Move.{Move}
@@ -14,7 +15,7 @@ use Rattle.tlv_walk.specs.Ending.{IsEnding}
 use Rattle.tlv_walk.specs.Events.{AreEqualJoined, Told, events, Open, Begin, Bytes, End, Close, Enter, Unused, Leave, Pad}
 use Rattle.tlv_walk.specs.Machine.{IsWaiting, Machine}
 use Rattle.tlv_walk.specs.State.{HasState, Stands, State, waiting_of}
-use Rattle.tlv_walk.specs.Forest.{Forest}
+use Rattle.tlv_walk.specs.Forest.{Forest, spell}
 use Rattle.tlv_walk.specs.Reading.{IsReading}
 
 -- from whatever state the walker had, it came to one with these octets and events more
@@ -42,7 +43,7 @@ told_of (event.Pad octets) = Pad octets.now
 abbrev pub RefusesOctet : Machine → List ℕ → List ℕ → Fault → Type 0
 RefusesOctet old before after f = (taken : List ℕ) × (x : ℕ) × (rest : List ℕ) × (before ≡ taken ++ x ∷ rest) × (after ≡ x ∷ rest)
     × ((b : List ℕ) (told : List Told) (s : State) → HasState old b told s
-    → (m : Machine) × (t : State) × HasState m (b ++ taken) told t × (IsWaiting m → ⊥)
+    → (m : Machine) × (t : State) × HasState m (b ++ taken) told t × (IsWaiting m → ⊥) × (f.offset ≡ m.offset)
     × ((c : List ℕ) → IsEnding old.framing ((b ++ taken) ++ x ∷ c) (ending.Fault f)) × (m.framing ≡ old.framing))
 
 -- an octet is refused, or was refused before
@@ -75,16 +76,24 @@ abbrev pub StandsBehind : Machine → Machine → List ℕ → List ℕ → Told
 StandsBehind old new before after e = (taken : List ℕ) × (before ≡ taken ++ after) × (new.framing ≡ old.framing)
     × ((b : List ℕ) (told : List Told) → Stands old b told → Stands new (b ++ taken) (told ++ e ∷ []))
 
--- the octet behind those that were taken is refused: the events told are those of the reading, and the fault
--- is the ending, whatever follows
+-- behind p the octet is refused: the events told are those of the reading, which spells p, and reading and
+-- ending are the same whatever follows that octet
+pub record IsRefusedBehind (framing : Framing) (p : List ℕ) (octet : ℕ) (told : List Told) (f : Fault) : Type 0 where
+  pub reading : Forest
+  pub spelled : spell reading ≡ p
+  pub offset : f.offset ≡ length p
+  pub all_told : AreEqualJoined told (events reading)
+  pub stays : (c : List ℕ) → IsReading framing (p ++ octet ∷ c) reading
+  pub ends : (c : List ℕ) → IsEnding framing (p ++ octet ∷ c) (ending.Fault f)
+
+-- the octet behind those that were taken is refused
 pub record IsRefused (old : Machine) (before after : List ℕ) (f : Fault) : Type 0 where
   pub taken : List ℕ
   pub octet : ℕ
   pub rest : List ℕ
   pub before_is : before ≡ taken ++ octet ∷ rest
   pub after_is : after ≡ octet ∷ rest
-  pub ends : (b : List ℕ) (told : List Told) → Stands old b told → (reading : Forest) × IsReading old.framing (b ++ taken) reading × AreEqualJoined told (events reading)
-      × ((c : List ℕ) → IsEnding old.framing ((b ++ taken) ++ octet ∷ c) (ending.Fault f))
+  pub ends : (b : List ℕ) (told : List Told) → Stands old b told → IsRefusedBehind old.framing (b ++ taken) octet told f
 
 -- what a step makes of a walker that stands for octets, and of the front of a piece
 abbrev pub StandsStep : Machine → Machine → List ℕ → List ℕ → Step → Type 0

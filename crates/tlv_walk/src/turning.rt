@@ -1,8 +1,9 @@
 //! One read of a source, followed.
-ghost use Rattle.std.specs.Prelude.{◌≡◌, ◌+◌, ◌<◌, ◌≤◌, ◌^◌, IfOk, IsErrOf, OnOk, length};
+ghost use Rattle.std.specs.Prelude.{◌≡◌, ◌+◌, ◌<◌, ◌≤◌, ◌^◌, IfOk, IsErrOf, OnErr, OnOk, length};
 ghost use Rattle.tlv_walk.specs.Device.{counted, failures_after};
 ghost use Rattle.tlv_walk.specs.Machine.{IsReady, unused_in};
-ghost use Rattle.tlv_walk.specs.Out.{lender_of};
+ghost use Rattle.tlv_walk.specs.Follows.{Fails, Stops};
+ghost use Rattle.tlv_walk.specs.Out.{lender_of, put_to};
 
 use crate::event::Move;
 use crate::{
@@ -93,6 +94,8 @@ fn follow<F: Follow, D: Drain>(
     out: &mut Out<'_, D>,
 ) -> Result<Stop, WriteFault>
     requires { walker.old.offset + length piece.now ≤ 2 ^ 40 }
+    ensures ok { IfOk result (Stops F.next walker.old walker.new follower.old follower.new (put_to D.taken out.old) (put_to D.taken out.new) piece.now) }
+    ensures err { OnErr result (Fails F.next walker.old follower.old (put_to D.taken out.old) (D.taken (lender_of out.new).now) piece.now) }
     ensures same_reference { (lender_of out.new).ghost_name ≡ (lender_of out.old).ghost_name }
     ensures failed { D.failures (lender_of out.new).now ≡ failures_after result (D.failures (lender_of out.old).now) }
     ensures used_up { IfOk result (λ s. s ≡ Stop.UsedUp → (walker.new.offset ≡ walker.old.offset + length piece.now) × IsReady walker.new) }
