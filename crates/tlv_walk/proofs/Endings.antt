@@ -130,7 +130,7 @@ sound-reading w b s = run-reading w (Going s.forest) b (record { is_open = sound
 pub sound-done : (w : Framing) (b : List ℕ) → IsSoundList w b → IsEnding w b Done
 sound-done w b s = done s.forest (sound-reading w b s) s.octets s.some (sound-whole (top w) s.forest s.sound)
 
-abbrev offset_in : Ending → ℕ
+abbrev pub offset_in : Ending → ℕ
 offset_in Done = 0
 offset_in (Fault f) = f.offset
 

@@ -33,4 +33,7 @@ pub mod Standing
 pub mod Rows
 pub mod Known
 pub mod Followed
+pub mod Finals
 pub mod Following
+pub mod Turns
+pub mod Drives

@@ -21,3 +21,5 @@ pub mod Tells
 pub mod ReadsOn
 pub mod OpenCount
 pub mod Follows
+pub mod Turns
+pub mod Drives

@@ -1,6 +1,7 @@
 //! A walk over all that a source gives.
 ghost use Rattle.std.specs.Prelude.{◌≡◌, ◌≤◌, ◌^◌, IsErrOf, OnOk};
 ghost use Rattle.tlv_walk.specs.Device.{counted};
+ghost use Rattle.tlv_walk.specs.Drives.{Drives};
 
 use crate::{DeviceFault, Drain, Follow, Framing, INPUT_LIMIT, Run, Source, Turn, Walker, turn};
 
@@ -18,6 +19,7 @@ pub fn drive<S: Source, F: Follow, D: Drain>(
     drain: &mut D,
     framing: &Framing,
 ) -> Result<Run, DeviceFault>
+    ensures drives { Drives F.next framing.now follower.old follower.new (D.taken drain.old) (D.taken drain.new) (S.left source.old) (S.left source.new) (S.reads source.old) (S.reads source.new) (S.last source.new) (2 ^ 40) result }
     ensures ok { OnOk result ((S.failures source.new ≡ S.failures source.old) × (D.failures drain.new ≡ D.failures drain.old)) }
     ensures read { IsErrOf result DeviceFault.ReadFailed → (S.failures source.new ≡ counted (S.failures source.old)) × (D.failures drain.new ≡ D.failures drain.old) }
     ensures write { IsErrOf result DeviceFault.WriteFailed → (S.failures source.new ≡ S.failures source.old) × (D.failures drain.new ≡ counted (D.failures drain.old)) }
@@ -42,6 +44,7 @@ pub fn drive_up_to<S: Source, F: Follow, D: Drain>(
     framing: &Framing,
 ) -> Result<Run, DeviceFault>
     requires { limit ≤ 2 ^ 40 }
+    ensures drives { Drives F.next framing.now follower.old follower.new (D.taken drain.old) (D.taken drain.new) (S.left source.old) (S.left source.new) (S.reads source.old) (S.reads source.new) (S.last source.new) limit result }
     ensures ok { OnOk result ((S.failures source.new ≡ S.failures source.old) × (D.failures drain.new ≡ D.failures drain.old)) }
     ensures read { IsErrOf result DeviceFault.ReadFailed → (S.failures source.new ≡ counted (S.failures source.old)) × (D.failures drain.new ≡ D.failures drain.old) }
     ensures write { IsErrOf result DeviceFault.WriteFailed → (S.failures source.new ≡ S.failures source.old) × (D.failures drain.new ≡ counted (D.failures drain.old)) }

@@ -1,9 +1,13 @@
 //! One read of a source, followed.
-ghost use Rattle.std.specs.Prelude.{◌≡◌, ◌+◌, ◌<◌, ◌≤◌, ◌^◌, IfOk, IsErrOf, OnErr, OnOk, length};
+ghost use Rattle.std.specs.Prelude.{◌≡◌, ℕ, List, ◌+◌, ◌<◌, ◌≤◌, ◌^◌, ◌++◌, IfOk, IsErrOf, OnErr, OnOk, length};
+ghost use Rattle.std.specs.Io.KnownBytes.{Consumes};
 ghost use Rattle.tlv_walk.specs.Device.{counted, failures_after};
+ghost use Rattle.tlv_walk.specs.Events.{Told};
 ghost use Rattle.tlv_walk.specs.Machine.{IsReady, unused_in};
 ghost use Rattle.tlv_walk.specs.Follows.{Fails, Stops};
 ghost use Rattle.tlv_walk.specs.Out.{lender_of, put_to};
+ghost use Rattle.tlv_walk.specs.State.{Stands};
+ghost use Rattle.tlv_walk.specs.Turns.{Gave, IsPrefixMade, TurnsTo, given};
 
 use crate::event::Move;
 use crate::{
@@ -43,6 +47,11 @@ pub fn turn<F: Follow, S: Source, D: Drain>(
     requires limit { limit ≤ 2 ^ 40 }
     requires taken { walker.old.offset ≤ limit }
     requires ready { IsReady walker.old }
+    // What the source gave, and what was made of it, wherever the walker stands.
+    ensures octets { Consumes (S.left source.old) (S.left source.new) (given (S.last source.new) piece.new) }
+    ensures reads { S.reads source.new ≡ counted (S.reads source.old) }
+    ensures last { Gave (length piece.old) result (S.last source.new) }
+    ensures turned { (b : List ℕ) (told : List Told) → Stands walker.old b told → TurnsTo F.next walker.old walker.new follower.old follower.new (D.taken drain.old) (D.taken drain.new) b told (given (S.last source.new) piece.new) limit result }
     ensures again { IfOk result (λ t. t ≡ Turn.Again → (walker.old.offset < walker.new.offset) × (walker.new.offset ≤ limit) × IsReady walker.new) }
 
     // Which device failed, if one did.
@@ -56,13 +65,9 @@ pub fn turn<F: Follow, S: Source, D: Drain>(
     };
     let left = limit - walker.offset();
     let walked = left.min(count as u64) as usize;
-    let mut out = Out::new(drain);
-    let Ok(stop) = follow(walker, follower, &piece[..walked], &mut out) else {
+    let Ok(stop) = follow_and_flush(walker, follower, drain, &piece[..walked]) else {
         return Err(DeviceFault::WriteFailed);
     };
-    if out.flush().is_err() {
-        return Err(DeviceFault::WriteFailed);
-    }
     match stop {
         Stop::Enough => Ok(Turn::Ended(run_of(walker, Ending::Done, true))),
         Stop::Fault(fault) => Ok(Turn::Ended(run_of(walker, Ending::Fault(fault), false))),
@@ -84,6 +89,25 @@ fn run_of(walker: &Walker, ending: Ending, enough: bool) -> Run
         enough,
         unused: walker.unused(),
     }
+}
+
+/// Walks over a piece, lets the follower follow each event, and hands all that it put to the drain.
+fn follow_and_flush<F: Follow, D: Drain>(
+    walker: &mut Walker,
+    follower: &mut F,
+    drain: &mut D,
+    piece: &[u8],
+) -> Result<Stop, WriteFault>
+    requires { walker.old.offset + length piece.now ≤ 2 ^ 40 }
+    ensures ok { IfOk result (Stops F.next walker.old walker.new follower.old follower.new (D.taken drain.old) (D.taken drain.new) piece.now) }
+    ensures err { OnErr result ((b : List ℕ) (told : List Told) → Stands walker.old b told → IsPrefixMade F.next walker.old.framing (b ++ piece.now) told follower.old (D.taken drain.old) (D.taken drain.new)) }
+    ensures failed { D.failures drain.new ≡ failures_after result (D.failures drain.old) }
+    ensures used_up { IfOk result (λ s. s ≡ Stop.UsedUp → (walker.new.offset ≡ walker.old.offset + length piece.now) × IsReady walker.new) }
+{
+    let mut out = Out::new(drain);
+    let stop = follow(walker, follower, piece, &mut out)?;
+    out.flush()?;
+    Ok(stop)
 }
 
 /// Walks over a piece, and lets the follower follow each event.
