@@ -176,6 +176,7 @@ impl Walker {
         requires { self.old.offset + length piece.old.now ≤ 2 ^ 40 }
         ensures steps { Steps self.old self.new piece.old.now piece.new.now result }
         ensures stands { StandsStep self.old self.new piece.old.now piece.new.now result }
+        ensures again { (f : FaultOf) → self.old.phase ≡ phases.Failed f → (result ≡ Step.Fault f) × (self.new ≡ self.old) × (piece.new.now ≡ piece.old.now) }
     {
         Step::Event(match self.advance(piece) {
             Move::Open(fields, octets) => Event::Open(Header::new(&fields, octets)),
@@ -199,6 +200,7 @@ impl Walker {
         requires { self.old.offset + length piece.old.now ≤ 2 ^ 40 }
         ensures moves { Moves self.old self.new piece.old.now piece.new.now result }
         ensures tells { TellsMove self.old self.new piece.old.now piece.new.now result }
+        ensures again { (f : FaultOf) → self.old.phase ≡ phases.Failed f → (result ≡ Move.Fault f) × (self.new ≡ self.old) × (piece.new.now ≡ piece.old.now) }
     {
         if let Phase::Contents(left) = self.phase {
             return if left == 0 {
