@@ -1,5 +1,5 @@
 -- The innermost element of a walker's state ends.
-use Rattle.std.proofs.Common.{◌≡◌, ℕ, ◌+◌, ◌-◌, Bool, true, false, not, if◌then◌else◌, List, [], ◌∷◌, ◌++◌, length, drop, Some, None, refl, sym, ap, ◌∙◌, subst, arith, append_assoc, append-nil, length-append}
+use Rattle.std.proofs.Common.{◌≡◌, inl, inr, ℕ, ◌+◌, ◌-◌, Bool, true, false, not, if◌then◌else◌, List, [], ◌∷◌, ◌++◌, length, drop, Some, None, refl, sym, ap, ◌∙◌, subst, arith, append_assoc, append-nil, length-append}
 use Rattle.std.proofs.lemmas.Bool.{true≢false}
 use Rattle.tlv_head.specs.declared.header.Size.{Size}
 use Rattle.tlv_head.specs.declared.header.Size.TheVariants.{Definite, Indefinite}
@@ -8,7 +8,9 @@ use Rattle.tlv_walk.specs.declared.stack.Frame.{Frame}
 use Rattle.tlv_walk.specs.declared.walker.Phase.TheVariants as phase
 use Rattle.tlv_walk.specs.Events.{AreEqualJoined, Told, Close, Leave, apart, closes, end_offset, events, opens}
 use Rattle.tlv_walk.specs.Forest.{Forest, Stop, Closed, contents_length, end_octets, extent, is_whole, opening, spell}
-use Rattle.tlv_walk.specs.Machine.{Machine}
+use Rattle.tlv_walk.specs.Wrappers.{enters}
+use Rattle.std.proofs.lemmas.Bool.{cases_Bool}
+use Rattle.tlv_walk.specs.Machine.{found_in, Machine}
 use Rattle.tlv_walk.specs.Place.{Fits, HasLength, IsEntry, IsZero, Place, after, bound_in, is_indefinite}
 use Rattle.tlv_walk.specs.Stack.{IsFilled, Within, bound_of, innermost_of}
 use Rattle.tlv_walk.specs.Tells.{Continues}
@@ -113,6 +115,7 @@ pub tells_second : (w : Machine) → w.phase ≡ phase.Zero → Within (bound_of
     → Continues w (record w { stack = drop 1 w.stack; phase = phase.Between; offset = w.offset + 1; events = w.events + 1 }) (0 ∷ []) (Close (Some (w.offset - 1)) ∷ [])
 tells_second w e room = record {
   framing = refl;
+  found = refl;
   goes = λ b told s has.
       let t = lone_tail s.tail _ (phase_at w b told s _ e has) in
       let has' : HasState w b told (with_tail s Lone) = tail_state w b told s _ t has in
@@ -150,11 +153,19 @@ filled_from w b told s (l ∷ ls) has e f fs is full =
           (λ i. record w { stack = drop 1 w.stack; phase = e i; offset = still i; events = w.events + 1 }) has.element),
     )
 
+-- the end of an element enters no wrapper
+ending_enters : (f : Frame) → enters (ending_of f ∷ []) ≡ []
+ending_enters f = elim (cases_Bool f.wrapper) [
+  | inl e ↦ rw e refl
+  | inr e ↦ rw e refl
+]
+
 -- the innermost element, which is filled, ends
 pub tells_filled : (w : Machine) → w.phase ≡ phase.Between → (f : Frame) (fs : List Frame) → w.stack ≡ f ∷ fs → f.end ≡ Some w.offset
     → Continues w (record w { stack = drop 1 w.stack; events = w.events + 1 }) [] (ending_of f ∷ [])
 tells_filled w e f fs is full = record {
   framing = refl;
+  found = ap (found_in w.framing.inside w.wrappers) (sym (ending_enters f));
   goes = λ b told s has.
       let t = between_tail s.tail _ (phase_at w b told s _ e has) in
       filled_from w b told s s.layers (tail_state w b told s _ t has) e f fs is full;

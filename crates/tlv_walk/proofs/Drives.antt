@@ -18,6 +18,7 @@ use Rattle.tlv_walk.specs.Follow.{Following, and_then, followed}
 use Rattle.tlv_walk.specs.Follows.{Made}
 use Rattle.tlv_walk.specs.Forest.{Forest, spell}
 use Rattle.tlv_walk.specs.Machine.{Machine, new_machine}
+use Rattle.tlv_walk.specs.Wrappers.{unused_of}
 use Rattle.tlv_walk.specs.Prefix.{HasPrefix}
 use Rattle.tlv_walk.specs.Reading.{IsReading}
 use Rattle.tlv_walk.specs.State.{Stands, waiting_of}
@@ -154,7 +155,7 @@ module _ {S : Type 0} (next : S → Told → Following S) (alike : (s : S) (xs y
         appended = appends_trans old mid new x.made.put y.put x.made.appended y.appended;
         made = λ f q. whole (x.before ++ take (limit - length x.before) r) (record { state = u; put = y.put; goes = goes_of run.enough }) y.made f q;
         ending = subst (λ (g : Framing). EndsWith g (x.before ++ take (limit - length x.before) r) run.enough run.ending) x.same y.ending;
-        spelled = λ no f q. y.spelled no f (subst (λ (g : Framing). IsReading g (x.before ++ take (limit - length x.before) r) f) (sym x.same) q);
+        spelled = λ no f q. let k = y.spelled no f (subst (λ (g : Framing). IsReading g (x.before ++ take (limit - length x.before) r) f) (sym x.same) q) in (k.0, k.1 ∙ ap (λ (g : Framing). unused_of g.inside f) x.same);
         last = λ enough. let k = y.last enough in (
           v,
           record {
@@ -166,7 +167,8 @@ module _ {S : Type 0} (next : S → Told → Following S) (alike : (s : S) (xs y
                 ∙ ap (λ (f : Following S). and_then f (λ z. followed next z k.more)) x.made.made
                 ∙ ap (λ (f : Following S). record f { put = x.made.put ++ f.put }) k.made;
             stands = k.stands;
-            many = k.many;
+            octets_are = k.octets_are;
+            unused = k.unused ∙ ap (λ (g : Framing). unused_of g.inside k.stands.reading) x.same;
           },
         );
       })

@@ -212,6 +212,7 @@ pub tells_unused : (w : Machine) → w.phase ≡ phase.Unused
     → Continues w (record w { phase = phase.Between; offset = w.offset + 1; events = w.events + 1 }) (0 ∷ []) (Unused ∷ [])
 tells_unused w e = record {
   framing = refl;
+  found = refl;
   goes = λ b told s has.
       let t = lead_tail s.tail _ (phase_at w b told s _ e has) in
       let has' : HasState w b told (with_tail s (Lead t.0)) = tail_state w b told s _ t.1 has in

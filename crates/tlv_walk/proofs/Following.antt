@@ -1,6 +1,6 @@
 -- What a follower comes to, event by event.
-use Rattle.std.proofs.Common.{◌≡◌, inl, inr, ℕ, ◌+◌, List, [], ◌∷◌, ◌++◌, length, refl, sym, ap, ◌∙◌, subst, arith, append_assoc, append-nil, length-append}
-use Rattle.std.specs.Prelude.{Option, Some, None}
+use Rattle.std.proofs.Common.{◌≡◌, inl, inr, ℕ, List, [], ◌∷◌, ◌++◌, length, refl, sym, ap, ap₂, ◌∙◌, subst, arith, append_assoc, append-nil, length-append}
+use Rattle.std.specs.Prelude.{Option, Some, None, slice_get}
 use Rattle.std.specs.Io.KnownBytes.{Appends}
 use Rattle.tlv_head.specs.declared.fault.Fault.{Fault}
 use Rattle.tlv_walk.specs.declared.follow.Go.{Go}
@@ -10,10 +10,13 @@ use Rattle.tlv_walk.specs.declared.framing.Framing.{Framing}
 use Rattle.tlv_walk.specs.declared.turning.Stop.TheVariants as stop
 use Rattle.tlv_walk.specs.declared.walker.Phase.{Phase}
 use Rattle.tlv_walk.specs.declared.walker.Phase.TheVariants as phase
-use Rattle.tlv_walk.specs.Events.{Told}
+use Rattle.tlv_walk.specs.Events.{AreEqualJoined, Told, events}
 use Rattle.tlv_walk.specs.Follow.{Following, and_then, followed}
 use Rattle.tlv_walk.specs.Follows.{Fails, Follows, Made, Stops, Walked, WalkedTo}
-use Rattle.tlv_walk.specs.Machine.{Machine}
+use Rattle.tlv_walk.specs.Inside.{CanName}
+use Rattle.tlv_walk.specs.Machine.{Machine, Refuses, found_in}
+use Rattle.tlv_walk.specs.Wrappers.{enters}
+use Rattle.tlv_walk.proofs.Unused.{told_unused}
 use Rattle.tlv_walk.specs.Prefix.{HasPrefix}
 use Rattle.tlv_walk.specs.Place.{Place}
 use Rattle.tlv_walk.specs.State.{IsPhaseOf, Stands, Tail, place_of}
@@ -122,7 +125,7 @@ module _ {S : Type 0} (next : S → Told → Following S) where
 
   -- an octet is refused
   pub stops_fault : (w u v : Machine) (s t : S) (a b : Option (List ℕ)) (piece mid after : List ℕ) (f : Fault) → Follows next w u s t a b piece mid go.On
-      → StandsStep u v mid after (step.Fault f) → v.offset + length after ≡ u.offset + length mid → Stops next w v s t a b piece (stop.Fault f)
+      → StandsStep u v mid after (step.Fault f) → Refuses u v mid after f → Stops next w v s t a b piece (stop.Fault f)
   stops_fault w u v s t a b piece mid after f x y moved = (
     x.0,
     x.1,
@@ -132,14 +135,18 @@ module _ {S : Type 0} (next : S → Told → Following S) where
       stops_there : (o : List ℕ) (told : List Told) → Stands u (o ++ x.2.taken) (told ++ x.0) → StandsStep u v mid after (step.Fault f) → WalkedTo w v piece x.0 f o told
       stops_there o told st (inl r) =
           let behind : IsRefusedBehind u.framing ((o ++ x.2.taken) ++ r.taken) r.octet (told ++ x.0) f = r.ends (o ++ x.2.taken) (told ++ x.0) st in
-          let all : (o ++ x.2.taken) ++ r.taken ≡ o ++ (x.2.taken ++ r.taken) = append_assoc o x.2.taken r.taken in record {
+          let all : (o ++ x.2.taken) ++ r.taken ≡ o ++ (x.2.taken ++ r.taken) = append_assoc o x.2.taken r.taken in
+          let refused : IsRefusedBehind w.framing (o ++ (x.2.taken ++ r.taken)) r.octet (told ++ x.0) f =
+          subst (λ (g : Framing). IsRefusedBehind g (o ++ (x.2.taken ++ r.taken)) r.octet (told ++ x.0) f) x.2.framing (subst (λ (l : List ℕ). IsRefusedBehind u.framing l r.octet (told ++ x.0) f) all behind) in record {
             taken = x.2.taken ++ r.taken;
             octet = r.octet;
             rest = r.rest;
             piece = x.2.piece ∙ ap (λ (l : List ℕ). x.2.taken ++ l) r.before_is ∙ sym (append_assoc x.2.taken r.taken (r.octet ∷ r.rest));
-            offset = omega (arith, moved, st.has_state.offset, ap length r.before_is, ap length r.after_is, length-append r.taken (r.octet ∷ r.rest), length-append (o ++ x.2.taken) r.taken, ap length all);
-            refused =
-                subst (λ (g : Framing). IsRefusedBehind g (o ++ (x.2.taken ++ r.taken)) r.octet (told ++ x.0) f) x.2.framing
-                (subst (λ (l : List ℕ). IsRefusedBehind u.framing l r.octet (told ++ x.0) f) all behind);
+            offset = omega (arith, moved.0, st.has_state.offset, ap length r.before_is, ap length r.after_is, length-append r.taken (r.octet ∷ r.rest), length-append (o ++ x.2.taken) r.taken, ap length all);
+            refused = refused;
+            unused =
+                ap₂ (λ (g : Framing) (n : ℕ). slice_get g.inside n) (moved.3 ∙ x.2.framing) (moved.4 ∙ st.found ∙ ap (λ (g : Framing). found_in g.inside 0 (enters (told ++ x.0))) x.2.framing)
+                ∙ told_unused w.framing (told ++ x.0) [] refused.reading (subst (λ (g : Framing). CanName g.inside) x.2.framing st.named) (refused.stays []).is_open refl
+                (subst (λ (es : List Told). AreEqualJoined es (events refused.reading)) (sym (append-nil (told ++ x.0))) refused.all_told);
           }
       stops_there o told st (inr r) = absurd (never_failed u (o ++ x.2.taken) (told ++ x.0) f st r.0)

@@ -13,7 +13,8 @@ use Rattle.tlv_walk.specs.declared.walker.Phase.{Phase}
 use Rattle.tlv_walk.specs.declared.walker.Phase.TheVariants as phase
 use Rattle.tlv_walk.specs.Events.{Told, Open, Begin, Enter}
 use Rattle.tlv_walk.specs.Forest.{Stop, lead}
-use Rattle.tlv_walk.specs.Machine.{Enters, Machine, behind_header, frame_with, next_wrapper}
+use Rattle.tlv_walk.specs.Machine.{Enters, Machine, behind_header, found_in, frame_with, next_wrapper}
+use Rattle.tlv_walk.specs.Wrappers.{enters}
 use Rattle.tlv_walk.specs.Inside.{is_among}
 use Rattle.tlv_walk.specs.Stack.{Within, bound_of}
 use Rattle.tlv_walk.specs.Tells.{Continues}
@@ -117,6 +118,12 @@ enters_framing w v f at kind.Primitive e = ap (λ (m : Machine). m.framing) e.1
 enters_framing w v f at kind.Constructed e = ap (λ (m : Machine). m.framing) e.1
 enters_framing w v f at kind.Wrapper e = ap (λ (m : Machine). m.framing) e.2
 
+-- a wrapper may be one of the named offsets
+pub enters_found : (w v : Machine) (f : HeaderFields) (o : List ℕ) (at : ℕ) (k : Kind) → Enters w v f at k → v.wrappers ≡ found_in w.framing.inside w.wrappers (enters (event_of k (heading_with f o) ∷ []))
+enters_found w v f o at kind.Primitive e = ap (λ (m : Machine). m.wrappers) e.1
+enters_found w v f o at kind.Constructed e = ap (λ (m : Machine). m.wrappers) e.1
+enters_found w v f o at kind.Wrapper e = ap (λ (m : Machine). m.wrappers) e.2
+
 -- octets that begin with a header, at a walker between elements
 pub fast_enters : (w v : Machine) (piece : List ℕ) (named : Bool) (f : HeaderFields) (count : ℕ) (o : List ℕ) (k : Kind) → w.phase ≡ phase.Between
     → BeginsWithFields piece w.offset named f count → o ≡ take count piece → named ≡ is_among w.offset w.framing.inside
@@ -137,6 +144,7 @@ fast_enters w v piece named f count o k e begins front name shallow fits enters 
     } in
     record {
       framing = enters_framing w v f (f.offset + length o) k enters;
+      found = enters_found w v f o (f.offset + length o) k enters;
       goes = λ b told s has.
           enters_state w v b told (with_tail s Nothing) r o f o k (at_new w b told s r has e refl refl name) completed
           (subst (λ (x : List ℕ). Enters w v f (f.offset + length x) k) (sym whole) enters);

@@ -1,5 +1,5 @@
 -- A walker goes on behind the octets of a header that its reader takes.
-use Rattle.std.proofs.Common.{◌≡◌, ◌≢◌, ◌⊎◌, inl, inr, ℕ, ◌+◌, ◌-◌, ◌^◌, ◌<◌, ◌≤◌, Bool, true, List, [], ◌∷◌, ◌++◌, length, get_or, take, drop, Option, Some, None, refl, sym, ap, ◌∙◌, subst, arith, append_assoc, append-nil, length-append}
+use Rattle.std.proofs.Common.{◌≡◌, ◌≢◌, ◌⊎◌, inl, inr, ℕ, ◌+◌, ◌-◌, ◌^◌, ◌<◌, ◌≤◌, Bool, true, List, [], ◌∷◌, ◌++◌, length, get_or, take, drop, Option, Some, None, refl, sym, ap, ap₂, ◌∙◌, subst, arith, append_assoc, append-nil, length-append}
 use Rattle.std.proofs.lemmas.Bool.{cases_eq}
 use Rattle.std.proofs.lemmas.List.{take_all}
 use Rattle.tlv_head.specs.declared.header.HeaderFields.{HeaderFields}
@@ -15,13 +15,15 @@ use Rattle.tlv_walk.specs.declared.event.Kind.TheVariants as kind
 use Rattle.tlv_walk.specs.declared.walker.Phase.{Phase}
 use Rattle.tlv_walk.specs.declared.walker.Phase.TheVariants as phase
 use Rattle.tlv_walk.specs.Events.{Told}
-use Rattle.tlv_walk.specs.Machine.{CanEnter, Enters, Machine}
+use Rattle.tlv_walk.specs.declared.framing.Framing.{Framing}
+use Rattle.tlv_walk.specs.Machine.{CanEnter, Enters, Machine, found_in}
+use Rattle.tlv_walk.specs.Wrappers.{enters}
 use Rattle.tlv_walk.specs.ReadsOn.{HandsOver, Makes, TellsHeader}
 use Rattle.tlv_walk.specs.Stack.{Within, bound_of, left_to}
 use Rattle.tlv_walk.specs.State.{HasState, IsPhaseOf, Nothing, Front, State, place_of}
 use Rattle.tlv_walk.specs.Tells.{Continues, TellsEvent}
 use Rattle.tlv_walk.proofs.Entering.{AtHeader, Completed, at_front, at_new, front_state}
-use Rattle.tlv_walk.proofs.HeaderKinds.{enters_framing, enters_state, event_of}
+use Rattle.tlv_walk.proofs.HeaderKinds.{enters_found, enters_framing, enters_state, event_of}
 use Rattle.tlv_walk.proofs.Moves.{phase_at, with_tail}
 
 -- ---- the walker that the reader was taken from
@@ -99,11 +101,16 @@ handed_framing : (w u : Machine) (r : Progress) → HandsOver w u r → u.framin
 handed_framing w u r (inl h) = ap (λ (m : Machine). m.framing) h.1
 handed_framing w u r (inr h) = ap (λ (m : Machine). m.framing) h.1
 
+handed_wrappers : (w u : Machine) (r : Progress) → HandsOver w u r → u.wrappers ≡ w.wrappers
+handed_wrappers w u r (inl h) = ap (λ (m : Machine). m.wrappers) h.1
+handed_wrappers w u r (inr h) = ap (λ (m : Machine). m.wrappers) h.1
+
 -- the piece is used up inside a header
 pub tells_unfinished : (w u : Machine) (r q : Progress) (before : List ℕ) (at : ℕ) → HandsOver w u r → HasTaken r q before [] → (q.octets ≡ [] → ⊥) → q.offset + length q.octets ≡ at
     → Within (bound_of u.stack) at → Continues w (record u { phase = phase.Header q; offset = at }) before []
 tells_unfinished w u r q before at over k some e fits = record {
   framing = handed_framing w u r over;
+  found = handed_wrappers w u r over;
   goes = λ b told s has.
       let t : TakenState w u q k.taken b told = taken_state w u r q before [] over k some (subst (Within (bound_of u.stack)) (sym e) fits) b told s has in
       let new : in_header w q ≡ record u { phase = phase.Header q; offset = at } =
@@ -132,11 +139,14 @@ completed_without w u r t h e can makes =
 -- so it tells a header with the fields that were entered
 tells_behind : (u new : Machine) (f : HeaderFields) (o : List ℕ) (at : ℕ) (k : Kind) → CanEnter u (heading_with f o) → at ≡ f.offset + length (octets_of (heading_with f o)) → Enters u new f at k
     → TellsHeader u new (heading_with f o) (event_of k (heading_with f o))
-tells_behind u new f o at k can e enters w r t over makes = record {
-  framing = enters_framing u new f at k enters ∙ handed_framing w u r over;
+tells_behind u new f o at k can e does w r t over makes = record {
+  framing = enters_framing u new f at k does ∙ handed_framing w u r over;
+  found =
+      enters_found u new f o at k does
+      ∙ ap₂ (λ (g : Framing) (n : ℕ). found_in g.inside n (enters (event_of k (heading_with f o) ∷ []))) (handed_framing w u r over) (handed_wrappers w u r over);
   goes = λ b told s has.
       let h = handed w u r over b told s has in
-      enters_state w new b told h.0 r t f o k h.1 (completed_without w u r t (heading_with f o) h.2 can makes) (subst (λ (n : ℕ). Enters w new f n k) e (enters_without w u new f at k h.2 enters));
+      enters_state w new b told h.0 r t f o k h.1 (completed_without w u r t (heading_with f o) h.2 can makes) (subst (λ (n : ℕ). Enters w new f n k) e (enters_without w u new f at k h.2 does));
 }
 
 -- the same of a header that has these fields

@@ -34,6 +34,7 @@ pub mod Rows
 pub mod Known
 pub mod Followed
 pub mod Finals
+pub mod Unused
 pub mod Following
 pub mod Turns
 pub mod Drives

@@ -1,5 +1,5 @@
 -- Each move of a walker, on its state.
-use Rattle.std.proofs.Common.{◌≡◌, ℕ, ◌+◌, ◌-◌, ◌≤◌, Bool, true, ◌||◌, List, [], ◌∷◌, ◌++◌, length, map, refl, sym, ap, ◌∙◌, subst, arith, append_assoc, append-nil, length-append}
+use Rattle.std.proofs.Common.{◌≡◌, ℕ, ◌+◌, ◌-◌, ◌≤◌, Bool, true, ◌||◌, List, [], ◌∷◌, ◌++◌, length, map, refl, sym, ap, ap₂, ◌∙◌, subst, arith, append_assoc, append-nil, length-append}
 use Rattle.std.proofs.lemmas.List.{map-append}
 use Rattle.std.proofs.Math.Bool.{or-true}
 use Rattle.tlv_head.specs.declared.header.Size.TheVariants.{Definite, Indefinite}
@@ -8,7 +8,10 @@ use Rattle.tlv_walk.specs.declared.walker.Phase.{Phase}
 use Rattle.tlv_walk.specs.declared.walker.Phase.TheVariants as phase
 use Rattle.tlv_walk.specs.Events.{AreEqualJoined, Told, Begin, Bytes, End, apart, events}
 use Rattle.tlv_walk.specs.Forest.{Forest, Stop, Fill, Whole, Closed, Partial, Entered, Awaiting, Begun, Zero, has_element, is_whole, spell}
-use Rattle.tlv_walk.specs.Machine.{Machine}
+use Rattle.tlv_walk.specs.declared.framing.Framing.{Framing}
+use Rattle.tlv_walk.specs.Machine.{Machine, found_in, next_wrapper}
+use Rattle.tlv_walk.specs.Wrappers.{enters}
+use Rattle.tlv_walk.proofs.Wrappers.{enters-append}
 use Rattle.tlv_walk.specs.Place.{Fits, IsOpen, Place, after, is_indefinite}
 use Rattle.tlv_walk.specs.declared.stack.Frame.{Frame}
 use Rattle.tlv_walk.specs.Stack.{IsInIndefinite, Within, bound_of}
@@ -24,9 +27,22 @@ use Rattle.tlv_walk.proofs.ZipperEvents.{events-behind}
 pub told_more : (told es new es' : List Told) → AreEqualJoined told es → apart es' ≡ apart (es ++ new) → AreEqualJoined (told ++ new) es'
 told_more told es new es' h e = joined-from_apart (told ++ new) es' (apart-before told es new (apart-from_joined told es h) ∙ sym e)
 
+-- wrappers found one after another
+pub found_in-append : (inside : List ℕ) (k : ℕ) (xs ys : List ℕ) → found_in inside k (xs ++ ys) ≡ found_in inside (found_in inside k xs) ys
+found_in-append inside k [] ys = refl
+found_in-append inside k (x ∷ xs) ys = found_in-append inside (next_wrapper inside k x) xs ys
+
+found_both : (u v w : Machine) (d e : List Told) → v.framing ≡ u.framing → v.wrappers ≡ found_in u.framing.inside u.wrappers (enters d) → w.wrappers ≡ found_in v.framing.inside v.wrappers (enters e)
+    → w.wrappers ≡ found_in u.framing.inside u.wrappers (enters (d ++ e))
+found_both u v w d e same p q =
+    q
+    ∙ ap₂ (λ (f : Framing) (k : ℕ). found_in f.inside k (enters e)) same p
+    ∙ sym (ap (found_in u.framing.inside u.wrappers) (enters-append d e) ∙ found_in-append u.framing.inside u.wrappers (enters d) (enters e))
+
 pub continues_both : (u v w : Machine) (s t : List ℕ) (d e : List Told) → Continues u v s d → Continues v w t e → Continues u w (s ++ t) (d ++ e)
 continues_both u v w s t d e f g = record {
   framing = g.framing ∙ f.framing;
+  found = found_both u v w d e f.framing f.found g.found;
   goes = λ b told st has.
       let one = f.goes b told st has in
       let two = g.goes (b ++ s) (told ++ d) one.0 one.1 in (
@@ -129,6 +145,7 @@ pub tells_contents : (w : Machine) (left : ℕ) (t : List ℕ) (n : ℕ) → w.p
 tells_contents w left t n e most len =
     subst (λ (m : ℕ). Continues w (record w { phase = phase.Contents (left - m); offset = w.offset + m; events = w.events + 1 }) t (Bytes t ∷ [])) (sym len) (record {
       framing = refl;
+      found = refl;
       goes = λ b told s has.
           let k = contents_tail left s.tail _ (phase_at w b told s _ e has) in
           (_, contents_state w b told s k.0 k.1 t left (tail_state w b told s _ k.2 has) e most);
@@ -156,6 +173,7 @@ end_state w b told s h c has e =
 pub tells_end : (w : Machine) → w.phase ≡ phase.Contents 0 → Continues w (record w { phase = phase.Between; events = w.events + 1 }) [] (End ∷ [])
 tells_end w e = record {
   framing = refl;
+  found = refl;
   goes = λ b told s has.
       let k = contents_tail 0 s.tail _ (phase_at w b told s _ e has) in
       (_, end_state w b told s k.0 k.1 (tail_state w b told s _ k.2 has) e);
@@ -203,6 +221,7 @@ pub tells_zero : (w : Machine) → w.phase ≡ phase.Between → IsInIndefinite 
     → Continues w (record w { phase = phase.Zero; offset = w.offset + 1 }) (0 ∷ []) []
 tells_zero w e i f = record {
   framing = refl;
+  found = refl;
   goes = λ b told s has.
       let t = between_tail s.tail _ (phase_at w b told s _ e has) in
       let has' : HasState w b told (with_tail s Nothing) = tail_state w b told s _ t has in

@@ -67,6 +67,7 @@ pub tells_pad : (w : Machine) (t : List ℕ) (n : ℕ) → w.phase ≡ phase.Bet
 tells_pad w t n e none padding zeros len =
     subst (λ (m : ℕ). Continues w (record w { offset = w.offset + m; events = w.events + 1 }) t (Pad t ∷ [])) (sym len) (record {
       framing = refl;
+      found = refl;
       goes = λ b told s has.
           let tail = between_tail s.tail _ (phase_at w b told s _ e has) in
           pad_from w b told s t s.layers (tail_state w b told s _ tail has) e none padding zeros;

@@ -1,5 +1,5 @@
 -- What a step tells, of what a walker stands for.
-use Rattle.std.proofs.Common.{◌≡◌, inl, inr, ℕ, Bool, false, if◌then◌else◌, List, [], ◌∷◌, ◌++◌, length, Option, Some, None, refl, ap, ◌∙◌, subst, append-nil, ne_eqb}
+use Rattle.std.proofs.Common.{◌≡◌, inl, inr, ℕ, Bool, false, if◌then◌else◌, List, [], ◌∷◌, ◌++◌, length, Option, Some, None, refl, sym, ap, ◌∙◌, subst, append-nil, ne_eqb}
 use Rattle.tlv_head.specs.declared.fault.Fault.{Fault}
 use Rattle.tlv_walk.specs.declared.event.Step.{Step}
 use Rattle.tlv_walk.specs.declared.event.Step.TheVariants as step
@@ -8,7 +8,11 @@ use Rattle.tlv_walk.specs.declared.stack.Frame.{Frame}
 use Rattle.tlv_walk.specs.declared.walker.Phase.{Phase}
 use Rattle.tlv_walk.specs.declared.walker.Phase.TheVariants as phase
 use Rattle.tlv_walk.specs.Events.{AreEqualJoined, End, Told, events}
-use Rattle.tlv_walk.specs.Machine.{IsWaiting, IsWaitingIn, Machine, Steps}
+use Rattle.tlv_walk.specs.Inside.{CanName}
+use Rattle.tlv_walk.specs.Machine.{IsWaiting, IsWaitingIn, Machine, Steps, found_in}
+use Rattle.tlv_walk.specs.Wrappers.{enters}
+use Rattle.tlv_walk.proofs.Moves.{found_in-append}
+use Rattle.tlv_walk.proofs.Wrappers.{enters-append}
 use Rattle.tlv_walk.specs.Place.{IsOpen, top}
 use Rattle.tlv_walk.specs.Stack.{IsFilled}
 use Rattle.tlv_walk.specs.State.{Stands, ending_of, endings_at, is_end, waiting_in, waiting_of}
@@ -19,9 +23,23 @@ use Rattle.tlv_walk.proofs.Push.{Spells}
 use Rattle.tlv_walk.proofs.StateReading.{stands, state-events, state-spells}
 use Rattle.tlv_walk.proofs.Zipper.{reading_of}
 
+-- the wrappers found are those of the events told
+found_on : (old new : Machine) (told more : List Told) → new.framing ≡ old.framing → old.wrappers ≡ found_in old.framing.inside 0 (enters told) → new.wrappers ≡ found_in old.framing.inside old.wrappers (enters more)
+    → new.wrappers ≡ found_in new.framing.inside 0 (enters (told ++ more))
+found_on old new told more same p q =
+    q
+    ∙ ap (λ (k : ℕ). found_in old.framing.inside k (enters more)) p
+    ∙ sym (ap (found_in old.framing.inside 0) (enters-append told more) ∙ found_in-append old.framing.inside 0 (enters told) (enters more))
+    ∙ ap (λ (f : Framing). found_in f.inside 0 (enters (told ++ more))) (sym same)
+
 pub stands_behind : (old new : Machine) (before after : List ℕ) (e : Told) → TellsEvent old new before after e → StandsBehind old new before after e
-stands_behind old new before after e t =
-    (t.0, t.1, t.2.framing, λ b told st. let u = t.2.goes b told st.state st.has_state in stands new (b ++ t.0) (told ++ e ∷ []) u.0 u.1)
+stands_behind old new before after e t = (
+  t.0,
+  t.1,
+  t.2.framing,
+  λ b told st. let u = t.2.goes b told st.state st.has_state in
+      stands new (b ++ t.0) (told ++ e ∷ []) u.0 u.1 (subst (λ (f : Framing). CanName f.inside) (sym t.2.framing) st.named) (found_on old new told (e ∷ []) t.2.framing st.found t.2.found),
+)
 
 -- where nothing waits no events do
 no_endings : (at : ℕ) (fs : List Frame) → (IsFilled fs at → ⊥) → endings_at at fs ≡ []
@@ -77,7 +95,10 @@ stands_step old new before after step.NeedMore k t = (
   k.1,
   t.framing,
   λ b told st.
-      let u = t.goes b told st.state st.has_state in
-      (subst (λ (es : List Told). Stands new (b ++ before) es) (append-nil told) (stands new (b ++ before) (told ++ []) u.0 u.1), quiet new (ready-waits new k.3)),
+      let u = t.goes b told st.state st.has_state in (
+        subst (λ (es : List Told). Stands new (b ++ before) es) (append-nil told)
+            (stands new (b ++ before) (told ++ []) u.0 u.1 (subst (λ (f : Framing). CanName f.inside) (sym t.framing) st.named) (found_on old new told [] t.framing st.found t.found)),
+        quiet new (ready-waits new k.3),
+      ),
 )
 stands_step old new before after (step.Fault f) k t = stands_fault old new before after f t

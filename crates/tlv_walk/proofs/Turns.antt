@@ -1,5 +1,5 @@
 -- What a turn comes to, by why its piece is not followed any further.
-use Rattle.std.proofs.Common.{◌≡◌, inl, inr, ℕ, ◌-◌, ◌≤◌, ◌<◌, min, Bool, true, false, List, [], ◌∷◌, ◌++◌, length, take, refl, sym, ap, ◌∙◌, subst, arith, append_assoc, append-nil, length-append}
+use Rattle.std.proofs.Common.{◌≡◌, inl, inr, ℕ, ◌-◌, ◌≤◌, ◌<◌, min, Bool, true, false, List, [], ◌∷◌, ◌++◌, length, take, refl, sym, ap, ap₂, ◌∙◌, subst, arith, append_assoc, append-nil, length-append}
 use Rattle.std.proofs.lemmas.Bool.{cases_lt, true≢false}
 use Rattle.std.proofs.lemmas.List.{length-take, take_all}
 use Rattle.std.proofs.Math.Seq.{take-take}
@@ -21,7 +21,9 @@ use Rattle.tlv_walk.specs.Events.{AreEqualJoined, Told, apart, events}
 use Rattle.tlv_walk.specs.Follow.{Following, followed}
 use Rattle.tlv_walk.specs.Follows.{Fails, Made, Stops, Walked, WalkedTo}
 use Rattle.tlv_walk.specs.Forest.{Forest, spell}
-use Rattle.tlv_walk.specs.Machine.{Machine}
+use Rattle.tlv_walk.specs.Machine.{Machine, unused_in}
+use Rattle.tlv_walk.specs.Wrappers.{unused_of}
+use Rattle.tlv_walk.proofs.Unused.{stands_unused}
 use Rattle.tlv_walk.specs.Prefix.{HasPrefix}
 use Rattle.tlv_walk.specs.Place.{top}
 use Rattle.tlv_walk.specs.Reading.{IsReading}
@@ -80,6 +82,13 @@ told_front w v b piece after told more f walked st r =
           ∙ sym (apart-from_joined (events f) (events there.reading ++ goes.0) goes.1)),
     )
 
+-- a run that goes by these values
+pub record IsRun (run : Run) (e : Ending) (stopped : Bool) (v : Machine) : Type 0 where
+  pub ending : run.ending ≡ e
+  pub enough : run.enough ≡ stopped
+  pub octets : run.octets ≡ v.offset
+  pub unused : run.unused ≡ unused_in v
+
 module _ {S : Type 0} (next : S → Told → Following S) where
   -- ---- of what was put all went to the drain
 
@@ -115,9 +124,12 @@ module _ {S : Type 0} (next : S → Told → Following S) where
       (x.more, stands_told v o (told ++ x.more) f x.stands x.quiet (subst (λ (g : Framing). IsReading g o f) (sym x.framing) r), x.made.made)
 
   pub stands_on_spelled : (w v : Machine) (s t : S) (a c : Option (List ℕ)) (o : List ℕ) (told : List Told) → (x : StandsOn next w v s t a c o told) → (f : Forest) → IsReading w.framing o f
-      → v.offset ≡ length (spell f)
+      → (v.offset ≡ length (spell f)) × (unused_in v ≡ unused_of w.framing.inside f)
   stands_on_spelled w v s t a c o told x f r =
-      x.stands.has_state.offset ∙ ap length (sym (stands_spelled v o (told ++ x.more) f x.stands (subst (λ (g : Framing). IsReading g o f) (sym x.framing) r)))
+      let r' : IsReading v.framing o f = subst (λ (g : Framing). IsReading g o f) (sym x.framing) r in (
+        x.stands.has_state.offset ∙ ap length (sym (stands_spelled v o (told ++ x.more) f x.stands r')),
+        stands_unused v o (told ++ x.more) x.stands ∙ ap₂ (λ (g : Framing) (h : Forest). unused_of g.inside h) x.framing (reading-unique v.framing o x.stands.reading f x.stands.is_reading r'),
+      )
 
   -- ---- the follower had enough
 
@@ -128,8 +140,8 @@ module _ {S : Type 0} (next : S → Told → Following S) where
       (x.1.0 ++ o.0, o.1, followed-enough next s x.1.0 o.0 (ap (λ (m : Following S). m.goes) x.1.1.made) ∙ x.1.1.made)
 
   pub enough_at : (w v : Machine) (s t : S) (a c : Option (List ℕ)) (b piece : List ℕ) (told : List Told) → (x : Stops next w v s t a c piece stop.Enough) → Stands w b told
-      → StoppedAt next w.framing v s t x.1.1.put (b ++ piece) told v.offset
-  enough_at w v s t a c b piece told x st =
+      → (run : Run) → IsRun run ending.Done true v → StoppedAt next w.framing v s t x.1.1.put (b ++ piece) told run
+  enough_at w v s t a c b piece told x st run is =
       let there : Stands v (b ++ x.1.2.taken) (told ++ x.1.0) = x.1.2.stands b told st in record {
         same = x.1.2.framing;
         front = b ++ x.1.2.taken;
@@ -137,7 +149,8 @@ module _ {S : Type 0} (next : S → Told → Following S) where
         more = x.1.0;
         made = x.1.1.made;
         stands = there;
-        many = there.has_state.offset;
+        octets_are = is.octets ∙ there.has_state.offset;
+        unused = is.unused ∙ stands_unused v (b ++ x.1.2.taken) (told ++ x.1.0) there ∙ ap (λ (g : Framing). unused_of g.inside there.reading) x.1.2.framing;
       }
 
   -- ---- an octet is refused
@@ -161,10 +174,11 @@ module _ {S : Type 0} (next : S → Told → Following S) where
       subst (λ (o : List ℕ). IsEnding w.framing o (ending.Fault e)) all (k.refused.ends k.rest)
 
   pub fault_spelled : (w v : Machine) (s t : S) (a c : Option (List ℕ)) (b piece : List ℕ) (told : List Told) (e : Fault) → Stops next w v s t a c piece (stop.Fault e) → Stands w b told
-      → (f : Forest) → IsReading w.framing (b ++ piece) f → v.offset ≡ length (spell f)
+      → (f : Forest) → IsReading w.framing (b ++ piece) f → (v.offset ≡ length (spell f)) × (unused_in v ≡ unused_of w.framing.inside f)
   fault_spelled w v s t a c b piece told e x st f r =
       let k : WalkedTo w v piece x.0 e b told = x.2 b told st in
-      k.offset ∙ ap length (sym k.refused.spelled) ∙ ap (λ (g : Forest). length (spell g)) (fault_there w v b piece told x.0 e f k r)
+      let same : k.refused.reading ≡ f = fault_there w v b piece told x.0 e f k r in
+      (k.offset ∙ ap length (sym k.refused.spelled) ∙ ap (λ (g : Forest). length (spell g)) same, k.unused ∙ ap (unused_of w.framing.inside) same)
 
   -- ---- the drain failed
 
@@ -214,12 +228,6 @@ module _ {S : Type 0} (next : S → Told → Following S) where
 
 -- ---- what a turn answers
 
--- a run that goes by these values
-pub record IsRun (run : Run) (e : Ending) (stopped : Bool) (n : ℕ) : Type 0 where
-  pub ending : run.ending ≡ e
-  pub enough : run.enough ≡ stopped
-  pub octets : run.octets ≡ n
-
 -- of n octets at the front of a piece as many as the limit leaves
 taken_within : (limit at n : ℕ) (p : List ℕ) → take (min (limit - at) n) p ≡ take (limit - at) (take n p)
 taken_within limit at n p = elim (cases_lt (limit - at) n) [
@@ -261,9 +269,9 @@ module _ {S : Type 0} (next : S → Told → Following S) (w v : Machine) (s t :
   reached = ap (λ (o : List ℕ). b ++ o) within
 
   -- the run ended without enough
-  ends_without : (run : Run) (e : Ending) (put : List ℕ) → IsRun run e false v.offset → Appends a c put
+  ends_without : (run : Run) (e : Ending) (put : List ℕ) → IsRun run e false v → Appends a c put
       → IsMadeOf next w.framing (b ++ piece) told s (record { state = t; put = put; goes = go.On })
-      → IsEnding w.framing (b ++ piece) e → ((f : Forest) → IsReading w.framing (b ++ piece) f → v.offset ≡ length (spell f))
+      → IsEnding w.framing (b ++ piece) e → ((f : Forest) → IsReading w.framing (b ++ piece) f → (v.offset ≡ length (spell f)) × (unused_in v ≡ unused_of w.framing.inside f))
       → EndsIn next w v s t a c followed_octets told run
   ends_without run e put is app made ends spelled = record {
     put = put;
@@ -274,11 +282,11 @@ module _ {S : Type 0} (next : S → Told → Following S) (w v : Machine) (s t :
     ending =
         subst (λ (k : Bool). EndsWith w.framing followed_octets k run.ending) (sym is.enough)
         (subst (λ (k : Ending). IsEnding w.framing followed_octets k) (sym is.ending) (subst (λ (o : List ℕ). IsEnding w.framing o e) reached ends));
-    spelled = λ no f r. is.octets ∙ spelled f (subst (λ (o : List ℕ). IsReading w.framing o f) (sym reached) r);
+    spelled = λ no f r. let k = spelled f (subst (λ (o : List ℕ). IsReading w.framing o f) (sym reached) r) in (is.octets ∙ k.0, is.unused ∙ k.1);
     last = λ yes'. absurd (true≢false (sym yes' ∙ is.enough));
   }
 
-  pub turns_end : (run : Run) (e : Ending) → Stops next w v s t a c piece stop.UsedUp → (n ≡ 0) → IsRun run e false v.offset
+  pub turns_end : (run : Run) (e : Ending) → Stops next w v s t a c piece stop.UsedUp → (n ≡ 0) → IsRun run e false v
       → ((o : List ℕ) (es : List Told) → Stands v o es → IsEnding v.framing o e) → TurnsTo next w v s t a c b told r limit (Ok (Ended run))
   turns_end run e x none is ends =
       let on : StandsOn next w v s t a c (b ++ piece) told = used_up_on next w v s t a c b piece told x st in (
@@ -288,7 +296,7 @@ module _ {S : Type 0} (next : S → Told → Following S) (w v : Machine) (s t :
         inr (inr (is_r ∙ ap (λ (k : ℕ). take k p) none)),
       )
 
-  pub turns_fault : (run : Run) (e : Fault) → Stops next w v s t a c piece (stop.Fault e) → IsRun run (ending.Fault e) false v.offset
+  pub turns_fault : (run : Run) (e : Fault) → Stops next w v s t a c piece (stop.Fault e) → IsRun run (ending.Fault e) false v
       → TurnsTo next w v s t a c b told r limit (Ok (Ended run))
   turns_fault run e x is =
       let k : WalkedTo w v piece x.0 e b told = x.2 b told st in (
@@ -297,7 +305,7 @@ module _ {S : Type 0} (next : S → Told → Following S) (w v : Machine) (s t :
         inr (inl (subst IsFinalEnding (sym is.ending) (refused-final w.framing (b ++ k.taken) k.octet [] e k.refused.offset (k.refused.ends [])))),
       )
 
-  pub turns_enough : (run : Run) → Stops next w v s t a c piece stop.Enough → IsRun run ending.Done true v.offset → TurnsTo next w v s t a c b told r limit (Ok (Ended run))
+  pub turns_enough : (run : Run) → Stops next w v s t a c piece stop.Enough → IsRun run ending.Done true v → TurnsTo next w v s t a c b told r limit (Ok (Ended run))
   turns_enough run x is = (
     record {
       put = x.1.1.put;
@@ -307,8 +315,7 @@ module _ {S : Type 0} (next : S → Told → Following S) (w v : Machine) (s t :
           (subst (λ (o : List ℕ). IsMadeOf next w.framing o told s (record { state = t; put = x.1.1.put; goes = go.Enough })) reached (enough_made next w v s t a c b piece told x st));
       ending = subst (λ (k : Bool). EndsWith w.framing followed_octets k run.ending) (sym is.enough) is.ending;
       spelled = λ no f r. absurd (true≢false (sym is.enough ∙ no));
-      last = λ yes'. subst (λ (k : ℕ). StoppedAt next w.framing v s t x.1.1.put followed_octets told k) (sym is.octets)
-          (subst (λ (o : List ℕ). StoppedAt next w.framing v s t x.1.1.put o told v.offset) reached (enough_at next w v s t a c b piece told x st));
+      last = λ yes'. subst (λ (o : List ℕ). StoppedAt next w.framing v s t x.1.1.put o told run) reached (enough_at next w v s t a c b piece told x st run is);
     },
     inl is.enough,
   )

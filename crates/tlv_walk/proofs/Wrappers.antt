@@ -8,25 +8,12 @@ use Rattle.tlv_walk.specs.Forest.{Forest, Stop, Fill, Whole, Closed, Partial, En
 use Rattle.tlv_walk.specs.Inside.{is_among}
 use Rattle.tlv_walk.specs.Place.{IsHeadAt, IsOpen, Place, after, inside_of}
 use Rattle.tlv_walk.specs.Events.{Told, Open, Begin, Bytes, End, Close, Enter, Unused, Leave, Pad, apart, closes, events, opens}
-use Rattle.tlv_walk.specs.Wrappers.{wrapper_at, wrappers}
+use Rattle.tlv_walk.specs.Wrappers.{enters, wrapper_at, wrappers}
 use Rattle.tlv_walk.proofs.Bounds.{fits}
 use Rattle.tlv_walk.proofs.Spellings.{length-closed, length-opening, length-whole}
 use Rattle.tlv_walk.proofs.Push.{Step, Grown, Ended, Refused, Spells, begin, begun, entered, is_filled, opened, origin, partial, push, push-sound, zero_between}
 use Rattle.tlv_walk.proofs.Pop.{header-length}
 use Rattle.tlv_walk.proofs.Gains.{closing, gained, push-brings, step_events}
-
--- the offsets of the wrappers that events enter
-abbrev pub enters : List Told → List ℕ
-enters [] = []
-enters (Enter h ∷ es) = h.offset ∷ enters es
-enters (Open h ∷ es) = enters es
-enters (Begin h ∷ es) = enters es
-enters (Bytes c ∷ es) = enters es
-enters (End ∷ es) = enters es
-enters (Close o ∷ es) = enters es
-enters (Unused ∷ es) = enters es
-enters (Leave ∷ es) = enters es
-enters (Pad c ∷ es) = enters es
 
 -- of two pieces
 pub enters-append : (xs ys : List Told) → enters (xs ++ ys) ≡ enters xs ++ enters ys

@@ -13,6 +13,7 @@ use Rattle.tlv_walk.specs.Forest.{Forest, spell}
 use Rattle.tlv_walk.specs.Machine.{Machine}
 use Rattle.tlv_walk.specs.Prefix.{HasPrefix}
 use Rattle.tlv_walk.specs.Reading.{IsReading}
+use Rattle.tlv_walk.specs.Wrappers.{unused_of}
 use Rattle.tlv_walk.specs.Turns.{EndsWith, IsFinalEnding, StoppedAt, goes_of}
 
 -- the last read gave these octets, or failed and gave none
@@ -36,9 +37,9 @@ module _ {S : Type 0} (next : S → Told → Following S) where
     pub made : (f : Forest) → IsReading framing octets f → followed next s (events f) ≡ record { state = t; put = put; goes = goes_of run.enough }
     pub ending : EndsWith framing octets run.enough run.ending
     -- the octets before a fault, or all of them
-    pub spelled : run.enough ≡ false → (f : Forest) → IsReading framing octets f → run.octets ≡ length (spell f)
+    pub spelled : run.enough ≡ false → (f : Forest) → IsReading framing octets f → (run.octets ≡ length (spell f)) × (run.unused ≡ unused_of framing.inside f)
     -- or those up to the event at which the follower had enough
-    pub last : run.enough ≡ true → (v : Machine) × StoppedAt next framing v s t put octets [] run.octets
+    pub last : run.enough ≡ true → (v : Machine) × StoppedAt next framing v s t put octets [] run
 
   -- what the walk came to, by its answer. No more octets are followed than the limit
   abbrev pub ComesTo : Framing → S → S → Option (List ℕ) → Option (List ℕ) → List ℕ → Last → ℕ → Result Run DeviceFault → Type 0

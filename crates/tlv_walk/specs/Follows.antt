@@ -8,10 +8,11 @@ use Rattle.tlv_walk.specs.declared.turning.Stop.{Stop}
 use Rattle.tlv_walk.specs.declared.turning.Stop.TheVariants as stop
 use Rattle.tlv_walk.specs.Events.{Told}
 use Rattle.tlv_walk.specs.Follow.{Following, followed}
-use Rattle.tlv_walk.specs.Machine.{Machine}
+use Rattle.tlv_walk.specs.Machine.{Machine, unused_in}
 use Rattle.tlv_walk.specs.Prefix.{HasPrefix}
 use Rattle.tlv_walk.specs.State.{Stands, waiting_of}
 use Rattle.tlv_walk.specs.Tells.{IsRefusedBehind}
+use Rattle.tlv_walk.specs.Wrappers.{unused_of}
 
 -- what was walked over: octets from the front of a piece, and the events told of them
 pub record Walked (old new : Machine) (before after : List ℕ) (more : List Told) : Type 0 where
@@ -28,6 +29,7 @@ pub record WalkedTo (old new : Machine) (before : List ℕ) (more : List Told) (
   pub piece : before ≡ taken ++ octet ∷ rest
   pub offset : new.offset ≡ length (b ++ taken)
   pub refused : IsRefusedBehind old.framing (b ++ taken) octet (told ++ more) f
+  pub unused : unused_in new ≡ unused_of old.framing.inside refused.reading
 
 module _ {S : Type 0} (next : S → Told → Following S) where
   -- what was made of events: the follower's state, and what the drain, if it tells, took and is to take

@@ -135,6 +135,7 @@ TakesAll old new before after = (new.offset ≡ old.offset + length before) × (
 abbrev pub Refuses : Machine → Machine → List ℕ → List ℕ → FaultOf → Type 0
 Refuses old new before after fault =
     (new.offset + length after ≡ old.offset + length before) × (new.events ≡ old.events) × (new.phase ≡ Failed fault)
+    × (new.framing ≡ old.framing) × (new.wrappers ≡ old.wrappers)
 
 -- what a step took from the front of a piece
 abbrev pub Steps : Machine → Machine → List ℕ → List ℕ → Step → Type 0
@@ -186,6 +187,11 @@ fault_at code offset = record { code = code; offset = offset }
 -- how many of the named offsets, from the first on, are wrappers' once one was found at this offset
 abbrev pub next_wrapper : List ℕ → ℕ → ℕ → ℕ
 next_wrapper inside k at = option_map_or (λ n. if eqb n at then k + 1 else k) (slice_get inside k) k
+
+-- the same, once wrappers were found at these offsets, one after another
+abbrev pub found_in : List ℕ → ℕ → List ℕ → ℕ
+found_in inside k [] = k
+found_in inside k (at ∷ ats) = found_in inside (next_wrapper inside k at) ats
 
 -- the first of the named offsets that is not known to be a wrapper's
 abbrev pub unused_in : Machine → Option ℕ

@@ -8,11 +8,11 @@ use Rattle.tlv_walk.specs.declared.walker.Phase.{Phase}
 use Rattle.tlv_walk.specs.declared.walker.Phase.TheVariants as phase
 use Rattle.tlv_walk.specs.Events.{Told, AreEqualJoined, Begin, Bytes, End, Enter, Close, Leave, events, opens}
 use Rattle.tlv_walk.specs.Forest.{Forest, has_element, is_whole, opening, spell}
-use Rattle.tlv_walk.specs.Inside.{is_among}
-use Rattle.tlv_walk.specs.Machine.{Machine, frame_with}
+use Rattle.tlv_walk.specs.Inside.{CanName, is_among}
+use Rattle.tlv_walk.specs.Machine.{Machine, found_in, frame_with}
 use Rattle.tlv_walk.specs.Place.{Fits, IsAwaiting, IsBegun, IsEntry, IsHeadAt, IsOpen, IsZero, Place, after, inside_of, top}
 use Rattle.tlv_walk.specs.Reading.{IsReading}
-use Rattle.tlv_walk.specs.Wrappers.{wrapper_at, wrappers}
+use Rattle.tlv_walk.specs.Wrappers.{enters, wrapper_at, wrappers}
 
 -- an open element that holds others, and the whole elements before it in the element around it
 pub record Layer : Type 0 where
@@ -191,3 +191,5 @@ pub record Stands (w : Machine) (b : List ℕ) (told : List Told) : Type 0 where
   pub all_told : AreEqualJoined (told ++ waiting_of w) (events reading)
   pub state : State
   pub has_state : HasState w b told state
+  pub named : CanName w.framing.inside
+  pub found : w.wrappers ≡ found_in w.framing.inside 0 (enters told)

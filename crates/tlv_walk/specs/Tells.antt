@@ -13,14 +13,16 @@ use Rattle.tlv_walk.specs.declared.event.Step.TheVariants as step
 use Rattle.tlv_walk.specs.declared.walker.Phase.TheVariants.{Failed}
 use Rattle.tlv_walk.specs.Ending.{IsEnding}
 use Rattle.tlv_walk.specs.Events.{AreEqualJoined, Told, events, Open, Begin, Bytes, End, Close, Enter, Unused, Leave, Pad}
-use Rattle.tlv_walk.specs.Machine.{IsWaiting, Machine}
+use Rattle.tlv_walk.specs.Machine.{IsWaiting, Machine, found_in}
 use Rattle.tlv_walk.specs.State.{HasState, Stands, State, waiting_of}
 use Rattle.tlv_walk.specs.Forest.{Forest, spell}
 use Rattle.tlv_walk.specs.Reading.{IsReading}
+use Rattle.tlv_walk.specs.Wrappers.{enters}
 
 -- from whatever state the walker had, it came to one with these octets and events more
 pub record Continues (old new : Machine) (taken : List ℕ) (more : List Told) : Type 0 where
   pub framing : new.framing ≡ old.framing
+  pub found : new.wrappers ≡ found_in old.framing.inside old.wrappers (enters more)
   pub goes : (b : List ℕ) (told : List Told) (s : State) → HasState old b told s → (t : State) × HasState new (b ++ taken) (told ++ more) t
 
 -- octets were taken from the front of a piece, and one event was told

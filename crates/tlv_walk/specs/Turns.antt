@@ -22,6 +22,7 @@ use Rattle.tlv_walk.specs.Machine.{Machine}
 use Rattle.tlv_walk.specs.Prefix.{HasPrefix}
 use Rattle.tlv_walk.specs.Reading.{IsPrefixOf, IsReading}
 use Rattle.tlv_walk.specs.State.{Stands, waiting_of}
+use Rattle.tlv_walk.specs.Wrappers.{unused_of}
 
 -- the octets that the last read gave, at the front of the piece
 abbrev pub given : Last → List ℕ → List ℕ
@@ -77,14 +78,15 @@ module _ {S : Type 0} (next : S → Told → Following S) where
     pub quiet : waiting_of v ≡ []
 
   -- the walker stands behind the front of the octets that told the event at which the follower had enough
-  pub record StoppedAt (framing : Framing) (v : Machine) (s t : S) (put octets : List ℕ) (told : List Told) (n : ℕ) : Type 0 where
+  pub record StoppedAt (framing : Framing) (v : Machine) (s t : S) (put octets : List ℕ) (told : List Told) (run : Run) : Type 0 where
     pub same : v.framing ≡ framing
     pub front : List ℕ
     pub is_front : IsPrefixOf front octets
     pub more : List Told
     pub made : followed next s more ≡ record { state = t; put = put; goes = go.Enough }
     pub stands : Stands v front (told ++ more)
-    pub many : n ≡ length front
+    pub octets_are : run.octets ≡ length front
+    pub unused : run.unused ≡ unused_of framing.inside stands.reading
 
   -- the run has ended in these octets
   pub record EndsIn (w v : Machine) (s t : S) (old new : Option (List ℕ)) (octets : List ℕ) (told : List Told) (run : Run) : Type 0 where
@@ -93,9 +95,9 @@ module _ {S : Type 0} (next : S → Told → Following S) where
     pub made : IsMadeOf w.framing octets told s (record { state = t; put = put; goes = goes_of run.enough })
     pub ending : EndsWith w.framing octets run.enough run.ending
     -- the octets before a fault, or all of them
-    pub spelled : run.enough ≡ false → (f : Forest) → IsReading w.framing octets f → run.octets ≡ length (spell f)
+    pub spelled : run.enough ≡ false → (f : Forest) → IsReading w.framing octets f → (run.octets ≡ length (spell f)) × (run.unused ≡ unused_of w.framing.inside f)
     -- or those up to the event at which the follower had enough
-    pub last : run.enough ≡ true → StoppedAt w.framing v s t put octets told run.octets
+    pub last : run.enough ≡ true → StoppedAt w.framing v s t put octets told run
 
   -- what a turn came to whose read gave r behind b. Of r only as many octets are followed as the limit leaves
   abbrev pub TurnsTo : Machine → Machine → S → S → Option (List ℕ) → Option (List ℕ) → List ℕ → List Told → List ℕ → ℕ → Result Turn DeviceFault → Type 0

@@ -1,6 +1,7 @@
 -- Which of the named offsets are those of strings that hold encodings.
 use Rattle.std.specs.Prelude.{ℕ, if◌then◌else◌, List, [], ◌∷◌, ◌++◌, Option, Some, None}
 use Rattle.tlv_head.specs.Header.{Heading}
+use Rattle.tlv_walk.specs.Events.{Told, Open, Begin, Bytes, End, Close, Enter, Unused, Leave, Pad}
 use Rattle.tlv_walk.specs.Forest.{Forest, Stop, Fill, Whole, Closed, Partial, Entered, Awaiting, Begun, Zero}
 use Rattle.tlv_walk.specs.Inside.{is_among}
 
@@ -28,3 +29,16 @@ first_other (n ∷ ns) others = if is_among n others then first_other ns others 
 -- the first named offset that is no wrapper's
 abbrev pub unused_of : List ℕ → Forest → Option ℕ
 unused_of inside f = first_other inside (wrappers f)
+
+-- the offsets of the wrappers that events enter
+abbrev pub enters : List Told → List ℕ
+enters [] = []
+enters (Enter h ∷ es) = h.offset ∷ enters es
+enters (Open h ∷ es) = enters es
+enters (Begin h ∷ es) = enters es
+enters (Bytes c ∷ es) = enters es
+enters (End ∷ es) = enters es
+enters (Close o ∷ es) = enters es
+enters (Unused ∷ es) = enters es
+enters (Leave ∷ es) = enters es
+enters (Pad c ∷ es) = enters es

@@ -65,6 +65,7 @@ impl Walker {
     ghost use Rattle.tlv_walk.specs.Events.{Told};
     ghost use Rattle.tlv_walk.specs.OpenCount.{open_count};
     ghost use Rattle.tlv_walk.specs.State.{Stands};
+    ghost use Rattle.tlv_walk.specs.Wrappers.{unused_of};
     ghost use Rattle.tlv_walk.specs.ReadsOn.{TellsFrom, TellsHeader};
     ghost use Rattle.tlv_walk.specs.Tells.{StandsStep, TellsMove, TellsStep, told_of};
     ghost use Rattle.tlv_walk.specs.Stack.{IsFilled, Within, bound_of, room_of};
@@ -114,7 +115,8 @@ impl Walker {
 
     /// The first of the named offsets at which no string was found whose contents are encodings.
     pub fn unused(&self) -> Option<u64>
-        ensures { result ≡ unused_in self.now }
+        ensures value { result ≡ unused_in self.now }
+        ensures first { (b : List ℕ) (told : List Told) → (stands : Stands self.now b told) → result ≡ unused_of self.now.framing.inside stands.reading }
     {
         self.framing.inside.get(self.wrappers)
     }

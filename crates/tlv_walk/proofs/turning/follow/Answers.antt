@@ -6,7 +6,8 @@ use Rattle.tlv_walk.specs.declared.event.Step.TheVariants as step
 use Rattle.tlv_walk.specs.declared.follow.Go.{Go}
 use Rattle.tlv_walk.specs.declared.follow.Go.TheVariants as go
 use Rattle.tlv_walk.specs.Events.{Told, Open, Begin, Enter}
-use Rattle.tlv_walk.specs.Machine.{Machine}
+use Rattle.tlv_head.specs.declared.fault.Fault.{Fault}
+use Rattle.tlv_walk.specs.Machine.{Machine, Refuses}
 use Rattle.tlv_walk.specs.Tells.{StandsStep, TellsEvent}
 use Rattle.tlv_walk.proofs.Following.{fails_event, follows_event, follows_none, stops_fault, stops_used_up}
 use Rattle.tlv_walk.proofs.Standing.{stands_behind, stands_step}
@@ -23,6 +24,9 @@ unmoved_tells v w u xs ys after e p q t = subst (λ (o : List ℕ). TellsEvent w
 
 unmoved_stands : (v w u : Machine) (xs ys after : List ℕ) (s : Step) → v ≡ w → xs ≡ ys → StandsStep v u xs after s → StandsStep w u ys after s
 unmoved_stands v w u xs ys after s p q t = subst (λ (o : List ℕ). StandsStep w u o after s) q (subst (λ (m : Machine). StandsStep m u xs after s) p t)
+
+unmoved_refuses : (v w u : Machine) (xs ys after : List ℕ) (f : Fault) → v ≡ w → xs ≡ ys → Refuses v u xs after f → Refuses w u ys after f
+unmoved_refuses v w u xs ys after f p q t = subst (λ (o : List ℕ). Refuses w u o after f) q (subst (λ (m : Machine). Refuses m u xs after f) p t)
 
 -- a header that was made of fields is what was told
 header_tells : (event : Heading → Told) (old new : Machine) (before after : List ℕ) (h g : Heading) → h ≡ g → TellsEvent old new before after (event g) → TellsEvent old new before after (event h)
@@ -168,7 +172,7 @@ pub returns-in-Fault-slow_header-clause-ok : goal.returns-in-Fault-slow_header-c
 returns-in-Fault-slow_header-clause-ok g c =
     stops_fault g.F.Follow.next _ _ _ _ _ _ _ _ _ _ _ c.events.invariant.follows
     (unmoved_stands c.advance.new.self _ c.slow_header.new.self c.advance.new.piece.now _ c.slow_header.new.piece.now (step.Fault c.in-Fault-slow_header.fault) c.in-Slow.ensures.moves.0 c.in-Slow.ensures.moves.1 (stands_step _ _ _ _ (step.Fault _) c.in-Fault-slow_header.ensures.steps c.in-Fault-slow_header.ensures.tells))
-    (c.in-Fault-slow_header.ensures.steps.0 ∙ unmoved _ _ _ _ c.in-Slow.ensures.moves.0 c.in-Slow.ensures.moves.1)
+    (unmoved_refuses c.advance.new.self _ c.slow_header.new.self c.advance.new.piece.now _ c.slow_header.new.piece.now c.in-Fault-slow_header.fault c.in-Slow.ensures.moves.0 c.in-Slow.ensures.moves.1 c.in-Fault-slow_header.ensures.steps)
 
 pub returns-in-NeedMore-clause-ok : goal.returns-in-NeedMore-clause-ok
 returns-in-NeedMore-clause-ok g c =
@@ -176,7 +180,7 @@ returns-in-NeedMore-clause-ok g c =
 
 pub returns-in-Fault-clause-ok : goal.returns-in-Fault-clause-ok
 returns-in-Fault-clause-ok g c =
-    stops_fault g.F.Follow.next _ _ _ _ _ _ _ _ _ _ _ c.events.invariant.follows (stands_step _ _ _ _ (step.Fault _) c.in-Fault.ensures.moves c.in-Fault.ensures.tells) c.in-Fault.ensures.moves.0
+    stops_fault g.F.Follow.next _ _ _ _ _ _ _ _ _ _ _ c.events.invariant.follows (stands_step _ _ _ _ (step.Fault _) c.in-Fault.ensures.moves c.in-Fault.ensures.tells) c.in-Fault.ensures.moves
 
 pub returns-then-eq-clause-ok : goal.returns-then-eq-clause-ok
 returns-then-eq-clause-ok g c =

@@ -10,12 +10,12 @@ returns-in_default-follow_and_flush-clause-turned g c = λ b told st.
 pub returns-in-Enough-clause-turned : goal.returns-in-Enough-clause-turned
 returns-in-Enough-clause-turned g c = λ b told st.
     turns_enough g.F.Follow.next _ _ _ _ _ _ b told c.read.new.to _ _ c.in-Ok.count c.min-walked.result c.args.limit st
-    (search rules) c.requires.taken (search rules) refl (search rules) c.run_of.result (rw c.in-Enough.is at c.in-Ok-follow_and_flush.ensures.ok) (record { ending = c.run_of.ensures.ending; enough = c.run_of.ensures.enough; octets = c.run_of.ensures.octets })
+    (search rules) c.requires.taken (search rules) refl (search rules) c.run_of.result (rw c.in-Enough.is at c.in-Ok-follow_and_flush.ensures.ok) (record { ending = c.run_of.ensures.ending; enough = c.run_of.ensures.enough; octets = c.run_of.ensures.octets; unused = c.run_of.ensures.unused })
 
 pub returns-in-Fault-clause-turned : goal.returns-in-Fault-clause-turned
 returns-in-Fault-clause-turned g c = λ b told st.
     turns_fault g.F.Follow.next _ _ _ _ _ _ b told c.read.new.to _ _ c.in-Ok.count c.min-walked.result c.args.limit st
-    (search rules) c.requires.taken (search rules) refl (search rules) c.run_of-in-Fault.result c.in-Fault.fault (rw c.in-Fault.is at c.in-Ok-follow_and_flush.ensures.ok) (record { ending = c.run_of-in-Fault.ensures.ending; enough = c.run_of-in-Fault.ensures.enough; octets = c.run_of-in-Fault.ensures.octets })
+    (search rules) c.requires.taken (search rules) refl (search rules) c.run_of-in-Fault.result c.in-Fault.fault (rw c.in-Fault.is at c.in-Ok-follow_and_flush.ensures.ok) (record { ending = c.run_of-in-Fault.ensures.ending; enough = c.run_of-in-Fault.ensures.enough; octets = c.run_of-in-Fault.ensures.octets; unused = c.run_of-in-Fault.ensures.unused })
 
 pub returns-in-UsedUp-clause-turned : goal.returns-in-UsedUp-clause-turned
 returns-in-UsedUp-clause-turned g c = λ b told st.
@@ -25,7 +25,7 @@ returns-in-UsedUp-clause-turned g c = λ b told st.
 pub returns-in-UsedUp-2-clause-turned : goal.returns-in-UsedUp-2-clause-turned
 returns-in-UsedUp-2-clause-turned g c = λ b told st.
     turns_end g.F.Follow.next _ _ _ _ _ _ b told c.read.new.to _ _ c.in-Ok.count c.min-walked.result c.args.limit st
-    (search rules) c.requires.taken (search rules) refl (search rules) c.run_of-in-UsedUp-2.result c.finish.result (rw c.in-UsedUp-2.is at c.in-Ok-follow_and_flush.ensures.ok) (search rules) (record { ending = c.run_of-in-UsedUp-2.ensures.ending; enough = c.run_of-in-UsedUp-2.ensures.enough; octets = c.run_of-in-UsedUp-2.ensures.octets }) c.finish.ensures.stands
+    (search rules) c.requires.taken (search rules) refl (search rules) c.run_of-in-UsedUp-2.result c.finish.result (rw c.in-UsedUp-2.is at c.in-Ok-follow_and_flush.ensures.ok) (search rules) (record { ending = c.run_of-in-UsedUp-2.ensures.ending; enough = c.run_of-in-UsedUp-2.ensures.enough; octets = c.run_of-in-UsedUp-2.ensures.octets; unused = c.run_of-in-UsedUp-2.ensures.unused }) c.finish.ensures.stands
 
 pub returns-in-UsedUp-3-clause-turned : goal.returns-in-UsedUp-3-clause-turned
 returns-in-UsedUp-3-clause-turned g c = λ b told st.
