@@ -1,5 +1,5 @@
 -- What a push answers is determined by the octets, the room and the depth.
-use Rattle.std.proofs.Common.{◌≡◌, ◌≢◌, ℕ, true, ◌<◌, inl, inr, List, [], ◌∷◌, ◌++◌, Option, Some, ap, sym, ◌∙◌, arith, append-nil, subst}
+use Rattle.std.proofs.Common.{◌≡◌, ◌≢◌, ℕ, true, ◌<◌, inl, inr, [], ◌∷◌, ◌++◌, Option, Some, ap, sym, ◌∙◌, arith, append-nil, subst}
 use Rattle.tlv_head.specs.declared.fault.FaultCode.{FaultCode}
 use Rattle.tlv_head.specs.declared.fault.FaultCode.TheVariants.{TooDeep, Overrun}
 use Rattle.tlv_head.specs.declared.reader.Head.{Head}

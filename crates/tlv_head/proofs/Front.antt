@@ -1,5 +1,5 @@
 -- What the octets in front of a reader begin with.
-use Rattle.std.proofs.Common.{◌≡◌, ◌≢◌, ◌⊎◌, inl, inr, ℕ, ◌+◌, ◌^◌, ◌<◌, ◌≤◌, Bool, false, get_or, List, [], ◌∷◌, ◌++◌, length, take, drop, refl, sym, ap, ◌∙◌, arith, append_assoc, append-nil, length-append, ⊎_elim}
+use Rattle.std.proofs.Common.{◌≡◌, ◌⊎◌, inl, inr, ℕ, ◌+◌, ◌^◌, ◌<◌, ◌≤◌, Bool, false, get_or, List, [], ◌∷◌, ◌++◌, length, take, drop, refl, sym, ap, ◌∙◌, arith, append_assoc, append-nil, length-append}
 use Rattle.std.proofs.lemmas.List.{take-append-drop, take_more}
 use Rattle.std.proofs.Math.Seq.{drop-append_seam, take-append_seam}
 use Rattle.tlv_head.specs.declared.header.Class.{Class}
@@ -13,7 +13,7 @@ use Rattle.tlv_head.specs.declared.reader.Part.TheVariants.{Start, Number, Lengt
 use Rattle.tlv_head.specs.Header.{Heading, IsHeading, IsIdentifier, IsLength, announced, octets_of}
 use Rattle.tlv_head.specs.Part.{Carries, MakesHeader, is_done}
 use Rattle.tlv_head.specs.Refusal.{BeginsNone, BeginsWith, IsFront}
-use Rattle.tlv_head.proofs.Scan.{Scan, origin_of, scan, Fresh, Ready, no-front, scan-header}
+use Rattle.tlv_head.proofs.Scan.{origin_of, scan, Fresh, Ready, no-front, scan-header}
 use Rattle.tlv_head.proofs.Headers.{fronts}
 use Rattle.tlv_head.proofs.Unfinished.{unfinished_number, unfinished_identifier, unfinished_length}
 

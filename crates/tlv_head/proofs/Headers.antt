@@ -1,11 +1,11 @@
 -- Headers by their octets: one way to read them, and what one more octet does to the front of one.
-use Rattle.std.proofs.Common.{◌≡◌, ◌≢◌, ◌⊎◌, inl, inr, ℕ, ◌+◌, ◌-◌, ◌%◌, ◌/◌, ◌<◌, ◌≤◌, Bool, true, false, cond, ◌&&◌, not, eqb, ltb, List, [], ◌∷◌, ◌++◌, length, refl, sym, ap, ◌∙◌, arith, append-nil, length-append, lt-ltb, le-ltb, eq-eqb, ne_eqb, ltb-true, ⊎_elim}
+use Rattle.std.proofs.Common.{◌≡◌, ◌⊎◌, inl, inr, ℕ, ◌+◌, ◌-◌, ◌%◌, ◌/◌, ◌<◌, ◌≤◌, Bool, true, false, cond, ◌&&◌, not, eqb, ltb, List, [], ◌∷◌, ◌++◌, length, refl, sym, ap, ◌∙◌, arith, append-nil, length-append, lt-ltb, le-ltb, eq-eqb, ne_eqb, ltb-true, ⊎_elim}
 use Rattle.std.proofs.lemmas.Bool.{cases_lt, cases_eq, cases_Bool, and_parts, not-true, eqb-false}
 use Rattle.tlv_head.specs.declared.header.Class.{Class}
 use Rattle.tlv_head.specs.Header.{IsIdentifier, Heading, octets_of, IsHeading}
 use Rattle.tlv_head.specs.Refusal.{BeginsNone, IsFront, IsRefusedOctet}
 use Rattle.tlv_head.specs.declared.fault.FaultCode.{FaultCode}
-use Rattle.tlv_head.specs.declared.fault.FaultCode.TheVariants.{Empty, Short, StrayEnd, BadEnd, MissingEnd, TagTooLong, ReservedLength, IndefinitePrimitive, LengthTooLarge, TooDeep, Overrun}
+use Rattle.tlv_head.specs.declared.fault.FaultCode.TheVariants.{StrayEnd, IndefinitePrimitive}
 use Rattle.tlv_head.proofs.Scan.{Scan, Origin, origin_of, start, Fresh, High, Named, Long, Ready, Stuck, Over, leads, class_of, step, scan, scan_from-append, scan_from-past, scan-moved, moved, IsHighState, IsLongState, Reads, reads-step, reads-scan, is_more, front-from_more, more-from_front, front-bytes, no-front, same-header}
 
 -- lists that go on to one list: one is a front of the other

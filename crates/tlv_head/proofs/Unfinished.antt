@@ -1,7 +1,7 @@
 -- What a reader carries can be made a header.
 use Rattle.std.proofs.Common.{◌≡◌, ◌≢◌, ℕ, suc, zero, Bool, true, false, ◌||◌, ◌+◌, ◌*◌, ◌-◌, ◌<◌, ◌≤◌, inl, inr, List, [], ◌∷◌, ◌++◌, length, Option, refl, ap, sym, ◌∙◌, arith, length-append, append_assoc, lit<}
 use Rattle.std.proofs.lemmas.Bool.{cases_eq}
-use Rattle.tlv_head.specs.Header.{Heading, IsHeading, holds, is_wrapper}
+use Rattle.tlv_head.specs.Header.{Heading, IsHeading, is_wrapper}
 use Rattle.tlv_head.specs.Progress.{Progress, Fits}
 use Rattle.tlv_head.specs.Refusal.{IsFront}
 use Rattle.tlv_head.specs.Push.{Completes, IsTooDeep, EndsPast}

@@ -1,4 +1,4 @@
-use Rattle.std.proofs.Common.{◌≡◌, ◌+◌, ◌++◌, take, drop, sym, ◌∙◌, subst, refl, arith}
+use Rattle.std.proofs.Common.{◌+◌, take, drop, sym, ◌∙◌, subst, refl, arith}
 use Rattle.std.proofs.lemmas.List.{take-append-drop, take_all, take_more}
 use Rattle.tlv_head.specs.Refusal.{BeginsWith}
 use Rattle.tlv_head.specs.Fields.{heading_with}
