@@ -6,3 +6,4 @@ pub mod Headers
 pub mod Refused
 pub mod Exact
 pub mod Front
+pub mod Rows
