@@ -103,6 +103,7 @@ made_suits os f id size m e =
     let count : id.octets ≡ length m.identifier = m.identified.count in
     let few : length m.identifier ≤ 10 = m.identified.few in
     let most : length m.lengths ≤ 127 = m.few in
+    let some : 1 ≤ length m.lengths = m.some in
     let all : length os ≡ length m.identifier + length m.lengths = rw m.octet (length-append m.identifier m.lengths) in
     record { identifier = omega (arith, e); few = omega (arith, e); room = omega arith }
 
