@@ -2,6 +2,7 @@ pub mod Digits
 pub mod Steps
 pub mod Unfinished
 pub mod Scan
+pub mod Meaning
 pub mod Headers
 pub mod Refused
 pub mod Exact

@@ -1,8 +1,8 @@
 -- Laws of headers.
-use Rattle.std.specs.Prelude.{◌≡◌, ℕ, Bool, List, [], ◌∷◌, ◌++◌}
+use Rattle.std.specs.Prelude.{◌≡◌, ◌≢◌, ◌⊎◌, ℕ, ◌<◌, Bool, List, [], ◌∷◌, ◌++◌}
 use Rattle.tlv_head.specs.declared.fault.FaultCode.{FaultCode}
 use Rattle.tlv_head.specs.Header.{Heading, IsHeading, octets_of}
-use Rattle.tlv_head.specs.Refusal.{BeginsNone, BeginsWith, IsFront, IsRefusedOctet}
+use Rattle.tlv_head.specs.Refusal.{BeginsNone, BeginsWith, BeginsWithNone, IsFront, IsRefusedOctet}
 
 -- two headers with which an input begins at one offset are the same, and so is what follows them
 abbrev pub OctetsBeginOneHeader : Type 0
@@ -17,3 +17,21 @@ HeadersAreNoFronts = (h : Heading) → IsHeading h → IsFront (octets_of h) →
 abbrev pub RefusalsAreFinal : Type 0
 RefusalsAreFinal = (code : FaultCode) (octets : List ℕ) (x : ℕ) → IsRefusedOctet code octets x
     → BeginsNone (octets ++ x ∷ [])
+
+-- nor does an input that goes on behind them begin with a header
+abbrev pub RefusedInputsBeginWithNone : Type 0
+RefusedInputsBeginWithNone = (code : FaultCode) (octets : List ℕ) (x : ℕ) (more : List ℕ) → IsRefusedOctet code octets x
+    → BeginsWithNone ((octets ++ x ∷ []) ++ more)
+
+-- the octets are a header
+abbrev pub IsWhole : List ℕ → Type 0
+IsWhole octets = (h : Heading) × IsHeading h × (octets_of h ≡ octets)
+
+-- the octet is refused with one of F06 to F09
+abbrev pub IsRefusable : List ℕ → ℕ → Type 0
+IsRefusable octets x = (code : FaultCode) × IsRefusedOctet code octets x
+
+-- behind the front of a header an octet makes a longer front or a header, or is refused; so does a first octet other than 00
+abbrev pub OctetsGoOnOrAreRefused : Type 0
+OctetsGoOnOrAreRefused = (octets : List ℕ) (x : ℕ) → x < 256 → (octets ≡ []) ⊎ IsFront octets → (octets ≡ [] → x ≢ 0)
+    → IsFront (octets ++ x ∷ []) ⊎ (IsWhole (octets ++ x ∷ []) ⊎ IsRefusable octets x)

@@ -1,5 +1,5 @@
 //! Laws of the definitions: each is the contract of a function that does nothing.
-ghost use Rattle.tlv_head.specs.Laws.{HeadersAreNoFronts, OctetsBeginOneHeader, RefusalsAreFinal};
+ghost use Rattle.tlv_head.specs.Laws.{HeadersAreNoFronts, OctetsBeginOneHeader, OctetsGoOnOrAreRefused, RefusalsAreFinal, RefusedInputsBeginWithNone};
 
 /// Octets begin with one header at most: two headers that stand at one offset and are both fronts of
 /// one input are the same, and the same octets follow them.
@@ -15,4 +15,15 @@ pub fn headers_are_no_fronts()
 /// A refusal with F06 to F09 is final: whatever follows the refused octet, it is no header.
 pub fn refusals_are_final()
     ensures { RefusalsAreFinal }
+{}
+
+/// Nor does an input that goes on behind such an octet begin with a header.
+pub fn refused_inputs_begin_with_none()
+    ensures { RefusedInputsBeginWithNone }
+{}
+
+/// No octet is refused without a cause: behind the front of a header it makes a longer front or a
+/// header, unless it is one that F06 to F09 refuse.
+pub fn octets_go_on_or_are_refused()
+    ensures { OctetsGoOnOrAreRefused }
 {}
