@@ -198,3 +198,43 @@ refused-stuck at MissingEnd o x front r = absurd r
 refused-stuck at TooDeep o x front r = absurd r
 refused-stuck at Overrun o x front r = absurd r
 refused-stuck at BadInside o x front r = absurd r
+
+stuck-or_over : (at : Origin) (s : Scan) (o : List ℕ) (x : ℕ) → IsStuckFrom at s o → scan_from at s (o ++ x ∷ []) ≡ Over
+stuck-or_over at s o x r =
+    let whole : o ++ x ∷ [] ≡ r.front ++ (r.rest ++ x ∷ []) = ap (λ z. z ++ x ∷ []) r.octets ∙ append_assoc r.front r.rest (x ∷ []) in
+    ap (scan_from at s) whole
+    ∙ (scan_from-append at s r.front (r.rest ++ x ∷ []) ∙ (ap (λ (t : Scan). scan_from at t (r.rest ++ x ∷ [])) r.stuck ∙ over r.rest))
+  where
+    over : (z : List ℕ) → scan_from at (Stuck r.code) (z ++ x ∷ []) ≡ Over
+    over [] = refl
+    over (y ∷ z) = scan_from-over at (z ++ x ∷ [])
+
+-- the code is that of the state, unless an octet before is refused
+refused-state : (code : FaultCode) (o : List ℕ) (x : ℕ) → IsRefusedOctet code o x
+    → (scan start (o ++ x ∷ []) ≡ Stuck code) ⊎ ((code ≡ LengthTooLarge) × (scan start (o ++ x ∷ []) ≡ Over))
+refused-state TagTooLong o x r = inl (too_long-stuck start o x r)
+refused-state ReservedLength o x r = inl (reserved-stuck start o x r)
+refused-state IndefinitePrimitive o x r = inl (primitive-stuck start o x r)
+refused-state LengthTooLarge o x r = ⊎_elim
+    (λ (e : scan start (o ++ x ∷ []) ≡ Stuck LengthTooLarge). inl e)
+    (λ (s : IsStuckFrom start Fresh o). inr (refl, stuck-or_over start Fresh o x s))
+    (too_large-stuck start o x r)
+refused-state Empty o x r = absurd r
+refused-state Short o x r = absurd r
+refused-state StrayEnd o x r = absurd r
+refused-state BadEnd o x r = absurd r
+refused-state MissingEnd o x r = absurd r
+refused-state TooDeep o x r = absurd r
+refused-state Overrun o x r = absurd r
+refused-state BadInside o x r = absurd r
+
+-- an octet is refused with one code
+pub one-refusal : (c d : FaultCode) (o : List ℕ) (x : ℕ) → IsRefusedOctet c o x → IsRefusedOctet d o x → c ≡ d
+one-refusal c d o x p q = both (refused-state c o x p) (refused-state d o x q)
+  where
+    both : (scan start (o ++ x ∷ []) ≡ Stuck c) ⊎ ((c ≡ LengthTooLarge) × (scan start (o ++ x ∷ []) ≡ Over))
+        → (scan start (o ++ x ∷ []) ≡ Stuck d) ⊎ ((d ≡ LengthTooLarge) × (scan start (o ++ x ∷ []) ≡ Over)) → c ≡ d
+    both (inl e) (inl f) = let same : Stuck c ≡ Stuck d = sym e ∙ f in cc
+    both (inl e) (inr f) = let same : Stuck c ≡ Over = sym e ∙ f.1 in absurd (cc)
+    both (inr e) (inl f) = let same : Over ≡ Stuck d = sym e.1 ∙ f in absurd (cc)
+    both (inr e) (inr f) = e.0 ∙ sym f.0

@@ -1,7 +1,10 @@
 -- Laws of headers.
-use Rattle.std.specs.Prelude.{◌≡◌, ◌≢◌, ◌⊎◌, ℕ, ◌<◌, Bool, List, [], ◌∷◌, ◌++◌}
+use Rattle.std.specs.Prelude.{◌≡◌, ◌≢◌, ◌⊎◌, ℕ, ◌<◌, Bool, List, [], ◌∷◌, ◌++◌, Option}
 use Rattle.tlv_head.specs.declared.fault.FaultCode.{FaultCode}
 use Rattle.tlv_head.specs.Header.{Heading, IsHeading, octets_of}
+use Rattle.tlv_head.specs.declared.reader.Head.{Head}
+use Rattle.tlv_head.specs.Progress.{Progress}
+use Rattle.tlv_head.specs.Push.{Answers}
 use Rattle.tlv_head.specs.Refusal.{BeginsNone, BeginsWith, BeginsWithNone, IsFront, IsRefusedOctet}
 
 -- two headers with which an input begins at one offset are the same, and so is what follows them
@@ -35,3 +38,8 @@ IsRefusable octets x = (code : FaultCode) × IsRefusedOctet code octets x
 abbrev pub OctetsGoOnOrAreRefused : Type 0
 OctetsGoOnOrAreRefused = (octets : List ℕ) (x : ℕ) → x < 256 → (octets ≡ []) ⊎ IsFront octets → (octets ≡ [] → x ≢ 0)
     → IsFront (octets ++ x ∷ []) ⊎ (IsWhole (octets ++ x ∷ []) ⊎ IsRefusable octets x)
+
+-- what a reader answers is determined by what it stands for, the octet, the room and the depth
+abbrev pub PushesHaveOneAnswer : Type 0
+PushesHaveOneAnswer = (old new other : Progress) (x : ℕ) (room : Option ℕ) (depth : ℕ) (a b : Head)
+    → Answers old x room depth new a → Answers old x room depth other b → a ≡ b

@@ -1,5 +1,5 @@
 //! Laws of the definitions: each is the contract of a function that does nothing.
-ghost use Rattle.tlv_head.specs.Laws.{HeadersAreNoFronts, OctetsBeginOneHeader, OctetsGoOnOrAreRefused, RefusalsAreFinal, RefusedInputsBeginWithNone};
+ghost use Rattle.tlv_head.specs.Laws.{HeadersAreNoFronts, OctetsBeginOneHeader, OctetsGoOnOrAreRefused, PushesHaveOneAnswer, RefusalsAreFinal, RefusedInputsBeginWithNone};
 
 /// Octets begin with one header at most: two headers that stand at one offset and are both fronts of
 /// one input are the same, and the same octets follow them.
@@ -26,4 +26,9 @@ pub fn refused_inputs_begin_with_none()
 /// header, unless it is one that F06 to F09 refuse.
 pub fn octets_go_on_or_are_refused()
     ensures { OctetsGoOnOrAreRefused }
+{}
+
+/// What [`HeadReader::push`](crate::HeadReader::push) promises leaves it one answer.
+pub fn one_answer()
+    ensures { PushesHaveOneAnswer }
 {}
