@@ -7,4 +7,5 @@ pub mod Headers
 pub mod Refused
 pub mod Exact
 pub mod Front
+pub mod OneReading
 pub mod Rows

@@ -5,6 +5,8 @@ use Rattle.tlv_head.specs.Header.{Heading, IsHeading, octets_of}
 use Rattle.tlv_head.specs.declared.reader.Head.{Head}
 use Rattle.tlv_head.specs.Progress.{Progress}
 use Rattle.tlv_head.specs.Push.{Answers}
+use Rattle.tlv_head.specs.declared.header.HeaderFields.{HeaderFields}
+use Rattle.tlv_head.specs.Read.{BeginsWithFields}
 use Rattle.tlv_head.specs.Refusal.{BeginsNone, BeginsWith, BeginsWithNone, IsFront, IsRefusedOctet}
 
 -- two headers with which an input begins at one offset are the same, and so is what follows them
@@ -43,3 +45,8 @@ OctetsGoOnOrAreRefused = (octets : List ℕ) (x : ℕ) → x < 256 → (octets �
 abbrev pub PushesHaveOneAnswer : Type 0
 PushesHaveOneAnswer = (old new other : Progress) (x : ℕ) (room : Option ℕ) (depth : ℕ) (a b : Head)
     → Answers old x room depth new a → Answers old x room depth other b → a ≡ b
+
+-- what `read_header` finds is determined by the octets and where they stand
+abbrev pub HeadersHaveOneReading : Type 0
+HeadersHaveOneReading = (octets : List ℕ) (offset : ℕ) (named : Bool) (f g : HeaderFields) (m n : ℕ)
+    → BeginsWithFields octets offset named f m → BeginsWithFields octets offset named g n → (f ≡ g) × (m ≡ n)

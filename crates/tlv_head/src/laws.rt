@@ -1,5 +1,5 @@
 //! Laws of the definitions: each is the contract of a function that does nothing.
-ghost use Rattle.tlv_head.specs.Laws.{HeadersAreNoFronts, OctetsBeginOneHeader, OctetsGoOnOrAreRefused, PushesHaveOneAnswer, RefusalsAreFinal, RefusedInputsBeginWithNone};
+ghost use Rattle.tlv_head.specs.Laws.{HeadersAreNoFronts, HeadersHaveOneReading, OctetsBeginOneHeader, OctetsGoOnOrAreRefused, PushesHaveOneAnswer, RefusalsAreFinal, RefusedInputsBeginWithNone};
 
 /// Octets begin with one header at most: two headers that stand at one offset and are both fronts of
 /// one input are the same, and the same octets follow them.
@@ -31,4 +31,9 @@ pub fn octets_go_on_or_are_refused()
 /// What [`HeadReader::push`](crate::HeadReader::push) promises leaves it one answer.
 pub fn one_answer()
     ensures { PushesHaveOneAnswer }
+{}
+
+/// What [`read_header`](crate::read_header) promises leaves it one header and one number of octets.
+pub fn one_reading()
+    ensures { HeadersHaveOneReading }
 {}
