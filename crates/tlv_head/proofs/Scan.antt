@@ -34,6 +34,7 @@ pub data Scan : Type 0 where
   -- the identifier, how many length octets follow the first, and those so far
   Long : (class : Class) (constructed : Bool) (number : ℕ) (identifier : List ℕ) (count : ℕ) (digits : List ℕ) → Scan
   Ready : (head : Heading) → Scan
+  -- the last octet was refused
   Stuck : (code : FaultCode) → Scan
   -- an octet past a header or a refusal
   Over : Scan

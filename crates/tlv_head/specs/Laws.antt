@@ -18,12 +18,12 @@ OctetsBeginOneHeader = (input : List ℕ) (offset : ℕ) (named : Bool) (h g : H
 abbrev pub HeadersAreNoFronts : Type 0
 HeadersAreNoFronts = (h : Heading) → IsHeading h → IsFront (octets_of h) → ⊥
 
--- where an octet is refused with F06 to F09, no header begins with the octets up to it, whatever follows
+-- where an octet is refused with F06 to F09, no header begins with the octets up to it, that one included
 abbrev pub RefusalsAreFinal : Type 0
 RefusalsAreFinal = (code : FaultCode) (octets : List ℕ) (x : ℕ) → IsRefusedOctet code octets x
     → BeginsNone (octets ++ x ∷ [])
 
--- nor does an input that goes on behind them begin with a header
+-- and no input that goes on behind them begins with a header
 abbrev pub RefusedInputsBeginWithNone : Type 0
 RefusedInputsBeginWithNone = (code : FaultCode) (octets : List ℕ) (x : ℕ) (more : List ℕ) → IsRefusedOctet code octets x
     → BeginsWithNone ((octets ++ x ∷ []) ++ more)

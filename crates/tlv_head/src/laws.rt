@@ -12,12 +12,12 @@ pub fn headers_are_no_fronts()
     ensures { HeadersAreNoFronts }
 {}
 
-/// A refusal with F06 to F09 is final: whatever follows the refused octet, it is no header.
+/// A refusal with F06 to F09 is final: no octets behind the refused one make a header of it.
 pub fn refusals_are_final()
     ensures { RefusalsAreFinal }
 {}
 
-/// Nor does an input that goes on behind such an octet begin with a header.
+/// An input that goes on behind such an octet begins with no header.
 pub fn refused_inputs_begin_with_none()
     ensures { RefusedInputsBeginWithNone }
 {}
