@@ -1,5 +1,5 @@
 -- What the octets in front of a reader begin with.
-use Rattle.std.proofs.Common.{◌≡◌, ◌≢◌, ◌⊎◌, inl, inr, ℕ, ◌+◌, ◌^◌, ◌<◌, ◌≤◌, Bool, false, get_or, List, [], ◌∷◌, ◌++◌, length, take, drop, refl, sym, ap, ◌∙◌, arith, append_assoc, append-nil, length-append, ⊎_elim}
+use Rattle.std.proofs.Common.{◌≡◌, ◌⊎◌, inl, inr, ℕ, ◌+◌, ◌<◌, ◌≤◌, Bool, false, get_or, List, [], ◌∷◌, ◌++◌, length, take, drop, refl, sym, ap, ◌∙◌, arith, append_assoc, length-append}
 use Rattle.std.proofs.lemmas.List.{take-append-drop, take_more}
 use Rattle.std.proofs.Math.Seq.{drop-append_seam, take-append_seam}
 use Rattle.tlv_head.specs.declared.header.Class.{Class}
@@ -10,11 +10,10 @@ use Rattle.tlv_head.specs.declared.reader.Identifier.{Identifier}
 use Rattle.tlv_head.specs.Fields.{heading_with, Suits}
 use Rattle.tlv_head.specs.declared.reader.Part.{Part}
 use Rattle.tlv_head.specs.declared.reader.Part.TheVariants.{Start, Number, Length, Digits, Done}
-use Rattle.tlv_head.specs.Header.{Heading, IsHeading, IsIdentifier, IsLength, announced, octets_of}
+use Rattle.tlv_head.specs.Header.{Heading, IsHeading, IsIdentifier, IsLength, octets_of}
 use Rattle.tlv_head.specs.Part.{Carries, MakesHeader, is_done}
-use Rattle.tlv_head.specs.Refusal.{BeginsNone, BeginsWith, IsFront}
-use Rattle.tlv_head.proofs.Scan.{Scan, origin_of, scan, Fresh, Ready, no-front, scan-header}
-use Rattle.tlv_head.proofs.Headers.{fronts}
+use Rattle.tlv_head.specs.Refusal.{BeginsWith, IsFront}
+use Rattle.tlv_head.proofs.Scan.{origin_of, scan, Fresh, Ready, no-front, scan-header}
 use Rattle.tlv_head.proofs.Unfinished.{unfinished_number, unfinished_identifier, unfinished_length}
 
 -- nothing yet, or the front of a header
@@ -36,7 +35,7 @@ rest_nil : (a b : List ℕ) → a ++ b ≡ [] → b ≡ []
 rest_nil [] b e = e
 rest_nil (x ∷ a) b e = absurd (cc)
 
-pub header-some : (h : Heading) → IsHeading h → octets_of h ≡ [] → ⊥
+header-some : (h : Heading) → IsHeading h → octets_of h ≡ [] → ⊥
 header-some h v e =
     let ready : scan (origin_of h) (octets_of h) ≡ Ready h = scan-header h v in
     let fresh : Fresh ≡ Ready h = rw e at ready in
@@ -48,28 +47,6 @@ begun_none os (inl none) h rest v e = header-some h v (front_nil (octets_of h) r
 begun_none os (inr f) h rest v e =
     no-front h f.head (rest ++ f.more) v f.valid (λ z. f.proper (rest_nil rest f.more z))
     (sym (append_assoc (octets_of h) rest f.more) ∙ (ap (λ s. s ++ f.more) e ∙ f.front))
-
--- nor of that and an octet with which no header begins
-refused_none : (os : List ℕ) (x : ℕ) → IsBegun os → BeginsNone (os ++ x ∷ []) → (h : Heading) (rest : List ℕ) → IsHeading h → octets_of h ++ rest ≡ os ++ x ∷ [] → ⊥
-refused_none os x b none h rest v e = elim (fronts (octets_of h) os rest (x ∷ []) e) [
-  | inl z ↦ begun_none os b h z.0 v z.1
-  | inr z ↦ longer z.0 z.1 z.2
-]
-  where
-    longer : (w : List ℕ) → os ++ w ≡ octets_of h → x ∷ [] ≡ w ++ rest → ⊥
-    longer [] f g = begun_none os b h [] v (append-nil (octets_of h) ∙ (sym f ∙ append-nil os))
-    longer (y ∷ w) f g =
-        let same : x ≡ y = cc in
-        let nil : w ++ rest ≡ [] = cc in
-        let one : os ++ x ∷ [] ≡ octets_of h = ap (λ z. os ++ z ∷ []) same ∙ (ap (λ z. os ++ y ∷ z) (sym (front_nil w rest nil)) ∙ f) in
-        none h [] v (append-nil (os ++ x ∷ []) ∙ one)
-
-pub refused_input : (input os : List ℕ) (x : ℕ) (more : List ℕ) → IsBegun os → BeginsNone (os ++ x ∷ []) → input ≡ (os ++ x ∷ []) ++ more
-    → (h : Heading) (rest : List ℕ) → IsHeading h → input ≡ octets_of h ++ rest → ⊥
-refused_input input os x more b none i h rest v e = elim (fronts (os ++ x ∷ []) (octets_of h) more rest (sym i ∙ e)) [
-  | inl z ↦ none h z.0 v z.1
-  | inr z ↦ refused_none os x b none h z.0 v z.1
-]
 
 -- the octet at a place, with what comes before and behind it
 pub around : (xs : List ℕ) (i : ℕ) → i < length xs → xs ≡ (take i xs ++ get_or xs i 0 ∷ []) ++ drop (i + 1) xs
@@ -88,21 +65,13 @@ length-some Indefinite l e = rw e (omega arith)
 pub header-two : (h : Heading) → IsHeading h → 2 ≤ length (octets_of h)
 header-two h v = omega (arith, length-append h.identifier h.lengths, identifier-some h.class h.constructed h.number h.identifier v.identifier, length-some h.size h.lengths v.lengths)
 
-size-lt : (s : Size) (l : List ℕ) → IsLength s l → announced s < 2 ^ 40
-size-lt (Definite n) l (inl short) = omega (arith, short.0)
-size-lt (Definite n) l (inr long) = long.limit
-size-lt Indefinite l e = omega arith
-
--- and a definite length below 2^40
-pub announced-lt : (h : Heading) → IsHeading h → announced h.size < 2 ^ 40
-announced-lt h v = size-lt h.size h.lengths v.lengths
-
 -- the header that was made
 pub made_suits : (os : List ℕ) (f : HeaderFields) (id : Identifier) (size : Size) → MakesHeader id size os → f.id_len ≡ id.octets → Suits f os
 made_suits os f id size m e =
     let count : id.octets ≡ length m.identifier = m.identified.count in
     let few : length m.identifier ≤ 10 = m.identified.few in
     let most : length m.lengths ≤ 127 = m.few in
+    let some : 1 ≤ length m.lengths = m.some in
     let all : length os ≡ length m.identifier + length m.lengths = rw m.octet (length-append m.identifier m.lengths) in
     record { identifier = omega (arith, e); few = omega (arith, e); room = omega arith }
 

@@ -3,10 +3,12 @@ use Rattle.std.proofs.Common.{◌≡◌, ◌≢◌, ◌⊎◌, inl, inr, ℕ, �
 use Rattle.std.proofs.lemmas.Bool.{cases_lt, cases_eq, cases_Bool, and_parts, not-true, eqb-false}
 use Rattle.tlv_head.specs.declared.header.Class.{Class}
 use Rattle.tlv_head.specs.Header.{IsIdentifier, Heading, octets_of, IsHeading}
+use Rattle.tlv_head.specs.Laws.{IsRefusable, IsWhole}
 use Rattle.tlv_head.specs.Refusal.{BeginsNone, IsFront, IsRefusedOctet}
 use Rattle.tlv_head.specs.declared.fault.FaultCode.{FaultCode}
-use Rattle.tlv_head.specs.declared.fault.FaultCode.TheVariants.{Empty, Short, StrayEnd, BadEnd, MissingEnd, TagTooLong, ReservedLength, IndefinitePrimitive, LengthTooLarge, TooDeep, Overrun}
-use Rattle.tlv_head.proofs.Scan.{Scan, Origin, origin_of, start, Fresh, High, Named, Long, Ready, Stuck, Over, leads, class_of, step, scan, scan_from-append, scan_from-past, scan-moved, moved, IsHighState, IsLongState, Reads, reads-step, reads-scan, is_more, front-from_more, more-from_front, front-bytes, no-front, same-header}
+use Rattle.tlv_head.specs.declared.fault.FaultCode.TheVariants.{StrayEnd, IndefinitePrimitive}
+use Rattle.tlv_head.proofs.Scan.{Scan, Origin, origin_of, start, Fresh, High, Named, Long, Ready, Stuck, Over, leads, class_of, step, scan, scan_from-append, scan_from-past, scan-moved, moved, is_more, more-from_front, no-front, same-header}
+use Rattle.tlv_head.proofs.Meaning.{IsHighState, IsLongState, Reads, reads-step, reads-scan, front-from_more, front-bytes}
 
 -- lists that go on to one list: one is a front of the other
 pub fronts : (a b x y : List ℕ) → a ++ x ≡ b ++ y → ((z : List ℕ) × (a ++ z ≡ b) × (x ≡ z ++ y)) ⊎ ((z : List ℕ) × (b ++ z ≡ a) × (y ≡ z ++ x))
@@ -147,6 +149,16 @@ pub next : (o : List ℕ) (x : ℕ) → x < 256 → (o ≡ []) ⊎ IsFront o →
 next o x h (inl e) = rw e (next-more [] x h refl refl)
 next o x h (inr f) = next-more o x h (more-from_front start o f) (reads-scan start o (front-bytes o f))
 
--- no two of these hold together
+refused-octet : (code : FaultCode) (o : List ℕ) (x : ℕ) → (o ≡ [] → x ≢ 0) → IsHeadRefusal code o x → IsRefusedOctet code o x
+refused-octet StrayEnd o x first r = absurd (first r.0 r.1)
+refused-octet code o x first r = r
+
+-- a first octet other than 00 is refused for the octets alone
+pub classified : (o : List ℕ) (x : ℕ) → (o ≡ [] → x ≢ 0) → Next o x → IsFront (o ++ x ∷ []) ⊎ (IsWhole (o ++ x ∷ []) ⊎ IsRefusable o x)
+classified o x first (continues f) = inl f
+classified o x first (completes h v e) = inr (inl (h, v, e))
+classified o x first (refuses code r none) = inr (inr (code, refused-octet code o x first r))
+
+-- what can go on is no header
 pub front-no_header : (o : List ℕ) (h : Heading) → IsFront o → IsHeading h → octets_of h ≡ o → ⊥
 front-no_header o h f v e = no-front h f.head f.more v f.valid f.proper (rw e f.front)

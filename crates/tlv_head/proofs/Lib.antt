@@ -2,7 +2,10 @@ pub mod Digits
 pub mod Steps
 pub mod Unfinished
 pub mod Scan
+pub mod Meaning
 pub mod Headers
 pub mod Refused
 pub mod Exact
 pub mod Front
+pub mod OneReading
+pub mod Rows

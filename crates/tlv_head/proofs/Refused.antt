@@ -1,18 +1,60 @@
--- What is refused for the octets alone begins no header.
+-- What is refused for the octets alone: no header begins with it, and it begins with none.
 use Rattle.std.proofs.Common.{◌≡◌, ◌⊎◌, inl, inr, ℕ, ◌+◌, ◌-◌, ◌<◌, ◌≤◌, Bool, true, false, not, ◌&&◌, eqb, ltb, List, [], ◌∷◌, ◌++◌, length, All, refl, sym, ap, ◌∙◌, arith, append_assoc, append-nil, length-append, lt-ltb, le-ltb, ne_eqb, ⊎_elim}
 use Rattle.std.proofs.lemmas.Bool.{cases_Bool}
 use Rattle.std.proofs.lemmas.List.Elements.{All-head, All-tail}
 use Rattle.tlv_head.specs.declared.header.Class.{Class}
 use Rattle.tlv_head.specs.declared.fault.FaultCode.{FaultCode}
 use Rattle.tlv_head.specs.declared.fault.FaultCode.TheVariants.{Empty, Short, StrayEnd, BadEnd, MissingEnd, TagTooLong, ReservedLength, IndefinitePrimitive, LengthTooLarge, TooDeep, Overrun, BadInside}
-use Rattle.tlv_head.specs.Header.{flagged, leading_octet}
-use Rattle.tlv_head.specs.Refusal.{BeginsNone, IsFront, IsRefusedOctet, IsTagTooLong, IsReservedLength, IsIndefinitePrimitive, IsLengthTooLarge}
-use Rattle.tlv_head.proofs.Scan.{Scan, Origin, start, Fresh, High, Named, Long, Ready, Stuck, Over, step, scan_from, scan, scan_from-append, scan-identifier, step-leading, is_more, more-from_front}
-use Rattle.tlv_head.proofs.Headers.{stuck-none}
+use Rattle.tlv_head.specs.Header.{Heading, IsHeading, flagged, leading_octet, octets_of}
+use Rattle.tlv_head.specs.Refusal.{BeginsNone, BeginsWithNone, IsFront, IsRefusedOctet, IsTagTooLong, IsReservedLength, IsIndefinitePrimitive, IsLengthTooLarge}
+use Rattle.tlv_head.proofs.Scan.{Scan, Origin, start, Fresh, High, Named, Long, Ready, Stuck, Over, step, scan_from, scan, scan_from-append, scan_from-over, scan-identifier, scan-moved, moved, step-leading, is_more, more-from_front}
+use Rattle.tlv_head.proofs.Headers.{fronts, stuck-none}
 
--- a list that is refused at its last octet begins no header
-stuck-begins-none : (o : List ℕ) (code : FaultCode) → scan start o ≡ Stuck code → BeginsNone o
-stuck-begins-none o code e = stuck-none start (Stuck code) o e refl (λ h z. cc)
+-- octets of which a front, read from a state, is refused at its last octet
+record IsStuckFrom (at : Origin) (s : Scan) (o : List ℕ) : Type 0 where
+  front : List ℕ
+  rest : List ℕ
+  code : FaultCode
+  stuck : scan_from at s front ≡ Stuck code
+  octets : o ≡ front ++ rest
+
+-- whatever follows them
+stuck-longer : (at : Origin) (s : Scan) (o more : List ℕ) → IsStuckFrom at s o → IsStuckFrom at s (o ++ more)
+stuck-longer at s o more r = record {
+  front = r.front;
+  rest = r.rest ++ more;
+  code = r.code;
+  stuck = r.stuck;
+  octets = ap (λ z. z ++ more) r.octets ∙ append_assoc r.front r.rest more;
+}
+
+stuck-last : (at : Origin) (o : List ℕ) (code : FaultCode) → scan at o ≡ Stuck code → IsStuckFrom at Fresh o
+stuck-last at o code e = record { front = o; rest = []; code = code; stuck = e; octets = sym (append-nil o) }
+
+front-none : (o : List ℕ) (code : FaultCode) → scan start o ≡ Stuck code → BeginsNone o
+front-none o code e = stuck-none start (Stuck code) o e refl (λ h z. cc)
+
+-- they begin no header
+stuck-begins-none : (o : List ℕ) → IsStuckFrom start Fresh o → BeginsNone o
+stuck-begins-none o r = λ h more v e.
+    front-none r.front r.code r.stuck h (r.rest ++ more) v (sym (append_assoc r.front r.rest more) ∙ (ap (λ z. z ++ more) (sym r.octets) ∙ e))
+
+past-header : (at : Origin) (h : Heading) (z : List ℕ) (code : FaultCode) → scan_from at (Ready h) z ≡ Stuck code → ⊥
+past-header at h [] code e = cc
+past-header at h (y ∷ z) code e = let over : scan_from at Over z ≡ Over = scan_from-over at z in cc
+
+-- what is refused at its last octet begins with no header
+header-not_stuck : (h : Heading) (z o : List ℕ) (code : FaultCode) → IsHeading h → octets_of h ++ z ≡ o → scan start o ≡ Stuck code → ⊥
+header-not_stuck h z o code v e s =
+    let whole : scan start (octets_of h ++ z) ≡ Stuck code = ap (scan start) e ∙ s in
+    let split : scan_from start (scan start (octets_of h)) z ≡ Stuck code = sym (scan_from-append start Fresh (octets_of h) z) ∙ whole in
+    past-header start (moved start h) z code (ap (λ (t : Scan). scan_from start t z) (sym (scan-moved start h v)) ∙ split)
+
+stuck-begins_with-none : (o : List ℕ) → IsStuckFrom start Fresh o → BeginsWithNone o
+stuck-begins_with-none o r = λ h rest v e. elim (fronts r.front (octets_of h) r.rest rest (sym r.octets ∙ e)) [
+  | inl z ↦ front-none r.front r.code r.stuck h z.0 v z.1
+  | inr z ↦ header-not_stuck h z.0 r.front r.code v z.1 r.stuck
+]
 
 -- a step behind octets that were read
 scan-step : (at : Origin) (o : List ℕ) (x : ℕ) (s : Scan) (code : FaultCode) → scan at o ≡ s → step at s x ≡ Stuck code → scan at (o ++ x ∷ []) ≡ Stuck code
@@ -55,110 +97,89 @@ primitive-stuck at o x r =
     scan-step at o x (Named r.front.class false r.front.number o) IndefinitePrimitive
     (scan-identifier at r.front.class false r.front.number o r.front.identifier) (rw r.indefinite refl)
 
--- an octet was refused already
-abbrev is_off : Scan → Bool
-is_off Fresh = false
-is_off (High c k ds) = false
-is_off (Named c k n i) = false
-is_off (Long c k n i m ds) = false
-is_off (Ready h) = false
-is_off (Stuck code) = true
-is_off Over = true
-
--- what was refused stays so, behind one octet
-off-step : (at : Origin) (s : Scan) (x : ℕ) → is_off s ≡ true → is_off (step at s x) ≡ true
-off-step at Fresh x e = absurd (cc)
-off-step at (High c k ds) x e = absurd (cc)
-off-step at (Named c k n i) x e = absurd (cc)
-off-step at (Long c k n i m ds) x e = absurd (cc)
-off-step at (Ready h) x e = absurd (cc)
-off-step at (Stuck code) x e = refl
-off-step at Over x e = refl
-
--- and behind more
-off-scan : (at : Origin) (s : Scan) (xs : List ℕ) → is_off s ≡ true → is_off (scan_from at s xs) ≡ true
-off-scan at s [] e = e
-off-scan at s (x ∷ xs) e = off-scan at (step at s x) xs (off-step at s x e)
-
--- and begins no header
-off-none : (at : Origin) (s : Scan) (o : List ℕ) → scan at o ≡ s → is_off s ≡ true → BeginsNone o
-off-none at Fresh o e off = absurd (cc)
-off-none at (High c k ds) o e off = absurd (cc)
-off-none at (Named c k n i) o e off = absurd (cc)
-off-none at (Long c k n i m ds) o e off = absurd (cc)
-off-none at (Ready h) o e off = absurd (cc)
-off-none at (Stuck code) o e off = stuck-none at (Stuck code) o e refl (λ h z. cc)
-off-none at Over o e off = stuck-none at Over o e refl (λ h z. cc)
-
--- digits of a length that is not whole lead on, unless one was refused
-long-or-off : (at : Origin) (c : Class) (k : Bool) (n : ℕ) (i : List ℕ) (m : ℕ) (ds es : List ℕ) → length ds + length es < m
-    → (scan_from at (Long c k n i m ds) es ≡ Long c k n i m (ds ++ es)) ⊎ (is_off (scan_from at (Long c k n i m ds) es) ≡ true)
-long-or-off at c k n i m ds [] h = inl (ap (Long c k n i m) (sym (append-nil ds)))
-long-or-off at c k n i m ds (e ∷ es) h = ⊎_elim
-    (λ (bad : (not (eqb e 0) && ltb (length ds + 5) m) ≡ true). inr (off-scan at (step at (Long c k n i m ds) e) es (rw bad refl)))
+-- digits of a length that is not whole lead on, unless one is refused
+long-or-stuck : (at : Origin) (c : Class) (k : Bool) (n : ℕ) (i : List ℕ) (m : ℕ) (ds es : List ℕ) → length ds + length es < m
+    → (scan_from at (Long c k n i m ds) es ≡ Long c k n i m (ds ++ es)) ⊎ IsStuckFrom at (Long c k n i m ds) es
+long-or-stuck at c k n i m ds [] h = inl (ap (Long c k n i m) (sym (append-nil ds)))
+long-or-stuck at c k n i m ds (e ∷ es) h = ⊎_elim
+    (λ (bad : (not (eqb e 0) && ltb (length ds + 5) m) ≡ true).
+    inr (record { front = e ∷ []; rest = es; code = LengthTooLarge; stuck = rw bad refl; octets = refl }))
     (λ (good : (not (eqb e 0) && ltb (length ds + 5) m) ≡ false).
     let room : length ds + 1 < m = omega arith in
     let one : step at (Long c k n i m ds) e ≡ Long c k n i m (ds ++ e ∷ []) = rw (good, lt-ltb (length ds + 1) m room) in
     let fewer : length (ds ++ e ∷ []) + length es < m = omega (arith, length-append ds (e ∷ [])) in
-    rw (one, sym (append_assoc ds (e ∷ []) es)) (long-or-off at c k n i m (ds ++ e ∷ []) es fewer))
+    ⊎_elim
+    (λ (on : scan_from at (Long c k n i m (ds ++ e ∷ [])) es ≡ Long c k n i m ((ds ++ e ∷ []) ++ es)). inl (rw (one, sym (append_assoc ds (e ∷ []) es)) on))
+    (λ (r : IsStuckFrom at (Long c k n i m (ds ++ e ∷ [])) es).
+    inr (record { front = e ∷ r.front; rest = r.rest; code = r.code; stuck = ap (λ (s : Scan). scan_from at s r.front) one ∙ r.stuck; octets = ap (λ z. e ∷ z) r.octets }))
+    (long-or-stuck at c k n i m (ds ++ e ∷ []) es fewer))
     (cases_Bool (not (eqb e 0) && ltb (length ds + 5) m))
 
 -- a length octet that makes the length too large, unless one before it does
-too_large-stuck : (at : Origin) (o : List ℕ) (x : ℕ) → IsLengthTooLarge o x → (scan at (o ++ x ∷ []) ≡ Stuck LengthTooLarge) ⊎ (is_off (scan at o) ≡ true)
+too_large-stuck : (at : Origin) (o : List ℕ) (x : ℕ) → IsLengthTooLarge o x → (scan at (o ++ x ∷ []) ≡ Stuck LengthTooLarge) ⊎ IsStuckFrom at Fresh o
 too_large-stuck at o x r =
     let m : ℕ = length r.digits + r.left in
     let i : List ℕ = r.identifier in
-    let lead : scan at (i ++ (128 + m) ∷ r.digits) ≡ scan_from at (step at (Named r.class r.constructed r.number i) (128 + m)) r.digits =
-    scan_from-append at Fresh i ((128 + m) ∷ r.digits)
-    ∙ ap (λ (s : Scan). scan_from at s ((128 + m) ∷ r.digits)) (scan-identifier at r.class r.constructed r.number i r.front.identified) in
     let above : 128 ≤ 128 + m = omega arith in
     let apart : 128 + m ≡ 255 → ⊥ = omega (arith, r.front.few) in
     let other : 128 + m ≡ 128 → ⊥ = omega (arith, r.many) in
     let back : 128 + m - 128 ≡ m = omega arith in
     let one : step at (Named r.class r.constructed r.number i) (128 + m) ≡ Long r.class r.constructed r.number i m [] =
     rw (le-ltb (128 + m) 128 above, ne_eqb (128 + m) 255 apart, ne_eqb (128 + m) 128 other, back) in
-    let here : scan at o ≡ scan_from at (Long r.class r.constructed r.number i m []) r.digits =
-    ap (scan at) r.front.octet ∙ (lead ∙ ap (λ (s : Scan). scan_from at s r.digits) one) in
+    let lead : (ds : List ℕ) → scan at (i ++ (128 + m) ∷ ds) ≡ scan_from at (Long r.class r.constructed r.number i m []) ds =
+    λ ds. scan_from-append at Fresh i ((128 + m) ∷ ds)
+    ∙ (ap (λ (s : Scan). scan_from at s ((128 + m) ∷ ds)) (scan-identifier at r.class r.constructed r.number i r.front.identified)
+    ∙ ap (λ (s : Scan). scan_from at s ds) one) in
     let many : length r.digits + 5 < m = omega (arith, r.many) in
     ⊎_elim
     (λ (on : scan_from at (Long r.class r.constructed r.number i m []) r.digits ≡ Long r.class r.constructed r.number i m r.digits).
-    inl (scan-step at o x (Long r.class r.constructed r.number i m r.digits) LengthTooLarge (here ∙ on)
+    inl (scan-step at o x (Long r.class r.constructed r.number i m r.digits) LengthTooLarge (ap (scan at) r.front.octet ∙ (lead r.digits ∙ on))
     (rw (ne_eqb x 0 r.nonzero, lt-ltb (length r.digits + 5) m many))))
-    (λ (off : is_off (scan_from at (Long r.class r.constructed r.number i m []) r.digits) ≡ true). inr (ap is_off here ∙ off))
-    (long-or-off at r.class r.constructed r.number i m [] r.digits (omega (arith, r.many)))
+    (λ (s : IsStuckFrom at (Long r.class r.constructed r.number i m []) r.digits).
+    inr (record {
+      front = i ++ (128 + m) ∷ s.front;
+      rest = s.rest;
+      code = s.code;
+      stuck = lead s.front ∙ s.stuck;
+      octets = r.front.octet ∙ (ap (λ z. i ++ (128 + m) ∷ z) s.octets ∙ sym (append_assoc i ((128 + m) ∷ s.front) s.rest));
+    }))
+    (long-or-stuck at r.class r.constructed r.number i m [] r.digits (omega (arith, r.many)))
 
--- such octets begin no header
-too_large-none : (o : List ℕ) (x : ℕ) → IsLengthTooLarge o x → BeginsNone (o ++ x ∷ [])
-too_large-none o x r = ⊎_elim
-    (λ (e : scan start (o ++ x ∷ []) ≡ Stuck LengthTooLarge). stuck-begins-none (o ++ x ∷ []) LengthTooLarge e)
-    (λ (off : is_off (scan start o) ≡ true).
-    off-none start (scan_from start (scan start o) (x ∷ [])) (o ++ x ∷ []) (scan_from-append start Fresh o (x ∷ [])) (off-scan start (scan start o) (x ∷ []) off))
+refused-stuck_from : (code : FaultCode) (o : List ℕ) (x : ℕ) → IsRefusedOctet code o x → IsStuckFrom start Fresh (o ++ x ∷ [])
+refused-stuck_from TagTooLong o x r = stuck-last start (o ++ x ∷ []) TagTooLong (too_long-stuck start o x r)
+refused-stuck_from ReservedLength o x r = stuck-last start (o ++ x ∷ []) ReservedLength (reserved-stuck start o x r)
+refused-stuck_from IndefinitePrimitive o x r = stuck-last start (o ++ x ∷ []) IndefinitePrimitive (primitive-stuck start o x r)
+refused-stuck_from LengthTooLarge o x r = ⊎_elim
+    (λ (e : scan start (o ++ x ∷ []) ≡ Stuck LengthTooLarge). stuck-last start (o ++ x ∷ []) LengthTooLarge e)
+    (λ (s : IsStuckFrom start Fresh o). stuck-longer start Fresh o (x ∷ []) s)
     (too_large-stuck start o x r)
+refused-stuck_from Empty o x r = absurd r
+refused-stuck_from Short o x r = absurd r
+refused-stuck_from StrayEnd o x r = absurd r
+refused-stuck_from BadEnd o x r = absurd r
+refused-stuck_from MissingEnd o x r = absurd r
+refused-stuck_from TooDeep o x r = absurd r
+refused-stuck_from Overrun o x r = absurd r
+refused-stuck_from BadInside o x r = absurd r
 
 -- what is refused for the octets alone begins no header
 pub refused-none : (code : FaultCode) (o : List ℕ) (x : ℕ) → IsRefusedOctet code o x → BeginsNone (o ++ x ∷ [])
-refused-none TagTooLong o x r = stuck-begins-none (o ++ x ∷ []) TagTooLong (too_long-stuck start o x r)
-refused-none ReservedLength o x r = stuck-begins-none (o ++ x ∷ []) ReservedLength (reserved-stuck start o x r)
-refused-none IndefinitePrimitive o x r = stuck-begins-none (o ++ x ∷ []) IndefinitePrimitive (primitive-stuck start o x r)
-refused-none LengthTooLarge o x r = too_large-none o x r
-refused-none Empty o x r = absurd r
-refused-none Short o x r = absurd r
-refused-none StrayEnd o x r = absurd r
-refused-none BadEnd o x r = absurd r
-refused-none MissingEnd o x r = absurd r
-refused-none TooDeep o x r = absurd r
-refused-none Overrun o x r = absurd r
-refused-none BadInside o x r = absurd r
+refused-none code o x r = stuck-begins-none (o ++ x ∷ []) (refused-stuck_from code o x r)
 
--- what wants more was not refused
-more-on : (s : Scan) → is_more s ≡ true → is_off s ≡ true → ⊥
-more-on Fresh e f = cc
-more-on (High c k ds) e f = cc
-more-on (Named c k n i) e f = cc
-more-on (Long c k n i m ds) e f = cc
-more-on (Ready h) e f = cc
-more-on (Stuck code) e f = cc
-more-on Over e f = cc
+-- nor does it begin with one, whatever follows
+pub refused-with_none : (code : FaultCode) (o : List ℕ) (x : ℕ) (more : List ℕ) → IsRefusedOctet code o x → BeginsWithNone ((o ++ x ∷ []) ++ more)
+refused-with_none code o x more r =
+    stuck-begins_with-none ((o ++ x ∷ []) ++ more) (stuck-longer start Fresh (o ++ x ∷ []) more (refused-stuck_from code o x r))
+
+past-stuck : (at : Origin) (code : FaultCode) (z : List ℕ) → is_more (scan_from at (Stuck code) z) ≡ false
+past-stuck at code [] = refl
+past-stuck at code (y ∷ z) = ap is_more (scan_from-over at z)
+
+stuck-no_more : (at : Origin) (o : List ℕ) → IsStuckFrom at Fresh o → is_more (scan at o) ≡ false
+stuck-no_more at o r =
+    let split : scan at o ≡ scan_from at (Stuck r.code) r.rest =
+    ap (scan at) r.octets ∙ (scan_from-append at Fresh r.front r.rest ∙ ap (λ (s : Scan). scan_from at s r.rest) r.stuck) in
+    ap is_more split ∙ past-stuck at r.code r.rest
 
 -- behind the front of a header it is refused with that code
 pub refused-stuck : (at : Origin) (code : FaultCode) (o : List ℕ) (x : ℕ) → IsFront o → IsRefusedOctet code o x → scan at (o ++ x ∷ []) ≡ Stuck code
@@ -167,7 +188,7 @@ refused-stuck at ReservedLength o x front r = reserved-stuck at o x r
 refused-stuck at IndefinitePrimitive o x front r = primitive-stuck at o x r
 refused-stuck at LengthTooLarge o x front r = ⊎_elim
     (λ (e : scan at (o ++ x ∷ []) ≡ Stuck LengthTooLarge). e)
-    (λ (off : is_off (scan at o) ≡ true). absurd (more-on (scan at o) (more-from_front at o front) off))
+    (λ (s : IsStuckFrom at Fresh o). absurd (let both : true ≡ false = sym (more-from_front at o front) ∙ stuck-no_more at o s in cc))
     (too_large-stuck at o x r)
 refused-stuck at Empty o x front r = absurd r
 refused-stuck at Short o x front r = absurd r
@@ -177,3 +198,43 @@ refused-stuck at MissingEnd o x front r = absurd r
 refused-stuck at TooDeep o x front r = absurd r
 refused-stuck at Overrun o x front r = absurd r
 refused-stuck at BadInside o x front r = absurd r
+
+stuck-or_over : (at : Origin) (s : Scan) (o : List ℕ) (x : ℕ) → IsStuckFrom at s o → scan_from at s (o ++ x ∷ []) ≡ Over
+stuck-or_over at s o x r =
+    let whole : o ++ x ∷ [] ≡ r.front ++ (r.rest ++ x ∷ []) = ap (λ z. z ++ x ∷ []) r.octets ∙ append_assoc r.front r.rest (x ∷ []) in
+    ap (scan_from at s) whole
+    ∙ (scan_from-append at s r.front (r.rest ++ x ∷ []) ∙ (ap (λ (t : Scan). scan_from at t (r.rest ++ x ∷ [])) r.stuck ∙ over r.rest))
+  where
+    over : (z : List ℕ) → scan_from at (Stuck r.code) (z ++ x ∷ []) ≡ Over
+    over [] = refl
+    over (y ∷ z) = scan_from-over at (z ++ x ∷ [])
+
+-- the code is that of the state, unless an octet before is refused
+refused-state : (code : FaultCode) (o : List ℕ) (x : ℕ) → IsRefusedOctet code o x
+    → (scan start (o ++ x ∷ []) ≡ Stuck code) ⊎ ((code ≡ LengthTooLarge) × (scan start (o ++ x ∷ []) ≡ Over))
+refused-state TagTooLong o x r = inl (too_long-stuck start o x r)
+refused-state ReservedLength o x r = inl (reserved-stuck start o x r)
+refused-state IndefinitePrimitive o x r = inl (primitive-stuck start o x r)
+refused-state LengthTooLarge o x r = ⊎_elim
+    (λ (e : scan start (o ++ x ∷ []) ≡ Stuck LengthTooLarge). inl e)
+    (λ (s : IsStuckFrom start Fresh o). inr (refl, stuck-or_over start Fresh o x s))
+    (too_large-stuck start o x r)
+refused-state Empty o x r = absurd r
+refused-state Short o x r = absurd r
+refused-state StrayEnd o x r = absurd r
+refused-state BadEnd o x r = absurd r
+refused-state MissingEnd o x r = absurd r
+refused-state TooDeep o x r = absurd r
+refused-state Overrun o x r = absurd r
+refused-state BadInside o x r = absurd r
+
+-- an octet is refused with one code
+pub one-refusal : (c d : FaultCode) (o : List ℕ) (x : ℕ) → IsRefusedOctet c o x → IsRefusedOctet d o x → c ≡ d
+one-refusal c d o x p q = both (refused-state c o x p) (refused-state d o x q)
+  where
+    both : (scan start (o ++ x ∷ []) ≡ Stuck c) ⊎ ((c ≡ LengthTooLarge) × (scan start (o ++ x ∷ []) ≡ Over))
+        → (scan start (o ++ x ∷ []) ≡ Stuck d) ⊎ ((d ≡ LengthTooLarge) × (scan start (o ++ x ∷ []) ≡ Over)) → c ≡ d
+    both (inl e) (inl f) = let same : Stuck c ≡ Stuck d = sym e ∙ f in cc
+    both (inl e) (inr f) = let same : Stuck c ≡ Over = sym e ∙ f.1 in absurd (cc)
+    both (inr e) (inl f) = let same : Over ≡ Stuck d = sym e.1 ∙ f in absurd (cc)
+    both (inr e) (inr f) = e.0 ∙ sym f.0

@@ -1,17 +1,18 @@
 -- What each octet makes of what a reader carries.
-use Rattle.std.proofs.Common.{◌≡◌, ◌≢◌, ℕ, suc, Bool, true, false, ◌+◌, ◌*◌, ◌^◌, ◌-◌, ◌<◌, ◌≤◌, ◌⊎◌, inl, inr, List, [], ◌∷◌, ◌++◌, length, refl, sym, arith, length-append, append_assoc, subst, lit<}
+use Rattle.std.proofs.Common.{◌≡◌, ◌≢◌, ℕ, suc, ◌+◌, ◌*◌, ◌^◌, ◌-◌, ◌<◌, ◌≤◌, ◌⊎◌, inl, inr, List, [], ◌∷◌, ◌++◌, length, refl, sym, arith, length-append, append_assoc, subst, lit<}
 use Rattle.std.proofs.lemmas.Bool.{cases_lt}
 use Rattle.std.proofs.lemmas.List.{length-map, map_push}
 use Rattle.std.proofs.lemmas.List.Elements.{All-nil, All-push}
 use Rattle.std.proofs.Math.Nat.{pow-suc, pow-le-pow_right, one-le-pow}
-use Rattle.tlv_head.specs.Header.{value_of, AllowsSize}
+use Rattle.tlv_head.specs.Header.{value_of}
 use Rattle.tlv_head.specs.Part.{CarriesNumber, CarriesIdentifier, CarriesLength, MakesHeader}
 use Rattle.tlv_head.specs.declared.header.Size.TheVariants.{Definite}
 use Rattle.tlv_head.specs.declared.reader.Identifier.{Identifier}
 use Rattle.tlv_head.proofs.Digits.{value_of-snoc, value_of-lt}
+use Rattle.tlv_head.proofs.Meaning.{allows_definite}
 
 -- the limit on a length so far, as an octet is added and one fewer is to follow
-pub small-step : (n x left : ℕ) → 1 ≤ left → n < 256 ^ (5 - left) → x < 256 → (x ≡ 0) ⊎ (left - 1 < 5) → n * 256 + x < 256 ^ (5 - (left - 1))
+small-step : (n x left : ℕ) → 1 ≤ left → n < 256 ^ (5 - left) → x < 256 → (x ≡ 0) ⊎ (left - 1 < 5) → n * 256 + x < 256 ^ (5 - (left - 1))
 small-step n x left some small below h = elim (cases_lt (left - 1) 5) [
   | inl k ↦
       let e : 5 - (left - 1) ≡ suc (5 - left) = omega arith in
@@ -79,10 +80,6 @@ more_length id n left x r octets h e below zero_or_few rest =
       value = rw (e, h.value) (sym (value_of-snoc 256 h.digits x));
       small = rw e (small-step n x left some h.small below zero_or_few);
     }
-
-pub allows_definite : (b : Bool) (n : ℕ) → AllowsSize b (Definite n)
-allows_definite true n = tt
-allows_definite false n = tt
 
 pub ends_length : (id : Identifier) (n left x r : ℕ) (octets : List ℕ) → CarriesLength id n left octets → r ≡ x → x < 256
     → (x ≡ 0) ⊎ (left - 1 < 5) → left - 1 ≡ 0 → MakesHeader id (Definite (n * 256 + r)) (octets ++ x ∷ [])

@@ -1,7 +1,7 @@
 -- What a reader carries can be made a header.
 use Rattle.std.proofs.Common.{◌≡◌, ◌≢◌, ℕ, suc, zero, Bool, true, false, ◌||◌, ◌+◌, ◌*◌, ◌-◌, ◌<◌, ◌≤◌, inl, inr, List, [], ◌∷◌, ◌++◌, length, Option, refl, ap, sym, ◌∙◌, arith, length-append, append_assoc, lit<}
 use Rattle.std.proofs.lemmas.Bool.{cases_eq}
-use Rattle.tlv_head.specs.Header.{Heading, IsHeading, holds, is_wrapper}
+use Rattle.tlv_head.specs.Header.{Heading, IsHeading, is_wrapper}
 use Rattle.tlv_head.specs.Progress.{Progress, Fits}
 use Rattle.tlv_head.specs.Refusal.{IsFront}
 use Rattle.tlv_head.specs.Push.{Completes, IsTooDeep, EndsPast}
@@ -12,7 +12,8 @@ use Rattle.tlv_head.specs.declared.reader.Identifier.{Identifier}
 use Rattle.tlv_head.specs.declared.reader.Part.{Part}
 use Rattle.tlv_head.specs.declared.reader.Part.TheVariants.{Start, Number, Length, Digits, Done}
 use Rattle.std.proofs.lemmas.List.{length-map}
-use Rattle.tlv_head.proofs.Steps.{ends_number, ends_length, more_length, allows_definite}
+use Rattle.tlv_head.proofs.Steps.{ends_number, ends_length, more_length}
+use Rattle.tlv_head.proofs.Meaning.{allows_definite}
 
 pub length-carried : (p : Part) (os : List ℕ) → Carries p os → length os ≤ 136
 length-carried Start os h = rw h (omega arith)
@@ -40,10 +41,10 @@ made at named id size os m = record {
   lengths = m.lengths;
 }
 
-pub made-valid : (at : ℕ) (named : Bool) (id : Identifier) (size : Size) (os : List ℕ) (m : MakesHeader id size os) → IsHeading (made at named id size os m)
+made-valid : (at : ℕ) (named : Bool) (id : Identifier) (size : Size) (os : List ℕ) (m : MakesHeader id size os) → IsHeading (made at named id size os m)
 made-valid at named id size os m = record { identifier = m.identified.identified; lengths = m.sized; allowed = m.allowed }
 
-pub made_completes : (r : Progress) (id : Identifier) (size : Size) (os : List ℕ) (x : ℕ) (m : MakesHeader id size (os ++ x ∷ [])) → os ≡ r.octets
+made_completes : (r : Progress) (id : Identifier) (size : Size) (os : List ℕ) (x : ℕ) (m : MakesHeader id size (os ++ x ∷ [])) → os ≡ r.octets
     → Completes r x (made r.offset r.named id size (os ++ x ∷ []) m)
 made_completes r id size os x m e = record {
   valid = made-valid r.offset r.named id size _ m;

@@ -1,5 +1,5 @@
 -- The fields of a header, and its octets.
-use Rattle.std.specs.Prelude.{ℕ, ◌≤◌, List, length, take, drop}
+use Rattle.std.specs.Prelude.{ℕ, ◌<◌, ◌≤◌, List, length, take, drop}
 use Rattle.tlv_head.specs.declared.header.HeaderFields.{HeaderFields}
 use Rattle.tlv_head.specs.Header.{Heading}
 
@@ -16,8 +16,8 @@ heading_with f octets = record {
   lengths = drop f.id_len octets;
 }
 
--- the identifier has at most ten of the octets, which are at most 137
+-- the identifier has at most ten of the octets, which are more, and at most 137
 pub record Suits (f : HeaderFields) (octets : List ℕ) : Type 0 where
-  pub identifier : f.id_len ≤ length octets
+  pub identifier : f.id_len < length octets
   pub few : f.id_len ≤ 10
   pub room : length octets ≤ 137

@@ -1,5 +1,5 @@
 -- What the fields of a `Header` say.
-use Rattle.std.specs.Prelude.{◌≤◌, take, drop, length}
+use Rattle.std.specs.Prelude.{◌<◌, ◌≤◌, take, drop, length}
 use Rattle.tlv_head.specs.Header.{Heading}
 use Rattle.tlv_head.specs.declared.header.Header.TheInside.{Inside}
 
@@ -15,6 +15,6 @@ heading_of h = record {
   lengths = drop h.id_len h.raw.items;
 }
 
--- the identifier has at most ten octets, and the header at most 137
+-- the identifier has at most ten octets, and the header more, at most 137
 abbrev pub IsWithinRoom : Inside → Type 0
-IsWithinRoom h = (h.id_len ≤ length h.raw.items) × (h.id_len ≤ 10) × (length h.raw.items ≤ 137)
+IsWithinRoom h = (h.id_len < length h.raw.items) × (h.id_len ≤ 10) × (length h.raw.items ≤ 137)

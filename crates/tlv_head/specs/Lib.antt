@@ -8,3 +8,4 @@ pub mod Progress
 pub mod Push
 pub mod Part
 pub mod Read
+pub mod Laws

@@ -1,13 +1,11 @@
 -- Reading a header, one octet at a time: what `HeadReader` answers.
-use Rattle.std.specs.Prelude.{◌≡◌, ◌≢◌, ◌⊎◌, ℕ, ◌+◌, ◌^◌, ◌<◌, ◌≤◌, Bool, true, false, List, [], ◌∷◌, ◌++◌, length, Option, Some, IfSome}
-use Rattle.tlv_head.specs.declared.header.Size.{Size}
-use Rattle.tlv_head.specs.declared.header.Size.TheVariants.{Definite, Indefinite}
+use Rattle.std.specs.Prelude.{◌≡◌, ◌≢◌, ◌⊎◌, ℕ, ◌+◌, ◌<◌, ◌≤◌, true, [], ◌∷◌, ◌++◌, length, Option, Some}
 use Rattle.tlv_head.specs.declared.fault.FaultCode.{FaultCode}
 use Rattle.tlv_head.specs.declared.fault.FaultCode.TheVariants.{TooDeep, Overrun}
 use Rattle.tlv_head.specs.declared.reader.Head.{Head}
 use Rattle.tlv_head.specs.declared.reader.Head.TheVariants.{More, Whole, Refused}
 use Rattle.tlv_head.specs.Header.{Heading, IsHeading, holds, octets_of}
-use Rattle.tlv_head.specs.Progress.{Progress, CanPush, Fits, with_octet}
+use Rattle.tlv_head.specs.Progress.{Progress, Fits, with_octet}
 use Rattle.tlv_head.specs.Refusal.{IsFront, IsRefusedOctet}
 
 -- the octet completes this header

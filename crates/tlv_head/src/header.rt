@@ -128,7 +128,6 @@ impl Header {
         ensures value { result.now ≡ octets_of self.now }
         ensures within { length result.now ≤ 137 }
     {
-        let _id_len = self.id_len;
         self.raw.as_slice()
     }
 

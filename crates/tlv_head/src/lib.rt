@@ -4,6 +4,7 @@
 
 mod fault;
 mod header;
+pub mod laws;
 mod reader;
 mod tag;
 #[cfg(test)]

@@ -164,6 +164,7 @@ pub fn read_header(offset: u64, named: bool, octets: &[u8]) -> Option<(HeaderFie
 {
     let mut part = Part::Start;
     for i in 0..octets.len() {
+        // It ends contents, or is refused where it stands: no element begins with it (8.1.5).
         if i == 0 && octets[i] == 0 {
             return None;
         }

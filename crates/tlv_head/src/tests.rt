@@ -81,6 +81,32 @@ fn headers_are_read(rt: HostRuntime) {
     }
 }
 
+/// A header is made of fields and octets, and gives the fields again.
+#[test]
+fn fields_make_headers(rt: HostRuntime) {
+    for shape in &SHAPES {
+        let Some((fields, count)) = read_header(OFFSET, true, shape.octets) else {
+            panic!(rt; "{:?} begins with no header", shape.octets);
+        };
+        assert_eq!(rt; count, shape.octets.len());
+        let header = Header::new(&fields, &shape.octets[..count]);
+        expect_shape(&rt, &header, shape);
+        let again = header.fields();
+        assert_eq!(rt; again.offset, OFFSET);
+        assert!(rt; again.named);
+        assert_eq!(rt; again.class, shape.class, "of {:?}", shape.octets);
+        assert_eq!(rt;
+            again.constructed,
+            shape.constructed,
+            "of {:?}",
+            shape.octets
+        );
+        assert_eq!(rt; again.number, shape.number, "of {:?}", shape.octets);
+        assert_eq!(rt; again.size, shape.size, "of {:?}", shape.octets);
+        assert_eq!(rt; again.id_len, shape.id_len, "of {:?}", shape.octets);
+    }
+}
+
 /// An octet before the last is taken, and makes no header.
 #[test]
 fn fronts_are_unfinished(rt: HostRuntime) {

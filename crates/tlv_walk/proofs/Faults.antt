@@ -5,7 +5,8 @@ use Rattle.tlv_head.specs.declared.fault.FaultCode.{FaultCode}
 use Rattle.tlv_head.specs.declared.fault.FaultCode.TheVariants.{Empty, Short, StrayEnd, BadEnd, MissingEnd, TagTooLong, ReservedLength, IndefinitePrimitive, LengthTooLarge, TooDeep, Overrun, BadInside}
 use Rattle.tlv_head.specs.Header.{Heading, announced, holds, is_wrapper, octets_of}
 use Rattle.tlv_head.specs.Refusal.{IsRefusedOctet}
-use Rattle.tlv_head.proofs.Scan.{Origin, Scan, Fresh, High, Named, Long, Ready, Stuck, Over, moved, step, scan, scan-moved, Reads, reads-step, reads-scan, more-from_front, front-bytes}
+use Rattle.tlv_head.proofs.Scan.{Origin, Scan, Fresh, High, Named, Long, Ready, Stuck, Over, moved, step, scan, scan-moved, more-from_front}
+use Rattle.tlv_head.proofs.Meaning.{Reads, reads-step, reads-scan, front-bytes}
 use Rattle.tlv_head.proofs.Headers.{IsHeadRefusal, Explains, explains}
 use Rattle.tlv_head.proofs.Refused.{refused-stuck}
 use Rattle.tlv_walk.specs.declared.framing.Framing.{Framing}

@@ -1,10 +1,10 @@
-use Rattle.std.proofs.Common.{◌≡◌, ◌+◌, ◌++◌, take, drop, sym, ◌∙◌, subst, refl, arith}
+use Rattle.std.proofs.Common.{◌+◌, take, drop, sym, ◌∙◌, subst, refl, arith}
 use Rattle.std.proofs.lemmas.List.{take-append-drop, take_all, take_more}
 use Rattle.tlv_head.specs.Refusal.{BeginsWith}
 use Rattle.tlv_head.specs.Fields.{heading_with}
 use Rattle.tlv_head.specs.Part.{MakesHeader}
-use Rattle.tlv_head.proofs.Front.{around, begun_none, begun_part, made_begins, made_suits, refused_input}
-use Rattle.tlv_head.proofs.Refused.{refused-none}
+use Rattle.tlv_head.proofs.Front.{around, begun_none, begun_part, made_begins, made_suits}
+use Rattle.tlv_head.proofs.Refused.{refused-with_none}
 use Rattle.tlv_head.proofs.reader.read_header.Goals as goal
 
 pub returns-in-Finished : goal.returns-in-Finished
@@ -22,11 +22,9 @@ returns-in-Finished c =
     })
 
 pub returns-in-Refused : goal.returns-in-Refused
-returns-in-Refused c =
-    refused_input c.args.octets.now (take c.loop-i.i c.args.octets.now) _ (drop (c.loop-i.i + 1) c.args.octets.now)
-    (begun_part _ _ c.loop-i.invariant.carries c.loop-i.invariant.unfinished)
-    (refused-none _ _ _ (c.in-Refused.ensures (take c.loop-i.i c.args.octets.now) c.loop-i.invariant.carries))
-    (around c.args.octets.now c.loop-i.i (omega arith))
+returns-in-Refused c = λ h rest v e.
+    refused-with_none _ _ _ (drop (c.loop-i.i + 1) c.args.octets.now) (c.in-Refused.ensures (take c.loop-i.i c.args.octets.now) c.loop-i.invariant.carries) h rest v
+    (sym (around c.args.octets.now c.loop-i.i (omega arith)) ∙ e)
 
 pub returns : goal.returns
 returns c = λ h rest v e.

@@ -1,4 +1,4 @@
-use Rattle.std.proofs.Common.{◌≡◌, ◌≤◌, ℕ, false, take, length}
+use Rattle.std.proofs.Common.{◌≡◌, false, take}
 use Rattle.tlv_head.specs.Part.{Carries, is_done}
 use Rattle.tlv_head.specs.declared.reader.Part.TheVariants.{Start}
 use Rattle.tlv_head.proofs.reader.read_header.Given as goal

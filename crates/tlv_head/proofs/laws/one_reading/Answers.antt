@@ -1,0 +1,5 @@
+use Rattle.tlv_head.proofs.OneReading.{one-reading}
+use Rattle.tlv_head.proofs.laws.one_reading.Goals as goal
+
+pub returns : goal.returns
+returns c = one-reading
