@@ -2,3 +2,4 @@ pub mod Texts
 pub mod Puts
 pub mod Shown
 pub mod Dumped
+pub mod Rows

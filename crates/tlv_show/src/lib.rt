@@ -7,6 +7,8 @@ mod element;
 mod follower;
 mod line;
 mod row;
+#[cfg(test)]
+mod tests;
 
 pub use dumping::{Outcome, dump};
 pub use follower::Dump;
