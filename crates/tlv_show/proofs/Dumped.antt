@@ -1,7 +1,7 @@
 -- What a dump makes of octets that come in pieces.
 use Rattle.std.proofs.Common.{◌≡◌, ◌-◌, ◌^◌, ◌<◌, ◌≤◌, ℕ, suc, Bool, true, false, List, [], ◌∷◌, ◌++◌, length, refl, ap, ◌∙◌, arith, append-nil}
 use Rattle.tlv_walk.specs.Follow.{Following, each_octet}
-use Rattle.tlv_show.specs.Contents.{Shown, one_shown, puts, shown}
+use Rattle.tlv_show.specs.Contents.{Shown, one_shown, puts, all_shown}
 use Rattle.tlv_show.specs.Dumped.{Dumping, further, one_dumped, one_padded, with_contents}
 use Rattle.tlv_show.specs.Lines.{padding_line}
 
@@ -23,12 +23,12 @@ behind_put : List ℕ → Following Dumping → Following Dumping
 behind_put put u = record { state = u.state; put = put ++ u.put; goes = u.goes }
 
 pub dumped_bytes : (s : Dumping) (xs : List ℕ) → s.offset ≤ 2 ^ 64 - 1
-    → each_octet one_dumped s xs ≡ with_contents (record s { offset = further s.offset (length xs) }) (shown s.contents xs)
+    → each_octet one_dumped s xs ≡ with_contents (record s { offset = further s.offset (length xs) }) (all_shown s.contents xs)
 unfolding behind_put
 dumped_bytes s [] h = ap (λ (o : ℕ). puts (record s { offset = o }) []) (further-none s.offset h)
 dumped_bytes s (x ∷ xs) h =
     ap (behind_put (one_shown s.contents x).put) (dumped_bytes (one_dumped s x).state xs (further-within s.offset 1))
-    ∙ ap (λ (o : ℕ). with_contents (record s { offset = o }) (shown s.contents (x ∷ xs))) (further-more s.offset (length xs) (length (x ∷ xs)) refl)
+    ∙ ap (λ (o : ℕ). with_contents (record s { offset = o }) (all_shown s.contents (x ∷ xs))) (further-more s.offset (length xs) (length (x ∷ xs)) refl)
 
 -- ---- padding
 

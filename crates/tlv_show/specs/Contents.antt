@@ -34,8 +34,8 @@ one_shown (Below level octets) x =
     if nat_lt (length octets) 15 then puts (Below level (octets ++ x ∷ [])) []
     else puts (Below level []) (row_line level (octets ++ x ∷ []))
 
-abbrev pub shown : Shown → List ℕ → Following Shown
-shown = each_octet one_shown
+abbrev pub all_shown : Shown → List ℕ → Following Shown
+all_shown = each_octet one_shown
 
 -- what is still held, where the primitive ends
 abbrev pub rest_of : Shown → List ℕ

@@ -4,7 +4,7 @@ ghost use Rattle.std.specs.Io.KnownBytes.{Appends};
 ghost use Rattle.tlv_walk.specs.Device.{failures_after};
 ghost use Rattle.tlv_walk.specs.Out.{lender_of, put_to};
 ghost use Rattle.tlv_walk.specs.Prefix.{HasPrefix};
-ghost use Rattle.tlv_show.specs.Contents.{Below, begun, nothing_shown, rest_of, shown, shown_end};
+ghost use Rattle.tlv_show.specs.Contents.{Below, begun, nothing_shown, rest_of, all_shown, shown_end};
 ghost use Rattle.tlv_show.specs.ContentsFields.{IsWithinRoom, shown_of};
 ghost use Rattle.tlv_show.specs.Lines.{row_line};
 
@@ -80,9 +80,9 @@ impl Contents {
     /// Its contents go on. Rows are put that are full.
     pub fn bytes<D: Drain>(&mut self, octets: &[u8], out: &mut Out<'_, D>) -> Result<(), WriteFault>
         ensures same_reference { (lender_of out.new).ghost_name ≡ (lender_of out.old).ghost_name }
-        ensures state { OnOk result (self.new ≡ (shown self.old octets.now).state) }
-        ensures ok { OnOk result (Appends (put_to D.taken out.old) (put_to D.taken out.new) (shown self.old octets.now).put) }
-        ensures err { OnErr result (HasPrefix (put_to D.taken out.old) (D.taken (lender_of out.new).now) (shown self.old octets.now).put) }
+        ensures state { OnOk result (self.new ≡ (all_shown self.old octets.now).state) }
+        ensures ok { OnOk result (Appends (put_to D.taken out.old) (put_to D.taken out.new) (all_shown self.old octets.now).put) }
+        ensures err { OnErr result (HasPrefix (put_to D.taken out.old) (D.taken (lender_of out.new).now) (all_shown self.old octets.now).put) }
         ensures failed { D.failures (lender_of out.new).now ≡ failures_after result (D.failures (lender_of out.old).now) }
     {
         if self.in_rows {
@@ -153,10 +153,10 @@ fn put_full_rows<'a, D: Drain>(
     out: &mut Out<'_, D>,
 ) -> Result<&'a [u8], WriteFault>
     ensures same_reference { (lender_of out.new).ghost_name ≡ (lender_of out.old).ghost_name }
-    ensures state { IfOk result (λ rest. (shown (Below level []) octets.now).state ≡ Below level rest.now) }
+    ensures state { IfOk result (λ rest. (all_shown (Below level []) octets.now).state ≡ Below level rest.now) }
     ensures few { IfOk result (λ rest. length rest.now < 16) }
-    ensures ok { OnOk result (Appends (put_to D.taken out.old) (put_to D.taken out.new) (shown (Below level []) octets.now).put) }
-    ensures err { OnErr result (HasPrefix (put_to D.taken out.old) (D.taken (lender_of out.new).now) (shown (Below level []) octets.now).put) }
+    ensures ok { OnOk result (Appends (put_to D.taken out.old) (put_to D.taken out.new) (all_shown (Below level []) octets.now).put) }
+    ensures err { OnErr result (HasPrefix (put_to D.taken out.old) (D.taken (lender_of out.new).now) (all_shown (Below level []) octets.now).put) }
     ensures failed { D.failures (lender_of out.new).now ≡ failures_after result (D.failures (lender_of out.old).now) }
 {
     let mut rest = octets;
@@ -180,9 +180,9 @@ fn put_rows<D: Drain>(
     requires { length row.old < 16 }
     ensures same_reference { (lender_of out.new).ghost_name ≡ (lender_of out.old).ghost_name }
     ensures few { length row.new < 16 }
-    ensures state { OnOk result (Below level row.new ≡ (shown (Below level row.old) octets.now).state) }
-    ensures ok { OnOk result (Appends (put_to D.taken out.old) (put_to D.taken out.new) (shown (Below level row.old) octets.now).put) }
-    ensures err { OnErr result (HasPrefix (put_to D.taken out.old) (D.taken (lender_of out.new).now) (shown (Below level row.old) octets.now).put) }
+    ensures state { OnOk result (Below level row.new ≡ (all_shown (Below level row.old) octets.now).state) }
+    ensures ok { OnOk result (Appends (put_to D.taken out.old) (put_to D.taken out.new) (all_shown (Below level row.old) octets.now).put) }
+    ensures err { OnErr result (HasPrefix (put_to D.taken out.old) (D.taken (lender_of out.new).now) (all_shown (Below level row.old) octets.now).put) }
     ensures failed { D.failures (lender_of out.new).now ≡ failures_after result (D.failures (lender_of out.old).now) }
 {
     let missing = row.missing();

@@ -5,11 +5,11 @@ ghost use Rattle.tlv_show.specs.Texts.{pairs, right, spaces};
 use itoa::Buffer;
 use std::marker::Model;
 
-/// Room for the longest line: an element's, at level 255, with 16 octets of contents.
+/// Room for the longest line, which is an element's at level 255 with 16 octets of contents, and more.
 const CAPACITY: usize = 768;
 
-/// As many spaces as a line ever has in a row, and more.
-static SPACES: [u8; 576] = [b' '; 576];
+/// The most spaces that a line has in a row: before the octets of a row, at level 255.
+static SPACES: [u8; 528] = [b' '; 528];
 
 /// A line of text that is being made. It is used again for the next line, so its room is not filled
 /// anew each time.
@@ -65,7 +65,7 @@ impl Line {
     /// Adds spaces.
     pub fn spaces(&mut self, count: usize)
         requires room { length self.old + count ≤ 768 }
-        requires few { count ≤ 576 }
+        requires few { count ≤ 528 }
         ensures text { self.new ≡ self.old ++ spaces count }
         ensures grows { length self.new ≡ length self.old + count }
     {

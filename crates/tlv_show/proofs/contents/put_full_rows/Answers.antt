@@ -2,7 +2,7 @@ use Rattle.std.proofs.Common.{◌≡◌, ◌+◌, ◌<◌, ◌++◌, ℕ, List, 
 use Rattle.std.proofs.lemmas.Result.{err_from_is_err_and}
 use Rattle.tlv_walk.specs.Follow.{Following}
 use Rattle.tlv_walk.proofs.Known.{appends_trans}
-use Rattle.tlv_show.specs.Contents.{Below, Shown, shown}
+use Rattle.tlv_show.specs.Contents.{Below, Shown, all_shown}
 use Rattle.tlv_show.specs.Lines.{row_line}
 use Rattle.tlv_show.proofs.Shown.{row_put, row_state, below_held}
 use Rattle.tlv_show.proofs.Puts.{appends_same, halves, prefix_first, prefix_second}
@@ -18,7 +18,7 @@ loop-rest-preserved g c =
     let cut = halves 16 rest row behind c.split_at.ensures.front c.split_at.ensures.back in
     let some : 0 < length row = omega (arith, c.split_at.ensures.front_len) in
     let full : 0 + length row ≡ 16 = omega (arith, c.split_at.ensures.front_len) in
-    let after = (shown (Below level []) behind).put in
+    let after = (all_shown (Below level []) behind).put in
     record {
       same_reference = c.put_row.ensures.same_reference ∙ before.same_reference;
       failures = c.in_ok-put_row.ensures.failed ∙ before.failures;
@@ -55,7 +55,7 @@ returns-in_err-put_row-clause-err g c =
     let full : 0 + length row ≡ 16 = omega (arith, c.split_at.ensures.front_len) in
     let cut = halves 16 rest row behind c.split_at.ensures.front c.split_at.ensures.back in
     let line = row_line level row in
-    let after = (shown (Below level []) behind).put in
+    let after = (all_shown (Below level []) behind).put in
     rw p.1 (prefix_second put.0 (line ++ after) _
     (put.2 ∙ ap (λ (l : List ℕ). put.0 ++ l) (row_put level [] row behind rest cut some full))
     _ _ _ put.1

@@ -1,7 +1,7 @@
 use Rattle.std.proofs.Common.{◌≡◌, ◌+◌, ◌<◌, ◌++◌, ℕ, List, [], length, ap, sym, ◌∙◌, arith}
 use Rattle.std.proofs.lemmas.Result.{err_from_is_err_and}
 use Rattle.tlv_walk.specs.Follow.{Following}
-use Rattle.tlv_show.specs.Contents.{Below, Shown, shown}
+use Rattle.tlv_show.specs.Contents.{Below, Shown, all_shown}
 use Rattle.tlv_show.specs.Lines.{row_line}
 use Rattle.tlv_show.proofs.Shown.{row_put, row_state, below_held}
 use Rattle.tlv_show.proofs.Puts.{appends_both, appends_nothing, halves, prefix_first, prefix_second}
@@ -9,10 +9,10 @@ use Rattle.tlv_show.proofs.contents.put_rows.Goals as goal
 
 -- a row of the octets held and the front of the octets, where `split` cuts them
 row_is : (level : ℕ) (held octets front behind row : List ℕ) → row ≡ held ++ front → octets ≡ front ++ behind → length held < 16 → length held + length front ≡ 16
-    → (shown (Below level held) octets).put ≡ row_line level row ++ (shown (Below level []) behind).put
+    → (all_shown (Below level held) octets).put ≡ row_line level row ++ (all_shown (Below level []) behind).put
 row_is level held octets front behind row e cut h full =
     row_put level held front behind octets cut (omega (arith, h, full)) full
-    ∙ ap (λ (r : List ℕ). row_line level r ++ (shown (Below level []) behind).put) (sym e)
+    ∙ ap (λ (r : List ℕ). row_line level r ++ (all_shown (Below level []) behind).put) (sym e)
 
 pub returns-then-octets-missing-clause-state : goal.returns-then-octets-missing-clause-state
 returns-then-octets-missing-clause-state g c =

@@ -1,7 +1,7 @@
 use Rattle.std.proofs.Common.{◌-◌, ◌^◌, ◌≤◌, ℕ, ap, sym, ◌∙◌, arith}
 use Rattle.std.proofs.lemmas.Result.{on_err_weaker, on_ok_weaker}
 use Rattle.tlv_walk.specs.Follow.{Following, each_octet}
-use Rattle.tlv_show.specs.Contents.{Shown, shown}
+use Rattle.tlv_show.specs.Contents.{Shown, all_shown}
 use Rattle.tlv_show.specs.Dumped.{Dumping, one_dumped}
 use Rattle.tlv_show.proofs.Dumped.{dumped_bytes}
 use Rattle.tlv_show.proofs.Puts.{appends_same, prefix_same}
@@ -15,7 +15,7 @@ returns-clause-state g c =
     let is = ap (λ (s : Dumping). each_octet one_dumped s octets) (sym c.self.view_is) ∙ dumped_bytes _ octets within in
     on_ok_weaker c.bytes.result
     (λ e. ap (λ (k : Shown). record { level = s.level; offset = c.saturating_add-self-inside.result; in_padding = s.in_padding; contents = k }) e
-    ∙ ap (λ (o : ℕ). record { level = s.level; offset = o; in_padding = s.in_padding; contents = (shown s.contents octets).state }) c.saturating_add-self-inside.ensures
+    ∙ ap (λ (o : ℕ). record { level = s.level; offset = o; in_padding = s.in_padding; contents = (all_shown s.contents octets).state }) c.saturating_add-self-inside.ensures
     ∙ sym (ap (λ (t : Following Dumping). t.state) is))
     c.bytes.ensures.state
 
