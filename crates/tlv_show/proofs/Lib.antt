@@ -1,0 +1,5 @@
+pub mod Texts
+pub mod Puts
+pub mod Shown
+pub mod Dumped
+pub mod Rows

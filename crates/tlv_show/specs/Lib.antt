@@ -1,0 +1,5 @@
+pub mod Texts
+pub mod Lines
+pub mod Contents
+pub mod ContentsFields
+pub mod Dumped

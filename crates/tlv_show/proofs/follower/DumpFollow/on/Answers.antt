@@ -1,0 +1,19 @@
+use Rattle.std.proofs.Common.{sym, refl}
+use Rattle.tlv_walk.proofs.Followed.{each_octet-goes_on}
+use Rattle.tlv_show.specs.Dumped.{one_dumped, one_padded}
+use Rattle.tlv_show.proofs.follower.DumpFollow.on.Goals as goal
+
+pub returns-in_ok-close-in-Leave-clause-ok : goal.returns-in_ok-close-in-Leave-clause-ok
+returns-in_ok-close-in-Leave-clause-ok g c =
+    let a = c.in_ok-close-in-Leave.ensures in
+    rw c.in-Leave.is (a.state, refl, a.ok)
+
+pub returns-in_ok-bytes-in-Bytes-clause-ok : goal.returns-in_ok-bytes-in-Bytes-clause-ok
+returns-in_ok-bytes-in-Bytes-clause-ok g c =
+    let a = c.in_ok-bytes-in-Bytes.ensures in
+    rw c.in-Bytes.is (a.state, sym (each_octet-goes_on one_dumped c.args.self.now c.in-Bytes.octets.now), a.ok)
+
+pub returns-in_ok-pad-in-Pad-clause-ok : goal.returns-in_ok-pad-in-Pad-clause-ok
+returns-in_ok-pad-in-Pad-clause-ok g c =
+    let a = c.in_ok-pad-in-Pad.ensures in
+    rw c.in-Pad.is (a.state, sym (each_octet-goes_on one_padded c.args.self.now c.in-Pad.octets.now), a.ok)

@@ -1,0 +1,136 @@
+//! Dumps of events, told one by one.
+use crate::Dump;
+use std::process::Abort;
+use std::test::Fail;
+use tlv_head::{Header, read_header};
+use tlv_walk::{Drain, Event, Follow, MemDrain, Out, WriteFault};
+
+/// The header with these octets, at this offset.
+fn header(offset: u64, octets: &[u8]) -> Result<Header, Fail> {
+    match read_header(offset, false, octets) {
+        Some((fields, len)) if len == octets.len() => Ok(Header::new(&fields, octets)),
+        _ => Err(Fail::from("no header")),
+    }
+}
+
+/// Tells the events to a new dump.
+fn tell<D: Drain>(events: &[Event<'_>], drain: &mut D) -> Result<(), WriteFault> {
+    let mut out = Out::new(drain);
+    let mut follower = Dump::new();
+    for event in events {
+        follower.on(event, &mut out)?;
+    }
+    out.flush()
+}
+
+/// Expects the events to make a dump of this text.
+fn expect_text(rt: &impl Abort, events: &[Event<'_>], text: &[u8]) {
+    let mut room = [0; 400];
+    let mut drain = MemDrain::new(&mut room, 7);
+    assert_eq!(rt; tell(events, &mut drain), Ok(()));
+    assert_eq!(rt; drain.written(), text);
+}
+
+#[test]
+fn a_constructed_string(rt: HostRuntime) -> Result<(), Fail> {
+    let events = [
+        Event::Open(header(0, &[0x3a, 9])?),
+        Event::Begin(header(2, &[4, 3])?),
+        Event::Bytes(b"J"),
+        Event::Bytes(b"on"),
+        Event::End,
+        Event::Begin(header(7, &[4, 2])?),
+        Event::Bytes(b"es"),
+        Event::End,
+        Event::Close(None),
+    ];
+    let text = b"       0      9: VisibleString {
+       2      3:   OCTET STRING 4a 6f 6e
+       7      2:   OCTET STRING 65 73
+                 }
+";
+    expect_text(&rt, &events, text);
+    Ok(())
+}
+
+#[test]
+fn the_indefinite_form(rt: HostRuntime) -> Result<(), Fail> {
+    let events = [
+        Event::Open(header(0, &[0x3a, 0x80])?),
+        Event::Begin(header(2, &[4, 3])?),
+        Event::Bytes(b"Jon"),
+        Event::End,
+        Event::Close(Some(7)),
+    ];
+    let text = b"       0  indef: VisibleString {
+       2      3:   OCTET STRING 4a 6f 6e
+       7    end: }
+";
+    expect_text(&rt, &events, text);
+    Ok(())
+}
+
+const CONTENTS: [u8; 17] = [0, 0x80, 0, 0, 0, 0, 0, 0, 0, 0, 0, 0, 0, 0, 0, 0, 0];
+
+const ROWS: &[u8] = b"       0     17: INTEGER
+                   00 80 00 00 00 00 00 00 00 00 00 00 00 00 00 00
+                   00
+";
+
+#[test]
+fn rows_from_one_piece(rt: HostRuntime) -> Result<(), Fail> {
+    let events = [
+        Event::Begin(header(0, &[2, 17])?),
+        Event::Bytes(&CONTENTS),
+        Event::End,
+    ];
+    expect_text(&rt, &events, ROWS);
+    Ok(())
+}
+
+#[test]
+fn rows_from_pieces(rt: HostRuntime) -> Result<(), Fail> {
+    for cut in 0..=17 {
+        let (front, behind) = CONTENTS.split_at(cut);
+        let events = [
+            Event::Begin(header(0, &[2, 17])?),
+            Event::Bytes(front),
+            Event::Bytes(behind),
+            Event::End,
+        ];
+        expect_text(&rt, &events, ROWS);
+    }
+    Ok(())
+}
+
+#[test]
+fn a_wrapper_and_padding(rt: HostRuntime) -> Result<(), Fail> {
+    let events = [
+        Event::Pad(&[0]),
+        Event::Pad(&[0, 0]),
+        Event::Enter(header(3, &[3, 3])?),
+        Event::Unused,
+        Event::Begin(header(6, &[5, 0])?),
+        Event::End,
+        Event::Leave,
+        Event::Pad(&[0]),
+    ];
+    let text = b"       0    pad: padding
+       3      3: BIT STRING wraps {
+       6      0:   NULL
+                 }
+       8    pad: padding
+";
+    expect_text(&rt, &events, text);
+    Ok(())
+}
+
+#[test]
+fn a_drain_without_room(rt: HostRuntime) -> Result<(), Fail> {
+    let events = [Event::Begin(header(0, &[5, 0])?), Event::End];
+    let mut room = [0; 10];
+    let mut drain = MemDrain::new(&mut room, 400);
+    assert_eq!(rt; tell(&events, &mut drain), Err(WriteFault));
+    assert_eq!(rt; drain.written(), b"       0  ".as_slice());
+    Ok(())
+}
