@@ -3,3 +3,4 @@ pub mod Puts
 pub mod Shown
 pub mod Dumped
 pub mod Rows
+pub mod Dumps

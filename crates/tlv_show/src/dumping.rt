@@ -1,6 +1,7 @@
 //! `dump`, over a source and a drain.
 ghost use Rattle.std.specs.Prelude.{◌≡◌, IsErrOf, OnOk};
 ghost use Rattle.tlv_walk.specs.Device.{counted};
+ghost use Rattle.tlv_show.specs.Dumps.{Dumps};
 
 use crate::Dump;
 use tlv_walk::{DeviceFault, Drain, Ending, Framing, Source, drive};
@@ -25,6 +26,7 @@ pub fn dump<S: Source, D: Drain>(
     drain: &mut D,
     framing: &Framing,
 ) -> Result<Outcome, DeviceFault>
+    ensures dumps { Dumps framing.now (D.taken drain.old) (D.taken drain.new) (S.left source.old) (S.left source.new) (S.reads source.old) (S.reads source.new) (S.last source.new) result }
     ensures ok { OnOk result ((S.failures source.new ≡ S.failures source.old) × (D.failures drain.new ≡ D.failures drain.old)) }
     ensures read { IsErrOf result DeviceFault.ReadFailed → (S.failures source.new ≡ counted (S.failures source.old)) × (D.failures drain.new ≡ D.failures drain.old) }
     ensures write { IsErrOf result DeviceFault.WriteFailed → (S.failures source.new ≡ S.failures source.old) × (D.failures drain.new ≡ counted (D.failures drain.old)) }

@@ -1,0 +1,49 @@
+-- What a dump over all that a source gives comes to.
+use Rattle.std.specs.Prelude.{◌≡◌, ◌⊎◌, ℕ, ◌+◌, ◌^◌, ◌<◌, ◌≤◌, List, ◌++◌, length, take, Option, Result, Ok, Err}
+use Rattle.std.specs.Io.KnownBytes.{Appends, Consumes}
+use Rattle.tlv_walk.specs.declared.framing.Framing.{Framing}
+use Rattle.tlv_walk.specs.declared.run.DeviceFault.{DeviceFault}
+use Rattle.tlv_walk.specs.declared.run.DeviceFault.TheVariants.{ReadFailed, WriteFailed, InputTooLong}
+use Rattle.tlv_walk.specs.Device.{Last, gave, failed}
+use Rattle.tlv_walk.specs.Drives.{GaveLast}
+use Rattle.tlv_walk.specs.Ending.{IsEnding}
+use Rattle.tlv_walk.specs.Events.{events}
+use Rattle.tlv_walk.specs.Follow.{followed}
+use Rattle.tlv_walk.specs.Forest.{Forest, spell}
+use Rattle.tlv_walk.specs.Prefix.{HasPrefix}
+use Rattle.tlv_walk.specs.Reading.{IsReading}
+use Rattle.tlv_walk.specs.Turns.{IsFinalEnding}
+use Rattle.tlv_walk.specs.Wrappers.{unused_of}
+use Rattle.tlv_show.specs.declared.dumping.Outcome.{Outcome}
+use Rattle.tlv_show.specs.Dumped.{dumped, fresh}
+
+-- the text of a dump: what is put of the events of a reading
+abbrev pub dump_text : Forest → List ℕ
+dump_text f = (followed dumped fresh (events f)).put
+
+-- of the octets given no more are dumped than the limit
+abbrev pub dumped_octets : List ℕ → List ℕ
+dumped_octets given = take (2 ^ 40) given
+
+-- what a dump came to, by its answer
+abbrev pub DumpComesTo : Framing → Option (List ℕ) → Option (List ℕ) → List ℕ → Last → Result Outcome DeviceFault → Type 0
+DumpComesTo framing old new given last (Ok outcome) =
+    ((f : Forest) → IsReading framing (dumped_octets given) f → Appends old new (dump_text f) × (outcome.unused ≡ unused_of framing.inside f))
+    × IsEnding framing (dumped_octets given) outcome.ending
+    × (IsFinalEnding outcome.ending ⊎ (last ≡ gave 0))
+DumpComesTo framing old new given last (Err ReadFailed) = (last ≡ failed) × ((f : Forest) → IsReading framing given f → Appends old new (dump_text f))
+DumpComesTo framing old new given last (Err WriteFailed) = (f : Forest) → IsReading framing (dumped_octets given) f → HasPrefix old new (dump_text f)
+DumpComesTo framing old new given last (Err InputTooLong) =
+    (2 ^ 40 < length given) × ((f : Forest) → IsReading framing (dumped_octets given) f → (spell f ≡ dumped_octets given) × Appends old new (dump_text f))
+
+-- the octets that a source gave, and what the dump of them came to. Those before the last read hold no fault, and
+-- each read before the last gave one octet or more
+pub record Dumps (framing : Framing) (old new left left' : Option (List ℕ)) (reads reads' : ℕ) (last : Last) (result : Result Outcome DeviceFault) : Type 0 where
+  pub before : List ℕ
+  pub rest : List ℕ
+  pub consumed : Consumes left left' (before ++ rest)
+  pub gave_last : GaveLast last rest
+  pub many : reads' ≤ reads + length before + 1
+  pub within : length before ≤ 2 ^ 40
+  pub read : (f : Forest) → IsReading framing before f → spell f ≡ before
+  pub comes : DumpComesTo framing old new (before ++ rest) last result
