@@ -3,3 +3,4 @@ pub mod Lines
 pub mod Contents
 pub mod ContentsFields
 pub mod Dumped
+pub mod Laws
