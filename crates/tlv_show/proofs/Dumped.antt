@@ -13,7 +13,7 @@ further-more o n m e = omega (arith, e)
 further-none : (o : ℕ) → o ≤ 2 ^ 64 - 1 → o ≡ further o 0
 further-none o h = omega (arith, h)
 
-further-within : (o n : ℕ) → further o n ≤ 2 ^ 64 - 1
+pub further-within : (o n : ℕ) → further o n ≤ 2 ^ 64 - 1
 further-within o n = omega arith
 
 -- ---- contents

@@ -73,7 +73,7 @@ below_filled level held (x ∷ y ∷ xs) s h =
     ∙ ap (λ (o : List ℕ). puts (Below level []) (row_line level o)) (append_assoc held (x ∷ []) (y ∷ xs))
 
 -- octets that fill one, and others
-row_and : (level : ℕ) (held front behind : List ℕ) → 0 < length front → length held + length front ≡ 16
+pub row_and : (level : ℕ) (held front behind : List ℕ) → 0 < length front → length held + length front ≡ 16
     → all_shown (Below level held) (front ++ behind) ≡ and_then (puts (Below level []) (row_line level (held ++ front))) (λ u. all_shown u behind)
 row_and level held front behind s h =
     each_octet-joins one_shown (Below level held) front behind

@@ -4,3 +4,4 @@ pub mod Contents
 pub mod ContentsFields
 pub mod Dumped
 pub mod Dumps
+pub mod Laws

@@ -5,6 +5,7 @@ mod contents;
 mod dumping;
 mod element;
 mod follower;
+pub mod laws;
 mod line;
 mod row;
 #[cfg(test)]

@@ -3,7 +3,9 @@ use Rattle.std.specs.Prelude.{◌≡◌, ℕ, List, [], ◌++◌, Option, Some, 
 use Rattle.tlv_head.specs.declared.fault.Fault.{Fault}
 use Rattle.tlv_head.specs.Fault.{code_of, text_of}
 use Rattle.tlv_show.specs.declared.dumping.Outcome.{Outcome}
-use Rattle.tlv_walk.specs.Device.{counted}
+use Rattle.tlv_show.specs.Dumps.{Dumps}
+use Rattle.tlv_walk.specs.declared.framing.Framing.{Framing}
+use Rattle.tlv_walk.specs.Device.{Last, counted}
 use Rattle.tlv_walk.specs.declared.ending.Ending.{Ending}
 use Rattle.tlv_walk.specs.declared.ending.Ending.TheVariants as ending
 use Rattle.tlv_walk.specs.declared.run.DeviceFault.{DeviceFault}
@@ -51,9 +53,20 @@ Failed reads reads' writes writes' (Err ReadFailed) = (reads' ≡ counted reads)
 Failed reads reads' writes writes' (Err WriteFailed) = (reads' ≡ reads) × (writes' ≡ counted writes)
 Failed reads reads' writes writes' (Err InputTooLong) = (reads' ≡ reads) × (writes' ≡ writes)
 
+-- what is seen of a source and a drain: the octets still to give and those taken, where they tell them; reads, what
+-- the last gave, and failures
+pub record Devices : Type 0 where
+  pub left : Option (List ℕ)
+  pub taken : Option (List ℕ)
+  pub reads : ℕ
+  pub last : Last
+  pub failed_reads : ℕ
+  pub failed_writes : ℕ
+
 -- what a run reports, of a dump that came to something
-pub record Reports (reads reads' writes writes' status : ℕ) (message : List ℕ) : Type 0 where
+pub record Reports (framing : Framing) (old new : Devices) (status : ℕ) (message : List ℕ) : Type 0 where
   pub outcome : Result Outcome DeviceFault
-  pub failed : Failed reads reads' writes writes' outcome
+  pub dumps : Dumps framing old.taken new.taken old.left new.left old.reads new.reads new.last outcome
+  pub failed : Failed old.failed_reads new.failed_reads old.failed_writes new.failed_writes outcome
   pub status_is : status ≡ status_of outcome
   pub message_is : message ≡ message_of outcome
