@@ -19,12 +19,11 @@ further-within o n = omega arith
 -- ---- contents
 
 -- what the contents come to, where what went before put this
-behind_put : List ℕ → Following Dumping → Following Dumping
+abbrev pub behind_put : List ℕ → Following Dumping → Following Dumping
 behind_put put u = record { state = u.state; put = put ++ u.put; goes = u.goes }
 
 pub dumped_bytes : (s : Dumping) (xs : List ℕ) → s.offset ≤ 2 ^ 64 - 1
     → each_octet one_dumped s xs ≡ with_contents (record s { offset = further s.offset (length xs) }) (all_shown s.contents xs)
-unfolding behind_put
 dumped_bytes s [] h = ap (λ (o : ℕ). puts (record s { offset = o }) []) (further-none s.offset h)
 dumped_bytes s (x ∷ xs) h =
     ap (behind_put (one_shown s.contents x).put) (dumped_bytes (one_dumped s x).state xs (further-within s.offset 1))
@@ -50,7 +49,6 @@ padded_more level offset false contents xs h e = absurd (cc)
 pub padded_first : (level offset : ℕ) (in_padding : Bool) (contents : Shown) (xs : List ℕ) → offset ≤ 2 ^ 64 - 1 → 0 < length xs → in_padding ≡ false
     → each_octet one_padded (record { level = level; offset = offset; in_padding = in_padding; contents = contents }) xs
     ≡ puts (record { level = level; offset = further offset (length xs); in_padding = true; contents = contents }) (padding_line offset)
-unfolding behind_put
 padded_first level offset true contents xs h some e = absurd (cc)
 padded_first level offset false contents [] h some e = absurd (omega (arith, some))
 padded_first level offset false contents (x ∷ xs) h some e =

@@ -7,12 +7,12 @@ use Rattle.tlv_head.specs.Header.{Heading, announced, octets_of}
 use Rattle.tlv_walk.specs.Events.{Begin, Bytes, End}
 use Rattle.tlv_walk.specs.Follow.{Following, followed, if_on}
 use Rattle.tlv_walk.proofs.Followed.{and_then-alike}
-use Rattle.tlv_show.specs.Contents.{Below, Beside, Shown, all_shown, begun, puts, rest_of}
+use Rattle.tlv_show.specs.Contents.{Below, Beside, Shown, all_shown, begun, nothing_shown, puts, rest_of}
 use Rattle.tlv_show.specs.Dumped.{Dumping, dumped, entered, further, with_contents}
 use Rattle.tlv_show.specs.Laws.{AreRows, PrimitivesAreShown, below, beside, full, last, none}
 use Rattle.tlv_show.specs.Lines.{element_front, row_line}
 use Rattle.tlv_show.specs.Texts.{ended}
-use Rattle.tlv_show.proofs.Dumped.{dumped_bytes, further-within}
+use Rattle.tlv_show.proofs.Dumped.{behind_put, dumped_bytes, further-within}
 use Rattle.tlv_show.proofs.Shown.{below_held, beside_held, row_and}
 
 below_or_not : (a b : ℕ) → (a < b) ⊎ (b ≤ a)
@@ -75,15 +75,17 @@ tail level (x ∷ xs) h = record { rows = (x ∷ xs) ∷ []; cut = last (x ∷ x
 
 -- ---- the events of a primitive
 
-primitive : (s : Dumping) (h : Heading) (c : List ℕ) (x y : Shown) (a b : List ℕ) → begun s.level h ≡ puts x a → all_shown x c ≡ puts y b
-    → (followed dumped s (Begin h ∷ Bytes c ∷ End ∷ [])).put ≡ a ++ (b ++ rest_of y)
+-- it is shown, and the dump stands as before but for the offset; padding has ended
+pub primitive : (s : Dumping) (h : Heading) (c : List ℕ) (x y : Shown) (a b : List ℕ) → begun s.level h ≡ puts x a → all_shown x c ≡ puts y b
+    → followed dumped s (Begin h ∷ Bytes c ∷ End ∷ [])
+    ≡ puts (record (entered s h) { offset = further (entered s h).offset (length c); contents = nothing_shown }) (a ++ (b ++ rest_of y))
 primitive s h c x y a b e f =
     let u : Dumping = record (entered s h) { contents = x } in
     let v : Dumping = record u { offset = further u.offset (length c) } in
-    ap (λ (t : Following Shown). (if_on t.goes (with_contents (entered s h) t) (λ w. followed dumped w (Bytes c ∷ End ∷ []))).put) e
-    ∙ ap (λ (t : Following Dumping). a ++ (if_on t.goes t (λ w. followed dumped w (End ∷ []))).put) (dumped_bytes u c (further-within h.offset (length (octets_of h))))
-    ∙ ap (λ (t : Following Shown). a ++ (if_on t.goes (with_contents v t) (λ w. followed dumped w (End ∷ []))).put) f
-    ∙ ap (λ (l : List ℕ). a ++ (b ++ l)) (append-nil (rest_of y))
+    ap (λ (t : Following Shown). if_on t.goes (with_contents (entered s h) t) (λ w. followed dumped w (Bytes c ∷ End ∷ []))) e
+    ∙ ap (λ (t : Following Dumping). behind_put a (if_on t.goes t (λ w. followed dumped w (End ∷ [])))) (dumped_bytes u c (further-within h.offset (length (octets_of h))))
+    ∙ ap (λ (t : Following Shown). behind_put a (if_on t.goes (with_contents v t) (λ w. followed dumped w (End ∷ [])))) f
+    ∙ ap (λ (l : List ℕ). puts (record v { contents = nothing_shown }) (a ++ (b ++ l))) (append-nil (rest_of y))
 
 begun_as : (level : ℕ) (h : Heading) (t : Bool) → nat_lt 16 (announced h.size) ≡ t
     → begun level h ≡ (if t then puts (Below level []) (ended (element_front level h)) else puts (Beside (element_front level h) []) [])
@@ -104,7 +106,7 @@ primitives_shown s h c e = elim (below_or_not 16 (length c)) [
       let f = front (length c) s.level c (omega arith) in
       let t = tail s.level f.left f.few in
       let test : 16 < announced h.size = omega (arith, e, many) in
-      let is = primitive s h c (Below s.level []) (Below s.level f.left) (ended (element_front s.level h)) (flat_map (row_line s.level) f.rows) (begun_as s.level h true (above (announced h.size) test)) f.shows in
+      let is = ap (λ (t : Following Dumping). t.put) (primitive s h c (Below s.level []) (Below s.level f.left) (ended (element_front s.level h)) (flat_map (row_line s.level) f.rows) (begun_as s.level h true (above (announced h.size) test)) f.shows) in
       rw (is
       ∙ ap (λ (l : List ℕ). ended (element_front s.level h) ++ (flat_map (row_line s.level) f.rows ++ l)) t.shows
       ∙ ap (λ (l : List ℕ). ended (element_front s.level h) ++ l) (sym (flat_map-append (row_line s.level) f.rows t.rows)))
@@ -113,6 +115,6 @@ primitives_shown s h c e = elim (below_or_not 16 (length c)) [
       let test : announced h.size ≤ 16 = omega (arith, e, few) in
       let line = element_front s.level h in
       let held = beside_held line [] c (omega arith) ∙ ap (λ (o : List ℕ). puts (Beside line o) []) (take-all c few) in
-      let is = primitive s h c (Beside line []) (Beside line c) [] [] (begun_as s.level h false (within (announced h.size) test)) held in
+      let is = ap (λ (t : Following Dumping). t.put) (primitive s h c (Beside line []) (Beside line c) [] [] (begun_as s.level h false (within (announced h.size) test)) held) in
       rw is (beside few)
 ]

@@ -1,10 +1,10 @@
 //! How the contents of a primitive are shown: in hexadecimal.
-ghost use Rattle.std.specs.Prelude.{◌≡◌, ◌+◌, ◌<◌, ◌≤◌, [], Bool, IfOk, OnErr, OnOk, length};
+ghost use Rattle.std.specs.Prelude.{◌≡◌, ◌+◌, ◌<◌, ◌≤◌, [], IfOk, OnErr, OnOk, length};
 ghost use Rattle.std.specs.Io.KnownBytes.{Appends};
 ghost use Rattle.tlv_walk.specs.Device.{failures_after};
 ghost use Rattle.tlv_walk.specs.Out.{lender_of, put_to};
 ghost use Rattle.tlv_walk.specs.Prefix.{HasPrefix};
-ghost use Rattle.tlv_show.specs.Contents.{Below, begun, nothing_shown, rest_of, all_shown, shown_end};
+ghost use Rattle.tlv_show.specs.Contents.{Below, all_shown, begun, nothing_shown, rest_of, shown_end};
 ghost use Rattle.tlv_show.specs.ContentsFields.{IsWithinRoom, shown_of};
 ghost use Rattle.tlv_show.specs.Lines.{row_line};
 

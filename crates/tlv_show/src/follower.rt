@@ -5,7 +5,6 @@ ghost use Rattle.tlv_walk.specs.Device.{failures_after};
 ghost use Rattle.tlv_walk.specs.Follow.{each_octet};
 ghost use Rattle.tlv_walk.specs.Out.{lender_of, put_to};
 ghost use Rattle.tlv_walk.specs.Prefix.{HasPrefix};
-ghost use Rattle.tlv_show.specs.Contents.{begun, shown_end};
 ghost use Rattle.tlv_show.specs.Dumped.{
   dumped_close,
   dumped_open,
@@ -13,7 +12,6 @@ ghost use Rattle.tlv_show.specs.Dumped.{
   fresh,
   one_dumped,
   one_padded,
-  with_contents,
 };
 ghost use Rattle.tlv_show.specs.Lines.{close_line, element_front as front_of, padding_line};
 ghost use Rattle.tlv_show.specs.Texts.{ended};

@@ -1,5 +1,5 @@
 //! A line of text that is being made.
-ghost use Rattle.std.specs.Prelude.{◌≡◌, ◌+◌, ◌*◌, ◌<◌, ◌≤◌, ◌++◌, [], decimal, length, max};
+ghost use Rattle.std.specs.Prelude.{◌≡◌, ◌+◌, ◌*◌, ◌≤◌, ◌++◌, [], decimal, length, max};
 ghost use Rattle.tlv_show.specs.Texts.{pairs, right, spaces};
 
 use itoa::Buffer;
