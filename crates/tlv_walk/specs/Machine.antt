@@ -5,6 +5,8 @@ use Rattle.tlv_head.specs.declared.fault.Fault.{Fault as FaultOf}
 use Rattle.tlv_head.specs.declared.fault.FaultCode.{FaultCode}
 use Rattle.tlv_head.specs.Header.{Heading, IsHeading, announced, holds, is_wrapper, octets_of}
 use Rattle.tlv_head.specs.Progress.{Progress}
+use Rattle.tlv_walk.specs.declared.event.Event.{Event}
+use Rattle.tlv_walk.specs.declared.event.Event.TheVariants as event
 use Rattle.tlv_walk.specs.declared.event.Step.{Step}
 use Rattle.tlv_walk.specs.declared.event.Step.TheVariants as step
 use Rattle.tlv_walk.specs.declared.event.Kind.{Kind}
@@ -137,9 +139,21 @@ Refuses old new before after fault =
     (new.offset + length after ≡ old.offset + length before) × (new.events ≡ old.events) × (new.phase ≡ Failed fault)
     × (new.framing ≡ old.framing) × (new.wrappers ≡ old.wrappers)
 
+-- parts of contents and of padding are not empty
+abbrev pub HasOctets : Event → Type 0
+HasOctets (event.Open h) = Unit {0}
+HasOctets (event.Begin h) = Unit {0}
+HasOctets (event.Bytes octets) = octets.now ≢ []
+HasOctets event.End = Unit {0}
+HasOctets (event.Close at) = Unit {0}
+HasOctets (event.Enter h) = Unit {0}
+HasOctets event.Unused = Unit {0}
+HasOctets event.Leave = Unit {0}
+HasOctets (event.Pad octets) = octets.now ≢ []
+
 -- what a step took from the front of a piece
 abbrev pub Steps : Machine → Machine → List ℕ → List ℕ → Step → Type 0
-Steps old new before after (step.Event e) = TellsOne old new before after
+Steps old new before after (step.Event e) = TellsOne old new before after × HasOctets e
 Steps old new before after step.NeedMore = TakesAll old new before after
 Steps old new before after (step.Fault f) = Refuses old new before after f
 
@@ -148,12 +162,12 @@ abbrev pub Moves : Machine → Machine → List ℕ → List ℕ → Move → Ty
 Moves old new before after (move.Open f octets) = TellsOne old new before after × Suits f octets.now
 Moves old new before after (move.Begin f octets) = TellsOne old new before after × Suits f octets.now
 Moves old new before after (move.Enter f octets) = TellsOne old new before after × Suits f octets.now
-Moves old new before after (move.Bytes octets) = TellsOne old new before after
+Moves old new before after (move.Bytes octets) = TellsOne old new before after × (octets.now ≢ [])
 Moves old new before after move.End = TellsOne old new before after
 Moves old new before after (move.Close at) = TellsOne old new before after
 Moves old new before after move.Unused = TellsOne old new before after
 Moves old new before after move.Leave = TellsOne old new before after
-Moves old new before after (move.Pad octets) = TellsOne old new before after
+Moves old new before after (move.Pad octets) = TellsOne old new before after × (octets.now ≢ [])
 Moves old new before after move.Slow = (new ≡ old) × (after ≡ before) × CanRead old before
 Moves old new before after move.NeedMore = TakesAll old new before after
 Moves old new before after (move.Fault f) = Refuses old new before after f

@@ -74,7 +74,7 @@ events-preserved g c =
         follows = rw (w.out-is, w.follower-is, w.walker-is, w.rest-is, ← on, w.go-is) (follows_event g.F.Follow.next _ _ _ _ _ _ _ _ _ _ _ _ _ _ c.events.invariant.follows (stands_behind _ _ _ _ _ w.in-Bytes.ensures.tells) w.in_ok-go-in-Bytes.ensures.ok);
         same_reference = rw w.out-is (w.on-in-Bytes.ensures.same_reference ∙ c.events.invariant.same_reference);
         failures = rw w.out-is (w.in_ok-go-in-Bytes.ensures.failed ∙ c.events.invariant.failures);
-        walked = rw (w.walker-is, w.rest-is) (w.in-Bytes.ensures.moves.0 ∙ c.events.invariant.walked);
+        walked = rw (w.walker-is, w.rest-is) (w.in-Bytes.ensures.moves.0.0 ∙ c.events.invariant.walked);
       }
       | in-End+in_ok-go-in-End w ↦ record {
         follows = rw (w.out-is, w.follower-is, w.walker-is, w.rest-is, ← on, w.go-is) (follows_event g.F.Follow.next _ _ _ _ _ _ _ _ _ _ _ _ _ _ c.events.invariant.follows (stands_behind _ _ _ _ _ w.in-End.ensures.tells) w.in_ok-go-in-End.ensures.ok);
@@ -104,13 +104,13 @@ events-preserved g c =
         follows = rw (w.out-is, w.follower-is, w.walker-is, w.rest-is, ← on, w.go-is) (follows_event g.F.Follow.next _ _ _ _ _ _ _ _ _ _ _ _ _ _ c.events.invariant.follows (stands_behind _ _ _ _ _ w.in-Pad.ensures.tells) w.in_ok-go-in-Pad.ensures.ok);
         same_reference = rw w.out-is (w.on-in-Pad.ensures.same_reference ∙ c.events.invariant.same_reference);
         failures = rw w.out-is (w.in_ok-go-in-Pad.ensures.failed ∙ c.events.invariant.failures);
-        walked = rw (w.walker-is, w.rest-is) (w.in-Pad.ensures.moves.0 ∙ c.events.invariant.walked);
+        walked = rw (w.walker-is, w.rest-is) (w.in-Pad.ensures.moves.0.0 ∙ c.events.invariant.walked);
       }
       | in-Slow+in-Event+in_ok-go-in-Event w ↦ record {
         follows = rw (w.out-is, w.follower-is, w.walker-is, w.rest-is, ← on, w.go-is) (follows_event g.F.Follow.next _ _ _ _ _ _ _ _ _ _ _ _ _ _ c.events.invariant.follows (stands_behind _ _ _ _ _ (unmoved_tells _ _ _ _ _ _ _ w.in-Slow.ensures.moves.0 w.in-Slow.ensures.moves.1 w.in-Event.ensures.tells)) w.in_ok-go-in-Event.ensures.ok);
         same_reference = rw w.out-is (w.on-in-Event.ensures.same_reference ∙ c.events.invariant.same_reference);
         failures = rw w.out-is (w.in_ok-go-in-Event.ensures.failed ∙ c.events.invariant.failures);
-        walked = rw (w.walker-is, w.rest-is) (w.in-Event.ensures.steps.0 ∙ unmoved _ _ _ _ w.in-Slow.ensures.moves.0 w.in-Slow.ensures.moves.1 ∙ c.events.invariant.walked);
+        walked = rw (w.walker-is, w.rest-is) (w.in-Event.ensures.steps.0.0 ∙ unmoved _ _ _ _ w.in-Slow.ensures.moves.0 w.in-Slow.ensures.moves.1 ∙ c.events.invariant.walked);
       }
     ]
 
