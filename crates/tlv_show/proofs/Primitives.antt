@@ -11,7 +11,7 @@ use Rattle.tlv_show.specs.Contents.{Below, Beside, Shown, all_shown, begun, noth
 use Rattle.tlv_show.specs.Dumped.{Dumping, dumped, entered, further, with_contents}
 use Rattle.tlv_show.specs.Laws.{AreRows, PrimitivesAreShown, below, beside, full, last, none}
 use Rattle.tlv_show.specs.Lines.{element_front, row_line}
-use Rattle.tlv_show.specs.Texts.{ended}
+use Rattle.tlv_show.specs.Texts.{ended, pairs}
 use Rattle.tlv_show.proofs.Dumped.{behind_put, dumped_bytes, further-within}
 use Rattle.tlv_show.proofs.Shown.{below_held, beside_held, row_and}
 
@@ -106,15 +106,20 @@ primitives_shown s h c e = elim (below_or_not 16 (length c)) [
       let f = front (length c) s.level c (omega arith) in
       let t = tail s.level f.left f.few in
       let test : 16 < announced h.size = omega (arith, e, many) in
-      let is = ap (λ (t : Following Dumping). t.put) (primitive s h c (Below s.level []) (Below s.level f.left) (ended (element_front s.level h)) (flat_map (row_line s.level) f.rows) (begun_as s.level h true (above (announced h.size) test)) f.shows) in
-      rw (is
-      ∙ ap (λ (l : List ℕ). ended (element_front s.level h) ++ (flat_map (row_line s.level) f.rows ++ l)) t.shows
-      ∙ ap (λ (l : List ℕ). ended (element_front s.level h) ++ l) (sym (flat_map-append (row_line s.level) f.rows t.rows)))
-      (below many (f.rows ++ t.rows) (f.cut t.rows t.cut))
+      let line = ended (element_front s.level h) in
+      let after : Dumping = record (entered s h) { offset = further (entered s h).offset (length c); contents = nothing_shown } in (
+        line ++ flat_map (row_line s.level) (f.rows ++ t.rows),
+        below many (f.rows ++ t.rows) (f.cut t.rows t.cut),
+        primitive s h c (Below s.level []) (Below s.level f.left) line (flat_map (row_line s.level) f.rows) (begun_as s.level h true (above (announced h.size) test)) f.shows
+            ∙ ap (λ (l : List ℕ). puts after (line ++ (flat_map (row_line s.level) f.rows ++ l))) t.shows
+            ∙ ap (λ (l : List ℕ). puts after (line ++ l)) (sym (flat_map-append (row_line s.level) f.rows t.rows)),
+      )
   | inr few ↦
       let test : announced h.size ≤ 16 = omega (arith, e, few) in
       let line = element_front s.level h in
-      let held = beside_held line [] c (omega arith) ∙ ap (λ (o : List ℕ). puts (Beside line o) []) (take-all c few) in
-      let is = ap (λ (t : Following Dumping). t.put) (primitive s h c (Beside line []) (Beside line c) [] [] (begun_as s.level h false (within (announced h.size) test)) held) in
-      rw is (beside few)
+      let held = beside_held line [] c (omega arith) ∙ ap (λ (o : List ℕ). puts (Beside line o) []) (take-all c few) in (
+        ended (line ++ pairs c),
+        beside few,
+        primitive s h c (Beside line []) (Beside line c) [] [] (begun_as s.level h false (within (announced h.size) test)) held,
+      )
 ]

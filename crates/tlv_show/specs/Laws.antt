@@ -3,7 +3,8 @@ use Rattle.std.specs.Prelude.{◌≡◌, ℕ, ◌<◌, ◌≤◌, List, [], ◌�
 use Rattle.tlv_head.specs.Header.{Heading, announced}
 use Rattle.tlv_walk.specs.Events.{Begin, Bytes, End}
 use Rattle.tlv_walk.specs.Follow.{followed}
-use Rattle.tlv_show.specs.Dumped.{Dumping, dumped}
+use Rattle.tlv_show.specs.Contents.{nothing_shown, puts}
+use Rattle.tlv_show.specs.Dumped.{Dumping, dumped, entered, further}
 use Rattle.tlv_show.specs.Lines.{element_front, row_line}
 use Rattle.tlv_show.specs.Texts.{ended, pairs}
 
@@ -20,7 +21,9 @@ pub data AreLines (level : ℕ) (h : Heading) (c : List ℕ) : List ℕ → Type
   -- more stand in rows below it
   below : 16 < length c → (rows : List (List ℕ)) → AreRows c rows → AreLines level h c (ended (element_front level h) ++ flat_map (row_line level) rows)
 
--- a primitive with as many contents octets as its header announces is shown with all of them
+-- a primitive with as many contents octets as its header announces is shown with all of them, and nothing of it is held
 abbrev pub PrimitivesAreShown : Type 0
 PrimitivesAreShown = (s : Dumping) (h : Heading) (c : List ℕ) → announced h.size ≡ length c
-    → AreLines s.level h c (followed dumped s (Begin h ∷ Bytes c ∷ End ∷ [])).put
+    → (lines : List ℕ) × AreLines s.level h c lines
+    × (followed dumped s (Begin h ∷ Bytes c ∷ End ∷ [])
+    ≡ puts (record (entered s h) { offset = further (entered s h).offset (length c); contents = nothing_shown }) lines)
