@@ -1,0 +1,5 @@
+pub mod Kind
+pub mod Finding
+pub mod Bits
+pub mod Number
+pub mod Arcs
