@@ -3,3 +3,4 @@ pub mod Finding
 pub mod Bits
 pub mod Number
 pub mod Arcs
+pub mod Times

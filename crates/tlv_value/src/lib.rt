@@ -6,7 +6,9 @@ mod decimal;
 mod dotted;
 mod finding;
 mod kind;
+mod time;
 
 pub use decimal::decimal_of;
 pub use dotted::dotted_of;
 pub use finding::Finding;
+pub use time::{general_canonical, general_ok, utc_canonical, utc_ok};
