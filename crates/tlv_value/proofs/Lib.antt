@@ -8,3 +8,4 @@ pub mod RowSteps
 pub mod Short
 pub mod Puts
 pub mod Ends
+pub mod Pieces

@@ -36,10 +36,10 @@ first-open Ucs2 = refl
 first-open Ucs4 = refl
 
 module _ (kind : Kind) where
-  full-begins : (x : ℕ) (xs : List ℕ) → full_rows kind [] (x ∷ xs) ≡ full_rows kind (x ∷ []) xs
+  pub full-begins : (x : ℕ) (xs : List ℕ) → full_rows kind [] (x ∷ xs) ≡ full_rows kind (x ∷ []) xs
   full-begins x xs = rw (first-room kind x, first-open kind) refl
 
-  open-begins : (x : ℕ) (xs : List ℕ) → open_row kind [] (x ∷ xs) ≡ open_row kind (x ∷ []) xs
+  pub open-begins : (x : ℕ) (xs : List ℕ) → open_row kind [] (x ∷ xs) ≡ open_row kind (x ∷ []) xs
   open-begins x xs = rw (first-room kind x, first-open kind) refl
 
   -- the row is full with these octets, or with the one behind them

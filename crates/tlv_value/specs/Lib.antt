@@ -12,3 +12,4 @@ pub mod Value
 pub mod State
 pub mod TextFields
 pub mod ObjectLines
+pub mod Laws

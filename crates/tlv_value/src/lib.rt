@@ -6,6 +6,7 @@ mod decimal;
 mod dotted;
 mod finding;
 mod kind;
+pub mod laws;
 mod layout;
 mod line;
 mod naming;
