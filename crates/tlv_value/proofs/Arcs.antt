@@ -1,0 +1,277 @@
+-- Subidentifiers, read octet by octet.
+use Rattle.std.proofs.Common.{◌≡◌, ℕ, suc, ◌+◌, ◌-◌, ◌*◌, ◌%◌, ◌^◌, ◌<◌, ◌≤◌, Bool, true, false, not, ◌&&◌, List, [], ◌∷◌, ◌++◌, length, map, refl, sym, ap, ◌∙◌, arith, append_assoc, append-nil, length-append, drop, get_or, add-one}
+use Rattle.std.proofs.Math.Seq.{drop-cons}
+use Rattle.std.proofs.lemmas.Bool.{ltb-true}
+use Rattle.std.proofs.lemmas.Nat.{pow-add}
+use Rattle.std.proofs.lemmas.List.{length-map, nil_from_length}
+use Rattle.std.proofs.Math.ListN.{length-drop}
+use Rattle.std.specs.Prelude.{Option, Some, None, unwrap_or, decimal, nat_lt, nat_le, if◌then◌else◌}
+use Rattle.std.proofs.lemmas.Bool.Decides.{nat_tests}
+use Rattle.std.proofs.lemmas.Fmt.{length-decimal-le_wide}
+use Rattle.std.proofs.Math.Nat.{pow-suc}
+use Rattle.tlv_value.specs.Arcs.{parts_of, onto_first, subidentifier, subidentifiers, part_text, first_arcs, arcs_of, behind_dots, dotted, is_finished, all_below, dotted_text}
+
+-- the text goes on with the subidentifiers of these octets, of which the first has begun with n
+abbrev pub run : List ℕ → Bool → Bool → ℕ → List ℕ → Option (List ℕ)
+run t first relative n [] = Some t
+run t first relative n (x ∷ xs) =
+    if nat_lt n (2 ^ 121)
+    then (if nat_lt x 128 then run (t ++ part_text first relative (n * 128 + x % 128)) false relative 0 xs else run t first relative (n * 128 + x % 128) xs)
+    else None
+
+-- the subidentifiers of these octets, of which the first has begun with n
+abbrev pub carry : ℕ → List ℕ → List ℕ
+carry n [] = []
+carry n (x ∷ xs) = if nat_lt x 128 then (n * 128 + x % 128) ∷ carry 0 xs else carry (n * 128 + x % 128) xs
+
+-- the octets end with a whole subidentifier, behind one that has begun or has not
+abbrev pub ends : Bool → List ℕ → Bool
+ends begun [] = not begun
+ends begun (x ∷ xs) = ends (not (nat_lt x 128)) xs
+
+abbrev pub parts_text : Bool → Bool → List ℕ → List ℕ
+parts_text first relative [] = []
+parts_text first relative (v ∷ vs) = part_text first relative v ++ parts_text false relative vs
+
+abbrev texts : List ℕ → Bool → Bool → List ℕ → Option (List ℕ)
+texts t first relative vs = if all_below (2 ^ 128) vs then Some (t ++ parts_text first relative vs) else None
+
+-- what has grown past the limit stays there
+too-large-at : (n x : ℕ) (xs : List ℕ) (last : Bool) → nat_lt x 128 ≡ last → ends (not last) xs ≡ true → 2 ^ 128 ≤ n
+    → ((m : ℕ) → ends true xs ≡ true → 2 ^ 128 ≤ m → all_below (2 ^ 128) (carry m xs) ≡ false)
+    → all_below (2 ^ 128) (if last then (n * 128 + x % 128) ∷ carry 0 xs else carry (n * 128 + x % 128) xs) ≡ false
+too-large-at n x xs true e h g more =
+    let v : nat_lt (n * 128 + x % 128) (2 ^ 128) ≡ false = grind (arith, nat_tests) in
+    rw v refl
+too-large-at n x xs false e h g more = more (n * 128 + x % 128) h (omega arith)
+
+too-large : (n : ℕ) (xs : List ℕ) → ends true xs ≡ true → 2 ^ 128 ≤ n → all_below (2 ^ 128) (carry n xs) ≡ false
+too-large n [] e h = cc
+too-large n (x ∷ xs) e h = too-large-at n x xs (nat_lt x 128) refl e h (λ m. too-large m xs)
+
+one-part : (t : List ℕ) (first relative : Bool) (v : ℕ) (vs : List ℕ) → v < 2 ^ 128
+    → texts (t ++ part_text first relative v) false relative vs ≡ texts t first relative (v ∷ vs)
+one-part t first relative v vs h =
+    let b : nat_lt v (2 ^ 128) ≡ true = grind (arith, nat_tests) in
+    rw (b, append_assoc t (part_text first relative v) (parts_text false relative vs)) refl
+
+run-carry-at : (t : List ℕ) (first relative : Bool) (n x : ℕ) (xs : List ℕ) (last small : Bool) → nat_lt x 128 ≡ last → nat_lt n (2 ^ 121) ≡ small
+    → ends (not last) xs ≡ true → n < 2 ^ 128
+    → ((s : List ℕ) (f : Bool) (m : ℕ) (b : Bool) → ends b xs ≡ true → m < 2 ^ 128 → run s f relative m xs ≡ texts s f relative (carry m xs))
+    → (if small then (if last then run (t ++ part_text first relative (n * 128 + x % 128)) false relative 0 xs else run t first relative (n * 128 + x % 128) xs) else None)
+    ≡ texts t first relative (if last then (n * 128 + x % 128) ∷ carry 0 xs else carry (n * 128 + x % 128) xs)
+run-carry-at t first relative n x xs true true e f h g more =
+    more (t ++ part_text first relative (n * 128 + x % 128)) false 0 false h (omega arith)
+    ∙ one-part t first relative (n * 128 + x % 128) (carry 0 xs) (grind (arith, nat_tests))
+run-carry-at t first relative n x xs false true e f h g more = more t first (n * 128 + x % 128) true h (grind (arith, nat_tests))
+run-carry-at t first relative n x xs true false e f h g more =
+    let v : nat_lt (n * 128 + x % 128) (2 ^ 128) ≡ false = grind (arith, nat_tests) in
+    rw v refl
+run-carry-at t first relative n x xs false false e f h g more =
+    let v : all_below (2 ^ 128) (carry (n * 128 + x % 128) xs) ≡ false = too-large (n * 128 + x % 128) xs h (grind (arith, nat_tests)) in
+    rw v refl
+
+run-carry : (t : List ℕ) (first relative : Bool) (n : ℕ) (xs : List ℕ) (begun : Bool) → ends begun xs ≡ true → n < 2 ^ 128 → run t first relative n xs ≡ texts t first relative (carry n xs)
+run-carry t first relative n [] begun e h = ap Some (sym (append-nil t))
+run-carry t first relative n (x ∷ xs) begun e h =
+    run-carry-at t first relative n x xs (nat_lt x 128) (nat_lt n (2 ^ 121)) refl refl e h (λ s f m b. run-carry s f relative m xs b)
+
+-- the first part has begun with n
+abbrev add_first : ℕ → List (List ℕ) → List ℕ
+add_first n [] = []
+add_first n (p ∷ ps) = (n * 128 ^ length p + subidentifier p) ∷ map subidentifier ps
+
+add_first-zero : (ps : List (List ℕ)) → add_first 0 ps ≡ map subidentifier ps
+add_first-zero [] = refl
+add_first-zero (p ∷ ps) = ap (λ (v : ℕ). v ∷ map subidentifier ps) (omega arith)
+
+onto : (n d l k s : ℕ) → k ≡ l → (n * 128 + d) * 128 ^ l + s ≡ n * 128 ^ suc l + (d * 128 ^ k + s)
+onto n d l k s e = rw (e, pow-suc 128 l) (grind arith)
+
+-- octets with bit 8 set belong to the next part
+add_first-onto : (n x : ℕ) (ps : List (List ℕ)) → 1 ≤ length ps → add_first (n * 128 + x % 128) ps ≡ add_first n (onto_first x ps)
+add_first-onto n x [] some = absurd (omega arith)
+add_first-onto n x (p ∷ ps) some = ap (λ (v : ℕ). v ∷ map subidentifier ps) (onto n (x % 128) (length p) (length (map (λ x. x % 128) p)) (subidentifier p) (length-map p (λ x. x % 128)))
+
+onto-some : (x : ℕ) (ps : List (List ℕ)) → 1 ≤ length (onto_first x ps)
+onto-some x [] = omega arith
+onto-some x (p ∷ ps) = omega arith
+
+parts-some : (xs : List ℕ) → ends true xs ≡ true → 1 ≤ length (parts_of xs)
+parts-some [] e = cc
+parts-some (x ∷ xs) e =
+    elim (nat_lt x 128) as (λ q. 1 ≤ length (if q then (x ∷ []) ∷ parts_of xs else onto_first x (parts_of xs))) [ true ↦ omega arith | false ↦ onto-some x (parts_of xs) ]
+
+carry-parts-at : (n x : ℕ) (xs : List ℕ) (last : Bool) → ends (not last) xs ≡ true
+    → ((m : ℕ) (b : Bool) → ends b xs ≡ true → carry m xs ≡ add_first m (parts_of xs))
+    → (if last then (n * 128 + x % 128) ∷ carry 0 xs else carry (n * 128 + x % 128) xs) ≡ add_first n (if last then (x ∷ []) ∷ parts_of xs else onto_first x (parts_of xs))
+carry-parts-at n x xs true e more =
+    let one : n * 128 ^ 1 + (x % 128 * 128 ^ 0 + 0) ≡ n * 128 + x % 128 = omega arith in
+    let rest : carry 0 xs ≡ map subidentifier (parts_of xs) = more 0 false e ∙ add_first-zero (parts_of xs) in
+    rw (one, rest) refl
+carry-parts-at n x xs false e more = more (n * 128 + x % 128) true e ∙ add_first-onto n x (parts_of xs) (parts-some xs e)
+
+carry-parts : (n : ℕ) (xs : List ℕ) (begun : Bool) → ends begun xs ≡ true → carry n xs ≡ add_first n (parts_of xs)
+carry-parts n [] begun e = refl
+carry-parts n (x ∷ xs) begun e = carry-parts-at n x xs (nat_lt x 128) e (λ m b. carry-parts m xs b)
+
+pub carry-subidentifiers : (xs : List ℕ) → ends false xs ≡ true → carry 0 xs ≡ subidentifiers xs
+carry-subidentifiers xs e = carry-parts 0 xs false e ∙ add_first-zero (parts_of xs)
+
+parts_text-rest : (relative : Bool) (vs : List ℕ) → parts_text false relative vs ≡ behind_dots vs
+parts_text-rest relative [] = refl
+parts_text-rest relative (v ∷ vs) = ap (λ (t : List ℕ). (46 ∷ decimal v) ++ t) (parts_text-rest relative vs)
+
+two-arcs : (a b : ℕ) (vs : List ℕ) → dotted (a ∷ b ∷ []) ++ behind_dots vs ≡ dotted (a ∷ b ∷ vs)
+two-arcs a b vs = ap (λ (t : List ℕ). (decimal a ++ t) ++ behind_dots vs) (append-nil (46 ∷ decimal b)) ∙ append_assoc (decimal a) (46 ∷ decimal b) (behind_dots vs)
+
+arcs-at : (v : ℕ) (p q : Bool) (vs : List ℕ)
+    → dotted (if p then 0 ∷ v ∷ [] else (if q then 1 ∷ (v - 40) ∷ [] else 2 ∷ (v - 80) ∷ [])) ++ behind_dots vs
+    ≡ dotted ((if p then 0 ∷ v ∷ [] else (if q then 1 ∷ (v - 40) ∷ [] else 2 ∷ (v - 80) ∷ [])) ++ vs)
+arcs-at v true q vs = two-arcs 0 v vs
+arcs-at v false true vs = two-arcs 1 (v - 40) vs
+arcs-at v false false vs = two-arcs 2 (v - 80) vs
+
+parts_text-first : (relative : Bool) (vs : List ℕ) → parts_text true relative vs ≡ dotted (arcs_of relative vs)
+parts_text-first true [] = refl
+parts_text-first false [] = refl
+parts_text-first true (v ∷ vs) = ap (λ (t : List ℕ). decimal v ++ t) (parts_text-rest true vs)
+parts_text-first false (v ∷ vs) = ap (λ (t : List ℕ). dotted (first_arcs v) ++ t) (parts_text-rest false vs) ∙ arcs-at v (nat_lt v 40) (nat_lt v 80) vs
+
+pub and_right : (a b : Bool) → (a && b) ≡ true → b ≡ true
+and_right true b e = e
+and_right false b e = cc
+
+ends-last : (begun : Bool) (x : ℕ) (xs : List ℕ) → nat_lt (get_or (x ∷ xs) (length xs) 0) 128 ≡ true → ends begun (x ∷ xs) ≡ true
+ends-last begun x [] e = rw e refl
+ends-last begun x (y ∷ xs) e = ends-last (not (nat_lt x 128)) y xs e
+
+pub ends-finished : (c : List ℕ) → is_finished c ≡ true → ends false c ≡ true
+ends-finished [] e = cc
+ends-finished (x ∷ xs) e =
+    let l : length (x ∷ xs) - 1 ≡ length xs = omega arith in
+    ends-last false x xs (rw l at (and_right (nat_le 1 (length (x ∷ xs))) (nat_lt (get_or (x ∷ xs) (length (x ∷ xs) - 1) 0) 128) e))
+
+-- as the definition has it
+pub run-dotted : (relative : Bool) (c : List ℕ) → is_finished c ≡ true → nat_le (length c) 64 ≡ true → run [] true relative 0 c ≡ dotted_text relative c
+run-dotted relative c f l =
+    let e = ends-finished c f in
+    run-carry [] true relative 0 c false e (omega arith)
+    ∙ rw (carry-subidentifiers c e, parts_text-first relative (subidentifiers c), f, l) refl
+
+-- a subidentifier that has grown too large leaves no text
+pub run-over : (t : List ℕ) (first relative : Bool) (n : ℕ) (xs : List ℕ) → 1 ≤ length xs → 2 ^ 121 ≤ n → run t first relative n xs ≡ None
+run-over t first relative n [] some h = absurd (omega arith)
+run-over t first relative n (x ∷ xs) some h =
+    let b : nat_lt n (2 ^ 121) ≡ false = grind (arith, nat_tests) in
+    rw b refl
+
+-- one octet more
+pub run-within : (t : List ℕ) (first relative : Bool) (n v : ℕ) (c : List ℕ) (i : ℕ) → v ≡ n * 128 + get_or c i 0 % 128 → i < length c → n < 2 ^ 121 → 128 ≤ get_or c i 0
+    → run t first relative n (drop i c) ≡ run t first relative v (drop (i + 1) c)
+run-within t first relative n v c i e h g b =
+    let small : nat_lt n (2 ^ 121) ≡ true = grind (arith, nat_tests) in
+    let last : nat_lt (get_or c i 0) 128 ≡ false = grind (arith, nat_tests) in
+    rw (drop-cons c i 0 h, small, last, add-one, e) refl
+
+pub run-last : (t : List ℕ) (first relative : Bool) (n v : ℕ) (c : List ℕ) (i : ℕ) → v ≡ n * 128 + get_or c i 0 % 128 → i < length c → n < 2 ^ 121 → get_or c i 0 < 128
+    → run t first relative n (drop i c) ≡ run (t ++ part_text first relative v) false relative 0 (drop (i + 1) c)
+run-last t first relative n v c i e h g b =
+    let small : nat_lt n (2 ^ 121) ≡ true = grind (arith, nat_tests) in
+    let last : nat_lt (get_or c i 0) 128 ≡ true = grind (arith, nat_tests) in
+    rw (drop-cons c i 0 h, small, last, add-one, e) refl
+
+-- how long the text is at most
+
+long : (v k : ℕ) → v < 2 ^ 128 → v < 10 ^ k → 1 ≤ k → length (decimal v) ≤ k
+long v k h g s = length-decimal-le_wide k v s g (omega arith)
+
+thousand : (n x k : ℕ) → n < 10 ^ (3 * k) → n * 128 + x % 128 < 10 ^ (3 * suc k)
+thousand n x k h =
+    let e : 10 ^ (3 * suc k) ≡ 10 ^ (3 * k) * 1000 = ap (λ m. 10 ^ m) (let l : 3 * suc k ≡ 3 * k + 3 = omega arith in l) ∙ pow-add 10 (3 * k) 3 in
+    rw e (omega arith)
+
+and_left : (a b : Bool) → (a && b) ≡ true → a ≡ true
+and_left true b e = refl
+and_left false b e = cc
+
+behind-long-at : (n x k : ℕ) (xs : List ℕ) (last : Bool) → n < 10 ^ (3 * k)
+    → all_below (2 ^ 128) (if last then (n * 128 + x % 128) ∷ carry 0 xs else carry (n * 128 + x % 128) xs) ≡ true
+    → ((m j : ℕ) → m < 10 ^ (3 * j) → all_below (2 ^ 128) (carry m xs) ≡ true → length (behind_dots (carry m xs)) ≤ 4 * (j + length xs))
+    → length (behind_dots (if last then (n * 128 + x % 128) ∷ carry 0 xs else carry (n * 128 + x % 128) xs)) ≤ 4 * (k + length (x ∷ xs))
+behind-long-at n x k xs true h all more =
+    let v : ℕ = n * 128 + x % 128 in
+    let small : v < 2 ^ 128 = ltb-true v (2 ^ 128) (and_left (nat_lt v (2 ^ 128)) (all_below (2 ^ 128) (carry 0 xs)) all) in
+    let l : length (decimal v) ≤ 3 * suc k = long v (3 * suc k) small (thousand n x k h) (omega arith) in
+    let r = more 0 0 (omega arith) (and_right (nat_lt v (2 ^ 128)) (all_below (2 ^ 128) (carry 0 xs)) all) in
+    omega (arith, length-append (46 ∷ decimal v) (behind_dots (carry 0 xs)), l, r)
+behind-long-at n x k xs false h all more =
+    let r = more (n * 128 + x % 128) (suc k) (thousand n x k h) all in
+    omega (arith, r)
+
+behind-long : (n k : ℕ) (xs : List ℕ) → n < 10 ^ (3 * k) → all_below (2 ^ 128) (carry n xs) ≡ true → length (behind_dots (carry n xs)) ≤ 4 * (k + length xs)
+behind-long n k [] h all = omega arith
+behind-long n k (x ∷ xs) h all = behind-long-at n x k xs (nat_lt x 128) h all (λ m j. behind-long m j xs)
+
+two-long : (a b k : ℕ) (vs : List ℕ) → length (decimal a) ≤ 1 → length (decimal b) ≤ 3 * k → length (dotted (a ∷ b ∷ vs)) ≤ 3 * k + 2 + length (behind_dots vs)
+two-long a b k vs e h = omega (arith, length-append (decimal a) (behind_dots (b ∷ vs)), length-append (46 ∷ decimal b) (behind_dots vs))
+
+first-long-at : (v k : ℕ) (p q : Bool) (vs : List ℕ) → 1 ≤ k → v < 2 ^ 128 → v < 10 ^ (3 * k)
+    → length (dotted ((if p then 0 ∷ v ∷ [] else (if q then 1 ∷ (v - 40) ∷ [] else 2 ∷ (v - 80) ∷ [])) ++ vs)) ≤ 3 * k + 2 + length (behind_dots vs)
+first-long-at v k true q vs s h g = two-long 0 v k vs (long 0 1 (omega arith) (omega arith) (omega arith)) (long v (3 * k) h g (omega arith))
+first-long-at v k false true vs s h g = two-long 1 (v - 40) k vs (long 1 1 (omega arith) (omega arith) (omega arith)) (long (v - 40) (3 * k) (omega arith) (omega (arith, g)) (omega arith))
+first-long-at v k false false vs s h g = two-long 2 (v - 80) k vs (long 2 1 (omega arith) (omega arith) (omega arith)) (long (v - 80) (3 * k) (omega arith) (omega (arith, g)) (omega arith))
+
+first-long : (relative : Bool) (v k : ℕ) (vs : List ℕ) → 1 ≤ k → v < 2 ^ 128 → v < 10 ^ (3 * k) → length (dotted (arcs_of relative (v ∷ vs))) ≤ 3 * k + 2 + length (behind_dots vs)
+first-long true v k vs s h g = omega (arith, length-append (decimal v) (behind_dots vs), long v (3 * k) h g (omega arith))
+first-long false v k vs s h g = first-long-at v k (nat_lt v 40) (nat_lt v 80) vs s h g
+
+dotted-long-at : (relative : Bool) (n x k : ℕ) (xs : List ℕ) (last : Bool) → n < 10 ^ (3 * k)
+    → all_below (2 ^ 128) (if last then (n * 128 + x % 128) ∷ carry 0 xs else carry (n * 128 + x % 128) xs) ≡ true
+    → ((m j : ℕ) → m < 10 ^ (3 * j) → all_below (2 ^ 128) (carry m xs) ≡ true → length (dotted (arcs_of relative (carry m xs))) ≤ 4 * (j + length xs) + 2)
+    → length (dotted (arcs_of relative (if last then (n * 128 + x % 128) ∷ carry 0 xs else carry (n * 128 + x % 128) xs))) ≤ 4 * (k + length (x ∷ xs)) + 2
+dotted-long-at relative n x k xs true h all more =
+    let v : ℕ = n * 128 + x % 128 in
+    let small : v < 2 ^ 128 = ltb-true v (2 ^ 128) (and_left (nat_lt v (2 ^ 128)) (all_below (2 ^ 128) (carry 0 xs)) all) in
+    let r = behind-long 0 0 xs (omega arith) (and_right (nat_lt v (2 ^ 128)) (all_below (2 ^ 128) (carry 0 xs)) all) in
+    omega (arith, first-long relative v (suc k) (carry 0 xs) (omega arith) small (thousand n x k h), r)
+dotted-long-at relative n x k xs false h all more =
+    let r = more (n * 128 + x % 128) (suc k) (thousand n x k h) all in
+    omega (arith, r)
+
+arcs-nil : (relative : Bool) → dotted (arcs_of relative []) ≡ []
+arcs-nil true = refl
+arcs-nil false = refl
+
+dotted-long : (relative : Bool) (n k : ℕ) (xs : List ℕ) → n < 10 ^ (3 * k) → all_below (2 ^ 128) (carry n xs) ≡ true → length (dotted (arcs_of relative (carry n xs))) ≤ 4 * (k + length xs) + 2
+dotted-long relative n k [] h all = rw (arcs-nil relative) (omega arith)
+dotted-long relative n k (x ∷ xs) h all = dotted-long-at relative n x k xs (nat_lt x 128) h all (λ m j. dotted-long relative m j xs)
+
+dotted-short-at : (relative : Bool) (c : List ℕ) (all : Bool) → length c ≤ 64 → ends false c ≡ true → all_below (2 ^ 128) (subidentifiers c) ≡ all
+    → length (unwrap_or (if all then Some (dotted (arcs_of relative (subidentifiers c))) else None) []) ≤ 258
+dotted-short-at relative c false l e h = omega arith
+dotted-short-at relative c true l e h =
+    let s = carry-subidentifiers c e in
+    rw (← s) (omega (arith, dotted-long relative 0 0 c (omega arith) (ap (all_below (2 ^ 128)) s ∙ h)))
+
+short-at : (relative : Bool) (c : List ℕ) (f l : Bool) → is_finished c ≡ f → nat_le (length c) 64 ≡ l
+    → length (unwrap_or (if f && l && all_below (2 ^ 128) (subidentifiers c) then Some (dotted (arcs_of relative (subidentifiers c))) else None) []) ≤ 258
+short-at relative c false l e g = omega arith
+short-at relative c true false e g = omega arith
+short-at relative c true true e g = dotted-short-at relative c (all_below (2 ^ 128) (subidentifiers c)) (grind (arith, nat_tests)) (ends-finished c e) refl
+
+pub dotted-short : (relative : Bool) (c : List ℕ) → length (unwrap_or (dotted_text relative c) []) ≤ 258
+dotted-short relative c = short-at relative c (is_finished c) (nat_le (length c) 64) refl refl
+
+-- what the loop's end has
+pub run-end : (relative : Bool) (c t : List ℕ) (first : Bool) (n i : ℕ) → is_finished c ≡ true → length c ≤ 64 → length c ≤ i
+    → run t first relative n (drop i c) ≡ run [] true relative 0 c → dotted_text relative c ≡ Some t
+run-end relative c t first n i f l o e =
+    let d : drop i c ≡ [] = nil_from_length (drop i c) (omega (arith, length-drop i c)) in
+    sym (run-dotted relative c f (grind (arith, nat_tests))) ∙ sym e ∙ rw d refl
+
+-- what a subidentifier that is too large leaves
+pub run-none : (relative : Bool) (c t : List ℕ) (first : Bool) (n i : ℕ) → is_finished c ≡ true → length c ≤ 64 → i < length c → 2 ^ 121 ≤ n
+    → run t first relative n (drop i c) ≡ run [] true relative 0 c → dotted_text relative c ≡ None
+run-none relative c t first n i f l o h e =
+    sym (run-dotted relative c f (grind (arith, nat_tests))) ∙ sym e ∙ run-over t first relative n (drop i c) (omega (arith, length-drop i c)) h

@@ -1,0 +1,11 @@
+pub mod Numbers
+pub mod Arcs
+pub mod Forms
+pub mod UnitSteps
+pub mod LineLengths
+pub mod Texts
+pub mod RowSteps
+pub mod Short
+pub mod Puts
+pub mod Ends
+pub mod Pieces

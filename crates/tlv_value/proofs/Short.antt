@@ -1,0 +1,217 @@
+-- No text of a row is longer than its line has room.
+use Rattle.std.proofs.Common.{◌≡◌, ℕ, zero, suc, ◌+◌, ◌-◌, ◌*◌, ◌^◌, ◌<◌, ◌≤◌, Bool, true, false, List, [], ◌∷◌, ◌++◌, length, take, refl, ◌∙◌, arith, length-append}
+use Rattle.std.proofs.lemmas.Bool.Decides.{nat_tests}
+use Rattle.std.proofs.lemmas.Bool.{leb-true}
+use Rattle.std.proofs.lemmas.Fmt.{length-decimal-le_wide}
+use Rattle.std.proofs.lemmas.List.{length-map, length-take}
+use Rattle.std.specs.Prelude.{ℤ, pos, negsuc, codes, decimal, FitsSigned}
+use Rattle.std.specs.Fmt.{signed_decimal}
+use lib.Signed.{mag}
+use mir.Syntax.{w128}
+use Rattle.tlv_value.specs.Bits.{bits_of}
+use Rattle.tlv_value.specs.Number.{twos_complement}
+use Rattle.tlv_value.specs.Rows.{rows_of}
+use Rattle.tlv_value.proofs.Numbers.{length-bits, twos-fits_all}
+use Rattle.std.specs.Prelude.{eqb, nat_le, ◌&&◌, flat_map, if◌then◌else◌}
+use Rattle.std.specs.Str.{is_utf8}
+use Rattle.hex.specs.Hex.{encode_lower, lower_digits}
+use Rattle.hex.proofs.HexLemmas.{length-encode_with}
+use Rattle.tlv_value.specs.declared.kind.Kind.{Kind}
+use Rattle.tlv_value.specs.declared.kind.Kind.TheVariants.{Octets, Boolean, Integer, Bits, Object, Relative, Text, Utf8, Ucs2, Ucs4}
+use Rattle.tlv_value.specs.Rows.{utf8_length}
+use Rattle.tlv_value.specs.Units.{alone, escaped_number, escaped_octet, is_printable, octet_text, printable_text, quoted, three_octets, ucs2_unit, ucs4_unit, unit_size, unit_text, units, utf8_number, utf8_unit, without_zeros}
+use Rattle.tlv_value.specs.Value.{bit_count, bits_value, boolean_value, digits_of, integer_value, is_readable, joined_pairs, long_text, most_held, octets_value, only_rows, plain_text, row_text, shown_with, spaced, spaced_pairs, used_digits}
+
+pair-length : (x : ℕ) → length (encode_lower (x ∷ [])) ≡ 2
+pair-length x = length-encode_with lower_digits (x ∷ [])
+
+printable-short : (x : ℕ) → length (printable_text x) ≤ 4
+printable-short x = grind (arith, nat_tests)
+
+escaped-short : (x : ℕ) → length (escaped_octet x) ≤ 4
+escaped-short x = omega (arith, pair-length x)
+
+octet-short : (x : ℕ) → length (octet_text x) ≤ 4
+octet-short x = elim (is_printable x) as (λ b. length (if b then printable_text x else escaped_octet x) ≤ 4) [ true ↦ printable-short x | false ↦ escaped-short x ]
+
+zeros-short : (ds : List ℕ) → length (without_zeros ds) ≤ length ds
+zeros-short [] = omega arith
+zeros-short (d ∷ []) = omega arith
+zeros-short (d ∷ e ∷ ds) =
+    let more = zeros-short (e ∷ ds) in
+    elim (eqb d 0x30) as (λ b. length (if b then without_zeros (e ∷ ds) else d ∷ e ∷ ds) ≤ length (d ∷ e ∷ ds)) [ true ↦ omega (arith, more) | false ↦ omega arith ]
+
+number-short : (octets : List ℕ) → length (escaped_number octets) ≤ 4 + 2 * length octets
+number-short octets =
+    omega (arith, length-append (without_zeros (encode_lower octets)) (125 ∷ []), zeros-short (encode_lower octets), length-encode_with lower_digits octets)
+
+if-short : (b : Bool) (x y : List ℕ) (n : ℕ) → length x ≤ n → length y ≤ n → length (if b then x else y) ≤ n
+if-short true x y n h g = h
+if-short false x y n h g = g
+
+ucs2-short : (unit : List ℕ) → 1 ≤ length unit → length (ucs2_unit unit) ≤ 5 * length unit
+ucs2-short [] h = absurd (omega arith)
+ucs2-short (a ∷ []) h = omega (arith, escaped-short a)
+ucs2-short (a ∷ b ∷ []) h =
+    if-short (eqb a 0 && is_printable b) (printable_text b) (escaped_number (a ∷ b ∷ [])) 10 (omega (arith, printable-short b)) (omega (arith, number-short (a ∷ b ∷ [])))
+ucs2-short (a ∷ b ∷ c ∷ unit) h = omega (arith, escaped-short a)
+
+ucs4-short : (unit : List ℕ) → 1 ≤ length unit → length (ucs4_unit unit) ≤ 5 * length unit
+ucs4-short [] h = absurd (omega arith)
+ucs4-short (a ∷ []) h = omega (arith, escaped-short a)
+ucs4-short (a ∷ b ∷ []) h = omega (arith, escaped-short a)
+ucs4-short (a ∷ b ∷ c ∷ []) h = omega (arith, escaped-short a)
+ucs4-short (a ∷ b ∷ c ∷ d ∷ []) h =
+    if-short (eqb a 0 && eqb b 0 && eqb c 0 && is_printable d) (printable_text d) (escaped_number (a ∷ b ∷ c ∷ d ∷ [])) 20 (omega (arith, printable-short d)) (omega (arith, number-short (a ∷ b ∷ c ∷ d ∷ [])))
+ucs4-short (a ∷ b ∷ c ∷ d ∷ e ∷ unit) h = omega (arith, escaped-short a)
+
+utf8-short : (unit : List ℕ) → 1 ≤ length unit → length (utf8_unit unit) ≤ 5 * length unit
+utf8-short [] h = absurd (omega arith)
+utf8-short (a ∷ []) h = omega (arith, octet-short a)
+utf8-short (a ∷ b ∷ unit) h = omega (arith, number-short (three_octets (utf8_number (a ∷ b ∷ unit))))
+
+alone-short : (unit : List ℕ) → 1 ≤ length unit → length (alone octet_text unit) ≤ 5 * length unit
+alone-short [] h = absurd (omega arith)
+alone-short (a ∷ unit) h = omega (arith, octet-short a)
+
+unit-short : (kind : Kind) (unit : List ℕ) → 1 ≤ length unit → length (unit_text kind unit) ≤ 5 * length unit
+unit-short Octets unit h = alone-short unit h
+unit-short Boolean unit h = alone-short unit h
+unit-short Integer unit h = alone-short unit h
+unit-short Bits unit h = alone-short unit h
+unit-short Object unit h = alone-short unit h
+unit-short Relative unit h = alone-short unit h
+unit-short Text unit h = alone-short unit h
+unit-short Utf8 unit h = utf8-short unit h
+unit-short Ucs2 unit h = ucs2-short unit h
+unit-short Ucs4 unit h = ucs4-short unit h
+
+utf8_length-some : (x : ℕ) → 1 ≤ utf8_length x
+utf8_length-some x = grind (arith, nat_tests)
+
+if-within : (b : Bool) (m k n : ℕ) → (1 ≤ m) × (m ≤ n) → (1 ≤ k) × (k ≤ n) → (1 ≤ (if b then m else k)) × ((if b then m else k) ≤ n)
+if-within true m k n h g = h
+if-within false m k n h g = g
+
+ucs-within : (b : Bool) (m n : ℕ) → nat_le m n ≡ b → 1 ≤ m → 1 ≤ n → (1 ≤ (if b then m else 1)) × ((if b then m else 1) ≤ n)
+ucs-within true m n e h g = (h, grind (arith, nat_tests))
+ucs-within false m n e h g = (omega arith, g)
+
+size-within : (kind : Kind) (x : ℕ) (xs : List ℕ) → (1 ≤ unit_size kind (x ∷ xs)) × (unit_size kind (x ∷ xs) ≤ length (x ∷ xs))
+size-within Octets x xs = (omega arith, omega arith)
+size-within Boolean x xs = (omega arith, omega arith)
+size-within Integer x xs = (omega arith, omega arith)
+size-within Bits x xs = (omega arith, omega arith)
+size-within Object x xs = (omega arith, omega arith)
+size-within Relative x xs = (omega arith, omega arith)
+size-within Text x xs = (omega arith, omega arith)
+size-within Utf8 x xs =
+    let l = length-take (utf8_length x) (x ∷ xs) in
+    let s = utf8_length-some x in
+    if-within (is_utf8 (take (utf8_length x) (x ∷ xs))) (length (take (utf8_length x) (x ∷ xs))) 1 (length (x ∷ xs)) (omega arith, omega arith) (omega arith, omega arith)
+size-within Ucs2 x xs = ucs-within (nat_le 2 (length (x ∷ xs))) 2 (length (x ∷ xs)) refl (omega arith) (omega arith)
+size-within Ucs4 x xs = ucs-within (nat_le 4 (length (x ∷ xs))) 4 (length (x ∷ xs)) refl (omega arith) (omega arith)
+
+units-short : (kind : Kind) (skipped : ℕ) (xs : List ℕ) → length (flat_map (unit_text kind) (units kind skipped xs)) ≤ 5 * (length xs - skipped)
+units-short kind skipped [] = omega arith
+units-short kind (suc skipped) (x ∷ xs) = omega (arith, units-short kind skipped xs)
+units-short kind zero (x ∷ xs) =
+    let m : ℕ = unit_size kind (x ∷ xs) in
+    let w = size-within kind x xs in
+    let l : length (take m (x ∷ xs)) ≡ m = length-take m (x ∷ xs) ∙ omega arith in
+    let u = unit-short kind (take m (x ∷ xs)) (omega (arith, l, w.0)) in
+    let r = units-short kind (m - 1) xs in
+    omega (arith, length-append (unit_text kind (take m (x ∷ xs))) (flat_map (unit_text kind) (units kind (m - 1) xs)), u, r, l, w.0, w.1)
+
+pub quoted-short : (kind : Kind) (row : List ℕ) → length (quoted kind row) ≤ 5 * length row + 2
+quoted-short kind row = omega (arith, length-append (flat_map (unit_text kind) (units kind 0 row)) (34 ∷ []), units-short kind 0 row)
+
+pub spaced-short : (octets : List ℕ) → length (spaced_pairs octets) ≡ 3 * length octets
+spaced-short [] = refl
+spaced-short (x ∷ xs) = omega (arith, length-append (32 ∷ encode_lower (x ∷ [])) (spaced_pairs xs), pair-length x, spaced-short xs)
+
+joined-short : (octets : List ℕ) → length (joined_pairs octets) ≤ 5 * length octets + 2
+joined-short [] = omega arith
+joined-short (x ∷ xs) = omega (arith, length-append (encode_lower (x ∷ [])) (spaced_pairs xs), pair-length x, spaced-short xs)
+
+pub row-short : (kind : Kind) (row : List ℕ) → length (row_text kind row) ≤ 5 * length row + 2
+row-short Octets row = joined-short row
+row-short Boolean row = joined-short row
+row-short Integer row = joined-short row
+row-short Bits row = joined-short row
+row-short Object row = joined-short row
+row-short Relative row = joined-short row
+row-short Text row = quoted-short Text row
+row-short Utf8 row = quoted-short Utf8 row
+row-short Ucs2 row = quoted-short Ucs2 row
+row-short Ucs4 row = quoted-short Ucs4 row
+
+-- held values
+
+octets-text-short : (octets : List ℕ) → length (octets_value octets).text ≤ 330
+octets-text-short octets =
+    elim (nat_le (length octets) 16) as (λ b. nat_le (length octets) 16 ≡ b → length (if b then record { text = spaced_pairs octets; rows = [] } else only_rows (rows_of Octets octets)).text ≤ 330) [
+      | true ↦ λ e. let h : length octets ≤ 16 = leb-true (length octets) 16 e in omega (arith, spaced-short octets)
+      | false ↦ λ e. omega arith
+    ] refl
+
+spaced-length : (text : List ℕ) → length (spaced text) ≤ 1 + length text
+spaced-length [] = omega arith
+spaced-length (x ∷ xs) = omega arith
+
+digits-short : (n : ℕ) → n < 2 ^ 128 → length (decimal n) ≤ 39
+digits-short n h = length-decimal-le_wide 39 n (omega arith) (omega arith) (omega arith)
+
+signed-short : (z : ℤ) → mag z < 2 ^ 127 → length (signed_decimal z) ≤ 40
+signed-short (pos n) h = omega (arith, digits-short n (omega arith))
+signed-short (negsuc n) h = omega (arith, digits-short (suc n) (omega arith))
+
+boolean-short : (octets : List ℕ) → length octets ≤ 16 → length (boolean_value octets).text ≤ 330
+boolean-short [] h = omega arith
+boolean-short (x ∷ []) h = elim (eqb x 0) as (λ b. length (32 ∷ (if b then codes "FALSE" else codes "TRUE")) ≤ 330) [ true ↦ omega arith | false ↦ omega arith ]
+boolean-short (x ∷ y ∷ octets) h = octets-text-short (x ∷ y ∷ octets)
+
+integer-short : (octets : List ℕ) → length octets ≤ 16 → length (integer_value octets).text ≤ 330
+integer-short [] h = omega arith
+integer-short (x ∷ xs) h =
+    let f : FitsSigned w128 (twos_complement (x ∷ xs)) = twos-fits_all (x ∷ xs) h in
+    let e : nat_le (length (x ∷ xs)) 16 ≡ true = grind (arith, nat_tests) in
+    rw e (omega (arith, signed-short (twos_complement (x ∷ xs)) f.sfits))
+
+used-short : (unused : ℕ) (octets : List ℕ) → length octets ≤ 8 → length (used_digits unused octets) ≤ 65
+used-short unused octets h =
+    let n : ℕ = 8 * length octets - unused in
+    omega (arith, spaced-length (digits_of (take n (bits_of octets))), length-map (take n (bits_of octets)) (λ bit. 48 + bit), length-take n (bits_of octets), length-bits octets)
+
+pub count-short : (unused octets : ℕ) → octets < 2 ^ 64 → length (bit_count unused octets) ≤ 44
+count-short unused octets h = omega (arith, length-append (decimal (8 * octets - unused)) (codes " bits"), digits-short (8 * octets - unused) (omega arith))
+
+bits-short : (octets : List ℕ) → length octets ≤ 9 → length (bits_value octets).text ≤ 330
+bits-short [] h = omega arith
+bits-short (unused ∷ octets) h =
+    elim (is_readable unused (length octets)) as (λ b. length (if b then shown_with (bit_count unused (length octets) ++ used_digits unused octets) else octets_value (unused ∷ octets)).text ≤ 330) [
+      | true ↦ omega (arith, length-append (bit_count unused (length octets)) (used_digits unused octets), count-short unused (length octets) (omega arith), used-short unused octets (omega arith))
+      | false ↦ octets-text-short (unused ∷ octets)
+    ]
+
+text-short : (kind : Kind) (octets : List ℕ) → length octets ≤ 64 → length (32 ∷ quoted kind octets) ≤ 330
+text-short kind octets h = omega (arith, quoted-short kind octets)
+
+pairs-short : (octets : List ℕ) → length octets ≤ 64 → length (spaced_pairs octets) ≤ 330
+pairs-short octets h = omega (arith, spaced-short octets)
+
+pub plain-short : (kind : Kind) (octets : List ℕ) → length octets ≤ most_held kind → length (plain_text kind octets) ≤ 330
+plain-short Octets octets h = pairs-short octets (omega arith)
+plain-short Boolean octets h = boolean-short octets h
+plain-short Integer octets h = integer-short octets h
+plain-short Bits octets h = bits-short octets h
+plain-short Object octets h = pairs-short octets h
+plain-short Relative octets h = pairs-short octets h
+plain-short Text octets h = text-short Text octets h
+plain-short Utf8 octets h = text-short Utf8 octets h
+plain-short Ucs2 octets h = text-short Ucs2 octets h
+plain-short Ucs4 octets h = text-short Ucs4 octets h
+
+pub long-short : (size unused : ℕ) → size < 2 ^ 64 → length (long_text Bits size (unused ∷ [])) ≤ 330
+long-short size unused h =
+    elim (nat_le unused 7) as (λ b. length (if b then 32 ∷ bit_count unused (size - 1) else []) ≤ 330) [ true ↦ omega (arith, count-short unused (size - 1) (omega arith)) | false ↦ omega arith ]

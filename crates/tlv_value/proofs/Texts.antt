@@ -1,0 +1,58 @@
+-- The texts of values, piece by piece.
+use Rattle.std.proofs.Common.{◌≡◌, ℕ, zero, suc, ◌+◌, ◌-◌, ◌*◌, ◌<◌, ◌≤◌, List, [], ◌∷◌, ◌++◌, length, take, drop, get_or, refl, ap, ◌∙◌, arith, append-nil, length-append, add-one}
+use Rattle.std.proofs.Math.Seq.{drop-cons, take-append-add}
+use Rattle.std.proofs.lemmas.List.{map-append, length-take}
+use Rattle.std.specs.Prelude.{true}
+use Rattle.hex.specs.Hex.{encode_lower, encode_with}
+use Rattle.tlv_value.specs.Bits.{bits_of, last_bits}
+use Rattle.tlv_value.specs.Value.{bit_count, bits_value, digits_of, is_readable, spaced, spaced_pairs, used_digits}
+use Rattle.tlv_value.proofs.Numbers.{bits-append, length-bits}
+
+-- the digits of octet i, among those of all octets
+pub pair-at : (octets : List ℕ) (i : ℕ) → i < length octets → take 2 (drop (2 * i) (encode_lower octets)) ≡ encode_lower (get_or octets i 0 ∷ [])
+unfolding encode_with
+pair-at [] i h = absurd (omega arith)
+pair-at (x ∷ xs) zero h = refl
+pair-at (x ∷ xs) (suc i) h =
+    let e : 2 * suc i ≡ suc (suc (2 * i)) = omega arith in
+    rw e (pair-at xs i (omega arith))
+
+-- one pair more
+pub pairs-step : (octets : List ℕ) (i : ℕ) → i < length octets → spaced_pairs (drop i octets) ≡ 32 ∷ (encode_lower (get_or octets i 0 ∷ []) ++ spaced_pairs (drop (i + 1) octets))
+pairs-step octets i h = rw (drop-cons octets i 0 h, add-one) refl
+
+-- the bits of one octet more
+pub bits-step : (octets : List ℕ) (i : ℕ) → i < length octets
+    → digits_of (bits_of (drop i octets)) ≡ digits_of (last_bits 8 (get_or octets i 0)) ++ digits_of (bits_of (drop (i + 1) octets))
+bits-step octets i h =
+    rw (drop-cons octets i 0 h, add-one) (map-append (λ bit. 48 + bit) (last_bits 8 (get_or octets i 0)) (bits_of (drop (suc i) octets)))
+
+take-digits : (n : ℕ) (bits : List ℕ) → digits_of (take n bits) ≡ take n (digits_of bits)
+take-digits zero bits = refl
+take-digits (suc n) [] = refl
+take-digits (suc n) (b ∷ bits) = ap (λ (t : List ℕ). (48 + b) ∷ t) (take-digits n bits)
+
+spaced-some : (text : List ℕ) → 1 ≤ length text → spaced text ≡ 32 ∷ text
+spaced-some [] h = absurd (omega arith)
+spaced-some (x ∷ xs) h = refl
+
+-- the bits of the last octet
+pub used-last : (unused : ℕ) (front : List ℕ) (last : ℕ) → unused ≤ 7
+    → used_digits unused (front ++ last ∷ []) ≡ 32 ∷ (digits_of (bits_of front) ++ take (8 - unused) (digits_of (last_bits 8 last)))
+used-last unused front last h =
+    let l : 8 * length (front ++ last ∷ []) - unused ≡ length (bits_of front) + (8 - unused) = omega (arith, length-append front (last ∷ []), length-bits front) in
+    let b : bits_of (front ++ last ∷ []) ≡ bits_of front ++ last_bits 8 last = bits-append front (last ∷ []) ∙ ap (λ (t : List ℕ). bits_of front ++ t) (append-nil (last_bits 8 last)) in
+    let t : take (length (bits_of front) + (8 - unused)) (bits_of front ++ last_bits 8 last) ≡ bits_of front ++ take (8 - unused) (last_bits 8 last) =
+    take-append-add (bits_of front) (last_bits 8 last) (8 - unused) in
+    let d : digits_of (take (8 * length (front ++ last ∷ []) - unused) (bits_of (front ++ last ∷ []))) ≡ digits_of (bits_of front) ++ take (8 - unused) (digits_of (last_bits 8 last)) =
+    rw (l, b, t) (map-append (λ bit. 48 + bit) (bits_of front) (take (8 - unused) (last_bits 8 last)) ∙ ap (λ (t : List ℕ). digits_of (bits_of front) ++ t) (take-digits (8 - unused) (last_bits 8 last))) in
+    ap spaced d ∙ spaced-some (digits_of (bits_of front) ++ take (8 - unused) (digits_of (last_bits 8 last)))
+    (omega (arith, length-append (digits_of (bits_of front)) (take (8 - unused) (digits_of (last_bits 8 last))), length-take (8 - unused) (digits_of (last_bits 8 last))))
+
+-- a BIT STRING that can be read
+pub bits-readable : (c octets : List ℕ) → octets ≡ drop 1 c → 1 ≤ length c → is_readable (get_or c 0 0) (length octets) ≡ true
+    → (bits_value c).text ≡ (32 ∷ bit_count (get_or c 0 0) (length octets)) ++ used_digits (get_or c 0 0) octets
+bits-readable [] octets o h e = absurd (omega arith)
+bits-readable (unused ∷ rest) octets o h e =
+    let r : is_readable unused (length rest) ≡ true = rw o at e in
+    rw o (rw r refl)

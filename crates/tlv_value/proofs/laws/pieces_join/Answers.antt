@@ -1,0 +1,5 @@
+use Rattle.tlv_value.proofs.Pieces.{pieces-join}
+use Rattle.tlv_value.proofs.laws.pieces_join.Goals as goal
+
+pub returns : goal.returns
+returns c = pieces-join

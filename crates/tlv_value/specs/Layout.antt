@@ -1,0 +1,38 @@
+-- The lines of a value: what begins them, and what is left out.
+use Rattle.std.specs.Prelude.{ℕ, ◌+◌, ◌-◌, ◌*◌, Bool, eqb, nat_lt, if◌then◌else◌, List, [], ◌∷◌, ◌++◌, length, replicate, Option, Some, None, codes, decimal}
+use Rattle.tlv_value.specs.declared.layout.Layout.{Layout}
+
+abbrev pub spaces : ℕ → List ℕ
+spaces n = replicate n 0x20
+
+-- at the right end of so many places; what is longer takes as many as it needs
+abbrev pub right : ℕ → List ℕ → List ℕ
+right places text = spaces (places - length text) ++ text
+
+-- the first columns of an element's line: where it stands, and how many contents octets it has
+abbrev pub columns : ℕ → ℕ → List ℕ
+columns offset n = right 8 (decimal offset) ++ codes " " ++ right 6 (decimal n) ++ codes ": "
+
+-- the first columns of a row
+abbrev pub no_columns : List ℕ
+no_columns = spaces 17
+
+-- a line: its first columns, the indentation of its level, its text and a line feed
+abbrev pub line : Bool → List ℕ → ℕ → List ℕ → List ℕ
+line pure first level text = (if pure then [] else first) ++ spaces (2 * level) ++ text ++ 10 ∷ []
+
+-- a row of this number, from 0 on: above the limit the first row is three dots, and the others have no line
+abbrev pub limited : Option ℕ → ℕ → List ℕ → Option (List ℕ)
+limited None i text = Some text
+limited (Some limit) i text = if nat_lt i limit then Some text else (if eqb i limit then Some (codes "...") else None)
+
+abbrev pub some_line : Layout → Option (List ℕ) → List ℕ
+some_line layout None = []
+some_line layout (Some text) = line layout.pure no_columns (layout.level + 1) text
+
+abbrev pub row_line : Layout → ℕ → List ℕ → List ℕ
+row_line layout i text = some_line layout (limited layout.limit i text)
+
+-- what stands before the text of a line
+abbrev pub margin : Bool → List ℕ → ℕ → List ℕ
+margin pure first level = (if pure then [] else first) ++ spaces (2 * level)

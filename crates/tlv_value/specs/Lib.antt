@@ -1,0 +1,15 @@
+pub mod Kind
+pub mod Finding
+pub mod Bits
+pub mod Number
+pub mod Arcs
+pub mod Times
+pub mod Rows
+pub mod Room
+pub mod Units
+pub mod Layout
+pub mod Value
+pub mod State
+pub mod TextFields
+pub mod ObjectLines
+pub mod Laws

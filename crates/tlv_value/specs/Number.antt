@@ -1,0 +1,16 @@
+-- The numbers that INTEGER and ENUMERATED stand for: X.690 8.3 and 8.4.
+use Rattle.std.specs.Prelude.{ℕ, ◌*◌, ◌^◌, ◌&&◌, nat_le, if◌then◌else◌, List, [], ◌∷◌, length, ℤ, pos, ◌-ℤ◌, Option, Some, None}
+use Rattle.tlv_head.specs.Header.{value_of}
+use Rattle.tlv_value.specs.Bits.{bits_of}
+
+-- 8.3.3: the sum of the powers of two that the bits stand for, of which the first counts below zero
+abbrev pub signed_sum : List ℕ → ℤ
+signed_sum [] = pos 0
+signed_sum (bit ∷ bits) = pos (value_of 2 bits) -ℤ pos (bit * 2 ^ length bits)
+
+abbrev pub twos_complement : List ℕ → ℤ
+twos_complement octets = signed_sum (bits_of octets)
+
+-- of 1 to 16 octets
+abbrev pub number_of : List ℕ → Option ℤ
+number_of octets = if nat_le 1 (length octets) && nat_le (length octets) 16 then Some (twos_complement octets) else None

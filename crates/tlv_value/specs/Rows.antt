@@ -1,0 +1,68 @@
+-- How long contents are cut into rows.
+use Rattle.std.specs.Prelude.{ℕ, ◌+◌, ◌&&◌, Bool, eqb, nat_le, if◌then◌else◌, List, [], ◌∷◌, ◌++◌, length}
+use Rattle.tlv_value.specs.declared.kind.Kind.{Kind}
+use Rattle.tlv_value.specs.declared.kind.Kind.TheVariants.{Octets, Boolean, Integer, Bits, Object, Relative, Text, Utf8, Ucs2, Ucs4}
+
+-- how many octets a full row has
+abbrev pub row_size : Kind → ℕ
+row_size Octets = 16
+row_size Boolean = 16
+row_size Integer = 16
+row_size Bits = 16
+row_size Object = 16
+row_size Relative = 16
+row_size Text = 64
+row_size Utf8 = 64
+row_size Ucs2 = 64
+row_size Ucs4 = 64
+
+-- RFC 3629, 4: of how many octets a character is that begins with this one
+abbrev pub utf8_length : ℕ → ℕ
+utf8_length x =
+    if nat_le 0xc2 x && nat_le x 0xdf then 2
+    else if nat_le 0xe0 x && nat_le x 0xef then 3
+    else if nat_le 0xf0 x && nat_le x 0xf4 then 4
+    else 1
+
+-- how many octets want to stand in one row, from this one on
+abbrev pub announced : Kind → ℕ → ℕ
+announced Octets x = 1
+announced Boolean x = 1
+announced Integer x = 1
+announced Bits x = 1
+announced Object x = 1
+announced Relative x = 1
+announced Text x = 1
+announced Utf8 x = utf8_length x
+announced Ucs2 x = 1
+announced Ucs4 x = 1
+
+-- the octet has room in a row of so many octets
+abbrev pub has_room : Kind → ℕ → ℕ → Bool
+has_room kind octets x = nat_le (octets + announced kind x) (row_size kind)
+
+-- the rows that are full, of the octets of a row that has begun and those behind them: a row is full with its last octet, or
+-- with the octet behind it that has no room in it
+abbrev pub full_rows : Kind → List ℕ → List ℕ → List (List ℕ)
+full_rows kind row [] = []
+full_rows kind row (x ∷ xs) =
+    if has_room kind (length row) x
+    then (if eqb (length row + 1) (row_size kind) then (row ++ x ∷ []) ∷ full_rows kind [] xs else full_rows kind (row ++ x ∷ []) xs)
+    else row ∷ full_rows kind (x ∷ []) xs
+
+-- the octets of the row that has then begun
+abbrev pub open_row : Kind → List ℕ → List ℕ → List ℕ
+open_row kind row [] = row
+open_row kind row (x ∷ xs) =
+    if has_room kind (length row) x
+    then (if eqb (length row + 1) (row_size kind) then open_row kind [] xs else open_row kind (row ++ x ∷ []) xs)
+    else open_row kind (x ∷ []) xs
+
+-- a last row, which need not be full
+abbrev pub last_rows : List ℕ → List (List ℕ)
+last_rows [] = []
+last_rows (x ∷ xs) = (x ∷ xs) ∷ []
+
+-- all rows of the contents
+abbrev pub rows_of : Kind → List ℕ → List (List ℕ)
+rows_of kind octets = full_rows kind [] octets ++ last_rows (open_row kind [] octets)

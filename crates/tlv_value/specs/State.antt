@@ -1,0 +1,132 @@
+-- The lines of a primitive, and what is to be kept of its contents between their pieces.
+use Rattle.std.specs.Prelude.{ℕ, ◌+◌, ◌-◌, Bool, true, false, if◌then◌else◌, List, [], ◌∷◌, ◌++◌, length}
+use Rattle.tlv_head.specs.declared.header.Class.{Class}
+use Rattle.tlv_head.specs.Header.{Heading, announced}
+use Rattle.tlv_head.specs.Tag.{tag_text_of}
+use Rattle.tlv_value.specs.declared.kind.Kind.{Kind}
+use Rattle.tlv_value.specs.declared.kind.Kind.TheVariants.{Bits}
+use Rattle.tlv_value.specs.declared.layout.Layout.{Layout}
+use Rattle.tlv_value.specs.Kind.{kind_of}
+use Rattle.tlv_value.specs.Layout.{columns, line, row_line}
+use Rattle.tlv_value.specs.Rows.{full_rows, last_rows, open_row}
+use Rattle.tlv_value.specs.Value.{NameOf, held_value, in_rows, is_long, long_text, row_text, whole_value}
+
+abbrev pub element_line : Layout → ℕ → Class → ℕ → ℕ → List ℕ → List ℕ
+element_line layout offset class number n text = line layout.pure (columns offset n) layout.level (tag_text_of class number ++ text)
+
+-- rows in order, the first of which has this number
+abbrev pub row_lines : Kind → Layout → ℕ → List (List ℕ) → List ℕ
+row_lines kind layout i [] = []
+row_lines kind layout i (row ∷ rows) = row_line layout i (row_text kind row) ++ row_lines kind layout (i + 1) rows
+
+abbrev pub value_lines : Heading → Layout → List ℕ → List (List ℕ) → List ℕ
+value_lines h layout text rows = element_line layout h.offset h.class h.number (announced h.size) text ++ row_lines (kind_of h.class h.number) layout 0 rows
+
+-- the lines of a primitive that is whole
+abbrev pub whole_lines : NameOf → Heading → Layout → List ℕ → List ℕ
+whole_lines name_of h layout octets =
+    value_lines h layout (whole_value name_of (kind_of h.class h.number) octets).text (whole_value name_of (kind_of h.class h.number) octets).rows
+
+-- the line of a long value is known from its header; that of a BIT STRING from its first contents octet
+abbrev pub has_line : Kind → List ℕ → Bool
+has_line Bits [] = false
+has_line kind octets = true
+
+-- the lines of a primitive of whose contents these octets have come, and others are still to come: of a long value those that are known
+abbrev pub open_lines : Heading → Layout → List ℕ → List ℕ
+open_lines h layout octets =
+    if is_long (kind_of h.class h.number) (announced h.size)
+    then (if has_line (kind_of h.class h.number) octets
+    then value_lines h layout (long_text (kind_of h.class h.number) (announced h.size) octets) (full_rows (kind_of h.class h.number) [] (in_rows (kind_of h.class h.number) octets))
+    else [])
+    else []
+
+-- what is kept: of a long value whether its line was written, how many rows were full, and the octets of the row that has
+-- begun; of any other all octets
+pub record Kept : Type 0 where
+  pub lined : Bool
+  pub rows : ℕ
+  pub row : List ℕ
+
+-- what contracts see of a `ValueText`
+pub record TextState : Type 0 where
+  pub offset : ℕ
+  pub class : Class
+  pub number : ℕ
+  pub size : ℕ
+  pub layout : Layout
+  -- how many octets are still to come
+  pub left : ℕ
+  pub kept : Kept
+
+-- before any octet
+abbrev pub start : Heading → Layout → TextState
+start h layout = record {
+  offset = h.offset;
+  class = h.class;
+  number = h.number;
+  size = announced h.size;
+  layout = layout;
+  left = announced h.size;
+  kept = record { lined = has_line (kind_of h.class h.number) []; rows = 0; row = [] };
+}
+
+module _ (kind : Kind) (layout : Layout) where
+  -- of a long value with a line
+  abbrev pub rows_after : Kept → List ℕ → Kept
+  rows_after k octets = record { lined = true; rows = k.rows + length (full_rows kind k.row octets); row = open_row kind k.row octets }
+
+  abbrev pub rows_told : Kept → List ℕ → List ℕ
+  rows_told k octets = row_lines kind layout k.rows (full_rows kind k.row octets)
+
+  -- behind its line
+  abbrev pub first_kept : ℕ → Kept
+  first_kept x = record { lined = true; rows = 0; row = in_rows kind (x ∷ []) }
+
+abbrev pub kind_in : TextState → Kind
+kind_in s = kind_of s.class s.number
+
+abbrev pub line_in : TextState → List ℕ → List ℕ
+line_in s text = element_line s.layout s.offset s.class s.number s.size text
+
+abbrev pub unlined_after : Kind → Layout → Kept → List ℕ → Kept
+unlined_after kind layout k [] = k
+unlined_after kind layout k (x ∷ octets) = rows_after kind layout (first_kept kind layout x) octets
+
+abbrev pub unlined_told : TextState → List ℕ → List ℕ
+unlined_told s [] = []
+unlined_told s (x ∷ octets) = line_in s (long_text (kind_in s) s.size (x ∷ [])) ++ rows_told (kind_in s) s.layout (first_kept (kind_in s) s.layout x) octets
+
+abbrev pub kept_after : TextState → List ℕ → Kept
+kept_after s octets =
+    if is_long (kind_in s) s.size
+    then (if s.kept.lined then rows_after (kind_in s) s.layout s.kept octets else unlined_after (kind_in s) s.layout s.kept octets)
+    else record { lined = s.kept.lined; rows = s.kept.rows; row = s.kept.row ++ octets }
+
+-- the state after more octets
+abbrev pub after : TextState → List ℕ → TextState
+after s octets = record {
+  offset = s.offset;
+  class = s.class;
+  number = s.number;
+  size = s.size;
+  layout = s.layout;
+  left = s.left - length octets;
+  kept = kept_after s octets;
+}
+
+-- the lines that are known with the header
+abbrev pub begun : TextState → List ℕ
+begun s = if is_long (kind_in s) s.size then (if s.kept.lined then line_in s [] else []) else []
+
+-- the lines that are known with more octets
+abbrev pub told : TextState → List ℕ → List ℕ
+told s octets =
+    if is_long (kind_in s) s.size then (if s.kept.lined then rows_told (kind_in s) s.layout s.kept octets else unlined_told s octets) else []
+
+-- the lines that are known with the end
+abbrev pub ended : NameOf → TextState → List ℕ
+ended name_of s =
+    if is_long (kind_in s) s.size
+    then row_lines (kind_in s) s.layout s.kept.rows (last_rows s.kept.row)
+    else line_in s (held_value name_of (kind_in s) s.kept.row).text ++ row_lines (kind_in s) s.layout 0 (held_value name_of (kind_in s) s.kept.row).rows

@@ -1,0 +1,112 @@
+-- Times as texts: X.680 46 and 47, X.690 11.7 and 11.8.
+use Rattle.std.specs.Prelude.{ℕ, ◌+◌, ◌-◌, ◌*◌, Bool, true, false, ◌&&◌, nat_le, if◌then◌else◌, List, [], ◌∷◌, ◌++◌, flat_map}
+
+-- a form of text, by what may follow a front of it: for some octets, each rest that some front of the form leaves
+abbrev pub Form : Type 0
+Form = List ℕ → List (List ℕ)
+
+abbrev pub is_rest_empty : List (List ℕ) → Bool
+is_rest_empty [] = false
+is_rest_empty ([] ∷ rests) = true
+is_rest_empty ((x ∷ xs) ∷ rests) = is_rest_empty rests
+
+-- the whole has the form
+abbrev pub has_form : Form → List ℕ → Bool
+has_form form octets = is_rest_empty (form octets)
+
+infixr 20 ◌then◌
+abbrev pub ◌then◌ : Form → Form → Form
+(first then second) octets = flat_map second (first octets)
+
+infixr 15 ◌or◌
+abbrev pub ◌or◌ : Form → Form → Form
+(first or second) octets = first octets ++ second octets
+
+abbrev pub nothing : Form
+nothing octets = octets ∷ []
+
+abbrev pub maybe : Form → Form
+maybe form = form or nothing
+
+-- one octet from low to high
+abbrev pub one : ℕ → ℕ → Form
+one low high [] = []
+one low high (x ∷ xs) = if nat_le low x && nat_le x high then xs ∷ [] else []
+
+abbrev pub mark : ℕ → Form
+mark x = one x x
+
+abbrev pub is_digit : ℕ → Bool
+is_digit x = nat_le 48 x && nat_le x 57
+
+-- digits, or none
+abbrev pub digits : Form
+digits [] = [] ∷ []
+digits (x ∷ xs) = (x ∷ xs) ∷ (if is_digit x then digits xs else [])
+
+-- two digits, of a number from low to high
+abbrev pub two : ℕ → ℕ → Form
+two low high [] = []
+two low high (x ∷ []) = []
+two low high (x ∷ y ∷ rest) =
+    if is_digit x && is_digit y && nat_le low (10 * (x - 48) + (y - 48)) && nat_le (10 * (x - 48) + (y - 48)) high then rest ∷ [] else []
+
+-- month and day
+abbrev pub day : Form
+day = two 1 12 then two 1 31
+
+abbrev pub hour : Form
+hour = two 0 24
+
+abbrev pub minute : Form
+minute = two 0 59
+
+abbrev pub second : Form
+second = two 0 60
+
+-- 43 is +, 45 is -, 90 is Z
+abbrev pub sign : Form
+sign = mark 43 or mark 45
+
+abbrev pub utc_minute : Form
+utc_minute = two 0 99 then day then hour then minute
+
+abbrev pub utc_zone : Form
+utc_zone = mark 90 or (sign then hour then minute)
+
+-- X.680 47.3
+abbrev pub utc_time : Form
+utc_time = utc_minute then maybe second then utc_zone
+
+abbrev pub general_hour : Form
+general_hour = two 0 99 then two 0 99 then day then hour
+
+-- 46 is the point, 44 the comma
+abbrev pub fraction : Form
+fraction = (mark 46 or mark 44) then one 48 57 then digits
+
+abbrev pub general_zone : Form
+general_zone = mark 90 or (sign then hour then maybe minute)
+
+-- X.680 46.2
+abbrev pub general_time : Form
+general_time = general_hour then maybe (minute then maybe second) then maybe fraction then maybe general_zone
+
+-- midnight is hour 0 of the following day
+abbrev pub canonical_clock : Form
+canonical_clock = two 0 23 then minute then second
+
+abbrev pub canonical_second : Form
+canonical_second = two 0 99 then day then canonical_clock
+
+-- 11.8
+abbrev pub canonical_utc_time : Form
+canonical_utc_time = canonical_second then mark 90
+
+-- 11.7.3: no zero ends the fraction
+abbrev pub canonical_fraction : Form
+canonical_fraction = mark 46 then digits then one 49 57
+
+-- 11.7
+abbrev pub canonical_general_time : Form
+canonical_general_time = (two 0 99 then canonical_second) then maybe canonical_fraction then mark 90

@@ -1,0 +1,89 @@
+-- The texts of characters: X.690 8.23, X.680 41.
+use Rattle.std.specs.Prelude.{ℕ, zero, suc, ◌+◌, ◌-◌, ◌*◌, ◌/◌, ◌%◌, ◌&&◌, ◌||◌, Bool, eqb, nat_le, if◌then◌else◌, List, [], ◌∷◌, ◌++◌, length, flat_map, take, slice_index, codes}
+use Rattle.std.specs.Str.{is_utf8}
+use Rattle.hex.specs.Hex.{encode_lower}
+use Rattle.tlv_value.specs.declared.kind.Kind.{Kind}
+use Rattle.tlv_value.specs.declared.kind.Kind.TheVariants.{Utf8, Ucs2, Ucs4}
+use Rattle.tlv_value.specs.Rows.{utf8_length}
+
+-- 22 is the quotation mark, 5c the reverse solidus
+abbrev pub printable_text : ℕ → List ℕ
+printable_text x = if eqb x 0x22 || eqb x 0x5c then 0x5c ∷ x ∷ [] else x ∷ []
+
+abbrev pub is_printable : ℕ → Bool
+is_printable x = nat_le 0x20 x && nat_le x 0x7e
+
+abbrev pub escaped_octet : ℕ → List ℕ
+escaped_octet x = codes "\\x" ++ encode_lower (x ∷ [])
+
+-- a character of one octet
+abbrev pub octet_text : ℕ → List ℕ
+octet_text x = if is_printable x then printable_text x else escaped_octet x
+
+-- 30 is the digit 0
+abbrev pub without_zeros : List ℕ → List ℕ
+without_zeros [] = []
+without_zeros (d ∷ []) = d ∷ []
+without_zeros (d ∷ e ∷ ds) = if eqb d 0x30 then without_zeros (e ∷ ds) else d ∷ e ∷ ds
+
+-- the number that octets make, in hexadecimal
+abbrev pub escaped_number : List ℕ → List ℕ
+escaped_number octets = codes "\\u{" ++ without_zeros (encode_lower octets) ++ codes "}"
+
+-- a character of two octets, and one of four
+abbrev pub ucs2_text : ℕ → ℕ → List ℕ
+ucs2_text a b = if eqb a 0 && is_printable b then printable_text b else escaped_number (a ∷ b ∷ [])
+
+abbrev pub ucs4_text : ℕ → ℕ → ℕ → ℕ → List ℕ
+ucs4_text a b c d = if eqb a 0 && eqb b 0 && eqb c 0 && is_printable d then printable_text d else escaped_number (a ∷ b ∷ c ∷ d ∷ [])
+
+-- RFC 3629, 3: the number of a character of two to four octets
+abbrev pub utf8_number : List ℕ → ℕ
+utf8_number (a ∷ b ∷ []) = a % 32 * 64 + b % 64
+utf8_number (a ∷ b ∷ c ∷ []) = a % 16 * 4096 + b % 64 * 64 + c % 64
+utf8_number (a ∷ b ∷ c ∷ d ∷ []) = a % 8 * 262144 + b % 64 * 4096 + c % 64 * 64 + d % 64
+utf8_number _ = 0
+
+-- the octets of a number below 2^24
+abbrev pub three_octets : ℕ → List ℕ
+three_octets n = n / 65536 % 256 ∷ n / 256 % 256 ∷ n % 256 ∷ []
+
+-- how many octets in front make a unit: a character, or an octet that belongs to none
+abbrev pub unit_size : Kind → List ℕ → ℕ
+unit_size Ucs2 octets = if nat_le 2 (length octets) then 2 else 1
+unit_size Ucs4 octets = if nat_le 4 (length octets) then 4 else 1
+unit_size Utf8 octets = if is_utf8 (take (utf8_length (slice_index octets 0)) octets) then length (take (utf8_length (slice_index octets 0)) octets) else 1
+unit_size _ octets = 1
+
+-- the units in order, behind octets that belong to one before them
+abbrev pub units : Kind → ℕ → List ℕ → List (List ℕ)
+units kind skipped [] = []
+units kind zero (x ∷ xs) = take (unit_size kind (x ∷ xs)) (x ∷ xs) ∷ units kind (unit_size kind (x ∷ xs) - 1) xs
+units kind (suc skipped) (x ∷ xs) = units kind skipped xs
+
+-- a unit of one octet
+abbrev pub alone : (ℕ → List ℕ) → List ℕ → List ℕ
+alone text [] = []
+alone text (a ∷ rest) = text a
+
+abbrev pub ucs2_unit : List ℕ → List ℕ
+ucs2_unit (a ∷ b ∷ []) = ucs2_text a b
+ucs2_unit unit = alone escaped_octet unit
+
+abbrev pub ucs4_unit : List ℕ → List ℕ
+ucs4_unit (a ∷ b ∷ c ∷ d ∷ []) = ucs4_text a b c d
+ucs4_unit unit = alone escaped_octet unit
+
+abbrev pub utf8_unit : List ℕ → List ℕ
+utf8_unit (a ∷ []) = octet_text a
+utf8_unit unit = escaped_number (three_octets (utf8_number unit))
+
+abbrev pub unit_text : Kind → List ℕ → List ℕ
+unit_text Ucs2 unit = ucs2_unit unit
+unit_text Ucs4 unit = ucs4_unit unit
+unit_text Utf8 unit = utf8_unit unit
+unit_text _ unit = alone octet_text unit
+
+-- a row of characters, in quotation marks
+abbrev pub quoted : Kind → List ℕ → List ℕ
+quoted kind row = 0x22 ∷ flat_map (unit_text kind) (units kind 0 row) ++ 0x22 ∷ []

@@ -1,0 +1,22 @@
+//! The numbers that INTEGER and ENUMERATED stand for.
+ghost use Rattle.std.specs.Prelude.{◌≡◌};
+ghost use Rattle.tlv_value.specs.Number.{number_of};
+
+/// The number that the contents of an INTEGER or ENUMERATED stand for, in two's complement (8.3.3). None where there are
+/// no octets, or more than 16.
+pub fn decimal_of(contents: &[u8]) -> Option<i128>
+    ensures { result ≡ number_of contents.now }
+{
+    if contents.len() > 16 {
+        return None;
+    }
+    let (first, rest) = contents.split_first()?;
+    let mut number = i128::from(*first);
+    if number >= 128 {
+        number -= 256;
+    }
+    for octet in rest {
+        number = number * 256 + i128::from(*octet);
+    }
+    Some(number)
+}

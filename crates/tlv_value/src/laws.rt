@@ -1,0 +1,23 @@
+//! Laws of the definitions: each is the contract of a function that does nothing.
+
+ghost use Rattle.tlv_value.specs.Laws.{LinesBegin, LinesEnd, LinesGoOn, PiecesJoin};
+
+/// It does not matter into which pieces contents are cut.
+pub fn pieces_join()
+    ensures { PiecesJoin }
+{}
+
+/// What `begin` writes are the lines of a primitive of which no contents octet has come.
+pub fn lines_begin()
+    ensures { LinesBegin }
+{}
+
+/// What `bytes` writes is what its octets add to the lines of a primitive that is still open.
+pub fn lines_go_on()
+    ensures { LinesGoOn }
+{}
+
+/// What `end` writes is the rest of the lines of the whole primitive.
+pub fn lines_end()
+    ensures { LinesEnd }
+{}

@@ -1,0 +1,26 @@
+//! What the contents of a primitive mean (ITU-T X.690, clauses 8, 9 and 11): the lines that show a value, in
+//! whatever pieces its octets come, and what is found on it.
+#![tactic(auto)]
+
+mod decimal;
+mod dotted;
+mod finding;
+mod kind;
+pub mod laws;
+mod layout;
+mod line;
+mod naming;
+mod putting;
+mod rows;
+mod text;
+mod time;
+mod units;
+mod value;
+
+pub use decimal::decimal_of;
+pub use dotted::dotted_of;
+pub use finding::Finding;
+pub use layout::Layout;
+pub use naming::NameTable;
+pub use text::ValueText;
+pub use time::{general_canonical, general_ok, utc_canonical, utc_ok};

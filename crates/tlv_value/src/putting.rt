@@ -1,0 +1,323 @@
+//! Lines on their way to an [`Out`].
+ghost use Rattle.std.specs.Prelude.{◌≡◌, ◌+◌, ◌-◌, ◌*◌, ◌<◌, ◌≤◌, ◌^◌, ◌++◌, ◌∷◌, [], codes, false, length, true, unwrap_or, OnErr, OnOk};
+ghost use Rattle.std.specs.Io.KnownBytes.{Appends};
+ghost use Rattle.tlv_walk.specs.Device.{failures_after};
+ghost use Rattle.tlv_walk.specs.Out.{lender_of, put_to};
+ghost use Rattle.tlv_walk.specs.Prefix.{HasPrefix};
+ghost use Rattle.tlv_value.specs.Layout.{row_line as row_line_of};
+ghost use Rattle.tlv_value.specs.ObjectLines.{object_lines, octets_lines};
+ghost use Rattle.tlv_value.specs.Rows.{full_rows, last_rows, open_row, row_size as row_size_of, rows_of};
+ghost use Rattle.tlv_value.specs.State.{row_lines};
+ghost use Rattle.tlv_value.specs.Value.{long_text, most_held, no_names, plain_text, row_text};
+
+use crate::dotted::dotted_of;
+use crate::kind::Kind;
+use crate::line::Line;
+use crate::rows::{fitting, row_size};
+use crate::{Layout, NameTable};
+use arrayvec::ArrayVec;
+use tlv_walk::{Drain, Out, WriteFault};
+
+/// Puts a line that lacks its line feed alone.
+pub(crate) fn put_line<D: Drain>(line: Line, out: &mut Out<'_, D>) -> Result<(), WriteFault>
+    requires { length line + 1 ≤ 1024 }
+    ensures same_reference { (lender_of out.new).ghost_name ≡ (lender_of out.old).ghost_name }
+    ensures ok { OnOk result (Appends (put_to D.taken out.old) (put_to D.taken out.new) (line ++ 10 ∷ [])) }
+    ensures err { OnErr result (HasPrefix (put_to D.taken out.old) (D.taken (lender_of out.new).now) (line ++ 10 ∷ [])) }
+    ensures failed { D.failures (lender_of out.new).now ≡ failures_after result (D.failures (lender_of out.old).now) }
+{
+    let mut line = line;
+    line.push(b"\n");
+    out.put(line.as_slice())
+}
+
+/// Puts a line of an element with a held value that is no object identifier.
+pub(crate) fn put_value<D: Drain>(
+    line: Line,
+    kind: Kind,
+    contents: &[u8],
+    out: &mut Out<'_, D>,
+) -> Result<(), WriteFault>
+    requires short { length line ≤ 593 }
+    requires held { length contents.now ≤ most_held kind }
+    ensures same_reference { (lender_of out.new).ghost_name ≡ (lender_of out.old).ghost_name }
+    ensures ok { OnOk result (Appends (put_to D.taken out.old) (put_to D.taken out.new) (line ++ plain_text kind contents.now ++ 10 ∷ [])) }
+    ensures err { OnErr result (HasPrefix (put_to D.taken out.old) (D.taken (lender_of out.new).now) (line ++ plain_text kind contents.now ++ 10 ∷ [])) }
+    ensures failed { D.failures (lender_of out.new).now ≡ failures_after result (D.failures (lender_of out.old).now) }
+{
+    let mut line = line;
+    line.value(kind, contents);
+    put_line(line, out)
+}
+
+/// Puts a line of a long BIT STRING of this size, whose first contents octet is known.
+pub(crate) fn put_bits<D: Drain>(
+    line: Line,
+    size: u64,
+    unused: u8,
+    out: &mut Out<'_, D>,
+) -> Result<(), WriteFault>
+    requires short { length line ≤ 593 }
+    requires long { 9 < size }
+    ensures same_reference { (lender_of out.new).ghost_name ≡ (lender_of out.old).ghost_name }
+    ensures ok { OnOk result (Appends (put_to D.taken out.old) (put_to D.taken out.new) (line ++ long_text Kind.Bits size (unused ∷ []) ++ 10 ∷ [])) }
+    ensures err { OnErr result (HasPrefix (put_to D.taken out.old) (D.taken (lender_of out.new).now) (line ++ long_text Kind.Bits size (unused ∷ []) ++ 10 ∷ [])) }
+    ensures failed { D.failures (lender_of out.new).now ≡ failures_after result (D.failures (lender_of out.old).now) }
+{
+    let mut line = line;
+    line.long_bits(size, unused);
+    put_line(line, out)
+}
+
+/// Puts the lines of an object identifier: its dotted text, with its name where it has one, or its octets.
+pub(crate) fn put_object<N: NameTable, D: Drain>(
+    line: Line,
+    layout: Layout,
+    contents: &[u8],
+    names: &N,
+    out: &mut Out<'_, D>,
+) -> Result<(), WriteFault>
+    requires short { length line ≤ 593 }
+    requires held { length contents.now ≤ 64 }
+    ensures same_reference { (lender_of out.new).ghost_name ≡ (lender_of out.old).ghost_name }
+    ensures ok { OnOk result (Appends (put_to D.taken out.old) (put_to D.taken out.new) (object_lines (N.name_of names.now) layout line false contents.now)) }
+    ensures err { OnErr result (HasPrefix (put_to D.taken out.old) (D.taken (lender_of out.new).now) (object_lines (N.name_of names.now) layout line false contents.now)) }
+    ensures failed { D.failures (lender_of out.new).now ≡ failures_after result (D.failures (lender_of out.old).now) }
+{
+    let mut dotted = ArrayVec::new();
+    if !dotted_of(contents, false, &mut dotted) {
+        return put_octets(line, layout, contents, out);
+    }
+    match names.get(dotted.as_slice()) {
+        Some(name) => put_named(line, dotted.as_slice(), name, out),
+        None => put_dotted(line, dotted.as_slice(), out),
+    }
+}
+
+/// Puts the lines of a relative object identifier: its dotted text, or its octets.
+pub(crate) fn put_relative<D: Drain>(
+    line: Line,
+    layout: Layout,
+    contents: &[u8],
+    out: &mut Out<'_, D>,
+) -> Result<(), WriteFault>
+    requires short { length line ≤ 593 }
+    requires held { length contents.now ≤ 64 }
+    ensures same_reference { (lender_of out.new).ghost_name ≡ (lender_of out.old).ghost_name }
+    ensures ok { OnOk result (Appends (put_to D.taken out.old) (put_to D.taken out.new) (object_lines no_names layout line true contents.now)) }
+    ensures err { OnErr result (HasPrefix (put_to D.taken out.old) (D.taken (lender_of out.new).now) (object_lines no_names layout line true contents.now)) }
+    ensures failed { D.failures (lender_of out.new).now ≡ failures_after result (D.failures (lender_of out.old).now) }
+{
+    let mut dotted = ArrayVec::new();
+    if !dotted_of(contents, true, &mut dotted) {
+        return put_octets(line, layout, contents, out);
+    }
+    put_dotted(line, dotted.as_slice(), out)
+}
+
+/// Puts a line of an element with a dotted text.
+fn put_dotted<D: Drain>(line: Line, dotted: &[u8], out: &mut Out<'_, D>) -> Result<(), WriteFault>
+    requires short { length line ≤ 593 }
+    requires held { length dotted.now ≤ 320 }
+    ensures same_reference { (lender_of out.new).ghost_name ≡ (lender_of out.old).ghost_name }
+    ensures ok { OnOk result (Appends (put_to D.taken out.old) (put_to D.taken out.new) (line ++ 32 ∷ dotted.now ++ 10 ∷ [])) }
+    ensures err { OnErr result (HasPrefix (put_to D.taken out.old) (D.taken (lender_of out.new).now) (line ++ 32 ∷ dotted.now ++ 10 ∷ [])) }
+    ensures failed { D.failures (lender_of out.new).now ≡ failures_after result (D.failures (lender_of out.old).now) }
+{
+    let mut line = line;
+    line.push(b" ");
+    line.push(dotted);
+    put_line(line, out)
+}
+
+/// Puts a line of an element with a dotted text and its name, which may be of any length.
+fn put_named<D: Drain>(
+    line: Line,
+    dotted: &[u8],
+    name: &[u8],
+    out: &mut Out<'_, D>,
+) -> Result<(), WriteFault>
+    requires short { length line ≤ 593 }
+    requires held { length dotted.now ≤ 320 }
+    ensures same_reference { (lender_of out.new).ghost_name ≡ (lender_of out.old).ghost_name }
+    ensures ok { OnOk result (Appends (put_to D.taken out.old) (put_to D.taken out.new) (((line ++ 32 ∷ dotted.now ++ codes " (") ++ name.now) ++ codes ")\n")) }
+    ensures err { OnErr result (HasPrefix (put_to D.taken out.old) (D.taken (lender_of out.new).now) (((line ++ 32 ∷ dotted.now ++ codes " (") ++ name.now) ++ codes ")\n")) }
+    ensures failed { D.failures (lender_of out.new).now ≡ failures_after result (D.failures (lender_of out.old).now) }
+{
+    let mut line = line;
+    line.push(b" ");
+    line.push(dotted);
+    line.push(b" (");
+    put_three(line.as_slice(), name, b")\n", out)
+}
+
+/// Puts three texts, one behind another.
+fn put_three<D: Drain>(
+    first: &[u8],
+    second: &[u8],
+    third: &[u8],
+    out: &mut Out<'_, D>,
+) -> Result<(), WriteFault>
+    ensures same_reference { (lender_of out.new).ghost_name ≡ (lender_of out.old).ghost_name }
+    ensures ok { OnOk result (Appends (put_to D.taken out.old) (put_to D.taken out.new) ((first.now ++ second.now) ++ third.now)) }
+    ensures err { OnErr result (HasPrefix (put_to D.taken out.old) (D.taken (lender_of out.new).now) ((first.now ++ second.now) ++ third.now)) }
+    ensures failed { D.failures (lender_of out.new).now ≡ failures_after result (D.failures (lender_of out.old).now) }
+{
+    out.put(first)?;
+    out.put(second)?;
+    out.put(third)
+}
+
+/// Puts the lines of up to 64 octets: on the element's line, or in rows below it.
+fn put_octets<D: Drain>(
+    line: Line,
+    layout: Layout,
+    contents: &[u8],
+    out: &mut Out<'_, D>,
+) -> Result<(), WriteFault>
+    requires short { length line ≤ 593 }
+    requires held { length contents.now ≤ 64 }
+    ensures same_reference { (lender_of out.new).ghost_name ≡ (lender_of out.old).ghost_name }
+    ensures ok { OnOk result (Appends (put_to D.taken out.old) (put_to D.taken out.new) (octets_lines layout line contents.now)) }
+    ensures err { OnErr result (HasPrefix (put_to D.taken out.old) (D.taken (lender_of out.new).now) (octets_lines layout line contents.now)) }
+    ensures failed { D.failures (lender_of out.new).now ≡ failures_after result (D.failures (lender_of out.old).now) }
+{
+    if contents.len() <= 16 {
+        return put_value(line, Kind::Octets, contents, out);
+    }
+    put_line(line, out)?;
+    put_all_rows(layout, contents, out)
+}
+
+/// Puts rows of all of the octets.
+fn put_all_rows<D: Drain>(
+    layout: Layout,
+    contents: &[u8],
+    out: &mut Out<'_, D>,
+) -> Result<(), WriteFault>
+    requires { length contents.now ≤ 64 }
+    ensures same_reference { (lender_of out.new).ghost_name ≡ (lender_of out.old).ghost_name }
+    ensures ok { OnOk result (Appends (put_to D.taken out.old) (put_to D.taken out.new) (row_lines Kind.Octets layout 0 (rows_of Kind.Octets contents.now))) }
+    ensures err { OnErr result (HasPrefix (put_to D.taken out.old) (D.taken (lender_of out.new).now) (row_lines Kind.Octets layout 0 (rows_of Kind.Octets contents.now))) }
+    ensures failed { D.failures (lender_of out.new).now ≡ failures_after result (D.failures (lender_of out.old).now) }
+{
+    let mut row = ArrayVec::new();
+    let mut rows = 0;
+    put_rows(Kind::Octets, layout, &mut row, &mut rows, contents, out)?;
+    put_last(Kind::Octets, layout, rows, row.as_slice(), out)
+}
+
+/// Puts the rows that are full, of the octets of the row that has begun and those behind them. What is left begins a row.
+pub(crate) fn put_rows<D: Drain>(
+    kind: Kind,
+    layout: Layout,
+    row: &mut ArrayVec<u8, 64>,
+    rows: &mut u64,
+    octets: &[u8],
+    out: &mut Out<'_, D>,
+) -> Result<(), WriteFault>
+    requires begun { length row.old.items < row_size_of kind }
+    requires counted { rows.old + length row.old.items + length octets.now < 2 ^ 64 }
+    ensures begun { length row.new.items < row_size_of kind }
+    ensures counted { rows.new + length row.new.items ≤ rows.old + length row.old.items + length octets.now }
+    ensures row { OnOk result (row.new.items ≡ open_row kind row.old.items octets.now) }
+    ensures rows { OnOk result (rows.new ≡ rows.old + length (full_rows kind row.old.items octets.now)) }
+    ensures same_reference { (lender_of out.new).ghost_name ≡ (lender_of out.old).ghost_name }
+    ensures ok { OnOk result (Appends (put_to D.taken out.old) (put_to D.taken out.new) (row_lines kind layout rows.old (full_rows kind row.old.items octets.now))) }
+    ensures err { OnErr result (HasPrefix (put_to D.taken out.old) (D.taken (lender_of out.new).now) (row_lines kind layout rows.old (full_rows kind row.old.items octets.now))) }
+    ensures failed { D.failures (lender_of out.new).now ≡ failures_after result (D.failures (lender_of out.old).now) }
+{
+    let size = row_size(kind);
+    let mut rest = octets;
+    while !rest.is_empty() {
+        let (part, more) = rest.split_at(fitting(kind, row.len(), rest));
+        rest = more;
+        if row.len() + part.len() < size && rest.is_empty() {
+            let _ = row.try_extend_from_slice(part);
+            return Ok(());
+        }
+        let index = *rows;
+        *rows += 1;
+        put_full(kind, layout, index, row, part, out)?;
+    }
+    Ok(())
+}
+
+/// Puts the row that has begun with the octets that fill it: from where they stand, if they are the whole row.
+fn put_full<D: Drain>(
+    kind: Kind,
+    layout: Layout,
+    index: u64,
+    row: &mut ArrayVec<u8, 64>,
+    part: &[u8],
+    out: &mut Out<'_, D>,
+) -> Result<(), WriteFault>
+    requires { length row.old.items + length part.now ≤ 64 }
+    ensures row { row.new.items ≡ [] }
+    ensures same_reference { (lender_of out.new).ghost_name ≡ (lender_of out.old).ghost_name }
+    ensures ok { OnOk result (Appends (put_to D.taken out.old) (put_to D.taken out.new) (row_line_of layout index (row_text kind (row.old.items ++ part.now)))) }
+    ensures err { OnErr result (HasPrefix (put_to D.taken out.old) (D.taken (lender_of out.new).now) (row_line_of layout index (row_text kind (row.old.items ++ part.now)))) }
+    ensures failed { D.failures (lender_of out.new).now ≡ failures_after result (D.failures (lender_of out.old).now) }
+{
+    if row.is_empty() {
+        return put_row(kind, layout, index, part, out);
+    }
+    let _ = row.try_extend_from_slice(part);
+    let full = row.take();
+    put_row(kind, layout, index, full.as_slice(), out)
+}
+
+/// Puts a last row, where there is one.
+pub(crate) fn put_last<D: Drain>(
+    kind: Kind,
+    layout: Layout,
+    index: u64,
+    row: &[u8],
+    out: &mut Out<'_, D>,
+) -> Result<(), WriteFault>
+    requires { length row.now ≤ 64 }
+    ensures same_reference { (lender_of out.new).ghost_name ≡ (lender_of out.old).ghost_name }
+    ensures ok { OnOk result (Appends (put_to D.taken out.old) (put_to D.taken out.new) (row_lines kind layout index (last_rows row.now))) }
+    ensures err { OnErr result (HasPrefix (put_to D.taken out.old) (D.taken (lender_of out.new).now) (row_lines kind layout index (last_rows row.now))) }
+    ensures failed { D.failures (lender_of out.new).now ≡ failures_after result (D.failures (lender_of out.old).now) }
+{
+    if row.is_empty() {
+        return Ok(());
+    }
+    put_row(kind, layout, index, row, out)
+}
+
+/// Puts a row, unless that is past the limit.
+fn put_row<D: Drain>(
+    kind: Kind,
+    layout: Layout,
+    index: u64,
+    row: &[u8],
+    out: &mut Out<'_, D>,
+) -> Result<(), WriteFault>
+    requires { length row.now ≤ 64 }
+    ensures same_reference { (lender_of out.new).ghost_name ≡ (lender_of out.old).ghost_name }
+    ensures ok { OnOk result (Appends (put_to D.taken out.old) (put_to D.taken out.new) (row_line_of layout index (row_text kind row.now))) }
+    ensures err { OnErr result (HasPrefix (put_to D.taken out.old) (D.taken (lender_of out.new).now) (row_line_of layout index (row_text kind row.now))) }
+    ensures failed { D.failures (lender_of out.new).now ≡ failures_after result (D.failures (lender_of out.old).now) }
+{
+    match row_line(kind, layout, index, row) {
+        Some(line) => out.put(line.as_slice()),
+        None => Ok(()),
+    }
+}
+
+/// The line of a row, unless that is past the limit.
+fn row_line(kind: Kind, layout: Layout, index: u64, row: &[u8]) -> Option<Line>
+    requires { length row.now ≤ 64 }
+    ensures { unwrap_or result [] ≡ row_line_of layout index (row_text kind row.now) }
+{
+    let mut line = Line::of_row(layout);
+    match layout.limit {
+        Some(limit) if index > u64::from(limit) => return None,
+        Some(limit) if index == u64::from(limit) => line.push(b"..."),
+        _ => line.row(kind, row),
+    }
+    line.push(b"\n");
+    Some(line)
+}

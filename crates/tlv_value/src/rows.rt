@@ -1,0 +1,50 @@
+//! Where a row of long contents ends.
+ghost use Rattle.std.specs.Prelude.{◌≡◌, ◌+◌, ◌<◌, ◌≤◌, false, length, slice_index};
+ghost use Rattle.tlv_value.specs.Room.{HaveRoom};
+ghost use Rattle.tlv_value.specs.Rows.{announced as announced_by, has_room, row_size as row_size_of, utf8_length as utf8_length_of};
+
+use crate::kind::Kind;
+
+/// How many octets a full row has.
+pub(crate) fn row_size(kind: Kind) -> usize
+    ensures { result ≡ row_size_of kind }
+{
+    match kind {
+        Kind::Text | Kind::Utf8 | Kind::Ucs2 | Kind::Ucs4 => 64,
+        _ => 16,
+    }
+}
+
+/// How many of the octets in front have room in a row that has so many already.
+pub(crate) fn fitting(kind: Kind, begun: usize, octets: &[u8]) -> usize
+    requires { begun ≤ row_size_of kind }
+    ensures within { result ≤ length octets.now }
+    ensures bound { begun + result ≤ row_size_of kind }
+    ensures fits { HaveRoom kind begun octets.now result }
+    ensures next { result < length octets.now → has_room kind (begun + result) (slice_index octets.now result) ≡ false }
+{
+    let most = octets.len().min(row_size(kind) - begun);
+    if !matches!(kind, Kind::Utf8) {
+        return most;
+    }
+    // A character has at most four octets, so only the last three places can lack room for one.
+    for i in most.min(61_usize.saturating_sub(begun))..most {
+        if begun + i + utf8_length(octets[i]) > 64 {
+            return i;
+        }
+    }
+    most
+}
+
+/// Of how many octets a character is that begins with this one (RFC 3629).
+pub(crate) fn utf8_length(octet: u8) -> usize
+    ensures value { result ≡ utf8_length_of octet }
+    ensures most { result ≤ 4 }
+{
+    match octet {
+        0xc2..=0xdf => 2,
+        0xe0..=0xef => 3,
+        0xf0..=0xf4 => 4,
+        _ => 1,
+    }
+}

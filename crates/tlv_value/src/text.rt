@@ -1,0 +1,200 @@
+//! The lines of a primitive, from its contents in pieces.
+ghost use Rattle.std.specs.Prelude.{◌≡◌, ◌+◌, ◌<◌, ◌≤◌, ◌^◌, ◌++◌, ◌∷◌, [], length, OnErr, OnOk, false, true};
+ghost use Rattle.std.specs.Io.KnownBytes.{Appends};
+ghost use Rattle.tlv_walk.specs.Device.{failures_after};
+ghost use Rattle.tlv_walk.specs.Out.{lender_of, put_to};
+ghost use Rattle.tlv_walk.specs.Prefix.{HasPrefix};
+ghost use Rattle.tlv_head.specs.Tag.{tag_text_of};
+ghost use Rattle.tlv_value.specs.Layout.{columns, margin};
+ghost use Rattle.tlv_value.specs.State.{after, begun, ended, start, told};
+ghost use Rattle.tlv_value.specs.Value.{in_rows, is_long as is_long_value};
+
+use crate::kind::{Kind, kind_of};
+use crate::line::Line;
+use crate::putting::{put_bits, put_last, put_line, put_object, put_relative, put_rows, put_value};
+use crate::{Layout, NameTable};
+use arrayvec::ArrayVec;
+use std::marker::Model;
+use tlv_head::{Class, Header, Size, tag_text};
+use tlv_walk::{Drain, Out, WriteFault};
+
+/// Whether so many contents octets are too many to stand on the line.
+fn is_long(kind: Kind, size: u64) -> bool
+    ensures { result ≡ is_long_value kind size }
+{
+    let most = match kind {
+        Kind::Octets | Kind::Boolean | Kind::Integer => 16,
+        Kind::Bits => 9,
+        _ => 64,
+    };
+    size > most
+}
+
+/// Begins the first row of a long BIT STRING: with the first contents octet, where that cannot be read.
+fn begin_row(unused: u8, row: &mut ArrayVec<u8, 64>)
+    requires { row.old.items ≡ [] }
+    ensures { row.new.items ≡ in_rows Kind.Bits (unused ∷ []) }
+{
+    if unused > 7 {
+        row.push(unused);
+    }
+}
+
+/// Writes the lines of a primitive from its contents, in whatever pieces they come.
+///
+/// A value that fits on its element's line is held until its last octet has come. The line of a long value comes with
+/// the header (that of a BIT STRING with its first contents octet), and each row when it is full or with the last octet.
+/// At most 64 octets are held.
+#[derive(Drop)]
+pub struct ValueText {
+    offset: u64,
+    class: Class,
+    number: u64,
+    size: u64,
+    kind: Kind,
+    layout: Layout,
+    /// How many octets are still to come.
+    left: u64,
+    /// Whether the line of a long value was written.
+    has_line: bool,
+    /// How many rows were full.
+    rows: u64,
+    /// The octets of the row that has begun, or of a held value.
+    row: ArrayVec<u8, 64>,
+}
+
+impl Model for ValueText {
+    ghost use Rattle.tlv_value.specs.State.{TextState};
+
+    ghost Value = { TextState };
+
+    ghost use Rattle.tlv_value.specs.TextFields.{state_of, HangTogether};
+
+    ghost view = { state_of };
+
+    ghost invariant = { HangTogether };
+}
+
+impl ValueText {
+    /// For the primitive with this header, of whose contents no octet has come.
+    pub fn new(header: &Header, layout: Layout) -> ValueText
+        ensures { result ≡ start header.now layout }
+    {
+        let size = match header.size {
+            Size::Definite(size) => size,
+            Size::Indefinite => 0,
+        };
+        let kind = kind_of(header.class, header.number);
+        ValueText {
+            offset: header.offset,
+            class: header.class,
+            number: header.number,
+            size,
+            kind,
+            layout,
+            left: size,
+            has_line: !matches!(kind, Kind::Bits),
+            rows: 0,
+            row: ArrayVec::new(),
+        }
+    }
+
+    /// Writes what is known with the header.
+    ///
+    /// # Errors
+    ///
+    /// `WriteFault` exactly where the drain's failures rose in the call.
+    pub fn begin<D: Drain>(&self, out: &mut Out<'_, D>) -> Result<(), WriteFault>
+        ensures same_reference { (lender_of out.new).ghost_name ≡ (lender_of out.old).ghost_name }
+        ensures ok { OnOk result (Appends (put_to D.taken out.old) (put_to D.taken out.new) (begun self.now)) }
+        ensures err { OnErr result (HasPrefix (put_to D.taken out.old) (D.taken (lender_of out.new).now) (begun self.now)) }
+        ensures failed { D.failures (lender_of out.new).now ≡ failures_after result (D.failures (lender_of out.old).now) }
+    {
+        if !is_long(self.kind, self.size) || !self.has_line {
+            return Ok(());
+        }
+        put_line(self.element(), out)
+    }
+
+    /// Writes what is known with more contents octets.
+    ///
+    /// # Errors
+    ///
+    /// `WriteFault` exactly where the drain's failures rose in the call.
+    pub fn bytes<D: Drain>(&mut self, octets: &[u8], out: &mut Out<'_, D>) -> Result<(), WriteFault>
+        requires { length octets.now ≤ self.old.left }
+        ensures state { OnOk result (self.new ≡ after self.old octets.now) }
+        ensures same_reference { (lender_of out.new).ghost_name ≡ (lender_of out.old).ghost_name }
+        ensures ok { OnOk result (Appends (put_to D.taken out.old) (put_to D.taken out.new) (told self.old octets.now)) }
+        ensures err { OnErr result (HasPrefix (put_to D.taken out.old) (D.taken (lender_of out.new).now) (told self.old octets.now)) }
+        ensures failed { D.failures (lender_of out.new).now ≡ failures_after result (D.failures (lender_of out.old).now) }
+    {
+        self.left -= octets.len() as u64;
+        if !is_long(self.kind, self.size) {
+            let _ = self.row.try_extend_from_slice(octets);
+            return Ok(());
+        }
+        if self.has_line {
+            return put_rows(
+                self.kind,
+                self.layout,
+                &mut self.row,
+                &mut self.rows,
+                octets,
+                out,
+            );
+        }
+        let Some((unused, rest)) = octets.split_first() else {
+            return Ok(());
+        };
+        let line = self.element();
+        self.has_line = true;
+        begin_row(*unused, &mut self.row);
+        put_bits(line, self.size, *unused, out)?;
+        put_rows(
+            self.kind,
+            self.layout,
+            &mut self.row,
+            &mut self.rows,
+            rest,
+            out,
+        )
+    }
+
+    /// Writes what is known with the last contents octet.
+    ///
+    /// # Errors
+    ///
+    /// `WriteFault` exactly where the drain's failures rose in the call.
+    pub fn end<N: NameTable, D: Drain>(
+        &self,
+        names: &N,
+        out: &mut Out<'_, D>,
+    ) -> Result<(), WriteFault>
+        requires { self.now.left ≡ 0 }
+        ensures same_reference { (lender_of out.new).ghost_name ≡ (lender_of out.old).ghost_name }
+        ensures ok { OnOk result (Appends (put_to D.taken out.old) (put_to D.taken out.new) (ended (N.name_of names.now) self.now)) }
+        ensures err { OnErr result (HasPrefix (put_to D.taken out.old) (D.taken (lender_of out.new).now) (ended (N.name_of names.now) self.now)) }
+        ensures failed { D.failures (lender_of out.new).now ≡ failures_after result (D.failures (lender_of out.old).now) }
+    {
+        let contents = self.row.as_slice();
+        if is_long(self.kind, self.size) {
+            return put_last(self.kind, self.layout, self.rows, contents, out);
+        }
+        match self.kind {
+            Kind::Object => put_object(self.element(), self.layout, contents, names, out),
+            Kind::Relative => put_relative(self.element(), self.layout, contents, out),
+            _ => put_value(self.element(), self.kind, contents, out),
+        }
+    }
+
+    /// The element's line up to its tag text.
+    fn element(&self) -> Line
+        ensures text { result ≡ margin self.now.layout.pure (columns self.now.offset self.now.size) self.now.layout.level ++ tag_text_of self.now.class self.now.number }
+        ensures short { length result ≤ 593 }
+    {
+        let mut line = Line::of_element(self.layout, self.offset, self.size);
+        line.push(tag_text(self.class, self.number).as_slice());
+        line
+    }
+}

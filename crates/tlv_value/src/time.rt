@@ -1,0 +1,252 @@
+//! Times as texts: UTCTime and GeneralizedTime (X.680 46 and 47), and their canonical forms (11.7, 11.8).
+//!
+//! A part of a form is a function that answers what follows the part in front of the octets, or none where they do not
+//! begin with it.
+ghost use Rattle.std.specs.Prelude.{◌≡◌, option_copied, option_to_list};
+ghost use Rattle.tlv_value.specs.Times.{
+  canonical_clock,
+  canonical_fraction,
+  canonical_general_time,
+  canonical_second,
+  canonical_utc_time,
+  day,
+  digits,
+  fraction,
+  general_hour,
+  general_time,
+  general_zone,
+  has_form,
+  hour,
+  mark,
+  maybe,
+  minute,
+  one,
+  second,
+  sign,
+  two,
+  utc_minute,
+  utc_time,
+  utc_zone,
+  ◌or◌,
+  ◌then◌,
+};
+
+/// Whether the octets are of the grammar of UTCTime: `YYMMDDhhmm`, `ss` or nothing, and `Z`, `+hhmm` or `-hhmm`.
+pub fn utc_ok(contents: &[u8]) -> bool
+    ensures { result ≡ has_form utc_time contents.now }
+{
+    let Some(rest) = to_utc_minute(contents) else {
+        return false;
+    };
+    match two_digits(rest, 0, 60) {
+        Some(after) => is_utc_zone(after) || is_utc_zone(rest),
+        None => is_utc_zone(rest),
+    }
+}
+
+/// Whether the octets are a canonical UTCTime (11.8): `YYMMDDhhmmssZ`, with an hour of at most 23.
+pub fn utc_canonical(contents: &[u8]) -> bool
+    ensures { result ≡ has_form canonical_utc_time contents.now }
+{
+    match to_canonical_second(contents) {
+        Some(rest) => is_zulu(rest),
+        None => false,
+    }
+}
+
+/// Whether the octets are of the grammar of GeneralizedTime: `YYYYMMDDhh`, `mm`, `mmss` or nothing, a fraction of one
+/// or more digits behind `.` or `,` or nothing, and `Z`, `+hh`, `-hh`, `+hhmm`, `-hhmm` or nothing.
+pub fn general_ok(contents: &[u8]) -> bool
+    ensures { result ≡ has_form general_time contents.now }
+{
+    let Some(rest) = to_general_hour(contents) else {
+        return false;
+    };
+    match two_digits(rest, 0, 59) {
+        Some(after) => is_second_and_tail(after) || is_tail(rest),
+        None => is_tail(rest),
+    }
+}
+
+/// Whether the octets are a canonical GeneralizedTime (11.7): `YYYYMMDDhhmmssZ`, with an hour of at most 23, and before
+/// the `Z` perhaps `.` and digits, of which the last is not 0.
+pub fn general_canonical(contents: &[u8]) -> bool
+    ensures { result ≡ has_form canonical_general_time contents.now }
+{
+    let Some(rest) = two_digits(contents, 0, 99) else {
+        return false;
+    };
+    let Some(rest) = to_canonical_second(rest) else {
+        return false;
+    };
+    match behind_mark(rest, b'.') {
+        Some(fraction) => is_canonical_fraction(fraction) || is_zulu(rest),
+        None => is_zulu(rest),
+    }
+}
+
+/// `YYMMDDhhmm`.
+fn to_utc_minute(octets: &[u8]) -> Option<&[u8]>
+    ensures { option_to_list (option_copied result) ≡ utc_minute octets.now }
+{
+    let rest = two_digits(octets, 0, 99)?;
+    let rest = to_day(rest)?;
+    let rest = two_digits(rest, 0, 24)?;
+    two_digits(rest, 0, 59)
+}
+
+/// `YYYYMMDDhh`.
+fn to_general_hour(octets: &[u8]) -> Option<&[u8]>
+    ensures { option_to_list (option_copied result) ≡ general_hour octets.now }
+{
+    let rest = two_digits(octets, 0, 99)?;
+    let rest = two_digits(rest, 0, 99)?;
+    let rest = to_day(rest)?;
+    two_digits(rest, 0, 24)
+}
+
+/// `YYMMDDhhmmss`, with an hour of at most 23.
+fn to_canonical_second(octets: &[u8]) -> Option<&[u8]>
+    ensures { option_to_list (option_copied result) ≡ canonical_second octets.now }
+{
+    let rest = two_digits(octets, 0, 99)?;
+    let rest = to_day(rest)?;
+    let rest = two_digits(rest, 0, 23)?;
+    let rest = two_digits(rest, 0, 59)?;
+    two_digits(rest, 0, 60)
+}
+
+/// `MMDD`.
+fn to_day(octets: &[u8]) -> Option<&[u8]>
+    ensures { option_to_list (option_copied result) ≡ day octets.now }
+{
+    let rest = two_digits(octets, 1, 12)?;
+    two_digits(rest, 1, 31)
+}
+
+/// `Z`, `+hhmm` or `-hhmm`, and no more.
+fn is_utc_zone(octets: &[u8]) -> bool
+    ensures { result ≡ has_form utc_zone octets.now }
+{
+    is_zulu(octets) || is_utc_difference(octets)
+}
+
+/// `+hhmm` or `-hhmm`, and no more.
+fn is_utc_difference(octets: &[u8]) -> bool
+    ensures { result ≡ has_form (sign then hour then minute) octets.now }
+{
+    match behind_difference(octets) {
+        Some(rest) => is_minute(rest),
+        None => false,
+    }
+}
+
+/// `ss` or nothing, a fraction or nothing, and a zone or nothing.
+fn is_second_and_tail(octets: &[u8]) -> bool
+    ensures { result ≡ has_form (maybe second then maybe fraction then maybe general_zone) octets.now }
+{
+    match two_digits(octets, 0, 60) {
+        Some(after) => is_tail(after) || is_tail(octets),
+        None => is_tail(octets),
+    }
+}
+
+/// A fraction or nothing, and a zone or nothing.
+fn is_tail(octets: &[u8]) -> bool
+    ensures { result ≡ has_form (maybe fraction then maybe general_zone) octets.now }
+{
+    is_fraction_and_zone(octets) || is_general_zone(octets)
+}
+
+/// A fraction, and a zone or nothing.
+fn is_fraction_and_zone(octets: &[u8]) -> bool
+    ensures { result ≡ has_form (fraction then maybe general_zone) octets.now }
+{
+    let [b'.' | b',', b'0'..=b'9', rest @ ..] = octets else {
+        return false;
+    };
+    let mut rest = rest;
+    while let [b'0'..=b'9', more @ ..] = rest {
+        rest = more;
+    }
+    is_general_zone(rest)
+}
+
+/// `Z`, `+hh`, `-hh`, `+hhmm`, `-hhmm` or nothing, and no more.
+fn is_general_zone(octets: &[u8]) -> bool
+    ensures { result ≡ has_form (maybe general_zone) octets.now }
+{
+    octets.is_empty() || is_zulu(octets) || is_general_difference(octets)
+}
+
+/// `+hh`, `-hh`, `+hhmm` or `-hhmm`, and no more.
+fn is_general_difference(octets: &[u8]) -> bool
+    ensures { result ≡ has_form (sign then hour then maybe minute) octets.now }
+{
+    match behind_difference(octets) {
+        Some(rest) => rest.is_empty() || is_minute(rest),
+        None => false,
+    }
+}
+
+/// Digits of which the last is not 0, and `Z`, and no more.
+fn is_canonical_fraction(octets: &[u8]) -> bool
+    ensures { result ≡ has_form ((digits then one 49 57) then mark 90) octets.now }
+{
+    let mut rest = octets;
+    while let [b'0'..=b'9', more @ ..] = rest {
+        if matches!(rest, [b'1'..=b'9', b'Z']) {
+            return true;
+        }
+        rest = more;
+    }
+    false
+}
+
+/// `mm`, and no more.
+fn is_minute(octets: &[u8]) -> bool
+    ensures { result ≡ has_form minute octets.now }
+{
+    matches!(two_digits(octets, 0, 59), Some([]))
+}
+
+/// `Z`, and no more.
+fn is_zulu(octets: &[u8]) -> bool
+    ensures { result ≡ has_form (mark 90) octets.now }
+{
+    matches!(octets, [b'Z'])
+}
+
+/// `+hh` or `-hh`.
+fn behind_difference(octets: &[u8]) -> Option<&[u8]>
+    ensures { option_to_list (option_copied result) ≡ (sign then hour) octets.now }
+{
+    match octets {
+        [b'+' | b'-', rest @ ..] => two_digits(rest, 0, 24),
+        _ => None,
+    }
+}
+
+/// This octet.
+fn behind_mark(octets: &[u8], octet: u8) -> Option<&[u8]>
+    ensures { option_to_list (option_copied result) ≡ mark octet octets.now }
+{
+    match octets {
+        [first, rest @ ..] if *first == octet => Some(rest),
+        _ => None,
+    }
+}
+
+/// Two digits of a number from `low` to `high`.
+fn two_digits(octets: &[u8], low: u8, high: u8) -> Option<&[u8]>
+    ensures { option_to_list (option_copied result) ≡ two low high octets.now }
+{
+    let [tens @ b'0'..=b'9', ones @ b'0'..=b'9', rest @ ..] = octets else {
+        return None;
+    };
+    let number = 10 * (tens - b'0') + (ones - b'0');
+    if number < low || number > high {
+        return None;
+    }
+    Some(rest)
+}

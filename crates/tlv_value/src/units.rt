@@ -1,0 +1,206 @@
+//! The texts of characters.
+ghost use Rattle.std.specs.Prelude.{◌≡◌, ◌+◌, ◌<◌, ◌≤◌, ◌++◌, ◌∷◌, [], length};
+ghost use Rattle.tlv_value.specs.Units.{
+  escaped_number,
+  escaped_octet,
+  is_printable as is_printable_octet,
+  octet_text,
+  printable_text,
+  quoted as quoted_row,
+  ucs2_unit,
+  ucs4_unit,
+  unit_size as unit_size_of,
+  unit_text,
+  utf8_number as utf8_number_of,
+  utf8_unit,
+  without_zeros,
+};
+
+use crate::kind::Kind;
+use crate::line::Line;
+use crate::rows::utf8_length;
+
+impl Line {
+    /// Adds a row of characters, in quotation marks.
+    pub fn quoted(&mut self, kind: Kind, row: &[u8])
+        ensures { length self.old + length (quoted_row kind row.now) ≤ 1024 → self.new ≡ self.old ++ quoted_row kind row.now }
+    {
+        self.push(b"\"");
+        let mut rest = row;
+        while !rest.is_empty() {
+            let (unit, more) = rest.split_at(unit_size(kind, rest));
+            self.unit(kind, unit);
+            rest = more;
+        }
+        self.push(b"\"");
+    }
+
+    /// Adds a unit: a character, or an octet that belongs to none.
+    fn unit(&mut self, kind: Kind, unit: &[u8])
+        ensures { length self.old + length (unit_text kind unit.now) ≤ 1024 → self.new ≡ self.old ++ unit_text kind unit.now }
+    {
+        match kind {
+            Kind::Ucs2 => self.ucs2(unit),
+            Kind::Ucs4 => self.ucs4(unit),
+            Kind::Utf8 => self.utf8(unit),
+            _ => {
+                if let [octet, ..] = unit {
+                    self.octet(*octet);
+                }
+            }
+        }
+    }
+
+    /// Adds a unit of BMPString.
+    fn ucs2(&mut self, unit: &[u8])
+        ensures { length self.old + length (ucs2_unit unit.now) ≤ 1024 → self.new ≡ self.old ++ ucs2_unit unit.now }
+    {
+        match unit {
+            [0, octet] if is_printable(*octet) => self.printable(*octet),
+            [_, _] => self.escaped_number(unit),
+            [octet, ..] => self.escaped_octet(*octet),
+            [] => {}
+        }
+    }
+
+    /// Adds a unit of UniversalString.
+    fn ucs4(&mut self, unit: &[u8])
+        ensures { length self.old + length (ucs4_unit unit.now) ≤ 1024 → self.new ≡ self.old ++ ucs4_unit unit.now }
+    {
+        match unit {
+            [0, 0, 0, octet] if is_printable(*octet) => self.printable(*octet),
+            [_, _, _, _] => self.escaped_number(unit),
+            [octet, ..] => self.escaped_octet(*octet),
+            [] => {}
+        }
+    }
+
+    /// Adds a unit of UTF8String.
+    fn utf8(&mut self, unit: &[u8])
+        ensures { length self.old + length (utf8_unit unit.now) ≤ 1024 → self.new ≡ self.old ++ utf8_unit unit.now }
+    {
+        if let [octet] = unit {
+            self.octet(*octet);
+            return;
+        }
+        let number = utf8_number(unit);
+        self.escaped_number(&[
+            (number / 65536 % 256) as u8,
+            (number / 256 % 256) as u8,
+            (number % 256) as u8,
+        ]);
+    }
+
+    /// Adds a character of one octet, or the octet's number.
+    fn octet(&mut self, octet: u8)
+        ensures { length self.old + length (octet_text octet) ≤ 1024 → self.new ≡ self.old ++ octet_text octet }
+    {
+        if is_printable(octet) {
+            self.printable(octet);
+        } else {
+            self.escaped_octet(octet);
+        }
+    }
+
+    /// Adds a printable character; a quotation mark or a reverse solidus stands behind a reverse solidus.
+    fn printable(&mut self, octet: u8)
+        ensures { length self.old + length (printable_text octet) ≤ 1024 → self.new ≡ self.old ++ printable_text octet }
+    {
+        if octet == b'"' || octet == b'\\' {
+            self.push(&[b'\\', octet]);
+        } else {
+            self.push(&[octet]);
+        }
+    }
+
+    /// Adds the number of an octet.
+    fn escaped_octet(&mut self, octet: u8)
+        ensures { length self.old + length (escaped_octet octet) ≤ 1024 → self.new ≡ self.old ++ escaped_octet octet }
+    {
+        let mut pair = [0; 2];
+        let _ = hex::encode_to_slice([octet], &mut pair);
+        self.push(b"\\x");
+        self.push(&pair);
+    }
+
+    /// Adds the number that up to four octets make, without leading zeros.
+    fn escaped_number(&mut self, octets: &[u8])
+        requires { length octets.now ≤ 4 }
+        ensures { length self.old + length (escaped_number octets.now) ≤ 1024 → self.new ≡ self.old ++ escaped_number octets.now }
+    {
+        let mut digits = [0; 8];
+        let digits = &mut digits[..2 * octets.len()];
+        let _ = hex::encode_to_slice(octets, digits);
+        self.push(b"\\u{");
+        self.push(significant(digits));
+        self.push(b"}");
+    }
+}
+
+/// Digits without the zeros in front of them, but for the last.
+fn significant(digits: &[u8]) -> &[u8]
+    ensures { result.now ≡ without_zeros digits.now }
+{
+    let mut rest = digits;
+    while let [b'0', more @ ..] = rest
+        && !more.is_empty()
+    {
+        rest = more;
+    }
+    rest
+}
+
+/// Whether the octet is a printable character of ASCII.
+fn is_printable(octet: u8) -> bool
+    ensures { result ≡ is_printable_octet octet }
+{
+    matches!(octet, 0x20..=0x7e)
+}
+
+/// How many octets in front make a unit.
+fn unit_size(kind: Kind, octets: &[u8]) -> usize
+    requires { 1 ≤ length octets.now }
+    ensures value { result ≡ unit_size_of kind octets.now }
+    ensures some { 1 ≤ result }
+    ensures within { result ≤ length octets.now }
+{
+    match kind {
+        Kind::Ucs2 if octets.len() >= 2 => 2,
+        Kind::Ucs4 if octets.len() >= 4 => 4,
+        Kind::Utf8 => utf8_size(octets),
+        _ => 1,
+    }
+}
+
+/// How many octets in front make a unit of UTF8String.
+fn utf8_size(octets: &[u8]) -> usize
+    requires { 1 ≤ length octets.now }
+    ensures value { result ≡ unit_size_of Kind.Utf8 octets.now }
+    ensures some { 1 ≤ result }
+    ensures within { result ≤ length octets.now }
+{
+    let unit = &octets[..utf8_length(octets[0]).min(octets.len())];
+    if simdutf8::is_utf8(unit) {
+        unit.len()
+    } else {
+        1
+    }
+}
+
+/// The number of a character of two to four octets.
+fn utf8_number(unit: &[u8]) -> u32
+    ensures value { result ≡ utf8_number_of unit.now }
+    ensures bound { result < 2097152 }
+{
+    match unit {
+        [a, b] => u32::from(*a) % 32 * 64 + u32::from(*b) % 64,
+        [a, b, c] => u32::from(*a) % 16 * 4096 + u32::from(*b) % 64 * 64 + u32::from(*c) % 64,
+        [a, b, c, d] => {
+            u32::from(*a) % 8 * 262_144
+                + u32::from(*b) % 64 * 4096
+                + u32::from(*c) % 64 * 64
+                + u32::from(*d) % 64
+        }
+        _ => 0,
+    }
+}
