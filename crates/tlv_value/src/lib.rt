@@ -12,6 +12,8 @@ mod line;
 mod naming;
 mod putting;
 mod rows;
+#[cfg(test)]
+mod tests;
 mod text;
 mod time;
 mod units;
