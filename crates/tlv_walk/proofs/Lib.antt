@@ -38,3 +38,4 @@ pub mod Unused
 pub mod Following
 pub mod Turns
 pub mod Drives
+pub mod Lined
