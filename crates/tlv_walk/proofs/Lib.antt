@@ -39,3 +39,4 @@ pub mod Following
 pub mod Turns
 pub mod Drives
 pub mod Inputs
+pub mod Lined

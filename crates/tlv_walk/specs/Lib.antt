@@ -23,3 +23,4 @@ pub mod OpenCount
 pub mod Follows
 pub mod Turns
 pub mod Drives
+pub mod Lined

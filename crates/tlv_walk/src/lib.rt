@@ -15,6 +15,8 @@ mod run;
 mod source;
 mod stack;
 mod stream;
+#[cfg(test)]
+mod tests;
 mod turning;
 mod walker;
 
