@@ -1,8 +1,8 @@
 -- A dump is a walk, followed by a `Dump`, which always wants more.
-use Rattle.std.proofs.Common.{◌≡◌, ◌⊎◌, inl, inr, ℕ, ◌^◌, Bool, true, false, List, [], ◌∷◌, ◌++◌, take, refl, sym, ap, ◌∙◌, subst}
-use Rattle.std.proofs.lemmas.Bool.{cases_Bool, true≢false}
-use Rattle.std.specs.Prelude.{Option, Some, None, Result, Ok, Err, nat_lt}
-use Rattle.tlv_head.specs.Header.{Heading, announced}
+use Rattle.std.proofs.Common.{◌≡◌, ◌⊎◌, inl, inr, ℕ, ◌^◌, ◌≤◌, Bool, true, false, List, ◌++◌, length, take, refl, sym, ap, ◌∙◌, subst, arith, length-append}
+use Rattle.std.proofs.lemmas.List.{length-take}
+use Rattle.std.proofs.lemmas.Bool.{true≢false}
+use Rattle.std.specs.Prelude.{Option, Result, Ok, Err}
 use Rattle.std.specs.Io.KnownBytes.{Appends}
 use Rattle.tlv_walk.specs.declared.follow.Go.{Go}
 use Rattle.tlv_walk.specs.declared.follow.Go.TheVariants as go
@@ -14,40 +14,18 @@ use Rattle.tlv_walk.specs.declared.ending.Ending.{Ending}
 use Rattle.tlv_walk.specs.Device.{Last, gave}
 use Rattle.tlv_walk.specs.Drives.{Drives, WalksAll, WalksTo}
 use Rattle.tlv_walk.specs.Ending.{IsEnding}
-use Rattle.tlv_walk.specs.Events.{Told, Open, Begin, Bytes, End, Close, Enter, Unused, Leave, Pad, events}
-use Rattle.tlv_walk.specs.Follow.{Following, followed, if_on}
-use Rattle.tlv_walk.specs.Forest.{Forest}
+use Rattle.tlv_walk.specs.Events.{events}
+use Rattle.tlv_walk.specs.Follow.{Following, followed}
+use Rattle.tlv_walk.specs.Forest.{Forest, spell}
+use Rattle.tlv_walk.specs.Place.{top}
 use Rattle.tlv_walk.specs.Reading.{IsReading}
 use Rattle.tlv_walk.specs.Turns.{EndsWith, IsFinalEnding, goes_of}
-use Rattle.tlv_walk.proofs.Followed.{each_octet-goes_on}
+use Rattle.tlv_walk.specs.Prefix.{HasPrefix}
+use Rattle.tlv_show.proofs.Always.{all_on}
+use Rattle.tlv_show.proofs.DumpTexts.{told}
 use Rattle.tlv_show.specs.declared.dumping.Outcome.{Outcome}
-use Rattle.tlv_show.specs.Dumped.{Dumping, dumped, fresh, one_dumped, one_padded}
+use Rattle.tlv_show.specs.Dumped.{Dumping, dumped, fresh}
 use Rattle.tlv_show.specs.Dumps.{DumpComesTo, Dumps, dump_text}
-
--- an event is never enough
-begins_on : (s : Dumping) (h : Heading) → (dumped s (Begin h)).goes ≡ go.On
-begins_on s h = elim (cases_Bool (nat_lt 16 (announced h.size))) [
-  | inl e ↦ rw e refl
-  | inr e ↦ rw e refl
-]
-
-one_on : (s : Dumping) (e : Told) → (dumped s e).goes ≡ go.On
-one_on s (Open h) = refl
-one_on s (Begin h) = begins_on s h
-one_on s (Bytes octets) = each_octet-goes_on one_dumped s octets
-one_on s End = refl
-one_on s (Close None) = refl
-one_on s (Close (Some at)) = refl
-one_on s (Enter h) = refl
-one_on s Unused = refl
-one_on s Leave = refl
-one_on s (Pad octets) = each_octet-goes_on one_padded s octets
-
--- so events are not
-all_on : (s : Dumping) (es : List Told) → (followed dumped s es).goes ≡ go.On
-all_on s [] = refl
-all_on s (e ∷ es) =
-    ap (λ (g : Go). (if_on g (dumped s e) (λ u. followed dumped u es)).goes) (one_on s e) ∙ all_on (dumped s e).state es
 
 not_true : (k : Bool) → (k ≡ true → ⊥) → k ≡ false
 not_true true n = absurd (n refl)
@@ -75,10 +53,17 @@ module _ (framing : Framing) (t : Dumping) (old new left left' : Option (List �
     comes = c;
   }
 
-  -- what was put is the text
-  text_put : (octets put : List ℕ) (g : Go) → ((f : Forest) → IsReading framing octets f → followed dumped fresh (events f) ≡ record { state = t; put = put; goes = g }) → Appends old new put
+  -- what is put of a reading is its text
+  text_made : (octets : List ℕ) (f : Forest) → length octets ≤ 2 ^ 40 → IsReading framing octets f → (followed dumped fresh (events f)).put ≡ dump_text f
+  text_made octets f few r =
+      (told (top framing) false f r.is_open (omega (arith, few, ap length r.front.1, length-append (spell f) r.front.0))).text
+
+  text_put : (octets put : List ℕ) (g : Go) → length octets ≤ 2 ^ 40 → ((f : Forest) → IsReading framing octets f → followed dumped fresh (events f) ≡ record { state = t; put = put; goes = g }) → Appends old new put
       → (f : Forest) → IsReading framing octets f → Appends old new (dump_text f)
-  text_put octets put g made app f r = subst (Appends old new) (sym (ap (λ (k : Following Dumping). k.put) (made f r))) app
+  text_put octets put g few made app f r = subst (Appends old new) (sym (ap (λ (k : Following Dumping). k.put) (made f r)) ∙ text_made octets f few r) app
+
+  few_dumped : (given : List ℕ) → length (take (2 ^ 40) given) ≤ 2 ^ 40
+  few_dumped given = omega (arith, length-take (2 ^ 40) given)
 
   pub dumps_ok : (run : Run) (outcome : Outcome) → outcome.ending ≡ run.ending → outcome.unused ≡ run.unused → Drives dumped framing fresh t old new left left' reads reads' last (2 ^ 40) (Ok run)
       → Dumps framing old new left left' reads reads' last (Ok outcome)
@@ -86,7 +71,7 @@ module _ (framing : Framing) (t : Dumping) (old new left left' : Option (List �
       let w : WalksTo dumped framing fresh t old new (take (2 ^ 40) (d.before ++ d.rest)) run = d.comes.0 in
       let on : run.enough ≡ false = goes_on framing t old new (take (2 ^ 40) (d.before ++ d.rest)) run w in
       dumps_by (Ok run) (Ok outcome) d (
-        λ f r. (text_put (take (2 ^ 40) (d.before ++ d.rest)) w.put (goes_of run.enough) w.made w.appended f r, unused ∙ (w.spelled on f r).1),
+        λ f r. (text_put (take (2 ^ 40) (d.before ++ d.rest)) w.put (goes_of run.enough) (few_dumped (d.before ++ d.rest)) w.made w.appended f r, unused ∙ (w.spelled on f r).1),
         subst (λ (e : Ending). IsEnding framing (take (2 ^ 40) (d.before ++ d.rest)) e) (sym ending)
             (subst (λ (k : Bool). EndsWith framing (take (2 ^ 40) (d.before ++ d.rest)) k run.ending) on w.ending),
         ended on d.comes.1,
@@ -100,8 +85,10 @@ module _ (framing : Framing) (t : Dumping) (old new left left' : Option (List �
   pub dumps_err : (e : DeviceFault) → Drives dumped framing fresh t old new left left' reads reads' last (2 ^ 40) (Err e) → Dumps framing old new left left' reads reads' last (Err e)
   dumps_err ReadFailed d =
       let w : WalksAll dumped framing fresh t old new (d.before ++ d.rest) = d.comes.2 in
-      dumps_by (Err ReadFailed) (Err ReadFailed) d (d.comes.0, text_put (d.before ++ d.rest) w.put go.On w.made w.appended)
-  dumps_err WriteFailed d = dumps_by (Err WriteFailed) (Err WriteFailed) d d.comes
+      dumps_by (Err ReadFailed) (Err ReadFailed) d (d.comes.0, text_put (d.before ++ d.rest) w.put go.On d.comes.1 w.made w.appended)
+  dumps_err WriteFailed d =
+      dumps_by (Err WriteFailed) (Err WriteFailed) d
+      (λ f r. subst (HasPrefix old new) (text_made (take (2 ^ 40) (d.before ++ d.rest)) f (few_dumped (d.before ++ d.rest)) r) (d.comes f r))
   dumps_err InputTooLong d =
       let w : WalksAll dumped framing fresh t old new (take (2 ^ 40) (d.before ++ d.rest)) = d.comes.1 in
-      dumps_by (Err InputTooLong) (Err InputTooLong) d (d.comes.0, λ f r. (w.spelled f r, text_put (take (2 ^ 40) (d.before ++ d.rest)) w.put go.On w.made w.appended f r))
+      dumps_by (Err InputTooLong) (Err InputTooLong) d (d.comes.0, λ f r. (w.spelled f r, text_put (take (2 ^ 40) (d.before ++ d.rest)) w.put go.On (few_dumped (d.before ++ d.rest)) w.made w.appended f r))

@@ -4,4 +4,6 @@ pub mod Shown
 pub mod Dumped
 pub mod Primitives
 pub mod Rows
+pub mod Always
+pub mod DumpTexts
 pub mod Dumps

@@ -1,5 +1,5 @@
 -- What a dump over all that a source gives comes to.
-use Rattle.std.specs.Prelude.{◌≡◌, ◌⊎◌, ℕ, ◌+◌, ◌^◌, ◌<◌, ◌≤◌, List, ◌++◌, length, take, Option, Result, Ok, Err}
+use Rattle.std.specs.Prelude.{◌≡◌, ◌⊎◌, ℕ, ◌+◌, ◌^◌, ◌<◌, ◌≤◌, false, List, ◌++◌, length, take, Option, Result, Ok, Err}
 use Rattle.std.specs.Io.KnownBytes.{Appends, Consumes}
 use Rattle.tlv_walk.specs.declared.framing.Framing.{Framing}
 use Rattle.tlv_walk.specs.declared.run.DeviceFault.{DeviceFault}
@@ -7,19 +7,17 @@ use Rattle.tlv_walk.specs.declared.run.DeviceFault.TheVariants.{ReadFailed, Writ
 use Rattle.tlv_walk.specs.Device.{Last, gave, failed}
 use Rattle.tlv_walk.specs.Drives.{GaveLast}
 use Rattle.tlv_walk.specs.Ending.{IsEnding}
-use Rattle.tlv_walk.specs.Events.{events}
-use Rattle.tlv_walk.specs.Follow.{followed}
 use Rattle.tlv_walk.specs.Forest.{Forest, spell}
 use Rattle.tlv_walk.specs.Prefix.{HasPrefix}
 use Rattle.tlv_walk.specs.Reading.{IsReading}
 use Rattle.tlv_walk.specs.Turns.{IsFinalEnding}
 use Rattle.tlv_walk.specs.Wrappers.{unused_of}
 use Rattle.tlv_show.specs.declared.dumping.Outcome.{Outcome}
-use Rattle.tlv_show.specs.Dumped.{dumped, fresh}
+use Rattle.tlv_show.specs.DumpText.{text_of}
 
--- the text of a dump: what is put of the events of a reading
+-- the text of a dump
 abbrev pub dump_text : Forest → List ℕ
-dump_text f = (followed dumped fresh (events f)).put
+dump_text f = text_of 0 0 false f
 
 -- of the octets given no more are dumped than the limit
 abbrev pub dumped_octets : List ℕ → List ℕ

@@ -5,3 +5,4 @@ pub mod ContentsFields
 pub mod Dumped
 pub mod Dumps
 pub mod Laws
+pub mod DumpText
