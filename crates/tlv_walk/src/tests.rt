@@ -1,6 +1,7 @@
 //! Walks over memory: what a follower writes of them and what they come to, in whatever pieces the
 //! octets come, and where a device fails.
 mod deep;
+mod devices;
 mod lines;
 mod naming;
 mod rows;

@@ -1,5 +1,7 @@
 //! Offsets that may be named, and framings.
-use crate::{Framing, Inside, Walker};
+use super::lines::Lines;
+use crate::{Ending, Framing, Inside, MemDrain, MemSource, Run, Walker, drive};
+use std::process::Abort;
 
 /// The largest offset that may be named.
 const LARGEST: u64 = 1_099_511_627_776;
@@ -46,4 +48,34 @@ fn the_first_named_offset_is_unused_at_first(rt: HostRuntime) {
         padding: false,
     };
     assert_eq!(rt; Walker::new(&framing).unused(), Some(3));
+}
+
+/// Walks over two strings that wrap, up to the end of so many elements.
+fn expect_unused(rt: &impl Abort, ends: u64, octets: u64, unused: Option<u64>) {
+    let Some(inside) = Inside::new(&[0, 4]) else {
+        panic!(rt; "the offsets rise");
+    };
+    let framing = Framing {
+        inside,
+        padding: false,
+    };
+    let mut room = [0; 128];
+    let mut source = MemSource::new(b"\x04\x02\x05\x00\x04\x00", &[], None);
+    let mut drain = MemDrain::new(&mut room, 4096);
+    let result = drive(&mut source, &mut Lines::up_to(ends), &mut drain, &framing);
+    let run = Run {
+        ending: Ending::Done,
+        octets,
+        enough: true,
+        unused,
+    };
+    assert_eq!(rt; result, Ok(run));
+}
+
+/// A named string behind the end that is enough is not found.
+#[test]
+fn unused_offsets_are_told_with_enough(rt: HostRuntime) {
+    expect_unused(&rt, 1, 4, Some(4));
+    expect_unused(&rt, 2, 4, Some(4));
+    expect_unused(&rt, 3, 6, None);
 }
