@@ -9,3 +9,4 @@ pub mod Short
 pub mod Puts
 pub mod Ends
 pub mod Pieces
+pub mod Noting

@@ -13,3 +13,6 @@ pub mod State
 pub mod TextFields
 pub mod ObjectLines
 pub mod Laws
+pub mod Checks
+pub mod CheckState
+pub mod CheckFields
