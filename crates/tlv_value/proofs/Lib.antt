@@ -10,3 +10,5 @@ pub mod Puts
 pub mod Ends
 pub mod Pieces
 pub mod Noting
+pub mod Formed
+pub mod CheckPieces

@@ -5,7 +5,7 @@ use Rattle.tlv_head.specs.declared.header.Class.{Class}
 use Rattle.tlv_head.specs.Header.{Heading, announced}
 use Rattle.tlv_value.specs.declared.kind.Kind.TheVariants.{Utf8}
 use Rattle.tlv_value.specs.declared.finding.Finding.{Finding}
-use Rattle.tlv_value.specs.Checks.{Noted, allows_octet, every, findings_on, is_padded_behind, last_of}
+use Rattle.tlv_value.specs.Checks.{Noted, allows_octet, every, findings_on, is_object, is_padded_behind, last_of}
 use Rattle.tlv_value.specs.Rows.{full_rows, open_row}
 
 abbrev pub all_utf8 : List (List ℕ) → Bool
@@ -42,10 +42,6 @@ unchecked h = record {
   formed = true;
   row = [];
 }
-
--- OBJECT IDENTIFIER, RELATIVE-OID
-abbrev pub is_object : ℕ → Bool
-is_object number = eqb number 6 || eqb number 13
 
 -- the state after more octets
 abbrev pub checked : CheckState → List ℕ → CheckState

@@ -72,6 +72,10 @@ allows number octets = allows_all number octets && every (allows_octet number) o
 abbrev pub where_it : Bool → Finding → List Finding
 where_it there finding = if there then finding ∷ [] else []
 
+-- OBJECT IDENTIFIER, RELATIVE-OID
+abbrev pub is_object : ℕ → Bool
+is_object number = eqb number 6 || eqb number 13
+
 -- what the findings go by: the number of octets, the first 64 of them, the last, whether a subidentifier is padded, and
 -- whether the characters are those of the type
 pub record Noted : Type 0 where
@@ -148,7 +152,7 @@ noted number octets = record {
   size = length octets;
   front = take 64 octets;
   last = last_of 0 octets;
-  padded = is_padded_object octets;
+  padded = is_object number && is_padded_object octets;
   allowed = allows number octets;
 }
 

@@ -16,3 +16,4 @@ pub mod Laws
 pub mod Checks
 pub mod CheckState
 pub mod CheckFields
+pub mod CheckLaws

@@ -1,10 +1,11 @@
 //! What is found on the contents of a primitive.
 ghost use Rattle.std.specs.Prelude.{◌≡◌, ◌+◌, ◌<◌, ◌≤◌, ◌%◌, ◌^◌, ◌++◌, ◌&&◌, ◌||◌, [], eqb, if◌then◌else◌, length, not, take};
 ghost use Rattle.std.specs.Str.{is_utf8};
-ghost use Rattle.tlv_value.specs.CheckState.{all_utf8, allowed_in, checked, found_in, is_object, unchecked};
+ghost use Rattle.tlv_value.specs.CheckState.{all_utf8, allowed_in, checked, found_in, unchecked};
 ghost use Rattle.tlv_value.specs.Checks.{
   allows_octet as allows_octet_of,
   every,
+  is_object,
   is_padded_behind,
   is_padded_integer,
   is_printable_string,
