@@ -9,3 +9,6 @@ pub mod Short
 pub mod Puts
 pub mod Ends
 pub mod Pieces
+pub mod Noting
+pub mod Formed
+pub mod CheckPieces

@@ -49,7 +49,7 @@ module _ (kind : Kind) where
   abbrev Turned : List ℕ → ℕ → List ℕ → Type 0
   Turned row m rest = (full_rows kind row rest ≡ (row ++ take m rest) ∷ full_rows kind [] (drop m rest)) × (open_row kind row rest ≡ open_row kind [] (drop m rest))
 
-  shift-room : (row : List ℕ) (m x : ℕ) (xs : List ℕ) → HaveRoom kind (length row) (x ∷ xs) (suc m) → HaveRoom kind (length (row ++ x ∷ [])) xs m
+  pub shift-room : (row : List ℕ) (m x : ℕ) (xs : List ℕ) → HaveRoom kind (length row) (x ∷ xs) (suc m) → HaveRoom kind (length (row ++ x ∷ [])) xs m
   shift-room row m x xs room i h =
       let l : length (row ++ x ∷ []) + i ≡ length row + suc i = omega (arith, length-append row (x ∷ [])) in
       rw l (room (suc i) (omega arith))

@@ -13,3 +13,7 @@ pub mod State
 pub mod TextFields
 pub mod ObjectLines
 pub mod Laws
+pub mod Checks
+pub mod CheckState
+pub mod CheckFields
+pub mod CheckLaws

@@ -2,9 +2,10 @@
 
 /// What the rules of X.690 find on an element. The letter tells whose rule is broken: `B` of all encodings (clause 8),
 /// `S` of both CER and DER (clauses 9 to 11), `D` of DER alone (10), `C` of CER alone (9).
-#[derive(Clone, Copy, Debug, PartialEq, Eq)]
+#[derive(Clone, Copy, Debug, Default, PartialEq, Eq)]
 pub enum Finding {
     /// The high form for a number below 31 (8.1.2.2).
+    #[default]
     B01,
     /// The high form with leading zero bits (8.1.2.4.2 c).
     B02,

@@ -1,5 +1,6 @@
 //! Laws of the definitions: each is the contract of a function that does nothing.
 
+ghost use Rattle.tlv_value.specs.CheckLaws.{ChecksJoin, FindingsEnd, RowsAreFormed};
 ghost use Rattle.tlv_value.specs.Laws.{LinesBegin, LinesEnd, LinesGoOn, PiecesJoin};
 
 /// It does not matter into which pieces contents are cut.
@@ -20,4 +21,19 @@ pub fn lines_go_on()
 /// What `end` writes is the rest of the lines of the whole primitive.
 pub fn lines_end()
     ensures { LinesEnd }
+{}
+
+/// It does not matter for what is found into which pieces contents are cut.
+pub fn checks_join()
+    ensures { ChecksJoin }
+{}
+
+/// At the end of the contents [`ValueCheck`](crate::ValueCheck) tells all that is found on them.
+pub fn findings_end()
+    ensures { FindingsEnd }
+{}
+
+/// Contents are well-formed UTF-8 exactly where each of their rows is.
+pub fn rows_are_formed()
+    ensures { RowsAreFormed }
 {}

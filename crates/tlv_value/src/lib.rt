@@ -2,6 +2,7 @@
 //! whatever pieces its octets come, and what is found on it.
 #![tactic(auto)]
 
+mod check;
 mod decimal;
 mod dotted;
 mod finding;
@@ -19,6 +20,7 @@ mod time;
 mod units;
 mod value;
 
+pub use check::ValueCheck;
 pub use decimal::decimal_of;
 pub use dotted::dotted_of;
 pub use finding::Finding;

@@ -1,0 +1,50 @@
+-- What is noted of contents in pieces.
+use Rattle.std.proofs.Common.{◌≡◌, ℕ, ◌+◌, ◌-◌, ◌≤◌, Bool, true, false, List, [], ◌∷◌, ◌++◌, length, take, get_or, refl, sym, ap, ◌∙◌, arith}
+use Rattle.std.specs.Prelude.{◌&&◌, eqb, min}
+use Rattle.std.proofs.lemmas.Bool.Decides.{nat_tests}
+use Rattle.std.proofs.Math.Seq.{take-append-add}
+use Rattle.std.proofs.lemmas.List.{take_min}
+use Rattle.std.specs.Str.{is_utf8}
+use Rattle.tlv_value.specs.CheckState.{all_utf8}
+use Rattle.tlv_value.specs.Checks.{allows_octet, every, last_of}
+
+allows-other : (number x : ℕ) → (number ≡ 18 → ⊥) → (number ≡ 19 → ⊥) → (number ≡ 22 → ⊥) → (number ≡ 26 → ⊥) → allows_octet number x ≡ true
+allows-other number x a b c d =
+    let e18 : eqb number 18 ≡ false = grind (arith, nat_tests) in
+    let e19 : eqb number 19 ≡ false = grind (arith, nat_tests) in
+    let e22 : eqb number 22 ≡ false = grind (arith, nat_tests) in
+    let e26 : eqb number 26 ≡ false = grind (arith, nat_tests) in
+    rw (e18, e19, e22, e26) refl
+
+-- a type that has all octets
+pub every-other : (number : ℕ) (xs : List ℕ) → (number ≡ 18 → ⊥) → (number ≡ 19 → ⊥) → (number ≡ 22 → ⊥) → (number ≡ 26 → ⊥) → every (allows_octet number) xs ≡ true
+every-other number [] a b c d = refl
+every-other number (x ∷ xs) a b c d = rw (allows-other number x a b c d) (every-other number xs a b c d)
+
+-- the last octet
+pub last-at : (before x : ℕ) (xs : List ℕ) → last_of before (x ∷ xs) ≡ get_or (x ∷ xs) (length xs) 0
+last-at before x [] = refl
+last-at before x (y ∷ xs) = last-at x y xs
+
+pub last-some : (before : ℕ) (xs : List ℕ) → 1 ≤ length xs → get_or xs (length xs - 1) 0 ≡ last_of before xs
+last-some before [] h = absurd (omega arith)
+last-some before (x ∷ xs) h =
+    let e : length (x ∷ xs) - 1 ≡ length xs = omega arith in
+    rw e (sym (last-at before x xs))
+
+-- a row more, and no row more
+pub and-row : (formed : Bool) (row : List ℕ) (rows all : List (List ℕ)) → all ≡ row ∷ rows → ((formed && is_utf8 row) && all_utf8 rows) ≡ (formed && all_utf8 all)
+and-row true row rows all e = rw e refl
+and-row false row rows all e = refl
+
+pub and-nothing : (formed : Bool) (all : List (List ℕ)) → all ≡ [] → (formed && all_utf8 all) ≡ formed
+and-nothing true all e = rw e refl
+and-nothing false all e = refl
+
+-- as many octets as there is room for
+pub take-room : (front octets : List ℕ) (n room : ℕ) → room + length front ≡ 64 → n ≡ min (length octets) room → front ++ take n octets ≡ take 64 (front ++ octets)
+take-room front octets n room e h =
+    let m : n ≡ min room (length octets) = omega arith in
+    let w : 64 ≡ length front + room = omega arith in
+    ap (λ (t : List ℕ). front ++ t) (ap (λ (k : ℕ). take k octets) m ∙ take_min room octets)
+    ∙ sym (take-append-add front octets room) ∙ ap (λ (k : ℕ). take k (front ++ octets)) (sym w)

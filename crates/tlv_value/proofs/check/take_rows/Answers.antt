@@ -1,0 +1,47 @@
+use Rattle.std.proofs.Common.{◌≡◌, ◌⊎◌, inl, inr, ℕ, ◌+◌, ◌<◌, ◌++◌, [], Bool, List, length, sym, ap, ◌∙◌, arith}
+use Rattle.std.specs.Prelude.{◌&&◌}
+use Rattle.std.specs.Str.{is_utf8}
+use Rattle.std.proofs.lemmas.Bool.{eqb-true}
+use Rattle.std.proofs.lemmas.Bool.Decides.{nat_tests}
+use Rattle.std.proofs.lemmas.Grind.{common_steps}
+use Rattle.tlv_value.specs.declared.kind.Kind.TheVariants.{Utf8}
+use Rattle.tlv_value.specs.CheckState.{all_utf8}
+use Rattle.tlv_value.specs.Rows.{full_rows, row_size}
+use Rattle.tlv_value.proofs.Noting.{and-nothing, and-row}
+use Rattle.tlv_value.proofs.RowSteps.{kept, turned}
+use Rattle.tlv_value.proofs.check.take_rows.Goals.{else-len-part-lt64-via-then-len-part-lt64+else-is_empty, else-len-part-lt64-via-else-len-part-lt64}
+use Rattle.tlv_value.proofs.check.take_rows.Goals as goal
+
+pub returns-then-is_empty-clause-formed : goal.returns-then-is_empty-clause-formed
+returns-then-is_empty-clause-formed c =
+    let z : length c.split_at.result.1.now ≡ 0 = eqb-true (length c.split_at.result.1.now) 0 (sym c.if-is_empty.ensures) in
+    let k = kept Utf8 c.len.result c.loop-rest.row.items c.fitting.result c.loop-rest.rest.now c.split_at.result.0.now c.len.ensures.value c.split_at.ensures.front c.fitting.ensures.fits (omega arith) c.fitting.ensures.within (omega arith) in
+    sym (and-nothing c.loop-rest.formed (full_rows Utf8 c.loop-rest.row.items c.loop-rest.rest.now) k.0) ∙ c.loop-rest.invariant.formed
+
+pub returns-then-is_empty-clause-row : goal.returns-then-is_empty-clause-row
+returns-then-is_empty-clause-row c =
+    let z : length c.split_at.result.1.now ≡ 0 = eqb-true (length c.split_at.result.1.now) 0 (sym c.if-is_empty.ensures) in
+    let k = kept Utf8 c.len.result c.loop-rest.row.items c.fitting.result c.loop-rest.rest.now c.split_at.result.0.now c.len.ensures.value c.split_at.ensures.front c.fitting.ensures.fits (omega arith) c.fitting.ensures.within (omega arith) in
+    let t : c.try_extend_from_slice.new.self.items ≡ c.loop-rest.row.items ++ c.split_at.result.0.now = grind (arith, common_steps) in
+    t ∙ sym k.1 ∙ c.loop-rest.invariant.row
+
+pub loop-rest-preserved : goal.loop-rest-preserved
+loop-rest-preserved c =
+    let i = c.loop-rest.invariant in
+    let row : List ℕ = c.loop-rest.row.items in
+    let part : List ℕ = c.split_at.result.0.now in
+    let more : List ℕ = c.split_at.result.1.now in
+    let m : ℕ = c.fitting.result in
+    let claim : (c.len.result + m ≡ row_size Utf8) ⊎ (m < length c.loop-rest.rest.now) = elim c.else-len-part-lt64.branch [
+      | else-len-part-lt64-via-then-len-part-lt64+else-is_empty w ↦ inr (grind (arith, nat_tests))
+      | else-len-part-lt64-via-else-len-part-lt64 w ↦ inl (omega arith)
+    ] in
+    let t = turned Utf8 c.len.result row m c.loop-rest.rest.now part more c.len.ensures.value c.split_at.ensures.front c.split_at.ensures.back c.fitting.ensures.fits c.fitting.ensures.bound
+    c.fitting.ensures.within (omega arith) c.fitting.ensures.next claim in
+    let none : c.is_full_formed.new.row.items ≡ [] = c.is_full_formed.ensures.row in
+    let both : c.both-formed.result ≡ (c.loop-rest.formed && is_utf8 (row ++ part)) = c.both-formed.ensures ∙ ap (λ (b : Bool). c.loop-rest.formed && b) c.is_full_formed.ensures.formed in
+    record {
+      begun = omega (arith, ap length none);
+      row = rw none (sym t.1 ∙ i.row);
+      formed = rw none (ap (λ (b : Bool). b && all_utf8 (full_rows Utf8 [] more)) both ∙ and-row c.loop-rest.formed (row ++ part) (full_rows Utf8 [] more) (full_rows Utf8 row c.loop-rest.rest.now) t.0 ∙ i.formed);
+    }

@@ -1,0 +1,16 @@
+use Rattle.std.proofs.Common.{◌≡◌, ◌+◌, ◌<◌, length}
+use Rattle.std.specs.Prelude.{◌&&◌}
+use Rattle.tlv_value.specs.declared.kind.Kind.TheVariants.{Utf8}
+use Rattle.tlv_value.specs.CheckState.{all_utf8}
+use Rattle.tlv_value.specs.Rows.{full_rows, open_row}
+use Rattle.tlv_value.proofs.check.take_rows.Given as goal
+
+abbrev pub invariant-loop-rest : goal.invariant-loop-rest
+invariant-loop-rest l = record {
+  begun : length l.row.items < 64;
+  row : open_row Utf8 l.row.items l.rest ≡ open_row Utf8 l.initial.row.items l.octets;
+  formed : (l.formed && all_utf8 (full_rows Utf8 l.row.items l.rest)) ≡ all_utf8 (full_rows Utf8 l.initial.row.items l.octets);
+}
+
+abbrev pub decreases-loop-rest : goal.decreases-loop-rest
+decreases-loop-rest l = length l.rest + length l.rest + length l.row.items

@@ -1,0 +1,5 @@
+use Rattle.tlv_value.proofs.CheckPieces.{checks-join}
+use Rattle.tlv_value.proofs.laws.checks_join.Goals as goal
+
+pub returns : goal.returns
+returns c = checks-join

@@ -1,0 +1,392 @@
+//! What is found on the contents of a primitive.
+ghost use Rattle.std.specs.Prelude.{◌≡◌, ◌+◌, ◌<◌, ◌≤◌, ◌%◌, ◌^◌, ◌++◌, ◌&&◌, ◌||◌, [], eqb, if◌then◌else◌, length, not, take};
+ghost use Rattle.std.specs.Str.{is_utf8};
+ghost use Rattle.tlv_value.specs.CheckState.{all_utf8, allowed_in, checked, found_in, unchecked};
+ghost use Rattle.tlv_value.specs.Checks.{
+  allows_octet as allows_octet_of,
+  every,
+  is_object,
+  is_padded_behind,
+  is_padded_integer,
+  is_printable_string,
+  last_of,
+  time_findings,
+  where_it,
+};
+ghost use Rattle.tlv_value.specs.Rows.{full_rows, open_row};
+
+use crate::Finding;
+use crate::kind::Kind;
+use crate::rows::fitting;
+use crate::time::{general_canonical, general_ok, utc_canonical, utc_ok};
+use arrayvec::ArrayVec;
+use std::marker::Model;
+use tlv_head::{Class, Header, Size};
+
+/// Finds what is wrong with the contents of a primitive, in whatever pieces they come.
+#[derive(Drop)]
+pub struct ValueCheck {
+    class: Class,
+    number: u64,
+    size: u64,
+    /// How many octets are still to come.
+    left: u64,
+    /// The first octets.
+    front: ArrayVec<u8, 64>,
+    /// The last octet; 0 before the first.
+    last: u8,
+    /// Whether each octet is one that the type has.
+    allowed: bool,
+    /// Whether a subidentifier begins with `80`.
+    padded: bool,
+    /// Whether the rows of a UTF8String that were full are well-formed.
+    formed: bool,
+    /// The octets of its row that has begun.
+    row: ArrayVec<u8, 64>,
+}
+
+impl Model for ValueCheck {
+    ghost use Rattle.tlv_value.specs.CheckState.{CheckState};
+
+    ghost Value = { CheckState };
+
+    ghost use Rattle.tlv_value.specs.CheckFields.{check_state_of, HasOpenRow};
+
+    ghost view = { check_state_of };
+
+    ghost invariant = { HasOpenRow };
+}
+
+impl ValueCheck {
+    /// For the primitive with this header, of whose contents no octet has come.
+    pub fn new(header: &Header) -> ValueCheck
+        ensures { result ≡ unchecked header.now }
+    {
+        let size = match header.size {
+            Size::Definite(size) => size,
+            Size::Indefinite => 0,
+        };
+        ValueCheck {
+            class: header.class,
+            number: header.number,
+            size,
+            left: size,
+            front: ArrayVec::new(),
+            last: 0,
+            allowed: true,
+            padded: false,
+            formed: true,
+            row: ArrayVec::new(),
+        }
+    }
+
+    /// Takes more contents octets.
+    pub fn bytes(&mut self, octets: &[u8])
+        requires { length octets.now ≤ self.old.left }
+        ensures { self.new ≡ checked self.old octets.now }
+    {
+        self.left -= octets.len() as u64;
+        extend_front(&mut self.front, octets);
+        self.allowed = both(self.allowed, are_allowed(self.number, octets));
+        self.padded = padded_after(self.number, self.padded, self.last, octets);
+        self.formed = formed_after(self.number, self.formed, &mut self.row, octets);
+        self.last = last_octet(self.last, octets);
+    }
+
+    /// What is found on the contents, in order.
+    pub fn end(&self) -> ArrayVec<Finding, 16>
+        requires { self.now.left ≡ 0 }
+        ensures { result.items ≡ found_in self.now }
+    {
+        let mut found = ArrayVec::new();
+        if !matches!(self.class, Class::Universal) {
+            return found;
+        }
+        let first = match self.front.as_slice() {
+            [first, ..] => *first,
+            [] => 0,
+        };
+        match self.number {
+            1 => {
+                note(self.size != 1, Finding::B06, &mut found);
+                note(
+                    self.size == 1 && first != 0 && first != 255,
+                    Finding::S02,
+                    &mut found,
+                );
+            }
+            2 | 10 => {
+                note(self.size == 0, Finding::B07, &mut found);
+                note(
+                    is_padded_number(self.front.as_slice()),
+                    Finding::B08,
+                    &mut found,
+                );
+            }
+            3 => {
+                note(self.size == 0, Finding::B13, &mut found);
+                note(first > 7, Finding::B14, &mut found);
+                note(
+                    self.size == 1 && first >= 1 && first <= 7,
+                    Finding::B15,
+                    &mut found,
+                );
+                note(
+                    self.size >= 2 && first <= 7 && are_set(first, self.last),
+                    Finding::S03,
+                    &mut found,
+                );
+            }
+            5 => note(self.size != 0, Finding::B09, &mut found),
+            6 => {
+                note(self.size == 0, Finding::B10, &mut found);
+                note(self.padded, Finding::B11, &mut found);
+                note(self.last >= 128, Finding::B12, &mut found);
+            }
+            13 => {
+                note(self.padded, Finding::B11, &mut found);
+                note(self.last >= 128, Finding::B12, &mut found);
+            }
+            23 => {
+                if self.size <= 64 {
+                    let time = self.front.as_slice();
+                    note_time(utc_ok(time), utc_canonical(time), &mut found);
+                }
+            }
+            24 => {
+                if self.size <= 64 {
+                    let time = self.front.as_slice();
+                    note_time(general_ok(time), general_canonical(time), &mut found);
+                }
+            }
+            _ => note(!self.is_allowed(), Finding::B18, &mut found),
+        }
+        found
+    }
+
+    /// Whether the contents have the characters of their type.
+    fn is_allowed(&self) -> bool
+        ensures { result ≡ allowed_in self.now }
+    {
+        let all = match self.number {
+            12 => both(self.formed, is_well_formed(self.row.as_slice())),
+            30 => self.size % 2 == 0,
+            28 => self.size % 4 == 0,
+            _ => true,
+        };
+        both(all, self.allowed)
+    }
+}
+
+fn both(first: bool, second: bool) -> bool
+    ensures { result ≡ (first && second) }
+{
+    first && second
+}
+
+/// Whether the octets are UTF-8.
+fn is_well_formed(octets: &[u8]) -> bool
+    ensures { result ≡ is_utf8 octets.now }
+{
+    simdutf8::is_utf8(octets)
+}
+
+/// Keeps the first octets.
+fn extend_front(front: &mut ArrayVec<u8, 64>, octets: &[u8])
+    ensures { front.new.items ≡ take 64 (front.old.items ++ octets.now) }
+{
+    let room = octets.len().min(front.remaining_capacity());
+    let _ = front.try_extend_from_slice(&octets[..room]);
+}
+
+/// Whether a subidentifier begins with `80`, with these octets too.
+fn padded_after(number: u64, padded: bool, before: u8, octets: &[u8]) -> bool
+    ensures { result ≡ (if is_object number then padded || is_padded_behind before octets.now else padded) }
+{
+    if number == 6 || number == 13 {
+        padded || is_padded(before, octets)
+    } else {
+        padded
+    }
+}
+
+/// Whether the rows of a UTF8String that were full are well-formed, with these octets too.
+fn formed_after(number: u64, formed: bool, row: &mut ArrayVec<u8, 64>, octets: &[u8]) -> bool
+    requires { length row.old.items < 64 }
+    ensures formed { result ≡ (if eqb number 12 then formed && all_utf8 (full_rows Kind.Utf8 row.old.items octets.now) else formed) }
+    ensures row { row.new.items ≡ (if eqb number 12 then open_row Kind.Utf8 row.old.items octets.now else row.old.items) }
+    ensures begun { length row.new.items < 64 }
+{
+    if number != 12 {
+        return formed;
+    }
+    both(formed, take_rows(row, octets))
+}
+
+/// Adds a finding, where it is there.
+fn note(there: bool, finding: Finding, found: &mut ArrayVec<Finding, 16>)
+    requires { length found.old.items < 16 }
+    ensures { found.new.items ≡ found.old.items ++ where_it there finding }
+{
+    if there {
+        found.push(finding);
+    }
+}
+
+/// Adds what is found on a time.
+fn note_time(of_grammar: bool, is_canonical: bool, found: &mut ArrayVec<Finding, 16>)
+    requires { length found.old.items < 16 }
+    ensures { found.new.items ≡ found.old.items ++ time_findings of_grammar is_canonical }
+{
+    if of_grammar {
+        note(!is_canonical, Finding::S04, found);
+    } else {
+        found.push(Finding::B19);
+    }
+}
+
+/// Whether so many of the last bits of an octet are not all 0.
+fn are_set(bits: u8, octet: u8) -> bool
+    requires { bits ≤ 7 }
+    ensures { result ≡ not (eqb (octet % 2 ^ bits) 0) }
+{
+    let bits_above = match bits {
+        0 => 1,
+        1 => 2,
+        2 => 4,
+        3 => 8,
+        4 => 16,
+        5 => 32,
+        6 => 64,
+        _ => 128,
+    };
+    octet % bits_above != 0
+}
+
+/// Whether the first nine bits of a number are all equal (8.3.2).
+fn is_padded_number(front: &[u8]) -> bool
+    ensures { result ≡ is_padded_integer front.now }
+{
+    match front {
+        [0, second, ..] => *second < 128,
+        [255, second, ..] => *second >= 128,
+        _ => false,
+    }
+}
+
+/// Whether the type with this universal number has all of the octets.
+fn are_allowed(number: u64, octets: &[u8]) -> bool
+    ensures { result ≡ every (allows_octet_of number) octets.now }
+{
+    match number {
+        18 | 19 | 22 | 26 => is_each_allowed(number, octets),
+        _ => true,
+    }
+}
+
+/// Whether the type with this universal number has each of the octets.
+fn is_each_allowed(number: u64, octets: &[u8]) -> bool
+    ensures { result ≡ every (allows_octet_of number) octets.now }
+{
+    for octet in octets {
+        if !allows_octet(number, *octet) {
+            return false;
+        }
+    }
+    true
+}
+
+/// Whether the type with this universal number has the octet: NumericString, PrintableString, IA5String, VisibleString.
+fn allows_octet(number: u64, octet: u8) -> bool
+    ensures { result ≡ allows_octet_of number octet }
+{
+    match number {
+        18 => matches!(octet, b' ' | b'0'..=b'9'),
+        19 => is_printable(octet),
+        22 => octet < 128,
+        26 => matches!(octet, 0x20..=0x7e),
+        _ => true,
+    }
+}
+
+/// Whether PrintableString has the octet (X.680 41.4).
+fn is_printable(octet: u8) -> bool
+    ensures { result ≡ is_printable_string octet }
+{
+    matches!(
+        octet,
+        b' ' | b'0'..=b'9'
+            | b'A'..=b'Z'
+            | b'a'..=b'z'
+            | b'\''
+            | b'('
+            | b')'
+            | b'+'
+            | b','
+            | b'-'
+            | b'.'
+            | b'/'
+            | b':'
+            | b'='
+            | b'?'
+    )
+}
+
+/// Whether a subidentifier begins with `80`, behind this octet.
+fn is_padded(before: u8, octets: &[u8]) -> bool
+    ensures { result ≡ is_padded_behind before octets.now }
+{
+    let mut before = before;
+    for octet in octets {
+        if before < 128 && *octet == 128 {
+            return true;
+        }
+        before = *octet;
+    }
+    false
+}
+
+/// The last of the octets, or the one before them.
+fn last_octet(before: u8, octets: &[u8]) -> u8
+    ensures { result ≡ last_of before octets.now }
+{
+    match octets {
+        [.., last] => *last,
+        [] => before,
+    }
+}
+
+/// Takes octets behind the row that has begun. Answers whether the rows that are then full are well-formed.
+fn take_rows(row: &mut ArrayVec<u8, 64>, octets: &[u8]) -> bool
+    requires { length row.old.items < 64 }
+    ensures formed { result ≡ all_utf8 (full_rows Kind.Utf8 row.old.items octets.now) }
+    ensures row { row.new.items ≡ open_row Kind.Utf8 row.old.items octets.now }
+    ensures begun { length row.new.items < 64 }
+{
+    let mut formed = true;
+    let mut rest = octets;
+    while !rest.is_empty() {
+        let (part, more) = rest.split_at(fitting(Kind::Utf8, row.len(), rest));
+        rest = more;
+        if row.len() + part.len() < 64 && rest.is_empty() {
+            let _ = row.try_extend_from_slice(part);
+            return formed;
+        }
+        formed = both(formed, is_full_formed(row, part));
+    }
+    formed
+}
+
+/// Whether the row that has begun is well-formed with the octets that fill it. The row is then empty.
+fn is_full_formed(row: &mut ArrayVec<u8, 64>, part: &[u8]) -> bool
+    requires { length row.old.items + length part.now ≤ 64 }
+    ensures formed { result ≡ is_utf8 (row.old.items ++ part.now) }
+    ensures row { row.new.items ≡ [] }
+{
+    if row.is_empty() {
+        return is_well_formed(part);
+    }
+    let _ = row.try_extend_from_slice(part);
+    let full = row.take();
+    is_well_formed(full.as_slice())
+}
