@@ -1,3 +1,6 @@
 pub mod Numbers
 pub mod Arcs
 pub mod Forms
+pub mod NamesTexts
+pub mod NamesTables
+pub mod NamesStanding

@@ -4,3 +4,5 @@ pub mod Bits
 pub mod Number
 pub mod Arcs
 pub mod Times
+pub mod Names
+pub mod NamesSteps

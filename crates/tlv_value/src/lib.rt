@@ -6,9 +6,11 @@ mod decimal;
 mod dotted;
 mod finding;
 mod kind;
+mod names;
 mod time;
 
 pub use decimal::decimal_of;
 pub use dotted::dotted_of;
 pub use finding::Finding;
+pub use names::NamesFault;
 pub use time::{general_canonical, general_ok, utc_canonical, utc_ok};
