@@ -43,8 +43,11 @@ judged-more above below line h = rw (h, append_assoc above (line ∷ []) below) 
 judged-refused : (above below : List Line) (line : Line) (fault : NamesFault) → refusal above line ≡ Some fault → judged above (line ∷ below) ≡ Err fault
 judged-refused above below line fault h = rw h refl
 
-pub start : (octets : List ℕ) (es : List Entry) → es ≡ [] → Standing octets octets 0 es
-start octets es e = record { above = []; same = refl; count = refl; found = λ q. ap (find q) e; size = ap length e }
+start-at : (octets : List ℕ) (es : List Entry) → es ≡ [] → Standing octets octets 0 es
+start-at octets es e = record { above = []; same = refl; count = refl; found = λ q. ap (find q) e; size = ap length e }
+
+pub start : {Z : Type 0} (octets : List ℕ) (m : BTreeMap (Vec ℕ Z) (Vec ℕ Z)) → m.entries ≡ [] → Standing octets octets 0 (texts_in m)
+start {Z} octets m e = start-at octets (texts_in m) (ap (λ (es : List (Vec ℕ Z × Vec ℕ Z)). map {B = Entry} (λ e. (e.0.items, e.1.items)) es) e)
 
 pub done : (octets rest : List ℕ) (number : ℕ) (es : List Entry) → Standing octets rest number es → length rest ≡ 0 → names_of octets ≡ Ok (finite.from_entries es)
 done octets rest number es s h =

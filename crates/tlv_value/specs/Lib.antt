@@ -6,3 +6,4 @@ pub mod Arcs
 pub mod Times
 pub mod Names
 pub mod NamesSteps
+pub mod NamesReading

@@ -17,6 +17,7 @@ const MOST_ENTRIES: usize = 65_536;
 /// The table of all lines, or the first refusal.
 pub(super) fn table_of<A: Allocator + Copy>(alloc: A, octets: &[u8]) -> Result<Table<A>, NamesFault>
     requires { length octets.now ≤ 1048576 }
+    ensures { ComesTo octets.now result }
 {
     let mut table = BTreeMap::new(alloc);
     let mut rest = octets;
