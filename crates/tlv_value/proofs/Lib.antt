@@ -4,3 +4,4 @@ pub mod Forms
 pub mod NamesTexts
 pub mod NamesTables
 pub mod NamesStanding
+pub mod NamesReads

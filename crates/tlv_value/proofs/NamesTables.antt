@@ -1,5 +1,5 @@
 -- The table of a names file, as the map that it stands for.
-use Rattle.std.proofs.Common.{Ordering, not, ◌-◌, ◌<◌, ◌≤◌, take, drop, append_assoc, append-nil, ◌≡◌, ℕ, ◌+◌, Bool, true, false, ◌||◌, cond, List, [], ◌∷◌, ◌++◌, length, map, refl, sym, ap, subst, ◌∙◌, arith, length-append}
+use Rattle.std.proofs.Common.{Ordering, ◌≡◌, ℕ, ◌+◌, Bool, true, false, ◌||◌, cond, List, [], ◌∷◌, length, map, refl, sym, ap, ◌∙◌, arith}
 use Rattle.std.specs.Prelude.{Option, Some, None, is_some, Vec, if◌then◌else◌}
 use Rattle.std.specs.Option.{option_map}
 use Rattle.std.specs.Ordering.{nat_cmp, is_eq, eq_by_cmp, match_ordering}
@@ -13,7 +13,7 @@ use Rattle.std.specs.FinMap.Entries as entries
 use Rattle.std.proofs.lemmas.Map.Text.{is_eq-slice_cmp}
 use Rattle.std.proofs.lemmas.List.{length-map}
 use Rattle.tlv_value.specs.Names.{Entry, is_among}
-use Rattle.tlv_value.specs.NamesSteps.{texts_in}
+use Rattle.tlv_value.specs.NamesSteps.{texts_in, table_in, names_in}
 
 abbrev key_cmp : {Z : Type 0} → Vec ℕ Z → Vec ℕ Z → Ordering
 key_cmp x y = slice_cmp nat_cmp x.items y.items
@@ -77,3 +77,14 @@ one-longer {Z} k old new dotted had b h l d c e =
     let none : is_some had ≡ false = ap is_some h ∙ ap (λ (q : List ℕ). is_some (get_by (λ (y : Vec ℕ Z). slice_cmp nat_cmp q y.items) old)) d ∙ sym c ∙ e in
     let more : btree_map_len new ≡ btree_map_len old + 1 = l ∙ ap (λ t. btree_map_len old + (if t then 0 else 1)) none in
     omega (arith, length-texts new, length-texts old)
+
+-- the answer of a look-up
+pub get-texts : {Z : Type 0} (m : BTreeMap (Vec ℕ Z) (Vec ℕ Z)) (q : List ℕ) → option_map (λ name. name.items) (get_by (λ k. slice_cmp nat_cmp q k.items) m) ≡ finite.get (table_in m) q
+get-texts m q = lookup-texts q m.entries ∙ sym (finite.get-from_entries nat_list_cmp_total (texts_in m) q)
+
+pub get-none : {Z : Type 0} (table : Option (BTreeMap (Vec ℕ Z) (Vec ℕ Z))) (q : List ℕ) → table ≡ None → None ≡ finite.get (names_in table) q
+get-none table q e = sym (ap (λ t. finite.get (names_in t) q) e ∙ finite.get-empty (slice_cmp nat_cmp) q)
+
+pub get-some : {Z : Type 0} (table : Option (BTreeMap (Vec ℕ Z) (Vec ℕ Z))) (m : BTreeMap (Vec ℕ Z) (Vec ℕ Z)) (q : List ℕ) (o : Option (Vec ℕ Z)) → table ≡ Some m
+    → o ≡ get_by (λ k. slice_cmp nat_cmp q k.items) m → option_map (λ name. name.items) o ≡ finite.get (names_in table) q
+get-some {Z} table m q o e h = ap (option_map (λ (name : Vec ℕ Z). name.items)) h ∙ get-texts m q ∙ ap (λ t. finite.get (names_in t) q) (sym e)

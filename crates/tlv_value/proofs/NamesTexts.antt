@@ -1,16 +1,14 @@
 -- Texts of a names file, octet by octet.
-use Rattle.std.proofs.Common.{◌≡◌, ℕ, zero, suc, ◌+◌, ◌-◌, ◌*◌, ◌^◌, ◌<◌, ◌≤◌, ◌==◌, Bool, true, false, ◌&&◌, ◌||◌, not, cond, List, [], ◌∷◌, ◌++◌, length, map, take, drop, get_or, refl, sym, ap, subst, ◌∙◌, arith, inl, inr, length-append, append-nil}
-use Rattle.std.specs.Prelude.{nat_le, nat_lt, nat_eq, slice_index}
-use Rattle.std.specs.List.{list_all, slice_split, position_or_len, before_first, after_first}
+use Rattle.std.proofs.Common.{◌≡◌, ℕ, suc, ◌+◌, ◌-◌, ◌*◌, ◌^◌, ◌<◌, ◌≤◌, ◌==◌, Bool, true, false, ◌&&◌, ◌||◌, not, cond, List, [], ◌∷◌, ◌++◌, length, map, take, drop, get_or, refl, sym, ap, subst, ◌∙◌, arith, inl, inr}
+use Rattle.std.specs.Prelude.{nat_le, nat_lt, slice_index}
+use Rattle.std.specs.List.{list_all, position_or_len, before_first, after_first}
 use Rattle.std.specs.List as std_list
-use Rattle.std.proofs.Math.Nat.{pow-succ', one-le-pow, one-le-mul, mul-le-mul}
-use Rattle.std.proofs.lemmas.Bool.{or_cases, cases_lt, and_parts, and_from, and_left, and_right, leb-true, lt-leb, le-leb, eqb-true, eqb-false, ne_eqb, eq-eqb, not-true, le-ltb, lt-ltb}
-use Rattle.std.proofs.lemmas.Bool.Decides.{nat_tests}
+use Rattle.std.proofs.Math.Nat.{pow-succ', one-le-pow, mul-le-mul}
+use Rattle.std.proofs.lemmas.Bool.{or_cases, cases_lt, and_parts, and_from, and_left, and_right, leb-true, lt-leb, le-leb, eqb-true, eqb-false, ne_eqb, not-true, le-ltb}
 use Rattle.std.proofs.lemmas.List.{take_all, take_more, take_rest}
 use Rattle.std.proofs.lemmas.List.Splits.{slice_split_first}
-use Rattle.tlv_head.specs.Header.{value_of}
 use Rattle.tlv_value.specs.Arcs.{onto_first}
-use Rattle.tlv_value.specs.Names.{lines, is_blank, without_first_blanks, without_last_blanks, is_digit, is_arc, parts, number, may_begin, are_first_arcs, trimmed, without_return, Line, no_name, named, pair_line, text_line, line_of, is_dotted, is_name}
+use Rattle.tlv_value.specs.Names.{lines, is_blank, without_first_blanks, without_last_blanks, is_digit, is_arc, parts, number, may_begin, are_first_arcs, trimmed, without_return, no_name, named, pair_line, text_line, line_of, is_dotted, is_name}
 
 abbrev is_mark : ℕ → ℕ → Bool
 is_mark mark x = x == mark

@@ -5,5 +5,5 @@ pub mod Number
 pub mod Arcs
 pub mod Times
 pub mod Names
-pub mod NamesSteps
 pub mod NamesReading
+pub mod NamesSteps

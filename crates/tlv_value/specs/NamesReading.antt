@@ -24,12 +24,12 @@ ReadsNames last left octets (Err TooLarge) = IsSaid last left octets (Err TooLar
 ReadsNames last left octets (Err ReadFailed) = (last ≡ failed) × (length octets ≤ 1048576)
 ReadsNames last left octets (Err Memory) = length octets ≤ 1048576
 
--- so many of the octets to be read, and what the result is
+-- some octets are read, and the result is theirs
 abbrev pub ReadsFrom : Last → Option (List ℕ) → Option (List ℕ) → Result Table NamesFault → Type 0
 ReadsFrom last before after result = (octets : List ℕ) × Consumes before after octets × ReadsNames last after octets result
 
--- the failures of a source, counted: one more where a read failed
-abbrev pub failures_of : Result Table NamesFault → ℕ → ℕ
+-- the failures of a source: one more where a read failed
+abbrev pub failures_of : {T : Type 0} → Result T NamesFault → ℕ → ℕ
 failures_of (Ok table) before = before
 failures_of (Err (BadOid n)) before = before
 failures_of (Err (BadName n)) before = before

@@ -1,5 +1,5 @@
 -- What the steps of reading a names file answer.
-use Rattle.std.specs.Prelude.{◌≡◌, ℕ, ◌+◌, ◌<◌, ◌≤◌, Bool, true, false, List, [], ◌∷◌, length, map, Option, Some, None, Result, Ok, Err, Vec}
+use Rattle.std.specs.Prelude.{◌≡◌, ℕ, ◌+◌, ◌<◌, ◌≤◌, true, false, List, length, map, Option, Some, None, Result, Ok, Err, Vec}
 use Rattle.std.specs.Option.{option_map}
 use Rattle.std.specs.Result.{IsOk, IsErrOf}
 use Rattle.std.specs.Ordering.{nat_cmp}
@@ -7,7 +7,10 @@ use Rattle.std.specs.Cmp.Lexicographic.{slice_cmp}
 use Rattle.std.specs.FinMap as finite
 use Rattle.std.specs.Borrow.{Bor}
 use Rattle.std.specs.BTreeMap.{BTreeMap}
+use Rattle.std.specs.Io.KnownBytes.{Consumes, IsAtEnd}
+use Rattle.tlv_walk.specs.Device.{Last, gave, failed}
 use Rattle.tlv_value.specs.Names.{Entry, Line, nothing, named, no_oid, no_name, too_long, Table, is_among, names_of}
+use Rattle.tlv_value.specs.NamesReading.{IsTooLong}
 use Rattle.tlv_value.specs.declared.names.fault.NamesFault.{NamesFault}
 use Rattle.tlv_value.specs.declared.names.fault.NamesFault.TheVariants.{BadOid, BadName, Repeated, TooLarge, ReadFailed, Memory}
 
@@ -55,3 +58,26 @@ ComesTo octets (Err (Repeated n)) = names_of octets ≡ Err (Repeated n)
 ComesTo octets (Err TooLarge) = names_of octets ≡ Err TooLarge
 ComesTo octets (Err ReadFailed) = ⊥
 ComesTo octets (Err Memory) = Unit {0}
+
+-- the table that a map stands for
+abbrev pub table_in : {Z : Type 0} → BTreeMap (Vec ℕ Z) (Vec ℕ Z) → Table
+table_in m = finite.from_entries (texts_in m)
+
+-- the table that names hold; they need no map for none
+abbrev pub names_in : {Z : Type 0} → Option (BTreeMap (Vec ℕ Z) (Vec ℕ Z)) → Table
+names_in None = finite.empty
+names_in (Some m) = table_in m
+
+abbrev pub result_in : {Z : Type 0} → Result (BTreeMap (Vec ℕ Z) (Vec ℕ Z)) NamesFault → Result Table NamesFault
+result_in (Ok m) = Ok (table_in m)
+result_in (Err fault) = Err fault
+
+-- all octets of a source, by what its last read gave and what it has to give before and after
+abbrev pub GivesAll : {Z : Type 0} → Last → Option (List ℕ) → Option (List ℕ) → Result (Vec ℕ Z) NamesFault → Type 0
+GivesAll last before after (Ok v) = Consumes before after v.items × (last ≡ gave 0) × IsAtEnd after × (length v.items ≤ 1048576)
+GivesAll last before after (Err (BadOid n)) = ⊥
+GivesAll last before after (Err (BadName n)) = ⊥
+GivesAll last before after (Err (Repeated n)) = ⊥
+GivesAll last before after (Err TooLarge) = (octets : List ℕ) × Consumes before after octets × IsTooLong last octets
+GivesAll last before after (Err ReadFailed) = (octets : List ℕ) × Consumes before after octets × (last ≡ failed) × (length octets ≤ 1048576)
+GivesAll last before after (Err Memory) = (octets : List ℕ) × Consumes before after octets × (length octets ≤ 1048576)

@@ -12,5 +12,5 @@ mod time;
 pub use decimal::decimal_of;
 pub use dotted::dotted_of;
 pub use finding::Finding;
-pub use names::NamesFault;
+pub use names::{Names, NamesFault};
 pub use time::{general_canonical, general_ok, utc_canonical, utc_ok};

@@ -1,4 +1,4 @@
-use Rattle.std.proofs.Common.{◌≡◌, ◌+◌, ℕ, List, length, sym, ◌∙◌, ap, arith, length-drop}
+use Rattle.std.proofs.Common.{◌+◌, ℕ, List, length, sym, ◌∙◌, ap, arith, length-drop}
 use Rattle.std.specs.List.{list_all}
 use Rattle.tlv_value.specs.Names.{is_arc, parts}
 use Rattle.tlv_value.proofs.NamesTexts.{front_no_arc, whole_arc, rest_arcs}

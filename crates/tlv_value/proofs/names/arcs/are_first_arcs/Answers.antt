@@ -1,4 +1,4 @@
-use Rattle.std.proofs.Common.{◌≡◌, ◌==◌, ℕ, List, ◌<◌, length, take, sym, ◌∙◌, ap, arith}
+use Rattle.std.proofs.Common.{◌==◌, ℕ, List, take, sym, ◌∙◌, ap, arith}
 use Rattle.std.specs.List.{list_all, position_or_len}
 use Rattle.tlv_value.specs.Names.{is_arc, parts, may_begin}
 use Rattle.tlv_value.proofs.NamesTexts.{one_part_alone, front_arc, rest_arcs, two_parts}

@@ -1,4 +1,4 @@
-use Rattle.std.proofs.Common.{◌≡◌, sym, ◌∙◌, ap, arith, refl}
+use Rattle.std.proofs.Common.{◌∙◌, arith, refl}
 use Rattle.tlv_value.proofs.NamesTables.{among-texts, length-texts, put-entry, one-longer}
 use Rattle.tlv_value.proofs.names.table.add.Goals as goal
 
