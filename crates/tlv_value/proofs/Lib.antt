@@ -12,3 +12,7 @@ pub mod Pieces
 pub mod Noting
 pub mod Formed
 pub mod CheckPieces
+pub mod NamesTexts
+pub mod NamesTables
+pub mod NamesStanding
+pub mod NamesReads

@@ -17,3 +17,6 @@ pub mod Checks
 pub mod CheckState
 pub mod CheckFields
 pub mod CheckLaws
+pub mod Names
+pub mod NamesReading
+pub mod NamesSteps

@@ -16,6 +16,7 @@ mod rows;
 #[cfg(test)]
 mod tests;
 mod text;
+mod names;
 mod time;
 mod units;
 mod value;
@@ -27,4 +28,5 @@ pub use finding::Finding;
 pub use layout::Layout;
 pub use naming::NameTable;
 pub use text::ValueText;
+pub use names::{Names, NamesFault};
 pub use time::{general_canonical, general_ok, utc_canonical, utc_ok};

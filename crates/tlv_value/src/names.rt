@@ -1,0 +1,80 @@
+//! Names for object identifiers, read from a file.
+ghost use Rattle.std.specs.Prelude.{◌≡◌};
+ghost use Rattle.std.specs.Option.{option_copied};
+ghost use Rattle.std.specs.FinMap as finite;
+ghost use Rattle.tlv_value.specs.NamesReading.{ReadsFrom, failures_of};
+
+mod arcs;
+mod fault;
+mod line;
+mod reading;
+mod table;
+
+pub use fault::NamesFault;
+use reading::read_in;
+use std::alloc::Global;
+use std::marker::Model;
+use table::Table;
+use tlv_walk::Source;
+
+/// Names for object identifiers: a map from dotted text to name.
+#[derive(Drop)]
+pub struct Names {
+    table: Option<Table<Global>>,
+}
+
+impl Model for Names {
+    ghost use Rattle.std.specs.Coded.{coded_list, coded_ℕ};
+    ghost use Rattle.std.specs.FinMap as finite;
+    ghost use Rattle.tlv_value.specs.Names.{Table as NamesTable};
+    ghost use Rattle.tlv_value.specs.NamesSteps.{names_in};
+
+    ghost Value = { NamesTable };
+
+    ghost coded = { finite.code (coded_list coded_ℕ) (coded_list coded_ℕ) };
+
+    ghost view = { λ names. names_in names.table };
+}
+
+impl Names {
+    /// No names.
+    pub fn empty() -> Names
+        ensures { result ≡ finite.empty }
+    {
+        Names { table: None }
+    }
+
+    /// Reads a names file to its end, and then judges its lines in order.
+    ///
+    /// A line is the octets up to an LF or the end, of which a CR at its end and the spaces and tabs at both ends are
+    /// dropped. A line that is then empty or begins with `#` says nothing. Any other is the dotted text of an object
+    /// identifier, spaces or tabs, and its name of octets from `20` to `7e`.
+    ///
+    /// # Errors
+    ///
+    /// `ReadFailed` exactly where the source's failures rose in the call, and `TooLarge` once it gave more than
+    /// 1,048,576 octets; nothing more is read then. Of the lines the first refusal counts: `TooLarge` for one of more
+    /// than 400 octets, with its CR, `BadOid` and `BadName` for its parts, `Repeated` where its dotted text stands in
+    /// an earlier line, and `TooLarge` for an entry past the first 65,536. `Memory` at any time, where memory is
+    /// refused.
+    pub fn read<S: Source>(alloc: Global, source: &mut S) -> Result<Names, NamesFault>
+        ensures reading { ReadsFrom (S.last source.new) (S.left source.old) (S.left source.new) result }
+        ensures failures { S.failures source.new ≡ failures_of result (S.failures source.old) }
+    {
+        let table = read_in(alloc, source)?;
+        Ok(Names { table: Some(table) })
+    }
+
+    /// The name of the object identifier with this dotted text.
+    pub fn get(&self, dotted: &[u8]) -> Option<&[u8]>
+        ensures { option_copied result ≡ finite.get self.now dotted.now }
+    {
+        match &self.table {
+            None => None,
+            Some(table) => match table.get(dotted) {
+                None => None,
+                Some(name) => Some(name.as_slice()),
+            },
+        }
+    }
+}

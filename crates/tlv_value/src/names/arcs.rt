@@ -1,0 +1,89 @@
+//! Object identifiers as dotted texts, judged.
+ghost use Rattle.std.specs.Prelude.{◌≡◌, nat_le, true};
+ghost use Rattle.std.specs.List.{list_all};
+ghost use Rattle.tlv_value.specs.Names.{are_first_arcs as are_first, is_arc as is_arc_text, is_digit, is_dotted as is_dotted_text, may_begin as may_begin_text, number, parts};
+
+use super::line::{behind, end_before};
+
+/// Whether the text is two or more arcs with dots between them, of which the first is 0, 1 or 2, and the second at most
+/// 39 below 0 and 1 (ITU-T X.660). Arcs are decimals without a leading zero, of any size.
+pub(super) fn is_dotted(text: &[u8]) -> bool
+    ensures { result ≡ is_dotted_text text.now }
+{
+    are_arcs(text) && are_first_arcs(text)
+}
+
+/// Whether each part between dots is an arc.
+fn are_arcs(text: &[u8]) -> bool
+    ensures { result ≡ list_all is_arc_text (parts text.now) }
+{
+    let mut rest = text;
+    loop {
+        let end = end_before(rest, b'.');
+        if !is_arc(&rest[..end]) {
+            return false;
+        }
+        if end == rest.len() {
+            return true;
+        }
+        rest = behind(rest, end);
+    }
+}
+
+/// Whether the part is digits without a leading zero.
+fn is_arc(part: &[u8]) -> bool
+    ensures { result ≡ is_arc_text part.now }
+{
+    match part.len() {
+        0 => false,
+        1 => are_digits(part),
+        _ => part[0] != b'0' && are_digits(part),
+    }
+}
+
+fn are_digits(part: &[u8]) -> bool
+    ensures { result ≡ list_all is_digit part.now }
+{
+    for octet in part {
+        if *octet < b'0' || *octet > b'9' {
+            return false;
+        }
+    }
+    true
+}
+
+/// Whether there are two arcs, and those may be the first ones.
+fn are_first_arcs(text: &[u8]) -> bool
+    requires { list_all is_arc_text (parts text.now) ≡ true }
+    ensures { result ≡ are_first (parts text.now) }
+{
+    let end = end_before(text, b'.');
+    if end == text.len() {
+        return false;
+    }
+    let rest = behind(text, end);
+    may_begin(&text[..end], &rest[..end_before(rest, b'.')])
+}
+
+/// Whether these arcs may be the first ones.
+fn may_begin(first: &[u8], second: &[u8]) -> bool
+    requires first { is_arc_text first.now ≡ true }
+    requires second { is_arc_text second.now ≡ true }
+    ensures { result ≡ may_begin_text first.now second.now }
+{
+    if first.len() > 1 || first[0] > b'2' {
+        return false;
+    }
+    first[0] == b'2' || is_below_forty(second)
+}
+
+fn is_below_forty(arc: &[u8]) -> bool
+    requires { is_arc_text arc.now ≡ true }
+    ensures { result ≡ nat_le (number arc.now) 39 }
+{
+    match arc.len() {
+        1 => true,
+        2 => arc[0] <= b'3',
+        _ => false,
+    }
+}

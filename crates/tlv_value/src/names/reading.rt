@@ -1,0 +1,47 @@
+//! The octets of a names file.
+ghost use Rattle.std.specs.Prelude.{◌≡◌};
+ghost use Rattle.tlv_value.specs.NamesReading.{ReadsFrom, failures_of};
+ghost use Rattle.tlv_value.specs.NamesSteps.{GivesAll, result_in};
+
+use super::NamesFault;
+use super::table::{Table, table_of};
+use std::alloc::Allocator;
+use tlv_walk::Source;
+
+/// The most octets of a names file.
+const MOST_OCTETS: usize = 1_048_576;
+
+/// Reads the source to its end, and then judges its lines.
+pub(super) fn read_in<A: Allocator + Copy, S: Source>(
+    alloc: A,
+    source: &mut S,
+) -> Result<Table<A>, NamesFault>
+    ensures reading { ReadsFrom (S.last source.new) (S.left source.old) (S.left source.new) (result_in result) }
+    ensures failures { S.failures source.new ≡ failures_of result (S.failures source.old) }
+{
+    let octets = read_octets(alloc, source)?;
+    table_of(alloc, octets.as_slice())
+}
+
+/// All octets of the source.
+fn read_octets<A: Allocator, S: Source>(alloc: A, source: &mut S) -> Result<Vec<u8, A>, NamesFault>
+    ensures reading { GivesAll (S.last source.new) (S.left source.old) (S.left source.new) result }
+    ensures failures { S.failures source.new ≡ failures_of result (S.failures source.old) }
+{
+    let mut octets = Vec::new(alloc);
+    let mut piece = [0u8; 4096];
+    loop {
+        let Ok(count) = source.read(&mut piece) else {
+            return Err(NamesFault::ReadFailed);
+        };
+        if count == 0 {
+            return Ok(octets);
+        }
+        if count > MOST_OCTETS - octets.len() {
+            return Err(NamesFault::TooLarge);
+        }
+        if octets.extend_from_slice(&piece[..count]).is_err() {
+            return Err(NamesFault::Memory);
+        }
+    }
+}

@@ -1,0 +1,76 @@
+//! The table of a names file.
+ghost use Rattle.std.specs.Prelude.{◌≡◌, ◌≤◌, length};
+ghost use Rattle.tlv_value.specs.Names.{line_of};
+ghost use Rattle.tlv_value.specs.NamesSteps.{Adds, AddsLine, ComesTo, texts_in};
+
+use super::NamesFault;
+use super::line::{behind, end_before, entry_of};
+use std::alloc::Allocator;
+use std::collections::BTreeMap;
+
+/// From dotted texts to names.
+pub(super) type Table<A> = BTreeMap<Vec<u8, A>, Vec<u8, A>, A>;
+
+/// The most entries of a table.
+const MOST_ENTRIES: usize = 65_536;
+
+/// The table of all lines, or the first refusal.
+pub(super) fn table_of<A: Allocator + Copy>(alloc: A, octets: &[u8]) -> Result<Table<A>, NamesFault>
+    requires { length octets.now ≤ 1048576 }
+    ensures { ComesTo octets.now result }
+{
+    let mut table = BTreeMap::new(alloc);
+    let mut rest = octets;
+    let mut number = 0;
+    while !rest.is_empty() {
+        let end = end_before(rest, b'\n');
+        number += 1;
+        add_line(alloc, &mut table, &rest[..end], number)?;
+        rest = behind(rest, end);
+    }
+    Ok(table)
+}
+
+/// Adds what a line says to the table.
+fn add_line<A: Allocator + Copy>(
+    alloc: A,
+    table: &mut Table<A>,
+    line: &[u8],
+    number: u32,
+) -> Result<(), NamesFault>
+    ensures { AddsLine number (line_of line.now) (texts_in table.old) (texts_in table.new) result }
+{
+    match entry_of(line, number) {
+        Ok(None) => Ok(()),
+        Ok(Some((dotted, name))) => add(alloc, table, dotted, name, number),
+        Err(fault) => Err(fault),
+    }
+}
+
+/// Adds an entry to the table. `number` is its line's.
+fn add<A: Allocator + Copy>(
+    alloc: A,
+    table: &mut Table<A>,
+    dotted: &[u8],
+    name: &[u8],
+    number: u32,
+) -> Result<(), NamesFault>
+    ensures { Adds number dotted.now name.now (texts_in table.old) (texts_in table.new) result }
+{
+    if table.contains_key(dotted) {
+        return Err(NamesFault::Repeated(number));
+    }
+    if table.len() >= MOST_ENTRIES {
+        return Err(NamesFault::TooLarge);
+    }
+    let Ok(key) = Vec::from_slice(alloc, dotted) else {
+        return Err(NamesFault::Memory);
+    };
+    let Ok(value) = Vec::from_slice(alloc, name) else {
+        return Err(NamesFault::Memory);
+    };
+    match table.insert(key, value) {
+        Ok(_) => Ok(()),
+        Err(_) => Err(NamesFault::Memory),
+    }
+}
