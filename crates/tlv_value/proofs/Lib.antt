@@ -12,3 +12,4 @@ pub mod Pieces
 pub mod Noting
 pub mod Formed
 pub mod CheckPieces
+pub mod Cutting

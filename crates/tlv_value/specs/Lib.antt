@@ -17,3 +17,4 @@ pub mod Checks
 pub mod CheckState
 pub mod CheckFields
 pub mod CheckLaws
+pub mod Cuts
