@@ -20,3 +20,4 @@ pub mod CheckLaws
 pub mod Names
 pub mod NamesReading
 pub mod NamesSteps
+pub mod Cuts

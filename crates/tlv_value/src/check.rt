@@ -83,7 +83,8 @@ impl ValueCheck {
     /// Takes more contents octets.
     pub fn bytes(&mut self, octets: &[u8])
         requires { length octets.now ≤ self.old.left }
-        ensures { self.new ≡ checked self.old octets.now }
+        ensures state { self.new ≡ checked self.old octets.now }
+        ensures left { self.new.left + length octets.now ≡ self.old.left }
     {
         self.left -= octets.len() as u64;
         extend_front(&mut self.front, octets);

@@ -1,6 +1,7 @@
 //! Laws of the definitions: each is the contract of a function that does nothing.
 
 ghost use Rattle.tlv_value.specs.CheckLaws.{ChecksJoin, FindingsEnd, RowsAreFormed};
+ghost use Rattle.tlv_value.specs.Cuts.{RowsAreACut};
 ghost use Rattle.tlv_value.specs.Laws.{LinesBegin, LinesEnd, LinesGoOn, PiecesJoin};
 
 /// It does not matter into which pieces contents are cut.
@@ -36,4 +37,10 @@ pub fn findings_end()
 /// Contents are well-formed UTF-8 exactly where each of their rows is.
 pub fn rows_are_formed()
     ensures { RowsAreFormed }
+{}
+
+/// The rows of contents are a cut of them: no row has more octets than it has room for, no character is split, and each
+/// row but the last has no room for the next octet.
+pub fn rows_are_a_cut()
+    ensures { RowsAreACut }
 {}

@@ -1,12 +1,14 @@
 //! Values and their lines, whatever pieces the contents come in.
+mod findings;
 mod rows;
 
 ghost use Rattle.std.specs.Prelude.{◌≡◌, ◌==◌, IfSome, List, None, Option, Some, bytes_eq, codes, if◌then◌else◌, option_copied, ℕ};
 
+use self::findings::{FOUND, FOUND_ON_TEXTS, Found};
 use self::rows::{BITS, NUMBERS, OBJECTS, Row, TEXTS};
 use crate::{
-    Layout, NameTable, ValueText, decimal_of, dotted_of, general_canonical, general_ok,
-    utc_canonical, utc_ok,
+    Finding, Layout, NameTable, ValueCheck, ValueText, decimal_of, dotted_of, general_canonical,
+    general_ok, utc_canonical, utc_ok,
 };
 use arrayvec::ArrayVec;
 use std::process::Abort;
@@ -273,4 +275,52 @@ fn times(rt: HostRuntime) {
         assert_eq!(rt; general_ok(time.as_bytes()), of_grammar, "{time}");
         assert_eq!(rt; general_canonical(time.as_bytes()), is_canonical, "{time}");
     }
+}
+
+/// What is found on the contents of an element, which come in two pieces, cut at `cut`.
+fn check(element: &[u8], cut: usize) -> Option<ArrayVec<Finding, 16>> {
+    let (fields, count) = read_header(0, false, element)?;
+    let header = Header::new(&fields, &element[..count]);
+    let contents = &element[count..];
+    let Size::Definite(size) = header.size else {
+        return None;
+    };
+    if size != contents.len() as u64 || cut > contents.len() {
+        return None;
+    }
+    let (front, back) = contents.split_at(cut);
+    let mut check = ValueCheck::new(&header);
+    check.bytes(front);
+    check.bytes(back);
+    Some(check.end())
+}
+
+/// Expects these findings in every cut into two pieces.
+fn expect_findings(rt: &impl Abort, rows: &[Found<'_>]) {
+    for row in rows {
+        for cut in 0..row.element.len() {
+            match check(row.element, cut) {
+                Some(found) => assert_eq!(rt;
+                    found.as_slice(),
+                    row.findings,
+                    "cut at {cut}: {:?}",
+                    row.element
+                ),
+                None => assert!(rt; cut > 0, "not checked: {:?}", row.element),
+            }
+        }
+    }
+}
+
+#[test]
+fn contents_are_checked(rt: HostRuntime) {
+    expect_findings(&rt, &FOUND);
+    expect_findings(&rt, &FOUND_ON_TEXTS);
+}
+
+/// The texts of a finding.
+#[test]
+fn wordings(rt: HostRuntime) {
+    assert_eq!(rt; Finding::B08.code(), b"B08".as_slice());
+    assert_eq!(rt; Finding::B08.text(), b"integer is padded".as_slice());
 }

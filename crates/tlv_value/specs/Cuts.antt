@@ -1,0 +1,36 @@
+-- How the octets of long contents stand in rows, as a condition on rows.
+use Rattle.std.specs.Prelude.{◌≡◌, ◌≢◌, ◌⊎◌, ℕ, ◌+◌, ◌<◌, ◌≤◌, List, [], ◌∷◌, ◌++◌, length, slice_index}
+use Rattle.tlv_value.specs.declared.kind.Kind.{Kind}
+use Rattle.tlv_value.specs.Rows.{announced, row_size, rows_of}
+
+abbrev pub put_together : List (List ℕ) → List ℕ
+put_together [] = []
+put_together (row ∷ rows) = row ++ put_together rows
+
+-- a row has octets, no more than it has room for, and no character is split: none of its octets announces more than the row has left
+pub record IsRow (kind : Kind) (row : List ℕ) : Type 0 where
+  pub some : row ≢ []
+  pub short : length row ≤ row_size kind
+  pub whole : (i : ℕ) → i < length row → i + announced kind (slice_index row i) ≤ row_size kind
+
+abbrev pub AreRows : Kind → List (List ℕ) → Type 0
+AreRows kind [] = Unit {0}
+AreRows kind (row ∷ rows) = IsRow kind row × AreRows kind rows
+
+-- a row before another has no room, or none for the first octet of the other
+abbrev pub IsFull : Kind → List ℕ → List ℕ → Type 0
+IsFull kind row next = (length row ≡ row_size kind) ⊎ (row_size kind < length row + announced kind (slice_index next 0))
+
+abbrev pub AreFull : Kind → List (List ℕ) → Type 0
+AreFull kind [] = Unit {0}
+AreFull kind (row ∷ []) = Unit {0}
+AreFull kind (row ∷ next ∷ rows) = IsFull kind row next × AreFull kind (next ∷ rows)
+
+pub record IsCut (kind : Kind) (octets : List ℕ) (rows : List (List ℕ)) : Type 0 where
+  pub together : put_together rows ≡ octets
+  pub each : AreRows kind rows
+  pub full : AreFull kind rows
+
+-- the rows of contents are such a cut
+abbrev pub RowsAreACut : Type 0
+RowsAreACut = (kind : Kind) (octets : List ℕ) → IsCut kind octets (rows_of kind octets)
