@@ -5,3 +5,4 @@ pub mod NamesTexts
 pub mod NamesTables
 pub mod NamesStanding
 pub mod NamesReads
+pub mod NamesRows
