@@ -17,3 +17,4 @@ pub mod NamesTables
 pub mod NamesStanding
 pub mod NamesReads
 pub mod Cutting
+pub mod NamesRows

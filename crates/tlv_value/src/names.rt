@@ -9,6 +9,8 @@ mod fault;
 mod line;
 mod reading;
 mod table;
+#[cfg(test)]
+mod tests;
 
 pub use fault::NamesFault;
 use reading::read_in;
