@@ -12,6 +12,7 @@ mod table;
 #[cfg(test)]
 mod tests;
 
+use crate::NameTable;
 pub use fault::NamesFault;
 use reading::read_in;
 use std::alloc::Global;
@@ -78,5 +79,15 @@ impl Names {
                 Some(name) => Some(name.as_slice()),
             },
         }
+    }
+}
+
+impl NameTable for Names {
+    ghost use Rattle.std.specs.FinMap as finite;
+
+    ghost name_of = { λ names dotted. finite.get names dotted };
+
+    fn get(&self, dotted: &[u8]) -> Option<&[u8]> {
+        Names::get(self, dotted)
     }
 }
