@@ -13,3 +13,4 @@ pub mod Noting
 pub mod Formed
 pub mod CheckPieces
 pub mod Cutting
+pub mod Worked
