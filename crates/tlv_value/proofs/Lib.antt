@@ -18,3 +18,4 @@ pub mod NamesStanding
 pub mod NamesReads
 pub mod Cutting
 pub mod NamesRows
+pub mod Worked
