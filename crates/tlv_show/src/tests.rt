@@ -3,7 +3,10 @@ use crate::Dump;
 use std::process::Abort;
 use std::test::Fail;
 use tlv_head::{Header, read_header};
-use tlv_walk::{Drain, Event, Follow, MemDrain, Out, WriteFault};
+use tlv_walk::{
+    Drain, Ending, Event, Follow, Framing, MemDrain, MemSource, Out, Run, Turn, Walker, WriteFault,
+    turn,
+};
 
 /// The header with these octets, at this offset.
 fn header(offset: u64, octets: &[u8]) -> Result<Header, Fail> {
@@ -133,4 +136,69 @@ fn a_drain_without_room(rt: HostRuntime) -> Result<(), Fail> {
     assert_eq!(rt; tell(&events, &mut drain), Err(WriteFault));
     assert_eq!(rt; drain.written(), b"       0  ".as_slice());
     Ok(())
+}
+
+/// Behind each read of four octets the lines are written that the octets so far allow: 1, 2, 4 and 4.
+#[test]
+fn lines_come_with_their_octets(rt: HostRuntime) {
+    let text = b"       0      9: VisibleString {
+       2      3:   OCTET STRING 4a 6f 6e
+       7      2:   OCTET STRING 65 73
+                 }
+";
+    let mut room = [0; 200];
+    let mut piece = [0; 4];
+    let mut walker = Walker::new(&Framing::plain());
+    let mut follower = Dump::new();
+    let mut source = MemSource::new(b"\x3a\x09\x04\x03Jon\x04\x02es", &[], None);
+    let mut drain = MemDrain::new(&mut room, 200);
+    let Ok(Turn::Again) = turn(
+        &mut walker,
+        &mut follower,
+        &mut source,
+        &mut drain,
+        &mut piece,
+        11,
+    ) else {
+        panic!(rt; "more is to be read");
+    };
+    assert_eq!(rt; drain.written(), &text[..33]);
+    let Ok(Turn::Again) = turn(
+        &mut walker,
+        &mut follower,
+        &mut source,
+        &mut drain,
+        &mut piece,
+        11,
+    ) else {
+        panic!(rt; "more is to be read");
+    };
+    assert_eq!(rt; drain.written(), &text[..74]);
+    let Ok(Turn::Again) = turn(
+        &mut walker,
+        &mut follower,
+        &mut source,
+        &mut drain,
+        &mut piece,
+        11,
+    ) else {
+        panic!(rt; "more is to be read");
+    };
+    assert_eq!(rt; drain.written(), text.as_slice());
+    let end = turn(
+        &mut walker,
+        &mut follower,
+        &mut source,
+        &mut drain,
+        &mut piece,
+        11,
+    );
+    let run = Run {
+        ending: Ending::Done,
+        octets: 11,
+        enough: false,
+        unused: None,
+    };
+    assert_eq!(rt; end, Ok(Turn::Ended(run)));
+    assert_eq!(rt; drain.written(), text.as_slice());
 }
