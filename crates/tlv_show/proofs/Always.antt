@@ -1,8 +1,6 @@
 -- A dump always wants more.
-use Rattle.std.proofs.Common.{◌≡◌, inl, inr, List, [], ◌∷◌, refl, ap, ◌∙◌}
-use Rattle.std.proofs.lemmas.Bool.{cases_Bool}
-use Rattle.std.specs.Prelude.{Some, None, nat_lt}
-use Rattle.tlv_head.specs.Header.{Heading, announced}
+use Rattle.std.proofs.Common.{◌≡◌, List, [], ◌∷◌, refl, ap, ◌∙◌}
+use Rattle.std.specs.Prelude.{Some, None}
 use Rattle.tlv_walk.specs.declared.follow.Go.{Go}
 use Rattle.tlv_walk.specs.declared.follow.Go.TheVariants as go
 use Rattle.tlv_walk.specs.Events.{Told, Open, Begin, Bytes, End, Close, Enter, Unused, Leave, Pad}
@@ -11,15 +9,9 @@ use Rattle.tlv_walk.proofs.Followed.{each_octet-goes_on}
 use Rattle.tlv_show.specs.Dumped.{Dumping, dumped, one_dumped, one_padded}
 
 -- an event is never enough
-pub begins_on : (s : Dumping) (h : Heading) → (dumped s (Begin h)).goes ≡ go.On
-begins_on s h = elim (cases_Bool (nat_lt 16 (announced h.size))) [
-  | inl e ↦ rw e refl
-  | inr e ↦ rw e refl
-]
-
 one_on : (s : Dumping) (e : Told) → (dumped s e).goes ≡ go.On
 one_on s (Open h) = refl
-one_on s (Begin h) = begins_on s h
+one_on s (Begin h) = refl
 one_on s (Bytes octets) = each_octet-goes_on one_dumped s octets
 one_on s End = refl
 one_on s (Close None) = refl

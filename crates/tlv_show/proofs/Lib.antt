@@ -1,9 +1,5 @@
-pub mod Texts
 pub mod Puts
-pub mod Shown
 pub mod Dumped
-pub mod Primitives
-pub mod Rows
 pub mod Always
 pub mod DumpTexts
 pub mod Dumps

@@ -3,8 +3,9 @@ ghost use Rattle.std.specs.Prelude.{◌≡◌, IsErrOf, OnOk};
 ghost use Rattle.tlv_walk.specs.Device.{counted};
 ghost use Rattle.tlv_show.specs.Dumps.{Dumps};
 
-use crate::Dump;
-use tlv_walk::{DeviceFault, Drain, Ending, Framing, Source, drive};
+use crate::{Dump, Options};
+use tlv_value::Names;
+use tlv_walk::{DeviceFault, Drain, Ending, Source, drive};
 
 /// What a dump came to.
 #[derive(Clone, Copy, Debug, PartialEq, Eq)]
@@ -14,8 +15,9 @@ pub struct Outcome {
     pub unused: Option<u64>,
 }
 
-/// Writes the lines of the encodings that the source gives, up to its end or the first octet that is
-/// refused. The lines of an element come as soon as its octets allow.
+/// Writes the lines of the encodings that the source gives, up to its end or the first octet that is refused. The
+/// lines of an element come as soon as its octets allow. Object identifiers that the table has are shown with their
+/// names.
 ///
 /// # Errors
 ///
@@ -24,16 +26,17 @@ pub struct Outcome {
 pub fn dump<S: Source, D: Drain>(
     source: &mut S,
     drain: &mut D,
-    framing: &Framing,
+    options: &Options,
+    names: &Names,
 ) -> Result<Outcome, DeviceFault>
-    ensures dumps { Dumps framing.now (D.taken drain.old) (D.taken drain.new) (S.left source.old) (S.left source.new) (S.reads source.old) (S.reads source.new) (S.last source.new) result }
+    ensures dumps { Dumps options.now names.now (D.taken drain.old) (D.taken drain.new) (S.left source.old) (S.left source.new) (S.reads source.old) (S.reads source.new) (S.last source.new) result }
     ensures ok { OnOk result ((S.failures source.new ≡ S.failures source.old) × (D.failures drain.new ≡ D.failures drain.old)) }
     ensures read { IsErrOf result DeviceFault.ReadFailed → (S.failures source.new ≡ counted (S.failures source.old)) × (D.failures drain.new ≡ D.failures drain.old) }
     ensures write { IsErrOf result DeviceFault.WriteFailed → (S.failures source.new ≡ S.failures source.old) × (D.failures drain.new ≡ counted (D.failures drain.old)) }
     ensures long { IsErrOf result DeviceFault.InputTooLong → (S.failures source.new ≡ S.failures source.old) × (D.failures drain.new ≡ D.failures drain.old) }
 {
-    let mut follower = Dump::new();
-    let run = drive(source, &mut follower, drain, framing)?;
+    let mut follower = Dump::new(options, names);
+    let run = drive(source, &mut follower, drain, &options.framing)?;
     Ok(Outcome {
         ending: run.ending,
         unused: run.unused,

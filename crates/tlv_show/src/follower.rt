@@ -1,60 +1,78 @@
 //! The follower that writes a dump.
-ghost use Rattle.std.specs.Prelude.{◌≡◌, ◌≤◌, ◌++◌, OnErr, OnOk, length};
+ghost use Rattle.std.specs.Prelude.{◌≡◌, ◌≤◌, ◌-◌, ◌^◌, OnErr, OnOk, length};
 ghost use Rattle.std.specs.Io.KnownBytes.{Appends};
 ghost use Rattle.tlv_walk.specs.Device.{failures_after};
 ghost use Rattle.tlv_walk.specs.Follow.{each_octet};
 ghost use Rattle.tlv_walk.specs.Out.{lender_of, put_to};
 ghost use Rattle.tlv_walk.specs.Prefix.{HasPrefix};
 ghost use Rattle.tlv_show.specs.Dumped.{
+  dumped_begin,
   dumped_close,
+  dumped_end,
   dumped_open,
   entered,
   fresh,
   one_dumped,
   one_padded,
 };
-ghost use Rattle.tlv_show.specs.Lines.{close_line, element_front as front_of, padding_line};
-ghost use Rattle.tlv_show.specs.Texts.{ended};
+ghost use Rattle.tlv_show.specs.Dumps.{top_layout};
 
-use crate::contents::Contents;
-use crate::element::element_front;
+use crate::Options;
 use crate::line::Line;
 use std::marker::Model;
 use tlv_head::Header;
+use tlv_value::{Layout, Names, ValueText};
 use tlv_walk::{Drain, Event, Follow, Go, Out, WriteFault};
 
-/// Writes a line for each event that calls for one. Contents of at most 16 octets stand on their
-/// element's line, which then comes with the last of them; longer contents stand in rows below it.
+/// Writes the lines that each event allows. The line of an element that holds others comes with its header, and that
+/// of its end with its end; those of a primitive come as [`ValueText`] writes them.
 #[derive(Drop)]
-pub struct Dump {
-    /// How many elements are open that hold others.
-    level: u8,
+pub struct Dump<'n> {
+    /// How lines are laid out: the level is how many elements are open that hold others.
+    layout: Layout,
+    names: &'n Names,
     /// Where the next octet stands.
     offset: u64,
     /// Whether the last octets were padding.
     in_padding: bool,
-    contents: Contents,
+    /// The primitive that is open.
+    value: Option<ValueText>,
     line: Line,
 }
 
-impl Model for Dump {
+impl<'n> Model for Dump<'n> {
+    ghost use Rattle.std.specs.Coded.{codes};
     ghost use Rattle.tlv_show.specs.Dumped.{Dumping};
+    ghost use Rattle.tlv_value.specs.Names.{table_code};
 
     ghost Value = { Dumping };
 
-    ghost view = { λ d. record { level = d.level; offset = d.offset; in_padding = d.in_padding; contents = d.contents } };
+    ghost coded = { Prim.hlevel (codes, table_code) };
+
+    ghost view = { λ d. record {
+      layout = d.layout;
+      names = d.names.now;
+      offset = d.offset;
+      in_padding = d.in_padding;
+      value = d.value;
+    } };
 }
 
-impl Dump {
+impl<'n> Dump<'n> {
     /// A dump of which nothing is written.
-    pub fn new() -> Dump
-        ensures { result ≡ fresh }
+    pub fn new(options: &Options, names: &'n Names) -> Dump<'n>
+        ensures { result ≡ fresh (top_layout options.now) names.now }
     {
         Dump {
-            level: 0,
+            layout: Layout {
+                level: 0,
+                limit: options.limit,
+                pure: options.pure,
+            },
+            names,
             offset: 0,
             in_padding: false,
-            contents: Contents::new(),
+            value: None,
             line: Line::new(),
         }
     }
@@ -81,9 +99,9 @@ impl Dump {
         ensures err { OnErr result (HasPrefix (put_to D.taken out.old) (D.taken (lender_of out.new).now) (dumped_open self.old header.now word.now).put) }
         ensures failed { D.failures (lender_of out.new).now ≡ failures_after result (D.failures (lender_of out.old).now) }
     {
-        write_open(header, word, self.level, &mut self.line);
+        self.line.opening(self.layout, header, word);
         out.put(self.line.as_slice())?;
-        self.level = self.level.saturating_add(1);
+        self.layout.level = self.layout.level.saturating_add(1);
         self.enter(header);
         Ok(())
     }
@@ -96,12 +114,56 @@ impl Dump {
         ensures err { OnErr result (HasPrefix (put_to D.taken out.old) (D.taken (lender_of out.new).now) (dumped_close self.old at).put) }
         ensures failed { D.failures (lender_of out.new).now ≡ failures_after result (D.failures (lender_of out.old).now) }
     {
-        self.level = self.level.saturating_sub(1);
+        self.layout.level = self.layout.level.saturating_sub(1);
         if let Some(at) = at {
             self.offset = at.saturating_add(2);
         }
-        write_close(at, self.level, &mut self.line);
+        self.line.closing(self.layout, at);
         out.put(self.line.as_slice())
+    }
+
+    /// A primitive begins.
+    fn begin<D: Drain>(
+        &mut self,
+        header: &Header,
+        out: &mut Out<'_, D>,
+    ) -> Result<(), WriteFault>
+        ensures same_reference { (lender_of out.new).ghost_name ≡ (lender_of out.old).ghost_name }
+        ensures state { OnOk result (self.new ≡ (dumped_begin self.old header.now).state) }
+        ensures ok { OnOk result (Appends (put_to D.taken out.old) (put_to D.taken out.new) (dumped_begin self.old header.now).put) }
+        ensures err { OnErr result (HasPrefix (put_to D.taken out.old) (D.taken (lender_of out.new).now) (dumped_begin self.old header.now).put) }
+        ensures failed { D.failures (lender_of out.new).now ≡ failures_after result (D.failures (lender_of out.old).now) }
+    {
+        self.enter(header);
+        let value = ValueText::new(header, self.layout);
+        value.begin(out)?;
+        self.value = Some(value);
+        Ok(())
+    }
+
+    /// Contents of a primitive go on.
+    fn bytes<D: Drain>(&mut self, octets: &[u8], out: &mut Out<'_, D>) -> Result<(), WriteFault>
+        ensures same_reference { (lender_of out.new).ghost_name ≡ (lender_of out.old).ghost_name }
+        ensures state { OnOk result (self.new ≡ (each_octet one_dumped self.old octets.now).state) }
+        ensures ok { OnOk result (Appends (put_to D.taken out.old) (put_to D.taken out.new) (each_octet one_dumped self.old octets.now).put) }
+        ensures err { OnErr result (HasPrefix (put_to D.taken out.old) (D.taken (lender_of out.new).now) (each_octet one_dumped self.old octets.now).put) }
+        ensures failed { D.failures (lender_of out.new).now ≡ failures_after result (D.failures (lender_of out.old).now) }
+    {
+        self.offset = self.offset.saturating_add(octets.len() as u64);
+        put_bytes(&mut self.value, octets, out)
+    }
+
+    /// A primitive ends.
+    fn end<D: Drain>(&mut self, out: &mut Out<'_, D>) -> Result<(), WriteFault>
+        ensures same_reference { (lender_of out.new).ghost_name ≡ (lender_of out.old).ghost_name }
+        ensures state { self.new ≡ (dumped_end self.old).state }
+        ensures ok { OnOk result (Appends (put_to D.taken out.old) (put_to D.taken out.new) (dumped_end self.old).put) }
+        ensures err { OnErr result (HasPrefix (put_to D.taken out.old) (D.taken (lender_of out.new).now) (dumped_end self.old).put) }
+        ensures failed { D.failures (lender_of out.new).now ≡ failures_after result (D.failures (lender_of out.old).now) }
+    {
+        let put = put_end(&self.value, self.names, out);
+        self.value = None;
+        put
     }
 
     /// Padding goes on. A run of it has one line, which comes with its first octet.
@@ -121,61 +183,53 @@ impl Dump {
             return Ok(());
         }
         self.in_padding = true;
-        write_padding(offset, &mut self.line);
+        self.line.padding(self.layout, offset);
         out.put(self.line.as_slice())
     }
+}
 
-    /// Contents of a primitive go on.
-    fn bytes<D: Drain>(&mut self, octets: &[u8], out: &mut Out<'_, D>) -> Result<(), WriteFault>
-        ensures same_reference { (lender_of out.new).ghost_name ≡ (lender_of out.old).ghost_name }
-        ensures state { OnOk result (self.new ≡ (each_octet one_dumped self.old octets.now).state) }
-        ensures ok { OnOk result (Appends (put_to D.taken out.old) (put_to D.taken out.new) (each_octet one_dumped self.old octets.now).put) }
-        ensures err { OnErr result (HasPrefix (put_to D.taken out.old) (D.taken (lender_of out.new).now) (each_octet one_dumped self.old octets.now).put) }
-        ensures failed { D.failures (lender_of out.new).now ≡ failures_after result (D.failures (lender_of out.old).now) }
-    {
-        self.offset = self.offset.saturating_add(octets.len() as u64);
-        self.contents.bytes(octets, out)
+ghost use Rattle.tlv_show.specs.Dumped.{value_after, value_ended, value_told};
+
+/// Puts what more contents octets tell of the primitive that is open. Of octets past those that were announced
+/// nothing is told.
+fn put_bytes<D: Drain>(
+    value: &mut Option<ValueText>,
+    octets: &[u8],
+    out: &mut Out<'_, D>,
+) -> Result<(), WriteFault>
+    ensures same_reference { (lender_of out.new).ghost_name ≡ (lender_of out.old).ghost_name }
+    ensures state { OnOk result (value.new ≡ value_after value.old octets.now) }
+    ensures ok { OnOk result (Appends (put_to D.taken out.old) (put_to D.taken out.new) (value_told value.old octets.now)) }
+    ensures err { OnErr result (HasPrefix (put_to D.taken out.old) (D.taken (lender_of out.new).now) (value_told value.old octets.now)) }
+    ensures failed { D.failures (lender_of out.new).now ≡ failures_after result (D.failures (lender_of out.old).now) }
+{
+    let Some(value) = value else {
+        return Ok(());
+    };
+    let count = value.left().min(octets.len() as u64) as usize;
+    value.bytes(&octets[..count], out)
+}
+
+/// Puts what the end tells of the primitive that is open, if all its contents octets have come.
+fn put_end<D: Drain>(
+    value: &Option<ValueText>,
+    names: &Names,
+    out: &mut Out<'_, D>,
+) -> Result<(), WriteFault>
+    ensures same_reference { (lender_of out.new).ghost_name ≡ (lender_of out.old).ghost_name }
+    ensures ok { OnOk result (Appends (put_to D.taken out.old) (put_to D.taken out.new) (value_ended names.now value.now)) }
+    ensures err { OnErr result (HasPrefix (put_to D.taken out.old) (D.taken (lender_of out.new).now) (value_ended names.now value.now)) }
+    ensures failed { D.failures (lender_of out.new).now ≡ failures_after result (D.failures (lender_of out.old).now) }
+{
+    match value {
+        Some(value) if value.left() == 0 => value.end(names, out),
+        _ => Ok(()),
     }
 }
 
-/// The line of an element that holds others.
-fn write_open(header: &Header, word: &[u8], level: u8, line: &mut Line)
-    requires { length word.now ≤ 16 }
-    ensures { line.new ≡ ended (front_of level header.now ++ word.now) }
-{
-    element_front(line, header, level);
-    line.push(word);
-    line.push(b"\n");
-}
-
-/// The line of the end of an element that holds others.
-fn write_close(at: Option<u64>, level: u8, line: &mut Line)
-    ensures { line.new ≡ close_line level at }
-{
-    line.clear();
-    match at {
-        Some(at) => {
-            line.number(at, 8);
-            line.push(b"    end: ");
-        }
-        None => line.spaces(17),
-    }
-    line.spaces(2 * usize::from(level));
-    line.push(b"}\n");
-}
-
-/// The line of a run of padding.
-fn write_padding(at: u64, line: &mut Line)
-    ensures { line.new ≡ padding_line at }
-{
-    line.clear();
-    line.number(at, 8);
-    line.push(b"    pad: padding\n");
-}
-
-impl Follow for Dump {
-    ghost use Rattle.std.specs.Prelude.{refl};
+impl Follow for Dump<'_> {
     ghost use Rattle.tlv_walk.proofs.Followed.{each_octet-goes_on, each_octet-joins};
+    ghost use Rattle.std.specs.Prelude.{refl};
     ghost use Rattle.tlv_show.specs.Dumped.{dumped};
 
     ghost next = { dumped };
@@ -196,12 +250,9 @@ impl Follow for Dump {
         match event {
             Event::Open(header) => self.open(header, b" {", out)?,
             Event::Enter(header) => self.open(header, b" wraps {", out)?,
-            Event::Begin(header) => {
-                self.enter(header);
-                self.contents.begin(header, self.level, out)?;
-            }
+            Event::Begin(header) => self.begin(header, out)?,
             Event::Bytes(octets) => self.bytes(octets, out)?,
-            Event::End => self.contents.end(out)?,
+            Event::End => self.end(out)?,
             Event::Close(at) => self.close(*at, out)?,
             Event::Leave => self.close(None, out)?,
             Event::Unused => self.offset = self.offset.saturating_add(1),

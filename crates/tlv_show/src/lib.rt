@@ -1,15 +1,13 @@
-//! What `dump` writes: a line for each element, and rows for the contents of a primitive.
+//! What `dump` writes: a line for each element, and rows for the contents of a long primitive.
 #![tactic(auto)]
 
-mod contents;
 mod dumping;
-mod element;
 mod follower;
-pub mod laws;
 mod line;
-mod row;
+mod options;
 #[cfg(test)]
 mod tests;
 
 pub use dumping::{Outcome, dump};
 pub use follower::Dump;
+pub use options::Options;

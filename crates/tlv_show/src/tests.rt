@@ -1,8 +1,9 @@
 //! Dumps of events, told one by one.
-use crate::Dump;
+use crate::{Dump, Options};
 use std::process::Abort;
 use std::test::Fail;
 use tlv_head::{Header, read_header};
+use tlv_value::Names;
 use tlv_walk::{
     Drain, Ending, Event, Follow, Framing, MemDrain, MemSource, Out, Run, Turn, Walker, WriteFault,
     turn,
@@ -16,10 +17,20 @@ fn header(offset: u64, octets: &[u8]) -> Result<Header, Fail> {
     }
 }
 
+/// Options of a dump of everything.
+fn plain() -> Options {
+    Options {
+        limit: None,
+        pure: false,
+        framing: Framing::plain(),
+    }
+}
+
 /// Tells the events to a new dump.
 fn tell<D: Drain>(events: &[Event<'_>], drain: &mut D) -> Result<(), WriteFault> {
     let mut out = Out::new(drain);
-    let mut follower = Dump::new();
+    let names = Names::empty();
+    let mut follower = Dump::new(&plain(), &names);
     for event in events {
         follower.on(event, &mut out)?;
     }
@@ -149,7 +160,8 @@ fn lines_come_with_their_octets(rt: HostRuntime) {
     let mut room = [0; 200];
     let mut piece = [0; 4];
     let mut walker = Walker::new(&Framing::plain());
-    let mut follower = Dump::new();
+    let names = Names::empty();
+    let mut follower = Dump::new(&plain(), &names);
     let mut source = MemSource::new(b"\x3a\x09\x04\x03Jon\x04\x02es", &[], None);
     let mut drain = MemDrain::new(&mut room, 200);
     let Ok(Turn::Again) = turn(

@@ -171,7 +171,7 @@ abbrev line_for : Heading → Layout → List ℕ → List ℕ
 line_for h layout = line_in (start h layout)
 
 -- all that is known of a primitive that is still open was told
-open-lines : (h : Heading) (layout : Layout) (octets : List ℕ) → open_lines h layout octets ≡ begun (start h layout) ++ told (start h layout) octets
+pub open-lines : (h : Heading) (layout : Layout) (octets : List ℕ) → open_lines h layout octets ≡ begun (start h layout) ++ told (start h layout) octets
 open-lines h layout octets =
     open-told layout (line_for h layout) (size_of h.size) (kind_of h.class h.number) (is_long (kind_of h.class h.number) (size_of h.size)) octets
     ∙ ap (λ (t : List ℕ). begun (start h layout) ++ t) (told_by-told (start h layout) octets)
@@ -181,8 +181,19 @@ told-nothing_at kind layout line size false lined k = refl
 told-nothing_at kind layout line size true true k = refl
 told-nothing_at kind layout line size true false k = refl
 
-told-nothing : (s : TextState) → told s [] ≡ []
+pub told-nothing : (s : TextState) → told s [] ≡ []
 told-nothing s = sym (told_by-told s []) ∙ told-nothing_at (kind_in s) s.layout (line_in s) s.size (is_long (kind_in s) s.size) s.kept.lined s.kept
+
+after-nothing_at : (kind : Kind) (layout : Layout) (line : List ℕ → List ℕ) (size : ℕ) (long lined : Bool) (k : Kept) → k.lined ≡ lined → kept_by kind layout line size long lined k [] ≡ k
+after-nothing_at kind layout line size false lined k e = ap (λ (r : List ℕ). record k { row = r }) (append-nil k.row)
+after-nothing_at kind layout line size true true k e = rw (← e) (ap (λ (n : ℕ). record k { rows = n }) (omega arith))
+after-nothing_at kind layout line size true false k e = refl
+
+-- no octets change nothing
+pub after-nothing : (s : TextState) → after s [] ≡ s
+after-nothing s =
+    let l : s.left - 0 ≡ s.left = omega arith in
+    ap (λ (n : ℕ). with_kept s n (kept_after s [])) l ∙ ap (with_kept s s.left) (after-nothing_at (kind_in s) s.layout (line_in s) s.size (is_long (kind_in s) s.size) s.kept.lined s.kept refl)
 
 pub lines-begin : LinesBegin
 lines-begin h layout = open-lines h layout [] ∙ ap (λ (t : List ℕ). begun (start h layout) ++ t) (told-nothing (start h layout)) ∙ append-nil (begun (start h layout))

@@ -5,6 +5,7 @@ use Rattle.std.specs.Option.{option_map_or, option_or}
 use Rattle.std.specs.Ordering.{nat_cmp}
 use Rattle.std.specs.Cmp.Lexicographic.{slice_cmp}
 use Rattle.std.specs.Str.{bytes_eq}
+use Rattle.std.specs.Coded.{Coded, coded_list, coded_ℕ}
 use Rattle.std.specs.FinMap as finite
 use Rattle.tlv_head.specs.Header.{value_of}
 use Rattle.tlv_value.specs.Arcs.{onto_first}
@@ -14,6 +15,9 @@ use Rattle.tlv_value.specs.declared.names.fault.NamesFault.TheVariants.{BadOid, 
 -- from dotted texts to names
 abbrev pub Table : Type 0
 Table = finite.FinMap (slice_cmp nat_cmp) (List ℕ)
+
+abbrev pub table_code : Coded Table
+table_code = finite.code (coded_list coded_ℕ) (coded_list coded_ℕ)
 
 -- a dotted text and its name
 abbrev pub Entry : Type 0

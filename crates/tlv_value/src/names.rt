@@ -27,14 +27,12 @@ pub struct Names {
 }
 
 impl Model for Names {
-    ghost use Rattle.std.specs.Coded.{coded_list, coded_ℕ};
-    ghost use Rattle.std.specs.FinMap as finite;
-    ghost use Rattle.tlv_value.specs.Names.{Table as NamesTable};
+    ghost use Rattle.tlv_value.specs.Names.{Table as NamesTable, table_code};
     ghost use Rattle.tlv_value.specs.NamesSteps.{names_in};
 
     ghost Value = { NamesTable };
 
-    ghost coded = { finite.code (coded_list coded_ℕ) (coded_list coded_ℕ) };
+    ghost coded = { table_code };
 
     ghost view = { λ names. names_in names.table };
 }

@@ -99,6 +99,13 @@ impl ValueText {
         }
     }
 
+    /// How many contents octets are still to come.
+    pub fn left(&self) -> u64
+        ensures { result ≡ self.now.left }
+    {
+        self.left
+    }
+
     /// Writes what is known with the header.
     ///
     /// # Errors

@@ -4,7 +4,8 @@ use Rattle.tlv_head.specs.declared.fault.Fault.{Fault}
 use Rattle.tlv_head.specs.Fault.{code_of, text_of}
 use Rattle.tlv_show.specs.declared.dumping.Outcome.{Outcome}
 use Rattle.tlv_show.specs.Dumps.{Dumps}
-use Rattle.tlv_walk.specs.declared.framing.Framing.{Framing}
+use Rattle.tlv_show.specs.declared.options.Options.{Options}
+use Rattle.tlv_value.specs.Names.{Table}
 use Rattle.tlv_walk.specs.Device.{Last, counted}
 use Rattle.tlv_walk.specs.declared.ending.Ending.{Ending}
 use Rattle.tlv_walk.specs.declared.ending.Ending.TheVariants as ending
@@ -64,9 +65,9 @@ pub record Devices : Type 0 where
   pub failed_writes : ℕ
 
 -- what a run reports, of a dump that came to something
-pub record Reports (framing : Framing) (old new : Devices) (status : ℕ) (message : List ℕ) : Type 0 where
+pub record Reports (options : Options) (names : Table) (old new : Devices) (status : ℕ) (message : List ℕ) : Type 0 where
   pub outcome : Result Outcome DeviceFault
-  pub dumps : Dumps framing old.taken new.taken old.left new.left old.reads new.reads new.last outcome
+  pub dumps : Dumps options names old.taken new.taken old.left new.left old.reads new.reads new.last outcome
   pub failed : Failed old.failed_reads new.failed_reads old.failed_writes new.failed_writes outcome
   pub status_is : status ≡ status_of outcome
   pub message_is : message ≡ message_of outcome

@@ -9,6 +9,8 @@ mod tests;
 use crate::report::Report;
 use crate::running::run;
 use std::process::ExitCode;
+use tlv_show::Options;
+use tlv_value::Names;
 use tlv_walk::{Framing, ReadSource, WriteDrain};
 
 /// Prints the message, if there is one, on standard error.
@@ -23,7 +25,12 @@ fn tell(rt: &HostRuntime, report: &Report) {
 fn main(rt: HostRuntime) -> ExitCode {
     let mut source = ReadSource::new(rt.stdin());
     let mut drain = WriteDrain::new(rt.stdout());
-    let report = run(&Framing::plain(), &mut source, &mut drain);
+    let options = Options {
+        limit: None,
+        pure: false,
+        framing: Framing::plain(),
+    };
+    let report = run(&options, &Names::empty(), &mut source, &mut drain);
     tell(&rt, &report);
     ExitCode::from(report.status)
 }

@@ -2,13 +2,16 @@
 //! device fails.
 mod deep;
 mod rows;
+mod values;
 
 use self::rows::{ENCODINGS, ENDED, PADDED, REFUSED, Row, WRAPPED};
+use self::values::{LAYOUTS, LONG, VALUES};
 use crate::running::run;
 use std::alloc::Global;
 use std::process::Abort;
 use std::test::Fail;
-use tlv_show::Dump;
+use tlv_show::{Dump, Options};
+use tlv_value::Names;
 use tlv_walk::{
     DeviceFault, Ending, Framing, Inside, MemDrain, MemSource, Run, Turn, Walker, drive_up_to, turn,
 };
@@ -39,8 +42,19 @@ struct Answer<'a> {
     message: &'a str,
 }
 
-fn tables() -> [&'static [Row<'static>]; 5] {
-    [&ENCODINGS, &ENDED, &REFUSED, &WRAPPED, &PADDED]
+fn tables() -> [&'static [Row<'static>]; 8] {
+    [
+        &ENCODINGS, &ENDED, &REFUSED, &WRAPPED, &PADDED, &VALUES, &LONG, &LAYOUTS,
+    ]
+}
+
+/// Options of a dump of everything.
+fn plain() -> Options {
+    Options {
+        limit: None,
+        pure: false,
+        framing: Framing::plain(),
+    }
 }
 
 /// The lines of the row that have come with so many octets.
@@ -66,13 +80,17 @@ fn expect_dump(
     let Some(inside) = Inside::new(row.inside) else {
         panic!(rt; "{}: offsets", row.name);
     };
-    let framing = Framing {
-        inside,
-        padding: row.padding,
+    let options = Options {
+        limit: row.limit,
+        pure: row.pure,
+        framing: Framing {
+            inside,
+            padding: row.padding,
+        },
     };
     let mut source = MemSource::new(row.input, devices.cuts, devices.fail_at);
     let mut drain = MemDrain::new(room, devices.most);
-    let report = run(&framing, &mut source, &mut drain);
+    let report = run(&options, &Names::empty(), &mut source, &mut drain);
     assert_eq!(rt; drain.written(), answer.written, "{}", row.name);
     assert_eq!(rt;
         report.message.as_slice(),
@@ -224,7 +242,7 @@ fn lines_before_a_failed_read_are_written(rt: HostRuntime) {
     let mut room = [0; 1024];
     let mut source = MemSource::new(input, &[4], Some(1));
     let mut drain = MemDrain::new(&mut room, 4096);
-    let report = run(&Framing::plain(), &mut source, &mut drain);
+    let report = run(&plain(), &Names::empty(), &mut source, &mut drain);
     assert_eq!(rt;
         drain.written(),
         b"       0      9: VisibleString {\n".as_slice()
@@ -244,7 +262,8 @@ fn turns_follow_one_read_each(rt: HostRuntime) {
     let mut room = [0; 1024];
     let mut piece = [0; 4];
     let mut walker = Walker::new(&Framing::plain());
-    let mut dump = Dump::new();
+    let names = Names::empty();
+    let mut dump = Dump::new(&plain(), &names);
     let mut source = MemSource::new(input, &[], None);
     let mut drain = MemDrain::new(&mut room, 4096);
     let Ok(Turn::Again) = turn(
@@ -304,9 +323,10 @@ fn octets_past_the_limit_are_not_followed(rt: HostRuntime) {
     let mut room = [0; 1024];
     let mut source = MemSource::new(input, &[], None);
     let mut drain = MemDrain::new(&mut room, 4096);
+    let names = Names::empty();
     let end = drive_up_to(
         &mut source,
-        &mut Dump::new(),
+        &mut Dump::new(&plain(), &names),
         &mut drain,
         3,
         &Framing::plain(),
@@ -321,9 +341,10 @@ fn octets_up_to_the_limit_are_followed(rt: HostRuntime) {
     let mut room = [0; 1024];
     let mut source = MemSource::new(input, &[], None);
     let mut drain = MemDrain::new(&mut room, 4096);
+    let names = Names::empty();
     let end = drive_up_to(
         &mut source,
-        &mut Dump::new(),
+        &mut Dump::new(&plain(), &names),
         &mut drain,
         4,
         &Framing::plain(),
@@ -339,4 +360,25 @@ fn octets_up_to_the_limit_are_followed(rt: HostRuntime) {
         drain.written(),
         b"       0      0: NULL\n       2      0: NULL\n".as_slice()
     );
+}
+
+/// Names are for object identifiers, and for no relative ones.
+#[test]
+fn names_of_object_identifiers_are_shown(rt: HostRuntime) -> Result<(), Fail> {
+    let mut file = MemSource::new(b"1.2.840 us\n", &[], None);
+    let Ok(names) = Names::read(rt.alloc(), &mut file) else {
+        panic!(rt; "names");
+    };
+    let input = b"\x06\x03\x2a\x86\x48\x0d\x04\x01\x02\x86\x48";
+    let mut room = [0; 1024];
+    let mut source = MemSource::new(input, &[], None);
+    let mut drain = MemDrain::new(&mut room, 4096);
+    let report = run(&plain(), &names, &mut source, &mut drain);
+    let text = b"       0      3: OBJECT IDENTIFIER 1.2.840 (us)
+       5      4: RELATIVE-OID 1.2.840
+";
+    assert_eq!(rt; drain.written(), text.as_slice());
+    assert_eq!(rt; report.message.as_slice(), b"".as_slice());
+    assert_eq!(rt; report.status, 0);
+    Ok(())
 }

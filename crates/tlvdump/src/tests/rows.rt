@@ -9,6 +9,10 @@ pub(crate) struct Row<'a> {
     pub inside: &'a [u64],
     /// Whether octets `00` may stand between the encodings.
     pub padding: bool,
+    /// How many rows of a value are written.
+    pub limit: Option<u32>,
+    /// Whether the first columns are left out.
+    pub pure: bool,
     pub input: &'a [u8],
     /// Each line, with the number of octets with which it has come.
     pub lines: &'a [(usize, &'a str)],
@@ -23,6 +27,8 @@ pub(crate) const CLEAN: Row<'static> = Row {
     name: "",
     inside: &[],
     padding: false,
+    limit: None,
+    pure: false,
     input: b"",
     lines: &[],
     refused: None,
@@ -38,7 +44,7 @@ pub(crate) static ENCODINGS: [Row<'static>; 9] = [
     Row {
         name: "a primitive",
         input: b"\x02\x01\x05",
-        lines: &[(3, "       0      1: INTEGER 05")],
+        lines: &[(3, "       0      1: INTEGER 5")],
         ..CLEAN
     },
     Row {
@@ -77,11 +83,11 @@ pub(crate) static ENCODINGS: [Row<'static>; 9] = [
         ..CLEAN
     },
     Row {
-        name: "contents that fill a line",
+        name: "the largest number that is shown in decimal",
         input: b"\x02\x10\x7f\xff\xff\xff\xff\xff\xff\xff\xff\xff\xff\xff\xff\xff\xff\xff",
         lines: &[(
             18,
-            "       0     16: INTEGER 7f ff ff ff ff ff ff ff ff ff ff ff ff ff ff ff",
+            "       0     16: INTEGER 170141183460469231731687303715884105727",
         )],
         ..CLEAN
     },
@@ -147,7 +153,7 @@ pub(crate) static ENDED: [Row<'static>; 9] = [
         input: b"\x30\x80\x02\x01\x05",
         lines: &[
             (2, "       0  indef: SEQUENCE {"),
-            (5, "       2      1:   INTEGER 05"),
+            (5, "       2      1:   INTEGER 5"),
         ],
         message: "fault at 5: F02 input ends inside an encoding",
         ..FAULTY
@@ -165,7 +171,7 @@ pub(crate) static ENDED: [Row<'static>; 9] = [
         lines: &[
             (2, "       0      5: SEQUENCE {"),
             (4, "       2  indef:   SEQUENCE {"),
-            (7, "       4      1:     INTEGER 05"),
+            (7, "       4      1:     INTEGER 5"),
         ],
         message: "fault at 7: F02 input ends inside an encoding",
         ..FAULTY
@@ -226,7 +232,7 @@ pub(crate) static REFUSED: [Row<'static>; 13] = [
         lines: &[
             (2, "       0      5: SEQUENCE {"),
             (4, "       2  indef:   SEQUENCE {"),
-            (7, "       4      1:     INTEGER 05"),
+            (7, "       4      1:     INTEGER 5"),
         ],
         refused: Some(7),
         message: "fault at 7: F05 no end-of-contents inside the enclosing length",
@@ -238,7 +244,7 @@ pub(crate) static REFUSED: [Row<'static>; 13] = [
         lines: &[
             (2, "       0      5: SEQUENCE {"),
             (4, "       2  indef:   SEQUENCE {"),
-            (7, "       4      1:     INTEGER 05"),
+            (7, "       4      1:     INTEGER 5"),
         ],
         refused: Some(7),
         message: "fault at 7: F05 no end-of-contents inside the enclosing length",
@@ -309,7 +315,7 @@ pub(crate) static WRAPPED: [Row<'static>; 17] = [
         lines: &[
             (2, "       0      5: OCTET STRING wraps {"),
             (4, "       2      3:   SEQUENCE {"),
-            (7, "       4      1:     INTEGER 07"),
+            (7, "       4      1:     INTEGER 7"),
             (7, "                   }"),
             (7, "                 }"),
         ],
@@ -327,7 +333,7 @@ pub(crate) static WRAPPED: [Row<'static>; 17] = [
         input: b"\x03\x04\x00\x02\x01\x05",
         lines: &[
             (2, "       0      4: BIT STRING wraps {"),
-            (6, "       3      1:   INTEGER 05"),
+            (6, "       3      1:   INTEGER 5"),
             (6, "                 }"),
         ],
         ..CLEAN
@@ -457,7 +463,7 @@ pub(crate) static WRAPPED: [Row<'static>; 17] = [
         name: "a string of another type",
         inside: &[0],
         input: b"\x0c\x00",
-        lines: &[(2, "       0      0: UTF8String")],
+        lines: &[(2, "       0      0: UTF8String \"\"")],
         status: 1,
         message: "E7 no string to read at offset 0",
         ..CLEAN

@@ -1,7 +1,7 @@
-use Rattle.std.proofs.Common.{◌-◌, ◌^◌, ◌<◌, ◌≤◌, ℕ, true, length, ap, sym, ◌∙◌, arith}
+use Rattle.std.proofs.Common.{◌≡◌, ◌-◌, ◌^◌, ◌<◌, ◌≤◌, ℕ, true, length, ap, sym, ◌∙◌, arith}
 use Rattle.std.proofs.lemmas.Result.{on_err_weaker, on_ok_weaker}
 use Rattle.tlv_walk.specs.Follow.{Following, each_octet}
-use Rattle.tlv_show.specs.Dumped.{Dumping, one_padded}
+use Rattle.tlv_show.specs.Dumped.{Dumping, further, one_padded}
 use Rattle.tlv_show.proofs.Dumped.{padded_first, padded_more}
 use Rattle.tlv_show.proofs.Puts.{appends_nothing, appends_same, prefix_same}
 use Rattle.tlv_show.proofs.follower.Dump.pad.Goals as goal
@@ -10,15 +10,15 @@ pub returns-then-self-clause-state : goal.returns-then-self-clause-state
 returns-then-self-clause-state g c =
     let s = c.self.inside in
     let within : s.offset ≤ 2 ^ 64 - 1 = omega arith in
-    let is = ap (λ (s : Dumping). each_octet one_padded s c.args.octets.now) (sym c.self.view_is) ∙ padded_more s.level s.offset s.in_padding s.contents c.args.octets.now within c.if-self.true in
-    ap (λ (o : ℕ). record { level = s.level; offset = o; in_padding = s.in_padding; contents = s.contents }) c.saturating_add-self-inside.ensures
+    let there : c.saturating_add-self-inside.result ≡ further s.offset (length c.args.octets.now) = omega (arith, c.saturating_add-self-inside.ensures, within) in
+    let is = ap (λ (s : Dumping). each_octet one_padded s c.args.octets.now) (sym c.self.view_is) ∙ padded_more _ c.args.octets.now c.if-self.true in
+    ap (λ (o : ℕ). record { layout = s.layout; names = s.names.now; offset = o; in_padding = s.in_padding; value = s.value }) there
     ∙ sym (ap (λ (t : Following Dumping). t.state) is)
 
 pub returns-then-self-clause-ok : goal.returns-then-self-clause-ok
 returns-then-self-clause-ok g c =
     let s = c.self.inside in
-    let within : s.offset ≤ 2 ^ 64 - 1 = omega arith in
-    let is = ap (λ (s : Dumping). each_octet one_padded s c.args.octets.now) (sym c.self.view_is) ∙ padded_more s.level s.offset s.in_padding s.contents c.args.octets.now within c.if-self.true in
+    let is = ap (λ (s : Dumping). each_octet one_padded s c.args.octets.now) (sym c.self.view_is) ∙ padded_more _ c.args.octets.now c.if-self.true in
     appends_nothing _ _ (ap (λ (t : Following Dumping). t.put) is)
 
 pub returns-clause-state : goal.returns-clause-state
@@ -26,24 +26,23 @@ returns-clause-state g c =
     let s = c.self.inside in
     let within : s.offset ≤ 2 ^ 64 - 1 = omega arith in
     let some : 0 < length c.args.octets.now = search arith in
-    let is = ap (λ (s : Dumping). each_octet one_padded s c.args.octets.now) (sym c.self.view_is) ∙ padded_first s.level s.offset s.in_padding s.contents c.args.octets.now within some c.if-self.false in
+    let there : c.saturating_add-self-inside.result ≡ further s.offset (length c.args.octets.now) = omega (arith, c.saturating_add-self-inside.ensures, within) in
+    let is = ap (λ (s : Dumping). each_octet one_padded s c.args.octets.now) (sym c.self.view_is) ∙ padded_first _ c.args.octets.now some c.if-self.false in
     on_ok_weaker c.put.result
-    (λ _. ap (λ (o : ℕ). record { level = s.level; offset = o; in_padding = true; contents = s.contents }) c.saturating_add-self-inside.ensures
+    (λ _. ap (λ (o : ℕ). record { layout = s.layout; names = s.names.now; offset = o; in_padding = true; value = s.value }) there
     ∙ sym (ap (λ (t : Following Dumping). t.state) is))
     c.put.ensures.ok
 
 pub returns-clause-ok : goal.returns-clause-ok
 returns-clause-ok g c =
     let s = c.self.inside in
-    let within : s.offset ≤ 2 ^ 64 - 1 = omega arith in
     let some : 0 < length c.args.octets.now = search arith in
-    let is = ap (λ (s : Dumping). each_octet one_padded s c.args.octets.now) (sym c.self.view_is) ∙ padded_first s.level s.offset s.in_padding s.contents c.args.octets.now within some c.if-self.false in
-    on_ok_weaker c.put.result (appends_same _ _ _ _ (ap (λ (t : Following Dumping). t.put) is ∙ sym (c.as_slice.ensures ∙ c.write_padding.ensures))) c.put.ensures.ok
+    let is = ap (λ (s : Dumping). each_octet one_padded s c.args.octets.now) (sym c.self.view_is) ∙ padded_first _ c.args.octets.now some c.if-self.false in
+    on_ok_weaker c.put.result (appends_same _ _ _ _ (ap (λ (t : Following Dumping). t.put) is ∙ sym (c.as_slice.ensures ∙ c.padding.ensures))) c.put.ensures.ok
 
 pub returns-clause-err : goal.returns-clause-err
 returns-clause-err g c =
     let s = c.self.inside in
-    let within : s.offset ≤ 2 ^ 64 - 1 = omega arith in
     let some : 0 < length c.args.octets.now = search arith in
-    let is = ap (λ (s : Dumping). each_octet one_padded s c.args.octets.now) (sym c.self.view_is) ∙ padded_first s.level s.offset s.in_padding s.contents c.args.octets.now within some c.if-self.false in
-    on_err_weaker c.put.result (prefix_same _ _ _ _ (ap (λ (t : Following Dumping). t.put) is ∙ sym (c.as_slice.ensures ∙ c.write_padding.ensures))) c.put.ensures.err
+    let is = ap (λ (s : Dumping). each_octet one_padded s c.args.octets.now) (sym c.self.view_is) ∙ padded_first _ c.args.octets.now some c.if-self.false in
+    on_err_weaker c.put.result (prefix_same _ _ _ _ (ap (λ (t : Following Dumping). t.put) is ∙ sym (c.as_slice.ensures ∙ c.padding.ensures))) c.put.ensures.err

@@ -1,12 +1,7 @@
-use Rattle.std.proofs.Common.{sym, refl}
+use Rattle.std.proofs.Common.{sym}
 use Rattle.tlv_walk.proofs.Followed.{each_octet-goes_on}
 use Rattle.tlv_show.specs.Dumped.{one_dumped, one_padded}
 use Rattle.tlv_show.proofs.follower.DumpFollow.on.Goals as goal
-
-pub returns-in_ok-close-in-Leave-clause-ok : goal.returns-in_ok-close-in-Leave-clause-ok
-returns-in_ok-close-in-Leave-clause-ok g c =
-    let a = c.in_ok-close-in-Leave.ensures in
-    rw c.in-Leave.is (a.state, refl, a.ok)
 
 pub returns-in_ok-bytes-in-Bytes-clause-ok : goal.returns-in_ok-bytes-in-Bytes-clause-ok
 returns-in_ok-bytes-in-Bytes-clause-ok g c =

@@ -1,5 +1,0 @@
-use Rattle.tlv_show.proofs.Primitives.{primitives_shown}
-use Rattle.tlv_show.proofs.laws.primitives_are_shown.Goals as goal
-
-pub returns : goal.returns
-returns c = primitives_shown

@@ -1,0 +1,14 @@
+//! How a dump is to be written.
+use tlv_walk::Framing;
+
+/// How a dump is to be written.
+#[derive(Debug, Drop)]
+pub struct Options {
+    /// How many rows of one value are written; one more is written as `...`, and the others are left out. Without a
+    /// limit all are.
+    pub limit: Option<u32>,
+    /// Whether the first columns of each line are left out: offsets, lengths, and the spaces in their place.
+    pub pure: bool,
+    /// How the input is to be read.
+    pub framing: Framing,
+}
