@@ -3,3 +3,4 @@ pub mod Dumped
 pub mod Always
 pub mod DumpTexts
 pub mod Dumps
+pub mod Rows
