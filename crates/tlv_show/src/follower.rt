@@ -35,14 +35,17 @@ pub struct Dump<'n> {
     offset: u64,
     /// Whether the last octets were padding.
     in_padding: bool,
-    /// The primitive that is open.
+    /// Whether a primitive is open.
+    is_open: bool,
+    /// The primitive that is open, or the last one. It is used again for the next one, so its room is not filled anew
+    /// each time.
     value: Option<ValueText>,
     line: Line,
 }
 
 impl<'n> Model for Dump<'n> {
     ghost use Rattle.std.specs.Coded.{codes};
-    ghost use Rattle.tlv_show.specs.Dumped.{Dumping};
+    ghost use Rattle.tlv_show.specs.Dumped.{Dumping, if_open};
     ghost use Rattle.tlv_value.specs.Names.{table_code};
 
     ghost Value = { Dumping };
@@ -54,7 +57,7 @@ impl<'n> Model for Dump<'n> {
       names = d.names.now;
       offset = d.offset;
       in_padding = d.in_padding;
-      value = d.value;
+      value = if_open d.is_open d.value;
     } };
 }
 
@@ -72,6 +75,7 @@ impl<'n> Dump<'n> {
             names,
             offset: 0,
             in_padding: false,
+            is_open: false,
             value: None,
             line: Line::new(),
         }
@@ -135,10 +139,8 @@ impl<'n> Dump<'n> {
         ensures failed { D.failures (lender_of out.new).now ≡ failures_after result (D.failures (lender_of out.old).now) }
     {
         self.enter(header);
-        let value = ValueText::new(header, self.layout);
-        value.begin(out)?;
-        self.value = Some(value);
-        Ok(())
+        self.is_open = true;
+        put_begin(&mut self.value, header, self.layout, out)
     }
 
     /// Contents of a primitive go on.
@@ -150,7 +152,7 @@ impl<'n> Dump<'n> {
         ensures failed { D.failures (lender_of out.new).now ≡ failures_after result (D.failures (lender_of out.old).now) }
     {
         self.offset = self.offset.saturating_add(octets.len() as u64);
-        put_bytes(&mut self.value, octets, out)
+        put_bytes(self.is_open, &mut self.value, octets, out)
     }
 
     /// A primitive ends.
@@ -161,8 +163,8 @@ impl<'n> Dump<'n> {
         ensures err { OnErr result (HasPrefix (put_to D.taken out.old) (D.taken (lender_of out.new).now) (dumped_end self.old).put) }
         ensures failed { D.failures (lender_of out.new).now ≡ failures_after result (D.failures (lender_of out.old).now) }
     {
-        let put = put_end(&self.value, self.names, out);
-        self.value = None;
+        let put = put_end(self.is_open, &mut self.value, self.names, out);
+        self.is_open = false;
         put
     }
 
@@ -188,41 +190,77 @@ impl<'n> Dump<'n> {
     }
 }
 
-ghost use Rattle.tlv_show.specs.Dumped.{value_after, value_ended, value_told};
+ghost use Rattle.std.specs.Prelude.{Some};
+ghost use Rattle.tlv_value.specs.State.{begun, start};
+ghost use Rattle.tlv_show.specs.Dumped.{if_open, value_after, value_ended, value_told};
+
+/// A primitive begins, in place of the last one.
+fn restart(value: &mut Option<ValueText>, header: &Header, layout: Layout)
+    ensures { value.new ≡ Some (start header.now layout) }
+{
+    match value {
+        Some(value) => value.restart(header, layout),
+        None => *value = Some(ValueText::new(header, layout)),
+    }
+}
+
+/// Puts what the header tells of a primitive that begins.
+fn put_begin<D: Drain>(
+    value: &mut Option<ValueText>,
+    header: &Header,
+    layout: Layout,
+    out: &mut Out<'_, D>,
+) -> Result<(), WriteFault>
+    ensures same_reference { (lender_of out.new).ghost_name ≡ (lender_of out.old).ghost_name }
+    ensures state { value.new ≡ Some (start header.now layout) }
+    ensures ok { OnOk result (Appends (put_to D.taken out.old) (put_to D.taken out.new) (begun (start header.now layout))) }
+    ensures err { OnErr result (HasPrefix (put_to D.taken out.old) (D.taken (lender_of out.new).now) (begun (start header.now layout))) }
+    ensures failed { D.failures (lender_of out.new).now ≡ failures_after result (D.failures (lender_of out.old).now) }
+{
+    restart(value, header, layout);
+    match value {
+        Some(value) => value.begin(out),
+        None => Ok(()),
+    }
+}
 
 /// Puts what more contents octets tell of the primitive that is open. Of octets past those that were announced
 /// nothing is told.
 fn put_bytes<D: Drain>(
+    is_open: bool,
     value: &mut Option<ValueText>,
     octets: &[u8],
     out: &mut Out<'_, D>,
 ) -> Result<(), WriteFault>
     ensures same_reference { (lender_of out.new).ghost_name ≡ (lender_of out.old).ghost_name }
-    ensures state { OnOk result (value.new ≡ value_after value.old octets.now) }
-    ensures ok { OnOk result (Appends (put_to D.taken out.old) (put_to D.taken out.new) (value_told value.old octets.now)) }
-    ensures err { OnErr result (HasPrefix (put_to D.taken out.old) (D.taken (lender_of out.new).now) (value_told value.old octets.now)) }
+    ensures state { OnOk result (if_open is_open value.new ≡ value_after (if_open is_open value.old) octets.now) }
+    ensures ok { OnOk result (Appends (put_to D.taken out.old) (put_to D.taken out.new) (value_told (if_open is_open value.old) octets.now)) }
+    ensures err { OnErr result (HasPrefix (put_to D.taken out.old) (D.taken (lender_of out.new).now) (value_told (if_open is_open value.old) octets.now)) }
     ensures failed { D.failures (lender_of out.new).now ≡ failures_after result (D.failures (lender_of out.old).now) }
 {
-    let Some(value) = value else {
-        return Ok(());
-    };
-    let count = value.left().min(octets.len() as u64) as usize;
-    value.bytes(&octets[..count], out)
+    match value {
+        Some(value) if is_open => {
+            let count = value.left().min(octets.len() as u64) as usize;
+            value.bytes(&octets[..count], out)
+        }
+        _ => Ok(()),
+    }
 }
 
 /// Puts what the end tells of the primitive that is open, if all its contents octets have come.
 fn put_end<D: Drain>(
-    value: &Option<ValueText>,
+    is_open: bool,
+    value: &mut Option<ValueText>,
     names: &Names,
     out: &mut Out<'_, D>,
 ) -> Result<(), WriteFault>
     ensures same_reference { (lender_of out.new).ghost_name ≡ (lender_of out.old).ghost_name }
-    ensures ok { OnOk result (Appends (put_to D.taken out.old) (put_to D.taken out.new) (value_ended names.now value.now)) }
-    ensures err { OnErr result (HasPrefix (put_to D.taken out.old) (D.taken (lender_of out.new).now) (value_ended names.now value.now)) }
+    ensures ok { OnOk result (Appends (put_to D.taken out.old) (put_to D.taken out.new) (value_ended names.now (if_open is_open value.old))) }
+    ensures err { OnErr result (HasPrefix (put_to D.taken out.old) (D.taken (lender_of out.new).now) (value_ended names.now (if_open is_open value.old))) }
     ensures failed { D.failures (lender_of out.new).now ≡ failures_after result (D.failures (lender_of out.old).now) }
 {
     match value {
-        Some(value) if value.left() == 0 => value.end(names, out),
+        Some(value) if is_open && value.left() == 0 => value.end(names, out),
         _ => Ok(()),
     }
 }

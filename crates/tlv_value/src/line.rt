@@ -9,9 +9,10 @@ use std::marker::Model;
 /// Room for the longest line: an element's, at level 255, with 64 octets of contents.
 const CAPACITY: usize = 1024;
 
-const SPACES: [u8; 512] = [b' '; 512];
+static SPACES: [u8; 512] = [b' '; 512];
 
-/// A line of text that is being made. What goes past the room is dropped; no line of a value does.
+/// A line of text that is being made. It is used again for the next line, so its room is not filled anew each time. What
+/// goes past the room is dropped; no line of a value does.
 #[derive(Drop)]
 pub(crate) struct Line {
     octets: [u8; CAPACITY],
@@ -29,31 +30,29 @@ impl Model for Line {
 }
 
 impl Line {
-    /// A line of an element that stands at this offset, and has so many contents octets: its first columns and its
+    /// Begins a line of an element that stands at this offset, and has so many contents octets: its first columns and its
     /// indentation.
     #[tactic(auto, using(crate::proofs::LineLengths::columns_short))]
-    pub fn of_element(layout: Layout, offset: u64, size: u64) -> Line
-        ensures margin { result ≡ margin layout.pure (columns offset size) layout.level }
-        ensures short { length result ≤ 553 }
+    pub fn begin_element(&mut self, layout: Layout, offset: u64, size: u64)
+        ensures margin { self.new ≡ margin layout.pure (columns offset size) layout.level }
+        ensures short { length self.new ≤ 553 }
     {
-        let mut line = Line::new();
+        self.clear();
         if !layout.pure {
-            line.columns(offset, size);
+            self.columns(offset, size);
         }
-        line.spaces(2 * usize::from(layout.level));
-        line
+        self.spaces(2 * usize::from(layout.level));
     }
 
-    /// A line of a row: its first columns and its indentation.
-    pub fn of_row(layout: Layout) -> Line
-        ensures { result ≡ margin layout.pure no_columns (layout.level + 1) }
+    /// Begins a line of a row: its first columns and its indentation.
+    pub fn begin_row(&mut self, layout: Layout)
+        ensures { self.new ≡ margin layout.pure no_columns (layout.level + 1) }
     {
-        let mut line = Line::new();
+        self.clear();
         if !layout.pure {
-            line.spaces(17);
+            self.spaces(17);
         }
-        line.spaces(2 * (usize::from(layout.level) + 1));
-        line
+        self.spaces(2 * (usize::from(layout.level) + 1));
     }
 
     pub fn new() -> Line
@@ -63,6 +62,12 @@ impl Line {
             octets: [0; CAPACITY],
             len: 0,
         }
+    }
+
+    fn clear(&mut self)
+        ensures { self.new ≡ [] }
+    {
+        self.len = 0;
     }
 
     pub fn as_slice(&self) -> &[u8]

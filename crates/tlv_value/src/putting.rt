@@ -1,5 +1,5 @@
 //! Lines on their way to an [`Out`].
-ghost use Rattle.std.specs.Prelude.{◌≡◌, ◌+◌, ◌-◌, ◌*◌, ◌<◌, ◌≤◌, ◌^◌, ◌++◌, ◌∷◌, [], codes, false, length, true, unwrap_or, OnErr, OnOk};
+ghost use Rattle.std.specs.Prelude.{◌≡◌, ◌+◌, ◌-◌, ◌*◌, ◌<◌, ◌≤◌, ◌^◌, ◌++◌, ◌∷◌, [], codes, false, if◌then◌else◌, length, true, OnErr, OnOk};
 ghost use Rattle.std.specs.Io.KnownBytes.{Appends};
 ghost use Rattle.tlv_walk.specs.Device.{failures_after};
 ghost use Rattle.tlv_walk.specs.Out.{lender_of, put_to};
@@ -19,69 +19,66 @@ use arrayvec::ArrayVec;
 use tlv_walk::{Drain, Out, WriteFault};
 
 /// Puts a line that lacks its line feed alone.
-pub(crate) fn put_line<D: Drain>(line: Line, out: &mut Out<'_, D>) -> Result<(), WriteFault>
-    requires { length line + 1 ≤ 1024 }
+pub(crate) fn put_line<D: Drain>(line: &mut Line, out: &mut Out<'_, D>) -> Result<(), WriteFault>
+    requires { length line.old + 1 ≤ 1024 }
     ensures same_reference { (lender_of out.new).ghost_name ≡ (lender_of out.old).ghost_name }
-    ensures ok { OnOk result (Appends (put_to D.taken out.old) (put_to D.taken out.new) (line ++ 10 ∷ [])) }
-    ensures err { OnErr result (HasPrefix (put_to D.taken out.old) (D.taken (lender_of out.new).now) (line ++ 10 ∷ [])) }
+    ensures ok { OnOk result (Appends (put_to D.taken out.old) (put_to D.taken out.new) (line.old ++ 10 ∷ [])) }
+    ensures err { OnErr result (HasPrefix (put_to D.taken out.old) (D.taken (lender_of out.new).now) (line.old ++ 10 ∷ [])) }
     ensures failed { D.failures (lender_of out.new).now ≡ failures_after result (D.failures (lender_of out.old).now) }
 {
-    let mut line = line;
     line.push(b"\n");
     out.put(line.as_slice())
 }
 
 /// Puts a line of an element with a held value that is no object identifier.
 pub(crate) fn put_value<D: Drain>(
-    line: Line,
+    line: &mut Line,
     kind: Kind,
     contents: &[u8],
     out: &mut Out<'_, D>,
 ) -> Result<(), WriteFault>
-    requires short { length line ≤ 593 }
+    requires short { length line.old ≤ 593 }
     requires held { length contents.now ≤ most_held kind }
     ensures same_reference { (lender_of out.new).ghost_name ≡ (lender_of out.old).ghost_name }
-    ensures ok { OnOk result (Appends (put_to D.taken out.old) (put_to D.taken out.new) (line ++ plain_text kind contents.now ++ 10 ∷ [])) }
-    ensures err { OnErr result (HasPrefix (put_to D.taken out.old) (D.taken (lender_of out.new).now) (line ++ plain_text kind contents.now ++ 10 ∷ [])) }
+    ensures ok { OnOk result (Appends (put_to D.taken out.old) (put_to D.taken out.new) (line.old ++ plain_text kind contents.now ++ 10 ∷ [])) }
+    ensures err { OnErr result (HasPrefix (put_to D.taken out.old) (D.taken (lender_of out.new).now) (line.old ++ plain_text kind contents.now ++ 10 ∷ [])) }
     ensures failed { D.failures (lender_of out.new).now ≡ failures_after result (D.failures (lender_of out.old).now) }
 {
-    let mut line = line;
     line.value(kind, contents);
     put_line(line, out)
 }
 
 /// Puts a line of a long BIT STRING of this size, whose first contents octet is known.
 pub(crate) fn put_bits<D: Drain>(
-    line: Line,
+    line: &mut Line,
     size: u64,
     unused: u8,
     out: &mut Out<'_, D>,
 ) -> Result<(), WriteFault>
-    requires short { length line ≤ 593 }
+    requires short { length line.old ≤ 593 }
     requires long { 9 < size }
     ensures same_reference { (lender_of out.new).ghost_name ≡ (lender_of out.old).ghost_name }
-    ensures ok { OnOk result (Appends (put_to D.taken out.old) (put_to D.taken out.new) (line ++ long_text Kind.Bits size (unused ∷ []) ++ 10 ∷ [])) }
-    ensures err { OnErr result (HasPrefix (put_to D.taken out.old) (D.taken (lender_of out.new).now) (line ++ long_text Kind.Bits size (unused ∷ []) ++ 10 ∷ [])) }
+    ensures ok { OnOk result (Appends (put_to D.taken out.old) (put_to D.taken out.new) (line.old ++ long_text Kind.Bits size (unused ∷ []) ++ 10 ∷ [])) }
+    ensures err { OnErr result (HasPrefix (put_to D.taken out.old) (D.taken (lender_of out.new).now) (line.old ++ long_text Kind.Bits size (unused ∷ []) ++ 10 ∷ [])) }
     ensures failed { D.failures (lender_of out.new).now ≡ failures_after result (D.failures (lender_of out.old).now) }
 {
-    let mut line = line;
     line.long_bits(size, unused);
     put_line(line, out)
 }
 
 /// Puts the lines of an object identifier: its dotted text, with its name where it has one, or its octets.
 pub(crate) fn put_object<N: NameTable, D: Drain>(
-    line: Line,
+    line: &mut Line,
     layout: Layout,
     contents: &[u8],
     names: &N,
     out: &mut Out<'_, D>,
 ) -> Result<(), WriteFault>
-    requires short { length line ≤ 593 }
+    requires short { length line.old ≤ 593 }
     requires held { length contents.now ≤ 64 }
     ensures same_reference { (lender_of out.new).ghost_name ≡ (lender_of out.old).ghost_name }
-    ensures ok { OnOk result (Appends (put_to D.taken out.old) (put_to D.taken out.new) (object_lines (N.name_of names.now) layout line false contents.now)) }
-    ensures err { OnErr result (HasPrefix (put_to D.taken out.old) (D.taken (lender_of out.new).now) (object_lines (N.name_of names.now) layout line false contents.now)) }
+    ensures ok { OnOk result (Appends (put_to D.taken out.old) (put_to D.taken out.new) (object_lines (N.name_of names.now) layout line.old false contents.now)) }
+    ensures err { OnErr result (HasPrefix (put_to D.taken out.old) (D.taken (lender_of out.new).now) (object_lines (N.name_of names.now) layout line.old false contents.now)) }
     ensures failed { D.failures (lender_of out.new).now ≡ failures_after result (D.failures (lender_of out.old).now) }
 {
     let mut dotted = ArrayVec::new();
@@ -96,16 +93,16 @@ pub(crate) fn put_object<N: NameTable, D: Drain>(
 
 /// Puts the lines of a relative object identifier: its dotted text, or its octets.
 pub(crate) fn put_relative<D: Drain>(
-    line: Line,
+    line: &mut Line,
     layout: Layout,
     contents: &[u8],
     out: &mut Out<'_, D>,
 ) -> Result<(), WriteFault>
-    requires short { length line ≤ 593 }
+    requires short { length line.old ≤ 593 }
     requires held { length contents.now ≤ 64 }
     ensures same_reference { (lender_of out.new).ghost_name ≡ (lender_of out.old).ghost_name }
-    ensures ok { OnOk result (Appends (put_to D.taken out.old) (put_to D.taken out.new) (object_lines no_names layout line true contents.now)) }
-    ensures err { OnErr result (HasPrefix (put_to D.taken out.old) (D.taken (lender_of out.new).now) (object_lines no_names layout line true contents.now)) }
+    ensures ok { OnOk result (Appends (put_to D.taken out.old) (put_to D.taken out.new) (object_lines no_names layout line.old true contents.now)) }
+    ensures err { OnErr result (HasPrefix (put_to D.taken out.old) (D.taken (lender_of out.new).now) (object_lines no_names layout line.old true contents.now)) }
     ensures failed { D.failures (lender_of out.new).now ≡ failures_after result (D.failures (lender_of out.old).now) }
 {
     let mut dotted = ArrayVec::new();
@@ -116,15 +113,18 @@ pub(crate) fn put_relative<D: Drain>(
 }
 
 /// Puts a line of an element with a dotted text.
-fn put_dotted<D: Drain>(line: Line, dotted: &[u8], out: &mut Out<'_, D>) -> Result<(), WriteFault>
-    requires short { length line ≤ 593 }
+fn put_dotted<D: Drain>(
+    line: &mut Line,
+    dotted: &[u8],
+    out: &mut Out<'_, D>,
+) -> Result<(), WriteFault>
+    requires short { length line.old ≤ 593 }
     requires held { length dotted.now ≤ 320 }
     ensures same_reference { (lender_of out.new).ghost_name ≡ (lender_of out.old).ghost_name }
-    ensures ok { OnOk result (Appends (put_to D.taken out.old) (put_to D.taken out.new) (line ++ 32 ∷ dotted.now ++ 10 ∷ [])) }
-    ensures err { OnErr result (HasPrefix (put_to D.taken out.old) (D.taken (lender_of out.new).now) (line ++ 32 ∷ dotted.now ++ 10 ∷ [])) }
+    ensures ok { OnOk result (Appends (put_to D.taken out.old) (put_to D.taken out.new) (line.old ++ 32 ∷ dotted.now ++ 10 ∷ [])) }
+    ensures err { OnErr result (HasPrefix (put_to D.taken out.old) (D.taken (lender_of out.new).now) (line.old ++ 32 ∷ dotted.now ++ 10 ∷ [])) }
     ensures failed { D.failures (lender_of out.new).now ≡ failures_after result (D.failures (lender_of out.old).now) }
 {
-    let mut line = line;
     line.push(b" ");
     line.push(dotted);
     put_line(line, out)
@@ -132,19 +132,18 @@ fn put_dotted<D: Drain>(line: Line, dotted: &[u8], out: &mut Out<'_, D>) -> Resu
 
 /// Puts a line of an element with a dotted text and its name, which may be of any length.
 fn put_named<D: Drain>(
-    line: Line,
+    line: &mut Line,
     dotted: &[u8],
     name: &[u8],
     out: &mut Out<'_, D>,
 ) -> Result<(), WriteFault>
-    requires short { length line ≤ 593 }
+    requires short { length line.old ≤ 593 }
     requires held { length dotted.now ≤ 320 }
     ensures same_reference { (lender_of out.new).ghost_name ≡ (lender_of out.old).ghost_name }
-    ensures ok { OnOk result (Appends (put_to D.taken out.old) (put_to D.taken out.new) (((line ++ 32 ∷ dotted.now ++ codes " (") ++ name.now) ++ codes ")\n")) }
-    ensures err { OnErr result (HasPrefix (put_to D.taken out.old) (D.taken (lender_of out.new).now) (((line ++ 32 ∷ dotted.now ++ codes " (") ++ name.now) ++ codes ")\n")) }
+    ensures ok { OnOk result (Appends (put_to D.taken out.old) (put_to D.taken out.new) (((line.old ++ 32 ∷ dotted.now ++ codes " (") ++ name.now) ++ codes ")\n")) }
+    ensures err { OnErr result (HasPrefix (put_to D.taken out.old) (D.taken (lender_of out.new).now) (((line.old ++ 32 ∷ dotted.now ++ codes " (") ++ name.now) ++ codes ")\n")) }
     ensures failed { D.failures (lender_of out.new).now ≡ failures_after result (D.failures (lender_of out.old).now) }
 {
-    let mut line = line;
     line.push(b" ");
     line.push(dotted);
     line.push(b" (");
@@ -170,29 +169,30 @@ fn put_three<D: Drain>(
 
 /// Puts the lines of up to 64 octets: on the element's line, or in rows below it.
 fn put_octets<D: Drain>(
-    line: Line,
+    line: &mut Line,
     layout: Layout,
     contents: &[u8],
     out: &mut Out<'_, D>,
 ) -> Result<(), WriteFault>
-    requires short { length line ≤ 593 }
+    requires short { length line.old ≤ 593 }
     requires held { length contents.now ≤ 64 }
     ensures same_reference { (lender_of out.new).ghost_name ≡ (lender_of out.old).ghost_name }
-    ensures ok { OnOk result (Appends (put_to D.taken out.old) (put_to D.taken out.new) (octets_lines layout line contents.now)) }
-    ensures err { OnErr result (HasPrefix (put_to D.taken out.old) (D.taken (lender_of out.new).now) (octets_lines layout line contents.now)) }
+    ensures ok { OnOk result (Appends (put_to D.taken out.old) (put_to D.taken out.new) (octets_lines layout line.old contents.now)) }
+    ensures err { OnErr result (HasPrefix (put_to D.taken out.old) (D.taken (lender_of out.new).now) (octets_lines layout line.old contents.now)) }
     ensures failed { D.failures (lender_of out.new).now ≡ failures_after result (D.failures (lender_of out.old).now) }
 {
     if contents.len() <= 16 {
         return put_value(line, Kind::Octets, contents, out);
     }
     put_line(line, out)?;
-    put_all_rows(layout, contents, out)
+    put_all_rows(layout, contents, line, out)
 }
 
 /// Puts rows of all of the octets.
 fn put_all_rows<D: Drain>(
     layout: Layout,
     contents: &[u8],
+    line: &mut Line,
     out: &mut Out<'_, D>,
 ) -> Result<(), WriteFault>
     requires { length contents.now ≤ 64 }
@@ -203,8 +203,16 @@ fn put_all_rows<D: Drain>(
 {
     let mut row = ArrayVec::new();
     let mut rows = 0;
-    put_rows(Kind::Octets, layout, &mut row, &mut rows, contents, out)?;
-    put_last(Kind::Octets, layout, rows, row.as_slice(), out)
+    put_rows(
+        Kind::Octets,
+        layout,
+        &mut row,
+        &mut rows,
+        contents,
+        line,
+        out,
+    )?;
+    put_last(Kind::Octets, layout, rows, row.as_slice(), line, out)
 }
 
 /// Puts the rows that are full, of the octets of the row that has begun and those behind them. What is left begins a row.
@@ -214,6 +222,7 @@ pub(crate) fn put_rows<D: Drain>(
     row: &mut ArrayVec<u8, 64>,
     rows: &mut u64,
     octets: &[u8],
+    line: &mut Line,
     out: &mut Out<'_, D>,
 ) -> Result<(), WriteFault>
     requires begun { length row.old.items < row_size_of kind }
@@ -238,7 +247,7 @@ pub(crate) fn put_rows<D: Drain>(
         }
         let index = *rows;
         *rows += 1;
-        put_full(kind, layout, index, row, part, out)?;
+        put_full(kind, layout, index, row, part, line, out)?;
     }
     Ok(())
 }
@@ -250,6 +259,7 @@ fn put_full<D: Drain>(
     index: u64,
     row: &mut ArrayVec<u8, 64>,
     part: &[u8],
+    line: &mut Line,
     out: &mut Out<'_, D>,
 ) -> Result<(), WriteFault>
     requires { length row.old.items + length part.now ≤ 64 }
@@ -260,11 +270,12 @@ fn put_full<D: Drain>(
     ensures failed { D.failures (lender_of out.new).now ≡ failures_after result (D.failures (lender_of out.old).now) }
 {
     if row.is_empty() {
-        return put_row(kind, layout, index, part, out);
+        return put_row(kind, layout, index, part, line, out);
     }
     let _ = row.try_extend_from_slice(part);
-    let full = row.take();
-    put_row(kind, layout, index, full.as_slice(), out)
+    let put = put_row(kind, layout, index, row.as_slice(), line, out);
+    row.clear();
+    put
 }
 
 /// Puts a last row, where there is one.
@@ -273,6 +284,7 @@ pub(crate) fn put_last<D: Drain>(
     layout: Layout,
     index: u64,
     row: &[u8],
+    line: &mut Line,
     out: &mut Out<'_, D>,
 ) -> Result<(), WriteFault>
     requires { length row.now ≤ 64 }
@@ -284,7 +296,7 @@ pub(crate) fn put_last<D: Drain>(
     if row.is_empty() {
         return Ok(());
     }
-    put_row(kind, layout, index, row, out)
+    put_row(kind, layout, index, row, line, out)
 }
 
 /// Puts a row, unless that is past the limit.
@@ -293,6 +305,7 @@ fn put_row<D: Drain>(
     layout: Layout,
     index: u64,
     row: &[u8],
+    line: &mut Line,
     out: &mut Out<'_, D>,
 ) -> Result<(), WriteFault>
     requires { length row.now ≤ 64 }
@@ -301,23 +314,28 @@ fn put_row<D: Drain>(
     ensures err { OnErr result (HasPrefix (put_to D.taken out.old) (D.taken (lender_of out.new).now) (row_line_of layout index (row_text kind row.now))) }
     ensures failed { D.failures (lender_of out.new).now ≡ failures_after result (D.failures (lender_of out.old).now) }
 {
-    match row_line(kind, layout, index, row) {
-        Some(line) => out.put(line.as_slice()),
-        None => Ok(()),
+    if !write_row(kind, layout, index, row, line) {
+        return Ok(());
     }
+    out.put(line.as_slice())
 }
 
-/// The line of a row, unless that is past the limit.
-fn row_line(kind: Kind, layout: Layout, index: u64, row: &[u8]) -> Option<Line>
+/// Makes the line of a row, unless that is past the limit. Answers whether there is one.
+fn write_row(kind: Kind, layout: Layout, index: u64, row: &[u8], line: &mut Line) -> bool
     requires { length row.now ≤ 64 }
-    ensures { unwrap_or result [] ≡ row_line_of layout index (row_text kind row.now) }
+    ensures { (if result then line.new else []) ≡ row_line_of layout index (row_text kind row.now) }
 {
-    let mut line = Line::of_row(layout);
     match layout.limit {
-        Some(limit) if index > u64::from(limit) => return None,
-        Some(limit) if index == u64::from(limit) => line.push(b"..."),
-        _ => line.row(kind, row),
+        Some(limit) if index > u64::from(limit) => return false,
+        Some(limit) if index == u64::from(limit) => {
+            line.begin_row(layout);
+            line.push(b"...");
+        }
+        _ => {
+            line.begin_row(layout);
+            line.row(kind, row);
+        }
     }
     line.push(b"\n");
-    Some(line)
+    true
 }

@@ -40,6 +40,22 @@ fn begin_row(unused: u8, row: &mut ArrayVec<u8, 64>)
     }
 }
 
+/// Makes the element's line up to its tag text.
+fn write_element(
+    line: &mut Line,
+    layout: Layout,
+    offset: u64,
+    class: Class,
+    number: u64,
+    size: u64,
+)
+    ensures text { line.new ≡ margin layout.pure (columns offset size) layout.level ++ tag_text_of class number }
+    ensures short { length line.new ≤ 593 }
+{
+    line.begin_element(layout, offset, size);
+    line.push(tag_text(class, number).as_slice());
+}
+
 /// Writes the lines of a primitive from its contents, in whatever pieces they come.
 ///
 /// A value that fits on its element's line is held until its last octet has come. The line of a long value comes with
@@ -61,6 +77,8 @@ pub struct ValueText {
     rows: u64,
     /// The octets of the row that has begun, or of a held value.
     row: ArrayVec<u8, 64>,
+    /// Room for a line.
+    line: Line,
 }
 
 impl Model for ValueText {
@@ -96,7 +114,29 @@ impl ValueText {
             has_line: !matches!(kind, Kind::Bits),
             rows: 0,
             row: ArrayVec::new(),
+            line: Line::new(),
         }
+    }
+
+    /// For the primitive with this header, in place of another: as [`ValueText::new`], in the same room.
+    pub fn restart(&mut self, header: &Header, layout: Layout)
+        ensures { self.new ≡ start header.now layout }
+    {
+        let size = match header.size {
+            Size::Definite(size) => size,
+            Size::Indefinite => 0,
+        };
+        let kind = kind_of(header.class, header.number);
+        self.offset = header.offset;
+        self.class = header.class;
+        self.number = header.number;
+        self.size = size;
+        self.kind = kind;
+        self.layout = layout;
+        self.left = size;
+        self.has_line = !matches!(kind, Kind::Bits);
+        self.rows = 0;
+        self.row.clear();
     }
 
     /// How many contents octets are still to come.
@@ -111,16 +151,25 @@ impl ValueText {
     /// # Errors
     ///
     /// `WriteFault` exactly where the drain's failures rose in the call.
-    pub fn begin<D: Drain>(&self, out: &mut Out<'_, D>) -> Result<(), WriteFault>
+    pub fn begin<D: Drain>(&mut self, out: &mut Out<'_, D>) -> Result<(), WriteFault>
+        ensures state { self.new ≡ self.old }
         ensures same_reference { (lender_of out.new).ghost_name ≡ (lender_of out.old).ghost_name }
-        ensures ok { OnOk result (Appends (put_to D.taken out.old) (put_to D.taken out.new) (begun self.now)) }
-        ensures err { OnErr result (HasPrefix (put_to D.taken out.old) (D.taken (lender_of out.new).now) (begun self.now)) }
+        ensures ok { OnOk result (Appends (put_to D.taken out.old) (put_to D.taken out.new) (begun self.old)) }
+        ensures err { OnErr result (HasPrefix (put_to D.taken out.old) (D.taken (lender_of out.new).now) (begun self.old)) }
         ensures failed { D.failures (lender_of out.new).now ≡ failures_after result (D.failures (lender_of out.old).now) }
     {
         if !is_long(self.kind, self.size) || !self.has_line {
             return Ok(());
         }
-        put_line(self.element(), out)
+        write_element(
+            &mut self.line,
+            self.layout,
+            self.offset,
+            self.class,
+            self.number,
+            self.size,
+        );
+        put_line(&mut self.line, out)
     }
 
     /// Writes what is known with more contents octets.
@@ -148,22 +197,31 @@ impl ValueText {
                 &mut self.row,
                 &mut self.rows,
                 octets,
+                &mut self.line,
                 out,
             );
         }
         let Some((unused, rest)) = octets.split_first() else {
             return Ok(());
         };
-        let line = self.element();
+        write_element(
+            &mut self.line,
+            self.layout,
+            self.offset,
+            self.class,
+            self.number,
+            self.size,
+        );
         self.has_line = true;
         begin_row(*unused, &mut self.row);
-        put_bits(line, self.size, *unused, out)?;
+        put_bits(&mut self.line, self.size, *unused, out)?;
         put_rows(
             self.kind,
             self.layout,
             &mut self.row,
             &mut self.rows,
             rest,
+            &mut self.line,
             out,
         )
     }
@@ -174,34 +232,40 @@ impl ValueText {
     ///
     /// `WriteFault` exactly where the drain's failures rose in the call.
     pub fn end<N: NameTable, D: Drain>(
-        &self,
+        &mut self,
         names: &N,
         out: &mut Out<'_, D>,
     ) -> Result<(), WriteFault>
-        requires { self.now.left ≡ 0 }
+        requires { self.old.left ≡ 0 }
+        ensures state { self.new ≡ self.old }
         ensures same_reference { (lender_of out.new).ghost_name ≡ (lender_of out.old).ghost_name }
-        ensures ok { OnOk result (Appends (put_to D.taken out.old) (put_to D.taken out.new) (ended (N.name_of names.now) self.now)) }
-        ensures err { OnErr result (HasPrefix (put_to D.taken out.old) (D.taken (lender_of out.new).now) (ended (N.name_of names.now) self.now)) }
+        ensures ok { OnOk result (Appends (put_to D.taken out.old) (put_to D.taken out.new) (ended (N.name_of names.now) self.old)) }
+        ensures err { OnErr result (HasPrefix (put_to D.taken out.old) (D.taken (lender_of out.new).now) (ended (N.name_of names.now) self.old)) }
         ensures failed { D.failures (lender_of out.new).now ≡ failures_after result (D.failures (lender_of out.old).now) }
     {
         let contents = self.row.as_slice();
         if is_long(self.kind, self.size) {
-            return put_last(self.kind, self.layout, self.rows, contents, out);
+            return put_last(
+                self.kind,
+                self.layout,
+                self.rows,
+                contents,
+                &mut self.line,
+                out,
+            );
         }
+        write_element(
+            &mut self.line,
+            self.layout,
+            self.offset,
+            self.class,
+            self.number,
+            self.size,
+        );
         match self.kind {
-            Kind::Object => put_object(self.element(), self.layout, contents, names, out),
-            Kind::Relative => put_relative(self.element(), self.layout, contents, out),
-            _ => put_value(self.element(), self.kind, contents, out),
+            Kind::Object => put_object(&mut self.line, self.layout, contents, names, out),
+            Kind::Relative => put_relative(&mut self.line, self.layout, contents, out),
+            _ => put_value(&mut self.line, self.kind, contents, out),
         }
-    }
-
-    /// The element's line up to its tag text.
-    fn element(&self) -> Line
-        ensures text { result ≡ margin self.now.layout.pure (columns self.now.offset self.now.size) self.now.layout.level ++ tag_text_of self.now.class self.now.number }
-        ensures short { length result ≤ 593 }
-    {
-        let mut line = Line::of_element(self.layout, self.offset, self.size);
-        line.push(tag_text(self.class, self.number).as_slice());
-        line
     }
 }

@@ -8,7 +8,7 @@ pub put_line-requires : goal.put_line-requires
 put_line-requires g c =
     let p = long-short c.args.size c.args.unused c.ranges.size.fits in
     let e = c.long_bits.ensures (omega arith) in
-    rw e (omega (arith, length-append c.args.line (long_text Bits c.args.size (c.args.unused ∷ []))))
+    rw e (omega (arith, length-append c.args.line.now (long_text Bits c.args.size (c.args.unused ∷ []))))
 
 pub returns-clause-ok : goal.returns-clause-ok
 returns-clause-ok g c =

@@ -14,5 +14,5 @@ pub returns-in_err-put_line-clause-err : goal.returns-in_err-put_line-clause-err
 returns-in_err-put_line-clause-err g c =
     let p = err_from_is_err_and c.from_residual.result c.from_residual.ensures.1 in
     let b : nat_le (length c.args.contents.now) 16 ≡ false = grind (arith, nat_tests) in
-    rw p.1 (put_failed_first (put_to g.D.Drain.taken c.args.out.now) (g.D.Drain.taken (lender_of c.put_line.new.out).now) (c.args.line ++ 10 ∷ [])
-    (row_lines Octets c.args.layout 0 (rows_of Octets c.args.contents.now)) (octets_lines c.args.layout c.args.line c.args.contents.now) c.in_err-put_line.ensures.err (rw (b, append-nil) refl))
+    rw p.1 (put_failed_first (put_to g.D.Drain.taken c.args.out.now) (g.D.Drain.taken (lender_of c.put_line.new.out).now) (c.args.line.now ++ 10 ∷ [])
+    (row_lines Octets c.args.layout 0 (rows_of Octets c.args.contents.now)) (octets_lines c.args.layout c.args.line.now c.args.contents.now) c.in_err-put_line.ensures.err (rw (b, append-nil) refl))

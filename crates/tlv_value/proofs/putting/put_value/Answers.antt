@@ -7,7 +7,7 @@ pub put_line-requires : goal.put_line-requires
 put_line-requires g c =
     let p = plain-short c.args.kind c.args.contents.now c.requires.held in
     let e = c.value.ensures (omega arith) in
-    rw e (omega (arith, length-append c.args.line (plain_text c.args.kind c.args.contents.now)))
+    rw e (omega (arith, length-append c.args.line.now (plain_text c.args.kind c.args.contents.now)))
 
 pub returns-clause-ok : goal.returns-clause-ok
 returns-clause-ok g c =

@@ -1,7 +1,7 @@
 use Rattle.std.proofs.Common.{◌≡◌, ◌-◌, ◌^◌, ◌<◌, ◌≤◌, ℕ, true, length, ap, sym, ◌∙◌, arith}
 use Rattle.std.proofs.lemmas.Result.{on_err_weaker, on_ok_weaker}
 use Rattle.tlv_walk.specs.Follow.{Following, each_octet}
-use Rattle.tlv_show.specs.Dumped.{Dumping, further, one_padded}
+use Rattle.tlv_show.specs.Dumped.{Dumping, further, if_open, one_padded}
 use Rattle.tlv_show.proofs.Dumped.{padded_first, padded_more}
 use Rattle.tlv_show.proofs.Puts.{appends_nothing, appends_same, prefix_same}
 use Rattle.tlv_show.proofs.follower.Dump.pad.Goals as goal
@@ -12,7 +12,7 @@ returns-then-self-clause-state g c =
     let within : s.offset ≤ 2 ^ 64 - 1 = omega arith in
     let there : c.saturating_add-self-inside.result ≡ further s.offset (length c.args.octets.now) = omega (arith, c.saturating_add-self-inside.ensures, within) in
     let is = ap (λ (s : Dumping). each_octet one_padded s c.args.octets.now) (sym c.self.view_is) ∙ padded_more _ c.args.octets.now c.if-self.true in
-    ap (λ (o : ℕ). record { layout = s.layout; names = s.names.now; offset = o; in_padding = s.in_padding; value = s.value }) there
+    ap (λ (o : ℕ). record { layout = s.layout; names = s.names.now; offset = o; in_padding = s.in_padding; value = if_open s.is_open s.value }) there
     ∙ sym (ap (λ (t : Following Dumping). t.state) is)
 
 pub returns-then-self-clause-ok : goal.returns-then-self-clause-ok
@@ -29,7 +29,7 @@ returns-clause-state g c =
     let there : c.saturating_add-self-inside.result ≡ further s.offset (length c.args.octets.now) = omega (arith, c.saturating_add-self-inside.ensures, within) in
     let is = ap (λ (s : Dumping). each_octet one_padded s c.args.octets.now) (sym c.self.view_is) ∙ padded_first _ c.args.octets.now some c.if-self.false in
     on_ok_weaker c.put.result
-    (λ _. ap (λ (o : ℕ). record { layout = s.layout; names = s.names.now; offset = o; in_padding = true; value = s.value }) there
+    (λ _. ap (λ (o : ℕ). record { layout = s.layout; names = s.names.now; offset = o; in_padding = true; value = if_open s.is_open s.value }) there
     ∙ sym (ap (λ (t : Following Dumping). t.state) is))
     c.put.ensures.ok
 

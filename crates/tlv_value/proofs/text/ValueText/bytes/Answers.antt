@@ -29,9 +29,9 @@ returns-in_err-put_bits-clause-err g c =
     let u = c.self.invariant.unlined l c.if-self.false in
     let x : ℕ = c.in-Some.unused.now in
     let rest : List ℕ = c.in-Some.rest.now in
-    let all = told-both (state_of t) c.args.self.now t.kind x rest c.args.octets.now c.element-line.result c.self.view_is c.self.invariant.kind u.0 c.if-self.false l c.in-Some.ensures.cases.0 c.element-line.ensures.text in
+    let all = told-both (state_of t) c.args.self.now t.kind x rest c.args.octets.now c.write_element.new.line c.self.view_is c.self.invariant.kind u.0 c.if-self.false l c.in-Some.ensures.cases.0 c.write_element.ensures.text in
     let p = err_from_is_err_and c.from_residual.result c.from_residual.ensures.1 in
-    rw p.1 (put_failed_first (put_to g.D.Drain.taken c.args.out.now) (g.D.Drain.taken (lender_of c.put_bits.new.out).now) ((c.element-line.result ++ long_text Bits t.size (x ∷ [])) ++ 10 ∷ [])
+    rw p.1 (put_failed_first (put_to g.D.Drain.taken c.args.out.now) (g.D.Drain.taken (lender_of c.put_bits.new.out).now) ((c.write_element.new.line ++ long_text Bits t.size (x ∷ [])) ++ 10 ∷ [])
     (row_lines Bits t.layout 0 (full_rows Bits (in_rows Bits (x ∷ [])) rest)) (told c.args.self.now c.args.octets.now) c.in_err-put_bits.ensures.err all)
 
 pub returns-clause-ok : goal.returns-clause-ok
@@ -41,8 +41,8 @@ returns-clause-ok g c =
     let u = c.self.invariant.unlined l c.if-self.false in
     let x : ℕ = c.in-Some.unused.now in
     let rest : List ℕ = c.in-Some.rest.now in
-    let all = told-both (state_of t) c.args.self.now t.kind x rest c.args.octets.now c.element-line.result c.self.view_is c.self.invariant.kind u.0 c.if-self.false l c.in-Some.ensures.cases.0 c.element-line.ensures.text in
-    let first : List ℕ = (c.element-line.result ++ long_text Bits t.size (x ∷ [])) ++ 10 ∷ [] in
+    let all = told-both (state_of t) c.args.self.now t.kind x rest c.args.octets.now c.write_element.new.line c.self.view_is c.self.invariant.kind u.0 c.if-self.false l c.in-Some.ensures.cases.0 c.write_element.ensures.text in
+    let first : List ℕ = (c.write_element.new.line ++ long_text Bits t.size (x ∷ [])) ++ 10 ∷ [] in
     let rows : List ℕ = row_lines Bits t.layout 0 (full_rows Bits (in_rows Bits (x ∷ [])) rest) in
     let same = rows-first t.kind t.layout t.rows c.begin_row.new.row.items (in_rows Bits (x ∷ [])) rest u.0 u.2 c.begin_row.ensures in
     let a = put_to g.D.Drain.taken c.args.out.now in
@@ -58,8 +58,8 @@ returns-clause-err g c =
     let u = c.self.invariant.unlined l c.if-self.false in
     let x : ℕ = c.in-Some.unused.now in
     let rest : List ℕ = c.in-Some.rest.now in
-    let all = told-both (state_of t) c.args.self.now t.kind x rest c.args.octets.now c.element-line.result c.self.view_is c.self.invariant.kind u.0 c.if-self.false l c.in-Some.ensures.cases.0 c.element-line.ensures.text in
-    let first : List ℕ = (c.element-line.result ++ long_text Bits t.size (x ∷ [])) ++ 10 ∷ [] in
+    let all = told-both (state_of t) c.args.self.now t.kind x rest c.args.octets.now c.write_element.new.line c.self.view_is c.self.invariant.kind u.0 c.if-self.false l c.in-Some.ensures.cases.0 c.write_element.ensures.text in
+    let first : List ℕ = (c.write_element.new.line ++ long_text Bits t.size (x ∷ [])) ++ 10 ∷ [] in
     let rows : List ℕ = row_lines Bits t.layout 0 (full_rows Bits (in_rows Bits (x ∷ [])) rest) in
     let same = rows-first t.kind t.layout t.rows c.begin_row.new.row.items (in_rows Bits (x ∷ [])) rest u.0 u.2 c.begin_row.ensures in
     let a = put_to g.D.Drain.taken c.args.out.now in
