@@ -19,3 +19,4 @@ pub mod NamesReads
 pub mod Cutting
 pub mod NamesRows
 pub mod Worked
+pub mod PairSteps

@@ -1,6 +1,7 @@
 //! The texts of values.
 ghost use Rattle.std.specs.Prelude.{◌≡◌, ◌+◌, ◌-◌, ◌*◌, ◌<◌, ◌≤◌, ◌++◌, ◌∷◌, [], decimal, length, take, true};
 ghost use Rattle.tlv_value.specs.Bits.{bits_of, last_bits};
+ghost use Rattle.tlv_value.specs.Layout.{spaces};
 ghost use Rattle.tlv_value.specs.Value.{
   bit_count as bit_count_text,
   bits_value,
@@ -136,11 +137,8 @@ impl Line {
         requires { length octets.now ≤ 64 }
         ensures { length self.old + length (pairs_joined octets.now) ≤ 1024 → self.new ≡ self.old ++ pairs_joined octets.now }
     {
-        if let [first, rest @ ..] = octets {
-            let mut pair = [0; 2];
-            let _ = hex::encode_to_slice([*first], &mut pair);
-            self.push(&pair);
-            self.spaced_pairs(rest);
+        if !octets.is_empty() {
+            self.push(&spaced_digits(octets)[1..3 * octets.len()]);
         }
     }
 
@@ -149,14 +147,20 @@ impl Line {
         requires { length octets.now ≤ 64 }
         ensures { length self.old + length (pairs_spaced octets.now) ≤ 1024 → self.new ≡ self.old ++ pairs_spaced octets.now }
     {
-        let mut digits = [0; 128];
-        let digits = &mut digits[..2 * octets.len()];
-        let _ = hex::encode_to_slice(octets, digits);
-        for i in 0..octets.len() {
-            self.push(b" ");
-            self.push(&digits[2 * i..2 * i + 2]);
-        }
+        self.push(&spaced_digits(octets)[..3 * octets.len()]);
     }
+}
+
+/// The pairs of digits of octets, each behind a space, and spaces behind them.
+fn spaced_digits(octets: &[u8]) -> [u8; 192]
+    requires { length octets.now ≤ 64 }
+    ensures { result ≡ pairs_spaced octets.now ++ spaces (192 - 3 * length octets.now) }
+{
+    let mut text = [b' '; 192];
+    for i in 0..octets.len() {
+        let _ = hex::encode_to_slice([octets[i]], &mut text[3 * i + 1..3 * i + 3]);
+    }
+    text
 }
 
 /// Whether the first contents octet of a BIT STRING can be read, before so many others.
