@@ -1,0 +1,2 @@
+pub mod IndefFolds
+pub mod IndefRuns

@@ -1,0 +1,3 @@
+pub mod Indef
+pub mod IndefNext
+pub mod IndefRuns
