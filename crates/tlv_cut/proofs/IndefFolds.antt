@@ -20,13 +20,14 @@ follows s [] = refl
 follows {S} s (e ∷ es) = ap (λ (t : Following S). record { state = t.state; put = respelled_event e ++ t.put; goes = t.goes }) (follows s es)
 
 -- some events and then others
-both : (xs ys : List Told) → put_for (xs ++ ys) ≡ put_for xs ++ put_for ys
+pub both : (xs ys : List Told) → put_for (xs ++ ys) ≡ put_for xs ++ put_for ys
 both xs ys = flat_map-append respelled_event xs ys
 
--- an element that holds others begins: what comes before what it holds
-abbrev lead_by : Bool → Bool → List ℕ
+-- `lead`, by what it goes by
+abbrev pub lead_by : Bool → Bool → List ℕ
 lead_by constructed three = if constructed then [] else (if three then 0 ∷ [] else [])
 
+-- an element that holds others begins
 opens_by : (constructed three : Bool) (h : Heading) → constructed ≡ h.constructed
     → put_for ((if constructed then Open h else Enter h) ∷ map (λ z. Unused) (lead_by constructed three))
     ≡ (if constructed then indefinite_octets h else octets_of h ++ lead_by constructed three)

@@ -1,2 +1,4 @@
 pub mod IndefFolds
 pub mod IndefRuns
+pub mod IndefPrefixes
+pub mod IndefReadings

@@ -2,6 +2,7 @@
 #![tactic(auto)]
 
 mod indefinite;
+pub mod laws;
 mod respelling;
 
 pub use indefinite::Indef;
