@@ -8,8 +8,9 @@ use Rattle.tlv_walk.specs.Forest.{Forest, Stop, Fill, Whole, Closed, Partial, En
 abbrev pub indefinite_heading : ℕ → Heading → Heading
 indefinite_heading at h = record h { offset = at; size = Indefinite; lengths = 128 ∷ [] }
 
--- elements from this offset on: each that holds others has an indefinite length, and all stand where what comes before
--- them now ends. The front of a header and the first of the end-of-contents octets are left out
+-- the elements from this offset on, each constructed one with an indefinite length: every element stands where what is
+-- before it now ends. The front of a header and the first of the end-of-contents octets are left out. Where no string is
+-- named, as for `indef`, all elements that hold others are constructed
 abbrev pub indefinite : ℕ → Forest → Forest
 indefinite at Stop = Stop
 indefinite at (Fill rest) = Fill (indefinite (at + 1) rest)

@@ -12,7 +12,7 @@ use tlv_walk::{Drain, Event, Follow, Go, Out, WriteFault};
 pub struct Indef;
 
 impl Indef {
-    /// An `Indef` for the octets from the first one on.
+    /// A follower that writes indefinite lengths.
     pub fn new() -> Indef {
         Indef
     }

@@ -1,4 +1,4 @@
-//! What `indef` writes.
+//! What `indef` writes: the same encodings, with indefinite lengths.
 #![tactic(auto)]
 
 mod indefinite;

@@ -80,6 +80,35 @@ fn lengths_become_indefinite(rt: HostRuntime) {
     }
 }
 
+/// Expects that what is written of each front of the row's input is a front of what is written of all.
+fn expect_fronts(rt: &impl Abort, row: Row<'_>, room: &mut [u8]) {
+    for count in 0..row.input.len() {
+        let front = Row {
+            input: &row.input[..count],
+            ..row
+        };
+        let mut drain = MemDrain::new(room, 4096);
+        let _ = write(&front, &mut drain);
+        assert!(rt;
+            row.written.starts_with(drain.written()),
+            "of {count} octets of {:?}",
+            row.input
+        );
+    }
+}
+
+#[test]
+fn fronts_are_written(rt: HostRuntime) {
+    for input in &KEPT {
+        expect_fronts(&rt, kept(input), &mut [0; 64]);
+    }
+    for rows in [CHANGED.as_slice(), &PADDED, &ENDED, &REFUSED] {
+        for row in rows {
+            expect_fronts(&rt, *row, &mut [0; 64]);
+        }
+    }
+}
+
 /// Behind an octet that is refused, whatever follows changes nothing.
 #[test]
 fn faults_are_final(rt: HostRuntime) -> Result<(), Fail> {
