@@ -5,7 +5,7 @@ use Rattle.tlv_walk.specs.declared.follow.Go.TheVariants.{On}
 use Rattle.tlv_walk.specs.Events.{Told, Open, Begin, Bytes, End, Close, Enter, Unused, Leave, Pad}
 use Rattle.tlv_walk.specs.Follow.{Following}
 
--- the octets that it puts
+-- the octets that it puts. The header of a primitive stays as it stands, whichever event tells it
 abbrev pub respelled_event : Told → List ℕ
 respelled_event (Open h) = if h.constructed then indefinite_octets h else octets_of h
 respelled_event (Begin h) = octets_of h
