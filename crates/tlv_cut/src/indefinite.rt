@@ -1,0 +1,54 @@
+//! The follower that writes indefinite lengths.
+use tlv_head::spell_indefinite;
+use tlv_walk::{Drain, Event, Follow, Go, Out, WriteFault};
+
+/// Writes the octets that are walked over, with the indefinite form of the length in each
+/// constructed element (8.1.3.6): its identifier octets, `80`, what it holds, and `00 00` where it has
+/// ended. Primitives and padding stay as they stand.
+///
+/// It is made for walks in which no string is read as encodings. Such a string is a primitive, so its
+/// header stays as it stands, although what it holds may become longer.
+#[derive(Clone, Copy, Debug)]
+pub struct Indef;
+
+impl Indef {
+    /// A follower that writes indefinite lengths.
+    pub fn new() -> Indef {
+        Indef
+    }
+}
+
+impl Follow for Indef {
+    ghost use Rattle.std.specs.Prelude.{refl};
+    ghost use Rattle.tlv_cut.specs.IndefNext.{indef_next};
+
+    ghost next = { indef_next };
+
+    ghost bytes_join = { λ s x y. refl };
+
+    ghost bytes_rest = { λ s. refl };
+
+    ghost bytes_go_on = { λ s x. refl };
+
+    ghost pad_join = { λ s x y. refl };
+
+    ghost pad_rest = { λ s. refl };
+
+    ghost pad_go_on = { λ s x. refl };
+
+    fn on<D: Drain>(&mut self, event: &Event<'_>, out: &mut Out<'_, D>) -> Result<Go, WriteFault> {
+        match event {
+            Event::Open(header) if header.constructed => {
+                out.put(spell_indefinite(header).as_slice())?;
+            }
+            Event::Open(header) | Event::Begin(header) | Event::Enter(header) => {
+                out.put(header.raw())?;
+            }
+            Event::Bytes(octets) | Event::Pad(octets) => out.put(octets)?,
+            Event::Unused => out.put(&[0])?,
+            Event::Close(_) => out.put(&[0, 0])?,
+            Event::End | Event::Leave => {}
+        }
+        Ok(Go::On)
+    }
+}

@@ -1,0 +1,4 @@
+//! What is written over memory, in whatever pieces the octets come, and where a device fails.
+mod indef;
+mod indef_long;
+mod indef_rows;
