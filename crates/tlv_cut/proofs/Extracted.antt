@@ -9,7 +9,7 @@ use Rattle.tlv_cut.specs.declared.extractor.Stand.{Stand}
 use Rattle.tlv_cut.specs.declared.extractor.Stand.TheVariants.{Before, Inside, Behind}
 use Rattle.tlv_cut.specs.Extracted.{Extracting, of_element, one_passed}
 
-of_element-none : (w : Stand) → [] ≡ of_element w []
+pub of_element-none : (w : Stand) → [] ≡ of_element w []
 of_element-none Before = refl
 of_element-none (Inside level) = refl
 of_element-none Behind = refl

@@ -1,1 +1,3 @@
 pub mod Extracted
+pub mod Kept
+pub mod Cuts
