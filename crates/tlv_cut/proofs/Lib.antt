@@ -1,3 +1,4 @@
 pub mod Extracted
 pub mod Kept
 pub mod Cuts
+pub mod Extracts

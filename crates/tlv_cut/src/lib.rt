@@ -1,6 +1,8 @@
 //! What `extract` writes: an element of an input, or its contents.
 #![tactic(auto)]
 
+mod extracting;
 mod extractor;
 
+pub use extracting::{Cut, extract};
 pub use extractor::Extract;
