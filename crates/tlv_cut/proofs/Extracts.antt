@@ -24,7 +24,7 @@ use Rattle.tlv_cut.specs.Extracted.{Extracting, extracted, has_begun, waiting}
 use Rattle.tlv_cut.specs.Extracts.{ExtractComesTo, Extracts, IsCutOf, walked}
 use Rattle.tlv_cut.proofs.Cuts.{IsCut, told}
 
-goes_alike : (j k : Bool) → goes_of j ≡ goes_of k → j ≡ k
+pub goes_alike : (j k : Bool) → goes_of j ≡ goes_of k → j ≡ k
 goes_alike true true e = refl
 goes_alike true false e = absurd (cc (e))
 goes_alike false true e = absurd (cc (e))

@@ -2,3 +2,4 @@ pub mod Extracted
 pub mod Kept
 pub mod Cuts
 pub mod Extracts
+pub mod Growing

@@ -1,3 +1,4 @@
 pub mod Cut
 pub mod Extracted
 pub mod Extracts
+pub mod CutLaws

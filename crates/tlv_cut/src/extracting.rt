@@ -23,7 +23,8 @@ pub struct Cut {
 /// # Errors
 ///
 /// `ReadFailed` exactly where the source's failures rose in the call, and `WriteFailed` exactly where
-/// the drain's did. `InputTooLong` past 2^40 octets.
+/// the drain's did. `InputTooLong` where the source gave more than 2^40 octets, and the first 2^40
+/// hold neither an octet that is refused nor the end of the element.
 pub fn extract<S: Source, D: Drain>(
     source: &mut S,
     drain: &mut D,

@@ -3,6 +3,7 @@
 
 mod extracting;
 mod extractor;
+pub mod laws;
 
 pub use extracting::{Cut, extract};
 pub use extractor::Extract;
