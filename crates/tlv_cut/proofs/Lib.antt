@@ -3,3 +3,4 @@ pub mod Kept
 pub mod Cuts
 pub mod Extracts
 pub mod Growing
+pub mod Rows
