@@ -176,14 +176,14 @@ module _ (n : ℕ) (only : Bool) where
       let opened = opens_another h (events inside ++ closes h inside ∷ events rest) e in
       choose (has_element (element_at n inside)) (element_at n inside) (element_at n rest) t
       (λ some.
-          let whole = whole_at (inside_of p h) inside v.1 v.0.whole in
-          let on = i.goes ∙ ap₂ (λ (j k : Bool). goes_of (j && k)) some whole in
-          let same = opened ∙ followed-enough extracted before (events inside) (closes h inside ∷ events rest) on in
-          subst (IsCut (element_at n inside)) (sym same) i)
+      let whole = whole_at (inside_of p h) inside v.1 v.0.whole in
+      let on = i.goes ∙ ap₂ (λ (j k : Bool). goes_of (j && k)) some whole in
+      let same = opened ∙ followed-enough extracted before (events inside) (closes h inside ∷ events rest) on in
+      subst (IsCut (element_at n inside)) (sym same) i)
       (λ none.
-          let same = opened ∙ then_more before before [] (events inside) (closes h inside ∷ events rest) (i.misses none)
-          ∙ then_more before before [] (closes h inside ∷ []) (events rest) (closes_told before h inside v.0.header.valid.allowed) in
-          subst (IsCut (element_at n rest)) (sym same) r)
+      let same = opened ∙ then_more before before [] (events inside) (closes h inside ∷ events rest) (i.misses none)
+      ∙ then_more before before [] (closes h inside ∷ []) (events rest) (closes_told before h inside v.0.header.valid.allowed) in
+      subst (IsCut (element_at n rest)) (sym same) r)
 
   -- what is made of the events of elements is the cut of them
   pub told : (p : Place) (f : Forest) → IsOpen p f → p.depth ≤ 128 → IsCut (element_at n f) (followed extracted before (events f))
@@ -194,40 +194,40 @@ module _ (n : ℕ) (only : Bool) where
       choose (h.offset == n) (Whole h c Stop) (element_at n rest) (followed extracted before (es ++ events rest))
       (λ e. whole_cut (Whole h c Stop) _ _ refl refl (whole_octets h c) (enough es (events rest) _ (whole_told h c e)))
       (λ e. subst (IsCut (element_at n rest))
-          (sym (then_more before before [] (Begin h ∷ Bytes c ∷ []) (End ∷ events rest) (begins_told before before [] h c (another_begins h e))))
-          (told (after p _) rest v.1 deep))
+      (sym (then_more before before [] (Begin h ∷ Bytes c ∷ []) (End ∷ events rest) (begins_told before before [] h c (another_begins h e))))
+      (told (after p _) rest v.1 deep))
   told p (Closed h inside rest) v deep =
       let es = opens h ++ (events inside ++ closes h inside ∷ []) in
       choose (h.offset == n) (Closed h inside Stop) (first_of (element_at n inside) (element_at n rest)) (followed extracted before (events (Closed h inside rest)))
       (λ e.
-          let k = within n only (inside_of p h) 0 inside v.1 (omega arith) (omega (arith, v.0.depth)) in
-          let all = enough es (events rest) _ (closed_told h inside e v.0.header.valid.allowed v.0.whole k) in
-          whole_cut (Closed h inside Stop) _ _ refl refl (closed_octets h inside) (ap (followed extracted before) (closed_again h inside rest) ∙ all))
+      let k = within n only (inside_of p h) 0 inside v.1 (omega arith) (omega (arith, v.0.depth)) in
+      let all = enough es (events rest) _ (closed_told h inside e v.0.header.valid.allowed v.0.whole k) in
+      whole_cut (Closed h inside Stop) _ _ refl refl (closed_octets h inside) (ap (followed extracted before) (closed_again h inside rest) ∙ all))
       (λ e. passed_by p h inside rest v e (told (inside_of p h) inside v.1 (omega (arith, v.0.depth))) (told (after p (extent h inside)) rest v.2 deep))
   told p (Partial h c) v deep =
       let es = Begin h ∷ Bytes c ∷ [] in
       choose (h.offset == n) (Partial h c) Stop (followed extracted before es)
       (λ e.
-          let all = begins_told before (held n only 0) (around before (octets_of h)) h c (it_begins h e) in
-          open_cut (Partial h c) _ refl refl (ap (λ (t : Following Extracting). t.put) all ∙ open_octets (octets_of h) c) (ap (λ (t : Following Extracting). t.goes) all)
-          (ap (λ (t : Following Extracting). has_begun t.state.stand) all))
+      let all = begins_told before (held n only 0) (around before (octets_of h)) h c (it_begins h e) in
+      open_cut (Partial h c) _ refl refl (ap (λ (t : Following Extracting). t.put) all ∙ open_octets (octets_of h) c) (ap (λ (t : Following Extracting). t.goes) all)
+      (ap (λ (t : Following Extracting). has_begun t.state.stand) all))
       (λ e. missed _ (begins_told before before [] h c (another_begins h e)))
   told p (Entered h inside) v deep =
       choose (h.offset == n) (Entered h inside) (element_at n inside) (followed extracted before (opens h ++ events inside))
       (λ e.
-          let k = within n only (inside_of p h) 0 inside v.1 (omega arith) (omega (arith, v.0.entry.depth)) in
-          let all = then_more before (held n only 0) (around before (octets_of h) ++ lead h) (opens h) (events inside) (opens_it h e) in
-          open_cut (Entered h inside) _ refl refl
-          (ap (λ (t : Following Extracting). t.put) all ∙ ap (λ (l : List ℕ). (around before (octets_of h) ++ lead h) ++ l) k.put ∙ entered_octets h inside)
-          (ap (λ (t : Following Extracting). t.goes) all ∙ k.goes)
-          (ap (λ (t : Following Extracting). has_begun t.state.stand) all ∙ k.found))
+      let k = within n only (inside_of p h) 0 inside v.1 (omega arith) (omega (arith, v.0.entry.depth)) in
+      let all = then_more before (held n only 0) (around before (octets_of h) ++ lead h) (opens h) (events inside) (opens_it h e) in
+      open_cut (Entered h inside) _ refl refl
+      (ap (λ (t : Following Extracting). t.put) all ∙ ap (λ (l : List ℕ). (around before (octets_of h) ++ lead h) ++ l) k.put ∙ entered_octets h inside)
+      (ap (λ (t : Following Extracting). t.goes) all ∙ k.goes)
+      (ap (λ (t : Following Extracting). has_begun t.state.stand) all ∙ k.found))
       (λ e. subst (IsCut (element_at n inside)) (sym (opens_another h (events inside) e)) (told (inside_of p h) inside v.1 (omega (arith, v.0.entry.depth))))
   told p (Awaiting h) v deep =
       choose (h.offset == n) (Awaiting h) Stop (followed extracted before (Enter h ∷ []))
       (λ e.
-          let all = followed-one extracted before (Enter h) ∙ it_begins h e in
-          open_cut (Awaiting h) _ refl refl (ap (λ (t : Following Extracting). t.put) all) (ap (λ (t : Following Extracting). t.goes) all)
-          (ap (λ (t : Following Extracting). has_begun t.state.stand) all))
+      let all = followed-one extracted before (Enter h) ∙ it_begins h e in
+      open_cut (Awaiting h) _ refl refl (ap (λ (t : Following Extracting). t.put) all) (ap (λ (t : Following Extracting). t.goes) all)
+      (ap (λ (t : Following Extracting). has_begun t.state.stand) all))
       (λ e. missed _ (followed-one extracted before (Enter h) ∙ another_begins h e))
   told p (Begun octets) v deep = missed (followed extracted before []) refl
   told p Zero v deep = missed (followed extracted before []) refl

@@ -37,7 +37,7 @@ ExtractComesTo framing n contents_only old new given last (Err WriteFailed) =
 ExtractComesTo framing n contents_only old new given last (Err InputTooLong) =
     (2 ^ 40 < length given)
     × ((f : Forest) → IsReading framing (walked given) f
-        → (spell f ≡ walked given) × (has_whole_element_at n f ≡ false) × Appends old new (cut n contents_only f))
+    → (spell f ≡ walked given) × (has_whole_element_at n f ≡ false) × Appends old new (cut n contents_only f))
 
 -- the octets that a source gave, and what came of them. Those before the last read hold neither a fault nor the whole
 -- element, and each read before the last gave one octet or more

@@ -4,6 +4,8 @@
 mod extracting;
 mod extractor;
 pub mod laws;
+#[cfg(test)]
+mod tests;
 
 pub use extracting::{Cut, extract};
 pub use extractor::Extract;

@@ -1,0 +1,3 @@
+//! Followers over memory.
+mod extract_rows;
+mod extracts;
