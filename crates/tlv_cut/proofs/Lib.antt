@@ -3,4 +3,5 @@ pub mod Kept
 pub mod Cuts
 pub mod Extracts
 pub mod Growing
+pub mod InPlace
 pub mod Rows

@@ -89,13 +89,16 @@ fn reads_fail(rt: HostRuntime) {
     for rows in tables() {
         for row in rows {
             for (read, &come) in row.come.iter().enumerate() {
+                let Some(written) = row.written.get(..come) else {
+                    panic!(rt; "{}: octets", row.name);
+                };
                 let devices = Devices {
                     cuts: &ONES,
                     fail_at: Some(read as u64),
                     most: 4096,
                 };
                 let answer = Err(DeviceFault::ReadFailed);
-                expect_extract(&rt, row, devices, &mut room, &row.written[..come], answer);
+                expect_extract(&rt, row, devices, &mut room, written, answer);
             }
             expect_row(&rt, row, &ONES, Some(row.come.len() as u64));
         }
@@ -104,8 +107,9 @@ fn reads_fail(rt: HostRuntime) {
 
 /// The drain has room for each number of octets that is too small.
 fn expect_too_little_room(rt: &impl Abort, row: &Row<'_>, devices: Devices<'_>) {
-    let mut room = [0; 16];
     for size in 0..row.written.len() {
+        let mut room = [0; 16];
+        assert!(rt; size <= room.len());
         let answer = Err(DeviceFault::WriteFailed);
         expect_extract(
             rt,
