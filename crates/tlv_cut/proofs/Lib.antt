@@ -4,4 +4,5 @@ pub mod Cuts
 pub mod Extracts
 pub mod Growing
 pub mod InPlace
+pub mod CutLaws
 pub mod Rows
