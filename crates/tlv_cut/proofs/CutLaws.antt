@@ -1,11 +1,9 @@
 -- The laws of what `extract` writes.
-use Rattle.std.proofs.Common.{◌≡◌, ℕ, Bool, true, false, ◌==◌, if◌then◌else◌, List, ◌++◌, suc, zero, refl, sym, ap, ◌∙◌, arith}
-use Rattle.std.specs.Prelude.{Some, None}
+use Rattle.std.proofs.Common.{◌≡◌, ℕ, Bool, true, false, ◌==◌, if◌then◌else◌, List, ◌++◌, refl, sym, ap, ◌∙◌, arith}
 use Rattle.tlv_head.specs.Header.{Heading, octets_of}
-use Rattle.tlv_walk.specs.declared.follow.Go.{Go}
 use Rattle.tlv_walk.specs.declared.follow.Go.TheVariants as go
-use Rattle.tlv_walk.specs.Events.{Told, Open, Begin, Bytes, End, Close, Enter, Unused, Leave, Pad}
-use Rattle.tlv_walk.specs.Follow.{Following, stay}
+use Rattle.tlv_walk.specs.Events.{Open, Begin, Bytes, End, Close, Enter, Unused, Leave, Pad}
+use Rattle.tlv_walk.specs.Follow.{stay}
 use Rattle.tlv_walk.specs.Place.{top}
 use Rattle.tlv_walk.proofs.Followed.{each_octet-goes_on}
 use Rattle.tlv_walk.proofs.Spellings.{append_assoc-3}
@@ -14,7 +12,7 @@ use Rattle.tlv_cut.specs.declared.extractor.Stand.TheVariants as stand
 use Rattle.tlv_cut.specs.Cut.{cut}
 use Rattle.tlv_cut.specs.CutLaws.{CutsStandInTheInput, EnoughComesAtEnds, ExtractsMakeCuts}
 use Rattle.tlv_cut.specs.Extracted.{Extracting, around, begun, moves, one_passed}
-use Rattle.tlv_cut.proofs.Cuts.{IsCut, told}
+use Rattle.tlv_cut.proofs.Cuts.{told}
 use Rattle.tlv_cut.proofs.InPlace.{find}
 
 pub stand_in_the_input : CutsStandInTheInput

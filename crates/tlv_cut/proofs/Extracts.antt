@@ -1,5 +1,5 @@
 -- `extract` is a walk, followed by an `Extract`.
-use Rattle.std.proofs.Common.{◌≡◌, ◌⊎◌, inl, inr, ℕ, ◌^◌, Bool, true, false, List, ◌++◌, take, refl, sym, ap, ◌∙◌, subst, arith}
+use Rattle.std.proofs.Common.{◌≡◌, ◌⊎◌, inl, inr, ℕ, ◌^◌, Bool, true, false, List, ◌++◌, refl, sym, ap, ◌∙◌, subst, arith}
 use Rattle.std.specs.Prelude.{Option, Result, Ok, Err}
 use Rattle.std.specs.Io.KnownBytes.{Appends}
 use Rattle.tlv_walk.specs.declared.follow.Go.{Go}
@@ -8,7 +8,6 @@ use Rattle.tlv_walk.specs.declared.framing.Framing.{Framing}
 use Rattle.tlv_walk.specs.declared.run.DeviceFault.{DeviceFault}
 use Rattle.tlv_walk.specs.declared.run.DeviceFault.TheVariants.{ReadFailed, WriteFailed, InputTooLong}
 use Rattle.tlv_walk.specs.declared.run.Run.{Run}
-use Rattle.tlv_walk.specs.declared.ending.Ending.{Ending}
 use Rattle.tlv_walk.specs.Device.{Last, gave}
 use Rattle.tlv_walk.specs.Drives.{Drives, WalksAll, WalksTo}
 use Rattle.tlv_walk.specs.Events.{events}
@@ -19,7 +18,7 @@ use Rattle.tlv_walk.specs.Prefix.{HasPrefix}
 use Rattle.tlv_walk.specs.Reading.{IsReading}
 use Rattle.tlv_walk.specs.Turns.{EndsWith, IsFinalEnding, goes_of}
 use Rattle.tlv_cut.specs.declared.extracting.Cut.{Cut}
-use Rattle.tlv_cut.specs.Cut.{cut, element_at, has_element_at, has_whole_element_at}
+use Rattle.tlv_cut.specs.Cut.{cut, element_at, has_whole_element_at}
 use Rattle.tlv_cut.specs.Extracted.{Extracting, extracted, has_begun, waiting}
 use Rattle.tlv_cut.specs.Extracts.{ExtractComesTo, Extracts, IsCutOf, walked}
 use Rattle.tlv_cut.proofs.Cuts.{IsCut, told}

@@ -1,10 +1,10 @@
 -- The octets of an element that is found stand in the input, from its offset on.
-use Rattle.std.proofs.Common.{◌≡◌, ℕ, ◌+◌, ◌≤◌, Bool, true, false, ◌==◌, ◌&&◌, if◌then◌else◌, List, [], ◌∷◌, ◌++◌, length, refl, sym, ap, ◌∙◌, arith, append_assoc, append-nil, length-append}
+use Rattle.std.proofs.Common.{◌≡◌, ℕ, ◌+◌, Bool, true, false, ◌==◌, ◌&&◌, if◌then◌else◌, List, [], ◌∷◌, ◌++◌, length, refl, sym, ap, ◌∙◌, arith, append_assoc, append-nil, length-append}
 use Rattle.std.proofs.lemmas.Bool.{eqb-true, true≢false}
 use Rattle.tlv_head.specs.Header.{Heading, IsHeading, octets_of}
 use Rattle.tlv_walk.specs.Forest.{Forest, Stop, Fill, Whole, Closed, Partial, Entered, Awaiting, Begun, Zero, end_octets, extent, has_element, is_whole, lead, opening, spell}
 use Rattle.tlv_walk.specs.Place.{IsHeadAt, IsOpen, Place, after, inside_of}
-use Rattle.tlv_walk.proofs.Spellings.{append_assoc-3, append_assoc-4, length-opening}
+use Rattle.tlv_walk.proofs.Spellings.{append_assoc-3, append_assoc-4}
 use Rattle.tlv_cut.specs.Cut.{contents_of, element_at, first_of, kept}
 
 -- ---- the octets that are kept

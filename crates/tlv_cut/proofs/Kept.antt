@@ -1,20 +1,18 @@
 -- What an `Extract` makes of the events of what the element wanted holds: it passes their octets on.
-use Rattle.std.proofs.Common.{◌≡◌, ◌⊎◌, inl, inr, ℕ, suc, ◌+◌, ◌≤◌, min, Bool, true, false, eqb, ◌==◌, ◌&&◌, if◌then◌else◌, List, [], ◌∷◌, ◌++◌, map, refl, sym, ap, ap₂, ◌∙◌, subst, arith, append_assoc, append-nil}
-use Rattle.std.proofs.lemmas.Bool.{cases_Bool, true≢false}
+use Rattle.std.proofs.Common.{◌≡◌, ℕ, suc, ◌≤◌, Bool, true, false, eqb, if◌then◌else◌, List, [], ◌∷◌, ◌++◌, map, refl, sym, ap, ap₂, ◌∙◌, arith, append_assoc, append-nil}
 use Rattle.tlv_head.specs.declared.header.Size.{Size}
 use Rattle.tlv_head.specs.declared.header.Size.TheVariants.{Definite, Indefinite}
 use Rattle.tlv_head.specs.Header.{AllowsSize, Heading, octets_of}
 use Rattle.tlv_walk.specs.declared.follow.Go.{Go}
 use Rattle.tlv_walk.specs.declared.follow.Go.TheVariants as go
 use Rattle.tlv_walk.specs.Events.{Told, Open, Begin, Bytes, End, Close, Enter, Unused, Leave, Pad, closes, end_offset, events, opens}
-use Rattle.tlv_walk.specs.Follow.{Following, and_then, followed, if_on, stay}
-use Rattle.tlv_walk.specs.Forest.{Forest, Stop, Fill, Whole, Closed, Partial, Entered, Awaiting, Begun, Zero, end_octets, extent, has_element, is_whole, lead, opening}
+use Rattle.tlv_walk.specs.Follow.{Following, and_then, followed, if_on}
+use Rattle.tlv_walk.specs.Forest.{Forest, Stop, Fill, Whole, Closed, Partial, Entered, Awaiting, Begun, Zero, end_octets, extent, is_whole, lead, opening}
 use Rattle.tlv_walk.specs.Place.{IsOpen, Place, after, inside_of}
-use Rattle.tlv_walk.specs.Turns.{goes_of}
-use Rattle.tlv_walk.proofs.Followed.{followed-enough, followed-more, followed-one}
+use Rattle.tlv_walk.proofs.Followed.{followed-more, followed-one}
 use Rattle.tlv_cut.specs.declared.extractor.Stand.TheVariants as stand
-use Rattle.tlv_cut.specs.Cut.{cut_of, element_at, kept}
-use Rattle.tlv_cut.specs.Extracted.{Extracting, around, begun, ended, extracted, has_begun, of_element, one_passed, waiting}
+use Rattle.tlv_cut.specs.Cut.{kept}
+use Rattle.tlv_cut.specs.Extracted.{Extracting, begun, ended, extracted, has_begun, of_element}
 use Rattle.tlv_cut.proofs.Extracted.{all_passed, of_element-none, puts}
 
 -- ---- events one behind another

@@ -1,4 +1,4 @@
-use Rattle.std.proofs.Common.{sym, ap, ◌∙◌, refl}
+use Rattle.std.proofs.Common.{sym, ap}
 use Rattle.tlv_walk.specs.Follow.{Following}
 use Rattle.tlv_walk.proofs.Followed.{each_octet-goes_on}
 use Rattle.tlv_cut.specs.Extracted.{Extracting, one_passed}
