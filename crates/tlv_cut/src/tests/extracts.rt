@@ -171,3 +171,38 @@ fn contents_longer_than_a_piece(rt: HostRuntime) {
     };
     assert_eq!(rt; cut, Ok(whole));
 }
+
+/// Indefinite elements, 128 of them one in another, and a NULL in the innermost.
+fn nested() -> [u8; 514] {
+    let mut input = [0; 514];
+    for element in 0..128 {
+        input[2 * element] = 0x30;
+        input[2 * element + 1] = 0x80;
+    }
+    input[256] = 5;
+    input
+}
+
+/// Expects this element of them to be written, in whatever pieces the octets come.
+fn expect_nested(rt: &impl Abort, offset: u64, written: &[u8]) {
+    let input = nested();
+    for cuts in [&[], [1; 514].as_slice()] {
+        let mut room = [0; 600];
+        let mut source = MemSource::new(&input, cuts, None);
+        let mut drain = MemDrain::new(&mut room, 7);
+        let cut = extract(&mut source, &mut drain, offset, false, &Framing::plain());
+        assert_eq!(rt; drain.written(), written);
+        let whole = Cut {
+            ending: Ending::Done,
+            found: true,
+        };
+        assert_eq!(rt; cut, Ok(whole));
+    }
+}
+
+#[test]
+fn elements_128_deep(rt: HostRuntime) {
+    expect_nested(&rt, 0, &nested());
+    expect_nested(&rt, 254, b"\x30\x80\x05\x00\x00\x00");
+    expect_nested(&rt, 256, b"\x05\x00");
+}
