@@ -13,7 +13,7 @@ use Rattle.tlv_cut.specs.Cut.{cut}
 use Rattle.tlv_cut.specs.CutLaws.{CutsStandInTheInput, EnoughComesAtEnds, ExtractsMakeCuts}
 use Rattle.tlv_cut.specs.Extracted.{Extracting, around, begun, moves, one_passed}
 use Rattle.tlv_cut.proofs.Cuts.{told}
-use Rattle.tlv_cut.proofs.InPlace.{find}
+use Rattle.tlv_cut.proofs.CutsInPlace.{find}
 
 pub stand_in_the_input : CutsStandInTheInput
 stand_in_the_input framing b f r n some =

@@ -2,7 +2,7 @@ pub mod Extracted
 pub mod Kept
 pub mod Cuts
 pub mod Extracts
-pub mod Growing
-pub mod InPlace
+pub mod CutsGrow
+pub mod CutsInPlace
 pub mod CutLaws
-pub mod Rows
+pub mod CutRows

@@ -38,11 +38,12 @@ abbrev pub FoundStays : Type 0
 FoundStays = (framing : Framing) (b c : List ℕ) (f g : Forest) → IsReading framing b f → IsReading framing (b ++ c) g
     → (n : ℕ) → has_element_at n f ≡ true → has_element_at n g ≡ true
 
--- where it is whole, it is whole and the same is written whatever follows
+-- where it is whole, all of this is the same whatever follows
 abbrev pub WholeCutsStay : Type 0
 WholeCutsStay = (framing : Framing) (b c : List ℕ) (f g : Forest) → IsReading framing b f → IsReading framing (b ++ c) g
     → (n : ℕ) → has_whole_element_at n f ≡ true
-    → (has_whole_element_at n g ≡ true) × ((contents_only : Bool) → cut n contents_only g ≡ cut n contents_only f)
+    → (has_element_at n g ≡ has_element_at n f) × (has_whole_element_at n g ≡ has_whole_element_at n f)
+    × ((contents_only : Bool) → cut n contents_only g ≡ cut n contents_only f)
 
 -- an `Extract` puts the cut of a reading, has enough where the element is whole, and has found it where it is there
 abbrev pub ExtractsMakeCuts : Type 0

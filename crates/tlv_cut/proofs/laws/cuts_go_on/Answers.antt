@@ -1,4 +1,4 @@
-use Rattle.tlv_cut.proofs.Growing.{cut_grows}
+use Rattle.tlv_cut.proofs.CutsGrow.{cut_grows}
 use Rattle.tlv_cut.proofs.laws.cuts_go_on.Goals as goal
 
 pub returns : goal.returns

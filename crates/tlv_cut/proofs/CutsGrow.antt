@@ -97,7 +97,10 @@ module _ (framing : Framing) (b c : List ℕ) (f g : Forest) (r : IsReading fram
   pub same_cut : has_whole_element_at n f ≡ true → cut n only g ≡ cut n only f
   same_cut e = sym long_cut.put ∙ ap (λ (t : Following Extracting). t.put) (same e) ∙ short_cut.put
 
-  pub whole_stays : has_whole_element_at n f ≡ true → has_whole_element_at n g ≡ true
-  whole_stays e =
-      goes_alike (has_whole_element_at n g) true
-      (sym long_cut.goes ∙ ap (λ (t : Following Extracting). t.goes) (same e) ∙ short_cut.goes ∙ ap goes_of e)
+  pub same_found : has_whole_element_at n f ≡ true → has_element_at n g ≡ has_element_at n f
+  same_found e = sym long_cut.found ∙ ap (λ (t : Following Extracting). has_begun t.state.stand) (same e) ∙ short_cut.found
+
+  pub same_whole : has_whole_element_at n f ≡ true → has_whole_element_at n g ≡ has_whole_element_at n f
+  same_whole e =
+      goes_alike (has_whole_element_at n g) (has_whole_element_at n f)
+      (sym long_cut.goes ∙ ap (λ (t : Following Extracting). t.goes) (same e) ∙ short_cut.goes)
