@@ -7,7 +7,7 @@ use Rattle.tlv_walk.specs.Forest.{Forest, Stop, Fill, Whole, Closed, Partial, En
 abbrev pub first_of : Forest → Forest → Forest
 first_of one other = if has_element one then one else other
 
--- the element at this offset by itself, where its header is whole; else nothing
+-- the element at this offset by itself, where its header is whole; else nothing. No two stand at one offset
 abbrev pub element_at : ℕ → Forest → Forest
 element_at n Stop = Stop
 element_at n (Fill rest) = element_at n rest
