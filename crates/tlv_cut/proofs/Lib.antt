@@ -5,3 +5,11 @@ pub mod IndefSpelled
 pub mod IndefRules
 pub mod IndefReadings
 pub mod IndefRows
+pub mod Extracted
+pub mod Kept
+pub mod Cuts
+pub mod Extracts
+pub mod CutsGrow
+pub mod CutsInPlace
+pub mod CutLaws
+pub mod CutRows

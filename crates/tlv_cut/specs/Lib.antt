@@ -3,3 +3,7 @@ pub mod IndefNext
 pub mod IndefRuns
 pub mod IndefForest
 pub mod IndefLaws
+pub mod Cut
+pub mod Extracted
+pub mod Extracts
+pub mod CutLaws

@@ -1,11 +1,16 @@
-//! What `indef` writes: the same encodings, with indefinite lengths.
+//! What `extract` and `indef` write: an element of an input, or its contents; and the same encodings,
+//! with indefinite lengths.
 #![tactic(auto)]
 
+mod extracting;
+mod extractor;
 mod indefinite;
 pub mod laws;
 mod respelling;
 #[cfg(test)]
 mod tests;
 
+pub use extracting::{Cut, extract};
+pub use extractor::Extract;
 pub use indefinite::Indef;
 pub use respelling::indef;

@@ -1,0 +1,166 @@
+-- The octets of an element that is found stand in the input, from its offset on.
+use Rattle.std.proofs.Common.{◌≡◌, ℕ, ◌+◌, Bool, true, false, ◌==◌, ◌&&◌, if◌then◌else◌, List, [], ◌∷◌, ◌++◌, length, refl, sym, ap, ◌∙◌, arith, append_assoc, append-nil, length-append}
+use Rattle.std.proofs.lemmas.Bool.{eqb-true, true≢false}
+use Rattle.tlv_head.specs.Header.{Heading, IsHeading, octets_of}
+use Rattle.tlv_walk.specs.Forest.{Forest, Stop, Fill, Whole, Closed, Partial, Entered, Awaiting, Begun, Zero, end_octets, extent, has_element, is_whole, lead, opening, spell}
+use Rattle.tlv_walk.specs.Place.{IsHeadAt, IsOpen, Place, after, inside_of}
+use Rattle.tlv_walk.proofs.Spellings.{append_assoc-3, append_assoc-4}
+use Rattle.tlv_cut.specs.Cut.{contents_of, element_at, first_of, kept}
+
+-- ---- the octets that are kept
+
+-- they are a front of all, and all where nothing is open
+record IsKeptOf (f : Forest) : Type 0 where
+  behind : List ℕ
+  octets : spell f ≡ kept f ++ behind
+  all : is_whole f ≡ true → spell f ≡ kept f
+
+-- those of elements behind others
+behind_kept : (f rest : Forest) (o : List ℕ) → spell f ≡ o ++ spell rest → kept f ≡ o ++ kept rest → is_whole f ≡ is_whole rest → IsKeptOf rest → IsKeptOf f
+behind_kept f rest o all keeps whole r = record {
+  behind = r.behind;
+  octets = all ∙ ap (λ (l : List ℕ). o ++ l) r.octets ∙ sym (append_assoc o (kept rest) r.behind) ∙ ap (λ (l : List ℕ). l ++ r.behind) (sym keeps);
+  all = λ w. all ∙ ap (λ (l : List ℕ). o ++ l) (r.all (sym whole ∙ w)) ∙ sym keeps;
+}
+
+keeps_front : (p : Place) (f : Forest) → p.padding ≡ false → IsOpen p f → IsKeptOf f
+keeps_front p Stop plain v = record { behind = []; octets = refl; all = λ w. refl }
+keeps_front p (Fill rest) plain v = absurd (true≢false (sym v.0.allowed ∙ plain))
+keeps_front p (Whole h c rest) plain v =
+    behind_kept (Whole h c rest) rest (octets_of h ++ c) (sym (append_assoc (octets_of h) c (spell rest))) (sym (append_assoc (octets_of h) c (kept rest))) refl
+    (keeps_front (after p _) rest plain v.1)
+keeps_front p (Closed h inside rest) plain v =
+    let i = keeps_front (inside_of p h) inside refl v.1 in
+    let e = end_octets h.size in
+    behind_kept (Closed h inside rest) rest (opening h ++ (spell inside ++ e)) (sym (append_assoc-3 (opening h) (spell inside) e (spell rest)))
+    (ap (λ (k : List ℕ). opening h ++ (k ++ (e ++ kept rest))) (sym (i.all v.0.whole)) ∙ sym (append_assoc-3 (opening h) (spell inside) e (kept rest))) refl
+    (keeps_front (after p (extent h inside)) rest plain v.2)
+keeps_front p (Partial h c) plain v = record { behind = []; octets = sym (append-nil (octets_of h ++ c)); all = λ w. refl }
+keeps_front p (Entered h inside) plain v =
+    let i = keeps_front (inside_of p h) inside refl v.1 in
+    record {
+      behind = i.behind;
+      octets = ap (λ (l : List ℕ). opening h ++ l) i.octets ∙ sym (append_assoc (opening h) (kept inside) i.behind);
+      all = λ w. absurd (cc (w));
+    }
+keeps_front p (Awaiting h) plain v = record { behind = []; octets = sym (append-nil (octets_of h)); all = λ w. refl }
+keeps_front p (Begun octets) plain v = record { behind = octets; octets = refl; all = λ w. absurd (cc (w)) }
+keeps_front p Zero plain v = record { behind = 0 ∷ []; octets = refl; all = λ w. absurd (cc (w)) }
+
+module _ (n : ℕ) where
+  -- ---- the element
+
+  -- an element of a forest, at the offset n: its octets, and its header, contents and end-of-contents octets
+  pub record IsFoundIn (p : Place) (f e : Forest) : Type 0 where
+    pub front : List ℕ
+    pub behind : List ℕ
+    pub octets : spell f ≡ front ++ (kept e ++ behind)
+    pub place : p.at + length front ≡ n
+    pub head : Heading
+    pub valid : IsHeading head
+    pub offset : head.offset ≡ n
+    pub parts : kept e ≡ octets_of head ++ (contents_of e ++ (if has_element e && is_whole e then end_octets head.size else []))
+
+  -- it is the first of the forest
+  first : (p : Place) (k : Bool) (h : Heading) (f e : Forest) (behind : List ℕ) → IsHeadAt p k h → (h.offset == n) ≡ true → spell f ≡ kept e ++ behind
+      → kept e ≡ octets_of h ++ (contents_of e ++ (if has_element e && is_whole e then end_octets h.size else [])) → IsFoundIn p f e
+  first p k h f e behind at is octets parts = record {
+    front = [];
+    behind = behind;
+    octets = octets;
+    place = omega (arith, at.offset, eqb-true h.offset n is);
+    head = h;
+    valid = at.valid;
+    offset = eqb-true h.offset n is;
+    parts = parts;
+  }
+
+  -- it is one further on, or deeper in
+  further : (p q : Place) (f g e : Forest) (o t : List ℕ) → spell f ≡ o ++ (spell g ++ t) → q.at ≡ p.at + length o → IsFoundIn q g e → IsFoundIn p f e
+  further p q f g e o t all at r = record {
+    front = o ++ r.front;
+    behind = r.behind ++ t;
+    octets =
+        all ∙ ap (λ (l : List ℕ). o ++ (l ++ t)) r.octets ∙ ap (λ (l : List ℕ). o ++ l) (append_assoc-3 r.front (kept e) r.behind t)
+        ∙ sym (append_assoc o r.front (kept e ++ (r.behind ++ t)));
+    place = omega (arith, at, r.place, length-append o r.front);
+    head = r.head;
+    valid = r.valid;
+    offset = r.offset;
+    parts = r.parts;
+  }
+
+  -- one of two, by a test
+  choose : (p : Place) (f : Forest) (k : Bool) (a b : Forest) → (k ≡ true → has_element a ≡ true → IsFoundIn p f a) → (k ≡ false → has_element b ≡ true → IsFoundIn p f b)
+      → has_element (if k then a else b) ≡ true → IsFoundIn p f (if k then a else b)
+  choose p f true a b x y some = x refl some
+  choose p f false a b x y some = y refl some
+
+  none : (p : Place) (f : Forest) → has_element Stop ≡ true → IsFoundIn p f Stop
+  none p f some = absurd (cc (some))
+
+  -- what stands behind an element
+  in_rest : (p q : Place) (f rest e : Forest) (o : List ℕ) → spell f ≡ o ++ spell rest → q.at ≡ p.at + length o → IsFoundIn q rest e → IsFoundIn p f e
+  in_rest p q f rest e o all at r = further p q f rest e o [] (all ∙ ap (λ (l : List ℕ). o ++ l) (sym (append-nil (spell rest)))) at r
+
+  closed_parts : (h : Heading) (inside : Forest) → kept (Closed h inside Stop) ≡ octets_of h ++ ((lead h ++ kept inside) ++ end_octets h.size)
+  closed_parts h inside =
+      let e = end_octets h.size in
+      append_assoc (octets_of h) (lead h) (kept inside ++ (e ++ []))
+      ∙ ap (λ (l : List ℕ). octets_of h ++ (lead h ++ (kept inside ++ l))) (append-nil e)
+      ∙ ap (λ (l : List ℕ). octets_of h ++ l) (sym (append_assoc (lead h) (kept inside) e))
+
+  pub find : (p : Place) (f : Forest) → IsOpen p f → has_element (element_at n f) ≡ true → IsFoundIn p f (element_at n f)
+  find p Stop v some = none p Stop some
+  find p (Fill rest) v some = in_rest p (after p 1) (Fill rest) rest (element_at n rest) (0 ∷ []) refl refl (find (after p 1) rest v.1 some)
+  find p (Whole h c rest) v some =
+      let f = Whole h c rest in
+      choose p f (h.offset == n) (Whole h c Stop) (element_at n rest)
+      (λ is _.
+      first p false h f (Whole h c Stop) (spell rest) v.0.header is (sym (append_assoc-3 (octets_of h) c [] (spell rest)))
+      (ap (λ (l : List ℕ). octets_of h ++ (c ++ l)) (sym (ap end_octets v.0.size))))
+      (λ _ some.
+      in_rest p (after p _) f rest (element_at n rest) (octets_of h ++ c) (sym (append_assoc (octets_of h) c (spell rest))) (omega (arith, length-append (octets_of h) c))
+      (find (after p _) rest v.1 some))
+      some
+  find p (Closed h inside rest) v some =
+      let f = Closed h inside rest in
+      let e = end_octets h.size in
+      let i = keeps_front (inside_of p h) inside refl v.1 in
+      choose p f (h.offset == n) (Closed h inside Stop) (first_of (element_at n inside) (element_at n rest))
+      (λ is _.
+      first p true h f (Closed h inside Stop) (spell rest) v.0.header is
+      (ap (λ (k : List ℕ). opening h ++ (k ++ (e ++ spell rest))) (i.all v.0.whole) ∙ sym (append_assoc-4 (opening h) (kept inside) e [] (spell rest)))
+      (closed_parts h inside))
+      (λ _ some.
+      choose p f (has_element (element_at n inside)) (element_at n inside) (element_at n rest)
+      (λ _ some. further p (inside_of p h) f inside (element_at n inside) (opening h) (e ++ spell rest) refl refl (find (inside_of p h) inside v.1 some))
+      (λ _ some.
+      in_rest p (after p (extent h inside)) f rest (element_at n rest) (opening h ++ (spell inside ++ e)) (sym (append_assoc-3 (opening h) (spell inside) e (spell rest)))
+      (omega (arith, length-append (opening h) (spell inside ++ e), length-append (spell inside) e))
+      (find (after p (extent h inside)) rest v.2 some))
+      some)
+      some
+  find p (Partial h c) v some =
+      choose p (Partial h c) (h.offset == n) (Partial h c) Stop
+      (λ is _.
+      first p false h (Partial h c) (Partial h c) [] v.header is (sym (append-nil (octets_of h ++ c))) (ap (λ (l : List ℕ). octets_of h ++ l) (sym (append-nil c))))
+      (λ _ some. none p (Partial h c) some)
+      some
+  find p (Entered h inside) v some =
+      let f = Entered h inside in
+      let i = keeps_front (inside_of p h) inside refl v.1 in
+      choose p f (h.offset == n) f (element_at n inside)
+      (λ is _.
+      first p true h f f i.behind v.0.entry.header is
+      (ap (λ (l : List ℕ). opening h ++ l) i.octets ∙ sym (append_assoc (opening h) (kept inside) i.behind))
+      (append_assoc (octets_of h) (lead h) (kept inside) ∙ ap (λ (l : List ℕ). octets_of h ++ l) (sym (append-nil (lead h ++ kept inside)))))
+      (λ _ some. in_rest p (inside_of p h) f inside (element_at n inside) (opening h) refl refl (find (inside_of p h) inside v.1 some))
+      some
+  find p (Awaiting h) v some =
+      choose p (Awaiting h) (h.offset == n) (Awaiting h) Stop
+      (λ is _. first p true h (Awaiting h) (Awaiting h) [] v.entry.header is (sym (append-nil (octets_of h))) (sym (append-nil (octets_of h))))
+      (λ _ some. none p (Awaiting h) some)
+      some
+  find p (Begun octets) v some = none p (Begun octets) some
+  find p Zero v some = none p Zero some

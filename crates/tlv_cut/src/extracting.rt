@@ -1,0 +1,47 @@
+//! `extract`, over a source and a drain.
+ghost use Rattle.std.specs.Prelude.{◌≡◌, IsErrOf, OnOk};
+ghost use Rattle.tlv_walk.specs.Device.{counted};
+ghost use Rattle.tlv_cut.specs.Extracts.{Extracts};
+
+use crate::Extract;
+use tlv_walk::{DeviceFault, Drain, Ending, Framing, Source, drive};
+
+/// What an extract came to.
+#[derive(Clone, Copy, Debug, PartialEq, Eq)]
+pub struct Cut {
+    /// Done where the element is whole, whatever follows it; otherwise what the input comes to.
+    pub ending: Ending,
+    /// Whether the header of the element came whole.
+    pub found: bool,
+}
+
+/// Writes the octets of the element whose first identifier octet stands at the offset (in octets
+/// from the start of the input), or its contents alone, as they come. An unfinished header is not
+/// written, nor is a first octet of end-of-contents octets without the second. Reads no more once
+/// the element is whole. Where no element stands there, nothing is written.
+///
+/// # Errors
+///
+/// `ReadFailed` exactly where the source's failures rose in the call, and `WriteFailed` exactly where
+/// the drain's did. `InputTooLong` where the source gave more than 2^40 octets, and the first 2^40
+/// hold neither an octet that is refused nor the end of the element.
+pub fn extract<S: Source, D: Drain>(
+    source: &mut S,
+    drain: &mut D,
+    offset: u64,
+    contents_only: bool,
+    framing: &Framing,
+) -> Result<Cut, DeviceFault>
+    ensures extracts { Extracts framing.now offset contents_only (D.taken drain.old) (D.taken drain.new) (S.left source.old) (S.left source.new) (S.reads source.old) (S.reads source.new) (S.last source.new) result }
+    ensures ok { OnOk result ((S.failures source.new ≡ S.failures source.old) × (D.failures drain.new ≡ D.failures drain.old)) }
+    ensures read { IsErrOf result DeviceFault.ReadFailed → (S.failures source.new ≡ counted (S.failures source.old)) × (D.failures drain.new ≡ D.failures drain.old) }
+    ensures write { IsErrOf result DeviceFault.WriteFailed → (S.failures source.new ≡ S.failures source.old) × (D.failures drain.new ≡ counted (D.failures drain.old)) }
+    ensures long { IsErrOf result DeviceFault.InputTooLong → (S.failures source.new ≡ S.failures source.old) × (D.failures drain.new ≡ D.failures drain.old) }
+{
+    let mut follower = Extract::new(offset, contents_only);
+    let run = drive(source, &mut follower, drain, framing)?;
+    Ok(Cut {
+        ending: run.ending,
+        found: follower.found(),
+    })
+}
