@@ -1,9 +1,7 @@
 -- What a dump makes of octets that come in pieces.
-use Rattle.std.proofs.Common.{◌≡◌, ◌+◌, ◌-◌, ◌^◌, ◌<◌, ◌≤◌, ℕ, zero, suc, Bool, true, false, List, [], ◌∷◌, ◌++◌, length, take, refl, ap, ap₂, sym, ◌∙◌, arith, append-nil, length-append}
+use Rattle.std.proofs.Common.{◌≡◌, ◌+◌, ◌-◌, ◌<◌, ℕ, zero, suc, Bool, true, false, List, [], ◌∷◌, ◌++◌, length, take, refl, ap, ap₂, sym, ◌∙◌, arith, append-nil}
 use Rattle.std.proofs.lemmas.Grind.{common_steps}
 use Rattle.std.specs.Prelude.{Option, Some, None}
-use Rattle.tlv_value.specs.declared.layout.Layout.{Layout}
-use Rattle.tlv_value.specs.Names.{Table}
 use Rattle.tlv_value.specs.State.{TextState, after, told}
 use Rattle.tlv_value.proofs.Pieces.{after-nothing, pieces-join, told-nothing}
 use Rattle.tlv_walk.specs.Follow.{Following, each_octet}

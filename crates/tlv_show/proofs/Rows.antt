@@ -9,7 +9,6 @@ use Rattle.tlv_head.specs.Header.{Heading}
 use Rattle.hex.specs.Hex.{encode_with}
 use Rattle.tlv_walk.specs.Events.{Told, Open, Begin, Bytes, End, Close, Enter, Leave, Pad}
 use Rattle.tlv_walk.specs.Follow.{followed}
-use Rattle.tlv_value.specs.declared.layout.Layout.{Layout}
 use Rattle.tlv_show.specs.Dumped.{dumped, fresh}
 
 -- a universal header of two octets

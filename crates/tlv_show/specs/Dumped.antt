@@ -1,5 +1,5 @@
 -- What a dump makes of events.
-use Rattle.std.specs.Prelude.{ℕ, ◌+◌, ◌-◌, ◌^◌, eqb, if◌then◌else◌, Bool, true, false, List, [], ◌∷◌, ◌++◌, length, max, min, take, Option, Some, None, codes}
+use Rattle.std.specs.Prelude.{ℕ, ◌+◌, ◌-◌, ◌^◌, eqb, if◌then◌else◌, Bool, true, false, List, [], ◌∷◌, length, max, min, take, Option, Some, None, codes}
 use Rattle.std.specs.FinMap as finite
 use Rattle.tlv_head.specs.Header.{Heading, octets_of}
 use Rattle.tlv_value.specs.declared.layout.Layout.{Layout}

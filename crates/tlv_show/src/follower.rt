@@ -127,11 +127,7 @@ impl<'n> Dump<'n> {
     }
 
     /// A primitive begins.
-    fn begin<D: Drain>(
-        &mut self,
-        header: &Header,
-        out: &mut Out<'_, D>,
-    ) -> Result<(), WriteFault>
+    fn begin<D: Drain>(&mut self, header: &Header, out: &mut Out<'_, D>) -> Result<(), WriteFault>
         ensures same_reference { (lender_of out.new).ghost_name ≡ (lender_of out.old).ghost_name }
         ensures state { OnOk result (self.new ≡ (dumped_begin self.old header.now).state) }
         ensures ok { OnOk result (Appends (put_to D.taken out.old) (put_to D.taken out.new) (dumped_begin self.old header.now).put) }
