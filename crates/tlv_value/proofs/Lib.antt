@@ -17,5 +17,6 @@ pub mod NamesTables
 pub mod NamesStanding
 pub mod NamesReads
 pub mod Cutting
+pub mod OneCut
 pub mod NamesRows
 pub mod Worked
