@@ -348,30 +348,49 @@ fn layouts(rt: HostRuntime) {
 
 #[test]
 fn decimals(rt: HostRuntime) {
+    let mut largest = [0xff; 16];
+    largest[0] = 0x7f;
+    let mut least = [0; 16];
+    least[0] = 0x80;
     assert_eq!(rt; decimal_of(&[]), None);
+    assert_eq!(rt; decimal_of(&[0x00]), Some(0));
     assert_eq!(rt; decimal_of(&[0xff]), Some(-1));
-    assert_eq!(rt;
-        decimal_of(&[0x80; 16]),
-        Some(-169_473_963_133_173_273_960_190_490_760_135_540_608)
-    );
+    assert_eq!(rt; decimal_of(&[0x00, 0x7f]), Some(127));
+    assert_eq!(rt; decimal_of(&largest), Some(i128::MAX));
+    assert_eq!(rt; decimal_of(&least), Some(i128::MIN));
     assert_eq!(rt; decimal_of(&[0; 17]), None);
 }
 
+/// Where there is no text, none is left of what was there before.
 #[test]
 fn dotted_texts(rt: HostRuntime) {
+    // 2^128 - 1, and 2^128.
+    let mut largest = [0xff; 19];
+    largest[0] = 0x83;
+    largest[18] = 0x7f;
+    let mut too_large = [0x80; 19];
+    too_large[0] = 0x84;
+    too_large[18] = 0;
     let mut text = ArrayVec::new();
-    assert!(rt; dotted_of(&[0x2a, 0x86, 0x48], false, &mut text));
-    assert_eq!(rt; text.as_slice(), b"1.2.840".as_slice());
-    assert!(rt; dotted_of(&[0x03, 0x04], true, &mut text));
-    assert_eq!(rt; text.as_slice(), b"3.4".as_slice());
-    assert!(rt; !dotted_of(&[], false, &mut text));
-    assert!(rt; text.is_empty());
-    assert!(rt; !dotted_of(&[0x01; 65], true, &mut text));
-    // 2^128.
-    let mut large = [0x80; 19];
-    large[0] = 0x84;
-    large[18] = 0;
-    assert!(rt; !dotted_of(&large, true, &mut text));
+    for (contents, relative, want) in [
+        ([0x2a, 0x86, 0x48].as_slice(), false, "1.2.840"),
+        (&[0x03, 0x04], true, "3.4"),
+        (&[], false, ""),
+        (&[0x27], false, "0.39"),
+        (&[0x28], false, "1.0"),
+        (&[0x78], false, "2.40"),
+        (&[0x2a, 0x86], false, ""),
+        (&largest, false, "2.340282366920938463463374607431768211375"),
+        (&largest, true, "340282366920938463463374607431768211455"),
+        (&too_large, false, ""),
+        (&[0x27], true, "39"),
+        (&too_large, true, ""),
+        (&[0x01; 65], true, ""),
+    ] {
+        let is_there = dotted_of(contents, relative, &mut text);
+        assert_eq!(rt; text.as_slice(), want.as_bytes());
+        assert_eq!(rt; is_there, !want.is_empty());
+    }
 }
 
 #[test]
