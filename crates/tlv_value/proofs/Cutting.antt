@@ -1,4 +1,4 @@
--- Rows are a cut of the contents, and the only one.
+-- Rows are a cut of the contents.
 use Rattle.std.proofs.Common.{◌≡◌, ◌≢◌, ◌⊎◌, inl, inr, ℕ, zero, suc, ◌+◌, ◌<◌, ◌≤◌, Bool, true, false, List, [], ◌∷◌, ◌++◌, length, get_or, refl, ap, ◌∙◌, arith, ⊎_elim, append_assoc, length-append}
 use Rattle.std.specs.Prelude.{eqb, if◌then◌else◌}
 use Rattle.std.proofs.lemmas.Bool.{eqb-true, leb-true}
@@ -9,7 +9,7 @@ use Rattle.tlv_value.specs.Cuts.{AreFull, AreRows, IsFull, IsRow, RowsAreACut, p
 use Rattle.tlv_value.specs.Rows.{announced, full_rows, has_room, last_rows, open_row, row_size}
 use Rattle.tlv_value.proofs.RowSteps.{first-room}
 
-size-some : (kind : Kind) → 16 ≤ row_size kind
+pub size-some : (kind : Kind) → 16 ≤ row_size kind
 size-some Octets = omega arith
 size-some Boolean = omega arith
 size-some Integer = omega arith
@@ -21,7 +21,7 @@ size-some Utf8 = omega arith
 size-some Ucs2 = omega arith
 size-some Ucs4 = omega arith
 
-nil-or : (row : List ℕ) → (row ≡ [] → ⊥) → 1 ≤ length row
+pub nil-or : (row : List ℕ) → (row ≡ [] → ⊥) → 1 ≤ length row
 nil-or [] f = absurd (f refl)
 nil-or (x ∷ row) f = omega arith
 

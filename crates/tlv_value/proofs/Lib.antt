@@ -17,6 +17,7 @@ pub mod NamesTables
 pub mod NamesStanding
 pub mod NamesReads
 pub mod Cutting
+pub mod OneCut
 pub mod NamesRows
 pub mod Worked
 pub mod PairSteps

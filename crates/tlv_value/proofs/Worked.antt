@@ -2,15 +2,15 @@
 use Rattle.std.proofs.Common.{◌≡◌, true, false, [], ◌∷◌, refl}
 use Rattle.std.specs.Prelude.{Some, None, codes, pos, negsuc}
 use Rattle.tlv_head.specs.declared.header.Class.TheVariants.{Universal, Context}
-use Rattle.tlv_value.specs.declared.finding.Finding.TheVariants.{B08, B11, B12, B13, B15, B19, S02, S03, S04}
-use Rattle.tlv_value.specs.declared.kind.Kind.TheVariants.{Octets, Integer, Utf8}
+use Rattle.tlv_value.specs.declared.finding.Finding.TheVariants.{B08, B11, B12, B15, B19, S02, S03, S04}
+use Rattle.tlv_value.specs.declared.kind.Kind.TheVariants.{Octets, Integer}
 use Rattle.tlv_value.specs.Arcs.{arcs_of, subidentifiers}
 use Rattle.tlv_value.specs.Checks.{contents_findings}
 use Rattle.tlv_value.specs.Kind.{kind_of}
 use Rattle.tlv_value.specs.Number.{number_of}
 use Rattle.tlv_value.specs.Rows.{rows_of}
 use Rattle.tlv_value.specs.Times.{canonical_general_time, canonical_utc_time, general_time, has_form, utc_time}
-use Rattle.tlv_value.specs.Value.{bits_value, boolean_value, used_digits}
+use Rattle.tlv_value.specs.Value.{used_digits}
 
 enumerated : kind_of Universal 10 ≡ Integer
 enumerated = refl

@@ -34,3 +34,7 @@ pub record IsCut (kind : Kind) (octets : List ℕ) (rows : List (List ℕ)) : Ty
 -- the rows of contents are such a cut
 abbrev pub RowsAreACut : Type 0
 RowsAreACut = (kind : Kind) (octets : List ℕ) → IsCut kind octets (rows_of kind octets)
+
+-- and are the only one
+abbrev pub RowsHaveOneCut : Type 0
+RowsHaveOneCut = (kind : Kind) (octets : List ℕ) (rows : List (List ℕ)) → IsCut kind octets rows → rows ≡ rows_of kind octets

@@ -1,7 +1,7 @@
 //! Laws of the definitions: each is the contract of a function that does nothing.
 
 ghost use Rattle.tlv_value.specs.CheckLaws.{ChecksJoin, FindingsEnd, RowsAreFormed};
-ghost use Rattle.tlv_value.specs.Cuts.{RowsAreACut};
+ghost use Rattle.tlv_value.specs.Cuts.{RowsAreACut, RowsHaveOneCut};
 ghost use Rattle.tlv_value.specs.Laws.{LinesBegin, LinesEnd, LinesGoOn, PiecesJoin};
 
 /// It does not matter into which pieces contents are cut.
@@ -43,4 +43,9 @@ pub fn rows_are_formed()
 /// row but the last has no room for the next octet.
 pub fn rows_are_a_cut()
     ensures { RowsAreACut }
+{}
+
+/// The rows of contents are the only such cut: what [`rows_are_a_cut`] says of them leaves no other.
+pub fn rows_have_one_cut()
+    ensures { RowsHaveOneCut }
 {}

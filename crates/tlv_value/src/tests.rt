@@ -1,19 +1,26 @@
 //! Values and their lines, whatever pieces the contents come in.
+mod drains;
 mod findings;
+mod long;
 mod rows;
+mod texts;
+mod types;
 
-ghost use Rattle.std.specs.Prelude.{◌≡◌, ◌==◌, IfSome, List, None, Option, Some, bytes_eq, codes, if◌then◌else◌, option_copied, ℕ};
+ghost use Rattle.std.specs.Prelude.{◌≡◌, ◌≤◌, ◌==◌, IfSome, List, None, Option, Some, bytes_eq, codes, if◌then◌else◌, option_copied, ℕ};
 
 use self::findings::{FOUND, FOUND_ON_TEXTS, Found};
-use self::rows::{BITS, NUMBERS, OBJECTS, Row, TEXTS};
+use self::rows::{BITS, NUMBERS, OBJECTS, Row};
+use self::texts::{ROWS, TEXTS};
+use self::types::TYPES;
 use crate::{
-    Finding, Layout, NameTable, ValueCheck, ValueText, decimal_of, dotted_of, general_canonical,
-    general_ok, utc_canonical, utc_ok,
+    Finding, Layout, NameTable, Names, ValueCheck, ValueText, decimal_of, dotted_of,
+    general_canonical, general_ok, utc_canonical, utc_ok,
 };
 use arrayvec::ArrayVec;
 use std::process::Abort;
+use std::test::Fail;
 use tlv_head::{Header, Size, read_header};
-use tlv_walk::{MemDrain, Out};
+use tlv_walk::{MemDrain, MemSource, Out};
 
 /// A table of one name.
 struct OneName;
@@ -37,16 +44,23 @@ const PLAIN: Layout = Layout {
     pure: false,
 };
 
-/// Writes the lines of an element into the room. Its contents come in two pieces, cut at `cut`. Answers how many octets
-/// were written.
-fn show(element: &[u8], layout: Layout, cut: usize, room: &mut [u8]) -> Option<usize> {
-    let (fields, count) = read_header(0, false, element)?;
+/// Writes the lines of the element at this offset into the room. Its contents come in two pieces, cut at `cut`, or behind
+/// the last octet. Answers how many octets were written.
+fn show<N: NameTable>(
+    element: &[u8],
+    offset: u64,
+    layout: Layout,
+    names: &N,
+    cut: usize,
+    room: &mut [u8],
+) -> Option<usize> {
+    let (fields, count) = read_header(offset, false, element)?;
     let header = Header::new(&fields, &element[..count]);
     let contents = &element[count..];
-    if header.size != Size::Definite(contents.len() as u64) || cut > contents.len() {
+    if header.size != Size::Definite(contents.len() as u64) {
         return None;
     }
-    let (front, back) = contents.split_at(cut);
+    let (front, back) = contents.split_at(cut.min(contents.len()));
     let mut drain = MemDrain::new(room, 4096);
     {
         let mut out = Out::new(&mut drain);
@@ -54,14 +68,23 @@ fn show(element: &[u8], layout: Layout, cut: usize, room: &mut [u8]) -> Option<u
         text.begin(&mut out).ok()?;
         text.bytes(front, &mut out).ok()?;
         text.bytes(back, &mut out).ok()?;
-        text.end(&OneName, &mut out).ok()?;
+        text.end(names, &mut out).ok()?;
         out.flush().ok()?;
     }
     Some(drain.written().len())
 }
 
-/// The same with contents that come octet by octet.
-fn show_octets(element: &[u8], layout: Layout, room: &mut [u8]) -> Option<usize> {
+/// The same with contents that come in pieces of `size` octets, but for the first, which has at most `first`.
+fn show_pieces<N: NameTable>(
+    element: &[u8],
+    layout: Layout,
+    names: &N,
+    first: usize,
+    size: usize,
+    room: &mut [u8],
+) -> Option<usize>
+    requires { 1 ≤ size }
+{
     let (fields, count) = read_header(0, false, element)?;
     let header = Header::new(&fields, &element[..count]);
     let contents = &element[count..];
@@ -73,10 +96,14 @@ fn show_octets(element: &[u8], layout: Layout, room: &mut [u8]) -> Option<usize>
         let mut out = Out::new(&mut drain);
         let mut text = ValueText::new(&header, layout);
         text.begin(&mut out).ok()?;
-        for i in 0..contents.len() {
-            text.bytes(&contents[i..=i], &mut out).ok()?;
+        let (piece, mut rest) = contents.split_at(first.min(contents.len()));
+        text.bytes(piece, &mut out).ok()?;
+        while !rest.is_empty() {
+            let (piece, more) = rest.split_at(size.min(rest.len()));
+            rest = more;
+            text.bytes(piece, &mut out).ok()?;
         }
-        text.end(&OneName, &mut out).ok()?;
+        text.end(names, &mut out).ok()?;
         out.flush().ok()?;
     }
     Some(drain.written().len())
@@ -99,20 +126,29 @@ fn are_lines(octets: &[u8], lines: &[&str]) -> bool {
 
 /// Expects the lines of an element, with its contents whole, in every cut into two pieces, and octet by octet.
 fn expect_lines(rt: &impl Abort, element: &[u8], layout: Layout, lines: &[&str]) {
+    expect_lines_named(rt, element, layout, &OneName, lines);
+}
+
+/// The same with these names.
+fn expect_lines_named<N: NameTable>(
+    rt: &impl Abort,
+    element: &[u8],
+    layout: Layout,
+    names: &N,
+    lines: &[&str],
+) {
     let mut room = [0; 1024];
     for cut in 0..element.len() {
-        if let Some(count) = show(element, layout, cut, &mut room) {
-            assert!(rt; count <= 1024);
-            assert!(rt;
+        match show(element, 0, layout, names, cut, &mut room) {
+            Some(count) if count <= 1024 => assert!(rt;
                 are_lines(&room[..count], lines),
                 "cut at {cut}: {:?}",
                 lines
-            );
-        } else {
-            assert!(rt; cut > 0, "not shown: {:?}", lines);
+            ),
+            _ => assert!(rt; false, "not shown: {:?}", lines),
         }
     }
-    match show_octets(element, layout, &mut room) {
+    match show_pieces(element, layout, names, 0, 1, &mut room) {
         Some(count) if count <= 1024 => assert!(rt;
             are_lines(&room[..count], lines),
             "by octets: {:?}",
@@ -146,6 +182,93 @@ fn objects_are_shown(rt: HostRuntime) {
 #[test]
 fn texts_are_shown(rt: HostRuntime) {
     expect_rows(&rt, &TEXTS);
+    expect_rows(&rt, &ROWS);
+}
+
+/// Expects a line of these parts for the type with this identifier and these contents.
+fn expect_type(rt: &impl Abort, identifier: &[u8], rest: &[u8], parts: &[&str]) {
+    let mut element = ArrayVec::<u8, 8>::new();
+    let _ = element.try_extend_from_slice(identifier);
+    let _ = element.try_extend_from_slice(rest);
+    let mut line = ArrayVec::<u8, 80>::new();
+    for part in parts {
+        let _ = line.try_extend_from_slice(part.as_bytes());
+    }
+    match std::str::from_utf8(line.as_slice()) {
+        Ok(line) => expect_lines(rt, element.as_slice(), PLAIN, &[line]),
+        Err(_) => assert!(rt; false),
+    }
+}
+
+/// Every type, with one octet and with none.
+#[test]
+fn types_are_shown(rt: HostRuntime) {
+    for each in &TYPES {
+        expect_type(
+            &rt,
+            each.identifier,
+            &[1, 0x41],
+            &["       0      1: ", each.name, each.one],
+        );
+        expect_type(
+            &rt,
+            each.identifier,
+            &[0],
+            &["       0      0: ", each.name, each.none],
+        );
+    }
+}
+
+/// An object identifier has its name behind it. A relative one has none, though its dotted text may be a name's.
+#[test]
+fn names_of_a_file_are_shown(rt: HostRuntime) -> Result<(), Fail> {
+    let mut source = MemSource::new(b"1.2.840 us\n", &[], None);
+    let names = Names::read(rt.alloc(), &mut source)?;
+    for (element, line) in [
+        (
+            b"\x06\x03\x2a\x86\x48".as_slice(),
+            "       0      3: OBJECT IDENTIFIER 1.2.840 (us)",
+        ),
+        (
+            b"\x06\x04\x2a\x86\x48\x01",
+            "       0      4: OBJECT IDENTIFIER 1.2.840.1",
+        ),
+        (
+            b"\x0d\x04\x01\x02\x86\x48",
+            "       0      4: RELATIVE-OID 1.2.840",
+        ),
+    ] {
+        expect_lines_named(&rt, element, PLAIN, &names, &[line]);
+    }
+    Ok(())
+}
+
+/// Elements inside others: the first column is the offset, and the tag text stands two columns further for each level.
+#[test]
+fn places(rt: HostRuntime) {
+    let mut room = [0; 64];
+    for (element, offset, level, line) in [
+        (
+            b"\x02\x01\x05".as_slice(),
+            2,
+            1,
+            "       2      1:   INTEGER 5",
+        ),
+        (b"\x02\x01\x05", 4, 2, "       4      1:     INTEGER 5"),
+        (
+            b"\x04\x03Jon",
+            2,
+            1,
+            "       2      3:   OCTET STRING 4a 6f 6e",
+        ),
+        (b"\x04\x02es", 7, 1, "       7      2:   OCTET STRING 65 73"),
+    ] {
+        let layout = Layout { level, ..PLAIN };
+        match show(element, offset, layout, &OneName, 0, &mut room) {
+            Some(count) if count <= 64 => assert!(rt; are_lines(&room[..count], &[line])),
+            _ => assert!(rt; false, "not shown: {line}"),
+        }
+    }
 }
 
 /// Above the limit the first row is three dots, and those behind it are left out; without the first columns nothing else
@@ -184,72 +307,88 @@ fn layouts(rt: HostRuntime) {
     );
     expect_lines(
         &rt,
-        b"\x04\x02es",
+        OBJECTS[7].element,
         Layout {
-            level: 1,
-            limit: None,
-            pure: true,
+            limit: Some(1),
+            ..PLAIN
         },
-        &["  OCTET STRING 65 73"],
-    );
-    expect_lines(
-        &rt,
-        b"\x04\x02es",
-        Layout {
-            level: 1,
-            limit: None,
-            pure: false,
-        },
-        &["       0      2:   OCTET STRING 65 73"],
-    );
-}
-
-/// A character is not split where a row ends.
-#[test]
-fn characters_stay_whole(rt: HostRuntime) {
-    let mut element = [b'a'; 67];
-    element[0] = 0x0c;
-    element[1] = 65;
-    element[65] = 0xc3;
-    element[66] = 0xa9;
-    expect_lines(
-        &rt,
-        &element,
-        PLAIN,
         &[
-            "       0     65: UTF8String",
-            "                   \"aaaaaaaaaaaaaaaaaaaaaaaaaaaaaaaaaaaaaaaaaaaaaaaaaaaaaaaaaaaaaaa\"",
-            "                   \"\\u{e9}\"",
+            "       0     19: OBJECT IDENTIFIER",
+            "                   ff ff ff ff ff ff ff ff ff ff ff ff ff ff ff ff",
+            dots,
         ],
     );
+    expect_lines(
+        &rt,
+        OBJECTS[7].element,
+        Layout {
+            limit: Some(2),
+            ..PLAIN
+        },
+        OBJECTS[7].lines,
+    );
+    for (element, line) in [
+        (b"\x04\x03Jon".as_slice(), "  OCTET STRING 4a 6f 6e"),
+        (b"\x04\x02es", "  OCTET STRING 65 73"),
+    ] {
+        expect_lines(
+            &rt,
+            element,
+            Layout {
+                level: 1,
+                limit: None,
+                pure: true,
+            },
+            &[line],
+        );
+    }
 }
 
 #[test]
 fn decimals(rt: HostRuntime) {
+    let mut largest = [0xff; 16];
+    largest[0] = 0x7f;
+    let mut least = [0; 16];
+    least[0] = 0x80;
     assert_eq!(rt; decimal_of(&[]), None);
+    assert_eq!(rt; decimal_of(&[0x00]), Some(0));
     assert_eq!(rt; decimal_of(&[0xff]), Some(-1));
-    assert_eq!(rt;
-        decimal_of(&[0x80; 16]),
-        Some(-169_473_963_133_173_273_960_190_490_760_135_540_608)
-    );
+    assert_eq!(rt; decimal_of(&[0x00, 0x7f]), Some(127));
+    assert_eq!(rt; decimal_of(&largest), Some(i128::MAX));
+    assert_eq!(rt; decimal_of(&least), Some(i128::MIN));
     assert_eq!(rt; decimal_of(&[0; 17]), None);
 }
 
+/// Where there is no text, none is left of what was there before.
 #[test]
 fn dotted_texts(rt: HostRuntime) {
+    // 2^128 - 1, and 2^128.
+    let mut largest = [0xff; 19];
+    largest[0] = 0x83;
+    largest[18] = 0x7f;
+    let mut too_large = [0x80; 19];
+    too_large[0] = 0x84;
+    too_large[18] = 0;
     let mut text = ArrayVec::new();
-    assert!(rt; dotted_of(&[0x2a, 0x86, 0x48], false, &mut text));
-    assert_eq!(rt; text.as_slice(), b"1.2.840".as_slice());
-    assert!(rt; dotted_of(&[0x03, 0x04], true, &mut text));
-    assert_eq!(rt; text.as_slice(), b"3.4".as_slice());
-    assert!(rt; !dotted_of(&[], false, &mut text));
-    assert!(rt; text.is_empty());
-    assert!(rt; !dotted_of(&[0x01; 65], true, &mut text));
-    // 2^128.
-    let mut large = [0x80; 19];
-    large[0] = 0x84;
-    large[18] = 0;
-    assert!(rt; !dotted_of(&large, true, &mut text));
+    for (contents, relative, want) in [
+        ([0x2a, 0x86, 0x48].as_slice(), false, "1.2.840"),
+        (&[0x03, 0x04], true, "3.4"),
+        (&[], false, ""),
+        (&[0x27], false, "0.39"),
+        (&[0x28], false, "1.0"),
+        (&[0x78], false, "2.40"),
+        (&[0x2a, 0x86], false, ""),
+        (&largest, false, "2.340282366920938463463374607431768211375"),
+        (&largest, true, "340282366920938463463374607431768211455"),
+        (&too_large, false, ""),
+        (&[0x27], true, "39"),
+        (&too_large, true, ""),
+        (&[0x01; 65], true, ""),
+    ] {
+        let is_there = dotted_of(contents, relative, &mut text);
+        assert_eq!(rt; text.as_slice(), want.as_bytes());
+        assert_eq!(rt; is_there, !want.is_empty());
+    }
 }
 
 #[test]
@@ -277,7 +416,7 @@ fn times(rt: HostRuntime) {
     }
 }
 
-/// What is found on the contents of an element, which come in two pieces, cut at `cut`.
+/// What is found on the contents of an element, which come in two pieces, cut at `cut`, or behind the last octet.
 fn check(element: &[u8], cut: usize) -> Option<ArrayVec<Finding, 16>> {
     let (fields, count) = read_header(0, false, element)?;
     let header = Header::new(&fields, &element[..count]);
@@ -285,17 +424,32 @@ fn check(element: &[u8], cut: usize) -> Option<ArrayVec<Finding, 16>> {
     let Size::Definite(size) = header.size else {
         return None;
     };
-    if size != contents.len() as u64 || cut > contents.len() {
+    if size != contents.len() as u64 {
         return None;
     }
-    let (front, back) = contents.split_at(cut);
+    let (front, back) = contents.split_at(cut.min(contents.len()));
     let mut check = ValueCheck::new(&header);
     check.bytes(front);
     check.bytes(back);
     Some(check.end())
 }
 
-/// Expects these findings in every cut into two pieces.
+/// The same with contents that come octet by octet.
+fn check_octets(element: &[u8]) -> Option<ArrayVec<Finding, 16>> {
+    let (fields, count) = read_header(0, false, element)?;
+    let header = Header::new(&fields, &element[..count]);
+    let contents = &element[count..];
+    if header.size != Size::Definite(contents.len() as u64) {
+        return None;
+    }
+    let mut check = ValueCheck::new(&header);
+    for i in 0..contents.len() {
+        check.bytes(&contents[i..=i]);
+    }
+    Some(check.end())
+}
+
+/// Expects these findings in every cut into two pieces, and octet by octet.
 fn expect_findings(rt: &impl Abort, rows: &[Found<'_>]) {
     for row in rows {
         for cut in 0..row.element.len() {
@@ -306,8 +460,17 @@ fn expect_findings(rt: &impl Abort, rows: &[Found<'_>]) {
                     "cut at {cut}: {:?}",
                     row.element
                 ),
-                None => assert!(rt; cut > 0, "not checked: {:?}", row.element),
+                None => assert!(rt; false, "not checked: {:?}", row.element),
             }
+        }
+        match check_octets(row.element) {
+            Some(found) => assert_eq!(rt;
+                found.as_slice(),
+                row.findings,
+                "by octets: {:?}",
+                row.element
+            ),
+            None => assert!(rt; false, "not checked: {:?}", row.element),
         }
     }
 }

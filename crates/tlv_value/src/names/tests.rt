@@ -27,7 +27,15 @@ fn first_refusal_counts(rt: HostRuntime) {
     ] {
         assert_eq!(rt; refusal(rt.alloc(), octets), Some(want));
     }
-    assert_eq!(rt; refusal(rt.alloc(), b""), None);
+}
+
+#[test]
+fn no_text_has_no_names(rt: HostRuntime) -> Result<(), Fail> {
+    let mut source = MemSource::new(b"", &[], None);
+    let names = Names::read(rt.alloc(), &mut source)?;
+    assert!(rt; names.get(b"2.5.4.3").is_none());
+    assert!(rt; names.get(b"").is_none());
+    Ok(())
 }
 
 #[test]
@@ -53,8 +61,26 @@ fn lines_have_400_octets(rt: HostRuntime) {
     assert_eq!(rt; refusal(rt.alloc(), &line), Some(NamesFault::TooLarge));
 
     // A CR is one of them.
+    line[399] = b'\r';
+    assert_eq!(rt; refusal(rt.alloc(), &line[..400]), None);
+    line[399] = b'x';
     line[400] = b'\r';
     assert_eq!(rt; refusal(rt.alloc(), &line), Some(NamesFault::TooLarge));
+}
+
+/// A name has all that its line leaves.
+#[test]
+fn names_have_396_octets(rt: HostRuntime) -> Result<(), Fail> {
+    let mut line = [b'x'; 401];
+    line[0] = b'2';
+    line[1] = b'.';
+    line[2] = b'5';
+    line[3] = b' ';
+    let mut source = MemSource::new(&line[..400], &[], None);
+    let names = Names::read(rt.alloc(), &mut source)?;
+    assert_eq!(rt; names.get(b"2.5").ok_or("no name")?, [b'x'; 396].as_slice());
+    assert_eq!(rt; refusal(rt.alloc(), &line), Some(NamesFault::TooLarge));
+    Ok(())
 }
 
 #[test]

@@ -58,7 +58,7 @@ pub static FOUND: [Found<'static>; 12] = [
     },
 ];
 
-pub static FOUND_ON_TEXTS: [Found<'static>; 12] = [
+pub static FOUND_ON_TEXTS: [Found<'static>; 13] = [
     Found {
         element: b"\x06\x02\x80\x01",
         findings: &[Finding::B11],
@@ -89,6 +89,10 @@ pub static FOUND_ON_TEXTS: [Found<'static>; 12] = [
     },
     Found {
         element: b"\x18\x1219920722132100.50Z",
+        findings: &[Finding::S04],
+    },
+    Found {
+        element: b"\x18\x0f19920721240000Z",
         findings: &[Finding::S04],
     },
     Found {

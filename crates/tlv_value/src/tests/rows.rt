@@ -6,7 +6,7 @@ pub struct Row<'a> {
     pub lines: &'a [&'a str],
 }
 
-pub static NUMBERS: [Row<'static>; 12] = [
+pub static NUMBERS: [Row<'static>; 22] = [
     Row {
         element: b"\x02\x01\x05",
         lines: &["       0      1: INTEGER 5"],
@@ -59,9 +59,57 @@ pub static NUMBERS: [Row<'static>; 12] = [
         element: b"\x05\x01\xaa",
         lines: &["       0      1: NULL aa"],
     },
+    Row {
+        element: b"\x02\x01\x00",
+        lines: &["       0      1: INTEGER 0"],
+    },
+    Row {
+        element: b"\x01\x00",
+        lines: &["       0      0: BOOLEAN"],
+    },
+    Row {
+        element: b"\x01\x11\xff\xff\xff\xff\xff\xff\xff\xff\xff\xff\xff\xff\xff\xff\xff\xff\xff",
+        lines: &[
+            "       0     17: BOOLEAN",
+            "                   ff ff ff ff ff ff ff ff ff ff ff ff ff ff ff ff",
+            "                   ff",
+        ],
+    },
+    Row {
+        element: b"\x05\x00",
+        lines: &["       0      0: NULL"],
+    },
+    Row {
+        element: b"\x0a\x00",
+        lines: &["       0      0: ENUMERATED"],
+    },
+    Row {
+        element: b"\x04\x81\x03\xaa\xbb\xcc",
+        lines: &["       0      3: OCTET STRING aa bb cc"],
+    },
+    Row {
+        element: b"\x04\x10\x00\x01\x02\x03\x04\x05\x06\x07\x08\x09\x0a\x0b\x0c\x0d\x0e\x0f",
+        lines: &["       0     16: OCTET STRING 00 01 02 03 04 05 06 07 08 09 0a 0b 0c 0d 0e 0f"],
+    },
+    Row {
+        element: b"\x04\x11\x00\x01\x02\x03\x04\x05\x06\x07\x08\x09\x0a\x0b\x0c\x0d\x0e\x0f\x10",
+        lines: &[
+            "       0     17: OCTET STRING",
+            "                   00 01 02 03 04 05 06 07 08 09 0a 0b 0c 0d 0e 0f",
+            "                   10",
+        ],
+    },
+    Row {
+        element: b"\x5f\x1f\x01\x00",
+        lines: &["       0      1: [APPLICATION 31] 00"],
+    },
+    Row {
+        element: b"\x9f\x81\x80\x80\x80\x80\x80\x80\x80\x00\x00",
+        lines: &["       0      0: [72057594037927936]"],
+    },
 ];
 
-pub static BITS: [Row<'static>; 7] = [
+pub static BITS: [Row<'static>; 13] = [
     Row {
         element: b"\x03\x02\x05\xbf",
         lines: &["       0      2: BIT STRING 3 bits 101"],
@@ -98,9 +146,44 @@ pub static BITS: [Row<'static>; 7] = [
             "       0      9: BIT STRING 57 bits 100000000000000000000000000000000000000000000000000000001",
         ],
     },
+    Row {
+        element: b"\x03\x02\x08\x00",
+        lines: &["       0      2: BIT STRING 08 00"],
+    },
+    Row {
+        element: b"\x03\x02\x00\x80",
+        lines: &["       0      2: BIT STRING 8 bits 10000000"],
+    },
+    Row {
+        element: b"\x03\x02\x07\x80",
+        lines: &["       0      2: BIT STRING 1 bits 1"],
+    },
+    Row {
+        element: b"\x03\x0a\x07\x00\x00\x00\x00\x00\x00\x00\x00\x80",
+        lines: &[
+            "       0     10: BIT STRING 65 bits",
+            "                   00 00 00 00 00 00 00 00 80",
+        ],
+    },
+    Row {
+        element: b"\x03\x12\x00\xa5\xa5\xa5\xa5\xa5\xa5\xa5\xa5\xa5\xa5\xa5\xa5\xa5\xa5\xa5\xa5\xa5",
+        lines: &[
+            "       0     18: BIT STRING 136 bits",
+            "                   a5 a5 a5 a5 a5 a5 a5 a5 a5 a5 a5 a5 a5 a5 a5 a5",
+            "                   a5",
+        ],
+    },
+    Row {
+        element: b"\x03\x12\xff\xa5\xa5\xa5\xa5\xa5\xa5\xa5\xa5\xa5\xa5\xa5\xa5\xa5\xa5\xa5\xa5\xa5",
+        lines: &[
+            "       0     18: BIT STRING",
+            "                   ff a5 a5 a5 a5 a5 a5 a5 a5 a5 a5 a5 a5 a5 a5 a5",
+            "                   a5 a5",
+        ],
+    },
 ];
 
-pub static OBJECTS: [Row<'static>; 9] = [
+pub static OBJECTS: [Row<'static>; 21] = [
     Row {
         element: b"\x06\x03\x2a\x86\x48",
         lines: &["       0      3: OBJECT IDENTIFIER 1.2.840 (us)"],
@@ -138,61 +221,84 @@ pub static OBJECTS: [Row<'static>; 9] = [
             "                   ff ff 7f",
         ],
     },
-    // The first subidentifier is 2^128 - 1.
+    // 2^128 - 1.
     Row {
         element: b"\x0d\x13\x83\xff\xff\xff\xff\xff\xff\xff\xff\xff\xff\xff\xff\xff\xff\xff\xff\xff\x7f",
         lines: &["       0     19: RELATIVE-OID 340282366920938463463374607431768211455"],
     },
-];
-
-pub static TEXTS: [Row<'static>; 12] = [
+    // The same, as the first subidentifier of two arcs.
     Row {
-        element: b"\x17\x0b9105062345Z",
-        lines: &["       0     11: UTCTime \"9105062345Z\""],
+        element: b"\x06\x13\x83\xff\xff\xff\xff\xff\xff\xff\xff\xff\xff\xff\xff\xff\xff\xff\xff\xff\x7f",
+        lines: &["       0     19: OBJECT IDENTIFIER 2.340282366920938463463374607431768211375"],
+    },
+    // 2^128.
+    Row {
+        element: b"\x0d\x13\x84\x80\x80\x80\x80\x80\x80\x80\x80\x80\x80\x80\x80\x80\x80\x80\x80\x80\x00",
+        lines: &[
+            "       0     19: RELATIVE-OID",
+            "                   84 80 80 80 80 80 80 80 80 80 80 80 80 80 80 80",
+            "                   80 80 00",
+        ],
     },
     Row {
-        element: b"\x0c\x06\x22\x5c\x0a\xc3\xa9\xff",
-        lines: &["       0      6: UTF8String \"\\\"\\\\\\x0a\\u{e9}\\xff\""],
+        element: b"\x06\x13\x84\x80\x80\x80\x80\x80\x80\x80\x80\x80\x80\x80\x80\x80\x80\x80\x80\x80\x00",
+        lines: &[
+            "       0     19: OBJECT IDENTIFIER",
+            "                   84 80 80 80 80 80 80 80 80 80 80 80 80 80 80 80",
+            "                   80 80 00",
+        ],
     },
     Row {
-        element: b"\x1e\x04\x00\x41\x20\xac",
-        lines: &["       0      4: BMPString \"A\\u{20ac}\""],
+        element: b"\x06\x14\x2a\x84\x80\x80\x80\x80\x80\x80\x80\x80\x80\x80\x80\x80\x80\x80\x80\x80\x80\x00",
+        lines: &[
+            "       0     20: OBJECT IDENTIFIER",
+            "                   2a 84 80 80 80 80 80 80 80 80 80 80 80 80 80 80",
+            "                   80 80 80 00",
+        ],
     },
     Row {
-        element: b"\x1e\x03\x00\x41\x20",
-        lines: &["       0      3: BMPString \"A\\x20\""],
+        element: b"\x06\x01\x27",
+        lines: &["       0      1: OBJECT IDENTIFIER 0.39"],
     },
     Row {
-        element: b"\x1c\x06\x00\x00\x00\x41\x00\x01",
-        lines: &["       0      6: UniversalString \"A\\x00\\x01\""],
+        element: b"\x06\x01\x28",
+        lines: &["       0      1: OBJECT IDENTIFIER 1.0"],
     },
     Row {
-        element: b"\x1c\x04\x00\x01\xf6\x00",
-        lines: &["       0      4: UniversalString \"\\u{1f600}\""],
+        element: b"\x06\x01\x4f",
+        lines: &["       0      1: OBJECT IDENTIFIER 1.39"],
     },
     Row {
-        element: b"\x0c\x00",
-        lines: &["       0      0: UTF8String \"\""],
-    },
-    // Surrogates and overlong forms are no characters.
-    Row {
-        element: b"\x0c\x03\xed\xa0\x80",
-        lines: &["       0      3: UTF8String \"\\xed\\xa0\\x80\""],
+        element: b"\x06\x01\x50",
+        lines: &["       0      1: OBJECT IDENTIFIER 2.0"],
     },
     Row {
-        element: b"\x0c\x02\xc0\x80",
-        lines: &["       0      2: UTF8String \"\\xc0\\x80\""],
+        element: b"\x0d\x00",
+        lines: &["       0      0: RELATIVE-OID"],
     },
     Row {
-        element: b"\x0c\x04\xf0\x9f\x98\x80",
-        lines: &["       0      4: UTF8String \"\\u{1f600}\""],
+        element: b"\x0d\x11\x81\x81\x81\x81\x81\x81\x81\x81\x81\x81\x81\x81\x81\x81\x81\x81\x81",
+        lines: &[
+            "       0     17: RELATIVE-OID",
+            "                   81 81 81 81 81 81 81 81 81 81 81 81 81 81 81 81",
+            "                   81",
+        ],
     },
     Row {
-        element: b"\x0c\x01\x7f",
-        lines: &["       0      1: UTF8String \"\\x7f\""],
+        element: b"\x06\x40\x01\x01\x01\x01\x01\x01\x01\x01\x01\x01\x01\x01\x01\x01\x01\x01\x01\x01\x01\x01\x01\x01\x01\x01\x01\x01\x01\x01\x01\x01\x01\x01\x01\x01\x01\x01\x01\x01\x01\x01\x01\x01\x01\x01\x01\x01\x01\x01\x01\x01\x01\x01\x01\x01\x01\x01\x01\x01\x01\x01\x01\x01\x01\x01",
+        lines: &[
+            "       0     64: OBJECT IDENTIFIER 0.1.1.1.1.1.1.1.1.1.1.1.1.1.1.1.1.1.1.1.1.1.1.1.1.1.1.1.1.1.1.1.1.1.1.1.1.1.1.1.1.1.1.1.1.1.1.1.1.1.1.1.1.1.1.1.1.1.1.1.1.1.1.1.1",
+        ],
     },
     Row {
-        element: b"\x14\x02\x41\xe9",
-        lines: &["       0      2: TeletexString \"A\\xe9\""],
+        element: b"\x06\x41\x01\x01\x01\x01\x01\x01\x01\x01\x01\x01\x01\x01\x01\x01\x01\x01\x01\x01\x01\x01\x01\x01\x01\x01\x01\x01\x01\x01\x01\x01\x01\x01\x01\x01\x01\x01\x01\x01\x01\x01\x01\x01\x01\x01\x01\x01\x01\x01\x01\x01\x01\x01\x01\x01\x01\x01\x01\x01\x01\x01\x01\x01\x01\x01\x01",
+        lines: &[
+            "       0     65: OBJECT IDENTIFIER",
+            "                   01 01 01 01 01 01 01 01 01 01 01 01 01 01 01 01",
+            "                   01 01 01 01 01 01 01 01 01 01 01 01 01 01 01 01",
+            "                   01 01 01 01 01 01 01 01 01 01 01 01 01 01 01 01",
+            "                   01 01 01 01 01 01 01 01 01 01 01 01 01 01 01 01",
+            "                   01",
+        ],
     },
 ];

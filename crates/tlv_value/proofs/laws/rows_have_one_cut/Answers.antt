@@ -1,0 +1,5 @@
+use Rattle.tlv_value.proofs.OneCut.{rows-one-cut}
+use Rattle.tlv_value.proofs.laws.rows_have_one_cut.Goals as goal
+
+pub returns : goal.returns
+returns c = rows-one-cut

@@ -1,0 +1,110 @@
+//! Drains without room.
+use super::{OneName, PLAIN};
+use crate::ValueText;
+use tlv_head::{Header, Size, read_header};
+use tlv_walk::{MemDrain, Out};
+
+/// The call at which a write failed.
+#[derive(Clone, Copy, Debug, PartialEq, Eq)]
+enum Call {
+    Before,
+    Begin,
+    Bytes,
+    End,
+    Flush,
+}
+
+/// Writes so many letters, and behind them the lines of an element. `None` where no write failed.
+fn failing_call(element: &[u8], letters: usize, drain: &mut MemDrain<'_>) -> Option<Call> {
+    let (fields, count) = read_header(0, false, element)?;
+    let header = Header::new(&fields, &element[..count]);
+    let contents = &element[count..];
+    if header.size != Size::Definite(contents.len() as u64) {
+        return None;
+    }
+    let mut out = Out::new(drain);
+    let mut text = ValueText::new(&header, PLAIN);
+    for _ in 0..letters {
+        if out.put(b"x").is_err() {
+            return Some(Call::Before);
+        }
+    }
+    if text.begin(&mut out).is_err() {
+        return Some(Call::Begin);
+    }
+    if text.bytes(contents, &mut out).is_err() {
+        return Some(Call::Bytes);
+    }
+    if text.end(&OneName, &mut out).is_err() {
+        return Some(Call::End);
+    }
+    if out.flush().is_err() {
+        return Some(Call::Flush);
+    }
+    None
+}
+
+/// Whether the octets are so many letters and the text, or a front of that.
+fn is_front(octets: &[u8], letters: usize, text: &[u8]) -> bool {
+    let (before, behind) = octets.split_at(letters.min(octets.len()));
+    for octet in before {
+        if *octet != b'x' {
+            return false;
+        }
+    }
+    text.starts_with(behind)
+}
+
+const INTEGER: &[u8] = b"\x02\x11\x00\x80\0\0\0\0\0\0\0\0\0\0\0\0\0\0\0";
+
+const LINES: &[u8] = b"       0     17: INTEGER
+                   00 80 00 00 00 00 00 00 00 00 00 00 00 00 00 00
+                   00
+";
+
+/// An `Out` holds 4096 octets. So it depends on how many were put before, which call is the one whose octets it has no
+/// room for. Whichever it is, the drain has then as much of what was put as it has room for.
+#[test]
+fn drains_without_room(rt: HostRuntime) {
+    let mut room = [0; 4300];
+    let mut seen = [false; 5];
+    for letters in 3900..4100 {
+        for size in [0, 1, 3899, 3950, 4000, 4050, 4095, 4150, 4300] {
+            let mut drain = MemDrain::new(&mut room[..size], 100);
+            let at = failing_call(INTEGER, letters, &mut drain);
+            let written = drain.written();
+            assert!(rt; is_front(written, letters, LINES));
+            match at {
+                None => assert_eq!(rt; written.len(), letters + LINES.len()),
+                Some(call) => {
+                    assert_eq!(rt; written.len(), size);
+                    assert!(rt; size < letters + LINES.len());
+                    seen[call as usize] = true;
+                }
+            }
+        }
+    }
+    assert_eq!(rt; seen, [true; 5]);
+}
+
+/// The rows of one piece may be more than an `Out` holds.
+#[test]
+fn rows_without_room(rt: HostRuntime) {
+    let mut element = [0; 2004];
+    element[0] = 0x04;
+    element[1] = 0x82;
+    element[2] = 0x07;
+    element[3] = 0xd0;
+    // The line has 30 octets, and 125 rows have 67 each.
+    let mut room = [0; 8405];
+    let mut whole = MemDrain::new(&mut room, 4096);
+    assert_eq!(rt; failing_call(&element, 0, &mut whole), None);
+    assert_eq!(rt; whole.written().len(), 8405);
+    let mut short = [0; 8405];
+    for i in 0..124 {
+        let mut drain = MemDrain::new(&mut short[..68 * i], 4096);
+        assert!(rt; failing_call(&element, 0, &mut drain).is_some());
+        assert_eq!(rt; drain.written().len(), 68 * i);
+        assert!(rt; whole.written().starts_with(drain.written()));
+    }
+}

@@ -1,0 +1,65 @@
+//! Long values.
+use super::{OneName, PLAIN, are_lines, expect_lines, show, show_pieces};
+use std::process::Abort;
+
+/// 64 letters in quotation marks, behind the columns of a row.
+const ROW: &str =
+    "                   \"aaaaaaaaaaaaaaaaaaaaaaaaaaaaaaaaaaaaaaaaaaaaaaaaaaaaaaaaaaaaaaaa\"\n";
+
+/// Whether the octets are the lines of a UTF8String of 8193 letters: 128 rows of 64 letters, and one letter.
+fn are_letters(octets: &[u8]) -> bool {
+    let Some(mut rest) = octets.strip_prefix(b"       0   8193: UTF8String\n".as_slice()) else {
+        return false;
+    };
+    for _ in 0..128 {
+        let Some(more) = rest.strip_prefix(ROW.as_bytes()) else {
+            return false;
+        };
+        rest = more;
+    }
+    are_lines(rest, &["                   \"a\""])
+}
+
+fn expect_letters(rt: &impl Abort, room: &[u8], count: Option<usize>) {
+    match count {
+        Some(count) if count <= room.len() => assert!(rt; are_letters(&room[..count])),
+        _ => assert!(rt; false),
+    }
+}
+
+/// 8193 letters in pieces of many sizes, and cut into two pieces at each place of a row.
+#[test]
+fn letters_are_shown(rt: HostRuntime) {
+    let mut element = [b'a'; 8197];
+    element[0] = 0x0c;
+    element[1] = 0x82;
+    element[2] = 0x20;
+    element[3] = 0x01;
+    let mut room = [0; 12288];
+    // Where 4096 octets are read at a time, the first four are the header's.
+    for (first, size) in [(4092, 4096), (0, 1), (1, 63), (63, 64), (64, 65), (5, 1000)] {
+        let count = show_pieces(&element, PLAIN, &OneName, first, size, &mut room);
+        expect_letters(&rt, &room, count);
+    }
+    for i in 0..127 {
+        let count = show(&element, 0, PLAIN, &OneName, 65 * i, &mut room);
+        expect_letters(&rt, &room, count);
+    }
+}
+
+/// 128 octets, with a length in the long form.
+#[test]
+fn octets_are_shown(rt: HostRuntime) {
+    let mut element = [0; 132];
+    element[0] = 0x04;
+    element[1] = 0x82;
+    element[3] = 0x80;
+    let row = "                   00 00 00 00 00 00 00 00 00 00 00 00 00 00 00 00";
+    let line = "       0    128: OCTET STRING";
+    expect_lines(
+        &rt,
+        &element,
+        PLAIN,
+        &[line, row, row, row, row, row, row, row, row],
+    );
+}
