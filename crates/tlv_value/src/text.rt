@@ -151,25 +151,25 @@ impl ValueText {
     /// # Errors
     ///
     /// `WriteFault` exactly where the drain's failures rose in the call.
-    pub fn begin<D: Drain>(&mut self, out: &mut Out<'_, D>) -> Result<(), WriteFault>
-        ensures state { self.new ≡ self.old }
+    pub fn begin<D: Drain>(&self, out: &mut Out<'_, D>) -> Result<(), WriteFault>
         ensures same_reference { (lender_of out.new).ghost_name ≡ (lender_of out.old).ghost_name }
-        ensures ok { OnOk result (Appends (put_to D.taken out.old) (put_to D.taken out.new) (begun self.old)) }
-        ensures err { OnErr result (HasPrefix (put_to D.taken out.old) (D.taken (lender_of out.new).now) (begun self.old)) }
+        ensures ok { OnOk result (Appends (put_to D.taken out.old) (put_to D.taken out.new) (begun self.now)) }
+        ensures err { OnErr result (HasPrefix (put_to D.taken out.old) (D.taken (lender_of out.new).now) (begun self.now)) }
         ensures failed { D.failures (lender_of out.new).now ≡ failures_after result (D.failures (lender_of out.old).now) }
     {
         if !is_long(self.kind, self.size) || !self.has_line {
             return Ok(());
         }
+        let mut line = Line::new();
         write_element(
-            &mut self.line,
+            &mut line,
             self.layout,
             self.offset,
             self.class,
             self.number,
             self.size,
         );
-        put_line(&mut self.line, out)
+        put_line(&mut line, out)
     }
 
     /// Writes what is known with more contents octets.
