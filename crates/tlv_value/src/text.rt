@@ -41,14 +41,7 @@ fn begin_row(unused: u8, row: &mut ArrayVec<u8, 64>)
 }
 
 /// Makes the element's line up to its tag text.
-fn write_element(
-    line: &mut Line,
-    layout: Layout,
-    offset: u64,
-    class: Class,
-    number: u64,
-    size: u64,
-)
+fn write_element(line: &mut Line, layout: Layout, offset: u64, class: Class, number: u64, size: u64)
     ensures text { line.new ≡ margin layout.pure (columns offset size) layout.level ++ tag_text_of class number }
     ensures short { length line.new ≤ 593 }
 {

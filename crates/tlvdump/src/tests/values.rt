@@ -102,7 +102,10 @@ pub(crate) static VALUES: [Row<'static>; 23] = [
     Row {
         name: "characters that are escaped",
         input: b"\x0c\x06\x22\x5c\x0a\xc3\xa9\xff",
-        lines: &[(8, "       0      6: UTF8String \"\\\"\\\\\\x0a\\u{e9}\\xff\"")],
+        lines: &[(
+            8,
+            "       0      6: UTF8String \"\\\"\\\\\\x0a\\u{e9}\\xff\"",
+        )],
         ..CLEAN
     },
     Row {
