@@ -21,3 +21,4 @@ pub mod OneCut
 pub mod NamesRows
 pub mod Worked
 pub mod PairSteps
+pub mod PlainUnits

@@ -7,6 +7,7 @@ pub mod Times
 pub mod Rows
 pub mod Room
 pub mod Units
+pub mod Plain
 pub mod Layout
 pub mod Value
 pub mod State

@@ -1,5 +1,6 @@
 //! The texts of characters.
 ghost use Rattle.std.specs.Prelude.{◌≡◌, ◌+◌, ◌<◌, ◌≤◌, ◌++◌, ◌∷◌, [], length};
+ghost use Rattle.tlv_value.specs.Plain.{ArePlain, IsPart, is_plain as is_plain_octet};
 ghost use Rattle.tlv_value.specs.Units.{
   escaped_number,
   escaped_octet,
@@ -28,11 +29,27 @@ impl Line {
         self.push(b"\"");
         let mut rest = row;
         while !rest.is_empty() {
-            let (unit, more) = rest.split_at(unit_size(kind, rest));
-            self.unit(kind, unit);
+            let (_, more) = rest.split_at(self.part(kind, rest));
             rest = more;
         }
         self.push(b"\"");
+    }
+
+    /// Adds the octets in front that stand as they are, or else a unit. Answers how many octets these are.
+    fn part(&mut self, kind: Kind, octets: &[u8]) -> usize
+        requires { 1 ≤ length octets.now }
+        ensures some { 1 ≤ result }
+        ensures within { result ≤ length octets.now }
+        ensures text { IsPart kind octets.now self.old self.new result }
+    {
+        let plain = plain_size(kind, octets);
+        if plain > 0 {
+            self.push(&octets[..plain]);
+            return plain;
+        }
+        let size = unit_size(kind, octets);
+        self.unit(kind, &octets[..size]);
+        size
     }
 
     /// Adds a unit: a character, or an octet that belongs to none.
@@ -155,6 +172,29 @@ fn is_printable(octet: u8) -> bool
     ensures { result ≡ is_printable_octet octet }
 {
     matches!(octet, 0x20..=0x7e)
+}
+
+/// Whether the octet stands as it is: it is printable, and neither the quotation mark nor the reverse solidus.
+fn is_plain(octet: u8) -> bool
+    ensures { result ≡ is_plain_octet octet }
+{
+    matches!(octet, 0x20..=0x7e) && octet != b'"' && octet != b'\\'
+}
+
+/// How many octets in front stand as they are.
+fn plain_size(kind: Kind, octets: &[u8]) -> usize
+    ensures within { result ≤ length octets.now }
+    ensures plain { ArePlain kind octets.now result }
+{
+    if !matches!(kind, Kind::Text | Kind::Utf8) {
+        return 0;
+    }
+    for i in 0..octets.len() {
+        if !is_plain(octets[i]) {
+            return i;
+        }
+    }
+    octets.len()
 }
 
 /// How many octets in front make a unit.

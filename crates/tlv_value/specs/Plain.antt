@@ -1,0 +1,32 @@
+-- Characters that stand as they are.
+use Rattle.std.specs.Prelude.{◌≡◌, ℕ, ◌+◌, ◌<◌, ◌≤◌, Bool, true, false, ◌&&◌, ◌||◌, not, eqb, List, ◌++◌, drop, flat_map, length, slice_index}
+use Rattle.tlv_value.specs.declared.kind.Kind.{Kind}
+use Rattle.tlv_value.specs.declared.kind.Kind.TheVariants.{Octets, Boolean, Integer, Bits, Object, Relative, Text, Utf8, Ucs2, Ucs4}
+use Rattle.tlv_value.specs.Units.{is_printable, unit_text, units}
+
+-- a printable character of ASCII that is neither the quotation mark nor the reverse solidus
+abbrev pub is_plain : ℕ → Bool
+is_plain x = is_printable x && not (eqb x 0x22 || eqb x 0x5c)
+
+-- a character of ASCII has one octet
+abbrev pub is_ascii : Kind → Bool
+is_ascii Octets = false
+is_ascii Boolean = false
+is_ascii Integer = false
+is_ascii Bits = false
+is_ascii Object = false
+is_ascii Relative = false
+is_ascii Text = true
+is_ascii Utf8 = true
+is_ascii Ucs2 = false
+is_ascii Ucs4 = false
+
+-- the first n of the octets are such characters
+abbrev pub ArePlain : Kind → List ℕ → ℕ → Type 0
+ArePlain kind octets n = (0 < n → is_ascii kind ≡ true) × ((i : ℕ) → i < n → is_plain (slice_index octets i) ≡ true)
+
+-- the first n of the octets were written behind a line, where there is room
+abbrev pub IsPart : Kind → List ℕ → List ℕ → List ℕ → ℕ → Type 0
+IsPart kind octets line line' n =
+    (text : List ℕ) × (length line + length text ≤ 1024 → line' ≡ line ++ text)
+    × (flat_map (unit_text kind) (units kind 0 octets) ≡ text ++ flat_map (unit_text kind) (units kind 0 (drop n octets)))
