@@ -6,11 +6,7 @@ use Rattle.tlv_head.specs.declared.header.Size.TheVariants.{Definite, Indefinite
 use Rattle.tlv_head.specs.Header.{Heading}
 use Rattle.tlv_head.specs.Tag.{tag_text_of}
 use Rattle.tlv_value.specs.declared.layout.Layout.{Layout}
-use Rattle.tlv_value.specs.Layout.{margin, no_columns, right}
-
--- an offset at the right of 8 columns, and a length or a word at the right of 6
-abbrev pub columns : ℕ → List ℕ → List ℕ
-columns offset word = right 8 (decimal offset) ++ codes " " ++ right 6 word ++ codes ": "
+use Rattle.tlv_value.specs.Layout.{columns, margin, no_columns}
 
 -- a line: its first columns, where they are not left out, the indentation, the text and a line feed
 abbrev pub text_line : Layout → List ℕ → List ℕ → List ℕ

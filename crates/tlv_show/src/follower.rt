@@ -18,10 +18,10 @@ ghost use Rattle.tlv_show.specs.Dumped.{
 ghost use Rattle.tlv_show.specs.Dumps.{top_layout};
 
 use crate::Options;
-use crate::line::Line;
+use crate::lines::{write_closing, write_opening, write_padding};
 use std::marker::Model;
 use tlv_head::Header;
-use tlv_value::{Layout, Names, ValueText};
+use tlv_value::{Layout, Line, Names, ValueText};
 use tlv_walk::{Drain, Event, Follow, Go, Out, WriteFault};
 
 /// Writes the lines that each event allows. The line of an element that holds others comes with its header, and that
@@ -103,7 +103,7 @@ impl<'n> Dump<'n> {
         ensures err { OnErr result (HasPrefix (put_to D.taken out.old) (D.taken (lender_of out.new).now) (dumped_open self.old header.now word.now).put) }
         ensures failed { D.failures (lender_of out.new).now ≡ failures_after result (D.failures (lender_of out.old).now) }
     {
-        self.line.opening(self.layout, header, word);
+        write_opening(&mut self.line, self.layout, header, word);
         out.put(self.line.as_slice())?;
         self.layout.level = self.layout.level.saturating_add(1);
         self.enter(header);
@@ -122,7 +122,7 @@ impl<'n> Dump<'n> {
         if let Some(at) = at {
             self.offset = at.saturating_add(2);
         }
-        self.line.closing(self.layout, at);
+        write_closing(&mut self.line, self.layout, at);
         out.put(self.line.as_slice())
     }
 
@@ -181,7 +181,7 @@ impl<'n> Dump<'n> {
             return Ok(());
         }
         self.in_padding = true;
-        self.line.padding(self.layout, offset);
+        write_padding(&mut self.line, self.layout, offset);
         out.put(self.line.as_slice())
     }
 }

@@ -3,7 +3,7 @@
 
 mod dumping;
 mod follower;
-mod line;
+mod lines;
 mod options;
 #[cfg(test)]
 mod tests;

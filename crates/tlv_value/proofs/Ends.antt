@@ -3,6 +3,7 @@ use Rattle.std.proofs.Common.{◌≡◌, ℕ, ◌+◌, ◌≤◌, Bool, true, fa
 use Rattle.std.specs.Prelude.{nat_le, if◌then◌else◌}
 use Rattle.std.proofs.lemmas.Bool.Decides.{nat_tests}
 use Rattle.tlv_head.specs.Tag.{tag_text_of}
+use Rattle.std.specs.Prelude.{decimal}
 use Rattle.tlv_value.specs.declared.kind.Kind.{Kind}
 use Rattle.tlv_value.specs.declared.kind.Kind.TheVariants.{Octets, Boolean, Integer, Bits, Object, Relative, Text, Utf8, Ucs2, Ucs4}
 use Rattle.tlv_value.specs.declared.layout.Layout.{Layout}
@@ -15,13 +16,13 @@ use Rattle.tlv_value.specs.Value.{NameOf, Value, bit_count, bits_value, boolean_
 
 -- what an element's line begins with
 abbrev pub start_in : TextState → List ℕ
-start_in s = margin s.layout.pure (columns s.offset s.size) s.layout.level ++ tag_text_of s.class s.number
+start_in s = margin s.layout.pure (columns s.offset (decimal s.size)) s.layout.level ++ tag_text_of s.class s.number
 
 line-start : (m tag text : List ℕ) → (m ++ (tag ++ text)) ++ 10 ∷ [] ≡ ((m ++ tag) ++ text) ++ 10 ∷ []
 line-start m tag text = ap (λ (t : List ℕ). t ++ 10 ∷ []) (sym (append_assoc m tag text))
 
 line_in-start : (s : TextState) (text : List ℕ) → line_in s text ≡ (start_in s ++ text) ++ 10 ∷ []
-line_in-start s text = line-start (margin s.layout.pure (columns s.offset s.size) s.layout.level) (tag_text_of s.class s.number) text
+line_in-start s text = line-start (margin s.layout.pure (columns s.offset (decimal s.size)) s.layout.level) (tag_text_of s.class s.number) text
 
 -- rows of octets are the same for an object identifier
 object-rows : (layout : Layout) (i : ℕ) (rows : List (List ℕ)) → row_lines Object layout i rows ≡ row_lines Octets layout i rows

@@ -9,29 +9,24 @@ use Rattle.tlv_value.specs.Layout.{columns, limited, line, margin, no_columns, r
 pub length_spaces : (n : ℕ) → length (spaces n) ≡ n
 length_spaces n = let x : ℕ = 32 in length-replicate n x
 
-pub right_short : (places n : ℕ) → places ≤ 20 → n < 2 ^ 64 → length (right places (decimal n)) ≤ 20
-right_short places n h g =
-    let d : length (decimal n) ≤ 20 = length-decimal-le 20 n (omega arith) (omega arith) g in
-    omega (arith, length-append (spaces (places - length (decimal n))) (decimal n), length_spaces (places - length (decimal n)))
+pub right_short : (places : ℕ) (text : List ℕ) → places ≤ 40 → length text ≤ 40 → length (right places text) ≤ 40
+right_short places text h g = omega (arith, length-append (spaces (places - length text)) text, length_spaces (places - length text))
 
 length-four : (a b c d : List ℕ) → length (a ++ b ++ c ++ d) ≡ length a + (length b + (length c + length d))
 length-four a b c d = simp length-append (omega arith)
 
-pub columns_short : (offset n : ℕ) → offset < 2 ^ 64 → n < 2 ^ 64 → length (columns offset n) ≤ 43
-columns_short offset n h g =
-    omega (arith, length-four (right 8 (decimal offset)) (32 ∷ []) (right 6 (decimal n)) (58 ∷ 32 ∷ []), right_short 8 offset (omega arith) h, right_short 6 n (omega arith) g)
-
--- a line of an element has at most 43 columns
-pub margin_short : (pure : Bool) (offset n level : ℕ) → offset < 2 ^ 64 → n < 2 ^ 64 → level < 256 → length (margin pure (columns offset n) level) ≤ 553
-margin_short true offset n level h g l = omega (arith, length_spaces (2 * level))
-margin_short false offset n level h g l = omega (arith, length-append (columns offset n) (spaces (2 * level)), columns_short offset n h g, length_spaces (2 * level))
+pub columns_short : (offset : ℕ) (word : List ℕ) → offset < 2 ^ 64 → length word ≤ 40 → length (columns offset word) ≤ 63
+columns_short offset word h g =
+    let d : length (decimal offset) ≤ 20 = length-decimal-le 20 offset (omega arith) (omega arith) h in
+    let first : length (right 8 (decimal offset)) ≤ 20 = omega (arith, length-append (spaces (8 - length (decimal offset))) (decimal offset), length_spaces (8 - length (decimal offset))) in
+    omega (arith, length-four (right 8 (decimal offset)) (32 ∷ []) (right 6 word) (58 ∷ 32 ∷ []), first, right_short 6 word (omega arith) g)
 
 omega_length : (s t a : List ℕ) → t ≡ s ++ a → length t ≡ length s + length a
 omega_length s t a e = ap length e ∙ length-append s a
 
 -- four pieces, each of which is put where there is room for it
-pub four_pieces : (s s1 s2 s3 s4 a b c d : List ℕ) → length a ≤ 20 → length c ≤ 20 → length s + 43 ≤ 1024
-    → (length s + 20 ≤ 1024 → s1 ≡ s ++ a) → (length s1 + length b ≤ 1024 → s2 ≡ s1 ++ b) → (length s2 + 20 ≤ 1024 → s3 ≡ s2 ++ c) → (length s3 + length d ≤ 1024 → s4 ≡ s3 ++ d)
+pub four_pieces : (s s1 s2 s3 s4 a b c d : List ℕ) → length a ≤ 40 → length c ≤ 40 → length s + 83 ≤ 1024
+    → (length s + 40 ≤ 1024 → s1 ≡ s ++ a) → (length s1 + length b ≤ 1024 → s2 ≡ s1 ++ b) → (length s2 + 40 ≤ 1024 → s3 ≡ s2 ++ c) → (length s3 + length d ≤ 1024 → s4 ≡ s3 ++ d)
     → length b ≤ 1 → length d ≤ 2 → s4 ≡ s ++ (a ++ b ++ c ++ d)
 four_pieces s s1 s2 s3 s4 a b c d x y h e1 e2 e3 e4 p q =
     let f1 = e1 (omega arith) in

@@ -3,23 +3,9 @@ use Rattle.std.proofs.Common.{◌≡◌, ℕ, zero, suc, ◌+◌, ◌-◌, ◌*�
 use Rattle.std.proofs.Math.Seq.{drop-cons, take-append-add}
 use Rattle.std.proofs.lemmas.List.{map-append, length-take}
 use Rattle.std.specs.Prelude.{true}
-use Rattle.hex.specs.Hex.{encode_lower, encode_with}
 use Rattle.tlv_value.specs.Bits.{bits_of, last_bits}
-use Rattle.tlv_value.specs.Value.{bit_count, bits_value, digits_of, is_readable, spaced, spaced_pairs, used_digits}
+use Rattle.tlv_value.specs.Value.{bit_count, bits_value, digits_of, is_readable, spaced, used_digits}
 use Rattle.tlv_value.proofs.Numbers.{bits-append, length-bits}
-
--- the digits of octet i, among those of all octets
-pub pair-at : (octets : List ℕ) (i : ℕ) → i < length octets → take 2 (drop (2 * i) (encode_lower octets)) ≡ encode_lower (get_or octets i 0 ∷ [])
-unfolding encode_with
-pair-at [] i h = absurd (omega arith)
-pair-at (x ∷ xs) zero h = refl
-pair-at (x ∷ xs) (suc i) h =
-    let e : 2 * suc i ≡ suc (suc (2 * i)) = omega arith in
-    rw e (pair-at xs i (omega arith))
-
--- one pair more
-pub pairs-step : (octets : List ℕ) (i : ℕ) → i < length octets → spaced_pairs (drop i octets) ≡ 32 ∷ (encode_lower (get_or octets i 0 ∷ []) ++ spaced_pairs (drop (i + 1) octets))
-pairs-step octets i h = rw (drop-cons octets i 0 h, add-one) refl
 
 -- the bits of one octet more
 pub bits-step : (octets : List ℕ) (i : ℕ) → i < length octets

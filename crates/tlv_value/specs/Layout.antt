@@ -9,9 +9,9 @@ spaces n = replicate n 0x20
 abbrev pub right : ℕ → List ℕ → List ℕ
 right places text = spaces (places - length text) ++ text
 
--- the first columns of an element's line: where it stands, and how many contents octets it has
-abbrev pub columns : ℕ → ℕ → List ℕ
-columns offset n = right 8 (decimal offset) ++ codes " " ++ right 6 (decimal n) ++ codes ": "
+-- the first columns of a line: where an element stands, and how many contents octets it has, or a word
+abbrev pub columns : ℕ → List ℕ → List ℕ
+columns offset word = right 8 (decimal offset) ++ codes " " ++ right 6 word ++ codes ": "
 
 -- the first columns of a row
 abbrev pub no_columns : List ℕ

@@ -1,5 +1,5 @@
 -- The lines of a primitive, and what is to be kept of its contents between their pieces.
-use Rattle.std.specs.Prelude.{ℕ, ◌+◌, ◌-◌, Bool, true, false, if◌then◌else◌, List, [], ◌∷◌, ◌++◌, length}
+use Rattle.std.specs.Prelude.{ℕ, ◌+◌, ◌-◌, Bool, true, false, if◌then◌else◌, List, [], ◌∷◌, ◌++◌, length, decimal}
 use Rattle.tlv_head.specs.declared.header.Class.{Class}
 use Rattle.tlv_head.specs.Header.{Heading, announced}
 use Rattle.tlv_head.specs.Tag.{tag_text_of}
@@ -12,7 +12,7 @@ use Rattle.tlv_value.specs.Rows.{full_rows, last_rows, open_row}
 use Rattle.tlv_value.specs.Value.{NameOf, held_value, in_rows, is_long, long_text, row_text, whole_value}
 
 abbrev pub element_line : Layout → ℕ → Class → ℕ → ℕ → List ℕ → List ℕ
-element_line layout offset class number n text = line layout.pure (columns offset n) layout.level (tag_text_of class number ++ text)
+element_line layout offset class number n text = line layout.pure (columns offset (decimal n)) layout.level (tag_text_of class number ++ text)
 
 -- rows in order, the first of which has this number
 abbrev pub row_lines : Kind → Layout → ℕ → List (List ℕ) → List ℕ

@@ -26,6 +26,7 @@ pub use decimal::decimal_of;
 pub use dotted::dotted_of;
 pub use finding::Finding;
 pub use layout::Layout;
+pub use line::Line;
 pub use names::{Names, NamesFault};
 pub use naming::NameTable;
 pub use text::ValueText;

@@ -1,5 +1,5 @@
-//! A line of text that is being made.
-ghost use Rattle.std.specs.Prelude.{◌≡◌, ◌+◌, ◌≤◌, ◌++◌, [], decimal, length};
+//! A line of a dump that is being made.
+ghost use Rattle.std.specs.Prelude.{◌≡◌, ◌+◌, ◌≤◌, ◌++◌, [], length};
 ghost use Rattle.tlv_value.specs.Layout.{columns, margin, no_columns, right as right_text, spaces as spaces_text};
 
 use crate::Layout;
@@ -14,7 +14,7 @@ static SPACES: [u8; 512] = [b' '; 512];
 /// A line of text that is being made. It is used again for the next line, so its room is not filled anew each time. What
 /// goes past the room is dropped; no line of a value does.
 #[derive(Drop)]
-pub(crate) struct Line {
+pub struct Line {
     octets: [u8; CAPACITY],
     len: usize,
 }
@@ -30,22 +30,34 @@ impl Model for Line {
 }
 
 impl Line {
-    /// Begins a line of an element that stands at this offset, and has so many contents octets: its first columns and its
-    /// indentation.
+    /// Begins a line with its first columns, an offset and a length or a word, and its indentation.
     #[tactic(auto, using(crate::proofs::LineLengths::columns_short))]
-    pub fn begin_element(&mut self, layout: Layout, offset: u64, size: u64)
-        ensures margin { self.new ≡ margin layout.pure (columns offset size) layout.level }
-        ensures short { length self.new ≤ 553 }
+    pub fn begin(&mut self, layout: Layout, offset: u64, word: &[u8])
+        requires { length word.now ≤ 40 }
+        ensures margin { self.new ≡ margin layout.pure (columns offset word.now) layout.level }
+        ensures short { length self.new ≤ 573 }
     {
         self.clear();
         if !layout.pure {
-            self.columns(offset, size);
+            self.columns(offset, word);
+        }
+        self.spaces(2 * usize::from(layout.level));
+    }
+
+    /// Begins a line that has no offset, with its indentation.
+    pub fn begin_blank(&mut self, layout: Layout)
+        ensures margin { self.new ≡ margin layout.pure no_columns layout.level }
+        ensures short { length self.new ≤ 573 }
+    {
+        self.clear();
+        if !layout.pure {
+            self.spaces(17);
         }
         self.spaces(2 * usize::from(layout.level));
     }
 
     /// Begins a line of a row: its first columns and its indentation.
-    pub fn begin_row(&mut self, layout: Layout)
+    pub(crate) fn begin_row(&mut self, layout: Layout)
         ensures { self.new ≡ margin layout.pure no_columns (layout.level + 1) }
     {
         self.clear();
@@ -55,6 +67,7 @@ impl Line {
         self.spaces(2 * (usize::from(layout.level) + 1));
     }
 
+    /// An empty line.
     pub fn new() -> Line
         ensures { result ≡ [] }
     {
@@ -70,13 +83,14 @@ impl Line {
         self.len = 0;
     }
 
+    /// The octets of the line so far.
     pub fn as_slice(&self) -> &[u8]
         ensures { result.now ≡ self.now }
     {
         &self.octets[..self.len]
     }
 
-    /// Adds octets at the end.
+    /// Adds octets at the end, where there is room for them: a line has at most 1024.
     pub fn push(&mut self, octets: &[u8])
         ensures { length self.old + length octets.now ≤ 1024 → self.new ≡ self.old ++ octets.now }
     {
@@ -88,31 +102,32 @@ impl Line {
     }
 
     /// Adds spaces.
-    pub fn spaces(&mut self, count: usize)
+    pub(crate) fn spaces(&mut self, count: usize)
         requires { count ≤ 512 }
         ensures { length self.old + count ≤ 1024 → self.new ≡ self.old ++ spaces_text count }
     {
         self.push(&SPACES[..count]);
     }
 
-    /// Adds the first columns of an element's line.
+    /// Adds the first columns of a line.
     #[tactic(auto, using(crate::proofs::LineLengths::right_short))]
-    fn columns(&mut self, offset: u64, size: u64)
-        ensures { length self.old + 43 ≤ 1024 → self.new ≡ self.old ++ columns offset size }
+    fn columns(&mut self, offset: u64, word: &[u8])
+        requires { length word.now ≤ 40 }
+        ensures { length self.old + 83 ≤ 1024 → self.new ≡ self.old ++ columns offset word.now }
     {
-        self.number(offset, 8);
+        let mut digits = Buffer::new();
+        self.right(digits.format(offset).as_bytes(), 8);
         self.push(b" ");
-        self.number(size, 6);
+        self.right(word, 6);
         self.push(b": ");
     }
 
-    /// Adds a number in decimal at the right of so many places; a longer one takes as many as it needs.
-    pub fn number(&mut self, number: u64, places: usize)
-        requires { places ≤ 20 }
-        ensures { length self.old + 20 ≤ 1024 → self.new ≡ self.old ++ right_text places (decimal number) }
+    /// Adds a text at the right of so many places; a longer one takes as many as it needs.
+    fn right(&mut self, text: &[u8], places: usize)
+        requires places { places ≤ 40 }
+        requires short { length text.now ≤ 40 }
+        ensures { length self.old + 40 ≤ 1024 → self.new ≡ self.old ++ right_text places text.now }
     {
-        let mut digits = Buffer::new();
-        let text = digits.format(number).as_bytes();
         self.spaces(places.saturating_sub(text.len()));
         self.push(text);
     }

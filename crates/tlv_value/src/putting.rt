@@ -37,7 +37,7 @@ pub(crate) fn put_value<D: Drain>(
     contents: &[u8],
     out: &mut Out<'_, D>,
 ) -> Result<(), WriteFault>
-    requires short { length line.old ≤ 593 }
+    requires short { length line.old ≤ 613 }
     requires held { length contents.now ≤ most_held kind }
     ensures same_reference { (lender_of out.new).ghost_name ≡ (lender_of out.old).ghost_name }
     ensures ok { OnOk result (Appends (put_to D.taken out.old) (put_to D.taken out.new) (line.old ++ plain_text kind contents.now ++ 10 ∷ [])) }
@@ -55,7 +55,7 @@ pub(crate) fn put_bits<D: Drain>(
     unused: u8,
     out: &mut Out<'_, D>,
 ) -> Result<(), WriteFault>
-    requires short { length line.old ≤ 593 }
+    requires short { length line.old ≤ 613 }
     requires long { 9 < size }
     ensures same_reference { (lender_of out.new).ghost_name ≡ (lender_of out.old).ghost_name }
     ensures ok { OnOk result (Appends (put_to D.taken out.old) (put_to D.taken out.new) (line.old ++ long_text Kind.Bits size (unused ∷ []) ++ 10 ∷ [])) }
@@ -74,7 +74,7 @@ pub(crate) fn put_object<N: NameTable, D: Drain>(
     names: &N,
     out: &mut Out<'_, D>,
 ) -> Result<(), WriteFault>
-    requires short { length line.old ≤ 593 }
+    requires short { length line.old ≤ 613 }
     requires held { length contents.now ≤ 64 }
     ensures same_reference { (lender_of out.new).ghost_name ≡ (lender_of out.old).ghost_name }
     ensures ok { OnOk result (Appends (put_to D.taken out.old) (put_to D.taken out.new) (object_lines (N.name_of names.now) layout line.old false contents.now)) }
@@ -98,7 +98,7 @@ pub(crate) fn put_relative<D: Drain>(
     contents: &[u8],
     out: &mut Out<'_, D>,
 ) -> Result<(), WriteFault>
-    requires short { length line.old ≤ 593 }
+    requires short { length line.old ≤ 613 }
     requires held { length contents.now ≤ 64 }
     ensures same_reference { (lender_of out.new).ghost_name ≡ (lender_of out.old).ghost_name }
     ensures ok { OnOk result (Appends (put_to D.taken out.old) (put_to D.taken out.new) (object_lines no_names layout line.old true contents.now)) }
@@ -118,7 +118,7 @@ fn put_dotted<D: Drain>(
     dotted: &[u8],
     out: &mut Out<'_, D>,
 ) -> Result<(), WriteFault>
-    requires short { length line.old ≤ 593 }
+    requires short { length line.old ≤ 613 }
     requires held { length dotted.now ≤ 320 }
     ensures same_reference { (lender_of out.new).ghost_name ≡ (lender_of out.old).ghost_name }
     ensures ok { OnOk result (Appends (put_to D.taken out.old) (put_to D.taken out.new) (line.old ++ 32 ∷ dotted.now ++ 10 ∷ [])) }
@@ -137,7 +137,7 @@ fn put_named<D: Drain>(
     name: &[u8],
     out: &mut Out<'_, D>,
 ) -> Result<(), WriteFault>
-    requires short { length line.old ≤ 593 }
+    requires short { length line.old ≤ 613 }
     requires held { length dotted.now ≤ 320 }
     ensures same_reference { (lender_of out.new).ghost_name ≡ (lender_of out.old).ghost_name }
     ensures ok { OnOk result (Appends (put_to D.taken out.old) (put_to D.taken out.new) (((line.old ++ 32 ∷ dotted.now ++ codes " (") ++ name.now) ++ codes ")\n")) }
@@ -174,7 +174,7 @@ fn put_octets<D: Drain>(
     contents: &[u8],
     out: &mut Out<'_, D>,
 ) -> Result<(), WriteFault>
-    requires short { length line.old ≤ 593 }
+    requires short { length line.old ≤ 613 }
     requires held { length contents.now ≤ 64 }
     ensures same_reference { (lender_of out.new).ghost_name ≡ (lender_of out.old).ghost_name }
     ensures ok { OnOk result (Appends (put_to D.taken out.old) (put_to D.taken out.new) (octets_lines layout line.old contents.now)) }

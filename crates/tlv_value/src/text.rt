@@ -1,5 +1,5 @@
 //! The lines of a primitive, from its contents in pieces.
-ghost use Rattle.std.specs.Prelude.{◌≡◌, ◌+◌, ◌<◌, ◌≤◌, ◌^◌, ◌++◌, ◌∷◌, [], length, OnErr, OnOk, false, true};
+ghost use Rattle.std.specs.Prelude.{◌≡◌, ◌+◌, ◌<◌, ◌≤◌, ◌^◌, ◌++◌, ◌∷◌, [], decimal, length, OnErr, OnOk, false, true};
 ghost use Rattle.std.specs.Io.KnownBytes.{Appends};
 ghost use Rattle.tlv_walk.specs.Device.{failures_after};
 ghost use Rattle.tlv_walk.specs.Out.{lender_of, put_to};
@@ -14,6 +14,7 @@ use crate::line::Line;
 use crate::putting::{put_bits, put_last, put_line, put_object, put_relative, put_rows, put_value};
 use crate::{Layout, NameTable};
 use arrayvec::ArrayVec;
+use itoa::Buffer;
 use std::marker::Model;
 use tlv_head::{Class, Header, Size, tag_text};
 use tlv_walk::{Drain, Out, WriteFault};
@@ -42,10 +43,11 @@ fn begin_row(unused: u8, row: &mut ArrayVec<u8, 64>)
 
 /// Makes the element's line up to its tag text.
 fn write_element(line: &mut Line, layout: Layout, offset: u64, class: Class, number: u64, size: u64)
-    ensures text { line.new ≡ margin layout.pure (columns offset size) layout.level ++ tag_text_of class number }
-    ensures short { length line.new ≤ 593 }
+    ensures text { line.new ≡ margin layout.pure (columns offset (decimal size)) layout.level ++ tag_text_of class number }
+    ensures short { length line.new ≤ 613 }
 {
-    line.begin_element(layout, offset, size);
+    let mut digits = Buffer::new();
+    line.begin(layout, offset, digits.format(size).as_bytes());
     line.push(tag_text(class, number).as_slice());
 }
 

@@ -23,7 +23,7 @@ use crate::rows::utf8_length;
 
 impl Line {
     /// Adds a row of characters, in quotation marks.
-    pub fn quoted(&mut self, kind: Kind, row: &[u8])
+    pub(crate) fn quoted(&mut self, kind: Kind, row: &[u8])
         ensures { length self.old + length (quoted_row kind row.now) ≤ 1024 → self.new ≡ self.old ++ quoted_row kind row.now }
     {
         self.push(b"\"");

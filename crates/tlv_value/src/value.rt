@@ -25,7 +25,7 @@ use itoa::Buffer;
 
 impl Line {
     /// Adds a row of long contents.
-    pub fn row(&mut self, kind: Kind, row: &[u8])
+    pub(crate) fn row(&mut self, kind: Kind, row: &[u8])
         requires { length row.now ≤ 64 }
         ensures { length self.old + length (row_text kind row.now) ≤ 1024 → self.new ≡ self.old ++ row_text kind row.now }
     {
@@ -36,7 +36,7 @@ impl Line {
     }
 
     /// Adds a held value with a space before it, where there is one. An object identifier is shown in hexadecimal.
-    pub fn value(&mut self, kind: Kind, contents: &[u8])
+    pub(crate) fn value(&mut self, kind: Kind, contents: &[u8])
         requires { length contents.now ≤ most_held kind }
         ensures { length self.old + length (plain_text kind contents.now) ≤ 1024 → self.new ≡ self.old ++ plain_text kind contents.now }
     {
@@ -92,7 +92,7 @@ impl Line {
 
     /// Adds what stands on the line of a long BIT STRING of this size: the number of its bits, if its first contents octet
     /// can be read.
-    pub fn long_bits(&mut self, size: u64, unused: u8)
+    pub(crate) fn long_bits(&mut self, size: u64, unused: u8)
         requires { 9 < size }
         ensures { length self.old + length (long_text Kind.Bits size (unused ∷ [])) ≤ 1024 → self.new ≡ self.old ++ long_text Kind.Bits size (unused ∷ []) }
     {

@@ -38,11 +38,11 @@ returns-clause-ok g c =
     let s = c.self.inside in
     let some : 0 < length c.args.octets.now = search arith in
     let is = ap (λ (s : Dumping). each_octet one_padded s c.args.octets.now) (sym c.self.view_is) ∙ padded_first _ c.args.octets.now some c.if-self.false in
-    on_ok_weaker c.put.result (appends_same _ _ _ _ (ap (λ (t : Following Dumping). t.put) is ∙ sym (c.as_slice.ensures ∙ c.padding.ensures))) c.put.ensures.ok
+    on_ok_weaker c.put.result (appends_same _ _ _ _ (ap (λ (t : Following Dumping). t.put) is ∙ sym (c.as_slice.ensures ∙ c.write_padding.ensures))) c.put.ensures.ok
 
 pub returns-clause-err : goal.returns-clause-err
 returns-clause-err g c =
     let s = c.self.inside in
     let some : 0 < length c.args.octets.now = search arith in
     let is = ap (λ (s : Dumping). each_octet one_padded s c.args.octets.now) (sym c.self.view_is) ∙ padded_first _ c.args.octets.now some c.if-self.false in
-    on_err_weaker c.put.result (prefix_same _ _ _ _ (ap (λ (t : Following Dumping). t.put) is ∙ sym (c.as_slice.ensures ∙ c.padding.ensures))) c.put.ensures.err
+    on_err_weaker c.put.result (prefix_same _ _ _ _ (ap (λ (t : Following Dumping). t.put) is ∙ sym (c.as_slice.ensures ∙ c.write_padding.ensures))) c.put.ensures.err
