@@ -33,6 +33,12 @@ not_true : (k : Bool) → (k ≡ true → ⊥) → k ≡ false
 not_true true n = absurd (n refl)
 not_true false n = refl
 
+-- what is put of a reading is its text
+pub text_made : (options : Options) (names : Table) (octets : List ℕ) (f : Forest) → length octets ≤ 2 ^ 40 → IsReading options.framing octets f
+    → (followed dumped (fresh (top_layout options) names) (events f)).put ≡ dump_text options names f
+text_made options names octets f few r =
+    (told (top_layout options) names (top options.framing) false f r.is_open (omega (arith, few, ap length r.front.1, length-append (spell f) r.front.0))).text
+
 -- a dump never has enough
 goes_on : (framing : Framing) (s t : Dumping) (old new : Option (List ℕ)) (octets : List ℕ) (run : Run) → WalksTo dumped framing s t old new octets run → run.enough ≡ false
 goes_on framing s t old new octets run w =
@@ -58,14 +64,9 @@ module _ (options : Options) (names : Table) (t : Dumping) (old new left left' :
     comes = c;
   }
 
-  -- what is put of a reading is its text
-  text_made : (octets : List ℕ) (f : Forest) → length octets ≤ 2 ^ 40 → IsReading options.framing octets f → (followed dumped first (events f)).put ≡ dump_text options names f
-  text_made octets f few r =
-      (told (top_layout options) names (top options.framing) false f r.is_open (omega (arith, few, ap length r.front.1, length-append (spell f) r.front.0))).text
-
   text_put : (octets put : List ℕ) (g : Go) → length octets ≤ 2 ^ 40 → ((f : Forest) → IsReading options.framing octets f → followed dumped first (events f) ≡ record { state = t; put = put; goes = g }) → Appends old new put
       → (f : Forest) → IsReading options.framing octets f → Appends old new (dump_text options names f)
-  text_put octets put g few made app f r = subst (Appends old new) (sym (ap (λ (k : Following Dumping). k.put) (made f r)) ∙ text_made octets f few r) app
+  text_put octets put g few made app f r = subst (Appends old new) (sym (ap (λ (k : Following Dumping). k.put) (made f r)) ∙ text_made options names octets f few r) app
 
   few_dumped : (given : List ℕ) → length (take (2 ^ 40) given) ≤ 2 ^ 40
   few_dumped given = omega (arith, length-take (2 ^ 40) given)
@@ -93,7 +94,7 @@ module _ (options : Options) (names : Table) (t : Dumping) (old new left left' :
       dumps_by (Err ReadFailed) (Err ReadFailed) d (d.comes.0, text_put (d.before ++ d.rest) w.put go.On d.comes.1 w.made w.appended)
   dumps_err WriteFailed d =
       dumps_by (Err WriteFailed) (Err WriteFailed) d
-      (λ f r. subst (HasPrefix old new) (text_made (take (2 ^ 40) (d.before ++ d.rest)) f (few_dumped (d.before ++ d.rest)) r) (d.comes f r))
+      (λ f r. subst (HasPrefix old new) (text_made options names (take (2 ^ 40) (d.before ++ d.rest)) f (few_dumped (d.before ++ d.rest)) r) (d.comes f r))
   dumps_err InputTooLong d =
       let w : WalksAll dumped options.framing first t old new (take (2 ^ 40) (d.before ++ d.rest)) = d.comes.1 in
       dumps_by (Err InputTooLong) (Err InputTooLong) d (d.comes.0, λ f r. (w.spelled f r, text_put (take (2 ^ 40) (d.before ++ d.rest)) w.put go.On (few_dumped (d.before ++ d.rest)) w.made w.appended f r))

@@ -3,6 +3,7 @@
 
 mod dumping;
 mod follower;
+pub mod laws;
 mod lines;
 mod options;
 #[cfg(test)]
