@@ -214,3 +214,61 @@ fn lines_come_with_their_octets(rt: HostRuntime) {
     assert_eq!(rt; end, Ok(Turn::Ended(run)));
     assert_eq!(rt; drain.written(), text.as_slice());
 }
+
+/// The lines that so many octets of the constructed string allow.
+fn lines_with(octets: u64) -> &'static [u8] {
+    match octets {
+        0 | 1 => b"",
+        2..=6 => b"       0      9: VisibleString {\n",
+        7..=10 => b"       0      9: VisibleString {
+       2      3:   OCTET STRING 4a 6f 6e
+",
+        _ => b"       0      9: VisibleString {
+       2      3:   OCTET STRING 4a 6f 6e
+       7      2:   OCTET STRING 65 73
+                 }
+",
+    }
+}
+
+/// Expects the lines of the string turn by turn, if its first read gives so many octets.
+fn expect_turns(rt: &impl Abort, first: u64) {
+    let mut room = [0; 200];
+    let mut piece = [0; 11];
+    let names = Names::empty();
+    let mut walker = Walker::new(&Framing::plain());
+    let mut follower = Dump::new(&plain(), &names);
+    let cuts = [first];
+    let mut source = MemSource::new(b"\x3a\x09\x04\x03Jon\x04\x02es", &cuts, None);
+    let mut drain = MemDrain::new(&mut room, 200);
+    let Ok(Turn::Again) = turn(
+        &mut walker,
+        &mut follower,
+        &mut source,
+        &mut drain,
+        &mut piece,
+        11,
+    ) else {
+        panic!(rt; "more is to be read");
+    };
+    assert_eq!(rt; drain.written(), lines_with(first));
+    let Ok(Turn::Again) = turn(
+        &mut walker,
+        &mut follower,
+        &mut source,
+        &mut drain,
+        &mut piece,
+        11,
+    ) else {
+        panic!(rt; "more is to be read");
+    };
+    assert_eq!(rt; drain.written(), lines_with(11));
+}
+
+/// The same in each cut into two pieces.
+#[test]
+fn lines_come_with_their_octets_in_each_cut(rt: HostRuntime) {
+    for first in 1..11 {
+        expect_turns(&rt, first);
+    }
+}
