@@ -1,4 +1,7 @@
 //! The follower that writes indefinite lengths.
+ghost use Rattle.std.specs.Prelude.{◌≡◌};
+ghost use Rattle.tlv_cut.specs.declared.indefinite.Indef.{Indef as IndefOf};
+
 use tlv_head::spell_indefinite;
 use tlv_walk::{Drain, Event, Follow, Go, Out, WriteFault};
 
@@ -12,8 +15,10 @@ use tlv_walk::{Drain, Event, Follow, Go, Out, WriteFault};
 pub struct Indef;
 
 impl Indef {
-    /// A follower that writes indefinite lengths.
-    pub fn new() -> Indef {
+    /// A follower that writes indefinite lengths. There is one alone: it keeps nothing.
+    pub fn new() -> Indef
+        ensures { (other : IndefOf) → result ≡ other }
+    {
         Indef
     }
 }

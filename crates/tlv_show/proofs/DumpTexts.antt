@@ -21,6 +21,7 @@ use Rattle.tlv_walk.proofs.Followed.{followed-more}
 use Rattle.tlv_walk.proofs.Spellings.{length-closed, length-opening, length-whole}
 use Rattle.tlv_show.specs.Dumped.{Dumping, dumped, entered, further, puts}
 use Rattle.tlv_show.specs.DumpText.{end_place, holder_line, text_of, wrapper_line}
+use Rattle.tlv_show.specs.Laws.{PrimitivesAreShown}
 use Rattle.tlv_show.specs.Lines.{close_line, opening_line, padding_line}
 use Rattle.tlv_show.proofs.Dumped.{behind_put, dumped_bytes}
 use Rattle.tlv_show.proofs.Always.{all_on}
@@ -53,6 +54,19 @@ whole_shown name_of h layout c e =
     ∙ ap (λ (l : List ℕ). l ++ ended name_of (after_octets t c)) (sym (open-lines h layout c))
     ∙ sym (lines-end name_of h layout c e)
 
+-- whatever went before
+pub primitives_shown : PrimitivesAreShown
+primitives_shown s h c size =
+    let t : TextState = start h s.layout in
+    let u : Dumping = record (entered s h) { value = Some t } in
+    let after : Dumping = record (entered s h) { offset = further (entered s h).offset (length c); value = None } in
+    let took = take-all (announced h.size) c (omega (arith, size)) in
+    let none : announced h.size - length c ≡ 0 = omega (arith, size) in
+    ap (λ (k : Following Dumping). behind_put (begun t) (if_on k.goes k (λ w. followed dumped w (End ∷ [])))) (dumped_bytes u c)
+    ∙ ap (λ (l : List ℕ). puts after (begun t ++ (told_by_octets t l ++ ((if eqb (announced h.size - length l) 0 then ended (finite.get s.names) (after_octets t l) else []) ++ [])))) took
+    ∙ ap (λ (n : ℕ). puts after (begun t ++ (told_by_octets t c ++ ((if eqb n 0 then ended (finite.get s.names) (after_octets t c) else []) ++ [])))) none
+    ∙ ap (puts after) (whole_shown (finite.get s.names) h s.layout c (sym size))
+
 -- of elements in this style, with these names
 module _ (style : Layout) (names : Table) where
   abbrev at_level : ℕ → Layout
@@ -78,15 +92,9 @@ module _ (style : Layout) (names : Table) where
   primitive_told : (level at : ℕ) (padded : Bool) (h : Heading) (c : List ℕ) → h.offset ≡ at → announced h.size ≡ length c → at + (length (octets_of h) + length c) ≤ 2 ^ 64 - 1
       → followed dumped (standing level at padded) (Begin h ∷ Bytes c ∷ End ∷ []) ≡ puts (standing level (at + (length (octets_of h) + length c)) false) (whole_lines (finite.get names) h (at_level level) c)
   primitive_told level at padded h c there size far_enough =
-      let t : TextState = start h (at_level level) in
-      let took = take-all (announced h.size) c (omega (arith, size)) in
-      let none : announced h.size - length c ≡ 0 = omega (arith, size) in
-      let behind = further (further h.offset (length (octets_of h))) (length c) in
-      ap (λ (k : Following Dumping). behind_put (begun t) (if_on k.goes k (λ w. followed dumped w (End ∷ [])))) (dumped_bytes (begun_in level at padded h) c)
-      ∙ ap (λ (l : List ℕ). puts (standing level behind false) (begun t ++ (told_by_octets t l ++ ((if eqb (announced h.size - length l) 0 then ended (finite.get names) (after_octets t l) else []) ++ [])))) took
-      ∙ ap (λ (n : ℕ). puts (standing level behind false) (begun t ++ (told_by_octets t c ++ ((if eqb n 0 then ended (finite.get names) (after_octets t c) else []) ++ [])))) none
-      ∙ settled level level behind (at + (length (octets_of h) + length c)) false false _ (whole_lines (finite.get names) h (at_level level) c)
-      refl (omega (arith, there, far_enough)) refl (whole_shown (finite.get names) h (at_level level) c (sym size))
+      primitives_shown (standing level at padded) h c size
+      ∙ settled level level (further (further h.offset (length (octets_of h))) (length c)) (at + (length (octets_of h) + length c)) false false _ (whole_lines (finite.get names) h (at_level level) c)
+      refl (omega (arith, there, far_enough)) refl refl
 
   part_told : (level at : ℕ) (padded : Bool) (h : Heading) (c : List ℕ) → length c ≤ announced h.size
       → (followed dumped (standing level at padded) (Begin h ∷ Bytes c ∷ [])).put ≡ open_lines h (at_level level) c

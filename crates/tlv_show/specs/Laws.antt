@@ -1,12 +1,25 @@
 -- Laws of the text of a dump.
-use Rattle.std.specs.Prelude.{ℕ, ◌^◌, ◌≤◌, List, ◌++◌, length}
+use Rattle.std.specs.Prelude.{◌≡◌, ℕ, ◌^◌, ◌≤◌, List, [], ◌∷◌, ◌++◌, length, None}
+use Rattle.std.specs.FinMap as finite
+use Rattle.tlv_head.specs.Header.{Heading, announced}
 use Rattle.tlv_value.specs.Names.{Table}
+use Rattle.tlv_value.specs.State.{whole_lines}
+use Rattle.tlv_walk.specs.Events.{Begin, Bytes, End}
+use Rattle.tlv_walk.specs.Follow.{followed}
 use Rattle.tlv_walk.specs.Forest.{Forest}
 use Rattle.tlv_walk.specs.Reading.{IsPrefixOf, IsReading}
 use Rattle.tlv_show.specs.declared.options.Options.{Options}
+use Rattle.tlv_show.specs.Dumped.{Dumping, dumped, entered, further, puts}
 use Rattle.tlv_show.specs.Dumps.{dump_text}
 
 -- the text of a longer input, of no more octets than are dumped, begins with that of the shorter
 abbrev pub DumpsGoOn : Type 0
 DumpsGoOn = (options : Options) (names : Table) (b c : List ℕ) (f g : Forest) → length (b ++ c) ≤ 2 ^ 40
     → IsReading options.framing b f → IsReading options.framing (b ++ c) g → IsPrefixOf (dump_text options names f) (dump_text options names g)
+
+-- a primitive with as many contents octets as its header announces has the lines of its whole contents, and nothing of it
+-- is kept
+abbrev pub PrimitivesAreShown : Type 0
+PrimitivesAreShown = (s : Dumping) (h : Heading) (c : List ℕ) → announced h.size ≡ length c
+    → followed dumped s (Begin h ∷ Bytes c ∷ End ∷ [])
+    ≡ puts (record (entered s h) { offset = further (entered s h).offset (length c); value = None }) (whole_lines (finite.get s.names) h s.layout c)

@@ -13,9 +13,9 @@ pub(crate) fn write_opening(line: &mut Line, layout: Layout, header: &Header, wo
     ensures { line.new ≡ opening_line layout header.now word.now }
 {
     begin_with_size(line, layout, header.offset, header.size);
-    line.push(tag_text(header.class, header.number).as_slice());
-    line.push(word);
-    line.push(b"\n");
+    line.add(tag_text(header.class, header.number).as_slice());
+    line.add(word);
+    line.add(b"\n");
 }
 
 /// Makes the line of the end of an element that holds others, which has end-of-contents octets at this offset, or none.
@@ -26,7 +26,7 @@ pub(crate) fn write_closing(line: &mut Line, layout: Layout, at: Option<u64>)
         Some(at) => line.begin(layout, at, b"end"),
         None => line.begin_blank(layout),
     }
-    line.push(b"}\n");
+    line.add(b"}\n");
 }
 
 /// Makes the line of a run of padding.
@@ -34,7 +34,7 @@ pub(crate) fn write_padding(line: &mut Line, layout: Layout, at: u64)
     ensures { line.new ≡ padding_line layout at }
 {
     line.begin(layout, at, b"pad");
-    line.push(b"padding\n");
+    line.add(b"padding\n");
 }
 
 /// Begins a line with an offset and a length, or the word for the indefinite form.

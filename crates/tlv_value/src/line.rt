@@ -90,8 +90,17 @@ impl Line {
         &self.octets[..self.len]
     }
 
-    /// Adds octets at the end, where there is room for them: a line has at most 1024.
-    pub fn push(&mut self, octets: &[u8])
+    /// Adds octets at the end of a line that has room for them: it has at most 1024.
+    pub fn add(&mut self, octets: &[u8])
+        requires room { length self.old + length octets.now ≤ 1024 }
+        ensures text { self.new ≡ self.old ++ octets.now }
+        ensures grows { length self.new ≡ length self.old + length octets.now }
+    {
+        self.push(octets);
+    }
+
+    /// Adds octets at the end, if there is room for them.
+    pub(crate) fn push(&mut self, octets: &[u8])
         ensures { length self.old + length octets.now ≤ 1024 → self.new ≡ self.old ++ octets.now }
     {
         if octets.len() <= CAPACITY - self.len {
