@@ -13,7 +13,7 @@ use self::rows::{BITS, NUMBERS, OBJECTS, Row};
 use self::texts::{ROWS, TEXTS};
 use self::types::TYPES;
 use crate::{
-    Finding, Layout, NameTable, Names, ValueCheck, ValueText, decimal_of, dotted_of,
+    Finding, Layout, Line, NameTable, Names, ValueCheck, ValueText, decimal_of, dotted_of,
     general_canonical, general_ok, utc_canonical, utc_ok,
 };
 use arrayvec::ArrayVec;
@@ -486,4 +486,49 @@ fn contents_are_checked(rt: HostRuntime) {
 fn wordings(rt: HostRuntime) {
     assert_eq!(rt; Finding::B08.code(), b"B08".as_slice());
     assert_eq!(rt; Finding::B08.text(), b"integer is padded".as_slice());
+}
+
+/// The header with which these octets begin, at this offset.
+fn header_at(offset: u64, octets: &[u8]) -> Option<Header> {
+    let (fields, count) = read_header(offset, false, octets)?;
+    Some(Header::new(&fields, &octets[..count]))
+}
+
+/// A second primitive, an INTEGER of one octet, in the room of a first, of which nothing is left.
+#[test]
+fn a_text_is_used_again(rt: HostRuntime) {
+    let (Some(first), Some(second)) = (header_at(0, b"\x0c\x03"), header_at(5, b"\x02\x01")) else {
+        panic!(rt; "headers");
+    };
+    let mut room = [0; 64];
+    let mut drain = MemDrain::new(&mut room, 64);
+    let mut text = ValueText::new(&first, PLAIN);
+    assert_eq!(rt; text.left(), 3);
+    text.restart(&second, PLAIN);
+    assert_eq!(rt; text.left(), 1);
+    {
+        let mut out = Out::new(&mut drain);
+        assert_eq!(rt; text.begin(&mut out), Ok(()));
+        if text.left() == 1 {
+            assert_eq!(rt; text.bytes(b"\x05", &mut out), Ok(()));
+        }
+        if text.left() == 0 {
+            assert_eq!(rt; text.end(&OneName, &mut out), Ok(()));
+        }
+        assert_eq!(rt; out.flush(), Ok(()));
+    }
+    assert_eq!(rt; drain.written(), b"       5      1: INTEGER 5\n".as_slice());
+}
+
+#[test]
+fn lines_are_made(rt: HostRuntime) {
+    let layout = Layout { level: 1, ..PLAIN };
+    let mut line = Line::new();
+    assert_eq!(rt; line.as_slice(), b"".as_slice());
+    line.begin(layout, 11, b"end");
+    line.add(b"}\n");
+    assert_eq!(rt; line.as_slice(), b"      11    end:   }\n".as_slice());
+    line.begin_blank(layout);
+    line.add(b"}\n");
+    assert_eq!(rt; line.as_slice(), b"                   }\n".as_slice());
 }
