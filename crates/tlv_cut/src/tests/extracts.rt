@@ -1,9 +1,9 @@
 //! Extracts over memory: what they write and answer, in whatever pieces the octets come, and where a
 //! device fails.
 use super::extract_rows::{ELEMENTS, PADDED, Row, WRAPPED};
-use crate::{Cut, extract};
+use crate::{Cut, Extract, Indef, extract};
 use std::process::Abort;
-use tlv_walk::{DeviceFault, Ending, Framing, Inside, MemDrain, MemSource};
+use tlv_walk::{DeviceFault, Ending, Framing, Inside, MemDrain, MemSource, drive};
 
 /// Cuts into single octets: as many as the rows' inputs have, and more.
 const ONES: [u64; 16] = [1; 16];
@@ -205,4 +205,34 @@ fn elements_128_deep(rt: HostRuntime) {
     expect_nested(&rt, 0, &nested());
     expect_nested(&rt, 254, b"\x30\x80\x05\x00\x00\x00");
     expect_nested(&rt, 256, b"\x05\x00");
+}
+
+/// A follower by itself: it finds its element, and writes the contents alone.
+#[test]
+fn a_follower_finds_its_element(rt: HostRuntime) {
+    let mut room = [0; 8];
+    let mut source = MemSource::new(b"\x30\x03\x02\x01\x05", &[], None);
+    let mut drain = MemDrain::new(&mut room, 8);
+    let mut follower = Extract::new(2, true);
+    assert!(rt; !follower.found());
+    let run = drive(&mut source, &mut follower, &mut drain, &Framing::plain());
+    assert!(rt; run.is_ok());
+    assert_eq!(rt; drain.written(), b"\x05".as_slice());
+    assert!(rt; follower.found());
+}
+
+/// A follower by itself writes the indefinite form.
+#[test]
+fn a_follower_writes_indefinite_lengths(rt: HostRuntime) {
+    let mut room = [0; 8];
+    let mut source = MemSource::new(b"\x30\x03\x02\x01\x05", &[], None);
+    let mut drain = MemDrain::new(&mut room, 8);
+    let run = drive(
+        &mut source,
+        &mut Indef::new(),
+        &mut drain,
+        &Framing::plain(),
+    );
+    assert!(rt; run.is_ok());
+    assert_eq!(rt; drain.written(), b"\x30\x80\x02\x01\x05\x00\x00".as_slice());
 }
