@@ -25,17 +25,18 @@ omega_length : (s t a : List ℕ) → t ≡ s ++ a → length t ≡ length s + l
 omega_length s t a e = ap length e ∙ length-append s a
 
 -- four pieces, each of which is put where there is room for it
-pub four_pieces : (s s1 s2 s3 s4 a b c d : List ℕ) → length a ≤ 40 → length c ≤ 40 → length s + 83 ≤ 1024
-    → (length s + 40 ≤ 1024 → s1 ≡ s ++ a) → (length s1 + length b ≤ 1024 → s2 ≡ s1 ++ b) → (length s2 + 40 ≤ 1024 → s3 ≡ s2 ++ c) → (length s3 + length d ≤ 1024 → s4 ≡ s3 ++ d)
-    → length b ≤ 1 → length d ≤ 2 → s4 ≡ s ++ (a ++ b ++ c ++ d)
-four_pieces s s1 s2 s3 s4 a b c d x y h e1 e2 e3 e4 p q =
-    let f1 = e1 (omega arith) in
+pub four_pieces : (s s1 s2 s3 s4 a b c d : List ℕ) → length s + length (a ++ b ++ c ++ d) ≤ 1024
+    → (length s + length a ≤ 1024 → s1 ≡ s ++ a) → (length s1 + length b ≤ 1024 → s2 ≡ s1 ++ b) → (length s2 + length c ≤ 1024 → s3 ≡ s2 ++ c) → (length s3 + length d ≤ 1024 → s4 ≡ s3 ++ d)
+    → s4 ≡ s ++ (a ++ b ++ c ++ d)
+four_pieces s s1 s2 s3 s4 a b c d h e1 e2 e3 e4 =
+    let n = length-four a b c d in
+    let f1 = e1 (omega (arith, n, h)) in
     let l1 = omega_length s s1 a f1 in
-    let f2 = e2 (omega arith) in
+    let f2 = e2 (omega (arith, n, h, l1)) in
     let l2 = omega_length s1 s2 b f2 in
-    let f3 = e3 (omega arith) in
+    let f3 = e3 (omega (arith, n, h, l1, l2)) in
     let l3 = omega_length s2 s3 c f3 in
-    let f4 = e4 (omega arith) in
+    let f4 = e4 (omega (arith, n, h, l1, l2, l3)) in
     f4 ∙ ap (λ (t : List ℕ). t ++ d) (f3 ∙ ap (λ (t : List ℕ). t ++ c) (f2 ∙ ap (λ (t : List ℕ). t ++ b) f1)) ∙ simp append_assoc
 
 -- a piece behind another, each put where there is room for it

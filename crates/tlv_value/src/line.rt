@@ -119,10 +119,8 @@ impl Line {
     }
 
     /// Adds the first columns of a line.
-    #[tactic(auto, using(crate::proofs::LineLengths::right_short))]
     fn columns(&mut self, offset: u64, word: &[u8])
-        requires { length word.now ≤ 40 }
-        ensures { length self.old + 83 ≤ 1024 → self.new ≡ self.old ++ columns offset word.now }
+        ensures { length self.old + length (columns offset word.now) ≤ 1024 → self.new ≡ self.old ++ columns offset word.now }
     {
         let mut digits = Buffer::new();
         self.right(digits.format(offset).as_bytes(), 8);
@@ -133,9 +131,8 @@ impl Line {
 
     /// Adds a text at the right of so many places; a longer one takes as many as it needs.
     fn right(&mut self, text: &[u8], places: usize)
-        requires places { places ≤ 40 }
-        requires short { length text.now ≤ 40 }
-        ensures { length self.old + 40 ≤ 1024 → self.new ≡ self.old ++ right_text places text.now }
+        requires { places ≤ 512 }
+        ensures { length self.old + length (right_text places text.now) ≤ 1024 → self.new ≡ self.old ++ right_text places text.now }
     {
         self.spaces(places.saturating_sub(text.len()));
         self.push(text);
