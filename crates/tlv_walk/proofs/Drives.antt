@@ -2,11 +2,10 @@
 use Rattle.std.proofs.Common.{◌≡◌, ◌≢◌, ◌⊎◌, inl, inr, ℕ, zero, suc, ◌+◌, ◌-◌, ◌^◌, ◌≤◌, ◌<◌, min, Bool, true, false, List, [], ◌∷◌, ◌++◌, length, take, flat_map, refl, sym, ap, ◌∙◌, subst, arith, append_assoc, append-nil, length-append}
 use Rattle.std.proofs.lemmas.Bool.{cases_Bool, true≢false}
 use Rattle.std.proofs.lemmas.List.{length-take}
-use Rattle.std.proofs.lemmas.List.Elements.{All-append, All-nil, All-push, All-take}
+use Rattle.std.proofs.lemmas.List.Elements.{All-append, All-nil, All-take}
 use Rattle.std.proofs.Math.Seq.{take-append-add}
-use Rattle.std.proofs.KnownBytes.{Consumes-nil, Consumes-trans}
-use Rattle.std.specs.Prelude.{All, Option, Result, Ok, Err, OnOk, ⊤}
-use Rattle.std.specs.Io.KnownBytes.{Consumes, IsAtEnd}
+use Rattle.std.specs.Prelude.{Option, Result, Ok, Err, OnOk, ⊤}
+use Rattle.std.specs.Io.KnownBytes.{IsAtEnd}
 use Rattle.tlv_walk.specs.declared.ending.Ending.{Ending}
 use Rattle.tlv_walk.specs.declared.ending.Ending.TheVariants as ending
 use Rattle.tlv_walk.specs.declared.follow.Go.{Go}
@@ -17,13 +16,13 @@ use Rattle.tlv_walk.specs.declared.run.DeviceFault.TheVariants.{ReadFailed, Writ
 use Rattle.tlv_walk.specs.declared.run.Run.{Run}
 use Rattle.tlv_walk.specs.declared.run.Turn.{Turn}
 use Rattle.tlv_walk.specs.declared.run.Turn.TheVariants.{Again, Ended}
-use Rattle.tlv_walk.specs.Device.{GaveLast, Last, Supply, Taken, counted, failed, failures_after, gave, never}
+use Rattle.tlv_walk.specs.Device.{GaveLast, Last, Supply, Taken, failed, failures_after, gave, never, put_together}
 use Rattle.tlv_walk.specs.Drives.{Drives, had_enough, octets_told, run_of, walk}
 use Rattle.tlv_walk.specs.Events.{AreEqualJoined, Told, Open, Begin, Bytes, End, Close, Enter, Unused, Leave, Pad, events}
 use Rattle.tlv_walk.specs.Follow.{Following, GoesOn, Joins, Rests, followed, followed_events}
 use Rattle.tlv_walk.specs.Follows.{Made}
 use Rattle.tlv_walk.specs.Forest.{Forest, spell}
-use Rattle.tlv_walk.specs.Job.{AreSound, ComesTo, EndsWith, IsFinalEnding, IsPiece, Runs, of_drain, of_source, put_together}
+use Rattle.tlv_walk.specs.Job.{AreSound, ComesTo, EndsWith, IsFinalEnding, Runs, of_drain, of_source}
 use Rattle.tlv_walk.specs.Laws.{AreOctets}
 use Rattle.tlv_walk.specs.Machine.{Machine, new_machine}
 use Rattle.tlv_walk.specs.Out.{Sends}
@@ -33,32 +32,12 @@ use Rattle.tlv_walk.specs.Turns.{Calls, EndsBy, EndsIn, Gave, GaveUpTo, StandsOn
 use Rattle.tlv_walk.specs.Wrappers.{enters, first_other, unused_of}
 use Rattle.tlv_walk.proofs.Followed.{events_enough, followed-alike, followed-enough, kept-alike}
 use Rattle.tlv_walk.proofs.Following.{made_both, made_none, made_put}
+use Rattle.tlv_walk.proofs.Pieces.{Gathered, gathered_more, gathered_none, pieces_all, together_more}
 use Rattle.tlv_walk.proofs.Puts.{sends_nothing, sends_ok, sends_then}
 use Rattle.tlv_walk.proofs.Readings.{is-reading, reading}
 use Rattle.tlv_walk.proofs.Turns.{stands_spelled, stands_told}
 
 -- ---- reads
-
--- a count after so many more
-abbrev counted_by : ℕ → ℕ → ℕ
-counted_by zero r = r
-counted_by (suc n) r = counted (counted_by n r)
-
-counted-all : (n r : ℕ) → counted (counted_by n r) ≡ min (r + (n + 1)) (2 ^ 64 - 1)
-counted-all zero r = refl
-counted-all (suc n) r = ap counted (counted-all n r) ∙ omega arith
-
--- pieces, and one more
-together_more : (pieces : List (List ℕ)) (r : List ℕ) → put_together (pieces ++ r ∷ []) ≡ put_together pieces ++ r
-together_more [] r = append-nil r
-together_more (p ∷ pieces) r = ap (λ (l : List ℕ). p ++ l) (together_more pieces r) ∙ sym (append_assoc p (put_together pieces) r)
-
-count_more : (pieces : List (List ℕ)) (r : List ℕ) → length (pieces ++ r ∷ []) ≡ suc (length pieces)
-count_more [] r = refl
-count_more (p ∷ pieces) r = ap suc (count_more pieces r)
-
-each_more : (pieces : List (List ℕ)) (r : List ℕ) → All IsPiece pieces → IsPiece r → All IsPiece (pieces ++ r ∷ [])
-each_more pieces r a p = All-push IsPiece pieces r a p
 
 -- what the last read gave
 gave_last : (last : Last) (piece : List ℕ) → GaveUpTo (length piece) last → GaveLast last (given last piece)
@@ -110,26 +89,20 @@ run_is run e n k u p q r s =
 module _ {S : Type 0} (next : S → Told → Following S) where
   -- the walk so far: the octets given, the events told of them, and what was made of these
   pub record Walking (framing : Framing) (w : Machine) (s t : S) (old new : Supply) (from to : Taken) : Type 0 where
-    pub pieces : List (List ℕ)
-    pub each : All IsPiece pieces
-    pub octets : AreOctets (put_together pieces)
-    pub consumed : Consumes old.left new.left (put_together pieces)
-    pub reads : new.reads ≡ counted_by (length pieces) old.reads
+    pub gathered : Gathered old new
+    pub octets : AreOctets (put_together gathered.pieces)
     pub failures : new.failures ≡ old.failures
     pub told : List Told
     pub made : Made next s t told go.On
     pub sends : Sends {T = ⊤} {E = DeviceFault} from to (followed next s told).put (Ok tt)
     pub same : w.framing ≡ framing
-    pub stands : Stands w (put_together pieces) told
+    pub stands : Stands w (put_together gathered.pieces) told
     pub quiet : waiting_of w ≡ []
 
   pub walking_none : (framing : Framing) (s : S) (old : Supply) (from : Taken) → Stands (new_machine framing) [] [] → Walking framing (new_machine framing) s s old old from from
   walking_none framing s old from st = record {
-    pieces = [];
-    each = All-nil IsPiece;
+    gathered = gathered_none old;
     octets = All-nil (λ x. x < 256);
-    consumed = Consumes-nil old.left;
-    reads = refl;
     failures = refl;
     told = [];
     made = made_none next s;
@@ -190,7 +163,7 @@ module _ {S : Type 0} (next : S → Told → Following S)
 
   module _ (framing : Framing) (limit : ℕ) (w : Machine) (s t : S) (old mid : Supply) (from at : Taken) (x : Walking next framing w s t old mid from at) where
     abbrev before : List ℕ
-    before = put_together x.pieces
+    before = put_together x.gathered.pieces
 
     first_reading : IsReading framing before x.stands.reading
     first_reading = subst (λ (g : Framing). IsReading g before x.stands.reading) x.same x.stands.is_reading
@@ -215,6 +188,9 @@ module _ {S : Type 0} (next : S → Told → Following S)
       abbrev r : List ℕ
       r = given new.last piece
 
+      few : length r ≤ 4096
+      few = given_short new.last piece 4096 (omega (arith, room))
+
       within : length before ≤ limit
       within = omega (arith, x.stands.has_state.offset, below)
 
@@ -230,12 +206,6 @@ module _ {S : Type 0} (next : S → Told → Following S)
       walked_octets : AreOctets walked
       walked_octets = subst AreOctets (sym walked_is) (All-take (λ x. x < 256) limit (before ++ r) all_octets)
 
-      all_consumed : Consumes old.left new.left (before ++ r)
-      all_consumed = Consumes-trans old.left mid.left new.left before r x.consumed calls.octets
-
-      all_reads : new.reads ≡ min (old.reads + (length x.pieces + 1)) (2 ^ 64 - 1)
-      all_reads = calls.reads ∙ ap counted x.reads ∙ counted-all (length x.pieces) old.reads
-
       -- what was sent before and in this turn
       sent : (more : List Told) (result : Result ⊤ DeviceFault) → Sends at to (followed next t more).put result → Sends from to (followed next s (x.told ++ more)).put result
       sent more result k =
@@ -248,17 +218,14 @@ module _ {S : Type 0} (next : S → Told → Following S)
       -- the walk goes on
       pub walking_on : result ≡ Ok Again → Turns next limit w v t u before x.told r at to (Ok Again) → Walking next framing v s u old new from to
       walking_on is y = record {
-        pieces = x.pieces ++ r ∷ [];
-        each = each_more x.pieces r x.each (some_octets r y.0, given_short new.last piece 4096 (omega (arith, room)));
-        octets = subst AreOctets (sym (together_more x.pieces r)) all_octets;
-        consumed = subst (Consumes old.left new.left) (sym (together_more x.pieces r)) all_consumed;
-        reads = calls.reads ∙ ap counted x.reads ∙ ap (λ (n : ℕ). counted_by n old.reads) (sym (count_more x.pieces r));
+        gathered = gathered_more old mid new x.gathered r calls.octets calls.reads (some_octets r y.0, few);
+        octets = subst AreOctets (sym (together_more x.gathered.pieces r)) all_octets;
         failures = calls.failed_reads ∙ ap (λ (k : Result Turn DeviceFault). failures_after (of_source k) mid.failures) is ∙ x.failures;
         told = x.told ++ y.2.more;
         made = made_both next s t u x.told y.2.more go.On x.made y.2.made;
         sends = sent y.2.more (Ok tt) y.2.put;
         same = y.2.framing ∙ x.same;
-        stands = subst (λ (o : List ℕ). Stands v o (x.told ++ y.2.more)) (sym (together_more x.pieces r)) y.2.stands;
+        stands = subst (λ (o : List ℕ). Stands v o (x.told ++ y.2.more)) (sym (together_more x.gathered.pieces r)) y.2.stands;
         quiet = y.2.quiet;
       }
 
@@ -268,13 +235,7 @@ module _ {S : Type 0} (next : S → Told → Following S)
           → of_source answer ≡ of_source result → Sends from to (followed next s es).put (of_drain answer) → ComesTo (walk next framing limit s) (before ++ r) f new answer
           → Runs (walk next framing limit s) old new from to answer
       runs_by answer f last read es goes k same sends comes = record {
-        pieces = x.pieces;
-        last = r;
-        each = x.each;
-        short = given_short new.last piece 4096 (omega (arith, room));
-        gave_last = last;
-        reads = all_reads;
-        consumed = all_consumed;
+        pieces = pieces_all old mid new x.gathered r calls.octets calls.reads last few;
         failures = calls.failed_reads ∙ ap (λ (k : Result ⊤ DeviceFault). failures_after k mid.failures) (sym same) ∙ ap (failures_after (of_source answer)) x.failures;
         sound = first_sound;
         within = within;
@@ -372,13 +333,7 @@ module _ {S : Type 0} (next : S → Told → Following S)
           let es : List Told = x.told ++ z.0 in
           let same : followed next s es ≡ followed next s (events f) = alike s es (events f) z.1 in record {
             runs = record {
-              pieces = x.pieces;
-              last = r;
-              each = x.each;
-              short = given_short new.last piece 4096 (omega (arith, room));
-              gave_last = gave_last new.last piece g;
-              reads = all_reads;
-              consumed = all_consumed;
+              pieces = pieces_all old mid new x.gathered r calls.octets calls.reads (gave_last new.last piece g) few;
               failures = calls.failed_reads ∙ ap (λ (k : Result Turn DeviceFault). failures_after (of_source k) mid.failures) is ∙ x.failures;
               sound = first_sound;
               within = within;

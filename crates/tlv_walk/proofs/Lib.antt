@@ -36,6 +36,7 @@ pub mod Followed
 pub mod Finals
 pub mod Unused
 pub mod ToldOctets
+pub mod Pieces
 pub mod Following
 pub mod Turns
 pub mod Drives

@@ -1,7 +1,7 @@
 -- What sources and drains tell of themselves, and what one call makes of that.
-use Rattle.std.specs.Prelude.{◌≡◌, ◌+◌, ◌-◌, ◌^◌, ◌<◌, ◌≤◌, ℕ, List, [], Option, Result, Ok, Err, min, IfOk, length}
+use Rattle.std.specs.Prelude.{◌≡◌, ◌+◌, ◌-◌, ◌^◌, ◌<◌, ◌≤◌, ℕ, List, [], ◌∷◌, ◌++◌, All, Option, Result, Ok, Err, min, IfOk, length}
 use Rattle.std.specs.Io.{ReadsAtMost}
-use Rattle.std.specs.Io.KnownBytes.{ReadConsumes, WriteAppends}
+use Rattle.std.specs.Io.KnownBytes.{Consumes, ReadConsumes, WriteAppends}
 
 -- what the last read gave: a number of octets, or a failure; nothing before the first read
 pub data Last : Type 0 where
@@ -71,3 +71,28 @@ abbrev pub GaveLast : Last → List ℕ → Type 0
 GaveLast never octets = ⊥
 GaveLast (gave n) octets = n ≡ length octets
 GaveLast failed octets = octets ≡ []
+
+-- what a read gives that is not the last: between one octet and 4096
+abbrev pub IsPiece : List ℕ → Type 0
+IsPiece octets = (0 < length octets) × (length octets ≤ 4096)
+
+abbrev pub put_together : List (List ℕ) → List ℕ
+put_together [] = []
+put_together (piece ∷ pieces) = piece ++ put_together pieces
+
+-- reads of a source, one or more: the octets that each gave, and the last
+pub record Pieces (old new : Supply) : Type 0 where
+  pub pieces : List (List ℕ)
+  pub last : List ℕ
+  pub each : All IsPiece pieces
+  pub short : length last ≤ 4096
+  pub gave_last : GaveLast new.last last
+  pub reads : new.reads ≡ min (old.reads + (length pieces + 1)) (2 ^ 64 - 1)
+  pub consumed : Consumes old.left new.left (put_together pieces ++ last)
+
+-- the octets that the reads gave before the last, and with it
+abbrev pub before_in : {old new : Supply} → Pieces old new → List ℕ
+before_in p = put_together p.pieces
+
+abbrev pub given_in : {old new : Supply} → Pieces old new → List ℕ
+given_in p = put_together p.pieces ++ p.last

@@ -1,12 +1,12 @@
 -- What a job over all that a source gives comes to.
-use Rattle.std.specs.Prelude.{◌≡◌, ◌⊎◌, ℕ, ◌+◌, ◌-◌, ◌^◌, ◌<◌, ◌≤◌, Bool, true, false, List, [], ◌∷◌, ◌++◌, length, take, min, All, Result, Ok, Err, ⊤}
-use Rattle.std.specs.Io.KnownBytes.{Consumes, IsAtEnd}
+use Rattle.std.specs.Prelude.{◌≡◌, ◌⊎◌, ℕ, ◌<◌, ◌≤◌, Bool, true, false, List, length, take, Result, Ok, Err, ⊤}
+use Rattle.std.specs.Io.KnownBytes.{IsAtEnd}
 use Rattle.tlv_walk.specs.declared.ending.Ending.{Ending}
 use Rattle.tlv_walk.specs.declared.ending.Ending.TheVariants as ending
 use Rattle.tlv_walk.specs.declared.framing.Framing.{Framing}
 use Rattle.tlv_walk.specs.declared.run.DeviceFault.{DeviceFault}
 use Rattle.tlv_walk.specs.declared.run.DeviceFault.TheVariants.{ReadFailed, WriteFailed, InputTooLong}
-use Rattle.tlv_walk.specs.Device.{GaveLast, Supply, Taken, gave, failed, failures_after}
+use Rattle.tlv_walk.specs.Device.{Pieces, Supply, Taken, before_in, gave, given_in, failed, failures_after}
 use Rattle.tlv_walk.specs.Ending.{IsEnding}
 use Rattle.tlv_walk.specs.Forest.{Forest, spell}
 use Rattle.tlv_walk.specs.Laws.{IsFinal}
@@ -39,14 +39,6 @@ module _ {A : Type 0} where
   of_drain (Err WriteFailed) = Err WriteFailed
   of_drain (Err InputTooLong) = Ok tt
 
--- what a read gives that is not the last: between one octet and 4096
-abbrev pub IsPiece : List ℕ → Type 0
-IsPiece octets = (0 < length octets) × (length octets ≤ 4096)
-
-abbrev pub put_together : List (List ℕ) → List ℕ
-put_together [] = []
-put_together (piece ∷ pieces) = piece ++ put_together pieces
-
 -- a fault that is the ending whatever follows
 abbrev pub IsFinalEnding : Ending → Type 0
 IsFinalEnding ending.Done = ⊥
@@ -76,20 +68,13 @@ module _ {A : Type 0} (job : Job A) where
 
   -- a source was read to its end, to a fault or to enough, and what that makes was sent to a drain
   pub record Runs (old new : Supply) (from to : Taken) (result : Result A DeviceFault) : Type 0 where
-    -- the octets that each read gave, and the last
-    pub pieces : List (List ℕ)
-    pub last : List ℕ
-    pub each : All IsPiece pieces
-    pub short : length last ≤ 4096
-    pub gave_last : GaveLast new.last last
-    pub reads : new.reads ≡ min (old.reads + (length pieces + 1)) (2 ^ 64 - 1)
-    pub consumed : Consumes old.left new.left (put_together pieces ++ last)
+    pub pieces : Pieces old new
     pub failures : new.failures ≡ failures_after (of_source result) old.failures
     -- before the last read there was no reason to stop
-    pub sound : AreSound (put_together pieces)
-    pub within : length (put_together pieces) ≤ job.limit
+    pub sound : AreSound (before_in pieces)
+    pub within : length (before_in pieces) ≤ job.limit
     -- no more octets are read as encodings than the limit
     pub reading : Forest
-    pub is_reading : IsReading job.framing (take job.limit (put_together pieces ++ last)) reading
+    pub is_reading : IsReading job.framing (take job.limit (given_in pieces)) reading
     pub sends : Sends from to (job.text reading) (of_drain result)
-    pub comes : ComesTo (put_together pieces ++ last) reading new result
+    pub comes : ComesTo (given_in pieces) reading new result

@@ -124,14 +124,14 @@ fn put_header<D: Drain>(
     out: &mut Out<'_, D>,
 ) -> Result<(), WriteFault>
     requires { length word.now ≤ 5 }
-    ensures puts { Puts D.told out.old out.new (header_line_of word.now header.now) result }
+    ensures { Puts D.told out.old out.new (header_line_of word.now header.now) result }
 {
     out.put(header_line(word, header).as_slice())
 }
 
 /// Puts each octet as a space and two digits.
 fn put_pairs<D: Drain>(octets: &[u8], out: &mut Out<'_, D>) -> Result<(), WriteFault>
-    ensures puts { Puts D.told out.old out.new (pairs octets.now) result }
+    ensures { Puts D.told out.old out.new (pairs octets.now) result }
 {
     for octet in octets {
         out.put(&pair(*octet))?;
@@ -141,7 +141,7 @@ fn put_pairs<D: Drain>(octets: &[u8], out: &mut Out<'_, D>) -> Result<(), WriteF
 
 /// Puts a line for each octet of padding.
 fn put_padding<D: Drain>(octets: &[u8], out: &mut Out<'_, D>) -> Result<(), WriteFault>
-    ensures puts { Puts D.told out.old out.new (pads octets.now) result }
+    ensures { Puts D.told out.old out.new (pads octets.now) result }
 {
     for _octet in octets {
         out.put(b"pad\n")?;
