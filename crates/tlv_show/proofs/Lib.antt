@@ -1,4 +1,3 @@
-pub mod Puts
 pub mod Dumped
 pub mod Always
 pub mod DumpTexts

@@ -123,6 +123,10 @@ module _ {D : Type 0} (told : D → Taken) where
     }
 
   module _ {T E : Type 0} where
+    -- the same octets
+    pub puts_text : (a b : Out D) (xs ys : List ℕ) (r : Result T E) → xs ≡ ys → Puts told a b xs r → Puts told a b ys r
+    puts_text a b xs ys r e p = subst (λ (l : List ℕ). Puts told a b l r) e p
+
     -- nothing is put
     pub puts_nothing : (a : Out D) (x : T) → Puts {T = T} {E = E} told a a [] (Ok x)
     puts_nothing a x = record {
