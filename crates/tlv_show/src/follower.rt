@@ -82,6 +82,7 @@ impl<'n> Dump<'n> {
     }
 
     /// An element begins: padding ends, and its contents stand behind its header.
+    #[inline(always)]
     fn enter(&mut self, header: &Header)
         ensures { self.new ≡ entered self.old header.now }
     {
@@ -90,6 +91,7 @@ impl<'n> Dump<'n> {
     }
 
     /// An element that holds others begins.
+    #[inline(always)]
     fn open<D: Drain>(
         &mut self,
         header: &Header,
@@ -127,6 +129,7 @@ impl<'n> Dump<'n> {
     }
 
     /// A primitive begins.
+    #[inline(always)]
     fn begin<D: Drain>(&mut self, header: &Header, out: &mut Out<'_, D>) -> Result<(), WriteFault>
         ensures same_reference { (lender_of out.new).ghost_name ≡ (lender_of out.old).ghost_name }
         ensures state { OnOk result (self.new ≡ (dumped_begin self.old header.now).state) }
@@ -191,6 +194,7 @@ ghost use Rattle.tlv_value.specs.State.{begun, start};
 ghost use Rattle.tlv_show.specs.Dumped.{if_open, value_after, value_ended, value_told};
 
 /// A primitive begins, in place of the last one.
+#[inline(always)]
 fn restart(value: &mut Option<ValueText>, header: &Header, layout: Layout)
     ensures { value.new ≡ Some (start header.now layout) }
 {
@@ -201,6 +205,7 @@ fn restart(value: &mut Option<ValueText>, header: &Header, layout: Layout)
 }
 
 /// Puts what the header tells of a primitive that begins.
+#[inline(always)]
 fn put_begin<D: Drain>(
     value: &mut Option<ValueText>,
     header: &Header,
@@ -280,6 +285,7 @@ impl Follow for Dump<'_> {
 
     ghost pad_go_on = { each_octet-goes_on one_padded };
 
+    #[inline(always)]
     fn on<D: Drain>(&mut self, event: &Event<'_>, out: &mut Out<'_, D>) -> Result<Go, WriteFault> {
         match event {
             Event::Open(header) => self.open(header, b" {", out)?,
