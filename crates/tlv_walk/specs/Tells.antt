@@ -1,13 +1,10 @@
--- What a walker's moves and steps tell.
-use Rattle.std.specs.Prelude.{◌≡◌, ◌⊎◌, ℕ, List, [], ◌∷◌, ◌++◌, length}
+-- What a walker's steps tell.
+use Rattle.std.specs.Prelude.{◌≡◌, ◌⊎◌, ℕ, List, [], ◌∷◌, ◌++◌, length, Option, Some, None}
 use Rattle.tlv_head.specs.declared.fault.Fault.{Fault}
-use Rattle.tlv_head.specs.Fields.{heading_with}
 use Rattle.tlv_walk.specs.declared.ending.Ending.TheVariants as ending
 use Rattle.tlv_walk.specs.declared.framing.Framing.{Framing}
 use Rattle.tlv_walk.specs.declared.event.Event.{Event}
 use Rattle.tlv_walk.specs.declared.event.Event.TheVariants as event
-use Rattle.tlv_walk.specs.declared.event.Move.{Move}
-use Rattle.tlv_walk.specs.declared.event.Move.TheVariants as move
 use Rattle.tlv_walk.specs.declared.event.Step.{Step}
 use Rattle.tlv_walk.specs.declared.event.Step.TheVariants as step
 use Rattle.tlv_walk.specs.declared.walker.Phase.TheVariants.{Failed}
@@ -52,20 +49,10 @@ RefusesOctet old before after f = (taken : List ℕ) × (x : ℕ) × (rest : Lis
 abbrev pub TellsFault : Machine → Machine → List ℕ → List ℕ → Fault → Type 0
 TellsFault old new before after f = RefusesOctet old before after f ⊎ ((old.phase ≡ Failed f) × (new ≡ old) × (after ≡ before))
 
--- what a move tells
-abbrev pub TellsMove : Machine → Machine → List ℕ → List ℕ → Move → Type 0
-TellsMove old new before after (move.Open f octets) = TellsEvent old new before after (Open (heading_with f octets.now))
-TellsMove old new before after (move.Begin f octets) = TellsEvent old new before after (Begin (heading_with f octets.now))
-TellsMove old new before after (move.Enter f octets) = TellsEvent old new before after (Enter (heading_with f octets.now))
-TellsMove old new before after (move.Bytes octets) = TellsEvent old new before after (Bytes octets.now)
-TellsMove old new before after move.End = TellsEvent old new before after End
-TellsMove old new before after (move.Close at) = TellsEvent old new before after (Close at)
-TellsMove old new before after move.Unused = TellsEvent old new before after Unused
-TellsMove old new before after move.Leave = TellsEvent old new before after Leave
-TellsMove old new before after (move.Pad octets) = TellsEvent old new before after (Pad octets.now)
-TellsMove old new before after move.Slow = (new ≡ old) × (after ≡ before)
-TellsMove old new before after move.NeedMore = Continues old new before []
-TellsMove old new before after (move.Fault f) = TellsFault old new before after f
+-- what an event that came at once tells
+abbrev pub TellsAtOnce : Machine → Machine → List ℕ → List ℕ → Option Event → Type 0
+TellsAtOnce old new before after (Some e) = TellsEvent old new before after (told_of e)
+TellsAtOnce old new before after None = Unit {0}
 
 -- what a step tells
 abbrev pub TellsStep : Machine → Machine → List ℕ → List ℕ → Step → Type 0

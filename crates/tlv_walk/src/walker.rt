@@ -2,12 +2,14 @@
 //! others.
 ghost use Rattle.std.specs.Prelude.{◌≡◌, ◌≢◌, ℕ, ◌+◌, ◌^◌, ◌<◌, ◌≤◌, ◌↔◌, All, IsTrue, Some, length, slice_get, take};
 
-use crate::event::{Kind, Move};
+use crate::event::Kind;
 use crate::stack::{Frame, Stack, room_to};
 use crate::{Ending, Event, Framing, Step};
 use std::marker::Model;
 use std::mem::replace;
-use tlv_head::{Fault, FaultCode, Head, HeadReader, Header, HeaderFields, Size, read_header};
+use tlv_head::{
+    Fault, FaultCode, Head, HeadReader, Header, HeaderFields, Size, read_header, read_short,
+};
 
 /// What the next octet belongs to.
 #[derive(Drop)]
@@ -59,7 +61,7 @@ impl Walker {
     ghost use Rattle.tlv_head.specs.Fields.{Suits, heading_with};
     ghost use Rattle.tlv_head.specs.Header.{announced, holds, octets_of};
     ghost use Rattle.tlv_walk.specs.declared.walker.Phase.TheVariants as phases;
-    ghost use Rattle.tlv_walk.specs.Machine.{CanBegin, CanEnter, CanRead, CanReadOn, Enters, HasOctets, IsWaiting, Moves, MovesOn, Steps, Tells, fault_at, new_machine, next_wrapper, unused_in};
+    ghost use Rattle.tlv_walk.specs.Machine.{CanBegin, CanEnter, CanRead, CanReadOn, Enters, HasOctets, IsWaiting, Steps, StepsAtOnce, Tells, TellsOne, fault_at, new_machine, next_wrapper, unused_in};
     ghost use Rattle.tlv_head.specs.declared.fault.Fault.{Fault as FaultOf};
     ghost use Rattle.tlv_walk.specs.Ending.{IsEnding};
     ghost use Rattle.tlv_walk.specs.Events.{Told};
@@ -67,7 +69,9 @@ impl Walker {
     ghost use Rattle.tlv_walk.specs.State.{Stands};
     ghost use Rattle.tlv_walk.specs.Wrappers.{unused_of};
     ghost use Rattle.tlv_walk.specs.ReadsOn.{TellsFrom, TellsHeader};
-    ghost use Rattle.tlv_walk.specs.Tells.{StandsStep, TellsMove, TellsStep, told_of};
+    ghost use Rattle.tlv_walk.specs.Tells.{Continues, StandsStep, TellsAtOnce, TellsEvent, TellsStep, told_of};
+    ghost use Rattle.tlv_head.specs.Read.{BeginsWithFields};
+    ghost use Rattle.tlv_walk.specs.Inside.{is_among};
     ghost use Rattle.tlv_walk.specs.Stack.{IsFilled, Within, bound_of, room_of};
 
     /// A walker that has taken nothing.
@@ -174,49 +178,37 @@ impl Walker {
     ///
     /// `NeedMore` comes only with an empty piece and no event waiting. After a fault each step answers
     /// the same fault and takes nothing.
+    #[inline(never)]
     pub fn step<'a>(&mut self, piece: &mut &'a [u8]) -> Step<'a>
         requires { self.old.offset + length piece.old.now ≤ 2 ^ 40 }
         ensures steps { Steps self.old self.new piece.old.now piece.new.now result }
         ensures stands { StandsStep self.old self.new piece.old.now piece.new.now result }
         ensures again { (f : FaultOf) → self.old.phase ≡ phases.Failed f → (result ≡ Step.Fault f) × (self.new ≡ self.old) × (piece.new.now ≡ piece.old.now) }
     {
-        Step::Event(match self.advance(piece) {
-            Move::Open(fields, octets) => Event::Open(Header::new(&fields, octets)),
-            Move::Begin(fields, octets) => Event::Begin(Header::new(&fields, octets)),
-            Move::Enter(fields, octets) => Event::Enter(Header::new(&fields, octets)),
-            Move::Bytes(octets) => Event::Bytes(octets),
-            Move::End => Event::End,
-            Move::Close(offset) => Event::Close(offset),
-            Move::Unused => Event::Unused,
-            Move::Leave => Event::Leave,
-            Move::Pad(octets) => Event::Pad(octets),
-            Move::Slow => return self.slow_header(piece),
-            Move::NeedMore => return Step::NeedMore,
-            Move::Fault(fault) => return Step::Fault(fault),
-        })
+        self.take(piece)
     }
 
-    /// [`Walker::step`], but for headers that are to be read octet by octet.
-    #[inline]
-    pub(crate) fn advance<'a>(&mut self, piece: &mut &'a [u8]) -> Move<'a>
+    /// What the next octets are, by what they belong to.
+    fn take<'a>(&mut self, piece: &mut &'a [u8]) -> Step<'a>
         requires { self.old.offset + length piece.old.now ≤ 2 ^ 40 }
-        ensures moves { Moves self.old self.new piece.old.now piece.new.now result }
-        ensures tells { TellsMove self.old self.new piece.old.now piece.new.now result }
-        ensures again { (f : FaultOf) → self.old.phase ≡ phases.Failed f → (result ≡ Move.Fault f) × (self.new ≡ self.old) × (piece.new.now ≡ piece.old.now) }
+        ensures steps { Steps self.old self.new piece.old.now piece.new.now result }
+        ensures tells { TellsStep self.old self.new piece.old.now piece.new.now result }
+        ensures again { (f : FaultOf) → self.old.phase ≡ phases.Failed f → (result ≡ Step.Fault f) × (self.new ≡ self.old) × (piece.new.now ≡ piece.old.now) }
     {
         if let Phase::Contents(left) = self.phase {
-            return if left == 0 {
-                self.end_primitive()
-            } else {
-                self.contents(left, piece)
-            };
+            if left == 0 {
+                return Step::Event(self.end_primitive());
+            }
+            if piece.is_empty() {
+                return Step::NeedMore;
+            }
+            return Step::Event(self.contents(left, piece));
         }
         if matches!(self.phase, Phase::Between) {
-            return if self.stack.is_filled(self.offset) {
-                self.end_filled()
-            } else {
-                self.between(piece)
-            };
+            if self.stack.is_filled(self.offset) {
+                return Step::Event(self.end_filled());
+            }
+            return self.between(piece);
         }
         if matches!(self.phase, Phase::Unused) {
             return self.unused_octet(piece);
@@ -225,85 +217,139 @@ impl Walker {
             return self.second_zero(piece);
         }
         if let Phase::Failed(fault) = &self.phase {
-            return Move::Fault(*fault);
+            return Step::Fault(*fault);
         }
         if piece.is_empty() {
-            return Move::NeedMore;
+            return Step::NeedMore;
         }
-        Move::Slow
+        self.slow_header(piece)
+    }
+
+    /// The next event, where few instructions find it: an end that waits, contents, end-of-contents octets, or a header of
+    /// few octets that may stand here. Otherwise nothing is taken, and [`Walker::step`] says what comes next.
+    #[inline(always)]
+    pub(crate) fn quick_event<'a>(&mut self, piece: &mut &'a [u8]) -> Option<Event<'a>>
+        requires { self.old.offset + length piece.old.now ≤ 2 ^ 40 }
+        ensures steps { StepsAtOnce self.old self.new piece.old.now piece.new.now result }
+        ensures tells { TellsAtOnce self.old self.new piece.old.now piece.new.now result }
+    {
+        if let Phase::Contents(left) = self.phase {
+            if left == 0 {
+                return Some(self.end_primitive());
+            }
+            if piece.is_empty() {
+                return None;
+            }
+            return Some(self.contents(left, piece));
+        }
+        if !matches!(self.phase, Phase::Between) {
+            return None;
+        }
+        if self.stack.is_filled(self.offset) {
+            return Some(self.end_filled());
+        }
+        if let Some(event) = self.end_octets(piece) {
+            return Some(event);
+        }
+        self.short_header(piece)
     }
 
     /// The end of a primitive whose contents have all come.
-    #[inline]
-    fn end_primitive<'a>(&mut self) -> Move<'a>
+    #[inline(always)]
+    fn end_primitive<'a>(&mut self) -> Event<'a>
         requires { self.old.phase ≡ phases.Contents 0 }
-        ensures moves { MovesOn self.old self.new self.old.offset result }
-        ensures tells { TellsMove self.old self.new [] [] result }
+        ensures tells { Tells self.old self.new self.old.offset }
+        ensures event { Continues self.old self.new [] (told_of result ∷ []) }
+        ensures octets { HasOctets result }
     {
         self.events += 1;
         self.phase = Phase::Between;
-        Move::End
+        Event::End
     }
 
     /// The end of the innermost element, which is definite and whose contents have all come.
-    #[inline]
-    fn end_filled<'a>(&mut self) -> Move<'a>
+    #[inline(always)]
+    fn end_filled<'a>(&mut self) -> Event<'a>
         requires phase { self.old.phase ≡ phases.Between }
         requires filled { IsFilled self.old.stack self.old.offset }
-        ensures moves { MovesOn self.old self.new self.old.offset result }
-        ensures tells { TellsMove self.old self.new [] [] result }
+        ensures tells { Tells self.old self.new self.old.offset }
+        ensures event { Continues self.old self.new [] (told_of result ∷ []) }
+        ensures octets { HasOctets result }
     {
         self.events += 1;
         let Some(frame) = self.stack.pop() else {
             unreachable!();
         };
         if frame.wrapper {
-            return Move::Leave;
+            return Event::Leave;
         }
-        Move::Close(None)
+        Event::Close(None)
     }
 
     /// Takes contents of a primitive.
-    #[inline]
-    fn contents<'a>(&mut self, left: u64, piece: &mut &'a [u8]) -> Move<'a>
+    #[inline(always)]
+    fn contents<'a>(&mut self, left: u64, piece: &mut &'a [u8]) -> Event<'a>
         requires phase { self.old.phase ≡ phases.Contents left }
-        requires some { 0 < left }
+        requires some { (0 < left) × (piece.old.now ≢ []) }
         requires limit { self.old.offset + length piece.old.now ≤ 2 ^ 40 }
-        ensures moves { Moves self.old self.new piece.old.now piece.new.now result }
-        ensures tells { TellsMove self.old self.new piece.old.now piece.new.now result }
+        ensures one { TellsOne self.old self.new piece.old.now piece.new.now }
+        ensures event { TellsEvent self.old self.new piece.old.now piece.new.now (told_of result) }
+        ensures octets { HasOctets result }
     {
         let octets: &'a [u8] = *piece;
-        if octets.is_empty() {
-            return Move::NeedMore;
-        }
         let count = left.min(octets.len() as u64);
         let (front, rest) = octets.split_at(count as usize);
         *piece = rest;
         self.offset += count;
         self.phase = Phase::Contents(left - count);
         self.events += 1;
-        Move::Bytes(front)
+        Event::Bytes(front)
+    }
+
+    /// Takes end-of-contents octets that lie whole in the piece, where they may stand here.
+    #[inline(always)]
+    fn end_octets<'a>(&mut self, piece: &mut &'a [u8]) -> Option<Event<'a>>
+        requires phase { self.old.phase ≡ phases.Between }
+        requires limit { self.old.offset + length piece.old.now ≤ 2 ^ 40 }
+        ensures steps { StepsAtOnce self.old self.new piece.old.now piece.new.now result }
+        ensures tells { TellsAtOnce self.old self.new piece.old.now piece.new.now result }
+    {
+        let octets: &'a [u8] = *piece;
+        let [first, second, rest @ ..] = octets else {
+            return None;
+        };
+        if *first != 0 || *second != 0 {
+            return None;
+        }
+        if !self.stack.is_in_indefinite() || !self.stack.reaches(self.offset + 2) {
+            return None;
+        }
+        *piece = rest;
+        let offset = self.offset;
+        self.stack.pop();
+        self.offset += 2;
+        self.events += 1;
+        Some(Event::Close(Some(offset)))
     }
 
     /// Takes what stands between two elements, or begins one.
-    #[inline]
-    fn between<'a>(&mut self, piece: &mut &'a [u8]) -> Move<'a>
+    fn between<'a>(&mut self, piece: &mut &'a [u8]) -> Step<'a>
         requires phase { self.old.phase ≡ phases.Between }
         requires room { IsFilled self.old.stack self.old.offset → ⊥ }
         requires limit { self.old.offset + length piece.old.now ≤ 2 ^ 40 }
-        ensures moves { Moves self.old self.new piece.old.now piece.new.now result }
-        ensures tells { TellsMove self.old self.new piece.old.now piece.new.now result }
+        ensures steps { Steps self.old self.new piece.old.now piece.new.now result }
+        ensures tells { TellsStep self.old self.new piece.old.now piece.new.now result }
     {
         let octets: &'a [u8] = *piece;
         let [octet, rest @ ..] = octets else {
-            return Move::NeedMore;
+            return Step::NeedMore;
         };
         let indefinite = self.stack.is_in_indefinite();
         if indefinite && self.stack.room(self.offset) == Some(0) {
             return self.fail(FaultCode::MissingEnd);
         }
         if *octet != 0 {
-            return self.fast_header(piece);
+            return self.header(piece);
         }
         if indefinite {
             *piece = rest;
@@ -312,20 +358,21 @@ impl Walker {
             return self.second_zero(piece);
         }
         if self.framing.padding && self.stack.is_empty() {
-            return self.padding(piece);
+            return Step::Event(self.padding(piece));
         }
         self.fail(FaultCode::StrayEnd)
     }
 
     /// Takes the octets `00` at the front of the piece.
-    fn padding<'a>(&mut self, piece: &mut &'a [u8]) -> Move<'a>
+    fn padding<'a>(&mut self, piece: &mut &'a [u8]) -> Event<'a>
         requires phase { self.old.phase ≡ phases.Between }
         requires zero { slice_get piece.old.now 0 ≡ Some 0 }
         requires limit { self.old.offset + length piece.old.now ≤ 2 ^ 40 }
         requires top { self.old.stack ≡ [] }
         requires padding { self.old.framing.padding ≡ true }
-        ensures moves { Moves self.old self.new piece.old.now piece.new.now result }
-        ensures tells { TellsMove self.old self.new piece.old.now piece.new.now result }
+        ensures one { TellsOne self.old self.new piece.old.now piece.new.now }
+        ensures event { TellsEvent self.old self.new piece.old.now piece.new.now (told_of result) }
+        ensures octets { HasOctets result }
     {
         let octets: &'a [u8] = *piece;
         let count = zeros(octets);
@@ -333,19 +380,19 @@ impl Walker {
         *piece = rest;
         self.offset += count as u64;
         self.events += 1;
-        Move::Pad(front)
+        Event::Pad(front)
     }
 
     /// Takes the first contents octet of a wrapping BIT STRING.
-    fn unused_octet<'a>(&mut self, piece: &mut &'a [u8]) -> Move<'a>
+    fn unused_octet<'a>(&mut self, piece: &mut &'a [u8]) -> Step<'a>
         requires phase { self.old.phase ≡ phases.Unused }
         requires limit { self.old.offset + length piece.old.now ≤ 2 ^ 40 }
-        ensures moves { Moves self.old self.new piece.old.now piece.new.now result }
-        ensures tells { TellsMove self.old self.new piece.old.now piece.new.now result }
+        ensures steps { Steps self.old self.new piece.old.now piece.new.now result }
+        ensures tells { TellsStep self.old self.new piece.old.now piece.new.now result }
     {
         let octets: &'a [u8] = *piece;
         let [octet, rest @ ..] = octets else {
-            return Move::NeedMore;
+            return Step::NeedMore;
         };
         if *octet != 0 {
             return self.fail(FaultCode::BadInside);
@@ -354,20 +401,19 @@ impl Walker {
         self.offset += 1;
         self.events += 1;
         self.phase = Phase::Between;
-        Move::Unused
+        Step::Event(Event::Unused)
     }
 
     /// Takes the second of the end-of-contents octets.
-    #[inline]
-    fn second_zero<'a>(&mut self, piece: &mut &'a [u8]) -> Move<'a>
+    fn second_zero<'a>(&mut self, piece: &mut &'a [u8]) -> Step<'a>
         requires phase { self.old.phase ≡ phases.Zero }
         requires limit { self.old.offset + length piece.old.now ≤ 2 ^ 40 }
-        ensures moves { Moves self.old self.new piece.old.now piece.new.now result }
-        ensures tells { TellsMove self.old self.new piece.old.now piece.new.now result }
+        ensures steps { Steps self.old self.new piece.old.now piece.new.now result }
+        ensures tells { TellsStep self.old self.new piece.old.now piece.new.now result }
     {
         let octets: &'a [u8] = *piece;
         let [octet, rest @ ..] = octets else {
-            return Move::NeedMore;
+            return Step::NeedMore;
         };
         if self.stack.room(self.offset) == Some(0) {
             return self.fail(FaultCode::MissingEnd);
@@ -381,37 +427,68 @@ impl Walker {
         self.phase = Phase::Between;
         self.offset += 1;
         self.events += 1;
-        Move::Close(Some(offset))
+        Step::Event(Event::Close(Some(offset)))
     }
 
-    /// Takes a header that lies whole in the piece, if it may stand here.
-    #[inline]
-    fn fast_header<'a>(&mut self, piece: &mut &'a [u8]) -> Move<'a>
+    /// Takes a header of few octets that lies whole in the piece, if it may stand here.
+    #[inline(always)]
+    fn short_header<'a>(&mut self, piece: &mut &'a [u8]) -> Option<Event<'a>>
+        requires phase { self.old.phase ≡ phases.Between }
+        requires limit { self.old.offset + length piece.old.now ≤ 2 ^ 40 }
+        ensures steps { StepsAtOnce self.old self.new piece.old.now piece.new.now result }
+        ensures tells { TellsAtOnce self.old self.new piece.old.now piece.new.now result }
+    {
+        let named = self.framing.inside.contains(self.offset);
+        let (fields, count) = read_short(self.offset, named, *piece)?;
+        self.take_header(&fields, count, piece)
+    }
+
+    /// Begins a header: takes it at once, where it lies whole in the piece and may stand here, and else octet by octet.
+    fn header<'a>(&mut self, piece: &mut &'a [u8]) -> Step<'a>
         requires begins { CanBegin self.old piece.old.now }
         requires limit { self.old.offset + length piece.old.now ≤ 2 ^ 40 }
-        ensures moves { Moves self.old self.new piece.old.now piece.new.now result }
-        ensures tells { TellsMove self.old self.new piece.old.now piece.new.now result }
+        ensures steps { Steps self.old self.new piece.old.now piece.new.now result }
+        ensures tells { TellsStep self.old self.new piece.old.now piece.new.now result }
+    {
+        let named = self.framing.inside.contains(self.offset);
+        if let Some((fields, count)) = read_header(self.offset, named, *piece)
+            && let Some(event) = self.take_header(&fields, count, piece)
+        {
+            return Step::Event(event);
+        }
+        self.slow_header(piece)
+    }
+
+    /// Takes the header with which the piece begins, if it may stand here.
+    #[inline(always)]
+    fn take_header<'a>(
+        &mut self,
+        fields: &HeaderFields,
+        count: usize,
+        piece: &mut &'a [u8],
+    ) -> Option<Event<'a>>
+        requires phase { self.old.phase ≡ phases.Between }
+        requires fewer { self.old.events + length self.old.stack ≤ self.old.offset }
+        requires begins { BeginsWithFields piece.old.now self.old.offset (is_among self.old.offset self.old.framing.inside) fields.now count }
+        requires limit { self.old.offset + length piece.old.now ≤ 2 ^ 40 }
+        ensures steps { StepsAtOnce self.old self.new piece.old.now piece.new.now result }
+        ensures tells { TellsAtOnce self.old self.new piece.old.now piece.new.now result }
     {
         let octets: &'a [u8] = *piece;
-        let named = self.framing.inside.contains(self.offset);
-        let Some((fields, count)) = read_header(self.offset, named, octets) else {
-            return Move::Slow;
-        };
         let (front, rest) = octets.split_at(count);
-        if !self.may_stand(&fields, front) {
-            return Move::Slow;
+        if !self.may_stand(fields, front) {
+            return None;
         }
         *piece = rest;
-        match self.enter(&fields, front) {
-            Kind::Constructed => Move::Open(fields, front),
-            Kind::Wrapper => Move::Enter(fields, front),
-            Kind::Primitive => Move::Begin(fields, front),
+        match self.enter(fields, front) {
+            Kind::Constructed => Some(Event::Open(Header::new(fields, front))),
+            Kind::Wrapper => Some(Event::Enter(Header::new(fields, front))),
+            Kind::Primitive => Some(Event::Begin(Header::new(fields, front))),
         }
     }
 
     /// Begins a header or goes on with one, octet by octet.
-    #[cold]
-    pub(crate) fn slow_header<'a>(&mut self, piece: &mut &'a [u8]) -> Step<'a>
+    fn slow_header<'a>(&mut self, piece: &mut &'a [u8]) -> Step<'a>
         requires begins { CanRead self.old piece.old.now }
         requires limit { self.old.offset + length piece.old.now ≤ 2 ^ 40 }
         ensures steps { Steps self.old self.new piece.old.now piece.new.now result }
@@ -479,7 +556,7 @@ impl Walker {
     }
 
     /// Stands behind a header, whose octets have left the piece.
-    #[inline]
+    #[inline(always)]
     fn enter(&mut self, fields: &HeaderFields, octets: &[u8]) -> Kind
         requires phase { self.old.phase ≡ phases.Between }
         requires suits { Suits fields.now octets.now }
@@ -530,7 +607,7 @@ impl Walker {
 
     /// Whether an element with this header may stand here: it is not too deep, and its contents end
     /// within the bound.
-    #[inline]
+    #[inline(always)]
     fn may_stand(&self, fields: &HeaderFields, octets: &[u8]) -> bool
         requires place { fields.now.offset ≡ self.now.offset }
         requires limit { fields.now.offset + length octets.now ≤ 2 ^ 40 }
@@ -545,22 +622,20 @@ impl Walker {
             Size::Definite(length) => length,
             Size::Indefinite => 0,
         };
-        match self.stack.bound() {
-            Some(bound) => self.offset + octets.len() as u64 + length <= bound,
-            None => true,
-        }
+        self.stack
+            .reaches(self.offset + octets.len() as u64 + length)
     }
 
     /// Refuses the next octet.
-    fn fail<'a>(&mut self, code: FaultCode) -> Move<'a>
-        ensures { (result ≡ Move.Fault (fault_at code self.old.offset)) × (self.new ≡ record self.old { phase = phases.Failed (fault_at code self.old.offset) }) }
+    fn fail<'a>(&mut self, code: FaultCode) -> Step<'a>
+        ensures { (result ≡ Step.Fault (fault_at code self.old.offset)) × (self.new ≡ record self.old { phase = phases.Failed (fault_at code self.old.offset) }) }
     {
         let fault = Fault {
             code,
             offset: self.offset,
         };
         self.phase = Phase::Failed(fault);
-        Move::Fault(fault)
+        Step::Fault(fault)
     }
 }
 
