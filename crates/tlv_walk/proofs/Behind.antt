@@ -14,7 +14,7 @@ use Rattle.tlv_walk.specs.State.{HasState}
 use Rattle.tlv_walk.specs.Tells.{Continues, RefusesOctet, TellsEvent, TellsFault, TellsStep, told_of}
 use Rattle.tlv_walk.proofs.Moves.{continues_both}
 
-module _ (old mid new : Machine) (x : ℕ) (first : Continues old mid (x ∷ []) []) (same : mid.framing ≡ old.framing) where
+module _ (old mid new : Machine) (x : ℕ) (first : Continues old mid (x ∷ []) []) (same : mid.framing ≡ old.framing) (kept : mid.stack ≡ old.stack) where
   event_behind : (rest after : List ℕ) (e : Told) → TellsEvent mid new rest after e → TellsEvent old new (x ∷ rest) after e
   event_behind rest after e t = (x ∷ t.0, ap (λ (o : List ℕ). x ∷ o) t.1, continues_both old mid new (x ∷ []) t.0 [] (e ∷ []) first t.2)
 
@@ -37,6 +37,7 @@ module _ (old mid new : Machine) (x : ℕ) (first : Continues old mid (x ∷ [])
           λ c. subst (λ (w : Framing). IsEnding w ((b ++ x ∷ r.0) ++ r.1 ∷ c) (ending.Fault f)) same
               (subst (λ (o : List ℕ). IsEnding mid.framing (o ++ r.1 ∷ c) (ending.Fault f)) spelled (two.5 c)),
           two.6 ∙ same,
+          two.7 ∙ kept,
         ),
   )
 

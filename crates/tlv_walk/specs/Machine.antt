@@ -130,11 +130,11 @@ TellsOne old new before after =
 abbrev pub TakesAll : Machine → Machine → List ℕ → List ℕ → Type 0
 TakesAll old new before after = (new.offset ≡ old.offset + length before) × (after ≡ []) × (new.events ≡ old.events) × IsReady new
 
--- an octet was refused
+-- an octet was refused, and no element ended
 abbrev pub Refuses : Machine → Machine → List ℕ → List ℕ → FaultOf → Type 0
 Refuses old new before after fault =
     (new.offset + length after ≡ old.offset + length before) × (new.events ≡ old.events) × (new.phase ≡ Failed fault)
-    × (new.framing ≡ old.framing) × (new.wrappers ≡ old.wrappers)
+    × (new.framing ≡ old.framing) × (new.wrappers ≡ old.wrappers) × (new.stack ≡ old.stack)
 
 -- parts of contents and of padding are not empty
 abbrev pub HasOctets : Event → Type 0

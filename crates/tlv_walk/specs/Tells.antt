@@ -10,11 +10,12 @@ use Rattle.tlv_walk.specs.declared.event.Step.TheVariants as step
 use Rattle.tlv_walk.specs.declared.walker.Phase.TheVariants.{Failed}
 use Rattle.tlv_walk.specs.Ending.{IsEnding}
 use Rattle.tlv_walk.specs.Events.{AreEqualJoined, Told, events, Open, Begin, Bytes, End, Close, Enter, Unused, Leave, Pad}
-use Rattle.tlv_walk.specs.Machine.{IsWaiting, Machine, found_in}
+use Rattle.tlv_walk.specs.Machine.{IsWaiting, Machine, found_in, unused_in}
+use Rattle.tlv_walk.specs.OpenCount.{open_count}
 use Rattle.tlv_walk.specs.State.{HasState, Stands, State, waiting_of}
 use Rattle.tlv_walk.specs.Forest.{Forest, spell}
 use Rattle.tlv_walk.specs.Reading.{IsReading}
-use Rattle.tlv_walk.specs.Wrappers.{enters}
+use Rattle.tlv_walk.specs.Wrappers.{enters, unused_of}
 
 -- from whatever state the walker had, it came to one with these octets and events more
 pub record Continues (old new : Machine) (taken : List ℕ) (more : List Told) : Type 0 where
@@ -43,7 +44,7 @@ abbrev pub RefusesOctet : Machine → List ℕ → List ℕ → Fault → Type 0
 RefusesOctet old before after f = (taken : List ℕ) × (x : ℕ) × (rest : List ℕ) × (before ≡ taken ++ x ∷ rest) × (after ≡ x ∷ rest)
     × ((b : List ℕ) (told : List Told) (s : State) → HasState old b told s
     → (m : Machine) × (t : State) × HasState m (b ++ taken) told t × (IsWaiting m → ⊥) × (f.offset ≡ m.offset)
-    × ((c : List ℕ) → IsEnding old.framing ((b ++ taken) ++ x ∷ c) (ending.Fault f)) × (m.framing ≡ old.framing))
+    × ((c : List ℕ) → IsEnding old.framing ((b ++ taken) ++ x ∷ c) (ending.Fault f)) × (m.framing ≡ old.framing) × (m.stack ≡ old.stack))
 
 -- an octet is refused, or was refused before
 abbrev pub TellsFault : Machine → Machine → List ℕ → List ℕ → Fault → Type 0
@@ -75,14 +76,23 @@ pub record IsRefusedBehind (framing : Framing) (p : List ℕ) (octet : ℕ) (tol
   pub stays : (c : List ℕ) → IsReading framing (p ++ octet ∷ c) reading
   pub ends : (c : List ℕ) → IsEnding framing (p ++ octet ∷ c) (ending.Fault f)
 
+-- what a walker stands for that refused an octet: the octets before it, and the events told, which are all of their reading
+pub record StandsRefused (w : Machine) (b : List ℕ) (octet : ℕ) (told : List Told) (f : Fault) : Type 0 where
+  pub behind : IsRefusedBehind w.framing b octet told f
+  pub phase : w.phase ≡ Failed f
+  pub offset : w.offset ≡ length b
+  pub depth : length w.stack ≡ open_count behind.reading
+  pub unused : unused_in w ≡ unused_of w.framing.inside behind.reading
+
 -- the octet behind those that were taken is refused
-pub record IsRefused (old : Machine) (before after : List ℕ) (f : Fault) : Type 0 where
+pub record IsRefused (old new : Machine) (before after : List ℕ) (f : Fault) : Type 0 where
   pub taken : List ℕ
   pub octet : ℕ
   pub rest : List ℕ
   pub before_is : before ≡ taken ++ octet ∷ rest
   pub after_is : after ≡ octet ∷ rest
   pub ends : (b : List ℕ) (told : List Told) → Stands old b told → IsRefusedBehind old.framing (b ++ taken) octet told f
+  pub stands : (b : List ℕ) (told : List Told) → Stands old b told → StandsRefused new (b ++ taken) octet told f
 
 -- what a step makes of a walker that stands for octets, and of the front of a piece
 abbrev pub StandsStep : Machine → Machine → List ℕ → List ℕ → Step → Type 0
@@ -90,4 +100,4 @@ StandsStep old new before after (step.Event e) = StandsBehind old new before aft
 StandsStep old new before after step.NeedMore =
     (after ≡ []) × (new.framing ≡ old.framing) × ((b : List ℕ) (told : List Told) → Stands old b told → Stands new (b ++ before) told × (waiting_of new ≡ []))
 -- the first fault, or the same again
-StandsStep old new before after (step.Fault f) = IsRefused old before after f ⊎ ((old.phase ≡ Failed f) × (new ≡ old) × (after ≡ before))
+StandsStep old new before after (step.Fault f) = IsRefused old new before after f ⊎ ((old.phase ≡ Failed f) × (new ≡ old) × (after ≡ before))

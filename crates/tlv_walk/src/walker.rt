@@ -57,7 +57,7 @@ impl Model for Walker {
 }
 
 impl Walker {
-    ghost use Rattle.std.specs.Prelude.{◌≢◌, ◌∷◌, List, [], Some, slice_get, true};
+    ghost use Rattle.std.specs.Prelude.{◌≢◌, ◌∷◌, ◌++◌, List, [], Some, slice_get, true};
     ghost use Rattle.tlv_head.specs.Fields.{Suits, heading_with};
     ghost use Rattle.tlv_head.specs.Header.{announced, holds, octets_of};
     ghost use Rattle.tlv_walk.specs.declared.walker.Phase.TheVariants as phases;
@@ -69,7 +69,7 @@ impl Walker {
     ghost use Rattle.tlv_walk.specs.State.{Stands};
     ghost use Rattle.tlv_walk.specs.Wrappers.{unused_of};
     ghost use Rattle.tlv_walk.specs.ReadsOn.{TellsFrom, TellsHeader};
-    ghost use Rattle.tlv_walk.specs.Tells.{Continues, StandsStep, TellsAtOnce, TellsEvent, TellsStep, told_of};
+    ghost use Rattle.tlv_walk.specs.Tells.{Continues, StandsRefused, StandsStep, TellsAtOnce, TellsEvent, TellsStep, told_of};
     ghost use Rattle.tlv_head.specs.Read.{BeginsWithFields};
     ghost use Rattle.tlv_walk.specs.Inside.{is_among};
     ghost use Rattle.tlv_walk.specs.Stack.{IsFilled, Within, bound_of, room_of};
@@ -96,6 +96,7 @@ impl Walker {
         ensures value { result ≡ length self.now.stack }
         ensures within { result ≤ 128 }
         ensures open_elements { (b : List ℕ) (told : List Told) → (IsWaiting self.now → ⊥) → (stands : Stands self.now b told) → result ≡ open_count stands.reading }
+        ensures refused { (b : List ℕ) (x : ℕ) (told : List Told) (f : FaultOf) → (stands : StandsRefused self.now b x told f) → result ≡ open_count stands.behind.reading }
     {
         self.stack.len()
     }
@@ -105,6 +106,7 @@ impl Walker {
         ensures value { result ≡ self.now.offset }
         ensures within { result ≤ 2 ^ 40 }
         ensures taken { (b : List ℕ) (told : List Told) → Stands self.now b told → result ≡ length b }
+        ensures refused { (b : List ℕ) (x : ℕ) (told : List Told) (f : FaultOf) → StandsRefused self.now b x told f → result ≡ length b }
     {
         self.offset
     }
@@ -121,6 +123,8 @@ impl Walker {
     pub fn unused(&self) -> Option<u64>
         ensures value { result ≡ unused_in self.now }
         ensures first { (b : List ℕ) (told : List Told) → (stands : Stands self.now b told) → result ≡ unused_of self.now.framing.inside stands.reading }
+        ensures refused { (b : List ℕ) (x : ℕ) (told : List Told) (f : FaultOf) → (stands : StandsRefused self.now b x told f)
+            → result ≡ unused_of self.now.framing.inside stands.behind.reading }
     {
         self.framing.inside.get(self.wrappers)
     }
@@ -141,6 +145,8 @@ impl Walker {
         requires { IsWaiting self.now → ⊥ }
         ensures stands { (b : List ℕ) (told : List Told) → Stands self.now b told → IsEnding self.now.framing b result }
         ensures failed { (f : FaultOf) → self.now.phase ≡ phases.Failed f → result ≡ Ending.Fault f }
+        ensures refused { (b : List ℕ) (x : ℕ) (told : List Told) (f : FaultOf) → StandsRefused self.now b x told f
+            → (c : List ℕ) → IsEnding self.now.framing (b ++ x ∷ c) result }
     {
         if let Phase::Failed(fault) = &self.phase {
             return Ending::Fault(*fault);

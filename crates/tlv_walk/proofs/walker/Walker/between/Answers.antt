@@ -20,7 +20,7 @@ returns-then-indefinite-2-clause-tells c =
     ] in
     let piece : c.args.piece.now.now ≡ 0 ∷ take (length c.args.piece.now.now - 1) (drop 1 c.args.piece.now.now) = grind (arith, common_steps) in
     subst (λ (o : List ℕ). TellsStep c.args.self.now c.second_zero.new.self o c.second_zero.new.piece.now c.second_zero.result) (sym piece)
-    (step_behind _ _ _ 0 (rw (← c.self.view_is) (tells_zero _ (search rules) (search rules) room)) (search rules) _ _ _ refl c.second_zero.ensures.tells)
+    (step_behind _ _ _ 0 (rw (← c.self.view_is) (tells_zero _ (search rules) (search rules) room)) (search rules) (search rules) _ _ _ refl c.second_zero.ensures.tells)
 
 pub returns-clause-tells : goal.returns-clause-tells
 returns-clause-tells c =
