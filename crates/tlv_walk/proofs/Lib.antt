@@ -35,6 +35,7 @@ pub mod Known
 pub mod Followed
 pub mod Finals
 pub mod Unused
+pub mod Waiting
 pub mod Following
 pub mod Turns
 pub mod Drives

@@ -25,6 +25,7 @@ use Rattle.tlv_walk.proofs.Endings.{refused-reading}
 use Rattle.tlv_walk.proofs.OpenCounts.{state-depth}
 use Rattle.tlv_walk.proofs.Unused.{told_unused}
 use Rattle.tlv_walk.proofs.StateEndings.{ready-waits}
+use Rattle.tlv_walk.proofs.Waiting.{quiet}
 use Rattle.tlv_walk.proofs.Push.{Spells}
 use Rattle.tlv_walk.proofs.StateReading.{stands, state-events, state-spells}
 use Rattle.tlv_walk.proofs.Zipper.{reading_of}
@@ -46,26 +47,6 @@ stands_behind old new before after e t = (
   λ b told st. let u = t.2.goes b told st.state st.has_state in
       stands new (b ++ t.0) (told ++ e ∷ []) u.0 u.1 (subst (λ (f : Framing). CanName f.inside) (sym t.2.framing) st.named) (found_on old new told (e ∷ []) t.2.framing st.found t.2.found),
 )
-
--- where nothing waits no events do
-no_endings : (at : ℕ) (fs : List Frame) → (IsFilled fs at → ⊥) → endings_at at fs ≡ []
-no_endings at [] n = refl
-no_endings at (f ∷ fs) n = ap (λ (k : Bool). if k then ending_of f ∷ endings_at at fs else []) (unfilled f.end n)
-  where
-    unfilled : (e : Option ℕ) → (e ≡ Some at → ⊥) → is_end e at ≡ false
-    unfilled None n = refl
-    unfilled (Some m) n = ne_eqb m at (λ e. n (ap Some e))
-
-quiet_in : (f : Phase) (stack : List Frame) (at : ℕ) → (IsWaitingIn f stack at → ⊥) → waiting_in f stack at ≡ []
-quiet_in phase.Between stack at n = no_endings at stack n
-quiet_in (phase.Header r) stack at n = refl
-quiet_in (phase.Contents left) stack at n = ap (λ (k : Bool). if k then End ∷ endings_at at stack else []) (ne_eqb left 0 n)
-quiet_in phase.Unused stack at n = refl
-quiet_in phase.Zero stack at n = refl
-quiet_in (phase.Failed fault) stack at n = refl
-
-quiet : (w : Machine) → (IsWaiting w → ⊥) → waiting_of w ≡ []
-quiet w n = quiet_in w.phase w.stack w.offset n
 
 -- the reading behind which the octet is refused
 abbrev refused_reading : (old : Machine) (g : Framing) (before after : List ℕ) (f : Fault) → g ≡ old.framing → (r : RefusesOctet old before after f) → (b : List ℕ) (told : List Told) → Stands old b told

@@ -12,7 +12,7 @@ use Rattle.tlv_walk.specs.Ending.{IsEnding}
 use Rattle.tlv_walk.specs.Events.{AreEqualJoined, Told, events, Open, Begin, Bytes, End, Close, Enter, Unused, Leave, Pad}
 use Rattle.tlv_walk.specs.Machine.{IsWaiting, Machine, found_in, unused_in}
 use Rattle.tlv_walk.specs.OpenCount.{open_count}
-use Rattle.tlv_walk.specs.State.{HasState, Stands, State, waiting_of}
+use Rattle.tlv_walk.specs.State.{HasState, NothingWaits, Stands, State}
 use Rattle.tlv_walk.specs.Forest.{Forest, spell}
 use Rattle.tlv_walk.specs.Reading.{IsReading}
 use Rattle.tlv_walk.specs.Wrappers.{enters, unused_of}
@@ -98,6 +98,6 @@ pub record IsRefused (old new : Machine) (before after : List ℕ) (f : Fault) :
 abbrev pub StandsStep : Machine → Machine → List ℕ → List ℕ → Step → Type 0
 StandsStep old new before after (step.Event e) = StandsBehind old new before after (told_of e)
 StandsStep old new before after step.NeedMore =
-    (after ≡ []) × (new.framing ≡ old.framing) × ((b : List ℕ) (told : List Told) → Stands old b told → Stands new (b ++ before) told × (waiting_of new ≡ []))
+    (after ≡ []) × (new.framing ≡ old.framing) × ((b : List ℕ) (told : List Told) → Stands old b told → Stands new (b ++ before) told × NothingWaits new)
 -- the first fault, or the same again
 StandsStep old new before after (step.Fault f) = IsRefused old new before after f ⊎ ((old.phase ≡ Failed f) × (new ≡ old) × (after ≡ before))

@@ -66,7 +66,7 @@ impl Walker {
     ghost use Rattle.tlv_walk.specs.Ending.{IsEnding};
     ghost use Rattle.tlv_walk.specs.Events.{Told};
     ghost use Rattle.tlv_walk.specs.OpenCount.{open_count};
-    ghost use Rattle.tlv_walk.specs.State.{Stands};
+    ghost use Rattle.tlv_walk.specs.State.{NothingWaits, Stands};
     ghost use Rattle.tlv_walk.specs.Wrappers.{unused_of};
     ghost use Rattle.tlv_walk.specs.ReadsOn.{TellsFrom, TellsHeader};
     ghost use Rattle.tlv_walk.specs.Tells.{Continues, StandsRefused, StandsStep, TellsAtOnce, TellsEvent, TellsStep, told_of};
@@ -95,7 +95,7 @@ impl Walker {
     pub fn depth(&self) -> u8
         ensures value { result ≡ length self.now.stack }
         ensures within { result ≤ 128 }
-        ensures open_elements { (b : List ℕ) (told : List Told) → (IsWaiting self.now → ⊥) → (stands : Stands self.now b told) → result ≡ open_count stands.reading }
+        ensures open_elements { (b : List ℕ) (told : List Told) → NothingWaits self.now → (stands : Stands self.now b told) → result ≡ open_count stands.reading }
         ensures refused { (b : List ℕ) (x : ℕ) (told : List Told) (f : FaultOf) → (stands : StandsRefused self.now b x told f) → result ≡ open_count stands.behind.reading }
     {
         self.stack.len()
@@ -131,6 +131,13 @@ impl Walker {
 
     /// Whether an event is still to come that needs no further octet.
     pub fn waiting(&self) -> bool
+        ensures { IsTrue result ↔ (NothingWaits self.now → ⊥) }
+    {
+        self.is_waiting()
+    }
+
+    /// Whether the phase and the stack say that an event waits.
+    fn is_waiting(&self) -> bool
         ensures { IsTrue result ↔ IsWaiting self.now }
     {
         match &self.phase {
@@ -142,7 +149,7 @@ impl Walker {
 
     /// What the input comes to, if it ends here. After a fault it is that fault.
     pub fn finish(&self) -> Ending
-        requires { IsWaiting self.now → ⊥ }
+        requires { NothingWaits self.now }
         ensures stands { (b : List ℕ) (told : List Told) → Stands self.now b told → IsEnding self.now.framing b result }
         ensures failed { (f : FaultOf) → self.now.phase ≡ phases.Failed f → result ≡ Ending.Fault f }
         ensures refused { (b : List ℕ) (x : ℕ) (told : List Told) (f : FaultOf) → StandsRefused self.now b x told f
