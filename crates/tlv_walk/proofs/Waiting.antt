@@ -48,9 +48,9 @@ pub idle : (w : Machine) → NothingWaits w → IsWaiting w → ⊥
 idle w n i = loud_in w.phase w.stack w.offset i n
 
 -- what `waiting` answers
-pub waits : (w : Machine) (k : Bool) → IsTrue k ↔ IsWaiting w → IsTrue k ↔ (NothingWaits w → ⊥)
-waits w true h = (λ t n. idle w n (h.0 t), λ n. refl)
-waits w false h = (λ t. absurd (cc (t)), λ n. absurd (n (quiet w (λ i. cc (h.1 i)))))
+pub waits : (w : Machine) (k : Bool) → IsTrue k ↔ IsWaiting w → (k ≡ false) ↔ NothingWaits w
+waits w true h = (λ e. absurd (cc (e)), λ n. absurd (idle w n (h.0 refl)))
+waits w false h = (λ e. quiet w (λ i. cc (h.1 i)), λ n. refl)
 
 -- a walker that is ready has none waiting
 pub ready-quiet : (w : Machine) → IsReady w → NothingWaits w

@@ -57,7 +57,7 @@ impl Model for Walker {
 }
 
 impl Walker {
-    ghost use Rattle.std.specs.Prelude.{◌≢◌, ◌∷◌, ◌++◌, List, [], Some, slice_get, true};
+    ghost use Rattle.std.specs.Prelude.{◌≢◌, ◌∷◌, ◌++◌, List, [], Some, false, slice_get, true};
     ghost use Rattle.tlv_head.specs.Fields.{Suits, heading_with};
     ghost use Rattle.tlv_head.specs.Header.{announced, holds, octets_of};
     ghost use Rattle.tlv_walk.specs.declared.walker.Phase.TheVariants as phases;
@@ -131,7 +131,7 @@ impl Walker {
 
     /// Whether an event is still to come that needs no further octet.
     pub fn waiting(&self) -> bool
-        ensures { IsTrue result ↔ (NothingWaits self.now → ⊥) }
+        ensures { (result ≡ false) ↔ NothingWaits self.now }
     {
         self.is_waiting()
     }
