@@ -129,6 +129,7 @@ impl Follow for Extract {
 
     ghost pad_go_on = { λ s x. refl };
 
+    #[inline(always)]
     fn on<D: Drain>(&mut self, event: &Event<'_>, out: &mut Out<'_, D>) -> Result<Go, WriteFault> {
         match event {
             Event::Open(header) | Event::Begin(header) | Event::Enter(header) => {

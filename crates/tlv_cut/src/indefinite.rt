@@ -41,6 +41,7 @@ impl Follow for Indef {
 
     ghost pad_go_on = { λ s x. refl };
 
+    #[inline(always)]
     fn on<D: Drain>(&mut self, event: &Event<'_>, out: &mut Out<'_, D>) -> Result<Go, WriteFault> {
         match event {
             Event::Open(header) if header.constructed => {

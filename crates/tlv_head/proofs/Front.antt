@@ -1,7 +1,7 @@
 -- What the octets in front of a reader begin with.
-use Rattle.std.proofs.Common.{◌≡◌, ◌⊎◌, inl, inr, ℕ, ◌+◌, ◌<◌, ◌≤◌, Bool, false, get_or, List, [], ◌∷◌, ◌++◌, length, take, drop, refl, sym, ap, ◌∙◌, arith, append_assoc, length-append}
-use Rattle.std.proofs.lemmas.List.{take-append-drop, take_more}
-use Rattle.std.proofs.Math.Seq.{drop-append_seam, take-append_seam}
+use Rattle.std.proofs.Common.{◌≡◌, ◌⊎◌, inl, inr, ℕ, ◌+◌, ◌-◌, ◌<◌, ◌≤◌, Bool, false, get_or, List, [], ◌∷◌, ◌++◌, length, take, drop, refl, sym, ap, ◌∙◌, subst, arith, append_assoc, length-append, length-drop, length-take}
+use Rattle.std.proofs.lemmas.List.{take-append-drop, take_all, take_more}
+use Rattle.std.proofs.Math.Seq.{drop-append_seam, take-add, take-append_seam}
 use Rattle.tlv_head.specs.declared.header.Class.{Class}
 use Rattle.tlv_head.specs.declared.header.Size.{Size}
 use Rattle.tlv_head.specs.declared.header.Size.TheVariants.{Definite, Indefinite}
@@ -11,7 +11,8 @@ use Rattle.tlv_head.specs.Fields.{heading_with, Suits}
 use Rattle.tlv_head.specs.declared.reader.Part.{Part}
 use Rattle.tlv_head.specs.declared.reader.Part.TheVariants.{Start, Number, Length, Digits, Done}
 use Rattle.tlv_head.specs.Header.{Heading, IsHeading, IsIdentifier, IsLength, octets_of}
-use Rattle.tlv_head.specs.Part.{Carries, MakesHeader, is_done}
+use Rattle.tlv_head.specs.Part.{BeginsWithIdentifier, BeginsWithLength, Carries, MakesHeader, is_done}
+use Rattle.tlv_head.specs.Read.{BeginsWithFields}
 use Rattle.tlv_head.specs.Refusal.{BeginsWith, IsFront}
 use Rattle.tlv_head.proofs.Scan.{origin_of, scan, Fresh, Ready, no-front, scan-header}
 use Rattle.tlv_head.proofs.Unfinished.{unfinished_number, unfinished_identifier, unfinished_length}
@@ -86,4 +87,30 @@ made_begins os rest at named id size m =
       named = refl;
       rest = rest;
       octets = rw (front, back, m.octet) refl;
+    }
+
+-- an identifier, and a length behind it
+pub begins_short : (os : List ℕ) (at : ℕ) (named : Bool) (id : Identifier) (size : Size) (before count : ℕ) → BeginsWithIdentifier os id → before ≡ id.octets
+    → BeginsWithLength (take (length os - before) (drop before os)) id.constructed size count
+    → BeginsWithFields os at named (record { offset = at; named = named; class = id.class; constructed = id.constructed; number = id.number; size = size; id_len = id.octets }) (before + count)
+begins_short os at named id size before count i e l =
+    let rest : take (length os - before) (drop before os) ≡ drop before os = take_all (length os - before) (drop before os) (omega (arith, length-drop before os)) in
+    let l' : BeginsWithLength (drop before os) id.constructed size count = subst (λ (xs : List ℕ). BeginsWithLength xs id.constructed size count) rest l in
+    let i' : BeginsWithIdentifier os id = i in
+    let within : before + count ≤ length os = omega (arith, i'.within, l'.within, length-drop before os) in
+    let made : MakesHeader id size (take (before + count) os) = record {
+      identifier = take before os;
+      lengths = take count (drop before os);
+      identified = rw e i'.carried;
+      sized = l'.sized;
+      few = omega (arith, l'.few, length-take count (drop before os));
+      some = omega (arith, l'.some, l'.within, length-take count (drop before os));
+      allowed = l'.allowed;
+      octet = take-add before count os;
+    } in
+    record {
+      within = within;
+      suits = made_suits (take (before + count) os) _ id size made refl;
+      begins = subst (λ (xs : List ℕ). BeginsWith xs at named (heading_with (record { offset = at; named = named; class = id.class; constructed = id.constructed; number = id.number; size = size; id_len = id.octets }) (take (before + count) os)))
+          (take-append-drop (before + count) os) (made_begins (take (before + count) os) (drop (before + count) os) at named id size made);
     }

@@ -1,5 +1,5 @@
 -- What a `HeadReader` carries of the octets so far.
-use Rattle.std.specs.Prelude.{◌≡◌, ℕ, ◌+◌, ◌^◌, ◌-◌, ◌<◌, ◌≤◌, Bool, true, false, List, [], ◌∷◌, ◌++◌, length}
+use Rattle.std.specs.Prelude.{◌≡◌, ℕ, ◌+◌, ◌^◌, ◌-◌, ◌<◌, ◌≤◌, Bool, true, false, List, [], ◌∷◌, ◌++◌, length, take}
 use Rattle.tlv_head.specs.declared.header.Size.{Size}
 use Rattle.tlv_head.specs.Header.{value_of, IsIdentifier, IsLength, AllowsSize}
 use Rattle.tlv_head.specs.Progress.{Progress}
@@ -53,6 +53,19 @@ pub record MakesHeader (id : Identifier) (size : Size) (octets : List ℕ) : Typ
   pub some : 1 ≤ length lengths
   pub allowed : AllowsSize id.constructed size
   pub octet : octets ≡ identifier ++ lengths
+
+-- octets begin with the identifier
+pub record BeginsWithIdentifier (octets : List ℕ) (id : Identifier) : Type 0 where
+  pub within : id.octets ≤ length octets
+  pub carried : CarriesIdentifier id (take id.octets octets)
+
+-- octets begin with length octets, so many, that an element of that form may have
+pub record BeginsWithLength (octets : List ℕ) (constructed : Bool) (size : Size) (count : ℕ) : Type 0 where
+  pub within : count ≤ length octets
+  pub some : 1 ≤ count
+  pub few : count ≤ 127
+  pub sized : IsLength size (take count octets)
+  pub allowed : AllowsSize constructed size
 
 -- what an octet makes of the octets before
 abbrev pub Follows : List ℕ → ℕ → Next → Type 0

@@ -83,7 +83,7 @@ impl HeaderFields {
 }
 
 impl Header {
-    ghost use Rattle.std.specs.Prelude.{◌≤◌, length};
+    ghost use Rattle.std.specs.Prelude.{◌≤◌, length, take};
     ghost use Rattle.tlv_head.specs.Header.{octets_of, wraps};
     ghost use Rattle.tlv_head.specs.Fields.{heading_with, Suits};
 
@@ -109,7 +109,9 @@ impl Header {
 
     /// What the octets say.
     pub fn fields(&self) -> HeaderFields
-        ensures { heading_with result (octets_of self.now) ≡ self.now }
+        ensures heading { heading_with result (octets_of self.now) ≡ self.now }
+        ensures identifier { take result.id_len (octets_of self.now) ≡ self.now.identifier }
+        ensures id_len { result.id_len ≡ length self.now.identifier }
     {
         HeaderFields {
             offset: self.offset,
@@ -129,6 +131,14 @@ impl Header {
         ensures within { length result.now ≤ 137 }
     {
         self.raw.as_slice()
+    }
+
+    /// The identifier octets: the first [`Header::id_len`] of [`Header::raw`]. There are at most ten.
+    pub fn identifier(&self) -> &[u8]
+        ensures value { result.now ≡ self.now.identifier }
+        ensures within { length result.now ≤ 10 }
+    {
+        &self.raw.as_slice()[..usize::from(self.id_len)]
     }
 
     /// Whether the contents are to be read as encodings although the element is primitive: it is an
@@ -180,8 +190,7 @@ pub fn spell_indefinite(header: &Header) -> ArrayVec<u8, 11>
     ensures { result.items ≡ indefinite_octets header.now }
 {
     let mut octets = ArrayVec::new();
-    let identifier = &header.raw()[..usize::from(header.id_len)];
-    let _ = octets.try_extend_from_slice(identifier);
+    let _ = octets.try_extend_from_slice(header.identifier());
     octets.push(0x80);
     octets
 }

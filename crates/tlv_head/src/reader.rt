@@ -1,9 +1,10 @@
 //! Reads a header, one octet at a time.
-ghost use Rattle.std.specs.Prelude.{◌≡◌, ◌≢◌, ℕ, ◌+◌, ◌/◌, ◌^◌, ◌<◌, ◌≤◌, ◌↔◌, List, [], ◌∷◌, ◌++◌, ◌||◌, false, IsTrue, Some, MatchOption};
+ghost use Rattle.std.specs.Prelude.{◌≡◌, ◌≢◌, ℕ, ◌+◌, ◌/◌, ◌^◌, ◌<◌, ◌≤◌, ◌↔◌, List, [], ◌∷◌, ◌++◌, ◌||◌, false, IsTrue, Some, IfSome, MatchOption};
 ghost use Rattle.tlv_head.specs.Header.{class_bits, is_wrapper as is_wrapper_of};
 ghost use Rattle.tlv_head.specs.Progress.{Fits};
 ghost use Rattle.tlv_head.specs.Refusal.{BeginsWithNone};
 ghost use Rattle.tlv_head.specs.Read.{BeginsWithFields};
+ghost use Rattle.tlv_head.specs.Part.{BeginsWithIdentifier, BeginsWithLength};
 ghost use Rattle.tlv_head.specs.Part.{Carries, CarriesNumber, CarriesIdentifier, CarriesLength, Follows, is_done};
 
 use crate::header::is_wrapper;
@@ -179,6 +180,70 @@ pub fn read_header(offset: u64, named: bool, octets: &[u8]) -> Option<(HeaderFie
     None
 }
 
+/// The header with which the octets begin, and how many octets it has, where one to three of them are the identifier and
+/// one to three the length. `None` says nothing: [`read_header`] finds each header. It stands apart because most headers are
+/// so short, and few instructions read them.
+#[inline(always)]
+pub fn read_short(offset: u64, named: bool, octets: &[u8]) -> Option<(HeaderFields, usize)>
+    ensures { IfSome result (λ found. BeginsWithFields octets.now offset named found.0 found.1) }
+{
+    let identifier = short_identifier(octets)?;
+    let before = usize::from(identifier.octets);
+    let (size, count) = short_length(identifier.constructed, &octets[before..])?;
+    Some((fields_of(offset, named, identifier, size), before + count))
+}
+
+/// The identifier with which the octets begin, if it has at most three.
+#[inline(always)]
+fn short_identifier(octets: &[u8]) -> Option<Identifier>
+    ensures { IfSome result (λ id. BeginsWithIdentifier octets.now id) }
+{
+    if octets.is_empty() || octets[0] == 0 {
+        return None;
+    }
+    let high = match leading(octets[0]) {
+        Part::Length(identifier) => return Some(identifier),
+        Part::Number(identifier) => identifier,
+        _ => return None,
+    };
+    if octets.len() < 3 {
+        return None;
+    }
+    match next_number(high, octets[1]) {
+        Next::Unfinished(Part::Length(identifier)) => Some(identifier),
+        Next::Unfinished(Part::Number(higher)) => match next_number(higher, octets[2]) {
+            Next::Unfinished(Part::Length(identifier)) => Some(identifier),
+            _ => None,
+        },
+        _ => None,
+    }
+}
+
+/// The length with which the octets begin behind the identifier, and how many octets it has, if they are at most three.
+#[inline(always)]
+fn short_length(constructed: bool, octets: &[u8]) -> Option<(Size, usize)>
+    ensures { IfSome result (λ found. BeginsWithLength octets.now constructed found.0 found.1) }
+{
+    if octets.is_empty() {
+        return None;
+    }
+    if octets[0] < 0x80 {
+        return Some((Size::Definite(u64::from(octets[0])), 1));
+    }
+    if octets[0] == 0x81 && octets.len() >= 2 {
+        return Some((Size::Definite(u64::from(octets[1])), 2));
+    }
+    if octets[0] == 0x82 && octets.len() >= 3 {
+        let length = u64::from(octets[1]) * 256 + u64::from(octets[2]);
+        return Some((Size::Definite(length), 3));
+    }
+    if octets[0] == 0x80 && constructed {
+        return Some((Size::Indefinite, 1));
+    }
+    None
+}
+
+#[inline(always)]
 fn fields_of(offset: u64, named: bool, identifier: Identifier, size: Size) -> HeaderFields
     ensures { result ≡ record { offset = offset; named = named; class = identifier.class; constructed = identifier.constructed; number = identifier.number; size = size; id_len = identifier.octets } }
 {
@@ -243,6 +308,7 @@ fn read_octet(part: Part, octet: u8) -> Next
     }
 }
 
+#[inline(always)]
 fn class_of(octet: u8) -> Class
     ensures { class_bits result ≡ octet / 64 }
 {
@@ -255,6 +321,7 @@ fn class_of(octet: u8) -> Class
 }
 
 /// The first identifier octet (8.1.2.2, 8.1.2.4.1).
+#[inline(always)]
 fn leading(octet: u8) -> Part
     requires { octet ≢ 0 }
     ensures { Carries result (octet ∷ []) }
@@ -274,6 +341,7 @@ fn leading(octet: u8) -> Part
 }
 
 /// A subsequent identifier octet (8.1.2.4.2).
+#[inline(always)]
 fn next_number(identifier: Identifier, octet: u8) -> Next
     requires { (octets : List ℕ) × CarriesNumber identifier octets }
     ensures { (octets : List ℕ) → CarriesNumber identifier octets → Follows octets octet result }

@@ -79,6 +79,7 @@ impl<'n> Dump<'n> {
     }
 
     /// An element begins: padding ends, and its contents stand behind its header.
+    #[inline(always)]
     fn enter(&mut self, header: &Header)
         ensures { self.new ≡ entered self.old header.now }
     {
@@ -87,6 +88,7 @@ impl<'n> Dump<'n> {
     }
 
     /// An element that holds others begins.
+    #[inline(always)]
     fn open<D: Drain>(
         &mut self,
         header: &Header,
@@ -118,6 +120,7 @@ impl<'n> Dump<'n> {
     }
 
     /// A primitive begins.
+    #[inline(always)]
     fn begin<D: Drain>(&mut self, header: &Header, out: &mut Out<'_, D>) -> Result<(), WriteFault>
         ensures state { OnOk result (self.new ≡ (dumped_begin self.old header.now).state) }
         ensures puts { Puts D.told out.old out.new (dumped_begin self.old header.now).put result }
@@ -170,6 +173,7 @@ ghost use Rattle.tlv_value.specs.State.{begun, start};
 ghost use Rattle.tlv_show.specs.Dumped.{if_open, value_after, value_ended, value_told};
 
 /// A primitive begins, in place of the last one.
+#[inline(always)]
 fn restart(value: &mut Option<ValueText>, header: &Header, layout: Layout)
     ensures { value.new ≡ Some (start header.now layout) }
 {
@@ -180,6 +184,7 @@ fn restart(value: &mut Option<ValueText>, header: &Header, layout: Layout)
 }
 
 /// Puts what the header tells of a primitive that begins.
+#[inline(always)]
 fn put_begin<D: Drain>(
     value: &mut Option<ValueText>,
     header: &Header,
@@ -250,6 +255,7 @@ impl Follow for Dump<'_> {
 
     ghost pad_go_on = { each_octet-goes_on one_padded };
 
+    #[inline(always)]
     fn on<D: Drain>(&mut self, event: &Event<'_>, out: &mut Out<'_, D>) -> Result<Go, WriteFault> {
         match event {
             Event::Open(header) => self.open(header, b" {", out)?,

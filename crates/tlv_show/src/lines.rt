@@ -8,6 +8,7 @@ use tlv_head::{Header, Size, tag_text};
 use tlv_value::{Layout, Line};
 
 /// Makes the line of an element that holds others, with a word behind its tag.
+#[inline(always)]
 pub(crate) fn write_opening(line: &mut Line, layout: Layout, header: &Header, word: &[u8])
     requires { length word.now ≤ 16 }
     ensures { line.new ≡ opening_line layout header.now word.now }

@@ -87,6 +87,7 @@ impl Model for ValueText {
 
 impl ValueText {
     /// For the primitive with this header, of whose contents no octet has come.
+    #[inline(always)]
     pub fn new(header: &Header, layout: Layout) -> ValueText
         ensures { result ≡ start header.now layout }
     {
@@ -111,6 +112,7 @@ impl ValueText {
     }
 
     /// For the primitive with this header, in place of another: as [`ValueText::new`], in the same room.
+    #[inline(always)]
     pub fn restart(&mut self, header: &Header, layout: Layout)
         ensures { self.new ≡ start header.now layout }
     {

@@ -1,5 +1,5 @@
 -- The innermost element of a walker's state ends.
-use Rattle.std.proofs.Common.{◌≡◌, inl, inr, ℕ, ◌+◌, ◌-◌, Bool, true, false, not, if◌then◌else◌, List, [], ◌∷◌, ◌++◌, length, drop, Some, None, refl, sym, ap, ◌∙◌, subst, arith, append_assoc, append-nil, length-append}
+use Rattle.std.proofs.Common.{◌≡◌, inl, inr, ℕ, ◌+◌, ◌-◌, ◌≤◌, Bool, true, false, not, if◌then◌else◌, List, [], ◌∷◌, ◌++◌, length, drop, Option, Some, None, refl, sym, ap, ◌∙◌, subst, arith, append_assoc, append-nil, length-append}
 use Rattle.std.proofs.lemmas.Bool.{true≢false}
 use Rattle.tlv_head.specs.declared.header.Size.{Size}
 use Rattle.tlv_head.specs.declared.header.Size.TheVariants.{Definite, Indefinite}
@@ -12,10 +12,10 @@ use Rattle.tlv_walk.specs.Wrappers.{enters}
 use Rattle.std.proofs.lemmas.Bool.{cases_Bool}
 use Rattle.tlv_walk.specs.Machine.{found_in, Machine}
 use Rattle.tlv_walk.specs.Place.{Fits, HasLength, IsEntry, IsZero, Place, after, bound_in, is_indefinite}
-use Rattle.tlv_walk.specs.Stack.{IsFilled, Within, bound_of, innermost_of}
+use Rattle.tlv_walk.specs.Stack.{IsFilled, IsInIndefinite, Within, bound_of, innermost_of}
 use Rattle.tlv_walk.specs.Tells.{Continues}
 use Rattle.tlv_walk.specs.State.{AreWhole, HasState, Layer, Tail, Nothing, Lone, State, ending_of, events_layers, events_tail, frame_of, frames_of, place_in, place_of, spell_layers, spell_tail}
-use Rattle.tlv_walk.proofs.Moves.{began, between_tail, closed_here, lone_tail, phase_at, tail_state, told_more, with_layers, with_tail}
+use Rattle.tlv_walk.proofs.Moves.{began, between_tail, closed_here, continues_both, lone_tail, phase_at, tail_state, tells_zero, told_more, with_layers, with_tail}
 use Rattle.tlv_walk.proofs.Places.{definite-size, place-offset}
 use Rattle.tlv_walk.proofs.Spellings.{length-opening}
 use Rattle.tlv_walk.proofs.Zipper.{open-behind, spell-behind, whole-behind}
@@ -188,3 +188,23 @@ tells_popped w f t e full is same =
 
 pub ending_by : (f : Frame) (k : Bool) → f.wrapper ≡ k → ending_of f ≡ (if k then Leave else Close None)
 ending_by f k e = ap (λ (w : Bool). if w then Leave else Close None) e
+
+-- an end before the bound
+within_less : (b : Option ℕ) (m n : ℕ) → m ≤ n → Within b n → Within b m
+within_less None m n h w = tt
+within_less (Some k) m n h w = omega (arith, h, w)
+
+-- both of the end-of-contents octets
+pub tells_both : (w : Machine) → w.phase ≡ phase.Between → IsInIndefinite w.stack → Within (bound_of w.stack) (w.offset + 2)
+    → Continues w (record w { stack = drop 1 w.stack; offset = w.offset + 2; events = w.events + 1 }) (0 ∷ 0 ∷ []) (Close (Some w.offset) ∷ [])
+tells_both w e inside fits =
+    let mid : Machine = record w { phase = phase.Zero; offset = w.offset + 1 } in
+    let room : Within (bound_of w.stack) (w.offset + 1) = within_less (bound_of w.stack) (w.offset + 1) (w.offset + 2) (omega arith) fits in
+    let two : w.offset + 1 + 1 ≡ w.offset + 2 = omega arith in
+    let one : w.offset + 1 - 1 ≡ w.offset = omega arith in
+    let new : Machine = record w { stack = drop 1 w.stack; phase = phase.Between; offset = w.offset + 1 + 1; events = w.events + 1 } in
+    let both : Continues w new (0 ∷ 0 ∷ []) (Close (Some (w.offset + 1 - 1)) ∷ []) =
+    continues_both w mid new (0 ∷ []) (0 ∷ []) [] (Close (Some (w.offset + 1 - 1)) ∷ []) (tells_zero w e inside room)
+    (tells_second mid refl (subst (Within (bound_of w.stack)) (sym two) fits)) in
+    subst (λ (m : Machine). Continues w m (0 ∷ 0 ∷ []) (Close (Some w.offset) ∷ [])) (λ i. record w { stack = drop 1 w.stack; phase = sym e i; offset = two i; events = w.events + 1 })
+    (subst (λ (n : ℕ). Continues w new (0 ∷ 0 ∷ []) (Close (Some n) ∷ [])) one both)

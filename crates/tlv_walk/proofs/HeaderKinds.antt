@@ -1,5 +1,5 @@
 -- What a header begins, on a walker's state.
-use Rattle.std.proofs.Common.{◌≡◌, ℕ, ◌+◌, ◌<◌, Bool, true, false, ◌||◌, eqb, if◌then◌else◌, List, [], ◌∷◌, ◌++◌, length, take, Option, refl, sym, ap, ◌∙◌, subst}
+use Rattle.std.proofs.Common.{◌≡◌, ℕ, ◌+◌, ◌^◌, ◌<◌, ◌≤◌, Bool, true, false, ◌||◌, eqb, if◌then◌else◌, List, [], ◌∷◌, ◌++◌, length, take, Option, refl, sym, ap, ◌∙◌, subst, arith, length-take}
 use Rattle.std.proofs.lemmas.List.{take-append-drop}
 use Rattle.tlv_head.specs.declared.header.HeaderFields.{HeaderFields}
 use Rattle.tlv_head.specs.declared.header.Size.TheVariants.{Definite}
@@ -13,7 +13,7 @@ use Rattle.tlv_walk.specs.declared.walker.Phase.{Phase}
 use Rattle.tlv_walk.specs.declared.walker.Phase.TheVariants as phase
 use Rattle.tlv_walk.specs.Events.{Told, Open, Begin, Enter}
 use Rattle.tlv_walk.specs.Forest.{Stop, lead}
-use Rattle.tlv_walk.specs.Machine.{Enters, Machine, behind_header, found_in, frame_with, next_wrapper}
+use Rattle.tlv_walk.specs.Machine.{CanEnter, Enters, Machine, behind_header, found_in, frame_with, next_wrapper}
 use Rattle.tlv_walk.specs.Wrappers.{enters}
 use Rattle.tlv_walk.specs.Inside.{is_among}
 use Rattle.tlv_walk.specs.Stack.{Within, bound_of}
@@ -148,4 +148,21 @@ fast_enters w v piece named f count o k e begins front name shallow fits enters 
       goes = λ b told s has.
           enters_state w v b told (with_tail s Nothing) r o f o k (at_new w b told s r has e refl refl name) completed
           (subst (λ (x : List ℕ). Enters w v f (f.offset + length x) k) (sym whole) enters);
+    }
+
+-- such a header may stand there
+pub fast_may_enter : (w : Machine) (piece : List ℕ) (named : Bool) (f : HeaderFields) (count : ℕ) (o : List ℕ) → BeginsWithFields piece w.offset named f count → o ≡ take count piece
+    → w.events + length w.stack ≤ w.offset → w.offset + length piece ≤ 2 ^ 40 → (holds (heading_with f o) ≡ true → length w.stack < 128)
+    → Within (bound_of w.stack) (f.offset + length o + announced f.size) → CanEnter w (heading_with f o)
+fast_may_enter w piece named f count o begins front fewer limit shallow fits =
+    let h : Heading = heading_with f o in
+    let whole : octets_of h ≡ o = take-append-drop f.id_len o in
+    let begins' : BeginsWith piece w.offset named h = subst (λ (x : List ℕ). BeginsWith piece w.offset named (heading_with f x)) (sym front) begins.begins in
+    let there : h.offset ≡ w.offset = begins'.offset in
+    record {
+      valid = begins'.valid;
+      fewer = omega (arith, there);
+      limit = omega (arith, there, ap length whole, ap length front, length-take count piece);
+      shallow = shallow;
+      fits = subst (λ (x : List ℕ). Within (bound_of w.stack) (f.offset + length x + announced f.size)) (sym whole) fits;
     }

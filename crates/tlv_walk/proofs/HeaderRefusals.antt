@@ -152,5 +152,6 @@ refuses_header w u r q before after rest x depth at f over k e within place deep
             λ c. subst (λ (n : ℕ). IsEnding w.framing ((b ++ k.taken) ++ x ∷ c) (fault f.code n)) (sym has'.offset ∙ sym there)
                 (state-fault (in_header w q) (b ++ k.taken) told (with_tail t.state (Front q.octets)) x c f.code has' (λ z. z) faulty),
             refl,
+            refl,
           ),
     )

@@ -37,6 +37,7 @@ pub mod Finals
 pub mod Unused
 pub mod ToldOctets
 pub mod Pieces
+pub mod Waiting
 pub mod Following
 pub mod Turns
 pub mod Drives

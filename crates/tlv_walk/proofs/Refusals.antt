@@ -59,6 +59,7 @@ refuses_here w x rest code idle faulty = (
         λ c. subst (λ (o : List ℕ). IsEnding w.framing (o ++ x ∷ c) (ending.Fault (fault_at code w.offset))) (sym (append-nil b))
             (subst (λ (n : ℕ). IsEnding w.framing (b ++ x ∷ c) (fault code n)) (sym f.1.offset) (state-fault w b told f.0 x c code f.1 idle f.2)),
         refl,
+        refl,
       ),
 )
 

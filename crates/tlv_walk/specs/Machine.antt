@@ -14,9 +14,6 @@ use Rattle.tlv_walk.specs.declared.event.Kind.TheVariants as kind
 use Rattle.tlv_head.specs.declared.header.HeaderFields.{HeaderFields}
 use Rattle.tlv_head.specs.declared.header.Size.{Size}
 use Rattle.tlv_walk.specs.Place.{bound_in}
-use Rattle.tlv_walk.specs.declared.event.Move.{Move}
-use Rattle.tlv_walk.specs.declared.event.Move.TheVariants as move
-use Rattle.tlv_head.specs.Fields.{Suits}
 use Rattle.tlv_walk.specs.declared.framing.Framing.{Framing}
 use Rattle.tlv_walk.specs.declared.stack.Frame.{Frame}
 use Rattle.tlv_walk.specs.declared.walker.Phase.{Phase}
@@ -143,11 +140,11 @@ TellsOne old new before after =
 abbrev pub TakesAll : Machine → Machine → List ℕ → List ℕ → Type 0
 TakesAll old new before after = (new.offset ≡ old.offset + length before) × (after ≡ []) × (new.events ≡ old.events) × IsReady new
 
--- an octet was refused
+-- an octet was refused, and no element ended
 abbrev pub Refuses : Machine → Machine → List ℕ → List ℕ → FaultOf → Type 0
 Refuses old new before after fault =
     (new.offset + length after ≡ old.offset + length before) × (new.events ≡ old.events) × (new.phase ≡ Failed fault)
-    × (new.framing ≡ old.framing) × (new.wrappers ≡ old.wrappers)
+    × (new.framing ≡ old.framing) × (new.wrappers ≡ old.wrappers) × (new.stack ≡ old.stack)
 
 -- parts of contents and of padding are not empty
 abbrev pub HasOctets : Event → Type 0
@@ -167,35 +164,10 @@ Steps old new before after (step.Event e) = TellsOne old new before after × Has
 Steps old new before after step.NeedMore = TakesAll old new before after
 Steps old new before after (step.Fault f) = Refuses old new before after f
 
--- a header's octets are at most 137
-abbrev pub Moves : Machine → Machine → List ℕ → List ℕ → Move → Type 0
-Moves old new before after (move.Open f octets) = TellsOne old new before after × Suits f octets.now
-Moves old new before after (move.Begin f octets) = TellsOne old new before after × Suits f octets.now
-Moves old new before after (move.Enter f octets) = TellsOne old new before after × Suits f octets.now
-Moves old new before after (move.Bytes octets) = TellsOne old new before after × (octets.now ≢ [])
-Moves old new before after move.End = TellsOne old new before after
-Moves old new before after (move.Close at) = TellsOne old new before after
-Moves old new before after move.Unused = TellsOne old new before after
-Moves old new before after move.Leave = TellsOne old new before after
-Moves old new before after (move.Pad octets) = TellsOne old new before after × (octets.now ≢ [])
-Moves old new before after move.Slow = (new ≡ old) × (after ≡ before) × CanRead old before
-Moves old new before after move.NeedMore = TakesAll old new before after
-Moves old new before after (move.Fault f) = Refuses old new before after f
-
--- an event that needs no octet
-abbrev pub MovesOn : Machine → Machine → ℕ → Move → Type 0
-MovesOn old new at (move.Open f octets) = ⊥
-MovesOn old new at (move.Begin f octets) = ⊥
-MovesOn old new at (move.Enter f octets) = ⊥
-MovesOn old new at (move.Bytes octets) = ⊥
-MovesOn old new at move.End = Tells old new at
-MovesOn old new at (move.Close offset) = Tells old new at
-MovesOn old new at move.Unused = ⊥
-MovesOn old new at move.Leave = Tells old new at
-MovesOn old new at (move.Pad octets) = ⊥
-MovesOn old new at move.Slow = ⊥
-MovesOn old new at move.NeedMore = ⊥
-MovesOn old new at (move.Fault f) = ⊥
+-- what an event that came at once took from the front of a piece; nothing, where none came
+abbrev pub StepsAtOnce : Machine → Machine → List ℕ → List ℕ → Option Event → Type 0
+StepsAtOnce old new before after (Some e) = TellsOne old new before after × HasOctets e
+StepsAtOnce old new before after None = (new ≡ old) × (after ≡ before)
 
 -- a header that may stand there, and of which the walker has taken a part at most
 pub record CanEnter (w : Machine) (h : Heading) : Type 0 where

@@ -183,6 +183,10 @@ waiting_in (phase.Failed fault) stack at = []
 abbrev pub waiting_of : Machine → List Told
 waiting_of w = waiting_in w.phase w.stack w.offset
 
+-- no event is to come that needs no further octet
+abbrev pub NothingWaits : Machine → Type 0
+NothingWaits w = waiting_of w ≡ []
+
 -- what a walker stands for that was refused nothing: octets, and the events told of them. Told and waiting
 -- together they are those of the reading
 pub record Stands (w : Machine) (b : List ℕ) (told : List Told) : Type 0 where

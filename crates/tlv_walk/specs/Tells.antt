@@ -1,23 +1,21 @@
--- What a walker's moves and steps tell.
-use Rattle.std.specs.Prelude.{◌≡◌, ◌⊎◌, ℕ, List, [], ◌∷◌, ◌++◌, length}
+-- What a walker's steps tell.
+use Rattle.std.specs.Prelude.{◌≡◌, ◌⊎◌, ℕ, List, [], ◌∷◌, ◌++◌, length, Option, Some, None}
 use Rattle.tlv_head.specs.declared.fault.Fault.{Fault}
-use Rattle.tlv_head.specs.Fields.{heading_with}
 use Rattle.tlv_walk.specs.declared.ending.Ending.TheVariants as ending
 use Rattle.tlv_walk.specs.declared.framing.Framing.{Framing}
 use Rattle.tlv_walk.specs.declared.event.Event.{Event}
 use Rattle.tlv_walk.specs.declared.event.Event.TheVariants as event
-use Rattle.tlv_walk.specs.declared.event.Move.{Move}
-use Rattle.tlv_walk.specs.declared.event.Move.TheVariants as move
 use Rattle.tlv_walk.specs.declared.event.Step.{Step}
 use Rattle.tlv_walk.specs.declared.event.Step.TheVariants as step
 use Rattle.tlv_walk.specs.declared.walker.Phase.TheVariants.{Failed}
 use Rattle.tlv_walk.specs.Ending.{IsEnding}
 use Rattle.tlv_walk.specs.Events.{AreEqualJoined, Told, events, Open, Begin, Bytes, End, Close, Enter, Unused, Leave, Pad}
-use Rattle.tlv_walk.specs.Machine.{IsWaiting, Machine, found_in}
-use Rattle.tlv_walk.specs.State.{HasState, Stands, State, waiting_of}
+use Rattle.tlv_walk.specs.Machine.{IsWaiting, Machine, found_in, unused_in}
+use Rattle.tlv_walk.specs.OpenCount.{open_count}
+use Rattle.tlv_walk.specs.State.{HasState, NothingWaits, Stands, State}
 use Rattle.tlv_walk.specs.Forest.{Forest, spell}
 use Rattle.tlv_walk.specs.Reading.{IsReading}
-use Rattle.tlv_walk.specs.Wrappers.{enters}
+use Rattle.tlv_walk.specs.Wrappers.{enters, unused_of}
 
 -- from whatever state the walker had, it came to one with these octets and events more
 pub record Continues (old new : Machine) (taken : List ℕ) (more : List Told) : Type 0 where
@@ -46,26 +44,16 @@ abbrev pub RefusesOctet : Machine → List ℕ → List ℕ → Fault → Type 0
 RefusesOctet old before after f = (taken : List ℕ) × (x : ℕ) × (rest : List ℕ) × (before ≡ taken ++ x ∷ rest) × (after ≡ x ∷ rest)
     × ((b : List ℕ) (told : List Told) (s : State) → HasState old b told s
     → (m : Machine) × (t : State) × HasState m (b ++ taken) told t × (IsWaiting m → ⊥) × (f.offset ≡ m.offset)
-    × ((c : List ℕ) → IsEnding old.framing ((b ++ taken) ++ x ∷ c) (ending.Fault f)) × (m.framing ≡ old.framing))
+    × ((c : List ℕ) → IsEnding old.framing ((b ++ taken) ++ x ∷ c) (ending.Fault f)) × (m.framing ≡ old.framing) × (m.stack ≡ old.stack))
 
 -- an octet is refused, or was refused before
 abbrev pub TellsFault : Machine → Machine → List ℕ → List ℕ → Fault → Type 0
 TellsFault old new before after f = RefusesOctet old before after f ⊎ ((old.phase ≡ Failed f) × (new ≡ old) × (after ≡ before))
 
--- what a move tells
-abbrev pub TellsMove : Machine → Machine → List ℕ → List ℕ → Move → Type 0
-TellsMove old new before after (move.Open f octets) = TellsEvent old new before after (Open (heading_with f octets.now))
-TellsMove old new before after (move.Begin f octets) = TellsEvent old new before after (Begin (heading_with f octets.now))
-TellsMove old new before after (move.Enter f octets) = TellsEvent old new before after (Enter (heading_with f octets.now))
-TellsMove old new before after (move.Bytes octets) = TellsEvent old new before after (Bytes octets.now)
-TellsMove old new before after move.End = TellsEvent old new before after End
-TellsMove old new before after (move.Close at) = TellsEvent old new before after (Close at)
-TellsMove old new before after move.Unused = TellsEvent old new before after Unused
-TellsMove old new before after move.Leave = TellsEvent old new before after Leave
-TellsMove old new before after (move.Pad octets) = TellsEvent old new before after (Pad octets.now)
-TellsMove old new before after move.Slow = (new ≡ old) × (after ≡ before)
-TellsMove old new before after move.NeedMore = Continues old new before []
-TellsMove old new before after (move.Fault f) = TellsFault old new before after f
+-- what an event that came at once tells
+abbrev pub TellsAtOnce : Machine → Machine → List ℕ → List ℕ → Option Event → Type 0
+TellsAtOnce old new before after (Some e) = TellsEvent old new before after (told_of e)
+TellsAtOnce old new before after None = Unit {0}
 
 -- what a step tells
 abbrev pub TellsStep : Machine → Machine → List ℕ → List ℕ → Step → Type 0
@@ -88,19 +76,28 @@ pub record IsRefusedBehind (framing : Framing) (p : List ℕ) (octet : ℕ) (tol
   pub stays : (c : List ℕ) → IsReading framing (p ++ octet ∷ c) reading
   pub ends : (c : List ℕ) → IsEnding framing (p ++ octet ∷ c) (ending.Fault f)
 
+-- what a walker stands for that refused an octet: the octets before it, and the events told, which are all of their reading
+pub record StandsRefused (w : Machine) (b : List ℕ) (octet : ℕ) (told : List Told) (f : Fault) : Type 0 where
+  pub behind : IsRefusedBehind w.framing b octet told f
+  pub phase : w.phase ≡ Failed f
+  pub offset : w.offset ≡ length b
+  pub depth : length w.stack ≡ open_count behind.reading
+  pub unused : unused_in w ≡ unused_of w.framing.inside behind.reading
+
 -- the octet behind those that were taken is refused
-pub record IsRefused (old : Machine) (before after : List ℕ) (f : Fault) : Type 0 where
+pub record IsRefused (old new : Machine) (before after : List ℕ) (f : Fault) : Type 0 where
   pub taken : List ℕ
   pub octet : ℕ
   pub rest : List ℕ
   pub before_is : before ≡ taken ++ octet ∷ rest
   pub after_is : after ≡ octet ∷ rest
   pub ends : (b : List ℕ) (told : List Told) → Stands old b told → IsRefusedBehind old.framing (b ++ taken) octet told f
+  pub stands : (b : List ℕ) (told : List Told) → Stands old b told → StandsRefused new (b ++ taken) octet told f
 
 -- what a step makes of a walker that stands for octets, and of the front of a piece
 abbrev pub StandsStep : Machine → Machine → List ℕ → List ℕ → Step → Type 0
 StandsStep old new before after (step.Event e) = StandsBehind old new before after (told_of e)
 StandsStep old new before after step.NeedMore =
-    (after ≡ []) × (new.framing ≡ old.framing) × ((b : List ℕ) (told : List Told) → Stands old b told → Stands new (b ++ before) told × (waiting_of new ≡ []))
+    (after ≡ []) × (new.framing ≡ old.framing) × ((b : List ℕ) (told : List Told) → Stands old b told → Stands new (b ++ before) told × NothingWaits new)
 -- the first fault, or the same again
-StandsStep old new before after (step.Fault f) = IsRefused old before after f ⊎ ((old.phase ≡ Failed f) × (new ≡ old) × (after ≡ before))
+StandsStep old new before after (step.Fault f) = IsRefused old new before after f ⊎ ((old.phase ≡ Failed f) × (new ≡ old) × (after ≡ before))

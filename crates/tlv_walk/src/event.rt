@@ -1,5 +1,5 @@
 //! What a walk tells.
-use tlv_head::{Fault, Header, HeaderFields};
+use tlv_head::{Fault, Header};
 
 /// What a walk tells, in the order of the octets.
 #[derive(Debug, Drop)]
@@ -32,25 +32,6 @@ pub enum Step<'a> {
     /// The piece is used up, and no event is waiting.
     NeedMore,
     /// An octet is refused. The walker takes nothing more.
-    Fault(Fault),
-}
-
-/// What a walker made of the front of a piece. An [`Event`] has room for a header of 137 octets, and
-/// is too large to be handed from function to function for each element; a move is small.
-pub(crate) enum Move<'a> {
-    Open(HeaderFields, &'a [u8]),
-    Begin(HeaderFields, &'a [u8]),
-    Enter(HeaderFields, &'a [u8]),
-    Bytes(&'a [u8]),
-    End,
-    Close(Option<u64>),
-    Unused,
-    Leave,
-    Pad(&'a [u8]),
-    /// A header that does not lie whole in the piece, or that is refused: it is to be read octet by
-    /// octet. Nothing was taken.
-    Slow,
-    NeedMore,
     Fault(Fault),
 }
 

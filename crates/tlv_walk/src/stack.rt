@@ -106,6 +106,17 @@ impl Stack {
         }
     }
 
+    /// Whether contents may go up to this offset: the innermost definite element, if there is one, does not end before it.
+    #[inline]
+    pub fn reaches(&self, end: u64) -> bool
+        ensures { IsTrue result ↔ Within (bound_of self.now) end }
+    {
+        match self.bound() {
+            Some(bound) => end <= bound,
+            None => true,
+        }
+    }
+
     /// How many octets there are from this offset to the bound.
     pub fn room(&self, offset: u64) -> Option<u64>
         requires { Within (bound_of self.now) offset }

@@ -9,11 +9,10 @@ ghost use Rattle.tlv_walk.specs.Out.{Puts, Sends, lender_of};
 ghost use Rattle.tlv_walk.specs.State.{Stands};
 ghost use Rattle.tlv_walk.specs.Turns.{Calls, Turns, given};
 
-use crate::event::Move;
 use crate::{
-    DeviceFault, Drain, Ending, Event, Follow, Go, Out, Run, Source, Step, Turn, Walker, WriteFault,
+    DeviceFault, Drain, Ending, Follow, Go, Out, Run, Source, Step, Turn, Walker, WriteFault,
 };
-use tlv_head::{Fault, Header};
+use tlv_head::Fault;
 
 /// Why a piece is not followed any further.
 #[derive(Clone, Copy)]
@@ -126,29 +125,13 @@ fn follow<F: Follow, D: Drain>(
 {
     let mut rest = piece;
     'events: loop {
-        let go = match walker.advance(&mut rest) {
-            Move::Open(fields, octets) => {
-                follower.on(&Event::Open(Header::new(&fields, octets)), out)?
-            }
-            Move::Begin(fields, octets) => {
-                follower.on(&Event::Begin(Header::new(&fields, octets)), out)?
-            }
-            Move::Enter(fields, octets) => {
-                follower.on(&Event::Enter(Header::new(&fields, octets)), out)?
-            }
-            Move::Bytes(octets) => follower.on(&Event::Bytes(octets), out)?,
-            Move::End => follower.on(&Event::End, out)?,
-            Move::Close(offset) => follower.on(&Event::Close(offset), out)?,
-            Move::Unused => follower.on(&Event::Unused, out)?,
-            Move::Leave => follower.on(&Event::Leave, out)?,
-            Move::Pad(octets) => follower.on(&Event::Pad(octets), out)?,
-            Move::Slow => match walker.slow_header(&mut rest) {
+        let go = match walker.quick_event(&mut rest) {
+            Some(event) => follower.on(&event, out)?,
+            None => match walker.step(&mut rest) {
                 Step::Event(event) => follower.on(&event, out)?,
                 Step::NeedMore => return Ok(Stop::UsedUp),
                 Step::Fault(fault) => return Ok(Stop::Fault(fault)),
             },
-            Move::NeedMore => return Ok(Stop::UsedUp),
-            Move::Fault(fault) => return Ok(Stop::Fault(fault)),
         };
         if go == Go::Enough {
             return Ok(Stop::Enough);

@@ -2,12 +2,14 @@
 //! others.
 ghost use Rattle.std.specs.Prelude.{◌≡◌, ◌≢◌, ℕ, ◌+◌, ◌^◌, ◌<◌, ◌≤◌, ◌↔◌, All, IsTrue, Some, length, slice_get, take};
 
-use crate::event::{Kind, Move};
-use crate::stack::{Frame, Stack, room_to};
+mod contents;
+mod ends;
+mod headers;
+
+use crate::stack::Stack;
 use crate::{Ending, Event, Framing, Step};
 use std::marker::Model;
-use std::mem::replace;
-use tlv_head::{Fault, FaultCode, Head, HeadReader, Header, HeaderFields, Size, read_header};
+use tlv_head::{Fault, FaultCode, HeadReader};
 
 /// What the next octet belongs to.
 #[derive(Drop)]
@@ -55,19 +57,21 @@ impl Model for Walker {
 }
 
 impl Walker {
-    ghost use Rattle.std.specs.Prelude.{◌≢◌, ◌∷◌, List, [], Some, slice_get, true};
+    ghost use Rattle.std.specs.Prelude.{◌≢◌, ◌∷◌, ◌++◌, List, [], Some, false, slice_get, true};
     ghost use Rattle.tlv_head.specs.Fields.{Suits, heading_with};
     ghost use Rattle.tlv_head.specs.Header.{announced, holds, octets_of};
     ghost use Rattle.tlv_walk.specs.declared.walker.Phase.TheVariants as phases;
-    ghost use Rattle.tlv_walk.specs.Machine.{CanBegin, CanEnter, CanRead, CanReadOn, Enters, HasOctets, IsWaiting, Moves, MovesOn, Steps, Tells, fault_at, new_machine, next_wrapper, unused_in};
+    ghost use Rattle.tlv_walk.specs.Machine.{CanBegin, CanEnter, CanRead, CanReadOn, Enters, HasOctets, IsWaiting, Steps, StepsAtOnce, Tells, TellsOne, fault_at, new_machine, next_wrapper, unused_in};
     ghost use Rattle.tlv_head.specs.declared.fault.Fault.{Fault as FaultOf};
     ghost use Rattle.tlv_walk.specs.Ending.{IsEnding};
     ghost use Rattle.tlv_walk.specs.Events.{Told};
     ghost use Rattle.tlv_walk.specs.OpenCount.{open_count};
-    ghost use Rattle.tlv_walk.specs.State.{Stands};
+    ghost use Rattle.tlv_walk.specs.State.{NothingWaits, Stands};
     ghost use Rattle.tlv_walk.specs.Wrappers.{unused_of};
     ghost use Rattle.tlv_walk.specs.ReadsOn.{TellsFrom, TellsHeader};
-    ghost use Rattle.tlv_walk.specs.Tells.{StandsStep, TellsMove, TellsStep, told_of};
+    ghost use Rattle.tlv_walk.specs.Tells.{Continues, StandsRefused, StandsStep, TellsAtOnce, TellsEvent, TellsStep, told_of};
+    ghost use Rattle.tlv_head.specs.Read.{BeginsWithFields};
+    ghost use Rattle.tlv_walk.specs.Inside.{is_among};
     ghost use Rattle.tlv_walk.specs.Stack.{IsFilled, Within, bound_of, room_of};
 
     /// A walker that has taken nothing.
@@ -91,7 +95,8 @@ impl Walker {
     pub fn depth(&self) -> u8
         ensures value { result ≡ length self.now.stack }
         ensures within { result ≤ 128 }
-        ensures open_elements { (b : List ℕ) (told : List Told) → (IsWaiting self.now → ⊥) → (stands : Stands self.now b told) → result ≡ open_count stands.reading }
+        ensures open_elements { (b : List ℕ) (told : List Told) → NothingWaits self.now → (stands : Stands self.now b told) → result ≡ open_count stands.reading }
+        ensures refused { (b : List ℕ) (x : ℕ) (told : List Told) (f : FaultOf) → (stands : StandsRefused self.now b x told f) → result ≡ open_count stands.behind.reading }
     {
         self.stack.len()
     }
@@ -101,6 +106,7 @@ impl Walker {
         ensures value { result ≡ self.now.offset }
         ensures within { result ≤ 2 ^ 40 }
         ensures taken { (b : List ℕ) (told : List Told) → Stands self.now b told → result ≡ length b }
+        ensures refused { (b : List ℕ) (x : ℕ) (told : List Told) (f : FaultOf) → StandsRefused self.now b x told f → result ≡ length b }
     {
         self.offset
     }
@@ -117,12 +123,21 @@ impl Walker {
     pub fn unused(&self) -> Option<u64>
         ensures value { result ≡ unused_in self.now }
         ensures first { (b : List ℕ) (told : List Told) → (stands : Stands self.now b told) → result ≡ unused_of self.now.framing.inside stands.reading }
+        ensures refused { (b : List ℕ) (x : ℕ) (told : List Told) (f : FaultOf) → (stands : StandsRefused self.now b x told f)
+            → result ≡ unused_of self.now.framing.inside stands.behind.reading }
     {
         self.framing.inside.get(self.wrappers)
     }
 
     /// Whether an event is still to come that needs no further octet.
     pub fn waiting(&self) -> bool
+        ensures { (result ≡ false) ↔ NothingWaits self.now }
+    {
+        self.is_waiting()
+    }
+
+    /// Whether the phase and the stack say that an event waits.
+    fn is_waiting(&self) -> bool
         ensures { IsTrue result ↔ IsWaiting self.now }
     {
         match &self.phase {
@@ -134,9 +149,11 @@ impl Walker {
 
     /// What the input comes to, if it ends here. After a fault it is that fault.
     pub fn finish(&self) -> Ending
-        requires { IsWaiting self.now → ⊥ }
+        requires { NothingWaits self.now }
         ensures stands { (b : List ℕ) (told : List Told) → Stands self.now b told → IsEnding self.now.framing b result }
         ensures failed { (f : FaultOf) → self.now.phase ≡ phases.Failed f → result ≡ Ending.Fault f }
+        ensures refused { (b : List ℕ) (x : ℕ) (told : List Told) (f : FaultOf) → StandsRefused self.now b x told f
+            → (c : List ℕ) → IsEnding self.now.framing (b ++ x ∷ c) result }
     {
         if let Phase::Failed(fault) = &self.phase {
             return Ending::Fault(*fault);
@@ -174,49 +191,37 @@ impl Walker {
     ///
     /// `NeedMore` comes only with an empty piece and no event waiting. After a fault each step answers
     /// the same fault and takes nothing.
+    #[inline(never)]
     pub fn step<'a>(&mut self, piece: &mut &'a [u8]) -> Step<'a>
         requires { self.old.offset + length piece.old.now ≤ 2 ^ 40 }
         ensures steps { Steps self.old self.new piece.old.now piece.new.now result }
         ensures stands { StandsStep self.old self.new piece.old.now piece.new.now result }
         ensures again { (f : FaultOf) → self.old.phase ≡ phases.Failed f → (result ≡ Step.Fault f) × (self.new ≡ self.old) × (piece.new.now ≡ piece.old.now) }
     {
-        Step::Event(match self.advance(piece) {
-            Move::Open(fields, octets) => Event::Open(Header::new(&fields, octets)),
-            Move::Begin(fields, octets) => Event::Begin(Header::new(&fields, octets)),
-            Move::Enter(fields, octets) => Event::Enter(Header::new(&fields, octets)),
-            Move::Bytes(octets) => Event::Bytes(octets),
-            Move::End => Event::End,
-            Move::Close(offset) => Event::Close(offset),
-            Move::Unused => Event::Unused,
-            Move::Leave => Event::Leave,
-            Move::Pad(octets) => Event::Pad(octets),
-            Move::Slow => return self.slow_header(piece),
-            Move::NeedMore => return Step::NeedMore,
-            Move::Fault(fault) => return Step::Fault(fault),
-        })
+        self.take(piece)
     }
 
-    /// [`Walker::step`], but for headers that are to be read octet by octet.
-    #[inline]
-    pub(crate) fn advance<'a>(&mut self, piece: &mut &'a [u8]) -> Move<'a>
+    /// What the next octets are, by what they belong to.
+    fn take<'a>(&mut self, piece: &mut &'a [u8]) -> Step<'a>
         requires { self.old.offset + length piece.old.now ≤ 2 ^ 40 }
-        ensures moves { Moves self.old self.new piece.old.now piece.new.now result }
-        ensures tells { TellsMove self.old self.new piece.old.now piece.new.now result }
-        ensures again { (f : FaultOf) → self.old.phase ≡ phases.Failed f → (result ≡ Move.Fault f) × (self.new ≡ self.old) × (piece.new.now ≡ piece.old.now) }
+        ensures steps { Steps self.old self.new piece.old.now piece.new.now result }
+        ensures tells { TellsStep self.old self.new piece.old.now piece.new.now result }
+        ensures again { (f : FaultOf) → self.old.phase ≡ phases.Failed f → (result ≡ Step.Fault f) × (self.new ≡ self.old) × (piece.new.now ≡ piece.old.now) }
     {
         if let Phase::Contents(left) = self.phase {
-            return if left == 0 {
-                self.end_primitive()
-            } else {
-                self.contents(left, piece)
-            };
+            if left == 0 {
+                return Step::Event(self.end_primitive());
+            }
+            if piece.is_empty() {
+                return Step::NeedMore;
+            }
+            return Step::Event(self.contents(left, piece));
         }
         if matches!(self.phase, Phase::Between) {
-            return if self.stack.is_filled(self.offset) {
-                self.end_filled()
-            } else {
-                self.between(piece)
-            };
+            if self.stack.is_filled(self.offset) {
+                return Step::Event(self.end_filled());
+            }
+            return self.between(piece);
         }
         if matches!(self.phase, Phase::Unused) {
             return self.unused_octet(piece);
@@ -225,355 +230,52 @@ impl Walker {
             return self.second_zero(piece);
         }
         if let Phase::Failed(fault) = &self.phase {
-            return Move::Fault(*fault);
+            return Step::Fault(*fault);
         }
         if piece.is_empty() {
-            return Move::NeedMore;
+            return Step::NeedMore;
         }
-        Move::Slow
+        self.slow_header(piece)
     }
 
-    /// The end of a primitive whose contents have all come.
-    #[inline]
-    fn end_primitive<'a>(&mut self) -> Move<'a>
-        requires { self.old.phase ≡ phases.Contents 0 }
-        ensures moves { MovesOn self.old self.new self.old.offset result }
-        ensures tells { TellsMove self.old self.new [] [] result }
+    /// The next event, where few instructions find it: an end that waits, contents, end-of-contents octets, or a header of
+    /// few octets that may stand here. Otherwise nothing is taken, and [`Walker::step`] says what comes next.
+    #[inline(always)]
+    pub(crate) fn quick_event<'a>(&mut self, piece: &mut &'a [u8]) -> Option<Event<'a>>
+        requires { self.old.offset + length piece.old.now ≤ 2 ^ 40 }
+        ensures steps { StepsAtOnce self.old self.new piece.old.now piece.new.now result }
+        ensures tells { TellsAtOnce self.old self.new piece.old.now piece.new.now result }
     {
-        self.events += 1;
-        self.phase = Phase::Between;
-        Move::End
-    }
-
-    /// The end of the innermost element, which is definite and whose contents have all come.
-    #[inline]
-    fn end_filled<'a>(&mut self) -> Move<'a>
-        requires phase { self.old.phase ≡ phases.Between }
-        requires filled { IsFilled self.old.stack self.old.offset }
-        ensures moves { MovesOn self.old self.new self.old.offset result }
-        ensures tells { TellsMove self.old self.new [] [] result }
-    {
-        self.events += 1;
-        let Some(frame) = self.stack.pop() else {
-            unreachable!();
-        };
-        if frame.wrapper {
-            return Move::Leave;
-        }
-        Move::Close(None)
-    }
-
-    /// Takes contents of a primitive.
-    #[inline]
-    fn contents<'a>(&mut self, left: u64, piece: &mut &'a [u8]) -> Move<'a>
-        requires phase { self.old.phase ≡ phases.Contents left }
-        requires some { 0 < left }
-        requires limit { self.old.offset + length piece.old.now ≤ 2 ^ 40 }
-        ensures moves { Moves self.old self.new piece.old.now piece.new.now result }
-        ensures tells { TellsMove self.old self.new piece.old.now piece.new.now result }
-    {
-        let octets: &'a [u8] = *piece;
-        if octets.is_empty() {
-            return Move::NeedMore;
-        }
-        let count = left.min(octets.len() as u64);
-        let (front, rest) = octets.split_at(count as usize);
-        *piece = rest;
-        self.offset += count;
-        self.phase = Phase::Contents(left - count);
-        self.events += 1;
-        Move::Bytes(front)
-    }
-
-    /// Takes what stands between two elements, or begins one.
-    #[inline]
-    fn between<'a>(&mut self, piece: &mut &'a [u8]) -> Move<'a>
-        requires phase { self.old.phase ≡ phases.Between }
-        requires room { IsFilled self.old.stack self.old.offset → ⊥ }
-        requires limit { self.old.offset + length piece.old.now ≤ 2 ^ 40 }
-        ensures moves { Moves self.old self.new piece.old.now piece.new.now result }
-        ensures tells { TellsMove self.old self.new piece.old.now piece.new.now result }
-    {
-        let octets: &'a [u8] = *piece;
-        let [octet, rest @ ..] = octets else {
-            return Move::NeedMore;
-        };
-        let indefinite = self.stack.is_in_indefinite();
-        if indefinite && self.stack.room(self.offset) == Some(0) {
-            return self.fail(FaultCode::MissingEnd);
-        }
-        if *octet != 0 {
-            return self.fast_header(piece);
-        }
-        if indefinite {
-            *piece = rest;
-            self.offset += 1;
-            self.phase = Phase::Zero;
-            return self.second_zero(piece);
-        }
-        if self.framing.padding && self.stack.is_empty() {
-            return self.padding(piece);
-        }
-        self.fail(FaultCode::StrayEnd)
-    }
-
-    /// Takes the octets `00` at the front of the piece.
-    fn padding<'a>(&mut self, piece: &mut &'a [u8]) -> Move<'a>
-        requires phase { self.old.phase ≡ phases.Between }
-        requires zero { slice_get piece.old.now 0 ≡ Some 0 }
-        requires limit { self.old.offset + length piece.old.now ≤ 2 ^ 40 }
-        requires top { self.old.stack ≡ [] }
-        requires padding { self.old.framing.padding ≡ true }
-        ensures moves { Moves self.old self.new piece.old.now piece.new.now result }
-        ensures tells { TellsMove self.old self.new piece.old.now piece.new.now result }
-    {
-        let octets: &'a [u8] = *piece;
-        let count = zeros(octets);
-        let (front, rest) = octets.split_at(count);
-        *piece = rest;
-        self.offset += count as u64;
-        self.events += 1;
-        Move::Pad(front)
-    }
-
-    /// Takes the first contents octet of a wrapping BIT STRING.
-    fn unused_octet<'a>(&mut self, piece: &mut &'a [u8]) -> Move<'a>
-        requires phase { self.old.phase ≡ phases.Unused }
-        requires limit { self.old.offset + length piece.old.now ≤ 2 ^ 40 }
-        ensures moves { Moves self.old self.new piece.old.now piece.new.now result }
-        ensures tells { TellsMove self.old self.new piece.old.now piece.new.now result }
-    {
-        let octets: &'a [u8] = *piece;
-        let [octet, rest @ ..] = octets else {
-            return Move::NeedMore;
-        };
-        if *octet != 0 {
-            return self.fail(FaultCode::BadInside);
-        }
-        *piece = rest;
-        self.offset += 1;
-        self.events += 1;
-        self.phase = Phase::Between;
-        Move::Unused
-    }
-
-    /// Takes the second of the end-of-contents octets.
-    #[inline]
-    fn second_zero<'a>(&mut self, piece: &mut &'a [u8]) -> Move<'a>
-        requires phase { self.old.phase ≡ phases.Zero }
-        requires limit { self.old.offset + length piece.old.now ≤ 2 ^ 40 }
-        ensures moves { Moves self.old self.new piece.old.now piece.new.now result }
-        ensures tells { TellsMove self.old self.new piece.old.now piece.new.now result }
-    {
-        let octets: &'a [u8] = *piece;
-        let [octet, rest @ ..] = octets else {
-            return Move::NeedMore;
-        };
-        if self.stack.room(self.offset) == Some(0) {
-            return self.fail(FaultCode::MissingEnd);
-        }
-        if *octet != 0 {
-            return self.fail(FaultCode::BadEnd);
-        }
-        *piece = rest;
-        let offset = self.offset - 1;
-        self.stack.pop();
-        self.phase = Phase::Between;
-        self.offset += 1;
-        self.events += 1;
-        Move::Close(Some(offset))
-    }
-
-    /// Takes a header that lies whole in the piece, if it may stand here.
-    #[inline]
-    fn fast_header<'a>(&mut self, piece: &mut &'a [u8]) -> Move<'a>
-        requires begins { CanBegin self.old piece.old.now }
-        requires limit { self.old.offset + length piece.old.now ≤ 2 ^ 40 }
-        ensures moves { Moves self.old self.new piece.old.now piece.new.now result }
-        ensures tells { TellsMove self.old self.new piece.old.now piece.new.now result }
-    {
-        let octets: &'a [u8] = *piece;
-        let named = self.framing.inside.contains(self.offset);
-        let Some((fields, count)) = read_header(self.offset, named, octets) else {
-            return Move::Slow;
-        };
-        let (front, rest) = octets.split_at(count);
-        if !self.may_stand(&fields, front) {
-            return Move::Slow;
-        }
-        *piece = rest;
-        match self.enter(&fields, front) {
-            Kind::Constructed => Move::Open(fields, front),
-            Kind::Wrapper => Move::Enter(fields, front),
-            Kind::Primitive => Move::Begin(fields, front),
-        }
-    }
-
-    /// Begins a header or goes on with one, octet by octet.
-    #[cold]
-    pub(crate) fn slow_header<'a>(&mut self, piece: &mut &'a [u8]) -> Step<'a>
-        requires begins { CanRead self.old piece.old.now }
-        requires limit { self.old.offset + length piece.old.now ≤ 2 ^ 40 }
-        ensures steps { Steps self.old self.new piece.old.now piece.new.now result }
-        ensures tells { TellsStep self.old self.new piece.old.now piece.new.now result }
-    {
-        if matches!(self.phase, Phase::Header(_)) {
-            let Phase::Header(reader) = replace(&mut self.phase, Phase::Between) else {
-                unreachable!();
-            };
-            return self.read_on(reader, piece);
-        }
-        let named = self.framing.inside.contains(self.offset);
-        self.has_element = true;
-        self.read_on(HeadReader::new(self.offset, named), piece)
-    }
-
-    /// Goes on with a header, octet by octet.
-    fn read_on<'a>(&mut self, reader: HeadReader, piece: &mut &'a [u8]) -> Step<'a>
-        requires phase { self.old.phase ≡ phases.Between }
-        requires read { CanReadOn self.old reader piece.old.now }
-        requires some { piece.old.now ≢ [] }
-        requires limit { self.old.offset + length piece.old.now ≤ 2 ^ 40 }
-        ensures steps { Steps self.old self.new piece.old.now piece.new.now result }
-        ensures tells { TellsFrom self.old reader self.new piece.old.now piece.new.now result }
-    {
-        let mut reader = reader;
-        let depth = self.stack.len();
-        let bound = self.stack.bound();
-        let mut offset = self.offset;
-        while let [octet, rest @ ..] = *piece {
-            match reader.push(*octet, room_to(bound, offset), depth) {
-                Head::More => {
-                    *piece = rest;
-                    offset += 1;
-                }
-                Head::Whole(header) => {
-                    *piece = rest;
-                    return Step::Event(self.enter_slowly(header));
-                }
-                Head::Refused(fault) => {
-                    self.offset = offset;
-                    self.phase = Phase::Failed(fault);
-                    return Step::Fault(fault);
-                }
+        if let Phase::Contents(left) = self.phase {
+            if left == 0 {
+                return Some(self.end_primitive());
             }
+            if piece.is_empty() {
+                return None;
+            }
+            return Some(self.contents(left, piece));
         }
-        self.offset = offset;
-        self.phase = Phase::Header(reader);
-        Step::NeedMore
-    }
-
-    fn enter_slowly<'a>(&mut self, header: Header) -> Event<'a>
-        requires phase { self.old.phase ≡ phases.Between }
-        requires enter { CanEnter self.old header }
-        ensures tells { Tells self.old self.new (header.offset + length (octets_of header)) }
-        ensures enters { TellsHeader self.old self.new header (told_of result) }
-        ensures octets { HasOctets result }
-    {
-        let fields = header.fields();
-        match self.enter(&fields, header.raw()) {
-            Kind::Constructed => Event::Open(header),
-            Kind::Wrapper => Event::Enter(header),
-            Kind::Primitive => Event::Begin(header),
+        if !matches!(self.phase, Phase::Between) {
+            return None;
         }
-    }
-
-    /// Stands behind a header, whose octets have left the piece.
-    #[inline]
-    fn enter(&mut self, fields: &HeaderFields, octets: &[u8]) -> Kind
-        requires phase { self.old.phase ≡ phases.Between }
-        requires suits { Suits fields.now octets.now }
-        requires enter { CanEnter self.old (heading_with fields.now octets.now) }
-        ensures tells { Tells self.old self.new (fields.now.offset + length octets.now) }
-        ensures enters { Enters self.old self.new fields.now (fields.now.offset + length octets.now) result }
-    {
-        self.offset = fields.offset + octets.len() as u64;
-        self.events += 1;
-        self.has_element = true;
-        let (end, length) = match fields.size {
-            Size::Definite(length) => (Some(self.offset + length), length),
-            Size::Indefinite => (None, 0),
-        };
-        if !fields.constructed && !fields.wraps() {
-            self.phase = Phase::Contents(length);
-            return Kind::Primitive;
+        if self.stack.is_filled(self.offset) {
+            return Some(self.end_filled());
         }
-        let bound = end.or(self.stack.bound());
-        self.stack.push(Frame {
-            end,
-            bound,
-            wrapper: !fields.constructed,
-        });
-        if fields.constructed {
-            return Kind::Constructed;
+        if let Some(event) = self.end_octets(piece) {
+            return Some(event);
         }
-        self.found_wrapper(fields.offset);
-        if fields.number == 3 {
-            self.phase = Phase::Unused;
-        }
-        Kind::Wrapper
-    }
-
-    /// Counts a string that wraps encodings, where its offset is the first of those named that was
-    /// not counted yet. Strings come in the order of their offsets, so one that is passed over stays
-    /// unused.
-    #[tactic(auto, using(std::proofs::lemmas::Option::slice_get_within))]
-    fn found_wrapper(&mut self, offset: u64)
-        ensures { self.new ≡ record self.old { wrappers = next_wrapper self.old.framing.inside self.old.wrappers offset } }
-    {
-        if let Some(named) = self.framing.inside.get(self.wrappers)
-            && named == offset
-        {
-            self.wrappers += 1;
-        }
-    }
-
-    /// Whether an element with this header may stand here: it is not too deep, and its contents end
-    /// within the bound.
-    #[inline]
-    fn may_stand(&self, fields: &HeaderFields, octets: &[u8]) -> bool
-        requires place { fields.now.offset ≡ self.now.offset }
-        requires limit { fields.now.offset + length octets.now ≤ 2 ^ 40 }
-        requires length { announced fields.now.size < 2 ^ 40 }
-        ensures shallow { IsTrue result → holds (heading_with fields.now octets.now) ≡ true → length self.now.stack < 128 }
-        ensures fits { IsTrue result → Within (bound_of self.now.stack) (fields.now.offset + length octets.now + announced fields.now.size) }
-    {
-        if self.stack.len() == 128 && (fields.constructed || fields.wraps()) {
-            return false;
-        }
-        let length = match fields.size {
-            Size::Definite(length) => length,
-            Size::Indefinite => 0,
-        };
-        match self.stack.bound() {
-            Some(bound) => self.offset + octets.len() as u64 + length <= bound,
-            None => true,
-        }
+        self.short_header(piece)
     }
 
     /// Refuses the next octet.
-    fn fail<'a>(&mut self, code: FaultCode) -> Move<'a>
-        ensures { (result ≡ Move.Fault (fault_at code self.old.offset)) × (self.new ≡ record self.old { phase = phases.Failed (fault_at code self.old.offset) }) }
+    fn fail<'a>(&mut self, code: FaultCode) -> Step<'a>
+        ensures { (result ≡ Step.Fault (fault_at code self.old.offset)) × (self.new ≡ record self.old { phase = phases.Failed (fault_at code self.old.offset) }) }
     {
         let fault = Fault {
             code,
             offset: self.offset,
         };
         self.phase = Phase::Failed(fault);
-        Move::Fault(fault)
+        Step::Fault(fault)
     }
-}
-
-/// How many octets `00` there are before the first that is another.
-fn zeros(octets: &[u8]) -> usize
-    ensures within { result ≤ length octets.now }
-    ensures zeros { All (λ x. x ≡ 0) (take result octets.now) }
-    ensures some { slice_get octets.now 0 ≡ Some 0 → 0 < result }
-    ensures all { slice_get octets.now result ≢ Some 0 }
-{
-    let mut count = 0;
-    while count < octets.len() && octets[count] == 0 {
-        count += 1;
-    }
-    count
 }

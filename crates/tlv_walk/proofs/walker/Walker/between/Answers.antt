@@ -1,8 +1,8 @@
 use Rattle.std.proofs.Common.{◌≡◌, ℕ, ◌+◌, ◌-◌, List, ◌∷◌, length, take, drop, refl, sym, subst, inl, arith, rules}
 use Rattle.std.proofs.lemmas.Grind.{common_steps}
 use Rattle.tlv_walk.specs.Stack.{Within, bound_of}
-use Rattle.tlv_walk.specs.Tells.{TellsMove}
-use Rattle.tlv_walk.proofs.Behind.{move_behind, room_more, zero_slow}
+use Rattle.tlv_walk.specs.Tells.{TellsStep}
+use Rattle.tlv_walk.proofs.Behind.{room_more, step_behind}
 use Rattle.tlv_walk.proofs.Moves.{tells_zero}
 use Rattle.tlv_walk.proofs.walker.Walker.between.Goals.{else-indefinite-via-then-indefinite+else-eq, else-indefinite-via-else-indefinite}
 use Rattle.tlv_walk.proofs.Refusals.{refuses_front, refuses_missing, refuses_stray_front}
@@ -19,9 +19,8 @@ returns-then-indefinite-2-clause-tells c =
       | else-indefinite-via-else-indefinite w ↦ absurd (search rules)
     ] in
     let piece : c.args.piece.now.now ≡ 0 ∷ take (length c.args.piece.now.now - 1) (drop 1 c.args.piece.now.now) = grind (arith, common_steps) in
-    subst (λ (o : List ℕ). TellsMove c.args.self.now c.second_zero.new.self o c.second_zero.new.piece.now c.second_zero.result) (sym piece)
-    (move_behind _ _ _ 0 (rw (← c.self.view_is) (tells_zero _ (search rules) (search rules) room)) (search rules) _ _ _ refl
-    (zero_slow _ _ _ _ _ refl c.second_zero.ensures.moves) c.second_zero.ensures.tells)
+    subst (λ (o : List ℕ). TellsStep c.args.self.now c.second_zero.new.self o c.second_zero.new.piece.now c.second_zero.result) (sym piece)
+    (step_behind _ _ _ 0 (rw (← c.self.view_is) (tells_zero _ (search rules) (search rules) room)) (search rules) (search rules) _ _ _ refl c.second_zero.ensures.tells)
 
 pub returns-clause-tells : goal.returns-clause-tells
 returns-clause-tells c =

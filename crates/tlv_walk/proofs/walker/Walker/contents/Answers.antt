@@ -2,5 +2,5 @@ use Rattle.std.proofs.Common.{rules}
 use Rattle.tlv_walk.proofs.Moves.{tells_contents}
 use Rattle.tlv_walk.proofs.walker.Walker.contents.Goals as goal
 
-pub returns-clause-tells : goal.returns-clause-tells
-returns-clause-tells c = (c.split_at.result.0.now, search rules, rw (← c.self.view_is) (tells_contents _ c.args.left c.split_at.result.0.now c.min-count.result (search rules) (search rules) (search rules)))
+pub returns-clause-event : goal.returns-clause-event
+returns-clause-event c = (c.split_at.result.0.now, search rules, rw (← c.self.view_is) (tells_contents _ c.args.left c.split_at.result.0.now c.min-count.result (search rules) (search rules) (search rules)))

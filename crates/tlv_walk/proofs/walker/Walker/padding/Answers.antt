@@ -2,5 +2,5 @@ use Rattle.std.proofs.Common.{rules}
 use Rattle.tlv_walk.proofs.Padding.{tells_pad}
 use Rattle.tlv_walk.proofs.walker.Walker.padding.Goals as goal
 
-pub returns-clause-tells : goal.returns-clause-tells
-returns-clause-tells c = (c.split_at.result.0.now, search rules, rw (← c.self.view_is) (tells_pad _ c.split_at.result.0.now c.zeros-count.result (search rules) (search rules) (search rules) (search rules) (search rules)))
+pub returns-clause-event : goal.returns-clause-event
+returns-clause-event c = (c.split_at.result.0.now, search rules, rw (← c.self.view_is) (tells_pad _ c.split_at.result.0.now c.zeros-count.result (search rules) (search rules) (search rules) (search rules) (search rules)))

@@ -1,5 +1,5 @@
 use Rattle.std.proofs.Common.{◌≡◌, ◌-◌, ◌≤◌, All, length, take}
-use Rattle.tlv_walk.proofs.walker.zeros.Given as goal
+use Rattle.tlv_walk.proofs.walker.contents.zeros.Given as goal
 
 abbrev pub invariant-loop-count : goal.invariant-loop-count
 invariant-loop-count l = record {

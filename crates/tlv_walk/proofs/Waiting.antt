@@ -1,0 +1,57 @@
+-- Whether an event waits, by the code's tests and by the list of those that do.
+use Rattle.std.proofs.Common.{◌≡◌, ℕ, Bool, true, false, eqb, if◌then◌else◌, List, [], ◌∷◌, Option, Some, None, refl, sym, ap, ◌∙◌, ne_eqb, eq-eqb, IsTrue, ◌↔◌}
+use Rattle.std.proofs.lemmas.Bool.{cases_Bool, eqb-false}
+use Rattle.tlv_walk.specs.declared.stack.Frame.{Frame}
+use Rattle.tlv_walk.specs.declared.walker.Phase.{Phase}
+use Rattle.tlv_walk.specs.declared.walker.Phase.TheVariants as phase
+use Rattle.tlv_walk.specs.Events.{Told, End}
+use Rattle.tlv_walk.specs.Machine.{IsReady, IsWaiting, IsWaitingIn, Machine}
+use Rattle.tlv_walk.specs.Stack.{IsFilled}
+use Rattle.tlv_walk.specs.State.{NothingWaits, ending_of, endings_at, is_end, waiting_in, waiting_of}
+use Rattle.tlv_walk.proofs.StateEndings.{ready-waits}
+
+-- where nothing waits no events do
+no_endings : (at : ℕ) (fs : List Frame) → (IsFilled fs at → ⊥) → endings_at at fs ≡ []
+no_endings at [] n = refl
+no_endings at (f ∷ fs) n = ap (λ (k : Bool). if k then ending_of f ∷ endings_at at fs else []) (unfilled f.end n)
+  where
+    unfilled : (e : Option ℕ) → (e ≡ Some at → ⊥) → is_end e at ≡ false
+    unfilled None n = refl
+    unfilled (Some m) n = ne_eqb m at (λ e. n (ap Some e))
+
+quiet_in : (f : Phase) (stack : List Frame) (at : ℕ) → (IsWaitingIn f stack at → ⊥) → waiting_in f stack at ≡ []
+quiet_in phase.Between stack at n = no_endings at stack n
+quiet_in (phase.Header r) stack at n = refl
+quiet_in (phase.Contents left) stack at n = ap (λ (k : Bool). if k then End ∷ endings_at at stack else []) (ne_eqb left 0 n)
+quiet_in phase.Unused stack at n = refl
+quiet_in phase.Zero stack at n = refl
+quiet_in (phase.Failed fault) stack at n = refl
+
+pub quiet : (w : Machine) → (IsWaiting w → ⊥) → waiting_of w ≡ []
+quiet w n = quiet_in w.phase w.stack w.offset n
+
+-- where one waits, there is one in the list
+no_more : (e : Told) (es : List Told) (k : Bool) → k ≡ true → (if k then e ∷ es else []) ≡ [] → ⊥
+no_more e es true t n = cc
+no_more e es false t n = absurd (cc)
+
+loud_in : (f : Phase) (stack : List Frame) (at : ℕ) → IsWaitingIn f stack at → waiting_in f stack at ≡ [] → ⊥
+loud_in phase.Between [] at i n = i
+loud_in phase.Between (f ∷ fs) at i n = no_more (ending_of f) (endings_at at fs) (is_end f.end at) (ap (λ (e : Option ℕ). is_end e at) i ∙ eq-eqb at at refl) n
+loud_in (phase.Header r) stack at i n = i
+loud_in (phase.Contents left) stack at i n = no_more End (endings_at at stack) (eqb left 0) (eq-eqb left 0 i) n
+loud_in phase.Unused stack at i n = i
+loud_in phase.Zero stack at i n = i
+loud_in (phase.Failed fault) stack at i n = i
+
+pub idle : (w : Machine) → NothingWaits w → IsWaiting w → ⊥
+idle w n i = loud_in w.phase w.stack w.offset i n
+
+-- what `waiting` answers
+pub waits : (w : Machine) (k : Bool) → IsTrue k ↔ IsWaiting w → (k ≡ false) ↔ NothingWaits w
+waits w true h = (λ e. absurd (cc (e)), λ n. absurd (idle w n (h.0 refl)))
+waits w false h = (λ e. quiet w (λ i. cc (h.1 i)), λ n. refl)
+
+-- a walker that is ready has none waiting
+pub ready-quiet : (w : Machine) → IsReady w → NothingWaits w
+ready-quiet w r = quiet w (ready-waits w r)

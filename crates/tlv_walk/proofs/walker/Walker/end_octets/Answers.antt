@@ -1,0 +1,7 @@
+use Rattle.std.proofs.Common.{◌∷◌, [], arith, rules}
+use Rattle.std.proofs.lemmas.Grind.{common_steps}
+use Rattle.tlv_walk.proofs.Closing.{tells_both}
+use Rattle.tlv_walk.proofs.walker.Walker.end_octets.Goals as goal
+
+pub returns-clause-tells : goal.returns-clause-tells
+returns-clause-tells c = (0 ∷ 0 ∷ [], grind (arith, common_steps), rw (← c.self.view_is, c.pop.ensures.rest) (tells_both _ (search rules) (search rules) (search rules)))

@@ -1,0 +1,38 @@
+use Rattle.std.proofs.Common.{[], ◌∷◌, refl, subst, rules}
+use Rattle.tlv_head.specs.Fields.{heading_with}
+use Rattle.tlv_walk.specs.declared.event.Kind.{Kind}
+use Rattle.tlv_walk.specs.Tells.{Continues}
+use Rattle.tlv_walk.proofs.HeaderKinds.{event_of, fast_enters, fast_may_enter}
+use Rattle.tlv_walk.proofs.walker.Walker.take_header.Goals as goal
+
+pub enter-requires-clause-enter : goal.enter-requires-clause-enter
+enter-requires-clause-enter c =
+    fast_may_enter c.args.self.now c.args.piece.now.now _ c.args.fields.now c.args.count c.split_at.result.0.now c.requires.begins c.split_at.ensures.front
+    c.requires.fewer c.requires.limit (search rules) (search rules)
+
+pub returns-in-Constructed-clause-tells : goal.returns-in-Constructed-clause-tells
+returns-in-Constructed-clause-tells c = (
+  c.split_at.result.0.now,
+  search rules,
+  rw c.new.ensures (subst (λ (k : Kind). Continues c.args.self.now c.enter.new.self c.split_at.result.0.now (event_of k (heading_with c.args.fields.now c.split_at.result.0.now) ∷ [])) c.in-Constructed.is
+      (fast_enters c.args.self.now c.enter.new.self c.args.piece.now.now _ c.args.fields.now c.args.count c.split_at.result.0.now c.enter.result
+      c.requires.phase c.requires.begins c.split_at.ensures.front refl (search rules) (search rules) c.enter.ensures.enters)),
+)
+
+pub returns-in-Wrapper-clause-tells : goal.returns-in-Wrapper-clause-tells
+returns-in-Wrapper-clause-tells c = (
+  c.split_at.result.0.now,
+  search rules,
+  rw c.new-in-Wrapper.ensures (subst (λ (k : Kind). Continues c.args.self.now c.enter.new.self c.split_at.result.0.now (event_of k (heading_with c.args.fields.now c.split_at.result.0.now) ∷ [])) c.in-Wrapper.is
+      (fast_enters c.args.self.now c.enter.new.self c.args.piece.now.now _ c.args.fields.now c.args.count c.split_at.result.0.now c.enter.result
+      c.requires.phase c.requires.begins c.split_at.ensures.front refl (search rules) (search rules) c.enter.ensures.enters)),
+)
+
+pub returns-in-Primitive-clause-tells : goal.returns-in-Primitive-clause-tells
+returns-in-Primitive-clause-tells c = (
+  c.split_at.result.0.now,
+  search rules,
+  rw c.new-in-Primitive.ensures (subst (λ (k : Kind). Continues c.args.self.now c.enter.new.self c.split_at.result.0.now (event_of k (heading_with c.args.fields.now c.split_at.result.0.now) ∷ [])) c.in-Primitive.is
+      (fast_enters c.args.self.now c.enter.new.self c.args.piece.now.now _ c.args.fields.now c.args.count c.split_at.result.0.now c.enter.result
+      c.requires.phase c.requires.begins c.split_at.ensures.front refl (search rules) (search rules) c.enter.ensures.enters)),
+)

@@ -1,0 +1,99 @@
+//! How a walker takes the contents of primitives, and octets between encodings.
+ghost use Rattle.std.specs.Prelude.{◌≡◌, ◌≢◌, ℕ, ◌+◌, ◌^◌, ◌<◌, ◌≤◌, ◌∷◌, [], All, Some, length, slice_get, take, true};
+ghost use Rattle.tlv_walk.specs.declared.walker.Phase.TheVariants as phases;
+ghost use Rattle.tlv_walk.specs.Machine.{HasOctets, Steps, Tells, TellsOne};
+ghost use Rattle.tlv_walk.specs.Tells.{Continues, TellsEvent, TellsStep, told_of};
+
+use super::{Phase, Walker};
+use crate::{Event, Step};
+use tlv_head::FaultCode;
+
+impl Walker {
+    /// Takes contents of a primitive.
+    #[inline(always)]
+    pub(super) fn contents<'a>(&mut self, left: u64, piece: &mut &'a [u8]) -> Event<'a>
+        requires phase { self.old.phase ≡ phases.Contents left }
+        requires some { (0 < left) × (piece.old.now ≢ []) }
+        requires limit { self.old.offset + length piece.old.now ≤ 2 ^ 40 }
+        ensures one { TellsOne self.old self.new piece.old.now piece.new.now }
+        ensures event { TellsEvent self.old self.new piece.old.now piece.new.now (told_of result) }
+        ensures octets { HasOctets result }
+    {
+        let octets: &'a [u8] = *piece;
+        let count = left.min(octets.len() as u64);
+        let (front, rest) = octets.split_at(count as usize);
+        *piece = rest;
+        self.offset += count;
+        self.phase = Phase::Contents(left - count);
+        self.events += 1;
+        Event::Bytes(front)
+    }
+
+    /// The end of a primitive whose contents have all come.
+    #[inline(always)]
+    pub(super) fn end_primitive<'a>(&mut self) -> Event<'a>
+        requires { self.old.phase ≡ phases.Contents 0 }
+        ensures tells { Tells self.old self.new self.old.offset }
+        ensures event { Continues self.old self.new [] (told_of result ∷ []) }
+        ensures octets { HasOctets result }
+    {
+        self.events += 1;
+        self.phase = Phase::Between;
+        Event::End
+    }
+
+    /// Takes the octets `00` at the front of the piece.
+    pub(super) fn padding<'a>(&mut self, piece: &mut &'a [u8]) -> Event<'a>
+        requires phase { self.old.phase ≡ phases.Between }
+        requires zero { slice_get piece.old.now 0 ≡ Some 0 }
+        requires limit { self.old.offset + length piece.old.now ≤ 2 ^ 40 }
+        requires top { self.old.stack ≡ [] }
+        requires padding { self.old.framing.padding ≡ true }
+        ensures one { TellsOne self.old self.new piece.old.now piece.new.now }
+        ensures event { TellsEvent self.old self.new piece.old.now piece.new.now (told_of result) }
+        ensures octets { HasOctets result }
+    {
+        let octets: &'a [u8] = *piece;
+        let count = zeros(octets);
+        let (front, rest) = octets.split_at(count);
+        *piece = rest;
+        self.offset += count as u64;
+        self.events += 1;
+        Event::Pad(front)
+    }
+
+    /// Takes the first contents octet of a wrapping BIT STRING.
+    pub(super) fn unused_octet<'a>(&mut self, piece: &mut &'a [u8]) -> Step<'a>
+        requires phase { self.old.phase ≡ phases.Unused }
+        requires limit { self.old.offset + length piece.old.now ≤ 2 ^ 40 }
+        ensures steps { Steps self.old self.new piece.old.now piece.new.now result }
+        ensures tells { TellsStep self.old self.new piece.old.now piece.new.now result }
+    {
+        let octets: &'a [u8] = *piece;
+        let [octet, rest @ ..] = octets else {
+            return Step::NeedMore;
+        };
+        if *octet != 0 {
+            return self.fail(FaultCode::BadInside);
+        }
+        *piece = rest;
+        self.offset += 1;
+        self.events += 1;
+        self.phase = Phase::Between;
+        Step::Event(Event::Unused)
+    }
+}
+
+/// How many octets `00` there are before the first that is another.
+fn zeros(octets: &[u8]) -> usize
+    ensures within { result ≤ length octets.now }
+    ensures zeros { All (λ x. x ≡ 0) (take result octets.now) }
+    ensures some { slice_get octets.now 0 ≡ Some 0 → 0 < result }
+    ensures all { slice_get octets.now result ≢ Some 0 }
+{
+    let mut count = 0;
+    while count < octets.len() && octets[count] == 0 {
+        count += 1;
+    }
+    count
+}

@@ -1,0 +1,114 @@
+//! How a walker takes what stands between elements, and the ends of those that hold others.
+ghost use Rattle.std.specs.Prelude.{◌≡◌, ℕ, ◌+◌, ◌^◌, ◌≤◌, ◌∷◌, [], length};
+ghost use Rattle.tlv_walk.specs.declared.walker.Phase.TheVariants as phases;
+ghost use Rattle.tlv_walk.specs.Machine.{HasOctets, Steps, StepsAtOnce, Tells};
+ghost use Rattle.tlv_walk.specs.Stack.{IsFilled};
+ghost use Rattle.tlv_walk.specs.Tells.{Continues, TellsAtOnce, TellsStep, told_of};
+
+use super::{Phase, Walker};
+use crate::{Event, Step};
+use tlv_head::FaultCode;
+
+impl Walker {
+    /// Takes what stands between two elements, or begins one.
+    pub(super) fn between<'a>(&mut self, piece: &mut &'a [u8]) -> Step<'a>
+        requires phase { self.old.phase ≡ phases.Between }
+        requires room { IsFilled self.old.stack self.old.offset → ⊥ }
+        requires limit { self.old.offset + length piece.old.now ≤ 2 ^ 40 }
+        ensures steps { Steps self.old self.new piece.old.now piece.new.now result }
+        ensures tells { TellsStep self.old self.new piece.old.now piece.new.now result }
+    {
+        let octets: &'a [u8] = *piece;
+        let [octet, rest @ ..] = octets else {
+            return Step::NeedMore;
+        };
+        let indefinite = self.stack.is_in_indefinite();
+        if indefinite && self.stack.room(self.offset) == Some(0) {
+            return self.fail(FaultCode::MissingEnd);
+        }
+        if *octet != 0 {
+            return self.header(piece);
+        }
+        if indefinite {
+            *piece = rest;
+            self.offset += 1;
+            self.phase = Phase::Zero;
+            return self.second_zero(piece);
+        }
+        if self.framing.padding && self.stack.is_empty() {
+            return Step::Event(self.padding(piece));
+        }
+        self.fail(FaultCode::StrayEnd)
+    }
+
+    /// The end of the innermost element, which is definite and whose contents have all come.
+    #[inline(always)]
+    pub(super) fn end_filled<'a>(&mut self) -> Event<'a>
+        requires phase { self.old.phase ≡ phases.Between }
+        requires filled { IsFilled self.old.stack self.old.offset }
+        ensures tells { Tells self.old self.new self.old.offset }
+        ensures event { Continues self.old self.new [] (told_of result ∷ []) }
+        ensures octets { HasOctets result }
+    {
+        self.events += 1;
+        let Some(frame) = self.stack.pop() else {
+            unreachable!();
+        };
+        if frame.wrapper {
+            return Event::Leave;
+        }
+        Event::Close(None)
+    }
+
+    /// Takes end-of-contents octets that lie whole in the piece, where they may stand here.
+    #[inline(always)]
+    pub(super) fn end_octets<'a>(&mut self, piece: &mut &'a [u8]) -> Option<Event<'a>>
+        requires phase { self.old.phase ≡ phases.Between }
+        requires limit { self.old.offset + length piece.old.now ≤ 2 ^ 40 }
+        ensures steps { StepsAtOnce self.old self.new piece.old.now piece.new.now result }
+        ensures tells { TellsAtOnce self.old self.new piece.old.now piece.new.now result }
+    {
+        let octets: &'a [u8] = *piece;
+        let [first, second, rest @ ..] = octets else {
+            return None;
+        };
+        if *first != 0 || *second != 0 {
+            return None;
+        }
+        if !self.stack.is_in_indefinite() || !self.stack.reaches(self.offset + 2) {
+            return None;
+        }
+        *piece = rest;
+        let offset = self.offset;
+        self.stack.pop();
+        self.offset += 2;
+        self.events += 1;
+        Some(Event::Close(Some(offset)))
+    }
+
+    /// Takes the second of the end-of-contents octets.
+    pub(super) fn second_zero<'a>(&mut self, piece: &mut &'a [u8]) -> Step<'a>
+        requires phase { self.old.phase ≡ phases.Zero }
+        requires limit { self.old.offset + length piece.old.now ≤ 2 ^ 40 }
+        ensures steps { Steps self.old self.new piece.old.now piece.new.now result }
+        ensures tells { TellsStep self.old self.new piece.old.now piece.new.now result }
+    {
+        let octets: &'a [u8] = *piece;
+        let [octet, rest @ ..] = octets else {
+            return Step::NeedMore;
+        };
+        if self.stack.room(self.offset) == Some(0) {
+            return self.fail(FaultCode::MissingEnd);
+        }
+        if *octet != 0 {
+            return self.fail(FaultCode::BadEnd);
+        }
+        *piece = rest;
+        let offset = self.offset - 1;
+        self.stack.pop();
+        self.phase = Phase::Between;
+        self.offset += 1;
+        self.events += 1;
+        Step::Event(Event::Close(Some(offset)))
+    }
+}

@@ -1,0 +1,216 @@
+//! How a walker takes headers.
+ghost use Rattle.std.specs.Prelude.{◌≡◌, ◌≢◌, ℕ, ◌+◌, ◌^◌, ◌<◌, ◌≤◌, ◌∷◌, [], IsTrue, Some, length, true};
+ghost use Rattle.tlv_head.specs.Fields.{Suits, heading_with};
+ghost use Rattle.tlv_head.specs.Header.{announced, holds, octets_of};
+ghost use Rattle.tlv_head.specs.Read.{BeginsWithFields};
+ghost use Rattle.tlv_walk.specs.declared.walker.Phase.TheVariants as phases;
+ghost use Rattle.tlv_walk.specs.Inside.{is_among};
+ghost use Rattle.tlv_walk.specs.Machine.{CanBegin, CanEnter, CanRead, CanReadOn, Enters, HasOctets, Steps, StepsAtOnce, Tells, next_wrapper};
+ghost use Rattle.tlv_walk.specs.ReadsOn.{TellsFrom, TellsHeader};
+ghost use Rattle.tlv_walk.specs.Stack.{Within, bound_of};
+ghost use Rattle.tlv_walk.specs.Tells.{TellsAtOnce, TellsStep, told_of};
+
+use super::{Phase, Walker};
+use crate::event::Kind;
+use crate::stack::{Frame, room_to};
+use crate::{Event, Step};
+use std::mem::replace;
+use tlv_head::{Head, HeadReader, Header, HeaderFields, Size, read_header, read_short};
+
+impl Walker {
+    /// Takes a header of few octets that lies whole in the piece, if it may stand here.
+    #[inline(always)]
+    pub(super) fn short_header<'a>(&mut self, piece: &mut &'a [u8]) -> Option<Event<'a>>
+        requires phase { self.old.phase ≡ phases.Between }
+        requires limit { self.old.offset + length piece.old.now ≤ 2 ^ 40 }
+        ensures steps { StepsAtOnce self.old self.new piece.old.now piece.new.now result }
+        ensures tells { TellsAtOnce self.old self.new piece.old.now piece.new.now result }
+    {
+        let named = self.framing.inside.contains(self.offset);
+        let (fields, count) = read_short(self.offset, named, *piece)?;
+        self.take_header(&fields, count, piece)
+    }
+
+    /// Begins a header: takes it at once, where it lies whole in the piece and may stand here, and else octet by octet.
+    pub(super) fn header<'a>(&mut self, piece: &mut &'a [u8]) -> Step<'a>
+        requires begins { CanBegin self.old piece.old.now }
+        requires limit { self.old.offset + length piece.old.now ≤ 2 ^ 40 }
+        ensures steps { Steps self.old self.new piece.old.now piece.new.now result }
+        ensures tells { TellsStep self.old self.new piece.old.now piece.new.now result }
+    {
+        let named = self.framing.inside.contains(self.offset);
+        if let Some((fields, count)) = read_header(self.offset, named, *piece)
+            && let Some(event) = self.take_header(&fields, count, piece)
+        {
+            return Step::Event(event);
+        }
+        self.slow_header(piece)
+    }
+
+    /// Takes the header with which the piece begins, if it may stand here.
+    #[inline(always)]
+    fn take_header<'a>(
+        &mut self,
+        fields: &HeaderFields,
+        count: usize,
+        piece: &mut &'a [u8],
+    ) -> Option<Event<'a>>
+        requires phase { self.old.phase ≡ phases.Between }
+        requires fewer { self.old.events + length self.old.stack ≤ self.old.offset }
+        requires begins { BeginsWithFields piece.old.now self.old.offset (is_among self.old.offset self.old.framing.inside) fields.now count }
+        requires limit { self.old.offset + length piece.old.now ≤ 2 ^ 40 }
+        ensures steps { StepsAtOnce self.old self.new piece.old.now piece.new.now result }
+        ensures tells { TellsAtOnce self.old self.new piece.old.now piece.new.now result }
+    {
+        let octets: &'a [u8] = *piece;
+        let (front, rest) = octets.split_at(count);
+        if !self.may_stand(fields, front) {
+            return None;
+        }
+        *piece = rest;
+        match self.enter(fields, front) {
+            Kind::Constructed => Some(Event::Open(Header::new(fields, front))),
+            Kind::Wrapper => Some(Event::Enter(Header::new(fields, front))),
+            Kind::Primitive => Some(Event::Begin(Header::new(fields, front))),
+        }
+    }
+
+    /// Begins a header or goes on with one, octet by octet.
+    pub(super) fn slow_header<'a>(&mut self, piece: &mut &'a [u8]) -> Step<'a>
+        requires begins { CanRead self.old piece.old.now }
+        requires limit { self.old.offset + length piece.old.now ≤ 2 ^ 40 }
+        ensures steps { Steps self.old self.new piece.old.now piece.new.now result }
+        ensures tells { TellsStep self.old self.new piece.old.now piece.new.now result }
+    {
+        if matches!(self.phase, Phase::Header(_)) {
+            let Phase::Header(reader) = replace(&mut self.phase, Phase::Between) else {
+                unreachable!();
+            };
+            return self.read_on(reader, piece);
+        }
+        let named = self.framing.inside.contains(self.offset);
+        self.has_element = true;
+        self.read_on(HeadReader::new(self.offset, named), piece)
+    }
+
+    /// Goes on with a header, octet by octet.
+    fn read_on<'a>(&mut self, reader: HeadReader, piece: &mut &'a [u8]) -> Step<'a>
+        requires phase { self.old.phase ≡ phases.Between }
+        requires read { CanReadOn self.old reader piece.old.now }
+        requires some { piece.old.now ≢ [] }
+        requires limit { self.old.offset + length piece.old.now ≤ 2 ^ 40 }
+        ensures steps { Steps self.old self.new piece.old.now piece.new.now result }
+        ensures tells { TellsFrom self.old reader self.new piece.old.now piece.new.now result }
+    {
+        let mut reader = reader;
+        let depth = self.stack.len();
+        let bound = self.stack.bound();
+        let mut offset = self.offset;
+        while let [octet, rest @ ..] = *piece {
+            match reader.push(*octet, room_to(bound, offset), depth) {
+                Head::More => {
+                    *piece = rest;
+                    offset += 1;
+                }
+                Head::Whole(header) => {
+                    *piece = rest;
+                    return Step::Event(self.enter_slowly(header));
+                }
+                Head::Refused(fault) => {
+                    self.offset = offset;
+                    self.phase = Phase::Failed(fault);
+                    return Step::Fault(fault);
+                }
+            }
+        }
+        self.offset = offset;
+        self.phase = Phase::Header(reader);
+        Step::NeedMore
+    }
+
+    fn enter_slowly<'a>(&mut self, header: Header) -> Event<'a>
+        requires phase { self.old.phase ≡ phases.Between }
+        requires enter { CanEnter self.old header }
+        ensures tells { Tells self.old self.new (header.offset + length (octets_of header)) }
+        ensures enters { TellsHeader self.old self.new header (told_of result) }
+        ensures octets { HasOctets result }
+    {
+        let fields = header.fields();
+        match self.enter(&fields, header.raw()) {
+            Kind::Constructed => Event::Open(header),
+            Kind::Wrapper => Event::Enter(header),
+            Kind::Primitive => Event::Begin(header),
+        }
+    }
+
+    /// Stands behind a header, whose octets have left the piece.
+    #[inline(always)]
+    fn enter(&mut self, fields: &HeaderFields, octets: &[u8]) -> Kind
+        requires phase { self.old.phase ≡ phases.Between }
+        requires suits { Suits fields.now octets.now }
+        requires enter { CanEnter self.old (heading_with fields.now octets.now) }
+        ensures tells { Tells self.old self.new (fields.now.offset + length octets.now) }
+        ensures enters { Enters self.old self.new fields.now (fields.now.offset + length octets.now) result }
+    {
+        self.offset = fields.offset + octets.len() as u64;
+        self.events += 1;
+        self.has_element = true;
+        let (end, length) = match fields.size {
+            Size::Definite(length) => (Some(self.offset + length), length),
+            Size::Indefinite => (None, 0),
+        };
+        if !fields.constructed && !fields.wraps() {
+            self.phase = Phase::Contents(length);
+            return Kind::Primitive;
+        }
+        let bound = end.or(self.stack.bound());
+        self.stack.push(Frame {
+            end,
+            bound,
+            wrapper: !fields.constructed,
+        });
+        if fields.constructed {
+            return Kind::Constructed;
+        }
+        self.found_wrapper(fields.offset);
+        if fields.number == 3 {
+            self.phase = Phase::Unused;
+        }
+        Kind::Wrapper
+    }
+
+    /// Counts a string that wraps encodings, where its offset is the first of those named that was
+    /// not counted yet. Strings come in the order of their offsets, so one that is passed over stays
+    /// unused.
+    #[tactic(auto, using(std::proofs::lemmas::Option::slice_get_within))]
+    fn found_wrapper(&mut self, offset: u64)
+        ensures { self.new ≡ record self.old { wrappers = next_wrapper self.old.framing.inside self.old.wrappers offset } }
+    {
+        if let Some(named) = self.framing.inside.get(self.wrappers)
+            && named == offset
+        {
+            self.wrappers += 1;
+        }
+    }
+
+    /// Whether an element with this header may stand here: it is not too deep, and its contents end
+    /// within the bound.
+    #[inline(always)]
+    fn may_stand(&self, fields: &HeaderFields, octets: &[u8]) -> bool
+        requires place { fields.now.offset ≡ self.now.offset }
+        requires limit { fields.now.offset + length octets.now ≤ 2 ^ 40 }
+        requires length { announced fields.now.size < 2 ^ 40 }
+        ensures shallow { IsTrue result → holds (heading_with fields.now octets.now) ≡ true → length self.now.stack < 128 }
+        ensures fits { IsTrue result → Within (bound_of self.now.stack) (fields.now.offset + length octets.now + announced fields.now.size) }
+    {
+        if self.stack.len() == 128 && (fields.constructed || fields.wraps()) {
+            return false;
+        }
+        let length = match fields.size {
+            Size::Definite(length) => length,
+            Size::Indefinite => 0,
+        };
+        self.stack
+            .reaches(self.offset + octets.len() as u64 + length)
+    }
+}
