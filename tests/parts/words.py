@@ -171,6 +171,9 @@ def help_and_version(part):
     version = part.run(["--version"])
     fine = version.status == 0 and version.err == b"" and version.out.startswith(b"tlvdump ")
     part.expect("--version", fine and version.out.count(b"\n") == 1, *version.lines())
+    with open("/dev/full", "wb") as full:
+        for words in (["--help"], ["--version"], ["extract", "--help"]):
+            part.gives(words, b"", 3, err="E2 write failed", stdout=full)
     # Help reads nothing: a closed standard input does no harm.
     got = part.run(["--help"], stdin=None, preexec_fn=lambda: os.close(0))
     part.same("--help with a closed standard input", got, top)
