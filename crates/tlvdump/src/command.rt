@@ -27,7 +27,10 @@ pub enum Command {
         file: Option<Text>,
     },
     /// Writes the input with the indefinite form of each constructed length.
-    Indef { padding: bool, file: Option<Text> },
+    Indef {
+        padding: bool,
+        file: Option<Text>,
+    },
 }
 
 /// Why the words of a command line are refused.

@@ -7,6 +7,8 @@ mod message;
 mod parser;
 mod report;
 mod runner;
+#[cfg(test)]
+mod tests;
 mod text;
 mod values;
 mod words;
@@ -14,7 +16,9 @@ mod words;
 use crate::command::{Command, UsageFault};
 use crate::matches::command_of;
 use crate::message::tell;
-use crate::report::{Report, closed_report, names_report, unprinted_report, usage_report, words_report};
+use crate::report::{
+    Report, closed_report, names_report, unprinted_report, usage_report, words_report,
+};
 use crate::runner::run;
 use crate::words::Words;
 use std::env;

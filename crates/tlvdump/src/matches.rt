@@ -109,11 +109,9 @@ fn extract_of(alloc: Global, found: &ArgMatches<'_>) -> Result<Command, UsageFau
 fn indef_of(alloc: Global, found: &ArgMatches<'_>) -> Result<Command, UsageFault>
     ensures { AnswersFrom (indef_from (rows_of (found_of found.now))) result }
 {
+    let padding = is_given(found, "padding");
     let file = kept(alloc, found, "file")?;
-    Ok(Command::Indef {
-        padding: is_given(found, "padding"),
-        file,
-    })
+    Ok(Command::Indef { padding, file })
 }
 
 /// The text of an option or of the file.

@@ -20,10 +20,22 @@ pub fn run<S: Source, D: Drain>(
     drain: &mut D,
 ) -> Report
     ensures { Runs command.now names.now
-        (record { left = S.left source.old; taken = D.taken drain.old; reads = S.reads source.old;
-            last = S.last source.old; failed_reads = S.failures source.old; failed_writes = D.failures drain.old })
-        (record { left = S.left source.new; taken = D.taken drain.new; reads = S.reads source.new;
-            last = S.last source.new; failed_reads = S.failures source.new; failed_writes = D.failures drain.new })
+        (record {
+          left = S.left source.old;
+          taken = D.taken drain.old;
+          reads = S.reads source.old;
+          last = S.last source.old;
+          failed_reads = S.failures source.old;
+          failed_writes = D.failures drain.old;
+        })
+        (record {
+          left = S.left source.new;
+          taken = D.taken drain.new;
+          reads = S.reads source.new;
+          last = S.last source.new;
+          failed_reads = S.failures source.new;
+          failed_writes = D.failures drain.new;
+        })
         (said_in result) }
 {
     match command {

@@ -13,33 +13,42 @@ pub(super) struct Help<'a> {
 
 pub(super) const VERSION: &str = "0.1.0";
 
-pub(super) const FILE: &str = "The file to read [default: standard input]; \"-\" is a file of that name";
+pub(super) const FILE: &str =
+    "The file to read [default: standard input]; \"-\" is a file of that name";
 
-pub(super) const LIMIT: &str =
-    "Write at most N rows of each value, and \"...\" for the rest: 0 to 4294967295 [default: all rows]";
+pub(super) const LIMIT: &str = "\
+Write at most N rows of each value, and \"...\" for the rest: 0 to 4294967295
+[default: all rows]";
 
-pub(super) const PURE: &str =
-    "Leave out the first columns, those of offsets and lengths, so that dumps can be compared";
+pub(super) const PURE: &str = "\
+Leave out the first columns, those of offsets and lengths, so that dumps can be
+compared";
 
-pub(super) const NAMES: &str =
-    "A file of names for object identifiers: lines such as \"2.5.4.3 commonName\", and comments from \"#\" on";
+pub(super) const NAMES: &str = "\
+A file of names for object identifiers: lines such as \"2.5.4.3 commonName\", and
+lines of comment that begin with \"#\"";
 
-pub(super) const INSIDE: &str =
-    "Read the contents of the OCTET STRINGs and BIT STRINGs at these offsets as encodings: 1 to 16 rising offsets with commas between them, each from 0 to 1099511627776";
+pub(super) const INSIDE: &str = "\
+Read the contents of the OCTET STRINGs and BIT STRINGs at these offsets as encodings:
+1 to 16 rising offsets with commas between them, each from 0 to 1099511627776";
 
-pub(super) const PADDING: &str =
-    "Allow octets 00 before, between and after the encodings, as files of records have them";
+pub(super) const PADDING: &str = "\
+Allow octets 00 before, between and after the encodings, as files of records have
+them";
 
-pub(super) const OFFSET: &str =
-    "Where the element's first octet stands, in octets from the start of the input: 0 to 1099511627776";
+pub(super) const OFFSET: &str = "\
+Where the element's first octet stands, in octets from the start of the input: 0 to
+1099511627776";
 
-pub(super) const CONTENTS: &str =
-    "Write the element's contents alone, without its header and its end-of-contents octets";
+pub(super) const CONTENTS: &str = "\
+Write the element's contents alone, without its header and its end-of-contents octets";
 
 pub(super) const PROGRAM: Help<'static> = Help {
     about: "Show BER, CER and DER encodings without their ASN.1 module",
     more: "\
-Shows BER, CER and DER encodings (ITU-T X.690) without their ASN.1 module, as files of certificates, directory entries and telephony records have them. The input is read once, from its start, and may be a pipe.",
+Shows BER, CER and DER encodings (ITU-T X.690) without their ASN.1 module, as files of
+certificates, directory entries and telephony records have them. The input is read once,
+from its start, and may be a pipe.",
     after: "\
 Each command has help of its own, as \"tlvdump dump --help\".
 
@@ -61,7 +70,9 @@ The message is one line on standard error.",
 pub(super) const DUMP: Help<'static> = Help {
     about: "Write each element on a line of its own: offset, length, tag and value",
     more: "\
-Writes each element on a line of its own, as far as the input is an encoding: the offset of its first octet, the length of its contents (or \"indef\"), its tag and its value. What an element holds is indented below it.",
+Writes each element on a line of its own, as far as the input is an encoding: the offset of
+its first octet, the length of its contents (or \"indef\"), its tag and its value. What an
+element holds is indented below it.",
     after: "\
 Examples:
   tlvdump dump certificate.der
@@ -81,7 +92,8 @@ The message is one line on standard error.",
 pub(super) const EXTRACT: Help<'static> = Help {
     about: "Write the octets of one element, or of its contents",
     more: "\
-Writes the octets of the element at an offset as they stand, or those of its contents. Nothing more is read once the element is whole.",
+Writes the octets of the element at an offset as they stand, or those of its contents.
+Nothing more is read once the element is whole.",
     after: "\
 Examples:
   tlvdump extract --offset 4 certificate.der > tbs.der
@@ -100,7 +112,9 @@ The message is one line on standard error.",
 pub(super) const INDEF: Help<'static> = Help {
     about: "Write the same encodings with the indefinite form of each constructed length",
     more: "\
-Writes the same encodings with the indefinite form of length in each constructed element: its identifier octets, 80, its contents, 00 00. Primitive elements are written as they stand.",
+Writes the same encodings with the indefinite form of length in each constructed element:
+its identifier octets, 80, its contents, 00 00. Primitive elements are written as they
+stand.",
     after: "\
 Example:
   tlvdump indef certificate.der > certificate.ber

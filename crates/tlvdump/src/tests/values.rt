@@ -1,0 +1,226 @@
+//! Values of universal types, on their line and in rows.
+use super::rows::{CLEAN, Row};
+
+/// Values that stand on their element's line.
+pub(crate) static VALUES: [Row<'static>; 23] = [
+    Row {
+        name: "TRUE, which is not ff",
+        input: b"\x01\x01\x01",
+        lines: &[(3, "       0      1: BOOLEAN TRUE")],
+        ..CLEAN
+    },
+    Row {
+        name: "FALSE",
+        input: b"\x01\x01\x00",
+        lines: &[(3, "       0      1: BOOLEAN FALSE")],
+        ..CLEAN
+    },
+    Row {
+        name: "a BOOLEAN of two octets",
+        input: b"\x01\x02\x01\x01",
+        lines: &[(4, "       0      2: BOOLEAN 01 01")],
+        ..CLEAN
+    },
+    Row {
+        name: "an INTEGER without contents",
+        input: b"\x02\x00",
+        lines: &[(2, "       0      0: INTEGER")],
+        ..CLEAN
+    },
+    Row {
+        name: "a padded INTEGER",
+        input: b"\x02\x02\x00\x7f",
+        lines: &[(4, "       0      2: INTEGER 127")],
+        ..CLEAN
+    },
+    Row {
+        name: "a negative INTEGER",
+        input: b"\x02\x01\x80",
+        lines: &[(3, "       0      1: INTEGER -128")],
+        ..CLEAN
+    },
+    Row {
+        name: "NULL with contents",
+        input: b"\x05\x01\xaa",
+        lines: &[(3, "       0      1: NULL aa")],
+        ..CLEAN
+    },
+    Row {
+        name: "a BIT STRING with unused bits",
+        input: b"\x03\x02\x05\xbf",
+        lines: &[(4, "       0      2: BIT STRING 3 bits 101")],
+        ..CLEAN
+    },
+    Row {
+        name: "a BIT STRING of unused bits alone",
+        input: b"\x03\x01\x03",
+        lines: &[(3, "       0      1: BIT STRING 03")],
+        ..CLEAN
+    },
+    Row {
+        name: "a BIT STRING without contents",
+        input: b"\x03\x00",
+        lines: &[(2, "       0      0: BIT STRING")],
+        ..CLEAN
+    },
+    Row {
+        name: "a BIT STRING of no bits",
+        input: b"\x03\x01\x00",
+        lines: &[(3, "       0      1: BIT STRING 0 bits")],
+        ..CLEAN
+    },
+    Row {
+        name: "an OBJECT IDENTIFIER",
+        input: b"\x06\x03\x2a\x86\x48",
+        lines: &[(5, "       0      3: OBJECT IDENTIFIER 1.2.840")],
+        ..CLEAN
+    },
+    Row {
+        name: "a padded subidentifier",
+        input: b"\x06\x02\x80\x01",
+        lines: &[(4, "       0      2: OBJECT IDENTIFIER 0.1")],
+        ..CLEAN
+    },
+    Row {
+        name: "a second arc of 40",
+        input: b"\x06\x01\x78",
+        lines: &[(3, "       0      1: OBJECT IDENTIFIER 2.40")],
+        ..CLEAN
+    },
+    Row {
+        name: "an unfinished subidentifier",
+        input: b"\x06\x02\x2a\x86",
+        lines: &[(4, "       0      2: OBJECT IDENTIFIER 2a 86")],
+        ..CLEAN
+    },
+    Row {
+        name: "a UTCTime",
+        input: b"\x17\x0b9105062345Z",
+        lines: &[(13, "       0     11: UTCTime \"9105062345Z\"")],
+        ..CLEAN
+    },
+    Row {
+        name: "characters that are escaped",
+        input: b"\x0c\x06\x22\x5c\x0a\xc3\xa9\xff",
+        lines: &[(
+            8,
+            "       0      6: UTF8String \"\\\"\\\\\\x0a\\u{e9}\\xff\"",
+        )],
+        ..CLEAN
+    },
+    Row {
+        name: "a text without contents",
+        input: b"\x0c\x00",
+        lines: &[(2, "       0      0: UTF8String \"\"")],
+        ..CLEAN
+    },
+    Row {
+        name: "a BMPString",
+        input: b"\x1e\x04\x00\x41\x20\xac",
+        lines: &[(6, "       0      4: BMPString \"A\\u{20ac}\"")],
+        ..CLEAN
+    },
+    Row {
+        name: "a BMPString of an odd number of octets",
+        input: b"\x1e\x03\x00\x41\x20",
+        lines: &[(5, "       0      3: BMPString \"A\\x20\"")],
+        ..CLEAN
+    },
+    Row {
+        name: "universal number 0",
+        input: b"\x20\x00",
+        lines: &[
+            (2, "       0      0: [UNIVERSAL 0] {"),
+            (2, "                 }"),
+        ],
+        ..CLEAN
+    },
+    Row {
+        name: "a universal number in the high form",
+        input: b"\x1f\x02\x01\x05",
+        lines: &[(4, "       0      1: INTEGER 5")],
+        ..CLEAN
+    },
+    Row {
+        name: "universal number 0 in the high form, padded",
+        input: b"\x1f\x00\x00",
+        lines: &[(3, "       0      0: [UNIVERSAL 0]")],
+        ..CLEAN
+    },
+];
+
+/// A value with a character across the end of its first row.
+pub(crate) static LONG: [Row<'static>; 1] = [Row {
+    name: "a character that does not fit its row",
+    input: b"\x0c\x41aaaaaaaaaaaaaaaaaaaaaaaaaaaaaaaaaaaaaaaaaaaaaaaaaaaaaaaaaaaaaaa\xc3\xa9",
+    lines: &[
+        (2, "       0     65: UTF8String"),
+        (
+            66,
+            "                   \"aaaaaaaaaaaaaaaaaaaaaaaaaaaaaaaaaaaaaaaaaaaaaaaaaaaaaaaaaaaaaaa\"",
+        ),
+        (67, "                   \"\\u{e9}\""),
+    ],
+    ..CLEAN
+}];
+
+/// Lines without their first columns, and fewer rows.
+pub(crate) static LAYOUTS: [Row<'static>; 5] = [
+    Row {
+        name: "without first columns",
+        pure: true,
+        input: b"\x3a\x09\x04\x03\x4a\x6f\x6e\x04\x02\x65\x73",
+        lines: &[
+            (2, "VisibleString {"),
+            (7, "  OCTET STRING 4a 6f 6e"),
+            (11, "  OCTET STRING 65 73"),
+            (11, "}"),
+        ],
+        ..CLEAN
+    },
+    Row {
+        name: "padding without first columns",
+        pure: true,
+        padding: true,
+        input: b"\x00\x00\x05\x00\x00\x00\x05\x00\x00",
+        lines: &[
+            (1, "padding"),
+            (4, "NULL"),
+            (5, "padding"),
+            (8, "NULL"),
+            (9, "padding"),
+        ],
+        ..CLEAN
+    },
+    Row {
+        name: "an indefinite element without first columns",
+        pure: true,
+        input: b"\x30\x80\x05\x00\x00\x00",
+        lines: &[(2, "SEQUENCE {"), (4, "  NULL"), (6, "}")],
+        ..CLEAN
+    },
+    Row {
+        name: "one row",
+        limit: Some(1),
+        input: b"\x02\x11\x00\x80\x00\x00\x00\x00\x00\x00\x00\x00\x00\x00\x00\x00\x00\x00\x00",
+        lines: &[
+            (2, "       0     17: INTEGER"),
+            (
+                18,
+                "                   00 80 00 00 00 00 00 00 00 00 00 00 00 00 00 00",
+            ),
+            (19, "                   ..."),
+        ],
+        ..CLEAN
+    },
+    Row {
+        name: "no row",
+        limit: Some(0),
+        input: b"\x02\x11\x00\x80\x00\x00\x00\x00\x00\x00\x00\x00\x00\x00\x00\x00\x00\x00\x00",
+        lines: &[
+            (2, "       0     17: INTEGER"),
+            (18, "                   ..."),
+        ],
+        ..CLEAN
+    },
+];
