@@ -2,14 +2,9 @@
 use Rattle.std.proofs.Common.{◌≡◌, ◌∙◌, ◌||◌, Bool, true, false, Result, IfOk, ap, ap₂, refl}
 use Rattle.std.proofs.lemmas.Result.{IfOk-weaker}
 use Rattle.clap.specs.Words.{App, Rule, Shape, app_of, rule_of, with_rule, with_subcommand, AddsArg, AddsSubcommand}
+use Rattle.tlvdump.specs.Line.{IsMade}
 use Rattle.clap.specs.declared.builder.arg.Arg.{Arg}
 use Rattle.clap.specs.declared.builder.command.Command.{Command}
-use Rattle.clap.specs.declared.builder.command.Command.TheViews.{out-Command as fields_of}
-
--- the command is that of the line, and none of its arguments is global
-pub record IsMade (c : Command) (a : App) : Type 0 where
-  pub shape : app_of c ≡ a
-  pub local : (fields_of c).has_globals ≡ false
 
 neither : (a b : Bool) → a ≡ false → b ≡ false → (a || b) ≡ false
 neither a b p q = ap₂ ◌||◌ p q

@@ -1,8 +1,8 @@
 //! What `clap` is told of the command line, with the texts of help.
 ghost use Rattle.std.specs.Prelude.{◌≡◌, IfOk, codes, false};
-ghost use Rattle.clap.specs.Words.{app_of, rule_of};
-ghost use Rattle.clap.specs.declared.builder.command.Command.TheViews.{out-Command as fields_of};
-ghost use Rattle.tlvdump.specs.Line.{dump_app, extract_app, file_rule, flag_rule, help_rule, helped, indef_app, line_app, offset_rule, option_rule, program_app, version_rule};
+ghost use Rattle.clap.specs.Words.{rule_of};
+ghost use Rattle.tlvdump.specs.Line.{IsMade, dump_app, extract_app, helped, indef_app, line_app, program_app};
+ghost use Rattle.tlvdump.specs.Line.{file_rule, flag_rule, help_rule, offset_rule, option_rule, version_rule};
 
 use clap::{Arg, ArgAction, Command};
 use std::alloc::{AllocError, Global};
@@ -90,8 +90,7 @@ fn version_flag<'a>(alloc: Global) -> Arg<'a>
 
 /// A command with its help, and no option else.
 fn with_help<'a>(alloc: Global, name: &'a str, help: Help<'a>) -> Result<Command<'a>, AllocError>
-    ensures shape { IfOk result (λ c. app_of c ≡ helped name.now) }
-    ensures local { IfOk result (λ c. (fields_of c).has_globals ≡ false) }
+    ensures { IfOk result (λ command. IsMade command (helped name.now)) }
 {
     Command::new(alloc, name)
         .about(help.about)
@@ -101,8 +100,7 @@ fn with_help<'a>(alloc: Global, name: &'a str, help: Help<'a>) -> Result<Command
 }
 
 fn dump_parser<'a>(alloc: Global) -> Result<Command<'a>, AllocError>
-    ensures shape { IfOk result (λ c. app_of c ≡ dump_app) }
-    ensures local { IfOk result (λ c. (fields_of c).has_globals ≡ false) }
+    ensures { IfOk result (λ command. IsMade command dump_app) }
 {
     with_help(alloc, "dump", help::DUMP)?
         .arg(option(alloc, "limit", "N", help::LIMIT))?
@@ -114,8 +112,7 @@ fn dump_parser<'a>(alloc: Global) -> Result<Command<'a>, AllocError>
 }
 
 fn extract_parser<'a>(alloc: Global) -> Result<Command<'a>, AllocError>
-    ensures shape { IfOk result (λ c. app_of c ≡ extract_app) }
-    ensures local { IfOk result (λ c. (fields_of c).has_globals ≡ false) }
+    ensures { IfOk result (λ command. IsMade command extract_app) }
 {
     with_help(alloc, "extract", help::EXTRACT)?
         .arg(offset(alloc))?
@@ -126,8 +123,7 @@ fn extract_parser<'a>(alloc: Global) -> Result<Command<'a>, AllocError>
 }
 
 fn indef_parser<'a>(alloc: Global) -> Result<Command<'a>, AllocError>
-    ensures shape { IfOk result (λ c. app_of c ≡ indef_app) }
-    ensures local { IfOk result (λ c. (fields_of c).has_globals ≡ false) }
+    ensures { IfOk result (λ command. IsMade command indef_app) }
 {
     with_help(alloc, "indef", help::INDEF)?
         .arg(padding(alloc))?
@@ -136,8 +132,7 @@ fn indef_parser<'a>(alloc: Global) -> Result<Command<'a>, AllocError>
 
 /// The program without its commands: one of them is wanted, and no short name or command `help` is taken.
 fn program_parser<'a>(alloc: Global) -> Result<Command<'a>, AllocError>
-    ensures shape { IfOk result (λ c. app_of c ≡ program_app) }
-    ensures local { IfOk result (λ c. (fields_of c).has_globals ≡ false) }
+    ensures { IfOk result (λ command. IsMade command program_app) }
 {
     Command::new(alloc, "tlvdump")
         .subcommand_required(true)
@@ -154,8 +149,7 @@ fn program_parser<'a>(alloc: Global) -> Result<Command<'a>, AllocError>
 
 /// The whole command line.
 pub(crate) fn line_parser<'a>(alloc: Global) -> Result<Command<'a>, AllocError>
-    ensures shape { IfOk result (λ c. app_of c ≡ line_app) }
-    ensures local { IfOk result (λ c. (fields_of c).has_globals ≡ false) }
+    ensures { IfOk result (λ command. IsMade command line_app) }
 {
     let dump = dump_parser(alloc)?;
     let extract = extract_parser(alloc)?;

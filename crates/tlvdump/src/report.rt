@@ -1,6 +1,8 @@
 //! What the program says of a run: the exit status and the message.
 ghost use Rattle.std.specs.Prelude.{◌≡◌, ◌+◌, ◌++◌, ◌≤◌, [], decimal, length};
-ghost use Rattle.tlvdump.specs.Report.{fault_line, line_with, said_in, said_of, said_of_closed, said_of_cut, said_of_device, said_of_dump, said_of_ending, said_of_found, said_of_indef, said_of_names, said_of_unprinted, said_of_unused, said_of_usage, said_of_words, saying as saying_of};
+ghost use Rattle.tlvdump.specs.Report.{fault_line, line_with, said_in, said_of, saying as saying_of};
+ghost use Rattle.tlvdump.specs.Report.{said_of_cut, said_of_dump, said_of_ending, said_of_found, said_of_indef, said_of_unused};
+ghost use Rattle.tlvdump.specs.Report.{said_of_closed, said_of_device, said_of_names, said_of_unprinted, said_of_usage, said_of_words};
 
 use crate::command::UsageFault;
 use arrayvec::ArrayVec;
