@@ -1,0 +1,5 @@
+mod Building
+mod Devices
+mod Numbers
+mod Offsets
+mod Answered

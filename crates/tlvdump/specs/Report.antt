@@ -1,73 +1,126 @@
--- The exit status and the message of a run.
-use Rattle.std.specs.Prelude.{◌≡◌, ℕ, List, [], ◌++◌, Option, Some, None, Result, Ok, Err, codes, decimal}
+-- What the program says of a run: the exit status, the number of findings, and the message.
+use Rattle.std.specs.Prelude.{◌≡◌, ◌⊎◌, ◌∷◌, ℕ, Bool, true, false, List, [], ◌++◌, Option, Some, None, Result, Ok, Err, codes, decimal, take}
+use Rattle.std.specs.Io.KnownBytes.{Appends}
+use Rattle.clap.specs.Words.{kind_of}
+use Rattle.clap.specs.declared.error.kind.ErrorKind.{ErrorKind}
+use Rattle.clap.specs.declared.error.kind.ErrorKind.TheVariants as kind
+use Rattle.tlv_cut.specs.declared.extracting.Cut.{Cut}
 use Rattle.tlv_head.specs.declared.fault.Fault.{Fault}
 use Rattle.tlv_head.specs.Fault.{code_of, text_of}
 use Rattle.tlv_show.specs.declared.dumping.Outcome.{Outcome}
-use Rattle.tlv_show.specs.Dumps.{Dumps}
-use Rattle.tlv_show.specs.declared.options.Options.{Options}
-use Rattle.tlv_value.specs.Names.{Table}
-use Rattle.tlv_walk.specs.Device.{Last, counted}
+use Rattle.tlv_value.specs.declared.names.fault.NamesFault.{NamesFault}
+use Rattle.tlv_value.specs.declared.names.fault.NamesFault.TheVariants as names
+use Rattle.tlv_walk.specs.Device.{counted}
+use Rattle.tlv_walk.specs.Prefix.{HasPrefix}
 use Rattle.tlv_walk.specs.declared.ending.Ending.{Ending}
 use Rattle.tlv_walk.specs.declared.ending.Ending.TheVariants as ending
 use Rattle.tlv_walk.specs.declared.run.DeviceFault.{DeviceFault}
 use Rattle.tlv_walk.specs.declared.run.DeviceFault.TheVariants.{ReadFailed, WriteFailed, InputTooLong}
+use Rattle.tlvdump.specs.declared.command.UsageFault.{UsageFault}
+use Rattle.tlvdump.specs.declared.command.UsageFault.TheVariants as usage
+use Rattle.tlvdump.specs.declared.report.Report.{Report}
+
+-- the message is one line without its end, or nothing
+pub record Said : Type 0 where
+  pub status : ℕ
+  pub findings : ℕ
+  pub message : List ℕ
+
+abbrev pub said_in : Report → Said
+said_in report = record { status = report.status; findings = report.findings; message = report.message.items }
+
+abbrev pub saying : ℕ → List ℕ → Said
+saying status message = record { status = status; findings = 0; message = message }
+
+-- nothing is to be said
+abbrev pub clean : Said
+clean = saying 0 []
+
+-- ---- what an input comes to
 
 -- a fault of the encoding: its offset, its code and its text
 abbrev pub fault_line : Fault → List ℕ
 fault_line fault = codes "fault at " ++ decimal fault.offset ++ codes ": " ++ code_of fault.code ++ codes " " ++ text_of fault.code
 
-abbrev pub device_text_of : DeviceFault → List ℕ
-device_text_of ReadFailed = codes "E1 read failed"
-device_text_of WriteFailed = codes "E2 write failed"
-device_text_of InputTooLong = codes "E3 input too long"
+-- a fault takes precedence over what else there is to say
+abbrev pub said_of_ending : Ending → Said → Said
+said_of_ending (ending.Fault fault) other = saying 2 (fault_line fault)
+said_of_ending ending.Done other = other
 
--- of an input without a fault: the named offset at which there is no string to read
-abbrev pub unused_line : Option ℕ → List ℕ
-unused_line None = []
-unused_line (Some offset) = codes "E7 no string to read at offset " ++ decimal offset
+-- the first of the named offsets at which there is no string to read
+abbrev pub said_of_unused : Option ℕ → Said
+said_of_unused None = clean
+said_of_unused (Some offset) = saying 1 (codes "E7 no string to read at offset " ++ decimal offset)
 
-abbrev pub unused_status : Option ℕ → ℕ
-unused_status None = 0
-unused_status (Some offset) = 1
+abbrev pub said_of_dump : Outcome → Said
+said_of_dump outcome = said_of_ending outcome.ending (said_of_unused outcome.unused)
 
--- a fault of the encoding passes before a named offset without a string
-abbrev pub line_of : Ending → Option ℕ → List ℕ
-line_of (ending.Fault fault) unused = fault_line fault
-line_of ending.Done unused = unused_line unused
+-- whether there is an element at the offset
+abbrev pub said_of_found : ℕ → Bool → Said
+said_of_found offset true = clean
+said_of_found offset false = saying 1 (codes "E4 no element at offset " ++ decimal offset)
 
-abbrev pub status_in : Ending → Option ℕ → ℕ
-status_in (ending.Fault fault) unused = 2
-status_in ending.Done unused = unused_status unused
+abbrev pub said_of_cut : ℕ → Cut → Said
+said_of_cut offset cut = said_of_ending cut.ending (said_of_found offset cut.found)
 
-abbrev pub message_of : Result Outcome DeviceFault → List ℕ
-message_of (Ok o) = line_of o.ending o.unused
-message_of (Err fault) = device_text_of fault
+abbrev pub said_of_indef : Ending → Said
+said_of_indef e = said_of_ending e clean
 
-abbrev pub status_of : Result Outcome DeviceFault → ℕ
-status_of (Ok o) = status_in o.ending o.unused
-status_of (Err fault) = 3
+-- ---- devices
 
--- which device failed, if one did, by the counts of failures before and after
-abbrev pub Failed : ℕ → ℕ → ℕ → ℕ → Result Outcome DeviceFault → Type 0
-Failed reads reads' writes writes' (Ok o) = (reads' ≡ reads) × (writes' ≡ writes)
-Failed reads reads' writes writes' (Err ReadFailed) = (reads' ≡ counted reads) × (writes' ≡ writes)
-Failed reads reads' writes writes' (Err WriteFailed) = (reads' ≡ reads) × (writes' ≡ counted writes)
-Failed reads reads' writes writes' (Err InputTooLong) = (reads' ≡ reads) × (writes' ≡ writes)
+abbrev pub said_of_device : DeviceFault → Said
+said_of_device ReadFailed = saying 3 (codes "E1 read failed")
+said_of_device WriteFailed = saying 3 (codes "E2 write failed")
+said_of_device InputTooLong = saying 3 (codes "E3 input too long")
 
--- what is seen of a source and a drain: the octets still to give and those taken, where they tell them; reads, what
--- the last gave, and failures
-pub record Devices : Type 0 where
-  pub left : Option (List ℕ)
-  pub taken : Option (List ℕ)
-  pub reads : ℕ
-  pub last : Last
-  pub failed_reads : ℕ
-  pub failed_writes : ℕ
+-- the file to read does not open
+abbrev pub said_of_closed : Said
+said_of_closed = saying 3 (codes "E5 cannot open the file")
 
--- what a run reports, of a dump that came to something
-pub record Reports (options : Options) (names : Table) (old new : Devices) (status : ℕ) (message : List ℕ) : Type 0 where
-  pub outcome : Result Outcome DeviceFault
-  pub dumps : Dumps options names old.taken new.taken old.left new.left old.reads new.reads new.last outcome
-  pub failed : Failed old.failed_reads new.failed_reads old.failed_writes new.failed_writes outcome
-  pub status_is : status ≡ status_of outcome
-  pub message_is : message ≡ message_of outcome
+-- help or the version could not be written
+abbrev pub said_of_unprinted : Said
+said_of_unprinted = said_of_device WriteFailed
+
+abbrev pub said_of : {A : Type 0} → (A → Said) → Result A DeviceFault → Said
+said_of say (Ok a) = say a
+said_of say (Err fault) = said_of_device fault
+
+-- ---- the command line and the names file
+
+-- what was asked for is printed by `clap`: help and the version; of any other error too it prints the text
+abbrev pub status_of_kind : ErrorKind → ℕ
+status_of_kind kind.DisplayHelp = 0
+status_of_kind kind.DisplayVersion = 0
+status_of_kind _ = 4
+
+abbrev pub said_of_usage : UsageFault → Said
+said_of_usage (usage.Parser error) = saying (status_of_kind (kind_of error)) []
+said_of_usage (usage.Value name) = saying 4 (codes "U2 value out of range: " ++ take 64 name.now)
+said_of_usage usage.Memory = saying 5 (codes "U3 out of memory")
+
+-- a word is no text
+abbrev pub said_of_words : Said
+said_of_words = saying 4 (codes "U1 an argument is not UTF-8")
+
+abbrev pub line_with : List ℕ → ℕ → List ℕ → List ℕ
+line_with code line text = code ++ codes " line " ++ decimal line ++ text
+
+abbrev pub said_of_names : NamesFault → Said
+said_of_names (names.BadOid line) = saying 4 (line_with (codes "N1") line (codes ": not an object identifier"))
+said_of_names (names.BadName line) = saying 4 (line_with (codes "N2") line (codes ": no usable name"))
+said_of_names (names.Repeated line) = saying 4 (line_with (codes "N3") line (codes ": repeated"))
+said_of_names names.TooLarge = saying 4 (codes "N4 names file too large")
+said_of_names names.ReadFailed = saying 4 (codes "N5 names file not read")
+said_of_names names.Memory = saying 5 (codes "N6 out of memory")
+
+-- ---- how it is told
+
+-- the message with its line feed, where there is one
+abbrev pub line_of : List ℕ → List ℕ
+line_of [] = []
+line_of (x ∷ xs) = (x ∷ xs) ++ 10 ∷ []
+
+-- a line was written, or a write failed and the drain has a prefix
+abbrev pub IsTold : List ℕ → Option (List ℕ) → Option (List ℕ) → ℕ → ℕ → Type 0
+IsTold line old new failures failures' =
+    ((failures' ≡ failures) × Appends old new line) ⊎ ((failures' ≡ counted failures) × HasPrefix old new line)

@@ -1,36 +1,114 @@
 //! `tlvdump` shows BER, CER and DER encodings without their ASN.1 module.
 #![tactic(auto)]
 
+mod command;
+mod matches;
+mod message;
+mod parser;
 mod report;
-mod running;
+mod runner;
 #[cfg(test)]
 mod tests;
+mod text;
+mod values;
+mod words;
 
-use crate::report::Report;
-use crate::running::run;
+use crate::command::{Command, UsageFault};
+use crate::matches::command_of;
+use crate::message::tell;
+use crate::report::{
+    Report, closed_report, names_report, unprinted_report, usage_report, words_report,
+};
+use crate::runner::run;
+use crate::words::Words;
+use std::env;
+use std::fs::File;
+use std::io::{ErrorKind, Read};
 use std::process::ExitCode;
-use tlv_show::Options;
-use tlv_value::Names;
-use tlv_walk::{Framing, ReadSource, WriteDrain};
+use tlv_value::{Names, NamesFault};
+use tlv_walk::{ReadSource, WriteDrain};
 
-/// Prints the message, if there is one, on standard error.
-fn tell(rt: &HostRuntime, report: &Report) {
-    if let Ok(message) = str::from_utf8(report.message.as_slice())
-        && !message.is_empty()
-    {
-        let _ = rt.eprintln(message);
+fn main(rt: HostRuntime) -> ExitCode {
+    let report = match started(&rt) {
+        Ok(report) => report,
+        Err(report) => report,
+    };
+    let mut drain = WriteDrain::new(rt.stderr());
+    ExitCode::from(tell(&report, &mut drain))
+}
+
+/// Reads the command, then the names file, then opens the file, and runs the command. The error is the report of what
+/// comes first of them that is refused.
+fn started(rt: &HostRuntime) -> Result<Report, Report> {
+    let command = asked(rt)?;
+    let names = names_of(rt, &command)?;
+    match command.file() {
+        None => Ok(run_over(rt, &command, &names, rt.stdin())),
+        Some(name) => match File::open(rt, name) {
+            Ok(file) => Ok(run_over(rt, &command, &names, file)),
+            Err(_) => Err(closed_report()),
+        },
     }
 }
 
-fn main(rt: HostRuntime) -> ExitCode {
-    let mut source = ReadSource::new(rt.stdin());
+fn run_over<R: Read + Drop>(
+    rt: &HostRuntime,
+    command: &Command,
+    names: &Names,
+    reader: R,
+) -> Report {
+    let mut source = ReadSource::new(reader);
     let mut drain = WriteDrain::new(rt.stdout());
-    let options = Options {
-        limit: None,
-        pure: false,
-        framing: Framing::plain(),
+    run(command, names, &mut source, &mut drain)
+}
+
+/// The command that the arguments ask for. What `clap` has to say is printed.
+fn asked(rt: &HostRuntime) -> Result<Command, Report> {
+    let words = words_of(rt)?;
+    match command_of(rt.alloc(), &words) {
+        Ok(command) => Ok(command),
+        Err(fault) => Err(refusal(rt, &fault)),
+    }
+}
+
+fn refusal(rt: &HostRuntime, fault: &UsageFault) -> Report {
+    if let UsageFault::Parser(error) = fault
+        && error.print(rt).is_err()
+        && !error.use_stderr()
+    {
+        return unprinted_report();
+    }
+    usage_report(fault)
+}
+
+/// The arguments, the program's name first.
+fn words_of(rt: &HostRuntime) -> Result<Words, Report> {
+    let mut words = Words::new(rt.alloc());
+    let arguments = match env::args(rt) {
+        Ok(arguments) => arguments,
+        Err(error) if error.kind() == ErrorKind::OutOfMemory => {
+            return Err(usage_report(&UsageFault::Memory));
+        }
+        Err(_) => return Err(words_report()),
     };
-    let report = run(&options, &Names::empty(), &mut source, &mut drain);
-    tell(&rt, &report);
-    ExitCode::from(report.status)
+    for argument in arguments {
+        if let Err(fault) = words.push(argument.as_str()) {
+            return Err(usage_report(&fault));
+        }
+    }
+    Ok(words)
+}
+
+/// The table of the names file that the command asks for.
+fn names_of(rt: &HostRuntime, command: &Command) -> Result<Names, Report> {
+    let Some(name) = command.names_file() else {
+        return Ok(Names::empty());
+    };
+    let Ok(file) = File::open(rt, name) else {
+        return Err(names_report(NamesFault::ReadFailed));
+    };
+    match Names::read(rt.alloc(), &mut ReadSource::new(file)) {
+        Ok(names) => Ok(names),
+        Err(fault) => Err(names_report(fault)),
+    }
 }

@@ -1,67 +1,165 @@
-//! The exit status and the message of a run.
-ghost use Rattle.std.specs.Prelude.{◌≡◌, ◌+◌, ◌++◌, ◌≤◌, decimal, length};
-ghost use Rattle.tlvdump.specs.Report.{device_text_of, fault_line, message_of, status_of};
+//! What the program says of a run: the exit status and the message.
+ghost use Rattle.std.specs.Prelude.{◌≡◌, ◌+◌, ◌++◌, ◌≤◌, [], decimal, length};
+ghost use Rattle.tlvdump.specs.Report.{fault_line, line_with, said_in, said_of, saying as saying_of};
+ghost use Rattle.tlvdump.specs.Report.{said_of_cut, said_of_dump, said_of_ending, said_of_found, said_of_indef, said_of_unused};
+ghost use Rattle.tlvdump.specs.Report.{said_of_closed, said_of_device, said_of_names, said_of_unprinted, said_of_usage, said_of_words};
 
+use crate::command::UsageFault;
 use arrayvec::ArrayVec;
 use itoa::Buffer;
+use tlv_cut::Cut;
 use tlv_head::Fault;
 use tlv_show::Outcome;
+use tlv_value::NamesFault;
 use tlv_walk::{DeviceFault, Ending};
 
 /// What a run came to.
 #[derive(Debug, Drop)]
 pub struct Report {
-    /// The exit status: 0 clean, 1 no string to read at a named offset, 2 a fault of the encoding, 3 a
-    /// device failed or the input is too long.
+    /// The exit status: 0 clean, 1 nothing at an offset that was asked for, 2 a fault of the encoding, 3 a device
+    /// failed or the input is too long, 4 the words or the names file are refused, 5 memory was refused.
     pub status: u8,
+    /// The number of findings.
+    pub findings: u64,
     /// One line of ASCII without its end, or nothing.
     pub message: ArrayVec<u8, 128>,
 }
 
-/// The report of a dump that came to this.
-pub fn report_of(outcome: Result<Outcome, DeviceFault>) -> Report
-    ensures status { result.status ≡ status_of outcome }
-    ensures message { result.message.items ≡ message_of outcome }
+/// The report of a dump.
+pub(crate) fn dump_report(came: Result<Outcome, DeviceFault>) -> Report
+    ensures { said_in result ≡ said_of said_of_dump came }
 {
-    match outcome {
-        Err(fault) => Report {
-            status: 3,
-            message: text(device_text(fault)),
-        },
-        Ok(
-            Outcome {
-                ending: Ending::Fault(fault),
-                ..
-            },
-        ) => Report {
-            status: 2,
-            message: fault_message(fault),
-        },
-        Ok(
-            Outcome {
-                unused: Some(offset),
-                ..
-            },
-        ) => Report {
-            status: 1,
-            message: numbered(b"E7 no string to read at offset ", offset),
-        },
-        Ok(_) => Report {
-            status: 0,
-            message: ArrayVec::new(),
-        },
+    match came {
+        Ok(outcome) => ending_report(outcome.ending, unused_report(outcome.unused)),
+        Err(fault) => device_report(fault),
     }
 }
 
-fn device_text(fault: DeviceFault) -> &'static [u8]
-    ensures text { result.now ≡ device_text_of fault }
-    ensures short { length result.now ≤ 64 }
+/// The report of an extract of the element at this offset.
+pub(crate) fn cut_report(offset: u64, came: Result<Cut, DeviceFault>) -> Report
+    ensures { said_in result ≡ said_of (said_of_cut offset) came }
+{
+    match came {
+        Ok(cut) => ending_report(cut.ending, found_report(offset, cut.found)),
+        Err(fault) => device_report(fault),
+    }
+}
+
+/// The report of an input written with indefinite lengths.
+pub(crate) fn indef_report(came: Result<Ending, DeviceFault>) -> Report
+    ensures { said_in result ≡ said_of said_of_indef came }
+{
+    match came {
+        Ok(ending) => ending_report(ending, silent(0)),
+        Err(fault) => device_report(fault),
+    }
+}
+
+/// A fault, or else what there is to say of an input without one.
+fn ending_report(ending: Ending, other: Report) -> Report
+    ensures { said_in result ≡ said_of_ending ending (said_in other) }
+{
+    match ending {
+        Ending::Fault(fault) => saying(2, fault_message(fault)),
+        Ending::Done => other,
+    }
+}
+
+fn unused_report(unused: Option<u64>) -> Report
+    ensures { said_in result ≡ said_of_unused unused }
+{
+    match unused {
+        Some(offset) => saying(1, numbered(b"E7 no string to read at offset ", offset)),
+        None => silent(0),
+    }
+}
+
+fn found_report(offset: u64, found: bool) -> Report
+    ensures { said_in result ≡ said_of_found offset found }
+{
+    if found {
+        silent(0)
+    } else {
+        saying(1, numbered(b"E4 no element at offset ", offset))
+    }
+}
+
+fn device_report(fault: DeviceFault) -> Report
+    ensures { said_in result ≡ said_of_device fault }
 {
     match fault {
-        DeviceFault::ReadFailed => b"E1 read failed",
-        DeviceFault::WriteFailed => b"E2 write failed",
-        DeviceFault::InputTooLong => b"E3 input too long",
+        DeviceFault::ReadFailed => saying(3, text(b"E1 read failed")),
+        DeviceFault::WriteFailed => saying(3, text(b"E2 write failed")),
+        DeviceFault::InputTooLong => saying(3, text(b"E3 input too long")),
     }
+}
+
+/// The report where the file to read does not open.
+pub(crate) fn closed_report() -> Report
+    ensures { said_in result ≡ said_of_closed }
+{
+    saying(3, text(b"E5 cannot open the file"))
+}
+
+/// The report where the words are refused, or ask for help or the version. What `clap` has to say is no part of it.
+pub(crate) fn usage_report(fault: &UsageFault) -> Report
+    ensures { said_in result ≡ said_of_usage fault.now }
+{
+    match fault {
+        UsageFault::Parser(error) => silent(if error.use_stderr() { 4 } else { 0 }),
+        UsageFault::Value(name) => {
+            let octets = name.as_bytes();
+            let shown = &octets[..64.min(octets.len())];
+            saying(4, joined(b"U2 value out of range: ", shown))
+        }
+        UsageFault::Memory => saying(5, text(b"U3 out of memory")),
+    }
+}
+
+/// The report where help or the version was asked for and could not be written.
+pub(crate) fn unprinted_report() -> Report
+    ensures { said_in result ≡ said_of_unprinted }
+{
+    device_report(DeviceFault::WriteFailed)
+}
+
+/// The report where a word of the command line is not UTF-8.
+pub(crate) fn words_report() -> Report
+    ensures { said_in result ≡ said_of_words }
+{
+    saying(4, text(b"U1 an argument is not UTF-8"))
+}
+
+/// The report where the names file is refused.
+pub(crate) fn names_report(fault: NamesFault) -> Report
+    ensures { said_in result ≡ said_of_names fault }
+{
+    match fault {
+        NamesFault::BadOid(line) => saying(4, of_line(b"N1", line, b": not an object identifier")),
+        NamesFault::BadName(line) => saying(4, of_line(b"N2", line, b": no usable name")),
+        NamesFault::Repeated(line) => saying(4, of_line(b"N3", line, b": repeated")),
+        NamesFault::TooLarge => saying(4, text(b"N4 names file too large")),
+        NamesFault::ReadFailed => saying(4, text(b"N5 names file not read")),
+        NamesFault::Memory => saying(5, text(b"N6 out of memory")),
+    }
+}
+
+/// A report without findings.
+fn saying(status: u8, message: ArrayVec<u8, 128>) -> Report
+    ensures { said_in result ≡ saying_of status message.items }
+{
+    Report {
+        status,
+        findings: 0,
+        message,
+    }
+}
+
+/// A report without a message.
+fn silent(status: u8) -> Report
+    ensures { said_in result ≡ saying_of status [] }
+{
+    saying(status, ArrayVec::new())
 }
 
 fn text(line: &[u8]) -> ArrayVec<u8, 128>
@@ -70,6 +168,17 @@ fn text(line: &[u8]) -> ArrayVec<u8, 128>
 {
     let mut message = ArrayVec::new();
     let _ = message.try_extend_from_slice(line);
+    message
+}
+
+/// A text and another behind it.
+fn joined(line: &[u8], rest: &[u8]) -> ArrayVec<u8, 128>
+    requires line { length line.now ≤ 64 }
+    requires rest { length rest.now ≤ 64 }
+    ensures { result.items ≡ line.now ++ rest.now }
+{
+    let mut message = text(line);
+    let _ = message.try_extend_from_slice(rest);
     message
 }
 
@@ -82,6 +191,20 @@ fn numbered(line: &[u8], number: u64) -> ArrayVec<u8, 128>
     let mut message = text(line);
     let mut digits = Buffer::new();
     let _ = message.try_extend_from_slice(digits.format(number).as_bytes());
+    message
+}
+
+/// A code, the number of a line, and what is wrong with it.
+fn of_line(code: &[u8], line: u32, what: &[u8]) -> ArrayVec<u8, 128>
+    requires code { length code.now ≤ 2 }
+    requires what { length what.now ≤ 64 }
+    ensures { result.items ≡ line_with code.now line what.now }
+{
+    let mut message = text(code);
+    let mut digits = Buffer::new();
+    let _ = message.try_extend_from_slice(b" line ");
+    let _ = message.try_extend_from_slice(digits.format(line).as_bytes());
+    let _ = message.try_extend_from_slice(what);
     message
 }
 

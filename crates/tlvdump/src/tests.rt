@@ -1,12 +1,15 @@
-//! Dumps over memory: what they write and report, in whatever pieces the octets come, and where a
-//! device fails.
+//! Runs over memory: what they write and report, in whatever pieces the octets come, and where a device fails.
+mod asked;
 mod deep;
+mod messages;
 mod rows;
 mod values;
+mod words;
 
 use self::rows::{ENCODINGS, ENDED, PADDED, REFUSED, Row, WRAPPED};
 use self::values::{LAYOUTS, LONG, VALUES};
-use crate::running::run;
+use crate::command::Command;
+use crate::runner::run;
 use std::alloc::Global;
 use std::process::Abort;
 use std::test::Fail;
@@ -57,6 +60,14 @@ fn plain() -> Options {
     }
 }
 
+fn dump_command(options: Options) -> Command {
+    Command::Dump {
+        options,
+        names: None,
+        file: None,
+    }
+}
+
 /// The lines of the row that have come with so many octets.
 fn text_of(alloc: Global, row: &Row<'_>, octets: usize) -> Result<Vec<u8>, Fail> {
     let mut text = Vec::new(alloc);
@@ -88,9 +99,10 @@ fn expect_dump(
             padding: row.padding,
         },
     };
+    let command = dump_command(options);
     let mut source = MemSource::new(row.input, devices.cuts, devices.fail_at);
     let mut drain = MemDrain::new(room, devices.most);
-    let report = run(&options, &Names::empty(), &mut source, &mut drain);
+    let report = run(&command, &Names::empty(), &mut source, &mut drain);
     assert_eq!(rt; drain.written(), answer.written, "{}", row.name);
     assert_eq!(rt;
         report.message.as_slice(),
@@ -99,6 +111,7 @@ fn expect_dump(
         row.name
     );
     assert_eq!(rt; report.status, answer.status, "{}", row.name);
+    assert_eq!(rt; report.findings, 0, "{}", row.name);
 }
 
 /// Expects the row's own answer, with all its lines, of a dump whose octets come in these pieces.
@@ -242,7 +255,8 @@ fn lines_before_a_failed_read_are_written(rt: HostRuntime) {
     let mut room = [0; 1024];
     let mut source = MemSource::new(input, &[4], Some(1));
     let mut drain = MemDrain::new(&mut room, 4096);
-    let report = run(&plain(), &Names::empty(), &mut source, &mut drain);
+    let command = dump_command(plain());
+    let report = run(&command, &Names::empty(), &mut source, &mut drain);
     assert_eq!(rt;
         drain.written(),
         b"       0      9: VisibleString {\n".as_slice()
@@ -362,6 +376,36 @@ fn octets_up_to_the_limit_are_followed(rt: HostRuntime) {
     );
 }
 
+/// No request for memory is made here but what a run would make: `rt try --test --fail-alloc 1` refuses the first.
+#[test]
+fn runs_take_no_memory(rt: HostRuntime) {
+    let input = b"\x30\x03\x02\x01\x05";
+    let indef = Command::Indef {
+        padding: false,
+        file: None,
+    };
+    let extract = Command::Extract {
+        offset: 2,
+        contents: false,
+        framing: Framing::plain(),
+        file: None,
+    };
+    let dumped: &[u8] =
+        b"       0      3: SEQUENCE {\n       2      1:   INTEGER 5\n                 }\n";
+    for (command, written) in [
+        (dump_command(plain()), dumped),
+        (extract, b"\x02\x01\x05"),
+        (indef, b"\x30\x80\x02\x01\x05\x00\x00"),
+    ] {
+        let mut room = [0; 128];
+        let mut source = MemSource::new(input, &[], None);
+        let mut drain = MemDrain::new(&mut room, 4096);
+        let report = run(&command, &Names::empty(), &mut source, &mut drain);
+        assert_eq!(rt; drain.written(), written);
+        assert_eq!(rt; report.status, 0);
+    }
+}
+
 /// Names are for object identifiers, and for no relative ones.
 #[test]
 fn names_of_object_identifiers_are_shown(rt: HostRuntime) -> Result<(), Fail> {
@@ -373,7 +417,8 @@ fn names_of_object_identifiers_are_shown(rt: HostRuntime) -> Result<(), Fail> {
     let mut room = [0; 1024];
     let mut source = MemSource::new(input, &[], None);
     let mut drain = MemDrain::new(&mut room, 4096);
-    let report = run(&plain(), &names, &mut source, &mut drain);
+    let command = dump_command(plain());
+    let report = run(&command, &names, &mut source, &mut drain);
     let text = b"       0      3: OBJECT IDENTIFIER 1.2.840 (us)
        5      4: RELATIVE-OID 1.2.840
 ";

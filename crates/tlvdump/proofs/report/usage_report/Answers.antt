@@ -1,0 +1,7 @@
+use Rattle.std.proofs.Common.{◌≡◌, length, min, rules, take}
+use Rattle.std.proofs.lemmas.List.{take_min}
+use Rattle.tlvdump.proofs.report.usage_report.Goals as goal
+
+pub returns-in-Value : goal.returns-in-Value
+returns-in-Value c =
+    let front = take_min 64 c.in-Value.name.now in rw c.in-Value.is (search rules)

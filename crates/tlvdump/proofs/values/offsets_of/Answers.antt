@@ -1,0 +1,11 @@
+use Rattle.std.proofs.Common.{◌≡◌, ◌∙◌, None, ap, rules}
+use Rattle.tlvdump.specs.Values.{each_offset, parts_of, text_in}
+use Rattle.tlvdump.proofs.Offsets.{judged, last_part, no_offset, one_offset, too_many}
+use Rattle.tlvdump.proofs.values.offsets_of.Goals as goal
+
+pub returns : goal.returns
+returns c =
+    let ns = c.loop-rest.offsets.items in
+    let none : text_in c.loop-rest.rest ≡ None = search rules in
+    judged c.new.result ns (search rules) (search rules) (search rules)
+    ∙ last_part (each_offset (parts_of c.args.text.now)) ns (text_in c.loop-rest.rest) none c.loop-rest.invariant

@@ -1,0 +1,11 @@
+use Rattle.std.proofs.Common.{◌≡◌, ◌+◌, length}
+use Rattle.std.specs.Option.{option_map_or}
+use Rattle.tlvdump.specs.Values.{each_offset, parts_of, text_in}
+use Rattle.tlvdump.proofs.Offsets.{behind, still}
+use Rattle.tlvdump.proofs.values.offsets_of.Given as goal
+
+abbrev pub invariant-loop-rest : goal.invariant-loop-rest
+invariant-loop-rest l = each_offset (parts_of l.text) ≡ behind l.offsets.items (still (text_in l.rest))
+
+abbrev pub decreases-loop-rest : goal.decreases-loop-rest
+decreases-loop-rest l = option_map_or (λ r. length r.now + 1) l.rest 0

@@ -1,0 +1,127 @@
+"""Runs the program, compares what it did with what is wanted, and counts."""
+import os
+import shutil
+import signal
+import subprocess
+import sys
+import tempfile
+
+# No run of a test takes longer, on a busy machine too.
+SECONDS = 120
+
+
+class Done:
+    """What a run came to: its status (or the signal, negative), and what it wrote."""
+
+    def __init__(self, status, out, err):
+        self.status, self.out, self.err = status, out, err
+
+    def __eq__(self, other):
+        return (self.status, self.out, self.err) == (other.status, other.out, other.err)
+
+    def lines(self):
+        return [
+            f"status {shown_status(self.status)}",
+            f"output {shown(self.out)}",
+            f"errors {shown(self.err)}",
+        ]
+
+
+def shown_status(status):
+    if isinstance(status, int) and status < 0:
+        return f"death by {signal.Signals(-status).name}"
+    return str(status)
+
+
+def shown(octets):
+    text = repr(octets)
+    return text if len(text) <= 600 else f"{text[:300]} .. {text[-280:]} ({len(octets)} octets)"
+
+
+def message(text):
+    """The message of a run on standard error: one line, or nothing."""
+    return text.encode() + b"\n" if text else b""
+
+
+class Suite:
+    """Counts over all parts, and owns the temporary folder."""
+
+    def __init__(self, program, root):
+        self.program, self.root = program, root
+        self.passed = self.failed = 0
+
+    def __enter__(self):
+        self.folder = tempfile.mkdtemp(prefix="tlvdump-tests-")
+        return self
+
+    def __exit__(self, *_):
+        shutil.rmtree(self.folder, ignore_errors=True)
+
+    def part(self, name):
+        folder = os.path.join(self.folder, name)
+        os.mkdir(folder)
+        return Part(self, name, folder)
+
+
+class Part:
+    """What the tests of one part use. `folder` is the folder in which its runs stand."""
+
+    def __init__(self, suite, name, folder):
+        self.suite, self.name, self.folder = suite, name, folder
+        self.program, self.root = suite.program, suite.root
+
+    def path(self, name):
+        return os.path.join(self.folder, name)
+
+    def write(self, name, octets):
+        """Writes a file in the part's folder, and returns its path."""
+        with open(self.path(name), "wb") as file:
+            file.write(octets)
+        return self.path(name)
+
+    def start(self, words, **how):
+        """Starts the program. Its signals are those of a program that a shell starts."""
+        how.setdefault("cwd", self.folder)
+        return subprocess.Popen([self.program, *words], **how)
+
+    def run(self, words, given=b"", **how):
+        """Runs the program on these octets, by a pipe, or on `stdin`, and returns what it did."""
+        if "stdin" not in how:
+            how["stdin"] = subprocess.PIPE
+        how.setdefault("stdout", subprocess.PIPE)
+        how.setdefault("stderr", subprocess.PIPE)
+        child = self.start(words, **how)
+        given = given if how["stdin"] == subprocess.PIPE else None
+        try:
+            out, err = child.communicate(given, timeout=SECONDS)
+        except subprocess.TimeoutExpired:
+            child.kill()
+            child.communicate()
+            return Done("none: it did not end", b"", b"")
+        return Done(child.returncode, out or b"", err or b"")
+
+    def expect(self, what, fine, *lines):
+        """Counts one test, and tells of it where it fails."""
+        if fine:
+            self.suite.passed += 1
+            return
+        self.suite.failed += 1
+        print(f"FAILED {self.name}: {what}")
+        for line in lines:
+            print(f"    {line}")
+        sys.stdout.flush()
+
+    def same(self, what, got, wanted):
+        """Counts one test: that this run did what is wanted."""
+        got_lines, wanted_lines = got.lines(), wanted.lines()
+        told = [f"wanted {w}\n       got {g}" for g, w in zip(got_lines, wanted_lines) if g != w]
+        self.expect(what, got == wanted, *told)
+
+    def gives(self, words, given, status, out=b"", err="", **how):
+        """Counts one test: that the program with these words gives status, output and message."""
+        got = self.run(words, given, **how)
+        self.same(" ".join(words) or "no words", got, Done(status, out, message(err)))
+
+    def note(self, text):
+        """Tells a figure. It is no test."""
+        print(f"{self.name}: {text}")

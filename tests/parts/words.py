@@ -1,0 +1,192 @@
+"""The command line: which words are refused, and how; help and version."""
+import os
+
+
+NULL = b"\x05\x00"
+NULL_LINE = b"       0      0: NULL\n"
+
+# Words that the parser refuses: status 4, its own text on standard error.
+REFUSED = [
+    "",
+    "dumpx",
+    "help",
+    "help dump",
+    "-h",
+    "-V",
+    "--dump",
+    "--pure dump",
+    "dump -h",
+    "dump -p",
+    "dump help extra",
+    "dump a b",
+    "dump -- a b",
+    "dump --limit",
+    "dump --limit -5",
+    "dump --limit 1 --limit 2",
+    "dump --limit=1 --limit=1",
+    "dump --lim 1",
+    "dump --limits 1",
+    "dump --limit 1 2 3",
+    "dump --names",
+    "dump --names a --names b",
+    "dump --inside",
+    "dump --inside -1",
+    "dump --inside 0 --inside 1",
+    "dump --pure --pure",
+    "dump --pure=1",
+    "dump --pure=true",
+    "dump --pur",
+    "dump --padding --padding",
+    "dump --padding=",
+    "dump --offset 0",
+    "dump --contents",
+    "dump --nonsense --limit x",
+    "dump --limit x --limit y",
+    "extract",
+    "extract --contents",
+    "extract --inside 0",
+    "extract --offset",
+    "extract --offset -1",
+    "extract --offset 0 --offset 0",
+    "extract --offset 0 --contents --contents",
+    "extract --offset 0 --contents=x",
+    "extract --offset 0 --pure",
+    "extract --offset 0 --limit 1",
+    "extract --offset 0 --names n",
+    "extract --offset 0 a b",
+    "extract --offset x --nonsense",
+    "indef --inside 0",
+    "indef --offset 0",
+    "indef --contents",
+    "indef --pure",
+    "indef --limit 1",
+    "indef --names n",
+    "indef --padding --padding",
+    "indef a b",
+]
+
+# To be words of the program once it has findings.
+LATER = ["check", "check --rules der", "dump --rules der", "dump --rules=ber"]
+
+NO_NUMBERS = ["", "x", "+5", "-5", " 5", "5 ", "5.0", "0x10", "1_000", "1,000", "\u0665", "00000000000005"]
+NO_LISTS = ["", ",", "4,", ",4", "1,,2", "5,3", "3,3", "1, 2", " 1", "1;2", "-1", "+1", "0x1", "a"]
+NO_LISTS += ["1099511627777", "00000000000001", "0,1099511627777", ",".join(map(str, range(17)))]
+
+# The option whose value is out of range, and the words.
+VALUES = [("--limit", ["dump", f"--limit={text}"]) for text in NO_NUMBERS]
+VALUES += [("--limit", ["dump", "--limit", text]) for text in ("4294967296", "9999999999999", "")]
+VALUES += [("--offset", ["extract", f"--offset={text}"]) for text in NO_NUMBERS]
+VALUES += [("--offset", ["extract", "--offset", text]) for text in ("1099511627777", "9999999999999", "")]
+VALUES += [("--inside", ["dump", f"--inside={text}"]) for text in NO_LISTS]
+VALUES += [("--inside", ["extract", "--offset=0", f"--inside={text}"]) for text in NO_LISTS]
+VALUES += [
+    ("--limit", ["dump", "--limit", "x", "--inside", "y"]),
+    ("--limit", ["dump", "--inside", "y", "--limit", "x"]),
+    ("--offset", ["extract", "--inside", "y", "--offset", "x"]),
+    ("--offset", ["extract", "--offset", "x", "--inside", "y"]),
+    # The values pass before the names file and FILE.
+    ("--limit", ["dump", "--limit", "x", "--names", "missing", "missing"]),
+    ("--inside", ["dump", "--names", "missing", "--inside", "x"]),
+    ("--offset", ["extract", "--offset", "x", "missing"]),
+]
+
+# Words that are taken, for the octets 05 00, and what is written.
+TAKEN = [
+    ("dump", NULL_LINE),
+    ("dump --limit=1", NULL_LINE),
+    ("dump --limit 0", NULL_LINE),
+    ("dump --limit 4294967295", NULL_LINE),
+    ("dump --limit 0000000000001", NULL_LINE),
+    ("dump --limit=0004294967295", NULL_LINE),
+    ("dump --pure", b"NULL\n"),
+    ("dump --padding --pure --limit 3", b"NULL\n"),
+    ("dump --", NULL_LINE),
+    ("dump --pure --", b"NULL\n"),
+    ("extract --offset 0", NULL),
+    ("extract --offset=0", NULL),
+    ("extract --offset 0000000000000", NULL),
+    ("extract --contents --offset 0", b""),
+    ("extract --offset 0 --padding --contents", b""),
+    ("extract --offset 0 --inside 0,1099511627776", NULL),
+    ("extract --offset 0 --inside=0,0000000000001", NULL),
+    ("extract --offset 0 --inside " + ",".join(map(str, range(16))), NULL),
+    ("indef", NULL),
+    ("indef --padding", NULL),
+    ("indef --", NULL),
+]
+
+# Options that help has to name, for each command.
+OPTIONS = {
+    "dump": ["--limit", "--pure", "--names", "--inside", "--padding", "--help"],
+    "extract": ["--offset", "--contents", "--inside", "--padding", "--help"],
+    "indef": ["--padding", "--help"],
+}
+
+
+def refused(part):
+    for text in REFUSED + LATER:
+        got = part.run(text.split(), NULL)
+        fine = got.status == 4 and got.out == b"" and got.err.startswith(b"error: ")
+        part.expect(f"refused: {text or 'no words'}", fine and got.err.endswith(b"\n"), *got.lines())
+    for name, words in VALUES:
+        part.gives(words, NULL, 4, err=f"U2 value out of range: {name}")
+    got = part.run([b"dump", b"\xff\xfe"], NULL)
+    fine = got.status == 4 and got.out == b"" and got.err.count(b"\n") == 1 and got.err.endswith(b"\n")
+    part.expect("a word that is not UTF-8", fine, *got.lines())
+
+
+def taken(part):
+    for text, out in TAKEN:
+        part.gives(text.split(), NULL, 0, out)
+    far = "E4 no element at offset 1099511627776"
+    part.gives(["extract", "--offset", "1099511627776"], NULL, 1, err=far)
+
+
+def files(part):
+    """Words that name files, with `--` and without."""
+    for name in ("--pure", "-", "a b", "dump", "\u00e9.der", "help"):
+        part.write(name, NULL)
+    for words in ("dump -- --pure", "dump -", "dump -- -", "dump dump", "dump \u00e9.der", "dump help"):
+        part.gives(words.split(), b"", 0, NULL_LINE)
+    part.gives(["dump", "a b"], b"", 0, NULL_LINE)
+    part.gives(["dump", "-", "--pure"], b"", 0, b"NULL\n")
+    part.gives(["dump", "--pure", "--", "--pure"], b"", 0, b"NULL\n")
+    part.gives(["extract", "-", "--offset", "0"], b"", 0, NULL)
+    part.gives(["indef", "--", "--pure"], b"", 0, NULL)
+    part.gives(["dump", "--", "--names"], NULL, 3, err="E5 cannot open the file")
+    part.gives(["dump", ""], NULL, 3, err="E5 cannot open the file")
+
+
+def help_and_version(part):
+    top = part.run(["--help"])
+    asked = ["dump", "extract", "indef", "--help", "--version"]
+    part.expect("--help", has_all(top, asked), *top.lines())
+    for name, options in OPTIONS.items():
+        got = part.run([name, "--help"])
+        part.expect(f"{name} --help", has_all(got, options), *got.lines())
+        got_later = part.run([name, "--help", "--nonsense"])
+        part.same(f"{name} --help passes before what follows", got_later, got)
+    got = part.run(["dump", "--limit", "x", "--help"])
+    part.same("dump --limit x --help", got, part.run(["dump", "--help"]))
+    version = part.run(["--version"])
+    fine = version.status == 0 and version.err == b"" and version.out.startswith(b"tlvdump ")
+    part.expect("--version", fine and version.out.count(b"\n") == 1, *version.lines())
+    with open("/dev/full", "wb") as full:
+        for words in (["--help"], ["--version"], ["extract", "--help"]):
+            part.gives(words, b"", 3, err="E2 write failed", stdout=full)
+    # Help reads nothing: a closed standard input does no harm.
+    got = part.run(["--help"], stdin=None, preexec_fn=lambda: os.close(0))
+    part.same("--help with a closed standard input", got, top)
+
+
+def has_all(got, texts):
+    """Whether the run ended well, and wrote all of these to standard output alone, in ASCII."""
+    said = all(text.encode() in got.out for text in texts)
+    return got.status == 0 and got.err == b"" and said and got.out.isascii()
+
+
+def test(part):
+    refused(part)
+    taken(part)
+    files(part)
+    help_and_version(part)
