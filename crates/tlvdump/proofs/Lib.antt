@@ -1,5 +1,4 @@
+mod Answered
 mod Building
-mod Devices
 mod Numbers
 mod Offsets
-mod Answered

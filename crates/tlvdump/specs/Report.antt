@@ -1,6 +1,5 @@
 -- What the program says of a run: the exit status, the number of findings, and the message.
-use Rattle.std.specs.Prelude.{◌≡◌, ◌⊎◌, ◌∷◌, ℕ, Bool, true, false, List, [], ◌++◌, Option, Some, None, Result, Ok, Err, codes, decimal, take}
-use Rattle.std.specs.Io.KnownBytes.{Appends}
+use Rattle.std.specs.Prelude.{◌≡◌, ◌∷◌, ⊤, ℕ, Bool, true, false, List, [], ◌++◌, Option, Some, None, Result, Ok, Err, codes, decimal, take}
 use Rattle.clap.specs.Words.{kind_of}
 use Rattle.clap.specs.declared.error.kind.ErrorKind.{ErrorKind}
 use Rattle.clap.specs.declared.error.kind.ErrorKind.TheVariants as kind
@@ -10,8 +9,9 @@ use Rattle.tlv_head.specs.Fault.{code_of, text_of}
 use Rattle.tlv_show.specs.declared.dumping.Outcome.{Outcome}
 use Rattle.tlv_value.specs.declared.names.fault.NamesFault.{NamesFault}
 use Rattle.tlv_value.specs.declared.names.fault.NamesFault.TheVariants as names
-use Rattle.tlv_walk.specs.Device.{counted}
-use Rattle.tlv_walk.specs.Prefix.{HasPrefix}
+use Rattle.tlv_walk.specs.Device.{Taken}
+use Rattle.tlv_walk.specs.Out.{Sends}
+use Rattle.tlv_walk.specs.declared.drain.WriteFault.{WriteFault}
 use Rattle.tlv_walk.specs.declared.ending.Ending.{Ending}
 use Rattle.tlv_walk.specs.declared.ending.Ending.TheVariants as ending
 use Rattle.tlv_walk.specs.declared.run.DeviceFault.{DeviceFault}
@@ -120,7 +120,6 @@ abbrev pub line_of : List ℕ → List ℕ
 line_of [] = []
 line_of (x ∷ xs) = (x ∷ xs) ++ 10 ∷ []
 
--- a line was written, or a write failed and the drain has a prefix
-abbrev pub IsTold : List ℕ → Option (List ℕ) → Option (List ℕ) → ℕ → ℕ → Type 0
-IsTold line old new failures failures' =
-    ((failures' ≡ failures) × Appends old new line) ⊎ ((failures' ≡ counted failures) × HasPrefix old new line)
+-- a line was written, or a write failed and the drain took a front of it
+abbrev pub IsTold : List ℕ → Taken → Taken → Type 0
+IsTold line old new = (result : Result ⊤ WriteFault) × Sends old new line result

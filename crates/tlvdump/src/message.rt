@@ -1,8 +1,6 @@
 //! How a message is told.
-ghost use Rattle.std.specs.Prelude.{◌≡◌, OnErr, OnOk};
-ghost use Rattle.std.specs.Io.KnownBytes.{Appends};
-ghost use Rattle.tlv_walk.specs.Device.{failures_after};
-ghost use Rattle.tlv_walk.specs.Prefix.{HasPrefix};
+ghost use Rattle.std.specs.Prelude.{◌≡◌, ◌≤◌, length};
+ghost use Rattle.tlv_walk.specs.Out.{Sends};
 ghost use Rattle.tlvdump.specs.Report.{IsTold, line_of};
 
 use crate::report::Report;
@@ -13,23 +11,33 @@ use tlv_walk::{Drain, Out, WriteFault};
 /// changes no status.
 pub(crate) fn tell<D: Drain>(report: &Report, drain: &mut D) -> u8
     ensures status { result ≡ report.now.status }
-    ensures told { IsTold (line_of report.now.message.items) (D.taken drain.old) (D.taken drain.new) (D.failures drain.old) (D.failures drain.new) }
+    ensures told { IsTold (line_of report.now.message.items) (D.told drain.old) (D.told drain.new) }
 {
-    let mut line: ArrayVec<u8, 129> = ArrayVec::new();
-    if !report.message.is_empty() {
-        let _ = line.try_extend_from_slice(report.message.as_slice());
-        let _ = line.try_push(b'\n');
-    }
-    let _ = write(line.as_slice(), drain);
+    let line = whole_line(report.message.as_slice());
+    let _ = send(line.as_slice(), drain);
     report.status
 }
 
-fn write<D: Drain>(line: &[u8], drain: &mut D) -> Result<(), WriteFault>
-    ensures ok { OnOk result (Appends (D.taken drain.old) (D.taken drain.new) line.now) }
-    ensures err { OnErr result (HasPrefix (D.taken drain.old) (D.taken drain.new) line.now) }
-    ensures failed { D.failures drain.new ≡ failures_after result (D.failures drain.old) }
+/// The message with a line feed behind it, where there is one.
+fn whole_line(message: &[u8]) -> ArrayVec<u8, 129>
+    requires { length message.now ≤ 128 }
+    ensures { result.items ≡ line_of message.now }
+{
+    let mut line = ArrayVec::new();
+    if !message.is_empty() {
+        let _ = line.try_extend_from_slice(message);
+        let _ = line.try_push(b'\n');
+    }
+    line
+}
+
+/// Hands the octets to the drain.
+#[tactic(auto, using(tlv_walk::proofs::Puts::sends))]
+fn send<D: Drain>(octets: &[u8], drain: &mut D) -> Result<(), WriteFault>
+    ensures { Sends (D.told drain.old) (D.told drain.new) octets.now result }
 {
     let mut out = Out::new(drain);
-    out.put(line)?;
-    out.flush()
+    out.put(octets)?;
+    out.flush()?;
+    Ok(())
 }

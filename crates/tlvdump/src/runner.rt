@@ -1,7 +1,6 @@
 //! A run of a command over a source and a drain.
-ghost use Rattle.tlv_walk.specs.Device.{counted};
 ghost use Rattle.tlvdump.specs.Report.{said_in};
-ghost use Rattle.tlvdump.specs.Runs.{Runs};
+ghost use Rattle.tlvdump.specs.Runs.{Ran};
 
 use crate::command::Command;
 use crate::report::{Report, cut_report, dump_report, indef_report};
@@ -19,24 +18,8 @@ pub fn run<S: Source, D: Drain>(
     source: &mut S,
     drain: &mut D,
 ) -> Report
-    ensures { Runs command.now names.now
-        (record {
-          left = S.left source.old;
-          taken = D.taken drain.old;
-          reads = S.reads source.old;
-          last = S.last source.old;
-          failed_reads = S.failures source.old;
-          failed_writes = D.failures drain.old;
-        })
-        (record {
-          left = S.left source.new;
-          taken = D.taken drain.new;
-          reads = S.reads source.new;
-          last = S.last source.new;
-          failed_reads = S.failures source.new;
-          failed_writes = D.failures drain.new;
-        })
-        (said_in result) }
+    ensures { Ran command.now names.now (S.told source.old) (S.told source.new)
+        (D.told drain.old) (D.told drain.new) (said_in result) }
 {
     match command {
         Command::Dump { options, .. } => dump_report(dump(source, drain, options, names)),

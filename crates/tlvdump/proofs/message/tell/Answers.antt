@@ -1,0 +1,5 @@
+use Rattle.std.proofs.Common.{rules}
+use Rattle.tlvdump.proofs.message.tell.Goals as goal
+
+pub returns-clause-told : goal.returns-clause-told
+returns-clause-told g c = (c.send.result, search rules)
