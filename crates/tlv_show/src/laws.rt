@@ -26,7 +26,12 @@ pub fn octets_are_dumped<D: Drain>(
 ) -> Result<Outcome, DeviceFault>
     ensures { IfOk result (DumpsOctets options.now names.now octets.now (D.told drain.old) (D.told drain.new)) }
 {
-    dump(&mut MemSource::new(octets, cuts, None), drain, options, names)
+    dump(
+        &mut MemSource::new(octets, cuts, None),
+        drain,
+        options,
+        names,
+    )
 }
 
 /// What is written of a longer input is what is written of the shorter, and then more.
