@@ -1,5 +1,5 @@
 -- `extract` is a walk, followed by an `Extract`.
-use Rattle.std.proofs.Common.{◌≡◌, ℕ, ◌^◌, ◌≤◌, Bool, true, false, List, length, refl, sym, ap, ◌∙◌, arith}
+use Rattle.std.proofs.Common.{◌≡◌, ℕ, ◌^◌, ◌≤◌, Bool, true, false, List, length, refl, ap, ◌∙◌, arith}
 use Rattle.std.specs.Prelude.{Ok, Err}
 use Rattle.tlv_walk.specs.declared.ending.Ending.{Ending}
 use Rattle.tlv_walk.specs.declared.framing.Framing.{Framing}
@@ -8,7 +8,7 @@ use Rattle.tlv_walk.specs.declared.run.Run.{Run}
 use Rattle.tlv_walk.specs.Device.{Supply, Taken}
 use Rattle.tlv_walk.specs.Drives.{Drives, had_enough}
 use Rattle.tlv_walk.specs.Events.{events}
-use Rattle.tlv_walk.specs.Follow.{Following, followed, followed_events, goes_of}
+use Rattle.tlv_walk.specs.Follow.{followed, followed_events, goes_of}
 use Rattle.tlv_walk.specs.Forest.{Forest}
 use Rattle.tlv_walk.specs.Job.{Runs}
 use Rattle.tlv_walk.specs.Place.{top}
@@ -47,7 +47,7 @@ module _ (framing : Framing) (n : ℕ) (only : Bool) (t : Extracting) (old new :
   extracts_ok run answer ending found x =
       jobs.runs_ok extracted (cutting framing n only) (waiting n only) text enough t old new from to run answer x
       (λ octets f e few r state is. answer_is answer e (has_element_at n f) (ending ∙ ap (λ (k : Run). k.ending) is ∙ jobs.run-ending framing f (followed_events extracted (waiting n only) (events f)) (followed extracted (waiting n only) (events f)).goes e)
-          (found ∙ ap (λ (k : Extracting). has_begun k.stand) state ∙ (made_cut octets f r).found))
+      (found ∙ ap (λ (k : Extracting). has_begun k.stand) state ∙ (made_cut octets f r).found))
 
   pub extracts_err : (e : DeviceFault) → Drives extracted framing (2 ^ 40) (waiting n only) t old new from to (Err e) → Runs (cutting framing n only) old new from to (Err e)
   extracts_err e x = jobs.runs_err extracted (cutting framing n only) (waiting n only) text enough t old new from to e x

@@ -1,16 +1,15 @@
 -- A dump is a walk, followed by a `Dump`, which always wants more.
-use Rattle.std.proofs.Common.{◌≡◌, ℕ, ◌^◌, ◌≤◌, Bool, false, List, length, sym, ap, ◌∙◌, arith, length-append}
+use Rattle.std.proofs.Common.{◌≡◌, ℕ, ◌^◌, ◌≤◌, false, List, length, ap, ◌∙◌, arith, length-append}
 use Rattle.std.specs.Prelude.{Option, Ok, Err}
 use Rattle.tlv_value.specs.Names.{Table}
 use Rattle.tlv_walk.specs.declared.ending.Ending.{Ending}
 use Rattle.tlv_walk.specs.declared.follow.Go.{Go}
-use Rattle.tlv_walk.specs.declared.follow.Go.TheVariants as go
 use Rattle.tlv_walk.specs.declared.run.DeviceFault.{DeviceFault}
 use Rattle.tlv_walk.specs.declared.run.Run.{Run}
 use Rattle.tlv_walk.specs.Device.{Supply, Taken}
 use Rattle.tlv_walk.specs.Drives.{Drives, had_enough, run_of}
-use Rattle.tlv_walk.specs.Events.{Told, events}
-use Rattle.tlv_walk.specs.Follow.{Following, followed, followed_events}
+use Rattle.tlv_walk.specs.Events.{events}
+use Rattle.tlv_walk.specs.Follow.{followed, followed_events}
 use Rattle.tlv_walk.specs.Forest.{Forest, spell}
 use Rattle.tlv_walk.specs.Job.{Runs}
 use Rattle.tlv_walk.specs.Place.{top}

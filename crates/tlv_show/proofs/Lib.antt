@@ -4,3 +4,4 @@ pub mod DumpTexts
 pub mod Dumps
 pub mod Longer
 pub mod Rows
+pub mod Memory

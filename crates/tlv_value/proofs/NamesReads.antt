@@ -1,10 +1,10 @@
 -- Octets read one piece after another.
 use Rattle.std.proofs.Common.{◌≡◌, inl, inr, ℕ, ◌+◌, ◌-◌, ◌<◌, ◌≤◌, List, [], ◌++◌, length, take, refl, sym, ap, ◌∙◌, subst, arith, append-nil, length-append}
 use Rattle.std.specs.Prelude.{Option, Some, None, Vec, Result, Ok, Err}
-use Rattle.std.specs.Io.KnownBytes.{Consumes, IsAtEnd, Keeps}
+use Rattle.std.specs.Io.KnownBytes.{Consumes, Keeps}
 use Rattle.std.proofs.lemmas.List.{length-take-le}
 use Rattle.tlv_walk.specs.declared.source.ReadFault.{ReadFault}
-use Rattle.tlv_walk.specs.Device.{GaveLast, Last, Pieces, ReadsOnce, Supply, counted, failed, gave, given_in, put_together}
+use Rattle.tlv_walk.specs.Device.{GaveLast, Last, Pieces, ReadsOnce, Supply, counted, gave, given_in, put_together}
 use Rattle.tlv_walk.proofs.Pieces.{Gathered, gathered_more, pieces_all, together_more}
 use Rattle.tlv_value.specs.declared.names.fault.NamesFault.{NamesFault}
 use Rattle.tlv_value.specs.declared.names.fault.NamesFault.TheVariants.{BadOid, BadName, Repeated, TooLarge, ReadFailed, Memory}

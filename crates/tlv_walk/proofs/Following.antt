@@ -1,6 +1,6 @@
 -- What a follower comes to, event by event.
 use Rattle.std.proofs.Common.{◌≡◌, inl, inr, ℕ, List, [], ◌∷◌, ◌++◌, length, refl, sym, ap, ap₂, ◌∙◌, subst, arith, append_assoc, append-nil, length-append}
-use Rattle.std.specs.Prelude.{Result, Ok, Err, slice_get}
+use Rattle.std.specs.Prelude.{Ok, Err, slice_get}
 use Rattle.tlv_head.specs.declared.fault.Fault.{Fault}
 use Rattle.tlv_walk.specs.declared.drain.WriteFault.{WriteFault}
 use Rattle.tlv_walk.specs.declared.event.Step.TheVariants as step

@@ -1,5 +1,5 @@
 -- A job that is a walk with some follower.
-use Rattle.std.proofs.Common.{◌≡◌, ◌⊎◌, ℕ, ◌≤◌, Bool, true, false, List, ◌++◌, length, take, refl, sym, ap, ◌∙◌, subst, arith}
+use Rattle.std.proofs.Common.{◌≡◌, ◌⊎◌, ℕ, ◌≤◌, Bool, true, false, List, length, take, refl, sym, ◌∙◌, subst, arith}
 use Rattle.std.proofs.lemmas.List.{length-take}
 use Rattle.std.specs.Prelude.{Result, Ok, Err, ⊤}
 use Rattle.std.specs.Io.KnownBytes.{IsAtEnd}
@@ -15,7 +15,7 @@ use Rattle.tlv_walk.specs.Drives.{Drives, had_enough, run_of, walk}
 use Rattle.tlv_walk.specs.Events.{Told, events}
 use Rattle.tlv_walk.specs.Follow.{Following, followed, goes_of}
 use Rattle.tlv_walk.specs.Forest.{Forest}
-use Rattle.tlv_walk.specs.Job.{AreSound, EndsWith, IsFinalEnding, Job, Runs, of_drain}
+use Rattle.tlv_walk.specs.Job.{AreSound, EndsWith, IsFinalEnding, Job, Runs}
 use Rattle.tlv_walk.specs.Out.{Sends}
 use Rattle.tlv_walk.specs.Reading.{IsReading}
 

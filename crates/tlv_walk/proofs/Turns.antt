@@ -1,5 +1,5 @@
 -- What a turn comes to, by why its piece is not followed any further.
-use Rattle.std.proofs.Common.{◌≡◌, inl, inr, ℕ, ◌-◌, ◌≤◌, ◌<◌, min, Bool, true, false, List, [], ◌∷◌, ◌++◌, length, take, flat_map, refl, sym, ap, ap₂, ◌∙◌, subst, arith, append_assoc, append-nil, length-append}
+use Rattle.std.proofs.Common.{◌≡◌, inl, inr, ℕ, ◌-◌, ◌≤◌, ◌<◌, min, Bool, true, false, List, [], ◌∷◌, ◌++◌, length, take, flat_map, refl, sym, ap, ◌∙◌, subst, arith, append_assoc, append-nil, length-append}
 use Rattle.std.proofs.lemmas.Bool.{cases_lt}
 use Rattle.std.proofs.lemmas.List.{length-take, take_all}
 use Rattle.std.proofs.Math.Seq.{take-take}
@@ -27,17 +27,17 @@ use Rattle.tlv_walk.specs.Follow.{Following, followed}
 use Rattle.tlv_walk.specs.Follows.{Fails, Follows, FollowsTo, GoesOnIn, Stops, WalkedTo}
 use Rattle.tlv_walk.specs.Forest.{Forest, spell}
 use Rattle.tlv_walk.specs.Job.{IsFinalEnding}
-use Rattle.tlv_walk.specs.Machine.{IsTold, Machine, unused_in}
+use Rattle.tlv_walk.specs.Machine.{Machine, unused_in}
 use Rattle.tlv_walk.specs.Out.{Puts, Sends, held_in, lender_of}
 use Rattle.tlv_walk.specs.Place.{top}
-use Rattle.tlv_walk.specs.Reading.{IsPrefixOf, IsReading}
+use Rattle.tlv_walk.specs.Reading.{IsReading}
 use Rattle.tlv_walk.specs.State.{Stands, waiting_of}
-use Rattle.tlv_walk.specs.Turns.{EndsBy, EndsIn, FailsIn, StandsOn, StopsIn, Turns}
+use Rattle.tlv_walk.specs.Turns.{EndsBy, EndsIn, StandsOn, StopsIn, Turns}
 use Rattle.tlv_walk.specs.Wrappers.{enters, first_other, unused_of}
 use Rattle.tlv_walk.proofs.Finals.{refused-final}
 use Rattle.tlv_walk.proofs.Followed.{followed-front}
 use Rattle.tlv_walk.proofs.Following.{walked_goes_on}
-use Rattle.tlv_walk.proofs.Puts.{IsFront, puts_failed_last, puts_then_as, sends_err, sends_flushed, sends_ok, sends_puts}
+use Rattle.tlv_walk.proofs.Puts.{puts_failed_last, puts_then_as, sends_err, sends_flushed, sends_ok, sends_puts}
 use Rattle.tlv_walk.proofs.Push.{Spells}
 use Rattle.tlv_walk.proofs.Readings.{reading-unique}
 use Rattle.tlv_walk.proofs.StateReading.{state-reading, state-spells}
@@ -94,9 +94,11 @@ module _ {S : Type 0} (next : S → Told → Following S) where
   -- or could not be flushed
   fault_goes_on : (w v : Machine) (s t : S) (piece : List ℕ) (P : List ℕ → Type 0) (e : Fault) → (x : FollowsTo next w v s t piece P e) → (b : List ℕ) (told : List Told) → Stands w b told → GoesOnIn w.framing (b ++ piece) (told ++ x.more)
   fault_goes_on w v s t piece P e x b told st f r =
-      let k : WalkedTo w v piece x.more e b told = x.walked b told st in
-      ([], subst (λ (es : List Told). AreEqualJoined es (events f)) (sym (append-nil (told ++ x.more)))
-          (subst (λ (g : Forest). AreEqualJoined (told ++ x.more) (events g)) (fault_reading w v b piece told x.more e f k r) k.refused.all_told))
+      let k : WalkedTo w v piece x.more e b told = x.walked b told st in (
+        [],
+        subst (λ (es : List Told). AreEqualJoined es (events f)) (sym (append-nil (told ++ x.more)))
+            (subst (λ (g : Forest). AreEqualJoined (told ++ x.more) (events g)) (fault_reading w v b piece told x.more e f k r) k.refused.all_told),
+      )
 
   stops_failing : (w v : Machine) (s t : S) (piece : List ℕ) (P Q : List ℕ → Type 0) (why : Stop) → ((x : List ℕ) → P x → Q x) → Stops next w v s t piece P (Ok why) → Fails next w s piece Q
   stops_failing w v s t piece P Q stop.UsedUp h x =

@@ -3,7 +3,6 @@ use Rattle.std.specs.Prelude.{◌≡◌, ◌≢◌, ◌⊎◌, ℕ, ◌-◌, ◌
 use Rattle.std.specs.Io.KnownBytes.{Consumes, IsAtEnd}
 use Rattle.tlv_walk.specs.declared.ending.Ending.TheVariants as ending
 use Rattle.tlv_walk.specs.declared.follow.Go.TheVariants as go
-use Rattle.tlv_walk.specs.declared.framing.Framing.{Framing}
 use Rattle.tlv_walk.specs.declared.run.DeviceFault.{DeviceFault}
 use Rattle.tlv_walk.specs.declared.run.DeviceFault.TheVariants.{ReadFailed, WriteFailed, InputTooLong}
 use Rattle.tlv_walk.specs.declared.run.Run.{Run}
@@ -96,7 +95,8 @@ module _ {S : Type 0} (next : S → Told → Following S) where
       → (more : List Told) × AreEqualJoined (told ++ more) (events f) × puts (followed next s more).put
 
   -- what a turn came to whose read gave r behind b. Of r only as many octets are followed as the limit leaves
-  abbrev pub TurnsTo : ℕ → Machine → Machine → S → S → List ℕ → List Told → List ℕ → (List ℕ → Type 0) → Result Turn DeviceFault → Type 0
+  abbrev pub TurnsTo : ℕ → Machine → Machine → S → S → List ℕ → List Told → List ℕ → (List ℕ → Type 0)
+      → Result Turn DeviceFault → Type 0
   TurnsTo limit w v s t b told r puts (Ok Again) = (r ≢ []) × (length (b ++ r) ≤ limit) × StandsOn w v s t (b ++ r) told puts
   TurnsTo limit w v s t b told r puts (Ok (Ended run)) =
       EndsBy run.enough w v s t (b ++ take (limit - length b) r) told puts run

@@ -51,7 +51,7 @@ pub fn turn<F: Follow, S: Source, D: Drain>(
         (D.told drain.old) (D.told drain.new) piece.new result }
     ensures turned { (b : List ℕ) (told : List Told) → Stands walker.old b told
         → Turns F.next limit walker.old walker.new follower.old follower.new b told
-          (given (S.told source.new).last piece.new) (D.told drain.old) (D.told drain.new) result }
+        (given (S.told source.new).last piece.new) (D.told drain.old) (D.told drain.new) result }
     ensures octets { AreOctets piece.new }
     ensures again { IfOk result (λ t. t ≡ Turn.Again
         → (walker.old.offset < walker.new.offset) × (walker.new.offset ≤ limit) × IsReady walker.new) }
