@@ -21,10 +21,10 @@ no_endings at (f ∷ fs) n = ap (λ (k : Bool). if k then ending_of f ∷ ending
 
 quiet_in : (f : Phase) (stack : List Frame) (at : ℕ) → (IsWaitingIn f stack at → ⊥) → waiting_in f stack at ≡ []
 quiet_in phase.Between stack at n = no_endings at stack n
-quiet_in (phase.Header r) stack at n = refl
-quiet_in (phase.Contents left) stack at n = ap (λ (k : Bool). if k then End ∷ endings_at at stack else []) (ne_eqb left 0 n)
-quiet_in phase.Unused stack at n = refl
-quiet_in phase.Zero stack at n = refl
+quiet_in (phase.InHeader r) stack at n = refl
+quiet_in (phase.InContents left) stack at n = ap (λ (k : Bool). if k then End ∷ endings_at at stack else []) (ne_eqb left 0 n)
+quiet_in phase.BeforeUnused stack at n = refl
+quiet_in phase.InEnd stack at n = refl
 quiet_in (phase.Failed fault) stack at n = refl
 
 pub quiet : (w : Machine) → (IsWaiting w → ⊥) → waiting_of w ≡ []
@@ -38,10 +38,10 @@ no_more e es false t n = absurd (cc)
 loud_in : (f : Phase) (stack : List Frame) (at : ℕ) → IsWaitingIn f stack at → waiting_in f stack at ≡ [] → ⊥
 loud_in phase.Between [] at i n = i
 loud_in phase.Between (f ∷ fs) at i n = no_more (ending_of f) (endings_at at fs) (is_end f.end at) (ap (λ (e : Option ℕ). is_end e at) i ∙ eq-eqb at at refl) n
-loud_in (phase.Header r) stack at i n = i
-loud_in (phase.Contents left) stack at i n = no_more End (endings_at at stack) (eqb left 0) (eq-eqb left 0 i) n
-loud_in phase.Unused stack at i n = i
-loud_in phase.Zero stack at i n = i
+loud_in (phase.InHeader r) stack at i n = i
+loud_in (phase.InContents left) stack at i n = no_more End (endings_at at stack) (eqb left 0) (eq-eqb left 0 i) n
+loud_in phase.BeforeUnused stack at i n = i
+loud_in phase.InEnd stack at i n = i
 loud_in (phase.Failed fault) stack at i n = i
 
 pub idle : (w : Machine) → NothingWaits w → IsWaiting w → ⊥
