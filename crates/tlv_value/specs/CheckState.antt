@@ -5,7 +5,8 @@ use Rattle.tlv_head.specs.declared.header.Class.{Class}
 use Rattle.tlv_head.specs.Header.{Heading, announced}
 use Rattle.tlv_value.specs.declared.kind.Kind.TheVariants.{Utf8}
 use Rattle.tlv_value.specs.declared.finding.Finding.{Finding}
-use Rattle.tlv_value.specs.Checks.{Noted, allows_octet, every, findings_on, is_object, is_padded_behind, last_of}
+use Rattle.tlv_value.specs.Checks.{allows_octet, every, is_padded_behind, last_of}
+use Rattle.tlv_value.specs.CheckNotes.{Noted, findings_on, is_object}
 use Rattle.tlv_value.specs.Rows.{full_rows, open_row}
 
 abbrev pub all_utf8 : List (List ℕ) → Bool
