@@ -5,3 +5,10 @@ pub mod DumpTexts
 pub mod Dumps
 pub mod Longer
 pub mod Rows
+pub mod RowWords
+pub mod BasicHeaderRows
+pub mod BasicContentsRows
+pub mod BasicTextRows
+pub mod StrictRows
+pub mod CanonicalRows
+pub mod WholeRows

@@ -2,4 +2,9 @@ pub mod Lines
 pub mod Dumped
 pub mod Dumps
 pub mod DumpText
+pub mod Site
+pub mod Conditions
+pub mod Found
+pub mod Items
+pub mod Texts
 pub mod Laws

@@ -6,9 +6,11 @@ mod follower;
 pub mod laws;
 mod lines;
 mod options;
+mod rules;
 #[cfg(test)]
 mod tests;
 
 pub use dumping::{Outcome, dump};
 pub use follower::Dump;
 pub use options::Options;
+pub use rules::Rules;
