@@ -7,4 +7,5 @@ pub mod Conditions
 pub mod Found
 pub mod Items
 pub mod Texts
+pub mod FinderState
 pub mod Laws

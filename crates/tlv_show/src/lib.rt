@@ -3,6 +3,8 @@
 
 mod dumping;
 mod follower;
+mod frames;
+mod header_findings;
 pub mod laws;
 mod lines;
 mod options;
