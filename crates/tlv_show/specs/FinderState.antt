@@ -1,13 +1,12 @@
 -- What is kept of elements so that what is found in them can be told event by event, and what is told. Nothing here is to be
 -- believed: `Items` has what is told, and a law has that it is the same.
-use Rattle.std.specs.Prelude.{ℕ, ◌+◌, ◌-◌, ◌^◌, Bool, true, false, ◌&&◌, ◌||◌, not, ◌==◌, nat_le, nat_lt, if◌then◌else◌, List, [], ◌∷◌, ◌++◌, length, max, min, slice_get, take, Option, Some, None}
+use Rattle.std.specs.Prelude.{ℕ, ◌+◌, ◌-◌, ◌^◌, Bool, true, false, ◌&&◌, ◌||◌, not, ◌==◌, nat_le, nat_lt, if◌then◌else◌, List, [], ◌∷◌, ◌++◌, length, max, min, take, Option, Some, None}
 use Rattle.std.specs.List.{filter}
-use Rattle.tlv_head.specs.declared.header.Class.{Class}
-use Rattle.tlv_head.specs.Header.{Heading, announced, is_universal}
+use Rattle.tlv_head.specs.Header.{Heading, announced}
 use Rattle.tlv_value.specs.declared.finding.Finding.{Finding}
 use Rattle.tlv_value.specs.declared.finding.Finding.TheVariants.{B01, B02, B03, B04, B05, B16, B17, S01, D01, D02, C01, C02, C03, C04, C05, C06}
 use Rattle.tlv_value.specs.CheckNotes.{where_it}
-use Rattle.tlv_value.specs.CheckState.{CheckState, checked, found_in, unchecked}
+use Rattle.tlv_value.specs.CheckState.{CheckState, checked, found_in, has_unused, unchecked}
 use Rattle.tlv_value.specs.Types.{bit_string, constructed_types, has_segments, is_a, is_one_of, is_primitive, is_string, is_unassigned, octet_string, primitive_types}
 use Rattle.tlv_walk.specs.Events.{Told, Open, Begin, Bytes, End, Close, Enter, Unused, Leave, Pad}
 use Rattle.tlv_walk.specs.Place.{is_indefinite}
@@ -104,16 +103,24 @@ end_notes Cer w =
 -- ---- What contracts see of a `Finder`
 
 -- the primitive that is open: where it begins, and what is noted of its contents
-pub record Open_ : Type 0 where
+pub record OpenValue : Type 0 where
   pub at : ℕ
   pub check : CheckState
+
+-- a primitive, if one is open
+abbrev pub begun_at : ℕ → Option CheckState → Option OpenValue
+begun_at at None = None
+begun_at at (Some check) = Some (record { at = at; check = check })
+
+abbrev pub open_by : Bool → ℕ → Option CheckState → Option OpenValue
+open_by is_open at check = if is_open then begun_at at check else None
 
 pub record FinderState : Type 0 where
   pub rules : Rules
   -- the frame of the innermost element that is open, or of the top, and those outside, innermost first
   pub frame : Frame
   pub outer : List Frame
-  pub value : Option Open_
+  pub value : Option OpenValue
   -- how many findings were told; it stops at 2^64 - 1
   pub count : ℕ
 
@@ -137,6 +144,8 @@ finds s level at found = record { state = record s { count = count_up s.count (l
 abbrev pub finds_nothing : FinderState → Finds
 finds_nothing s = record { state = s; level = 0; at = 0; found = [] }
 
+-- ---- What it makes of an event
+
 -- an element that holds others begins. Past 128 of them no frame is kept
 abbrev pub entered_in : FinderState → Heading → FinderState
 entered_in s h = if nat_lt (length s.outer) 128 then record s { frame = frame_of h; outer = s.frame ∷ s.outer } else s
@@ -149,26 +158,18 @@ abbrev pub find_begin : FinderState → Heading → Finds
 find_begin s h = finds (record s { value = Some (record { at = h.offset; check = unchecked h }) }) (length s.outer) h.offset (header_notes s.rules s.frame h)
 
 -- contents octets: no more count than were announced
-abbrev pub checked_by : Option Open_ → List ℕ → Option Open_
+abbrev pub checked_by : Option OpenValue → List ℕ → Option OpenValue
 checked_by None octets = None
 checked_by (Some v) octets = Some (record v { check = checked v.check (take v.check.left octets) })
 
 abbrev pub find_bytes : FinderState → List ℕ → FinderState
 find_bytes s octets = record s { value = checked_by s.value octets }
 
--- 8.6.2.2: a BIT STRING whose first contents octet is not 0
-abbrev pub is_not_zero : Option ℕ → Bool
-is_not_zero None = false
-is_not_zero (Some x) = not (x == 0)
-
-abbrev pub has_unused : CheckState → Bool
-has_unused t = is_universal t.class && t.number == bit_string && is_not_zero (slice_get t.front 0)
-
 -- a primitive ends, of which all contents octets have come
 abbrev pub contents_notes : Rules → CheckState → List Finding
 contents_notes rules t = if t.left == 0 then filter (shows rules) (found_in t) else []
 
-abbrev pub ended_by : FinderState → Option Open_ → Finds
+abbrev pub ended_by : FinderState → Option OpenValue → Finds
 ended_by s None = finds_nothing s
 ended_by s (Some v) =
     finds (record s { frame = noted s.frame true v.check.size (has_unused v.check); value = None }) (length s.outer) v.at (contents_notes s.rules v.check)

@@ -8,4 +8,5 @@ pub mod Found
 pub mod Items
 pub mod Texts
 pub mod FinderState
+pub mod Finds
 pub mod Laws

@@ -2,6 +2,7 @@
 #![tactic(auto)]
 
 mod dumping;
+mod finder;
 mod follower;
 mod frames;
 mod header_findings;

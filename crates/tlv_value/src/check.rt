@@ -1,9 +1,9 @@
 //! What is found on the contents of a primitive.
-ghost use Rattle.std.specs.Prelude.{◌≡◌, ◌+◌, ◌<◌, ◌≤◌, ◌%◌, ◌^◌, ◌++◌, ◌&&◌, ◌||◌, ℕ, List, [], eqb, if◌then◌else◌, length, not, slice_get, take};
+ghost use Rattle.std.specs.Prelude.{◌≡◌, ◌+◌, ◌<◌, ◌≤◌, ◌%◌, ◌^◌, ◌++◌, ◌&&◌, ◌||◌, ℕ, List, [], eqb, if◌then◌else◌, length, not, take};
 ghost use Rattle.std.specs.Str.{is_utf8};
 ghost use Rattle.tlv_head.specs.Header.{Heading, announced};
 ghost use Rattle.tlv_value.specs.CheckNotes.{is_object, time_findings, where_it};
-ghost use Rattle.tlv_value.specs.CheckState.{all_utf8, allowed_in, checked, found_in, unchecked};
+ghost use Rattle.tlv_value.specs.CheckState.{all_utf8, allowed_in, checked, found_in, has_unused, unchecked};
 ghost use Rattle.tlv_value.specs.Checks.{
   allows_octet as allows_octet_of,
   contents_findings,
@@ -101,11 +101,23 @@ impl ValueCheck {
         self.left
     }
 
-    /// The first contents octet, if it has come.
-    pub fn first(&self) -> Option<u8>
-        ensures { result ≡ slice_get self.now.front 0 }
+    /// How many contents octets the primitive has.
+    pub fn size(&self) -> u64
+        ensures { result ≡ self.now.size }
     {
-        self.front.as_slice().first().copied()
+        self.size
+    }
+
+    /// Whether it is a BIT STRING whose first contents octet has come and is not `00` (8.6.2.2).
+    pub fn has_unused_bits(&self) -> bool
+        ensures { result ≡ has_unused self.now }
+    {
+        match self.front.as_slice() {
+            [first, ..] => {
+                matches!(self.class, Class::Universal) && self.number == 3 && *first != 0
+            }
+            [] => false,
+        }
     }
 
     /// Takes more contents octets.
