@@ -5,6 +5,8 @@ pub mod DumpTexts
 pub mod Dumps
 pub mod Longer
 pub mod Rows
+pub mod Lists
+pub mod Wordings
 pub mod RowWords
 pub mod BasicHeaderRows
 pub mod BasicContentsRows

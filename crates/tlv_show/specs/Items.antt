@@ -11,8 +11,8 @@ use Rattle.tlv_show.specs.Site.{Site, behind, behind_holder, behind_padding, ins
 
 -- an item, with its level: how many elements hold what it is about
 pub data Item : Type 0 where
-  -- something is found in the element with this header
-  FindingAt : (level : ℕ) (head : Heading) (finding : Finding) → Item
+  -- something is found in the element that begins at this offset
+  FindingAt : (level offset : ℕ) (finding : Finding) → Item
   -- an element that holds others begins, and ends: with the offset of its end-of-contents octets, where it has them
   OpeningLine : (level : ℕ) (head : Heading) → Item
   ClosingLine : (level : ℕ) (offset : Option ℕ) → Item
@@ -22,9 +22,9 @@ pub data Item : Type 0 where
   -- padding begins at this offset
   PaddingLine : (level offset : ℕ) → Item
 
--- findings on an element, in order
-abbrev pub findings_at : ℕ → Heading → List Finding → List Item
-findings_at level h findings = map (FindingAt level h) findings
+-- what is found in an element, in order
+abbrev pub findings_at : ℕ → ℕ → List Finding → List Item
+findings_at level at findings = map (FindingAt level at) findings
 
 -- the headers of elements one after another
 abbrev pub heads : Forest → List Heading
@@ -45,13 +45,13 @@ first then second = first ++ second
 module _ (rules : Rules) where
   -- what is found with the header comes before the element's first line, all else behind its last line
   abbrev pub on_header : Site → Heading → List Item
-  on_header s h = findings_at s.level h (header_findings rules s h)
+  on_header s h = findings_at s.level h.offset (header_findings rules s h)
 
   abbrev pub on_contents : Site → Heading → List ℕ → List Item
-  on_contents s h c = findings_at s.level h (contents_findings rules h c)
+  on_contents s h c = findings_at s.level h.offset (contents_findings rules h c)
 
   abbrev pub on_end : Site → Heading → Forest → List Item
-  on_end s h inside = findings_at s.level h (end_findings rules h (heads inside))
+  on_end s h inside = findings_at s.level h.offset (end_findings rules h (heads inside))
 
   -- of elements from there on
   abbrev pub items : Site → Forest → List Item

@@ -9,4 +9,5 @@ pub mod Items
 pub mod Texts
 pub mod FinderState
 pub mod Finds
+pub mod CheckStep
 pub mod Laws

@@ -10,6 +10,7 @@ pub mod laws;
 mod lines;
 mod options;
 mod rules;
+mod style;
 #[cfg(test)]
 mod tests;
 
