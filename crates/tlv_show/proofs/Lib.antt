@@ -5,6 +5,7 @@ pub mod DumpTexts
 pub mod Dumps
 pub mod Longer
 pub mod Rows
+pub mod CheckLaws
 pub mod Lists
 pub mod Wordings
 pub mod RowWords

@@ -163,7 +163,7 @@ checked_by None octets = None
 checked_by (Some v) octets = Some (record v { check = checked v.check (take v.check.left octets) })
 
 abbrev pub find_bytes : FinderState → List ℕ → FinderState
-find_bytes s octets = record s { value = checked_by s.value octets }
+find_bytes s octets = if length octets == 0 then s else record s { value = checked_by s.value octets }
 
 -- a primitive ends, of which all contents octets have come
 abbrev pub contents_notes : Rules → CheckState → List Finding

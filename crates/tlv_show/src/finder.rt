@@ -1,10 +1,12 @@
 //! What is found in elements, event by event.
 ghost use Rattle.std.specs.Prelude.{◌≡◌, ℕ, Some, []};
 ghost use Rattle.tlv_value.specs.CheckState.{unchecked};
+ghost use Rattle.tlv_walk.specs.Tells.{told_of};
 ghost use Rattle.tlv_show.specs.FinderState.{
   begun_at,
   checked_by,
   contents_notes,
+  find as find_in,
   find_begin,
   find_bytes,
   find_close,
@@ -27,6 +29,7 @@ use arrayvec::ArrayVec;
 use std::marker::Model;
 use tlv_head::Header;
 use tlv_value::{Finding, ValueCheck};
+use tlv_walk::Event;
 
 /// What is found in an element: how many others hold it, where it begins, and the findings in order.
 #[derive(Drop)]
@@ -90,8 +93,25 @@ impl Finder {
         self.count
     }
 
+    /// Takes an event.
+    pub fn find(&mut self, event: &Event<'_>) -> Found
+        ensures { Tells (find_in self.old (told_of event.now)) self.new result }
+    {
+        match event {
+            Event::Open(header) | Event::Enter(header) => self.open(header),
+            Event::Begin(header) => self.begin(header),
+            Event::Bytes(octets) => {
+                self.bytes(octets);
+                nothing()
+            }
+            Event::End => self.end(),
+            Event::Close(_) | Event::Leave => self.close(),
+            Event::Unused | Event::Pad(_) => nothing(),
+        }
+    }
+
     /// An element that holds others begins.
-    pub fn open(&mut self, header: &Header) -> Found
+    fn open(&mut self, header: &Header) -> Found
         ensures { Tells (find_open self.old header.now) self.new result }
     {
         let level = self.outer.len();
@@ -109,7 +129,7 @@ impl Finder {
     }
 
     /// A primitive begins.
-    pub fn begin(&mut self, header: &Header) -> Found
+    fn begin(&mut self, header: &Header) -> Found
         ensures { Tells (find_begin self.old header.now) self.new result }
     {
         let findings = header_findings(self.rules, &self.frame, header);
@@ -125,16 +145,16 @@ impl Finder {
     }
 
     /// Contents of a primitive go on.
-    pub fn bytes(&mut self, octets: &[u8])
+    fn bytes(&mut self, octets: &[u8])
         ensures { self.new ≡ find_bytes self.old octets.now }
     {
-        if self.is_open {
+        if self.is_open && !octets.is_empty() {
             take_octets(&mut self.check, octets);
         }
     }
 
     /// A primitive ends.
-    pub fn end(&mut self) -> Found
+    fn end(&mut self) -> Found
         ensures { Tells (find_end self.old) self.new result }
     {
         match &self.check {
@@ -156,7 +176,7 @@ impl Finder {
     }
 
     /// An element that holds others ends.
-    pub fn close(&mut self) -> Found
+    fn close(&mut self) -> Found
         ensures { Tells (find_close self.old) self.new result }
     {
         let Some(outer) = self.outer.pop() else {

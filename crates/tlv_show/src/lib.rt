@@ -1,6 +1,7 @@
 //! What `dump` writes: a line for each element, and rows for the contents of a long primitive.
 #![tactic(auto)]
 
+mod checker;
 mod dumping;
 mod finder;
 mod follower;
@@ -14,6 +15,7 @@ mod style;
 #[cfg(test)]
 mod tests;
 
+pub use checker::Check;
 pub use dumping::{Outcome, dump};
 pub use follower::Dump;
 pub use options::Options;
