@@ -6,6 +6,7 @@ pub mod Dumps
 pub mod Longer
 pub mod Rows
 pub mod CheckLaws
+pub mod HeaderNotes
 pub mod Lists
 pub mod Wordings
 pub mod RowWords

@@ -1,6 +1,6 @@
-use Rattle.std.proofs.Common.{◌≡◌, ◌++◌, ◌∙◌, ℕ, List, arith, append_assoc}
+use Rattle.std.proofs.Common.{◌++◌, ◌∙◌, arith, append_assoc}
 use Rattle.std.proofs.lemmas.Result.{err_from_is_err_and}
-use Rattle.tlv_walk.specs.Out.{lender_of, put_to}
+use Rattle.tlv_walk.specs.Out.{put_to}
 use Rattle.tlv_walk.proofs.Known.{appends_trans}
 use Rattle.tlv_value.proofs.Puts.{put_failed}
 use Rattle.tlv_show.proofs.Lists.{next_line}
