@@ -22,7 +22,7 @@ value-join (Some v) x y =
     ap (λ (t : CheckState). Some (record v { check = t }))
     (checks-join v.check (take v.check.left x) (take (v.check.left - length (take v.check.left x)) y) ∙ ap (checked v.check) (sym (take-both v.check.left x y)))
 
-one-or-more : (x : ℕ) (octets : List ℕ) → (length (x ∷ octets) == 0) ≡ false
+pub one-or-more : (x : ℕ) (octets : List ℕ) → (length (x ∷ octets) == 0) ≡ false
 one-or-more x octets = grind (arith, nat_tests)
 
 pub found-join : (s : FinderState) (x y : List ℕ) → find_bytes s (x ++ y) ≡ find_bytes (find_bytes s x) y

@@ -7,6 +7,8 @@ pub mod Longer
 pub mod Rows
 pub mod CheckLaws
 pub mod HeaderNotes
+pub mod FinderFolds
+pub mod FinderTold
 pub mod Lists
 pub mod Wordings
 pub mod RowWords
