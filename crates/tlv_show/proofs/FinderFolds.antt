@@ -1,31 +1,22 @@
 -- A finder tells the findings of the items, event by event.
-use Rattle.std.proofs.Common.{◌≡◌, ℕ, ◌+◌, ◌-◌, ◌<◌, ◌≤◌, ◌&&◌, ◌||◌, ◌==◌, not, Bool, true, false, nat_lt, min, max, if◌then◌else◌, List, [], ◌∷◌, ◌++◌, length, take, map, refl, sym, ap, ap₂, ◌∙◌, subst, arith, append_assoc, append-nil}
+use Rattle.std.proofs.Common.{◌≡◌, ℕ, ◌+◌, ◌-◌, ◌&&◌, ◌||◌, ◌==◌, not, Bool, true, false, min, if◌then◌else◌, List, [], ◌∷◌, length, refl, sym, ap, ap₂, ◌∙◌, arith}
 use Rattle.std.proofs.Math.Bool.{and_assoc}
 use Rattle.std.proofs.lemmas.Bool.{true≢false}
-use Rattle.std.proofs.lemmas.Bool.Decides.{nat_tests}
-use Rattle.std.proofs.lemmas.Grind.{common_steps}
-use Rattle.std.proofs.lemmas.List.Elements.{filter-append}
-use Rattle.std.specs.List.{filter, fold, list_all}
-use Rattle.std.specs.Prelude.{Option, Some, None}
+use Rattle.std.specs.List.{fold, list_all}
+use Rattle.std.specs.Prelude.{Option, None}
 use Rattle.tlv_head.specs.Header.{Heading, announced, is_universal, octets_of, wraps}
-use Rattle.tlv_value.specs.declared.finding.Finding.{Finding}
-use Rattle.tlv_value.specs.CheckState.{CheckState, checked, found_in, has_unused, unchecked}
+use Rattle.tlv_value.specs.CheckState.{checked, has_unused, unchecked}
 use Rattle.tlv_value.specs.Types.{bit_string, has_segments, is_a, is_primitive}
-use Rattle.tlv_value.proofs.CheckPieces.{checked-none, findings-end}
-use Rattle.tlv_walk.specs.Events.{Told, Open, Begin, Bytes, End, Close, Enter, Unused, Leave, Pad, closes, end_offset, events, opens}
-use Rattle.tlv_walk.specs.Forest.{Forest, Stop, Fill, Whole, Closed, Partial, Entered, Awaiting, Begun, Zero, extent, is_whole, opening, spell}
-use Rattle.tlv_walk.specs.Place.{IsOpen, Place, after, inside_of as place_inside}
+use Rattle.tlv_walk.specs.Forest.{Forest, Stop, Fill, Whole, Closed, Partial, Entered, Awaiting, Begun, Zero, extent, is_whole}
+use Rattle.tlv_walk.specs.Place.{IsOpen, Place, after}
 use Rattle.tlv_show.specs.declared.frames.Frame.{Frame}
 use Rattle.tlv_show.specs.declared.rules.Rules.{Rules}
-use Rattle.tlv_show.specs.Conditions.{bits_octet, end_conditions, ends_empty, has_unused_bits, is_not_full}
-use Rattle.tlv_show.specs.DumpText.{end_place}
-use Rattle.tlv_show.specs.FinderState.{FinderState, Finds, closed_by, contents_notes, end_notes, find, find_begin, find_bytes, find_open, frame_of, header_notes, noted}
-use Rattle.tlv_show.specs.Found.{contents_findings, end_findings, header_findings, shows}
-use Rattle.tlv_show.specs.Items.{Item, FindingAt, OpeningLine, ClosingLine, WholePrimitive, OpenPrimitive, PaddingLine, findings_at, heads, items}
-use Rattle.tlv_show.specs.Site.{Before, Padding, Sibling, Site, Start, behind, behind_holder, behind_padding, first_octet, in_string, inside_of, is_held_by, is_padding, top}
-use Rattle.tlv_show.specs.Texts.{is_finding}
-use Rattle.tlv_show.proofs.CheckLaws.{one-or-more}
-use Rattle.tlv_show.proofs.HeaderNotes.{Knows, end-by, ends-are, ends_by, filter-held, header-same, shown}
+use Rattle.tlv_show.specs.Conditions.{end_conditions, ends_empty, has_unused_bits, is_not_full}
+use Rattle.tlv_show.specs.FinderState.{end_notes, frame_of, noted}
+use Rattle.tlv_show.specs.Found.{end_findings}
+use Rattle.tlv_show.specs.Items.{heads}
+use Rattle.tlv_show.specs.Site.{Sibling, Site, behind_padding, first_octet, in_string, inside_of, is_held_by}
+use Rattle.tlv_show.proofs.HeaderNotes.{Knows, end-by, ends-are, ends_by, filter-held}
 
 -- ---- what frames know
 

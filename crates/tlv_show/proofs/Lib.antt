@@ -9,6 +9,8 @@ pub mod CheckLaws
 pub mod HeaderNotes
 pub mod FinderFolds
 pub mod FinderTold
+pub mod Shows
+pub mod CheckFolds
 pub mod Lists
 pub mod Wordings
 pub mod RowWords

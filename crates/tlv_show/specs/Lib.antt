@@ -10,4 +10,5 @@ pub mod Texts
 pub mod FinderState
 pub mod Finds
 pub mod CheckStep
+pub mod Shows
 pub mod Laws

@@ -2,6 +2,7 @@
 #![tactic(auto)]
 
 mod checker;
+mod checking;
 mod dumping;
 mod finder;
 mod follower;
@@ -10,13 +11,16 @@ mod header_findings;
 pub mod laws;
 mod lines;
 mod options;
+mod outcome;
 mod rules;
 mod style;
 #[cfg(test)]
 mod tests;
 
 pub use checker::Check;
+pub use checking::check;
 pub use dumping::{Outcome, dump};
 pub use follower::Dump;
 pub use options::Options;
+pub use outcome::Checked;
 pub use rules::Rules;
