@@ -15,6 +15,8 @@ mod outcome;
 mod rules;
 mod style;
 #[cfg(test)]
+mod check_tests;
+#[cfg(test)]
 mod tests;
 
 pub use checker::Check;
