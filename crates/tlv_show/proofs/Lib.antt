@@ -2,8 +2,6 @@ pub mod Puts
 pub mod Dumped
 pub mod Always
 pub mod DumpTexts
-pub mod Dumps
-pub mod Longer
 pub mod Rows
 pub mod CheckLaws
 pub mod HeaderNotes
@@ -11,6 +9,7 @@ pub mod FinderFolds
 pub mod FinderTold
 pub mod Shows
 pub mod CheckFolds
+pub mod DumpSteps
 pub mod Lists
 pub mod Wordings
 pub mod RowWords

@@ -20,7 +20,7 @@ use Rattle.tlv_walk.specs.Forest.{Forest}
 use Rattle.tlv_walk.specs.Reading.{IsReading}
 use Rattle.tlv_walk.specs.Turns.{EndsWith, IsFinalEnding, goes_of}
 use Rattle.tlv_walk.specs.Prefix.{HasPrefix}
-use Rattle.tlv_show.specs.declared.outcome.Checked.{Checked}
+use Rattle.tlv_show.specs.declared.outcome.Outcome.{Outcome}
 use Rattle.tlv_show.specs.Shows.{ShowComesTo, Shows}
 
 not_true : (k : Bool) → (k ≡ true → ⊥) → k ≡ false
@@ -35,7 +35,7 @@ pub record Shower {S : Type 0} (next : S → Told → Following S) (first : S) (
 
 module _ {S : Type 0} (next : S → Told → Following S) (first t : S) (framing : Framing) (text : Forest → List ℕ) (count : Forest → ℕ) (count_in : S → ℕ)
     (w : Shower next first framing text count count_in) (old new left left' : Option (List ℕ)) (reads reads' : ℕ) (last : Last) where
-  shows_by : (walk : Result Run DeviceFault) (result : Result Checked DeviceFault) → (d : Drives next framing first t old new left left' reads reads' last (2 ^ 40) walk)
+  shows_by : (walk : Result Run DeviceFault) (result : Result Outcome DeviceFault) → (d : Drives next framing first t old new left left' reads reads' last (2 ^ 40) walk)
       → ShowComesTo framing text count old new (d.before ++ d.rest) last result → Shows framing text count old new left left' reads reads' last result
   shows_by walk result d c = record {
     before = d.before;
@@ -67,7 +67,7 @@ module _ {S : Type 0} (next : S → Told → Following S) (first t : S) (framing
   on_of octets run v =
       not_true run.enough (λ enough. let k = v.last enough in on_is_not (sym (ap (λ (f : Following S). f.goes) k.1.made) ∙ w.goes_on first k.1.more))
 
-  pub shows_ok : (run : Run) (outcome : Checked) → outcome.ending ≡ run.ending → outcome.findings ≡ count_in t → outcome.unused ≡ run.unused
+  pub shows_ok : (run : Run) (outcome : Outcome) → outcome.ending ≡ run.ending → outcome.findings ≡ count_in t → outcome.unused ≡ run.unused
       → Drives next framing first t old new left left' reads reads' last (2 ^ 40) (Ok run) → Shows framing text count old new left left' reads reads' last (Ok outcome)
   shows_ok run outcome ending findings unused d =
       let octets : List ℕ = take (2 ^ 40) (d.before ++ d.rest) in

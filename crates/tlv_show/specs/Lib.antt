@@ -10,5 +10,6 @@ pub mod Texts
 pub mod FinderState
 pub mod Finds
 pub mod CheckStep
+pub mod DumpStep
 pub mod Shows
 pub mod Laws

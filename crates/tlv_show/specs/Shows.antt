@@ -12,7 +12,7 @@ use Rattle.tlv_walk.specs.Prefix.{HasPrefix}
 use Rattle.tlv_walk.specs.Reading.{IsReading}
 use Rattle.tlv_walk.specs.Turns.{IsFinalEnding}
 use Rattle.tlv_walk.specs.Wrappers.{unused_of}
-use Rattle.tlv_show.specs.declared.outcome.Checked.{Checked}
+use Rattle.tlv_show.specs.declared.outcome.Outcome.{Outcome}
 
 -- of the octets given no more are shown than the limit
 abbrev pub shown_octets : List ℕ → List ℕ
@@ -21,7 +21,7 @@ shown_octets given = take (2 ^ 40) given
 -- of elements this text is written, and so many findings are counted
 module _ (framing : Framing) (text : Forest → List ℕ) (count : Forest → ℕ) where
   -- what it came to, by its answer
-  abbrev pub ShowComesTo : Option (List ℕ) → Option (List ℕ) → List ℕ → Last → Result Checked DeviceFault → Type 0
+  abbrev pub ShowComesTo : Option (List ℕ) → Option (List ℕ) → List ℕ → Last → Result Outcome DeviceFault → Type 0
   ShowComesTo old new given last (Ok outcome) =
       ((f : Forest) → IsReading framing (shown_octets given) f → Appends old new (text f) × (outcome.findings ≡ count f) × (outcome.unused ≡ unused_of framing.inside f))
       × IsEnding framing (shown_octets given) outcome.ending
@@ -33,7 +33,7 @@ module _ (framing : Framing) (text : Forest → List ℕ) (count : Forest → �
 
   -- the octets that a source gave, and what showing them came to. Those before the last read hold no fault, and each read
   -- before the last gave one octet or more
-  pub record Shows (old new left left' : Option (List ℕ)) (reads reads' : ℕ) (last : Last) (result : Result Checked DeviceFault) : Type 0 where
+  pub record Shows (old new left left' : Option (List ℕ)) (reads reads' : ℕ) (last : Last) (result : Result Outcome DeviceFault) : Type 0 where
     pub before : List ℕ
     pub rest : List ℕ
     pub consumed : Consumes left left' (before ++ rest)

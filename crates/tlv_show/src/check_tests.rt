@@ -1,5 +1,5 @@
 //! Checks over memory: what they list, and how many findings they count.
-use crate::{Checked, Rules, check};
+use crate::{Outcome, Rules, check};
 use std::process::Abort;
 use tlv_walk::{Ending, Framing, Inside, MemDrain, MemSource};
 
@@ -239,19 +239,36 @@ static OTHERS: [Row<'static>; 6] = [
 /// Cuts into single octets: as many as the rows' inputs have, and more.
 const ONES: [u64; 16] = [1; 16];
 
+/// How a source gives its octets.
+#[derive(Clone, Copy)]
+struct Pieces<'a> {
+    /// The most octets of each read.
+    cuts: &'a [u64],
+}
+
 /// Expects what the row says of its input, which comes in these pieces.
-fn expect_row<'x>(rt: &impl Abort, row: &Row<'x>, cuts: &'x [u64], framing: &Framing) {
-    let mut room = [0; 200];
-    let mut source = MemSource::new(row.input, cuts, None);
-    let mut drain = MemDrain::new(&mut room, 7);
+fn expect_check(
+    rt: &impl Abort,
+    row: &Row<'_>,
+    pieces: Pieces<'_>,
+    framing: &Framing,
+    room: &mut [u8],
+) {
+    let mut source = MemSource::new(row.input, pieces.cuts, None);
+    let mut drain = MemDrain::new(room, 7);
     let answer = check(&mut source, &mut drain, row.rules, framing);
-    let checked = Checked {
+    let checked = Outcome {
         ending: Ending::Done,
         findings: row.findings,
         unused: None,
     };
     assert_eq!(rt; drain.written(), row.text, "{:?}", row.input);
     assert_eq!(rt; answer, Ok(checked), "{:?}", row.input);
+}
+
+fn expect_row(rt: &impl Abort, row: &Row<'_>, cuts: &[u64], framing: &Framing) {
+    let mut room = [0; 200];
+    expect_check(rt, row, Pieces { cuts }, framing, &mut room);
 }
 
 /// Expects each row, of an input that comes at once, in two pieces, and octet by octet.

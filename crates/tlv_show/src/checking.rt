@@ -4,7 +4,7 @@ ghost use Rattle.tlv_walk.specs.Device.{counted};
 ghost use Rattle.tlv_show.specs.Shows.{Shows};
 ghost use Rattle.tlv_show.specs.Texts.{check_text, found_count};
 
-use crate::outcome::Checked;
+use crate::outcome::Outcome;
 use crate::{Check, Rules};
 use tlv_walk::{DeviceFault, Drain, Framing, Source, drive};
 
@@ -21,7 +21,7 @@ pub fn check<S: Source, D: Drain>(
     drain: &mut D,
     rules: Rules,
     framing: &Framing,
-) -> Result<Checked, DeviceFault>
+) -> Result<Outcome, DeviceFault>
     ensures checks { Shows framing.now (check_text rules) (found_count rules) (D.taken drain.old) (D.taken drain.new) (S.left source.old) (S.left source.new) (S.reads source.old) (S.reads source.new) (S.last source.new) result }
     ensures ok { OnOk result ((S.failures source.new ≡ S.failures source.old) × (D.failures drain.new ≡ D.failures drain.old)) }
     ensures read { IsErrOf result DeviceFault.ReadFailed → (S.failures source.new ≡ counted (S.failures source.old)) × (D.failures drain.new ≡ D.failures drain.old) }
@@ -30,7 +30,7 @@ pub fn check<S: Source, D: Drain>(
 {
     let mut follower = Check::new(rules);
     let run = drive(source, &mut follower, drain, framing)?;
-    Ok(Checked {
+    Ok(Outcome {
         ending: run.ending,
         findings: follower.findings(),
         unused: run.unused,

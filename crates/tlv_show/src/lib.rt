@@ -8,6 +8,7 @@ mod finder;
 mod follower;
 mod frames;
 mod header_findings;
+mod line_follower;
 pub mod laws;
 mod lines;
 mod options;
@@ -21,8 +22,8 @@ mod tests;
 
 pub use checker::Check;
 pub use checking::check;
-pub use dumping::{Outcome, dump};
+pub use dumping::dump;
 pub use follower::Dump;
 pub use options::Options;
-pub use outcome::Checked;
+pub use outcome::Outcome;
 pub use rules::Rules;
