@@ -189,13 +189,15 @@ module _ (rules : Rules) where
     pub text-made : (followed check_step start (events f)).put ≡ check_text rules f
     text-made = ap (λ (t : Following FinderState). t.put) (followed-run start (events f)) ∙ ap (flat_map check_line) put-is ∙ only-written (items rules top f)
 
-    pub count-made : (followed check_step start (events f)).state.count ≡ found_count rules f
-    count-made =
+    pub count-run : (run start (events f)).state.count ≡ found_count rules f
+    count-run =
         let n = length-filter is_finding (items rules top f) in
-        ap (λ (t : Following FinderState). t.state.count) (followed-run start (events f))
-        ∙ counted-all start (events f)
+        counted-all start (events f)
         ∙ ap (λ (l : List Item). count_up 0 (length l)) put-is
         ∙ omega (arith, few (place_top framing) top f r.is_open, short, n, ap length r.front.1, length-append (spell f) r.front.0)
+
+    pub count-made : (followed check_step start (events f)).state.count ≡ found_count rules f
+    count-made = ap (λ (t : Following FinderState). t.state.count) (followed-run start (events f)) ∙ count-run
 
 -- a check always wants more
 pub all_on : (s : FinderState) (es : List Told) → (followed check_step s es).goes ≡ go.On

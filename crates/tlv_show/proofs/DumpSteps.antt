@@ -69,7 +69,7 @@ goes-by : (k : Bool) (s : Showing) (f : Finds) (d : Following Dumping) → (by_o
 goes-by true s f d = refl
 goes-by false s f d = refl
 
-one_on : (s : Showing) (e : Told) → (dump_step s e).goes ≡ go.On
+pub one_on : (s : Showing) (e : Told) → (dump_step s e).goes ≡ go.On
 one_on s e = ap (λ (t : Following Showing). t.goes) (step-is s e) ∙ goes-by (is_header e) s (find s.finder e) (dumped s.lines e)
 
 -- a dump always wants more

@@ -69,7 +69,7 @@ primitives_shown s h c size =
 
 -- of elements in this style, with these names
 module _ (style : Layout) (names : Table) where
-  abbrev at_level : ℕ → Layout
+  abbrev pub at_level : ℕ → Layout
   at_level level = record style { level = level }
 
   -- a dump between two elements
@@ -89,14 +89,14 @@ module _ (style : Layout) (names : Table) where
   abbrev begun_in : ℕ → ℕ → Bool → Heading → Dumping
   begun_in level at padded h = record (entered (standing level at padded) h) { value = Some (start h (at_level level)) }
 
-  primitive_told : (level at : ℕ) (padded : Bool) (h : Heading) (c : List ℕ) → h.offset ≡ at → announced h.size ≡ length c → at + (length (octets_of h) + length c) ≤ 2 ^ 64 - 1
+  pub primitive_told : (level at : ℕ) (padded : Bool) (h : Heading) (c : List ℕ) → h.offset ≡ at → announced h.size ≡ length c → at + (length (octets_of h) + length c) ≤ 2 ^ 64 - 1
       → followed dumped (standing level at padded) (Begin h ∷ Bytes c ∷ End ∷ []) ≡ puts (standing level (at + (length (octets_of h) + length c)) false) (whole_lines (finite.get names) h (at_level level) c)
   primitive_told level at padded h c there size far_enough =
       primitives_shown (standing level at padded) h c size
       ∙ settled level level (further (further h.offset (length (octets_of h))) (length c)) (at + (length (octets_of h) + length c)) false false _ (whole_lines (finite.get names) h (at_level level) c)
       refl (omega (arith, there, far_enough)) refl refl
 
-  part_told : (level at : ℕ) (padded : Bool) (h : Heading) (c : List ℕ) → length c ≤ announced h.size
+  pub part_told : (level at : ℕ) (padded : Bool) (h : Heading) (c : List ℕ) → length c ≤ announced h.size
       → (followed dumped (standing level at padded) (Begin h ∷ Bytes c ∷ [])).put ≡ open_lines h (at_level level) c
   part_told level at padded h c size =
       let t : TextState = start h (at_level level) in
@@ -125,7 +125,7 @@ module _ (style : Layout) (names : Table) where
       settled (min (level + 1) 255) (level + 1) (further h.offset (length (octets_of h))) (at + (length (octets_of h) + 0)) false false _ (wrapper_line (at_level level) h)
       (omega (arith, low)) (omega (arith, there, far_enough)) refl (append-nil (wrapper_line (at_level level) h))
 
-  holder_told : (level at : ℕ) (padded : Bool) (h : Heading) → h.offset ≡ at → level + 1 ≤ 255 → at + length (opening h) ≤ 2 ^ 64 - 1
+  pub holder_told : (level at : ℕ) (padded : Bool) (h : Heading) → h.offset ≡ at → level + 1 ≤ 255 → at + length (opening h) ≤ 2 ^ 64 - 1
       → followed dumped (standing level at padded) (opens h) ≡ puts (standing (level + 1) (at + length (opening h)) false) (holder_line (at_level level) h)
   holder_told level at padded h there low far_enough =
       holder_by level at padded h.constructed (eqb h.number 3) h there low (omega (arith, far_enough, length-opening h))
@@ -146,7 +146,7 @@ module _ (style : Layout) (names : Table) where
       settled (level + 1 - 1) level o (o + 0) false false _ (close_line (at_level level) None) (omega arith) (omega arith) refl (append-nil (close_line (at_level (level + 1 - 1)) None) ∙ ap (λ (l : ℕ). close_line (at_level l) None) (omega arith))
   closer_by level o false Indefinite allowed far_enough = absurd allowed
 
-  closer_told : (level o : ℕ) (h : Heading) (inside : Forest) → h.offset + length (opening h) + length (spell inside) ≡ o → AllowsSize h.constructed h.size → o + length (end_octets h.size) ≤ 2 ^ 64 - 1
+  pub closer_told : (level o : ℕ) (h : Heading) (inside : Forest) → h.offset + length (opening h) + length (spell inside) ≡ o → AllowsSize h.constructed h.size → o + length (end_octets h.size) ≤ 2 ^ 64 - 1
       → followed dumped (standing (level + 1) o false) (closes h inside ∷ []) ≡ puts (standing level (o + length (end_octets h.size)) false) (close_line (at_level level) (end_place h inside))
   closer_told level o h inside there allowed far_enough =
       subst (λ (n : ℕ). followed dumped (standing (level + 1) o false) ((if h.constructed then Close (end_offset h.size n) else Leave) ∷ [])
@@ -168,7 +168,7 @@ module _ (style : Layout) (names : Table) where
   padded_behind padded Zero = padded
 
   -- inside an element there is none
-  no_padding : (p : Place) (f : Forest) → p.padding ≡ false → IsOpen p f → padded_behind false f ≡ false
+  pub no_padding : (p : Place) (f : Forest) → p.padding ≡ false → IsOpen p f → padded_behind false f ≡ false
   no_padding p Stop e v = refl
   no_padding p (Fill rest) e v = absurd (true≢false (sym v.0.allowed ∙ e))
   no_padding p (Whole h c rest) e v = no_padding (after p (length (octets_of h) + length c)) rest e v.1
@@ -197,7 +197,7 @@ module _ (style : Layout) (names : Table) where
       ∙ ap (λ (l : List ℕ). record (followed dumped (standing p.depth q.at k) (events rest)) { put = put ++ l })
       (subst (λ (n : ℕ). (followed dumped (standing n q.at k) (events rest)).put ≡ text_at n q.at k rest) d t.text)
 
-  fill_told : (level at : ℕ) (padded : Bool) → at + 1 ≤ 2 ^ 64 - 1 → followed dumped (standing level at padded) (Pad (0 ∷ []) ∷ []) ≡ puts (standing level (at + 1) true) (if padded then [] else padding_line (at_level level) at)
+  pub fill_told : (level at : ℕ) (padded : Bool) → at + 1 ≤ 2 ^ 64 - 1 → followed dumped (standing level at padded) (Pad (0 ∷ []) ∷ []) ≡ puts (standing level (at + 1) true) (if padded then [] else padding_line (at_level level) at)
   fill_told level at padded far_enough =
       let line = if padded then [] else padding_line (at_level level) at in
       settled level level (further at 1) (at + 1) true true ((line ++ []) ++ []) line refl (far at 1 far_enough) refl (append-nil (line ++ []) ∙ append-nil line)

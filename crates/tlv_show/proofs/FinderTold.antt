@@ -16,7 +16,7 @@ use Rattle.tlv_walk.specs.Place.{IsOpen, Place, after, inside_of as place_inside
 use Rattle.tlv_show.specs.declared.frames.Frame.{Frame}
 use Rattle.tlv_show.specs.declared.rules.Rules.{Rules}
 use Rattle.tlv_show.specs.DumpText.{end_place}
-use Rattle.tlv_show.specs.FinderState.{FinderState, Finds, contents_notes, count_up, find, find_bytes, find_close, find_open, frame_of, header_notes, noted}
+use Rattle.tlv_show.specs.FinderState.{FinderState, Finds, contents_notes, count_up, find, find_begin, find_bytes, find_close, find_end, find_open, frame_of, header_notes, noted}
 use Rattle.tlv_show.specs.Found.{contents_findings, end_findings, header_findings, shows}
 use Rattle.tlv_show.specs.Items.{Item, FindingAt, OpeningLine, ClosingLine, WholePrimitive, OpenPrimitive, PaddingLine, findings_at, heads, items}
 use Rattle.tlv_show.specs.Site.{Site, behind, behind_holder, behind_padding, first_octet, inside_of, is_padding}
@@ -85,12 +85,12 @@ module _ (rules : Rules) where
   abbrev pub standing : Frame → List Frame → ℕ → FinderState
   standing w outer n = record { rules = rules; frame = w; outer = outer; value = None; count = n }
 
-  abbrev behind_header : Frame → Heading → ℕ → ℕ
+  abbrev pub behind_header : Frame → Heading → ℕ → ℕ
   behind_header w h n = count_up n (length (header_notes rules w h))
 
   -- ---- an element that holds others begins
 
-  opened-find : (w : Frame) (outer : List Frame) (n : ℕ) (h : Heading) → length outer < 128
+  pub opened-find : (w : Frame) (outer : List Frame) (n : ℕ) (h : Heading) → length outer < 128
       → find_open (standing w outer n) h
       ≡ record { state = standing (frame_of h) (w ∷ outer) (behind_header w h n); level = length outer; at = h.offset; found = header_notes rules w h }
   opened-find w outer n h few =
@@ -115,7 +115,7 @@ module _ (rules : Rules) where
   closed-by s at true es = refl
   closed-by s at false es = refl
 
-  abbrev behind_end : Heading → Forest → ℕ → ℕ
+  abbrev pub behind_end : Heading → Forest → ℕ → ℕ
   behind_end h inside n = count_up n (length (end_findings rules h (heads inside)))
 
   pub closed : (p : Place) (w : Frame) (outer : List Frame) (n : ℕ) (h : Heading) (inside : Forest) (es : List Told) → IsOpen p inside → is_whole inside ≡ true
@@ -134,7 +134,7 @@ module _ (rules : Rules) where
   abbrev pub behind_primitive : Frame → Heading → List ℕ → Frame
   behind_primitive w h c = noted w true (announced h.size) (has_unused (checked (unchecked h) c))
 
-  abbrev behind_contents : Frame → Heading → List ℕ → ℕ → ℕ
+  abbrev pub behind_contents : Frame → Heading → List ℕ → ℕ → ℕ
   behind_contents w h c n = count_up (behind_header w h n) (length (contents_findings rules h c))
 
   pub primitive : (w : Frame) (outer : List Frame) (n : ℕ) (h : Heading) (c : List ℕ) (es : List Told) → length c ≡ announced h.size
@@ -146,6 +146,26 @@ module _ (rules : Rules) where
       let s : FinderState = standing w outer (behind_header w h n) in
       ap (λ (u : FinderState). then_told put (then_told [] (run u (End ∷ es)))) (took s h.offset h c (omega (arith, e)))
       ∙ ap (λ (fs : List Finding). then_told put (then_told (findings_at (length outer) h.offset fs) (run (standing (behind_primitive w h c) outer (count_up (behind_header w h n) (length fs))) es))) (ended rules h c e)
+
+  -- ---- what a finder makes of each end by itself
+
+  pub closed-find : (p : Place) (w : Frame) (outer : List Frame) (n : ℕ) (h : Heading) (inside : Forest) → IsOpen p inside → is_whole inside ≡ true
+      → find_close (standing (noted_all (frame_of h) inside) (w ∷ outer) n)
+      ≡ record { state = standing (noted w (is_primitive h) (announced h.size) false) outer (behind_end h inside n); level = length outer; at = h.offset; found = end_findings rules h (heads inside) }
+  closed-find p w outer n h inside v whole =
+      let f : Frame = noted_all (frame_of h) inside in
+      let r = sums-up p (frame_of h) 0 inside v whole refl in
+      let fs : List Finding = end_findings rules h (heads inside) in
+      ap (λ (gs : List Finding). record { state = standing (noted w f.is_primitive f.size false) outer (count_up n (length gs)); level = length outer; at = f.at; found = gs }) (summed rules p h inside v whole)
+      ∙ ap (λ (at : ℕ). record { state = standing (noted w f.is_primitive f.size false) outer (behind_end h inside n); level = length outer; at = at; found = fs }) r.at
+      ∙ ap₂ (λ (b : Bool) (size : ℕ). record { state = standing (noted w b size false) outer (behind_end h inside n); level = length outer; at = h.offset; found = fs }) r.primitive r.size
+
+  pub primitive-find : (w : Frame) (outer : List Frame) (n : ℕ) (h : Heading) (c : List ℕ) → length c ≡ announced h.size
+      → find_end (find_bytes (find_begin (standing w outer n) h).state c)
+      ≡ record { state = standing (behind_primitive w h c) outer (behind_contents w h c n); level = length outer; at = h.offset; found = contents_findings rules h c }
+  primitive-find w outer n h c e =
+      ap find_end (took (standing w outer (behind_header w h n)) h.offset h c (omega (arith, e)))
+      ∙ ap (λ (fs : List Finding). record { state = standing (behind_primitive w h c) outer (count_up (behind_header w h n) (length fs)); level = length outer; at = h.offset; found = fs }) (ended rules h c e)
 
   -- ---- elements
 

@@ -10,6 +10,9 @@ pub mod FinderTold
 pub mod Shows
 pub mod CheckFolds
 pub mod DumpSteps
+pub mod DumpShown
+pub mod DumpFolds
+pub mod Longer
 pub mod Lists
 pub mod Wordings
 pub mod RowWords

@@ -8,7 +8,10 @@ use Rattle.tlv_walk.specs.Events.{Begin, Bytes, End}
 use Rattle.tlv_walk.specs.Follow.{followed}
 use Rattle.tlv_walk.specs.Forest.{Forest}
 use Rattle.tlv_walk.specs.Reading.{IsPrefixOf, IsReading}
+use Rattle.tlv_walk.specs.declared.framing.Framing.{Framing}
 use Rattle.tlv_show.specs.declared.options.Options.{Options}
+use Rattle.tlv_show.specs.declared.rules.Rules.{Rules}
+use Rattle.tlv_show.specs.Texts.{check_text}
 use Rattle.tlv_show.specs.Dumped.{Dumping, dumped, entered, further, puts}
 use Rattle.tlv_show.specs.Dumps.{dumped_text}
 
@@ -16,6 +19,11 @@ use Rattle.tlv_show.specs.Dumps.{dumped_text}
 abbrev pub DumpsGoOn : Type 0
 DumpsGoOn = (options : Options) (names : Table) (b c : List ℕ) (f g : Forest) → length (b ++ c) ≤ 2 ^ 40
     → IsReading options.framing b f → IsReading options.framing (b ++ c) g → IsPrefixOf (dumped_text options names f) (dumped_text options names g)
+
+-- likewise what a check lists
+abbrev pub ChecksGoOn : Type 0
+ChecksGoOn = (rules : Rules) (framing : Framing) (b c : List ℕ) (f g : Forest) → length (b ++ c) ≤ 2 ^ 40
+    → IsReading framing b f → IsReading framing (b ++ c) g → IsPrefixOf (check_text rules f) (check_text rules g)
 
 -- a primitive with as many contents octets as its header announces has the lines of its whole contents, and nothing of it
 -- is kept

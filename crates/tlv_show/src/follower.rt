@@ -1,5 +1,5 @@
 //! The follower that writes a dump.
-ghost use Rattle.std.specs.Prelude.{◌≡◌};
+ghost use Rattle.std.specs.Prelude.{◌≡◌, refl};
 ghost use Rattle.tlv_walk.proofs.Followed.{each_octet-goes_on, each_octet-joins};
 ghost use Rattle.tlv_walk.specs.Tells.{told_of};
 ghost use Rattle.tlv_show.specs.DumpStep.{dump_step, is_header as is_header_of, nothing_shown, one_filled, one_shown};

@@ -1,0 +1,5 @@
+use Rattle.tlv_show.proofs.Longer.{dumps_on}
+use Rattle.tlv_show.proofs.laws.dumps_go_on.Goals as goal
+
+pub returns : goal.returns
+returns c = dumps_on
