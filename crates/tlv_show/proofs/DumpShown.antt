@@ -22,11 +22,12 @@ use Rattle.tlv_show.specs.declared.frames.Frame.{Frame}
 use Rattle.tlv_show.specs.declared.rules.Rules.{Rules}
 use Rattle.tlv_show.specs.declared.style.Style.TheVariants.{Dump}
 use Rattle.tlv_show.specs.CheckStep.{all_written}
-use Rattle.tlv_show.specs.Dumped.{Dumping, dumped, one_dumped, puts}
+use Rattle.tlv_show.specs.Dumped.{Dumping, dumped, entered, one_dumped, puts}
 use Rattle.tlv_show.specs.DumpStep.{Showing, dump_step}
 use Rattle.tlv_show.specs.DumpText.{end_place, holder_line, wrapper_line}
 use Rattle.tlv_show.specs.FinderState.{FinderState, Finds, find, find_begin, find_bytes, find_close, find_end, find_open, frame_of, header_notes, noted}
 use Rattle.tlv_show.specs.Found.{contents_findings, end_findings, header_findings}
+use Rattle.tlv_show.specs.Laws.{PrimitivesAreShown}
 use Rattle.tlv_show.specs.Items.{Item, FindingAt, OpeningLine, ClosingLine, WholePrimitive, OpenPrimitive, PaddingLine, findings_at, heads, items}
 use Rattle.tlv_show.specs.Lines.{close_line, opening_line, padding_line}
 use Rattle.tlv_show.specs.Site.{Before, Padding, Sibling, Site, Start, behind, behind_holder, behind_padding, first_octet, inside_of, is_padding}
@@ -34,9 +35,9 @@ use Rattle.tlv_show.specs.Texts.{item_text}
 use Rattle.tlv_show.specs.Dumped.{further, value_after, value_told}
 use Rattle.tlv_show.proofs.Dumped.{dumped_bytes, of_bytes}
 use Rattle.tlv_show.proofs.DumpSteps.{all_on, each-shown}
-use Rattle.tlv_show.proofs.DumpTexts.{standing as lines_at, at_level, closer_told, fill_told, holder_told, no_padding, padded_behind, part_told, primitive_told}
+use Rattle.tlv_show.proofs.DumpTexts.{standing as lines_at, at_level, closer_told, fill_told, holder_told, no_padding, padded_behind, part_told, primitive_told, primitives_shown}
 use Rattle.tlv_show.proofs.FinderFolds.{knows-behind, knows-inside, knows-padding, not-constructed, noted_all, unused-of}
-use Rattle.tlv_show.proofs.FinderTold.{behind_contents, behind_end, behind_header, behind_primitive, closed-find, opened-find, primitive-find, standing}
+use Rattle.tlv_show.proofs.FinderTold.{behind_contents, behind_end, behind_header, behind_primitive, closed-find, opened-find, primitive-find, primitive-found, standing}
 use Rattle.tlv_show.proofs.HeaderNotes.{Knows, header-same}
 
 -- ---- events one behind another
@@ -110,6 +111,15 @@ primitive-by l s h c =
     ∙ ap whole is
     ∙ ap (shows (pair (dumped o.state End).state f.state)) (around first b.put o.put (dumped o.state End).put (texts l.layout f))
     ∙ sym (ap parts is)
+
+pub primitives_are_shown : PrimitivesAreShown
+primitives_are_shown s h c size =
+    let d = primitives_shown s.lines h c size in
+    let f = primitive-found s.finder h c (sym size) in
+    let l : Dumping = record (entered s.lines h) { offset = further (entered s.lines h).offset (length c); value = None } in
+    (pair l f.0, refl, f.1,
+    primitive-by s.lines s.finder h c
+    ∙ ap₂ (λ (d : Following Dumping) (f : Finds). shows (pair d.state f.state) (texts s.lines.layout (find_begin s.finder h) ++ (d.put ++ texts s.lines.layout f))) d f.2)
 
 -- a primitive that is open
 part-by : (l : Dumping) (s : FinderState) (h : Heading) (c : List ℕ)

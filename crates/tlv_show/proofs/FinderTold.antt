@@ -80,6 +80,17 @@ only-pads : (k : Bool) (level at : ℕ) (l : List Item) → only ((if k then [] 
 only-pads true level at l = refl
 only-pads false level at l = refl
 
+-- what a finder makes of a primitive
+pub primitive-found : (s : FinderState) (h : Heading) (c : List ℕ) → length c ≡ announced h.size
+    → (u : FinderState) × (u.value ≡ None) × (find_end (find_bytes (find_begin s h).state c) ≡ record { state = u; level = length s.outer; at = h.offset; found = contents_findings s.rules h c })
+primitive-found s h c e =
+    let n = count_up s.count (length (header_notes s.rules s.frame h)) in
+    let t : CheckState = checked (unchecked h) c in
+    let behind : List Finding → FinderState = λ fs. record { rules = s.rules; frame = noted s.frame true (announced h.size) (has_unused t); outer = s.outer; value = None; count = count_up n (length fs) } in
+    (behind (contents_findings s.rules h c), refl,
+    ap find_end (took (record s { count = n }) h.offset h c (omega (arith, e)))
+    ∙ ap (λ (fs : List Finding). record { state = behind fs; level = length s.outer; at = h.offset; found = fs }) (ended s.rules h c e))
+
 module _ (rules : Rules) where
   -- between two elements
   abbrev pub standing : Frame → List Frame → ℕ → FinderState

@@ -5,15 +5,15 @@ use tlv_walk::{Ending, Framing, Inside, MemDrain, MemSource};
 
 /// An input, and what a check of it lists.
 #[derive(Clone, Copy)]
-struct Row<'a> {
-    input: &'a [u8],
+struct Row {
+    input: &'static [u8],
     rules: Rules,
-    text: &'a [u8],
+    text: &'static [u8],
     findings: u64,
 }
 
 /// The examples of `docs/FINDINGS.md`, but for that of C02.
-static EXAMPLES: [Row<'static>; 30] = [
+static EXAMPLES: [Row; 30] = [
     Row {
         input: b"\x1f\x02\x01\x05",
         rules: Rules::Ber,
@@ -197,7 +197,7 @@ static EXAMPLES: [Row<'static>; 30] = [
 ];
 
 /// Inputs with several findings, or with none.
-static OTHERS: [Row<'static>; 6] = [
+static OTHERS: [Row; 6] = [
     Row {
         input: b"\x3a\x09\x04\x03\x4a\x6f\x6e\x04\x02\x65\x73",
         rules: Rules::Ber,
@@ -237,42 +237,25 @@ static OTHERS: [Row<'static>; 6] = [
 ];
 
 /// Cuts into single octets: as many as the rows' inputs have, and more.
-const ONES: [u64; 16] = [1; 16];
-
-/// How a source gives its octets.
-#[derive(Clone, Copy)]
-struct Pieces<'a> {
-    /// The most octets of each read.
-    cuts: &'a [u64],
-}
+static ONES: [u64; 16] = [1; 16];
 
 /// Expects what the row says of its input, which comes in these pieces.
-fn expect_check(
-    rt: &impl Abort,
-    row: &Row<'_>,
-    pieces: Pieces<'_>,
-    framing: &Framing,
-    room: &mut [u8],
-) {
-    let mut source = MemSource::new(row.input, pieces.cuts, None);
-    let mut drain = MemDrain::new(room, 7);
+fn expect_row(rt: &impl Abort, row: &Row, cuts: &'static [u64], framing: &Framing) {
+    let mut room = [0; 200];
+    let mut source = MemSource::new(row.input, cuts, None);
+    let mut drain = MemDrain::new(&mut room, 7);
     let answer = check(&mut source, &mut drain, row.rules, framing);
-    let checked = Outcome {
+    let outcome = Outcome {
         ending: Ending::Done,
         findings: row.findings,
         unused: None,
     };
     assert_eq!(rt; drain.written(), row.text, "{:?}", row.input);
-    assert_eq!(rt; answer, Ok(checked), "{:?}", row.input);
-}
-
-fn expect_row(rt: &impl Abort, row: &Row<'_>, cuts: &[u64], framing: &Framing) {
-    let mut room = [0; 200];
-    expect_check(rt, row, Pieces { cuts }, framing, &mut room);
+    assert_eq!(rt; answer, Ok(outcome), "{:?}", row.input);
 }
 
 /// Expects each row, of an input that comes at once, in two pieces, and octet by octet.
-fn expect_rows(rt: &impl Abort, rows: &[Row<'_>]) {
+fn expect_rows(rt: &impl Abort, rows: &[Row]) {
     for row in rows {
         expect_row(rt, row, &[], &Framing::plain());
         expect_row(rt, row, &[3], &Framing::plain());
@@ -290,27 +273,25 @@ fn findings_come_in_order(rt: HostRuntime) {
     expect_rows(&rt, &OTHERS);
 }
 
+/// Expects the check of these octets by CER to list this.
+fn expect_list(rt: &impl Abort, input: &[u8], text: &[u8]) {
+    let mut room = [0; 100];
+    let mut source = MemSource::new(input, &[], None);
+    let mut drain = MemDrain::new(&mut room, 100);
+    let answer = check(&mut source, &mut drain, Rules::Cer, &Framing::plain());
+    assert_eq!(rt; drain.written(), text);
+    assert!(rt; answer.is_ok(), "{answer:?}");
+}
+
 /// A primitive string of 1001 contents octets, and one of 1000.
 #[test]
 fn strings_of_1000_octets(rt: HostRuntime) {
     let mut long = [0; 1005];
     long[..4].copy_from_slice(b"\x04\x82\x03\xe9");
-    let row = Row {
-        input: &long,
-        rules: Rules::Cer,
-        text: b"0 C02 primitive string above 1000 octets\n",
-        findings: 1,
-    };
-    expect_row(&rt, &row, &[], &Framing::plain());
+    expect_list(&rt, &long, b"0 C02 primitive string above 1000 octets\n");
     let mut full = [0; 1004];
     full[..4].copy_from_slice(b"\x04\x82\x03\xe8");
-    let row = Row {
-        input: &full,
-        rules: Rules::Cer,
-        text: b"",
-        findings: 0,
-    };
-    expect_row(&rt, &row, &[], &Framing::plain());
+    expect_list(&rt, &full, b"");
 }
 
 /// What a string holds that wraps encodings are no segments of it, and padding is no sibling.

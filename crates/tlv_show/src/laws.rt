@@ -12,8 +12,8 @@ pub fn checks_go_on()
     ensures { ChecksGoOn }
 {}
 
-/// A primitive is shown with all of its contents octets, by the definition of a value's lines. Where it has ended nothing
-/// of it is kept.
+/// A primitive is shown with all of its contents octets, by the definition of a value's lines, between what is found with its
+/// header and on its contents. Where it has ended nothing of it is kept.
 pub fn primitives_are_shown()
     ensures { PrimitivesAreShown }
 {}
