@@ -12,7 +12,7 @@ use Rattle.tlv_show.specs.declared.options.Options.{Options}
 use Rattle.tlv_show.specs.Dumps.{dumped_text, top_layout}
 use Rattle.tlv_show.specs.Dumped.{dumped}
 use Rattle.tlv_show.specs.DumpStep.{Showing, dump_step, is_header, nothing_shown}
-use Rattle.tlv_show.specs.FinderState.{FinderState, Finds, find, top_frame}
+use Rattle.tlv_show.specs.FinderState.{FinderState, find, top_frame}
 use Rattle.tlv_show.specs.Site.{Start}
 use Rattle.tlv_show.specs.Texts.{found_count}
 use Rattle.tlv_show.proofs.CheckFolds.{count-run}

@@ -1,12 +1,12 @@
 -- What a dump makes of the events of elements is their text.
-use Rattle.std.proofs.Common.{◌≡◌, ℕ, ◌+◌, ◌-◌, ◌^◌, ◌<◌, ◌≤◌, ◌==◌, Bool, true, false, eqb, nat_lt, if◌then◌else◌, List, [], ◌∷◌, ◌++◌, length, take, map, refl, sym, subst, not, ap, ap₂, ◌∙◌, arith, append_assoc, append-nil, length-append}
+use Rattle.std.proofs.Common.{◌≡◌, ℕ, ◌+◌, ◌-◌, ◌^◌, ◌<◌, ◌≤◌, ◌==◌, Bool, true, false, if◌then◌else◌, List, [], ◌∷◌, ◌++◌, length, map, refl, sym, subst, not, ap, ap₂, ◌∙◌, arith, append_assoc, append-nil, length-append}
 use Rattle.std.proofs.lemmas.Grind.{flat_map-append}
 use Rattle.std.specs.FinMap as finite
 use Rattle.std.specs.Prelude.{flat_map, Option, Some, None, codes}
 use Rattle.tlv_head.specs.Header.{Heading, announced, octets_of, wraps}
 use Rattle.tlv_value.specs.declared.finding.Finding.{Finding}
 use Rattle.tlv_value.specs.declared.layout.Layout.{Layout}
-use Rattle.tlv_value.specs.CheckState.{CheckState, checked, has_unused, unchecked}
+use Rattle.tlv_value.specs.CheckState.{checked, has_unused, unchecked}
 use Rattle.tlv_value.specs.Names.{Table}
 use Rattle.tlv_value.specs.State.{open_lines, whole_lines}
 use Rattle.tlv_value.specs.Types.{is_primitive}
@@ -14,18 +14,18 @@ use Rattle.tlv_walk.specs.declared.follow.Go.{Go}
 use Rattle.tlv_walk.specs.declared.follow.Go.TheVariants as go
 use Rattle.tlv_walk.specs.Events.{Told, Open, Begin, Bytes, End, Close, Enter, Unused, Leave, Pad, closes, end_offset, events, opens}
 use Rattle.tlv_walk.specs.Follow.{Following, and_then, each_octet, followed, if_on}
-use Rattle.tlv_walk.specs.Forest.{Forest, Stop, Fill, Whole, Closed, Partial, Entered, Awaiting, Begun, Zero, end_octets, extent, is_whole, lead, opening, spell}
+use Rattle.tlv_walk.specs.Forest.{Forest, Stop, Fill, Whole, Closed, Partial, Entered, Awaiting, Begun, Zero, extent, is_whole, lead, opening, spell}
 use Rattle.tlv_walk.specs.Place.{IsOpen, Place, after, inside_of as place_inside}
-use Rattle.tlv_walk.proofs.Followed.{each_octet-goes_on, followed-more}
-use Rattle.tlv_walk.proofs.Spellings.{length-closed, length-opening, length-whole}
+use Rattle.tlv_walk.proofs.Followed.{followed-more}
+use Rattle.tlv_walk.proofs.Spellings.{length-closed, length-whole}
 use Rattle.tlv_show.specs.declared.frames.Frame.{Frame}
 use Rattle.tlv_show.specs.declared.rules.Rules.{Rules}
 use Rattle.tlv_show.specs.declared.style.Style.TheVariants.{Dump}
 use Rattle.tlv_show.specs.CheckStep.{all_written}
-use Rattle.tlv_show.specs.Dumped.{Dumping, dumped, entered, one_dumped, puts}
+use Rattle.tlv_show.specs.Dumped.{Dumping, dumped, entered, one_dumped}
 use Rattle.tlv_show.specs.DumpStep.{Showing, dump_step}
 use Rattle.tlv_show.specs.DumpText.{end_place, holder_line, wrapper_line}
-use Rattle.tlv_show.specs.FinderState.{FinderState, Finds, find, find_begin, find_bytes, find_close, find_end, find_open, frame_of, header_notes, noted}
+use Rattle.tlv_show.specs.FinderState.{FinderState, Finds, find_begin, find_bytes, find_close, find_end, find_open, frame_of, header_notes, noted}
 use Rattle.tlv_show.specs.Found.{contents_findings, end_findings, header_findings}
 use Rattle.tlv_show.specs.Laws.{PrimitivesAreShown}
 use Rattle.tlv_show.specs.Items.{Item, FindingAt, OpeningLine, ClosingLine, WholePrimitive, OpenPrimitive, PaddingLine, findings_at, heads, items}

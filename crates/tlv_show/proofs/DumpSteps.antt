@@ -1,5 +1,5 @@
 -- What a dump makes of an event: what its lines and its finder make of it.
-use Rattle.std.proofs.Common.{◌≡◌, ℕ, Bool, true, false, if◌then◌else◌, List, [], ◌∷◌, ◌++◌, refl, sym, ap, ap₂, ◌∙◌, append-nil, append_assoc}
+use Rattle.std.proofs.Common.{◌≡◌, ℕ, Bool, true, false, if◌then◌else◌, List, [], ◌∷◌, ◌++◌, refl, sym, ap, ap₂, ◌∙◌, append-nil}
 use Rattle.std.specs.Prelude.{Option}
 use Rattle.std.specs.Io.KnownBytes.{Appends}
 use Rattle.tlv_walk.specs.declared.follow.Go.{Go}
@@ -7,7 +7,6 @@ use Rattle.tlv_walk.specs.declared.follow.Go.TheVariants as go
 use Rattle.tlv_walk.specs.Events.{Told, Open, Begin, Bytes, End, Close, Enter, Unused, Leave, Pad}
 use Rattle.tlv_walk.specs.Follow.{Following, each_octet, followed, if_on}
 use Rattle.tlv_walk.specs.Prefix.{HasPrefix}
-use Rattle.tlv_walk.proofs.Followed.{each_octet-goes_on}
 use Rattle.tlv_walk.proofs.Known.{appends_trans, prefix_behind, prefix_front}
 use Rattle.tlv_show.specs.declared.finder.Found.{Found}
 use Rattle.tlv_show.specs.declared.style.Style.TheVariants.{Dump}

@@ -1,5 +1,5 @@
 -- What the lines of a dump come to, element by element.
-use Rattle.std.proofs.Common.{◌≡◌, ℕ, ◌+◌, ◌-◌, ◌^◌, ◌<◌, ◌≤◌, min, Bool, true, false, eqb, if◌then◌else◌, List, [], ◌∷◌, ◌++◌, length, take, map, refl, sym, ap, ap₂, ◌∙◌, subst, arith, append_assoc, append-nil, length-append}
+use Rattle.std.proofs.Common.{◌≡◌, ℕ, ◌+◌, ◌-◌, ◌^◌, ◌≤◌, min, Bool, true, false, eqb, if◌then◌else◌, List, [], ◌∷◌, ◌++◌, length, take, map, refl, sym, ap, ap₂, ◌∙◌, subst, arith, append_assoc, append-nil}
 use Rattle.std.proofs.lemmas.Bool.{true≢false}
 use Rattle.std.proofs.lemmas.Grind.{common_steps}
 use Rattle.std.specs.FinMap as finite
@@ -12,13 +12,12 @@ use Rattle.tlv_value.specs.Names.{Table}
 use Rattle.tlv_value.specs.State.{TextState, after as after_octets, begun, ended, open_lines, start, told as told_by_octets, whole_lines}
 use Rattle.tlv_value.specs.Value.{NameOf}
 use Rattle.tlv_value.proofs.Pieces.{lines-end, open-lines}
-use Rattle.tlv_walk.specs.declared.follow.Go.{Go}
-use Rattle.tlv_walk.specs.Events.{Told, Open, Begin, Bytes, End, Close, Enter, Unused, Leave, Pad, closes, end_offset, events, opens}
+use Rattle.tlv_walk.specs.Events.{Told, Open, Begin, Bytes, End, Close, Enter, Unused, Leave, Pad, closes, end_offset, opens}
 use Rattle.tlv_walk.specs.Follow.{Following, and_then, followed, if_on}
-use Rattle.tlv_walk.specs.Forest.{Forest, Stop, Fill, Whole, Closed, Partial, Entered, Awaiting, Begun, Zero, end_octets, extent, is_whole, lead, opening, spell}
-use Rattle.tlv_walk.specs.Place.{IsHeadAt, IsOpen, Place, after, inside_of}
+use Rattle.tlv_walk.specs.Forest.{Forest, Stop, Fill, Whole, Closed, Partial, Entered, Awaiting, Begun, Zero, end_octets, extent, lead, opening, spell}
+use Rattle.tlv_walk.specs.Place.{IsOpen, Place, after}
 use Rattle.tlv_walk.proofs.Followed.{followed-more}
-use Rattle.tlv_walk.proofs.Spellings.{length-closed, length-opening, length-whole}
+use Rattle.tlv_walk.proofs.Spellings.{length-opening}
 use Rattle.tlv_show.specs.Dumped.{Dumping, dumped, entered, further, puts}
 use Rattle.tlv_show.specs.DumpText.{end_place, holder_line, wrapper_line}
 use Rattle.tlv_show.specs.Lines.{close_line, opening_line, padding_line}

@@ -1,6 +1,6 @@
 -- The lines of an element that holds others.
-use Rattle.std.specs.Prelude.{ℕ, ◌+◌, Bool, true, false, if◌then◌else◌, List, [], ◌++◌, length, Option, None, codes}
-use Rattle.tlv_head.specs.Header.{Heading, octets_of}
+use Rattle.std.specs.Prelude.{ℕ, ◌+◌, if◌then◌else◌, List, length, Option, None, codes}
+use Rattle.tlv_head.specs.Header.{Heading}
 use Rattle.tlv_value.specs.declared.layout.Layout.{Layout}
 use Rattle.tlv_walk.specs.Events.{end_offset}
 use Rattle.tlv_walk.specs.Forest.{Forest, opening, spell}

@@ -1,6 +1,6 @@
 use Rattle.std.proofs.Common.{sym}
 use Rattle.std.proofs.lemmas.Result.{err_from_is_err_and}
-use Rattle.tlv_walk.specs.Out.{lender_of, put_to}
+use Rattle.tlv_walk.specs.Out.{put_to}
 use Rattle.tlv_walk.specs.Tells.{told_of}
 use Rattle.tlv_show.proofs.DumpSteps.{header-err-1, header-err-2, header-ok, other-err-1, other-err-2, other-ok}
 use Rattle.tlv_show.proofs.follower.DumpFollow.on.Goals as goal
