@@ -2,7 +2,7 @@
 use Rattle.std.specs.Prelude.{◌≡◌, ℕ, List, [], ◌++◌, Option, Some, None, Result, Ok, Err, codes, decimal}
 use Rattle.tlv_head.specs.declared.fault.Fault.{Fault}
 use Rattle.tlv_head.specs.Fault.{code_of, text_of}
-use Rattle.tlv_show.specs.declared.dumping.Outcome.{Outcome}
+use Rattle.tlv_show.specs.declared.outcome.Outcome.{Outcome}
 use Rattle.tlv_show.specs.Dumps.{Dumps}
 use Rattle.tlv_show.specs.declared.options.Options.{Options}
 use Rattle.tlv_value.specs.Names.{Table}

@@ -9,7 +9,7 @@ mod tests;
 use crate::report::Report;
 use crate::running::run;
 use std::process::ExitCode;
-use tlv_show::Options;
+use tlv_show::{Options, Rules};
 use tlv_value::Names;
 use tlv_walk::{Framing, ReadSource, WriteDrain};
 
@@ -26,6 +26,7 @@ fn main(rt: HostRuntime) -> ExitCode {
     let mut source = ReadSource::new(rt.stdin());
     let mut drain = WriteDrain::new(rt.stdout());
     let options = Options {
+        rules: Rules::Ber,
         limit: None,
         pure: false,
         framing: Framing::plain(),

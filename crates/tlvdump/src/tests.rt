@@ -10,7 +10,7 @@ use crate::running::run;
 use std::alloc::Global;
 use std::process::Abort;
 use std::test::Fail;
-use tlv_show::{Dump, Options};
+use tlv_show::{Dump, Options, Rules};
 use tlv_value::Names;
 use tlv_walk::{
     DeviceFault, Ending, Framing, Inside, MemDrain, MemSource, Run, Turn, Walker, drive_up_to, turn,
@@ -51,6 +51,7 @@ fn tables() -> [&'static [Row<'static>]; 8] {
 /// Options of a dump of everything.
 fn plain() -> Options {
     Options {
+        rules: Rules::Ber,
         limit: None,
         pure: false,
         framing: Framing::plain(),
@@ -81,6 +82,7 @@ fn expect_dump(
         panic!(rt; "{}: offsets", row.name);
     };
     let options = Options {
+        rules: Rules::Ber,
         limit: row.limit,
         pure: row.pure,
         framing: Framing {
