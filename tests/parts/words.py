@@ -55,6 +55,15 @@ REFUSED = [
     "extract --offset 0 --names n",
     "extract --offset 0 a b",
     "extract --offset x --nonsense",
+    "dump --rules der --rules der",
+    "check --rules",
+    "check --limit 1",
+    "check --pure",
+    "check --names n",
+    "check --offset 0",
+    "check a b",
+    "extract --offset 0 --rules der",
+    "indef --rules der",
     "indef --inside 0",
     "indef --offset 0",
     "indef --contents",
@@ -64,9 +73,6 @@ REFUSED = [
     "indef --padding --padding",
     "indef a b",
 ]
-
-# To be words of the program once it has findings.
-LATER = ["check", "check --rules der", "dump --rules der", "dump --rules=ber"]
 
 NO_NUMBERS = ["", "x", "+5", "-5", " 5", "5 ", "5.0", "0x10", "1_000", "1,000", "\u0665", "00000000000005"]
 NO_LISTS = ["", ",", "4,", ",4", "1,,2", "5,3", "3,3", "1, 2", " 1", "1;2", "-1", "+1", "0x1", "a"]
@@ -79,7 +85,12 @@ VALUES += [("--offset", ["extract", f"--offset={text}"]) for text in NO_NUMBERS]
 VALUES += [("--offset", ["extract", "--offset", text]) for text in ("1099511627777", "9999999999999", "")]
 VALUES += [("--inside", ["dump", f"--inside={text}"]) for text in NO_LISTS]
 VALUES += [("--inside", ["extract", "--offset=0", f"--inside={text}"]) for text in NO_LISTS]
+NO_RULES = ["", "xer", "DER", "der ", "ber,der", "b"]
+VALUES += [("--rules", [command, f"--rules={text}"]) for command in ("dump", "check") for text in NO_RULES]
+VALUES += [("--inside", ["check", f"--inside={text}"]) for text in NO_LISTS]
 VALUES += [
+    ("--rules", ["dump", "--limit", "x", "--rules", "xer", "--inside", "y"]),
+    ("--rules", ["check", "--inside", "y", "--rules", "xer"]),
     ("--limit", ["dump", "--limit", "x", "--inside", "y"]),
     ("--limit", ["dump", "--inside", "y", "--limit", "x"]),
     ("--offset", ["extract", "--inside", "y", "--offset", "x"]),
@@ -102,6 +113,11 @@ TAKEN = [
     ("dump --padding --pure --limit 3", b"NULL\n"),
     ("dump --", NULL_LINE),
     ("dump --pure --", b"NULL\n"),
+    ("dump --rules der", NULL_LINE),
+    ("dump --rules=cer --pure", b"NULL\n"),
+    ("check", b""),
+    ("check --rules ber", b""),
+    ("check --rules=cer --padding", b""),
     ("extract --offset 0", NULL),
     ("extract --offset=0", NULL),
     ("extract --offset 0000000000000", NULL),
@@ -124,7 +140,7 @@ OPTIONS = {
 
 
 def refused(part):
-    for text in REFUSED + LATER:
+    for text in REFUSED:
         got = part.run(text.split(), NULL)
         fine = got.status == 4 and got.out == b"" and got.err.startswith(b"error: ")
         part.expect(f"refused: {text or 'no words'}", fine and got.err.endswith(b"\n"), *got.lines())

@@ -22,7 +22,7 @@ take-none : (xs : List ℕ) → take 0 xs ≡ []
 take-none xs = grind (arith, common_steps)
 
 -- the front of two pieces, where no more than n octets count
-take-both : (n : ℕ) (x y : List ℕ) → take n (x ++ y) ≡ take n x ++ take (n - length (take n x)) y
+pub take-both : (n : ℕ) (x y : List ℕ) → take n (x ++ y) ≡ take n x ++ take (n - length (take n x)) y
 take-both zero x y = take-none (x ++ y) ∙ sym (ap₂ (λ (a b : List ℕ). a ++ b) (take-none x) (take-none y))
 take-both (suc n) [] y = let e : suc n ≡ suc n - 0 = omega arith in ap (λ (k : ℕ). take k y) e
 take-both (suc n) (z ∷ x) y = ap (λ (l : List ℕ). z ∷ l) (take-both n x y ∙ ap (λ (k : ℕ). take n x ++ take k y) (omega arith))

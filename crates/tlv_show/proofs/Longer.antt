@@ -1,29 +1,40 @@
 -- The text of a longer input goes on from that of the shorter.
-use Rattle.std.proofs.Common.{◌≡◌, ℕ, List, ◌++◌, refl, sym, ap, ◌∙◌, arith, length-append}
+use Rattle.std.proofs.Common.{◌≡◌, ℕ, ◌^◌, ◌≤◌, List, ◌++◌, length, refl, sym, ap, ◌∙◌, arith, length-append}
+use Rattle.tlv_walk.specs.declared.framing.Framing.{Framing}
 use Rattle.tlv_walk.specs.Events.{AreEqualJoined, Told, events}
 use Rattle.tlv_walk.specs.Follow.{Following, followed}
+use Rattle.tlv_walk.specs.Forest.{Forest}
+use Rattle.tlv_walk.specs.Reading.{IsPrefixOf, IsReading}
 use Rattle.tlv_walk.proofs.Followed.{each_octet-goes_on, each_octet-joins, followed-alike, followed-more}
 use Rattle.tlv_walk.proofs.Prefixes.{events-prefix}
-use Rattle.tlv_show.specs.Dumped.{Dumping, dumped, fresh, one_dumped, one_padded}
-use Rattle.tlv_show.specs.Dumps.{dump_text, top_layout}
-use Rattle.tlv_show.specs.Laws.{DumpsGoOn}
-use Rattle.tlv_show.proofs.Always.{all_on}
-use Rattle.tlv_show.proofs.Dumps.{text_made}
+use Rattle.tlv_show.specs.CheckStep.{check_step, one_checked}
+use Rattle.tlv_show.specs.Dumps.{dumped_text, top_layout}
+use Rattle.tlv_show.specs.DumpStep.{Showing, dump_step, nothing_shown, one_filled, one_shown}
+use Rattle.tlv_show.specs.FinderState.{FinderState, no_findings}
+use Rattle.tlv_show.specs.Laws.{ChecksGoOn, DumpsGoOn}
+use Rattle.tlv_show.proofs.CheckFolds.{checks}
+use Rattle.tlv_show.proofs.DumpFolds.{dumps}
+use Rattle.tlv_show.proofs.Shows.{Shower}
 
--- what is put of some events, and then of others
-put_both : (s : Dumping) (xs ys : List Told) → (followed dumped s (xs ++ ys)).put ≡ (followed dumped s xs).put ++ (followed dumped (followed dumped s xs).state ys).put
-put_both s xs ys = ap (λ (t : Following Dumping). t.put) (followed-more dumped s xs ys (all_on s xs))
+module _ {S : Type 0} (next : S → Told → Following S) (first : S) (framing : Framing) (text : Forest → List ℕ) (count : Forest → ℕ) (count_in : S → ℕ) (w : Shower next first framing text count count_in)
+    (alike : (s : S) (xs ys : List Told) → AreEqualJoined xs ys → followed next s xs ≡ followed next s ys) where
+  put_both : (s : S) (xs ys : List Told) → (followed next s (xs ++ ys)).put ≡ (followed next s xs).put ++ (followed next (followed next s xs).state ys).put
+  put_both s xs ys = ap (λ (t : Following S). t.put) (followed-more next s xs ys (w.goes_on s xs))
 
--- events that are equal joined put the same
-put_alike : (s : Dumping) (xs ys : List Told) → AreEqualJoined xs ys → (followed dumped s xs).put ≡ (followed dumped s ys).put
-put_alike s xs ys e =
-    ap (λ (t : Following Dumping). t.put)
-    (followed-alike dumped (each_octet-joins one_dumped) (λ s. refl) (each_octet-goes_on one_dumped) (each_octet-joins one_padded) (λ s. refl) (each_octet-goes_on one_padded) s xs ys e)
+  goes_on : (b c : List ℕ) (f g : Forest) → length (b ++ c) ≤ 2 ^ 40 → IsReading framing b f → IsReading framing (b ++ c) g → IsPrefixOf (text f) (text g)
+  goes_on b c f g few r s =
+      let more : (others : List Told) × AreEqualJoined (events g) (events f ++ others) = events-prefix framing b c f g r s in
+      let rest : List ℕ = (followed next (followed next first (events f)).state more.0).put in
+      let shorter : (followed next first (events f)).put ≡ text f = w.put b f (omega (arith, few, length-append b c)) r in
+      (rest, ap (λ (l : List ℕ). l ++ rest) (sym shorter) ∙ sym (put_both first (events f) more.0)
+      ∙ ap (λ (t : Following S). t.put) (sym (alike first (events g) (events f ++ more.0) more.1)) ∙ w.put (b ++ c) g few s)
 
 pub dumps_on : DumpsGoOn
 dumps_on options names b c f g few r s =
-    let first : Dumping = fresh (top_layout options) names in
-    let more : (others : List Told) × AreEqualJoined (events g) (events f ++ others) = events-prefix options.framing b c f g r s in
-    let rest : List ℕ = (followed dumped (followed dumped first (events f)).state more.0).put in
-    let shorter : (followed dumped first (events f)).put ≡ dump_text options names f = text_made options names b f (omega (arith, few, length-append b c)) r in
-    (rest, ap (λ (l : List ℕ). l ++ rest) (sym shorter) ∙ sym (put_both first (events f) more.0) ∙ sym (put_alike first (events g) (events f ++ more.0) more.1) ∙ text_made options names (b ++ c) g few s)
+    goes_on dump_step (nothing_shown options.rules (top_layout options) names) options.framing (dumped_text options names) _ (λ (t : Showing). t.finder.count) (dumps options names)
+    (followed-alike dump_step (each_octet-joins one_shown) (λ s. refl) (each_octet-goes_on one_shown) (each_octet-joins one_filled) (λ s. refl) (each_octet-goes_on one_filled)) b c f g few r s
+
+pub checks_on : ChecksGoOn
+checks_on rules framing b c f g few r s =
+    goes_on check_step (no_findings rules) framing _ _ (λ (t : FinderState). t.count) (checks rules framing)
+    (followed-alike check_step (each_octet-joins one_checked) (λ s. refl) (each_octet-goes_on one_checked) (λ s x y. refl) (λ s. refl) (λ s x. refl)) b c f g few r s

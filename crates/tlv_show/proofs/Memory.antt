@@ -17,9 +17,9 @@ use Rattle.tlv_walk.specs.Job.{IsFinalEnding, Runs}
 use Rattle.tlv_walk.specs.Reading.{IsReading}
 use Rattle.tlv_walk.proofs.Puts.{sends_appends}
 use Rattle.tlv_walk.proofs.Unique.{refused-for-good}
-use Rattle.tlv_show.specs.declared.dumping.Outcome.{Outcome}
+use Rattle.tlv_show.specs.declared.outcome.Outcome.{Outcome}
 use Rattle.tlv_show.specs.declared.options.Options.{Options}
-use Rattle.tlv_show.specs.Dumps.{dump_text, dumping}
+use Rattle.tlv_show.specs.Dumps.{dumped_text, dumping}
 use Rattle.tlv_show.specs.Laws.{DumpsOctets}
 
 -- what such a source has left
@@ -72,8 +72,9 @@ module _ (options : Options) (names : Table) (octets : List ℕ) (old new : Supp
       ] in record {
         reading = x.reading;
         is_reading = all.0;
-        text = sends_appends from to (dump_text options names x.reading) tt x.sends;
+        text = sends_appends from to (dumped_text options names x.reading) tt x.sends;
         ending = subst (λ (k : Ending). IsEnding options.framing (take (2 ^ 40) octets) k) (sym same) all.1;
+        findings = ap (λ (o : Outcome). o.findings) x.comes.1;
         unused = ap (λ (o : Outcome). o.unused) x.comes.1;
       }
 

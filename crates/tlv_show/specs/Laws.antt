@@ -1,44 +1,78 @@
--- Laws of the text of a dump.
+-- Laws of the texts of a dump and of a check.
 use Rattle.std.specs.Prelude.{◌≡◌, ℕ, ◌^◌, ◌≤◌, List, [], ◌∷◌, ◌++◌, length, None, take}
 use Rattle.std.specs.FinMap as finite
 use Rattle.std.specs.Io.KnownBytes.{Appends}
+use Rattle.tlv_walk.specs.Device.{Taken}
+use Rattle.tlv_walk.specs.Ending.{IsEnding}
+use Rattle.tlv_walk.specs.Wrappers.{unused_of}
+use Rattle.tlv_show.specs.declared.outcome.Outcome.{Outcome}
+use Rattle.tlv_show.specs.Dumps.{top_layout}
+use Rattle.tlv_show.specs.FinderState.{no_findings}
+use Rattle.tlv_show.specs.Texts.{found_count}
+use Rattle.tlv_show.specs.CheckStep.{check_step}
+use Rattle.tlv_show.specs.DumpStep.{nothing_shown}
 use Rattle.tlv_head.specs.Header.{Heading, announced}
 use Rattle.tlv_value.specs.Names.{Table}
 use Rattle.tlv_value.specs.State.{whole_lines}
 use Rattle.tlv_walk.specs.Events.{Begin, Bytes, End, events}
-use Rattle.tlv_walk.specs.declared.follow.Go.TheVariants.{On}
-use Rattle.tlv_walk.specs.Device.{Taken}
-use Rattle.tlv_walk.specs.Ending.{IsEnding}
 use Rattle.tlv_walk.specs.Follow.{followed}
 use Rattle.tlv_walk.specs.Forest.{Forest}
 use Rattle.tlv_walk.specs.Reading.{IsPrefixOf, IsReading}
-use Rattle.tlv_walk.specs.Wrappers.{unused_of}
-use Rattle.tlv_show.specs.declared.dumping.Outcome.{Outcome}
+use Rattle.tlv_walk.specs.declared.framing.Framing.{Framing}
 use Rattle.tlv_show.specs.declared.options.Options.{Options}
-use Rattle.tlv_show.specs.Dumped.{Dumping, dumped, entered, fresh, further, puts}
-use Rattle.tlv_show.specs.Dumps.{dump_text, top_layout}
+use Rattle.tlv_show.specs.declared.rules.Rules.{Rules}
+use Rattle.tlv_show.specs.Texts.{check_text}
+use Rattle.tlv_walk.specs.declared.follow.Go.TheVariants.{On}
+use Rattle.tlv_show.specs.declared.style.Style.TheVariants.{Dump}
+use Rattle.tlv_show.specs.CheckStep.{all_written}
+use Rattle.tlv_show.specs.DumpStep.{Showing, dump_step, found_lines}
+use Rattle.tlv_show.specs.FinderState.{find_begin}
+use Rattle.tlv_show.specs.Found.{contents_findings}
+use Rattle.tlv_show.specs.Dumps.{dumped_text}
 
 -- the text of a longer input, of no more octets than are dumped, begins with that of the shorter
 abbrev pub DumpsGoOn : Type 0
 DumpsGoOn = (options : Options) (names : Table) (b c : List ℕ) (f g : Forest) → length (b ++ c) ≤ 2 ^ 40
-    → IsReading options.framing b f → IsReading options.framing (b ++ c) g → IsPrefixOf (dump_text options names f) (dump_text options names g)
+    → IsReading options.framing b f → IsReading options.framing (b ++ c) g → IsPrefixOf (dumped_text options names f) (dumped_text options names g)
 
--- a primitive with as many contents octets as its header announces has the lines of its whole contents, and nothing of it
--- is kept
+-- likewise what a check lists
+abbrev pub ChecksGoOn : Type 0
+ChecksGoOn = (rules : Rules) (framing : Framing) (b c : List ℕ) (f g : Forest) → length (b ++ c) ≤ 2 ^ 40
+    → IsReading framing b f → IsReading framing (b ++ c) g → IsPrefixOf (check_text rules f) (check_text rules g)
+
+-- a primitive with as many contents octets as its header announces has the lines of its whole contents, between those of what
+-- is found with its header and on its contents. Nothing of it is kept
 abbrev pub PrimitivesAreShown : Type 0
-PrimitivesAreShown = (s : Dumping) (h : Heading) (c : List ℕ) → announced h.size ≡ length c
-    → followed dumped s (Begin h ∷ Bytes c ∷ End ∷ [])
-    ≡ puts (record (entered s h) { offset = further (entered s h).offset (length c); value = None }) (whole_lines (finite.get s.names) h s.layout c)
+PrimitivesAreShown = (s : Showing) (h : Heading) (c : List ℕ) → announced h.size ≡ length c
+    → (shown : Showing)
+    × (shown.lines.value ≡ None)
+    × (shown.finder.value ≡ None)
+    × (followed dump_step s (Begin h ∷ Bytes c ∷ End ∷ [])
+    ≡ record {
+      state = shown;
+      put =
+          found_lines s (find_begin s.finder h)
+          ++ (whole_lines (finite.get s.lines.names) h s.lines.layout c ++ all_written (Dump s.lines.layout) (length s.finder.outer) h.offset (contents_findings s.finder.rules h c));
+      goes = On;
+    })
 
--- a `Dump` puts the text of a reading of no more octets than are dumped, and never has enough
+-- a `Dump` puts the text of a reading of no more octets than are dumped, counts its findings, and never has enough
 abbrev pub DumpsMakeTexts : Type 0
 DumpsMakeTexts = (options : Options) (names : Table) (b : List ℕ) (f : Forest) → length b ≤ 2 ^ 40 → IsReading options.framing b f
-    → let made = followed dumped (fresh (top_layout options) names) (events f) in (made.put ≡ dump_text options names f) × (made.goes ≡ On)
+    → let made = followed dump_step (nothing_shown options.rules (top_layout options) names) (events f) in
+    (made.put ≡ dumped_text options names f) × (made.state.finder.count ≡ found_count options.rules f) × (made.goes ≡ On)
+
+-- likewise a `Check`
+abbrev pub ChecksMakeTexts : Type 0
+ChecksMakeTexts = (rules : Rules) (framing : Framing) (b : List ℕ) (f : Forest) → length b ≤ 2 ^ 40 → IsReading framing b f
+    → let made = followed check_step (no_findings rules) (events f) in
+    (made.put ≡ check_text rules f) × (made.state.count ≡ found_count rules f) × (made.goes ≡ On)
 
 -- of the octets, or of the first 2^40 of them, the text was written and the outcome is returned
 pub record DumpsOctets (options : Options) (names : Table) (octets : List ℕ) (from to : Taken) (outcome : Outcome) : Type 0 where
   pub reading : Forest
   pub is_reading : IsReading options.framing (take (2 ^ 40) octets) reading
-  pub text : Appends from.octets to.octets (dump_text options names reading)
+  pub text : Appends from.octets to.octets (dumped_text options names reading)
   pub ending : IsEnding options.framing (take (2 ^ 40) octets) outcome.ending
+  pub findings : outcome.findings ≡ found_count options.rules reading
   pub unused : outcome.unused ≡ unused_of options.framing.inside reading

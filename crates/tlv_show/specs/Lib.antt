@@ -2,4 +2,15 @@ pub mod Lines
 pub mod Dumped
 pub mod Dumps
 pub mod DumpText
+pub mod Site
+pub mod Conditions
+pub mod Found
+pub mod Items
+pub mod Texts
+pub mod FinderState
+pub mod Finds
+pub mod CheckStep
+pub mod DumpStep
+pub mod Shows
 pub mod Laws
+pub mod Checks

@@ -2,21 +2,13 @@
 ghost use Rattle.tlv_walk.specs.Job.{Runs};
 ghost use Rattle.tlv_show.specs.Dumps.{dumping};
 
-use crate::{Dump, Options};
+use crate::{Dump, Options, Outcome};
 use tlv_value::Names;
-use tlv_walk::{DeviceFault, Drain, Ending, Source, drive};
-
-/// What a dump came to.
-#[derive(Clone, Copy, Debug, PartialEq, Eq)]
-pub struct Outcome {
-    pub ending: Ending,
-    /// The first of the named offsets at which no string was found whose contents are encodings.
-    pub unused: Option<u64>,
-}
+use tlv_walk::{DeviceFault, Drain, Source, drive};
 
 /// Writes the lines of the encodings that the source gives, up to its end or the first octet that is refused. The
 /// lines of an element come as soon as its octets allow. Object identifiers that the table has are shown with their
-/// names.
+/// names, and findings with lines of their own.
 ///
 /// # Errors
 ///
@@ -35,6 +27,7 @@ pub fn dump<S: Source, D: Drain>(
     let run = drive(source, &mut follower, drain, &options.framing)?;
     Ok(Outcome {
         ending: run.ending,
+        findings: follower.findings(),
         unused: run.unused,
     })
 }

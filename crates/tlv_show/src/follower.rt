@@ -1,273 +1,98 @@
 //! The follower that writes a dump.
-ghost use Rattle.std.specs.Prelude.{◌≡◌, ◌≤◌, ◌-◌, ◌^◌, OnOk, length};
-ghost use Rattle.tlv_walk.specs.Follow.{each_octet};
-ghost use Rattle.tlv_walk.specs.Out.{Puts};
-ghost use Rattle.tlv_show.specs.Dumped.{
-  dumped_begin,
-  dumped_close,
-  dumped_end,
-  dumped_open,
-  entered,
-  fresh,
-  one_dumped,
-  one_padded,
-};
+ghost use Rattle.std.specs.Prelude.{◌≡◌, refl};
+ghost use Rattle.tlv_walk.proofs.Followed.{each_octet-goes_on, each_octet-joins};
+ghost use Rattle.tlv_walk.specs.Tells.{told_of};
+ghost use Rattle.tlv_show.specs.DumpStep.{dump_step, is_header as is_header_of, nothing_shown, one_filled, one_shown};
 ghost use Rattle.tlv_show.specs.Dumps.{top_layout};
 
 use crate::Options;
-use crate::lines::{write_closing, write_opening, write_padding};
+use crate::finder::Finder;
+use crate::line_follower::Lines;
+use crate::style::{Style, put_findings};
 use std::marker::Model;
-use tlv_head::Header;
-use tlv_value::{Layout, Line, Names, ValueText};
+use tlv_value::{Layout, Line, Names};
 use tlv_walk::{Drain, Event, Follow, Go, Out, WriteFault};
 
 /// Writes the lines that each event allows. The line of an element that holds others comes with its header, and that
-/// of its end with its end; those of a primitive come as [`ValueText`] writes them.
+/// of its end with its end; those of a primitive come as [`ValueText`](tlv_value::ValueText) writes them. A finding has
+/// its line before that of its element where it is known from the header, and else behind the last line.
 #[derive(Drop)]
 pub struct Dump<'n> {
-    /// How lines are laid out: the level is how many elements are open that hold others.
-    layout: Layout,
-    names: &'n Names,
-    /// Where the next octet stands.
-    offset: u64,
-    /// Whether the last octets were padding.
-    in_padding: bool,
-    /// Whether a primitive is open.
-    is_open: bool,
-    /// The primitive that is open, or the last one. It is used again for the next one, so its room is not filled anew
-    /// each time.
-    value: Option<ValueText>,
+    lines: Lines<'n>,
+    finder: Finder,
     line: Line,
 }
 
 impl<'n> Model for Dump<'n> {
     ghost use Rattle.std.specs.Coded.{codes};
-    ghost use Rattle.tlv_show.specs.Dumped.{Dumping, if_open};
+    ghost use Rattle.tlv_show.specs.DumpStep.{Showing};
     ghost use Rattle.tlv_value.specs.Names.{table_code};
 
-    ghost Value = { Dumping };
+    ghost Value = { Showing };
 
     ghost coded = { Prim.hlevel (codes, table_code) };
 
-    ghost view = { λ d. record {
-      layout = d.layout;
-      names = d.names.now;
-      offset = d.offset;
-      in_padding = d.in_padding;
-      value = if_open d.is_open d.value;
-    } };
+    ghost view = { λ d. record { lines = d.lines; finder = d.finder } };
 }
 
 impl<'n> Dump<'n> {
     /// A dump of which nothing is written.
     pub fn new(options: &Options, names: &'n Names) -> Dump<'n>
-        ensures { result ≡ fresh (top_layout options.now) names.now }
+        ensures { result ≡ nothing_shown options.now.rules (top_layout options.now) names.now }
     {
+        let layout = Layout {
+            level: 0,
+            limit: options.limit,
+            pure: options.pure,
+        };
         Dump {
-            layout: Layout {
-                level: 0,
-                limit: options.limit,
-                pure: options.pure,
-            },
-            names,
-            offset: 0,
-            in_padding: false,
-            is_open: false,
-            value: None,
+            lines: Lines::new(layout, names),
+            finder: Finder::new(options.rules),
             line: Line::new(),
         }
     }
 
-    /// An element begins: padding ends, and its contents stand behind its header.
-    #[inline(always)]
-    fn enter(&mut self, header: &Header)
-        ensures { self.new ≡ entered self.old header.now }
+    /// How many findings there are so far, also where their lines are left out.
+    pub fn findings(&self) -> u64
+        ensures { result ≡ self.now.finder.count }
     {
-        self.offset = header.offset.saturating_add(header.raw().len() as u64);
-        self.in_padding = false;
-    }
-
-    /// An element that holds others begins.
-    #[inline(always)]
-    fn open<D: Drain>(
-        &mut self,
-        header: &Header,
-        word: &[u8],
-        out: &mut Out<'_, D>,
-    ) -> Result<(), WriteFault>
-        requires { length word.now ≤ 16 }
-        ensures state { OnOk result (self.new ≡ (dumped_open self.old header.now word.now).state) }
-        ensures puts { Puts D.told out.old out.new (dumped_open self.old header.now word.now).put result }
-    {
-        write_opening(&mut self.line, self.layout, header, word);
-        out.put(self.line.as_slice())?;
-        self.layout.level = self.layout.level.saturating_add(1);
-        self.enter(header);
-        Ok(())
-    }
-
-    /// An element that holds others ends: `at` is where its end-of-contents octets stand.
-    fn close<D: Drain>(&mut self, at: Option<u64>, out: &mut Out<'_, D>) -> Result<(), WriteFault>
-        ensures state { OnOk result (self.new ≡ (dumped_close self.old at).state) }
-        ensures puts { Puts D.told out.old out.new (dumped_close self.old at).put result }
-    {
-        self.layout.level = self.layout.level.saturating_sub(1);
-        if let Some(at) = at {
-            self.offset = at.saturating_add(2);
-        }
-        write_closing(&mut self.line, self.layout, at);
-        out.put(self.line.as_slice())
-    }
-
-    /// A primitive begins.
-    #[inline(always)]
-    fn begin<D: Drain>(&mut self, header: &Header, out: &mut Out<'_, D>) -> Result<(), WriteFault>
-        ensures state { OnOk result (self.new ≡ (dumped_begin self.old header.now).state) }
-        ensures puts { Puts D.told out.old out.new (dumped_begin self.old header.now).put result }
-    {
-        self.enter(header);
-        self.is_open = true;
-        put_begin(&mut self.value, header, self.layout, out)
-    }
-
-    /// Contents of a primitive go on.
-    fn bytes<D: Drain>(&mut self, octets: &[u8], out: &mut Out<'_, D>) -> Result<(), WriteFault>
-        ensures state { OnOk result (self.new ≡ (each_octet one_dumped self.old octets.now).state) }
-        ensures puts { Puts D.told out.old out.new (each_octet one_dumped self.old octets.now).put result }
-    {
-        self.offset = self.offset.saturating_add(octets.len() as u64);
-        put_bytes(self.is_open, &mut self.value, octets, out)
-    }
-
-    /// A primitive ends.
-    fn end<D: Drain>(&mut self, out: &mut Out<'_, D>) -> Result<(), WriteFault>
-        ensures state { self.new ≡ (dumped_end self.old).state }
-        ensures puts { Puts D.told out.old out.new (dumped_end self.old).put result }
-    {
-        let put = put_end(self.is_open, &mut self.value, self.names, out);
-        self.is_open = false;
-        put
-    }
-
-    /// Padding goes on. A run of it has one line, which comes with its first octet.
-    fn pad<D: Drain>(&mut self, octets: &[u8], out: &mut Out<'_, D>) -> Result<(), WriteFault>
-        ensures state { OnOk result (self.new ≡ (each_octet one_padded self.old octets.now).state) }
-        ensures puts { Puts D.told out.old out.new (each_octet one_padded self.old octets.now).put result }
-    {
-        if octets.is_empty() {
-            return Ok(());
-        }
-        let offset = self.offset;
-        self.offset = offset.saturating_add(octets.len() as u64);
-        if self.in_padding {
-            return Ok(());
-        }
-        self.in_padding = true;
-        write_padding(&mut self.line, self.layout, offset);
-        out.put(self.line.as_slice())
-    }
-}
-
-ghost use Rattle.std.specs.Prelude.{Some};
-ghost use Rattle.tlv_value.specs.State.{begun, start};
-ghost use Rattle.tlv_show.specs.Dumped.{if_open, value_after, value_ended, value_told};
-
-/// A primitive begins, in place of the last one.
-#[inline(always)]
-fn restart(value: &mut Option<ValueText>, header: &Header, layout: Layout)
-    ensures { value.new ≡ Some (start header.now layout) }
-{
-    match value {
-        Some(value) => value.restart(header, layout),
-        None => *value = Some(ValueText::new(header, layout)),
-    }
-}
-
-/// Puts what the header tells of a primitive that begins.
-#[inline(always)]
-fn put_begin<D: Drain>(
-    value: &mut Option<ValueText>,
-    header: &Header,
-    layout: Layout,
-    out: &mut Out<'_, D>,
-) -> Result<(), WriteFault>
-    ensures state { value.new ≡ Some (start header.now layout) }
-    ensures puts { Puts D.told out.old out.new (begun (start header.now layout)) result }
-{
-    restart(value, header, layout);
-    match value {
-        Some(value) => value.begin(out),
-        None => Ok(()),
-    }
-}
-
-/// Puts what more contents octets tell of the primitive that is open. Of octets past those that were announced
-/// nothing is told.
-fn put_bytes<D: Drain>(
-    is_open: bool,
-    value: &mut Option<ValueText>,
-    octets: &[u8],
-    out: &mut Out<'_, D>,
-) -> Result<(), WriteFault>
-    ensures state { OnOk result (if_open is_open value.new ≡ value_after (if_open is_open value.old) octets.now) }
-    ensures puts { Puts D.told out.old out.new (value_told (if_open is_open value.old) octets.now) result }
-{
-    match value {
-        Some(value) if is_open => {
-            let count = value.left().min(octets.len() as u64) as usize;
-            value.bytes(&octets[..count], out)
-        }
-        _ => Ok(()),
-    }
-}
-
-/// Puts what the end tells of the primitive that is open, if all its contents octets have come.
-fn put_end<D: Drain>(
-    is_open: bool,
-    value: &mut Option<ValueText>,
-    names: &Names,
-    out: &mut Out<'_, D>,
-) -> Result<(), WriteFault>
-    ensures { Puts D.told out.old out.new (value_ended names.now (if_open is_open value.old)) result }
-{
-    match value {
-        Some(value) if is_open && value.left() == 0 => value.end(names, out),
-        _ => Ok(()),
+        self.finder.count()
     }
 }
 
 impl Follow for Dump<'_> {
-    ghost use Rattle.tlv_walk.proofs.Followed.{each_octet-goes_on, each_octet-joins};
-    ghost use Rattle.std.specs.Prelude.{refl};
-    ghost use Rattle.tlv_show.specs.Dumped.{dumped};
+    ghost next = { dump_step };
 
-    ghost next = { dumped };
-
-    ghost bytes_join = { each_octet-joins one_dumped };
+    ghost bytes_join = { each_octet-joins one_shown };
 
     ghost bytes_rest = { λ s. refl };
 
-    ghost bytes_go_on = { each_octet-goes_on one_dumped };
+    ghost bytes_go_on = { each_octet-goes_on one_shown };
 
-    ghost pad_join = { each_octet-joins one_padded };
+    ghost pad_join = { each_octet-joins one_filled };
 
     ghost pad_rest = { λ s. refl };
 
-    ghost pad_go_on = { each_octet-goes_on one_padded };
+    ghost pad_go_on = { each_octet-goes_on one_filled };
 
     #[inline(always)]
     fn on<D: Drain>(&mut self, event: &Event<'_>, out: &mut Out<'_, D>) -> Result<Go, WriteFault> {
-        match event {
-            Event::Open(header) => self.open(header, b" {", out)?,
-            Event::Enter(header) => self.open(header, b" wraps {", out)?,
-            Event::Begin(header) => self.begin(header, out)?,
-            Event::Bytes(octets) => self.bytes(octets, out)?,
-            Event::End => self.end(out)?,
-            Event::Close(at) => self.close(*at, out)?,
-            Event::Leave => self.close(None, out)?,
-            Event::Unused => self.offset = self.offset.saturating_add(1),
-            Event::Pad(octets) => self.pad(octets, out)?,
+        let style = Style::Dump(self.lines.layout());
+        let found = self.finder.find(event);
+        if is_header(event) {
+            put_findings(&mut self.line, style, &found, out)?;
+            self.lines.show(event, out)?;
+        } else {
+            self.lines.show(event, out)?;
+            put_findings(&mut self.line, style, &found, out)?;
         }
         Ok(Go::On)
     }
+}
+
+/// Whether an event is the header of an element.
+fn is_header(event: &Event<'_>) -> bool
+    ensures { result ≡ is_header_of (told_of event.now) }
+{
+    matches!(event, Event::Open(_) | Event::Enter(_) | Event::Begin(_))
 }

@@ -1,15 +1,21 @@
-//! Laws of a dump: each is the contract of a function that does nothing, or no more than to call `dump`.
+//! Laws of a dump and of a check: each is the contract of a function that does nothing, or no more than to call `dump`.
 
 ghost use Rattle.std.specs.Prelude.{IfOk};
-ghost use Rattle.tlv_show.specs.Laws.{DumpsGoOn, DumpsMakeTexts, DumpsOctets, PrimitivesAreShown};
+ghost use Rattle.tlv_show.specs.Laws.{ChecksGoOn, ChecksMakeTexts, DumpsGoOn, DumpsMakeTexts, DumpsOctets, PrimitivesAreShown};
 
 use crate::{Options, Outcome, dump};
 use tlv_value::Names;
 use tlv_walk::{DeviceFault, Drain, MemSource};
 
-/// What a `Dump` makes of the events of a reading is the text of that reading. It always wants more.
+/// What a `Dump` makes of the events of a reading is the text of that reading and the number of its findings. It always
+/// wants more.
 pub fn dumps_make_texts()
     ensures { DumpsMakeTexts }
+{}
+
+/// What a `Check` makes of the events of a reading is the list of its findings and their number. It always wants more.
+pub fn checks_make_texts()
+    ensures { ChecksMakeTexts }
 {}
 
 /// A dump of octets in memory is the dump of these octets, into whatever pieces the reads cut them.
@@ -39,8 +45,13 @@ pub fn dumps_go_on()
     ensures { DumpsGoOn }
 {}
 
-/// A primitive is shown with all of its contents octets, by the definition of a value's lines. Where it has ended nothing
-/// of it is kept.
+/// What a check lists of a longer input is what it lists of the shorter, and then more.
+pub fn checks_go_on()
+    ensures { ChecksGoOn }
+{}
+
+/// A primitive is shown with all of its contents octets, by the definition of a value's lines, between what is found with its
+/// header and on its contents. Where it has ended nothing of it is kept.
 pub fn primitives_are_shown()
     ensures { PrimitivesAreShown }
 {}

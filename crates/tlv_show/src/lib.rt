@@ -1,14 +1,29 @@
 //! What `dump` writes: a line for each element, and rows for the contents of a long primitive.
 #![tactic(auto)]
 
+mod checker;
+mod checking;
 mod dumping;
+mod finder;
 mod follower;
+mod frames;
+mod header_findings;
+mod line_follower;
 pub mod laws;
 mod lines;
 mod options;
+mod outcome;
+mod rules;
+mod style;
+#[cfg(test)]
+mod check_tests;
 #[cfg(test)]
 mod tests;
 
-pub use dumping::{Outcome, dump};
+pub use checker::Check;
+pub use checking::check;
+pub use dumping::dump;
 pub use follower::Dump;
 pub use options::Options;
+pub use outcome::Outcome;
+pub use rules::Rules;

@@ -1,9 +1,12 @@
 //! How a dump is to be written.
+use crate::Rules;
 use tlv_walk::Framing;
 
 /// How a dump is to be written.
 #[derive(Debug, Drop)]
 pub struct Options {
+    /// Whose rules findings are told of.
+    pub rules: Rules,
     /// How many rows of one value are written; one more is written as `...`, and the others are left out. Without a
     /// limit all are.
     pub limit: Option<u32>,

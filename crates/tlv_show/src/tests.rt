@@ -1,5 +1,5 @@
 //! Dumps of events, told one by one.
-use crate::{Dump, Options};
+use crate::{Dump, Options, Rules};
 use std::process::Abort;
 use std::test::Fail;
 use tlv_head::{Header, read_header};
@@ -20,6 +20,7 @@ fn header(offset: u64, octets: &[u8]) -> Result<Header, Fail> {
 /// Options of a dump of everything.
 fn plain() -> Options {
     Options {
+        rules: Rules::Ber,
         limit: None,
         pure: false,
         framing: Framing::plain(),

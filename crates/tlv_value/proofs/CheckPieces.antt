@@ -2,12 +2,14 @@
 use Rattle.std.proofs.Common.{◌≡◌, ℕ, zero, suc, ◌-◌, Bool, true, false, List, [], ◌∷◌, ◌++◌, length, take, refl, sym, ap, ◌∙◌, arith, append_assoc, length-append}
 use Rattle.std.specs.Prelude.{◌%◌, ◌&&◌, ◌||◌, eqb, nat_lt, if◌then◌else◌}
 use Rattle.std.specs.Str.{is_utf8}
-use Rattle.tlv_head.specs.Header.{announced}
+use Rattle.tlv_head.specs.Header.{Heading, announced}
 use Rattle.tlv_value.specs.declared.kind.Kind.TheVariants.{Utf8}
 use Rattle.tlv_value.specs.CheckLaws.{ChecksJoin, FindingsEnd}
 use Rattle.tlv_value.specs.CheckState.{CheckState, all_utf8, allowed_in, checked, unchecked}
-use Rattle.tlv_value.specs.Checks.{Noted, allows, allows_octet, every, findings_on, is_object, is_padded_behind, last_of, noted}
+use Rattle.tlv_value.specs.Checks.{allows, allows_octet, every, is_padded_behind, last_of}
+use Rattle.tlv_value.specs.CheckNotes.{Noted, findings_on, is_object, noted}
 use Rattle.tlv_value.specs.Rows.{full_rows, open_row}
+use Rattle.tlv_value.proofs.CheckNotes.{noted-same}
 use Rattle.tlv_value.proofs.Formed.{rows-formed_at}
 use Rattle.tlv_value.proofs.Pieces.{rows-join}
 
@@ -122,3 +124,15 @@ findings-end h octets e =
     ap (findings_on h.class h.number)
     (note-eq (announced h.size) (length octets) (take 64 octets) (last_of 0 octets) s.padded (noted h.number octets).padded (allowed_in s) (allows h.number octets)
     (sym e) (padded-end (is_object h.number) octets) (allowed-end h.number (announced h.size) octets (eqb h.number 12) (every (allows_octet h.number) octets) e))
+    ∙ sym (noted-same h octets)
+
+-- no octets
+same-in-both : {A : Type 0} (b : Bool) (x : A) → (if b then x else x) ≡ x
+same-in-both true x = refl
+same-in-both false x = refl
+
+pub checked-none : (h : Heading) → checked (unchecked h) [] ≡ unchecked h
+checked-none h =
+    let n = announced h.size in
+    built-eq (unchecked h) (n - 0) n [] [] 0 0 true true (if is_object h.number then false else false) false (if eqb h.number 12 then true else true) true (if eqb h.number 12 then [] else []) []
+    (omega arith) refl refl refl (same-in-both (is_object h.number) false) (same-in-both (eqb h.number 12) true) (same-in-both (eqb h.number 12) [])

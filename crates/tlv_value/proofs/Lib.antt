@@ -11,6 +11,7 @@ pub mod Ends
 pub mod Pieces
 pub mod Noting
 pub mod Formed
+pub mod CheckNotes
 pub mod CheckPieces
 pub mod NamesTexts
 pub mod NamesTables

@@ -6,6 +6,7 @@ use Rattle.tlv_value.specs.declared.finding.Finding.TheVariants.{B08, B11, B12, 
 use Rattle.tlv_value.specs.declared.kind.Kind.TheVariants.{Octets, Integer}
 use Rattle.tlv_value.specs.Arcs.{arcs_of, subidentifiers}
 use Rattle.tlv_value.specs.Checks.{contents_findings}
+use Rattle.tlv_value.proofs.CheckNotes.{with_tag}
 use Rattle.tlv_value.specs.Kind.{kind_of}
 use Rattle.tlv_value.specs.Number.{number_of}
 use Rattle.tlv_value.specs.Rows.{rows_of}
@@ -57,23 +58,23 @@ general-without-digits = refl
 general-canonical : has_form canonical_general_time (codes "19920722132100.3Z") ≡ true
 general-canonical = refl
 
-padded-integer : contents_findings Universal 2 (0 ∷ 127 ∷ []) ≡ B08 ∷ []
+padded-integer : contents_findings (with_tag Universal 2) (0 ∷ 127 ∷ []) ≡ B08 ∷ []
 padded-integer = refl
 
-true-of-one : contents_findings Universal 1 (1 ∷ []) ≡ S02 ∷ []
+true-of-one : contents_findings (with_tag Universal 1) (1 ∷ []) ≡ S02 ∷ []
 true-of-one = refl
 
-unused-set : contents_findings Universal 3 (5 ∷ 191 ∷ []) ≡ S03 ∷ []
+unused-set : contents_findings (with_tag Universal 3) (5 ∷ 191 ∷ []) ≡ S03 ∷ []
 unused-set = refl
 
-no-octet : contents_findings Universal 3 (3 ∷ []) ≡ B15 ∷ []
+no-octet : contents_findings (with_tag Universal 3) (3 ∷ []) ≡ B15 ∷ []
 no-octet = refl
 
-padded-and-unfinished : contents_findings Universal 13 (5 ∷ 128 ∷ []) ≡ B11 ∷ B12 ∷ []
+padded-and-unfinished : contents_findings (with_tag Universal 13) (5 ∷ 128 ∷ []) ≡ B11 ∷ B12 ∷ []
 padded-and-unfinished = refl
 
-month-13 : contents_findings Universal 23 (codes "9113062345Z") ≡ B19 ∷ []
+month-13 : contents_findings (with_tag Universal 23) (codes "9113062345Z") ≡ B19 ∷ []
 month-13 = refl
 
-without-seconds : contents_findings Universal 23 (codes "9105062345Z") ≡ S04 ∷ []
+without-seconds : contents_findings (with_tag Universal 23) (codes "9105062345Z") ≡ S04 ∷ []
 without-seconds = refl

@@ -12,7 +12,7 @@ ChecksJoin = (s : CheckState) (x y : List ℕ) → checked (checked s x) y ≡ c
 
 -- at the end of the contents all findings on them are there, and no others
 abbrev pub FindingsEnd : Type 0
-FindingsEnd = (h : Heading) (octets : List ℕ) → length octets ≡ announced h.size → found_in (checked (unchecked h) octets) ≡ contents_findings h.class h.number octets
+FindingsEnd = (h : Heading) (octets : List ℕ) → length octets ≡ announced h.size → found_in (checked (unchecked h) octets) ≡ contents_findings h octets
 
 -- contents are well-formed UTF-8 exactly where each of their rows is
 abbrev pub RowsAreFormed : Type 0

@@ -1,12 +1,14 @@
 -- What is to be kept of the contents of a primitive, so that what is found on them can be told at their end.
-use Rattle.std.specs.Prelude.{ℕ, ◌-◌, ◌%◌, Bool, true, false, ◌&&◌, ◌||◌, eqb, if◌then◌else◌, List, [], ◌∷◌, ◌++◌, length, take}
+use Rattle.std.specs.Prelude.{ℕ, ◌-◌, ◌%◌, Bool, true, false, ◌&&◌, ◌||◌, not, eqb, if◌then◌else◌, List, [], ◌∷◌, ◌++◌, length, take}
 use Rattle.std.specs.Str.{is_utf8}
 use Rattle.tlv_head.specs.declared.header.Class.{Class}
-use Rattle.tlv_head.specs.Header.{Heading, announced}
+use Rattle.tlv_head.specs.Header.{Heading, announced, is_universal}
 use Rattle.tlv_value.specs.declared.kind.Kind.TheVariants.{Utf8}
 use Rattle.tlv_value.specs.declared.finding.Finding.{Finding}
-use Rattle.tlv_value.specs.Checks.{Noted, allows_octet, every, findings_on, is_object, is_padded_behind, last_of}
+use Rattle.tlv_value.specs.Checks.{allows_octet, every, is_padded_behind, last_of}
+use Rattle.tlv_value.specs.CheckNotes.{Noted, findings_on, is_object}
 use Rattle.tlv_value.specs.Rows.{full_rows, open_row}
+use Rattle.tlv_value.specs.Types.{bit_string}
 
 abbrev pub all_utf8 : List (List ℕ) → Bool
 all_utf8 [] = true
@@ -57,6 +59,14 @@ checked s octets = record {
   formed = if eqb s.number 12 then s.formed && all_utf8 (full_rows Utf8 s.row octets) else s.formed;
   row = if eqb s.number 12 then open_row Utf8 s.row octets else s.row;
 }
+
+-- 8.6.2.2: it is a BIT STRING whose first contents octet is not 0
+abbrev pub is_not_zero : List ℕ → Bool
+is_not_zero [] = false
+is_not_zero (x ∷ octets) = not (eqb x 0)
+
+abbrev pub has_unused : CheckState → Bool
+has_unused s = is_universal s.class && eqb s.number bit_string && is_not_zero s.front
 
 -- the characters are those of the type
 abbrev pub allowed_in : CheckState → Bool

@@ -1,19 +1,16 @@
--- What is found on the contents of a primitive: X.690 8 and 11.
-use Rattle.std.specs.Prelude.{ℕ, ◌%◌, ◌^◌, Bool, true, false, ◌&&◌, ◌||◌, not, eqb, nat_le, nat_lt, if◌then◌else◌, List, [], ◌∷◌, ◌++◌, length, slice_index, take, codes}
+-- What is found on the contents of a primitive: X.690 8 and 11. The conditions stand at the end, with what they speak of
+-- before them.
+use Rattle.std.specs.Prelude.{ℕ, ◌%◌, ◌^◌, Bool, true, false, ◌&&◌, ◌||◌, not, ◌==◌, eqb, nat_le, nat_lt, if◌then◌else◌, List, [], ◌∷◌, ◌++◌, length, slice_index, codes}
 use Rattle.std.specs.Str.{is_utf8}
-use Rattle.tlv_head.specs.declared.header.Class.{Class}
-use Rattle.tlv_head.specs.Header.{is_universal}
+use Rattle.tlv_head.specs.Header.{Heading, is_universal}
 use Rattle.tlv_value.specs.declared.finding.Finding.{Finding}
 use Rattle.tlv_value.specs.declared.finding.Finding.TheVariants.{B06, B07, B08, B09, B10, B11, B12, B13, B14, B15, B18, B19, S02, S03, S04}
-use Rattle.tlv_value.specs.Times.{canonical_general_time, canonical_utc_time, general_time, has_form, utc_time}
+use Rattle.tlv_value.specs.Times as times
+use Rattle.tlv_value.specs.Types.{bit_string, boolean, integer_types, is_a, is_among, is_one_of, null, object_identifier, object_types, time_types, utc_time}
 
 abbrev pub every : (ℕ → Bool) → List ℕ → Bool
 every test [] = true
 every test (x ∷ xs) = test x && every test xs
-
-abbrev pub is_among : ℕ → List ℕ → Bool
-is_among x [] = false
-is_among x (y ∷ ys) = eqb x y || is_among x ys
 
 abbrev pub last_of : ℕ → List ℕ → ℕ
 last_of before [] = before
@@ -68,94 +65,62 @@ allows_all number octets =
 abbrev pub allows : ℕ → List ℕ → Bool
 allows number octets = allows_all number octets && every (allows_octet number) octets
 
--- a finding, where it is there
-abbrev pub where_it : Bool → Finding → List Finding
-where_it there finding = if there then finding ∷ [] else []
+-- ---- The findings
 
--- OBJECT IDENTIFIER, RELATIVE-OID
-abbrev pub is_object : ℕ → Bool
-is_object number = eqb number 6 || eqb number 13
+-- findings beside their conditions: those whose conditions hold, in the same order
+abbrev pub held : List (Bool × Finding) → List Finding
+held [] = []
+held (row ∷ rows) = (if row.0 then row.1 ∷ [] else []) ++ held rows
 
--- what the findings go by: the number of octets, the first 64 of them, the last, whether a subidentifier is padded, and
--- whether the characters are those of the type
-pub record Noted : Type 0 where
-  pub size : ℕ
-  pub front : List ℕ
-  pub last : ℕ
-  pub padded : Bool
-  pub allowed : Bool
+-- the first contents octet. In a BIT STRING it is the number of unused bits
+abbrev pub first : List ℕ → ℕ
+first c = slice_index c 0
 
-abbrev pub first_of : Noted → ℕ
-first_of n = slice_index n.front 0
+-- a time of at most 64 octets: of a longer one the form is not looked at
+abbrev pub is_short_time : Heading → List ℕ → Bool
+is_short_time h c = is_one_of time_types h && nat_le (length c) 64
 
--- 8.2.1, 11.1
-abbrev pub boolean_findings : Noted → List Finding
-boolean_findings n = where_it (not (eqb n.size 1)) B06 ++ where_it (eqb n.size 1 && not (eqb (first_of n) 0 || eqb (first_of n) 255)) S02
+abbrev pub time_form : Heading → times.Form
+time_form h = if is_a utc_time h then times.utc_time else times.general_time
 
--- 8.3.1, 8.3.2
-abbrev pub integer_findings : Noted → List Finding
-integer_findings n = where_it (eqb n.size 0) B07 ++ where_it (is_padded_integer n.front) B08
+abbrev pub canonical_form : Heading → times.Form
+canonical_form h = if is_a utc_time h then times.canonical_utc_time else times.canonical_general_time
 
--- 8.6.2, 11.2.1
-abbrev pub bits_findings : Noted → List Finding
-bits_findings n =
-    where_it (eqb n.size 0) B13
-    ++ where_it (nat_lt 7 (first_of n)) B14
-    ++ where_it (eqb n.size 1 && nat_le 1 (first_of n) && nat_le (first_of n) 7) B15
-    ++ where_it (nat_le 2 n.size && nat_le (first_of n) 7 && not (eqb (n.last % 2 ^ first_of n) 0)) S03
+-- what may be found on the contents of a primitive with this header
+abbrev pub contents_conditions : Heading → List ℕ → List (Bool × Finding)
+contents_conditions h c =
+    -- 8.2.1: a BOOLEAN has one octet
+    (is_a boolean h && not (length c == 1), B06)
+    -- 8.3.1, 8.4: an INTEGER or ENUMERATED has one octet or more
+    ∷ (is_one_of integer_types h && length c == 0, B07)
+    -- 8.3.2, 8.4: its first nine bits are not all equal
+    ∷ (is_one_of integer_types h && is_padded_integer c, B08)
+    -- 8.8.2: a NULL has no octets
+    ∷ (is_a null h && not (length c == 0), B09)
+    -- 8.19.2: an OBJECT IDENTIFIER has one subidentifier or more
+    ∷ (is_a object_identifier h && length c == 0, B10)
+    -- 8.19.2, 8.20.2: no subidentifier begins with 80
+    ∷ (is_one_of object_types h && is_padded_object c, B11)
+    -- 8.19.2, 8.20.2: bit 8 is clear in the last octet of a subidentifier
+    ∷ (is_one_of object_types h && nat_le 128 (last_of 0 c), B12)
+    -- 8.6.2: a BIT STRING has a first octet, the number of unused bits
+    ∷ (is_a bit_string h && length c == 0, B13)
+    -- 8.6.2.2: it is at most 7
+    ∷ (is_a bit_string h && nat_lt 7 (first c), B14)
+    -- 8.6.2.3: it is 0 where no other octet follows
+    ∷ (is_a bit_string h && length c == 1 && nat_le 1 (first c) && nat_le (first c) 7, B15)
+    -- X.680 41: a string of characters has those of its type
+    ∷ (is_universal h.class && not (allows h.number c), B18)
+    -- X.680 46, 47: a time is of its grammar
+    ∷ (is_short_time h c && not (times.has_form (time_form h) c), B19)
+    -- 11.1: TRUE is ff
+    ∷ (is_a boolean h && length c == 1 && not (first c == 0 || first c == 0xff), S02)
+    -- 11.2.1: unused bits are 0
+    ∷ (is_a bit_string h && nat_le 2 (length c) && nat_le (first c) 7 && not (last_of 0 c % 2 ^ first c == 0), S03)
+    -- 11.7, 11.8: a time is in the canonical form
+    ∷ (is_short_time h c && times.has_form (time_form h) c && not (times.has_form (canonical_form h) c), S04)
+    ∷ []
 
--- 8.8.2
-abbrev pub null_findings : Noted → List Finding
-null_findings n = where_it (not (eqb n.size 0)) B09
-
--- 8.20.2
-abbrev pub relative_findings : Noted → List Finding
-relative_findings n = where_it n.padded B11 ++ where_it (nat_le 128 n.last) B12
-
--- 8.19.2
-abbrev pub object_findings : Noted → List Finding
-object_findings n = where_it (eqb n.size 0) B10 ++ relative_findings n
-
--- the grammar, and then the canonical form (11.7, 11.8)
-abbrev pub time_findings : Bool → Bool → List Finding
-time_findings of_grammar is_canonical = if of_grammar then where_it (not is_canonical) S04 else B19 ∷ []
-
--- of a time of at most 64 octets
-abbrev pub utc_findings : Noted → List Finding
-utc_findings n = if nat_le n.size 64 then time_findings (has_form utc_time n.front) (has_form canonical_utc_time n.front) else []
-
-abbrev pub general_findings : Noted → List Finding
-general_findings n = if nat_le n.size 64 then time_findings (has_form general_time n.front) (has_form canonical_general_time n.front) else []
-
-abbrev pub text_findings : Noted → List Finding
-text_findings n = where_it (not n.allowed) B18
-
--- on a primitive with this universal number
-abbrev pub universal_findings : ℕ → Noted → List Finding
-universal_findings number n =
-    if eqb number 1 then boolean_findings n
-    else if eqb number 2 then integer_findings n
-    else if eqb number 3 then bits_findings n
-    else if eqb number 5 then null_findings n
-    else if eqb number 6 then object_findings n
-    else if eqb number 10 then integer_findings n
-    else if eqb number 13 then relative_findings n
-    else if eqb number 23 then utc_findings n
-    else if eqb number 24 then general_findings n
-    else text_findings n
-
-abbrev pub findings_on : Class → ℕ → Noted → List Finding
-findings_on class number n = if is_universal class then universal_findings number n else []
-
-abbrev pub noted : ℕ → List ℕ → Noted
-noted number octets = record {
-  size = length octets;
-  front = take 64 octets;
-  last = last_of 0 octets;
-  padded = is_object number && is_padded_object octets;
-  allowed = allows number octets;
-}
-
--- what is found on the contents of a primitive, in order
-abbrev pub contents_findings : Class → ℕ → List ℕ → List Finding
-contents_findings class number octets = findings_on class number (noted number octets)
+-- what is found, by the rules of BER, CER or DER, in order
+abbrev pub contents_findings : Heading → List ℕ → List Finding
+contents_findings h c = held (contents_conditions h c)

@@ -14,7 +14,9 @@ pub mod State
 pub mod TextFields
 pub mod ObjectLines
 pub mod Laws
+pub mod Types
 pub mod Checks
+pub mod CheckNotes
 pub mod CheckState
 pub mod CheckFields
 pub mod CheckLaws

@@ -1,17 +1,17 @@
 //! What is found on the contents of a primitive.
-ghost use Rattle.std.specs.Prelude.{◌≡◌, ◌+◌, ◌<◌, ◌≤◌, ◌%◌, ◌^◌, ◌++◌, ◌&&◌, ◌||◌, [], eqb, if◌then◌else◌, length, not, take};
+ghost use Rattle.std.specs.Prelude.{◌≡◌, ◌+◌, ◌<◌, ◌≤◌, ◌%◌, ◌^◌, ◌++◌, ◌&&◌, ◌||◌, ℕ, List, [], eqb, if◌then◌else◌, length, not, take};
 ghost use Rattle.std.specs.Str.{is_utf8};
-ghost use Rattle.tlv_value.specs.CheckState.{all_utf8, allowed_in, checked, found_in, unchecked};
+ghost use Rattle.tlv_head.specs.Header.{Heading, announced};
+ghost use Rattle.tlv_value.specs.CheckNotes.{is_object, time_findings, where_it};
+ghost use Rattle.tlv_value.specs.CheckState.{all_utf8, allowed_in, checked, found_in, has_unused, unchecked};
 ghost use Rattle.tlv_value.specs.Checks.{
   allows_octet as allows_octet_of,
+  contents_findings,
   every,
-  is_object,
   is_padded_behind,
   is_padded_integer,
   is_printable_string,
   last_of,
-  time_findings,
-  where_it,
 };
 ghost use Rattle.tlv_value.specs.Rows.{full_rows, open_row};
 
@@ -62,10 +62,7 @@ impl ValueCheck {
     pub fn new(header: &Header) -> ValueCheck
         ensures { result ≡ unchecked header.now }
     {
-        let size = match header.size {
-            Size::Definite(size) => size,
-            Size::Indefinite => 0,
-        };
+        let size = size_of(header);
         ValueCheck {
             class: header.class,
             number: header.number,
@@ -77,6 +74,49 @@ impl ValueCheck {
             padded: false,
             formed: true,
             row: ArrayVec::new(),
+        }
+    }
+
+    /// Begins anew, for the primitive with this header.
+    pub fn restart(&mut self, header: &Header)
+        ensures { self.new ≡ unchecked header.now }
+    {
+        let size = size_of(header);
+        self.class = header.class;
+        self.number = header.number;
+        self.size = size;
+        self.left = size;
+        self.front.clear();
+        self.last = 0;
+        self.allowed = true;
+        self.padded = false;
+        self.formed = true;
+        self.row.clear();
+    }
+
+    /// How many contents octets are still to come.
+    pub fn left(&self) -> u64
+        ensures { result ≡ self.now.left }
+    {
+        self.left
+    }
+
+    /// How many contents octets the primitive has.
+    pub fn size(&self) -> u64
+        ensures { result ≡ self.now.size }
+    {
+        self.size
+    }
+
+    /// Whether it is a BIT STRING whose first contents octet has come and is not `00` (8.6.2.2).
+    pub fn has_unused_bits(&self) -> bool
+        ensures { result ≡ has_unused self.now }
+    {
+        match self.front.as_slice() {
+            [first, ..] => {
+                matches!(self.class, Class::Universal) && self.number == 3 && *first != 0
+            }
+            [] => false,
         }
     }
 
@@ -94,9 +134,17 @@ impl ValueCheck {
         self.last = last_octet(self.last, octets);
     }
 
-    /// What is found on the contents, in order.
+    /// What is found on the contents, in order, by the rules of BER, CER or DER.
     pub fn end(&self) -> ArrayVec<Finding, 16>
         requires { self.now.left ≡ 0 }
+        ensures found { result.items ≡ found_in self.now }
+        ensures whole { (h : Heading) (c : List ℕ) → self.now ≡ checked (unchecked h) c → length c ≡ announced h.size → result.items ≡ contents_findings h c }
+    {
+        self.found()
+    }
+
+    /// What is found on the contents by what was noted of them.
+    fn found(&self) -> ArrayVec<Finding, 16>
         ensures { result.items ≡ found_in self.now }
     {
         let mut found = ArrayVec::new();
@@ -176,6 +224,16 @@ impl ValueCheck {
             _ => true,
         };
         both(all, self.allowed)
+    }
+}
+
+/// How many contents octets a primitive has.
+fn size_of(header: &Header) -> u64
+    ensures { result ≡ announced header.now.size }
+{
+    match header.size {
+        Size::Definite(size) => size,
+        Size::Indefinite => 0,
     }
 }
 

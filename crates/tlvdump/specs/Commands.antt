@@ -7,11 +7,13 @@ use Rattle.clap.specs.Kinds.{IsAmong}
 use Rattle.clap.specs.Words.{Row, first_of, kind_of, subcommand_of}
 use Rattle.clap.specs.declared.error.Error.{Error}
 use Rattle.clap.specs.declared.error.kind.ErrorKind.TheVariants.{OutOfMemory}
+use Rattle.tlv_show.specs.declared.rules.Rules.{Rules}
+use Rattle.tlv_show.specs.declared.rules.Rules.TheVariants.{Ber, Der}
 use Rattle.tlv_walk.specs.declared.framing.Framing.{Framing}
 use Rattle.tlvdump.specs.Line.{line_app}
-use Rattle.tlvdump.specs.Values.{Text, inside_of, limit_of, offset_of}
+use Rattle.tlvdump.specs.Values.{Text, inside_of, limit_of, offset_of, rules_of}
 use Rattle.tlvdump.specs.declared.command.Command.{Command}
-use Rattle.tlvdump.specs.declared.command.Command.TheVariants.{Dump, Extract, Indef}
+use Rattle.tlvdump.specs.declared.command.Command.TheVariants.{Check, Dump, Extract, Indef}
 use Rattle.tlvdump.specs.declared.command.UsageFault.{UsageFault}
 use Rattle.tlvdump.specs.declared.command.UsageFault.TheVariants.{Parser, Value, Memory}
 
@@ -24,17 +26,27 @@ is_given name rows = option_map_or (λ t. bytes_eq t (codes "true")) (first_of n
 abbrev pub framing_from : List Row → List ℕ → Framing
 framing_from rows offsets = record { inside = offsets; padding = is_given (codes "padding") rows }
 
--- ---- the command, or the first option whose value is none of its own: limit, offset, inside
+-- ---- the command, or the first option whose value is none of its own: rules, limit, offset, inside
 
-abbrev pub dump_with : List Row → Option (Option ℕ) → Option (List ℕ) → Result Command Text
-dump_with rows None offsets = Err (codes "--limit")
-dump_with rows (Some limit) None = Err (codes "--inside")
-dump_with rows (Some limit) (Some offsets) = Ok (Dump
-    (record { limit = limit; pure = is_given (codes "pure") rows; framing = framing_from rows offsets })
+abbrev pub dump_with : List Row → Option Rules → Option (Option ℕ) → Option (List ℕ) → Result Command Text
+dump_with rows None limit offsets = Err (codes "--rules")
+dump_with rows (Some rules) None offsets = Err (codes "--limit")
+dump_with rows (Some rules) (Some limit) None = Err (codes "--inside")
+dump_with rows (Some rules) (Some limit) (Some offsets) = Ok (Dump
+    (record { rules = rules; limit = limit; pure = is_given (codes "pure") rows; framing = framing_from rows offsets })
     (first_of (codes "names") rows) (first_of (codes "file") rows))
 
 abbrev pub dump_from : List Row → Result Command Text
-dump_from rows = dump_with rows (limit_of (first_of (codes "limit") rows)) (inside_of (first_of (codes "inside") rows))
+dump_from rows = dump_with rows (rules_of Ber (first_of (codes "rules") rows)) (limit_of (first_of (codes "limit") rows))
+    (inside_of (first_of (codes "inside") rows))
+
+abbrev pub check_with : List Row → Option Rules → Option (List ℕ) → Result Command Text
+check_with rows None offsets = Err (codes "--rules")
+check_with rows (Some rules) None = Err (codes "--inside")
+check_with rows (Some rules) (Some offsets) = Ok (Check rules (framing_from rows offsets) (first_of (codes "file") rows))
+
+abbrev pub check_from : List Row → Result Command Text
+check_from rows = check_with rows (rules_of Der (first_of (codes "rules") rows)) (inside_of (first_of (codes "inside") rows))
 
 abbrev pub extract_with : List Row → Option ℕ → Option (List ℕ) → Result Command Text
 extract_with rows None offsets = Err (codes "--offset")
@@ -52,7 +64,8 @@ indef_from rows = Ok (Indef (is_given (codes "padding") rows) (first_of (codes "
 abbrev pub command_from : Text × List Row → Result Command Text
 command_from p =
     if bytes_eq p.0 (codes "dump") then dump_from p.1
-    else (if bytes_eq p.0 (codes "extract") then extract_from p.1 else indef_from p.1)
+    else (if bytes_eq p.0 (codes "check") then check_from p.1
+    else (if bytes_eq p.0 (codes "extract") then extract_from p.1 else indef_from p.1))
 
 -- ---- the command of words, as `clap` matches them
 
@@ -95,10 +108,12 @@ IsRefusal error Memory = kind_of error ≡ OutOfMemory
 
 abbrev pub file_of : Command → Option Text
 file_of (Dump options names file) = file
+file_of (Check rules framing file) = file
 file_of (Extract offset contents framing file) = file
 file_of (Indef padding file) = file
 
 abbrev pub names_file_of : Command → Option Text
 names_file_of (Dump options names file) = names
+names_file_of (Check rules framing file) = None
 names_file_of (Extract offset contents framing file) = None
 names_file_of (Indef padding file) = None

@@ -38,8 +38,14 @@ helped name = with_rule (new_app name) help_rule
 
 abbrev pub dump_app : App
 dump_app =
-    with_rule (with_rule (with_rule (with_rule (with_rule (with_rule (helped (codes "dump"))
-    (option_rule (codes "limit"))) (flag_rule (codes "pure"))) (option_rule (codes "names"))) (option_rule (codes "inside"))) (flag_rule (codes "padding")))
+    with_rule (with_rule (with_rule (with_rule (with_rule (with_rule (with_rule (helped (codes "dump"))
+    (option_rule (codes "rules"))) (option_rule (codes "limit"))) (flag_rule (codes "pure"))) (option_rule (codes "names"))) (option_rule (codes "inside"))) (flag_rule (codes "padding")))
+    file_rule
+
+abbrev pub check_app : App
+check_app =
+    with_rule (with_rule (with_rule (with_rule (helped (codes "check"))
+    (option_rule (codes "rules"))) (option_rule (codes "inside"))) (flag_rule (codes "padding")))
     file_rule
 
 abbrev pub extract_app : App
@@ -66,4 +72,4 @@ program_app = with_rule (with_rule (on_top settled (new_app (codes "tlvdump"))) 
 
 -- the whole command line
 unfoldable pub line_app : App
-line_app = with_subcommand (with_subcommand (with_subcommand program_app dump_app.top) extract_app.top) indef_app.top
+line_app = with_subcommand (with_subcommand (with_subcommand (with_subcommand program_app dump_app.top) check_app.top) extract_app.top) indef_app.top

@@ -1,12 +1,12 @@
 -- What the program says of a run: the exit status, the number of findings, and the message.
-use Rattle.std.specs.Prelude.{◌≡◌, ◌∷◌, ⊤, ℕ, Bool, true, false, List, [], ◌++◌, Option, Some, None, Result, Ok, Err, codes, decimal, take}
+use Rattle.std.specs.Prelude.{◌≡◌, ◌∷◌, ⊤, ℕ, zero, suc, Bool, true, false, List, [], ◌++◌, Option, Some, None, Result, Ok, Err, codes, decimal, take}
 use Rattle.clap.specs.Words.{kind_of}
 use Rattle.clap.specs.declared.error.kind.ErrorKind.{ErrorKind}
 use Rattle.clap.specs.declared.error.kind.ErrorKind.TheVariants as kind
 use Rattle.tlv_cut.specs.declared.extracting.Cut.{Cut}
 use Rattle.tlv_head.specs.declared.fault.Fault.{Fault}
 use Rattle.tlv_head.specs.Fault.{code_of, text_of}
-use Rattle.tlv_show.specs.declared.dumping.Outcome.{Outcome}
+use Rattle.tlv_show.specs.declared.outcome.Outcome.{Outcome}
 use Rattle.tlv_value.specs.declared.names.fault.NamesFault.{NamesFault}
 use Rattle.tlv_value.specs.declared.names.fault.NamesFault.TheVariants as names
 use Rattle.tlv_walk.specs.Device.{Taken}
@@ -47,13 +47,20 @@ abbrev pub said_of_ending : Ending → Said → Said
 said_of_ending (ending.Fault fault) other = saying 2 (fault_line fault)
 said_of_ending ending.Done other = other
 
--- the first of the named offsets at which there is no string to read
-abbrev pub said_of_unused : Option ℕ → Said
-said_of_unused None = clean
-said_of_unused (Some offset) = saying 1 (codes "E7 no string to read at offset " ++ decimal offset)
+-- the first of the named offsets at which there is no string to read takes precedence over findings
+abbrev pub said_of_unused : Option ℕ → Said → Said
+said_of_unused None other = other
+said_of_unused (Some offset) other = saying 1 (codes "E7 no string to read at offset " ++ decimal offset)
 
-abbrev pub said_of_dump : Outcome → Said
-said_of_dump outcome = said_of_ending outcome.ending (said_of_unused outcome.unused)
+abbrev pub said_of_findings : ℕ → Said
+said_of_findings zero = clean
+said_of_findings (suc n) = saying 1 (codes "findings: " ++ decimal (suc n))
+
+-- a dump or a check: the count stays, whatever is said
+abbrev pub said_of_outcome : Outcome → Said
+said_of_outcome outcome = record (said_of_ending outcome.ending (said_of_unused outcome.unused (said_of_findings outcome.findings))) {
+  findings = outcome.findings;
+}
 
 -- whether there is an element at the offset
 abbrev pub said_of_found : ℕ → Bool → Said

@@ -1,9 +1,12 @@
 -- What the texts of options stand for.
-use Rattle.std.specs.Prelude.{ℕ, ◌+◌, ◌==◌, ◌&&◌, Bool, true, false, List, [], ◌∷◌, Option, Some, None, length, nat_le, nat_lt, if◌then◌else◌, option_and_then, option_map}
+use Rattle.std.specs.Prelude.{ℕ, ◌+◌, ◌==◌, ◌&&◌, Bool, true, false, List, [], ◌∷◌, Option, Some, None, codes, length, nat_le, nat_lt, if◌then◌else◌, option_and_then, option_map}
 use Rattle.std.specs.Borrow.{Bor}
 use Rattle.std.specs.Char.{is_ascii_digit}
 use Rattle.std.specs.List.{list_all, slice_split}
+use Rattle.std.specs.Str.{bytes_eq}
 use Rattle.std.specs.Str.Parse.{digits_value}
+use Rattle.tlv_show.specs.declared.rules.Rules.{Rules}
+use Rattle.tlv_show.specs.declared.rules.Rules.TheVariants.{Ber, Cer, Der}
 
 abbrev pub Text : Type 0
 Text = List ℕ
@@ -54,6 +57,14 @@ offset_of = option_and_then offset_in
 abbrev pub limit_of : Option Text → Option (Option ℕ)
 limit_of None = Some None
 limit_of (Some t) = option_map Some (number_in 4294967295 t)
+
+-- whose rules are told of; without a text, these
+abbrev pub rules_of : Rules → Option Text → Option Rules
+rules_of usual None = Some usual
+rules_of usual (Some t) =
+    if bytes_eq t (codes "ber") then Some Ber
+    else (if bytes_eq t (codes "der") then Some Der
+    else (if bytes_eq t (codes "cer") then Some Cer else None))
 
 -- without a text no offset is named
 abbrev pub inside_of : Option Text → Option (List ℕ)

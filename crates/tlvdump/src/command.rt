@@ -4,7 +4,7 @@ ghost use Rattle.std.specs.Prelude.{option_map};
 ghost use Rattle.tlvdump.specs.Commands.{file_of, names_file_of};
 
 use crate::text::Text;
-use tlv_show::Options;
+use tlv_show::{Options, Rules};
 use tlv_walk::Framing;
 
 /// A command of the program, with its options.
@@ -16,6 +16,12 @@ pub enum Command {
         /// The file of names for object identifiers.
         names: Option<Text>,
         /// The file to read; without one it is standard input, as for each command.
+        file: Option<Text>,
+    },
+    /// Lists what violates the rules.
+    Check {
+        rules: Rules,
+        framing: Framing,
         file: Option<Text>,
     },
     /// Writes the octets of one element, or its contents alone.
@@ -51,6 +57,7 @@ impl Command {
     {
         match self {
             Command::Dump { file, .. } => name_in(file),
+            Command::Check { file, .. } => name_in(file),
             Command::Extract { file, .. } => name_in(file),
             Command::Indef { file, .. } => name_in(file),
         }
@@ -62,6 +69,7 @@ impl Command {
     {
         match self {
             Command::Dump { names, .. } => name_in(names),
+            Command::Check { .. } => None,
             Command::Extract { .. } => None,
             Command::Indef { .. } => None,
         }

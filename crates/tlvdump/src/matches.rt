@@ -1,17 +1,17 @@
 //! The command that the words of a command line ask for.
 ghost use Rattle.std.specs.Prelude.{◌≡◌, IfErr, IfOk, is_some, option_map, true};
 ghost use Rattle.clap.specs.Words.{first_of, found_of, rows_of, subcommand_rows_of};
-ghost use Rattle.tlvdump.specs.Commands.{Answers, AnswersFrom, AnswersSubcommand, IsRefusal, dump_from, extract_from, indef_from, is_given as is_given_in};
+ghost use Rattle.tlvdump.specs.Commands.{Answers, AnswersFrom, AnswersSubcommand, IsRefusal, check_from, dump_from, extract_from, indef_from, is_given as is_given_in};
 
 use crate::command::{Command, UsageFault};
 use crate::parser::line_parser;
 use crate::text::Text;
-use crate::values::{inside_of, limit_of, offset_of};
+use crate::values::{inside_of, limit_of, offset_of, rules_of};
 use crate::words::Words;
 use clap::ArgMatches;
 use clap::error::ErrorKind;
 use std::alloc::Global;
-use tlv_show::Options;
+use tlv_show::{Options, Rules};
 use tlv_walk::Framing;
 
 /// The command that the words ask for.
@@ -19,7 +19,7 @@ use tlv_walk::Framing;
 /// # Errors
 ///
 /// `Parser` where `clap` does not take the words, or they ask for help or the version. `Value` where it takes them, with
-/// the first option whose value is not in its range, in the order limit, offset, inside. `Memory` where memory is
+/// the first option whose value is not in its range, in the order rules, limit, offset, inside. `Memory` where memory is
 /// refused.
 pub fn command_of(alloc: Global, words: &Words) -> Result<Command, UsageFault>
     ensures { Answers words.now result }
@@ -53,6 +53,7 @@ fn matched(alloc: Global, matches: &ArgMatches<'_>) -> Result<Command, UsageFaul
     };
     match name {
         "dump" => dump_of(alloc, found),
+        "check" => check_of(alloc, found),
         "extract" => extract_of(alloc, found),
         _ => indef_of(alloc, found),
     }
@@ -61,6 +62,9 @@ fn matched(alloc: Global, matches: &ArgMatches<'_>) -> Result<Command, UsageFaul
 fn dump_of(alloc: Global, found: &ArgMatches<'_>) -> Result<Command, UsageFault>
     ensures { AnswersFrom (dump_from (rows_of (found_of found.now))) result }
 {
+    let Some(rules) = rules_of(Rules::Ber, text_of(found, "rules")) else {
+        return Err(UsageFault::Value("--rules"));
+    };
     let Some(limit) = limit_of(text_of(found, "limit")) else {
         return Err(UsageFault::Value("--limit"));
     };
@@ -68,6 +72,7 @@ fn dump_of(alloc: Global, found: &ArgMatches<'_>) -> Result<Command, UsageFault>
         return Err(UsageFault::Value("--inside"));
     };
     let options = Options {
+        rules,
         limit,
         pure: is_given(found, "pure"),
         framing: Framing {
@@ -80,6 +85,27 @@ fn dump_of(alloc: Global, found: &ArgMatches<'_>) -> Result<Command, UsageFault>
     Ok(Command::Dump {
         options,
         names,
+        file,
+    })
+}
+
+fn check_of(alloc: Global, found: &ArgMatches<'_>) -> Result<Command, UsageFault>
+    ensures { AnswersFrom (check_from (rows_of (found_of found.now))) result }
+{
+    let Some(rules) = rules_of(Rules::Der, text_of(found, "rules")) else {
+        return Err(UsageFault::Value("--rules"));
+    };
+    let Some(inside) = inside_of(text_of(found, "inside")) else {
+        return Err(UsageFault::Value("--inside"));
+    };
+    let framing = Framing {
+        inside,
+        padding: is_given(found, "padding"),
+    };
+    let file = kept(alloc, found, "file")?;
+    Ok(Command::Check {
+        rules,
+        framing,
         file,
     })
 }

@@ -1,7 +1,7 @@
 //! What `clap` is told of the command line, with the texts of help.
 ghost use Rattle.std.specs.Prelude.{◌≡◌, IfOk, codes, false};
 ghost use Rattle.clap.specs.Words.{rule_of};
-ghost use Rattle.tlvdump.specs.Line.{IsMade, dump_app, extract_app, helped, indef_app, line_app, program_app};
+ghost use Rattle.tlvdump.specs.Line.{IsMade, check_app, dump_app, extract_app, helped, indef_app, line_app, program_app};
 ghost use Rattle.tlvdump.specs.Line.{file_rule, flag_rule, help_rule, offset_rule, option_rule, version_rule};
 
 use clap::{Arg, ArgAction, Command};
@@ -103,9 +103,20 @@ fn dump_parser<'a>(alloc: Global) -> Result<Command<'a>, AllocError>
     ensures { IfOk result (λ command. IsMade command dump_app) }
 {
     with_help(alloc, "dump", help::DUMP)?
+        .arg(option(alloc, "rules", "RULES", help::DUMP_RULES))?
         .arg(option(alloc, "limit", "N", help::LIMIT))?
         .arg(flag(alloc, "pure", help::PURE))?
         .arg(option(alloc, "names", "NAMES", help::NAMES))?
+        .arg(inside(alloc))?
+        .arg(padding(alloc))?
+        .arg(file(alloc))
+}
+
+fn check_parser<'a>(alloc: Global) -> Result<Command<'a>, AllocError>
+    ensures { IfOk result (λ command. IsMade command check_app) }
+{
+    with_help(alloc, "check", help::CHECK)?
+        .arg(option(alloc, "rules", "RULES", help::CHECK_RULES))?
         .arg(inside(alloc))?
         .arg(padding(alloc))?
         .arg(file(alloc))
@@ -152,10 +163,12 @@ pub(crate) fn line_parser<'a>(alloc: Global) -> Result<Command<'a>, AllocError>
     ensures { IfOk result (λ command. IsMade command line_app) }
 {
     let dump = dump_parser(alloc)?;
+    let check = check_parser(alloc)?;
     let extract = extract_parser(alloc)?;
     let indef = indef_parser(alloc)?;
     program_parser(alloc)?
         .subcommand(dump)?
+        .subcommand(check)?
         .subcommand(extract)?
         .subcommand(indef)
 }

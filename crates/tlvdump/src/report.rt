@@ -1,7 +1,7 @@
 //! What the program says of a run: the exit status and the message.
 ghost use Rattle.std.specs.Prelude.{◌≡◌, ◌+◌, ◌++◌, ◌≤◌, [], decimal, length};
 ghost use Rattle.tlvdump.specs.Report.{fault_line, line_with, said_in, said_of, saying as saying_of};
-ghost use Rattle.tlvdump.specs.Report.{said_of_cut, said_of_dump, said_of_ending, said_of_found, said_of_indef, said_of_unused};
+ghost use Rattle.tlvdump.specs.Report.{said_of_cut, said_of_ending, said_of_findings, said_of_found, said_of_indef, said_of_outcome, said_of_unused};
 ghost use Rattle.tlvdump.specs.Report.{said_of_closed, said_of_device, said_of_names, said_of_unprinted, said_of_usage, said_of_words};
 
 use crate::command::UsageFault;
@@ -16,7 +16,7 @@ use tlv_walk::{DeviceFault, Ending};
 /// What a run came to.
 #[derive(Debug, Drop)]
 pub struct Report {
-    /// The exit status: 0 clean, 1 nothing at an offset that was asked for, 2 a fault of the encoding, 3 a device
+    /// The exit status: 0 clean, 1 findings or nothing at an offset that was asked for, 2 a fault of the encoding, 3 a device
     /// failed or the input is too long, 4 the words or the names file are refused, 5 memory was refused.
     pub status: u8,
     /// The number of findings.
@@ -25,13 +25,18 @@ pub struct Report {
     pub message: ArrayVec<u8, 128>,
 }
 
-/// The report of a dump.
-pub(crate) fn dump_report(came: Result<Outcome, DeviceFault>) -> Report
-    ensures { said_in result ≡ said_of said_of_dump came }
+/// The report of a dump or a check: a fault, else an offset without a string, else findings. Their count stays.
+pub(crate) fn shown_report(came: Result<Outcome, DeviceFault>) -> Report
+    ensures { said_in result ≡ said_of said_of_outcome came }
 {
     match came {
-        Ok(outcome) => ending_report(outcome.ending, unused_report(outcome.unused)),
-        Err(fault) => device_report(fault),
+        Ok(outcome) => {
+            let unused = unused_report(outcome.unused, findings_report(outcome.findings));
+            let mut report = ending_report(outcome.ending, unused);
+            report.findings = outcome.findings;
+            report
+        }
+        Err(failed) => device_report(failed),
     }
 }
 
@@ -65,12 +70,22 @@ fn ending_report(ending: Ending, other: Report) -> Report
     }
 }
 
-fn unused_report(unused: Option<u64>) -> Report
-    ensures { said_in result ≡ said_of_unused unused }
+fn unused_report(unused: Option<u64>, other: Report) -> Report
+    ensures { said_in result ≡ said_of_unused unused (said_in other) }
 {
     match unused {
         Some(offset) => saying(1, numbered(b"E7 no string to read at offset ", offset)),
-        None => silent(0),
+        None => other,
+    }
+}
+
+fn findings_report(findings: u64) -> Report
+    ensures { said_in result ≡ said_of_findings findings }
+{
+    if findings == 0 {
+        silent(0)
+    } else {
+        saying(1, numbered(b"findings: ", findings))
     }
 }
 

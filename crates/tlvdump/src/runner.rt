@@ -3,9 +3,9 @@ ghost use Rattle.tlvdump.specs.Report.{said_in};
 ghost use Rattle.tlvdump.specs.Runs.{Ran};
 
 use crate::command::Command;
-use crate::report::{Report, cut_report, dump_report, indef_report};
+use crate::report::{Report, cut_report, indef_report, shown_report};
 use tlv_cut::{extract, indef};
-use tlv_show::dump;
+use tlv_show::{check, dump};
 use tlv_value::Names;
 use tlv_walk::{Drain, Source};
 
@@ -22,7 +22,8 @@ pub fn run<S: Source, D: Drain>(
         (D.told drain.old) (D.told drain.new) (said_in result) }
 {
     match command {
-        Command::Dump { options, .. } => dump_report(dump(source, drain, options, names)),
+        Command::Dump { options, .. } => shown_report(dump(source, drain, options, names)),
+        Command::Check { rules, framing, .. } => shown_report(check(source, drain, *rules, framing)),
         Command::Extract {
             offset,
             contents,

@@ -13,7 +13,7 @@ use crate::runner::run;
 use std::alloc::Global;
 use std::process::Abort;
 use std::test::Fail;
-use tlv_show::{Dump, Options};
+use tlv_show::{Dump, Options, Rules};
 use tlv_value::Names;
 use tlv_walk::{
     DeviceFault, Ending, Framing, Inside, MemDrain, MemSource, Run, Turn, Walker, drive_up_to, turn,
@@ -42,6 +42,7 @@ struct Devices<'a> {
 struct Answer<'a> {
     written: &'a [u8],
     status: u8,
+    findings: u64,
     message: &'a str,
 }
 
@@ -54,6 +55,7 @@ fn tables() -> [&'static [Row<'static>]; 8] {
 /// Options of a dump of everything.
 fn plain() -> Options {
     Options {
+        rules: Rules::Ber,
         limit: None,
         pure: false,
         framing: Framing::plain(),
@@ -92,6 +94,7 @@ fn expect_dump(
         panic!(rt; "{}: offsets", row.name);
     };
     let options = Options {
+        rules: row.rules,
         limit: row.limit,
         pure: row.pure,
         framing: Framing {
@@ -111,7 +114,7 @@ fn expect_dump(
         row.name
     );
     assert_eq!(rt; report.status, answer.status, "{}", row.name);
-    assert_eq!(rt; report.findings, 0, "{}", row.name);
+    assert_eq!(rt; report.findings, answer.findings, "{}", row.name);
 }
 
 /// Expects the row's own answer, with all its lines, of a dump whose octets come in these pieces.
@@ -131,6 +134,7 @@ fn expect_row(
     let answer = Answer {
         written: text,
         status: row.status,
+        findings: row.findings,
         message: row.message,
     };
     expect_dump(rt, row, devices, room, answer);
@@ -181,6 +185,7 @@ fn expect_failed_reads(rt: &impl Abort, alloc: Global, rows: &[Row<'_>]) -> Resu
             let answer = Answer {
                 written: text.as_slice(),
                 status: 3,
+                findings: 0,
                 message: READ_FAILED,
             };
             expect_dump(rt, row, devices, &mut room, answer);
@@ -210,6 +215,7 @@ fn expect_too_little_room(
         let answer = Answer {
             written: &text[..size],
             status: 3,
+            findings: 0,
             message: WRITE_FAILED,
         };
         expect_dump(rt, row, devices, &mut room[..size], answer);
@@ -217,6 +223,7 @@ fn expect_too_little_room(
     let answer = Answer {
         written: text,
         status: row.status,
+        findings: row.findings,
         message: row.message,
     };
     expect_dump(rt, row, devices, &mut room[..text.len()], answer);

@@ -2,9 +2,10 @@
 ghost use Rattle.std.specs.Prelude.{◌<◌, ◌==◌, ◌≡◌, ◌≤◌, ◌∷◌, IfSome, [], length};
 ghost use Rattle.std.specs.List.{position_or_len};
 ghost use Rattle.std.specs.Option.{option_map_or};
-ghost use Rattle.tlvdump.specs.Values.{inside_of as inside_in, limit_of as limit_in, number_in, offset_of as offset_in, offsets_in, parts_of, text_in};
+ghost use Rattle.tlvdump.specs.Values.{inside_of as inside_in, limit_of as limit_in, number_in, offset_of as offset_in, offsets_in, parts_of, rules_of as rules_in, text_in};
 
 use arrayvec::ArrayVec;
+use tlv_show::Rules;
 use tlv_walk::Inside;
 
 /// The largest offset that an option may have, in octets: 2^40.
@@ -44,6 +45,21 @@ pub(crate) fn limit_of(text: Option<&str>) -> Option<Option<u32>>
     match number_of(text.as_bytes(), u64::from(u32::MAX)) {
         Some(number) => Some(Some(number as u32)),
         None => None,
+    }
+}
+
+/// The rules that the text names, `ber`, `der` or `cer`; the usual ones where there is no text.
+pub(crate) fn rules_of(usual: Rules, text: Option<&str>) -> Option<Rules>
+    ensures { result ≡ rules_in usual (text_in text.entry) }
+{
+    let Some(text) = text else {
+        return Some(usual);
+    };
+    match text {
+        "ber" => Some(Rules::Ber),
+        "der" => Some(Rules::Der),
+        "cer" => Some(Rules::Cer),
+        _ => None,
     }
 }
 

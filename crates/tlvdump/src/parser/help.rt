@@ -16,6 +16,13 @@ pub(super) const VERSION: &str = "0.1.0";
 pub(super) const FILE: &str =
     "The file to read [default: standard input]; \"-\" is a file of that name";
 
+pub(super) const DUMP_RULES: &str = "\
+Show what violates the rules of BER, DER or CER: ber, der or cer [default: ber]";
+
+pub(super) const CHECK_RULES: &str = "\
+The rules to check: ber, der or cer; those of DER and CER include those of BER
+[default: der]";
+
 pub(super) const LIMIT: &str = "\
 Write at most N rows of each value, and \"...\" for the rest: 0 to 4294967295
 [default: all rows]";
@@ -59,7 +66,7 @@ Examples:
 
 Exit status:
   0  the input is one or more whole encodings, and nothing else
-  1  no element at the offset of extract (E4), no string at an offset of --inside (E7)
+  1  findings, no element at the offset of extract (E4), no string at an offset of --inside (E7)
   2  an octet is refused, or the input ends too early (F01 to F12)
   3  a read or a write failed (E1, E2), more than 2^40 octets (E3), FILE does not open (E5)
   4  the command line (U2) or the file of names (N1 to N5) is refused
@@ -72,20 +79,40 @@ pub(super) const DUMP: Help<'static> = Help {
     more: "\
 Writes each element on a line of its own, as far as the input is an encoding: the offset of
 its first octet, the length of its contents (or \"indef\"), its tag and its value. What an
-element holds is indented below it.",
+element holds is indented below it. What violates the rules stands on lines of its own.",
     after: "\
 Examples:
   tlvdump dump certificate.der
   tlvdump dump --names names.txt --limit 1 < certificate.der
-  tlvdump dump --inside 445,475 certificate.der
+  tlvdump dump --rules der --inside 445,475 certificate.der
 
 Exit status:
   0  the input is one or more whole encodings, and nothing else
-  1  no OCTET STRING or BIT STRING at an offset of --inside (E7)
+  1  findings, or no OCTET STRING or BIT STRING at an offset of --inside (E7)
   2  an octet is refused, or the input ends too early (F01 to F12)
   3  a read or a write failed (E1, E2), more than 2^40 octets (E3), FILE does not open (E5)
   4  the command line (U2) or the file of names (N1 to N5) is refused
   5  memory was refused (U3, N6)
+The message is one line on standard error.",
+};
+
+pub(super) const CHECK: Help<'static> = Help {
+    about: "List what violates the rules of BER, DER or CER",
+    more: "\
+Lists what violates the rules, a finding on each line: the offset of the element, the code of
+the finding, and what is wrong. Nothing is written of an input without findings.",
+    after: "\
+Examples:
+  tlvdump check certificate.der
+  tlvdump check --rules cer --padding records.ber
+
+Exit status:
+  0  the input is one or more whole encodings, nothing else, and nothing is found
+  1  findings, or no OCTET STRING or BIT STRING at an offset of --inside (E7)
+  2  an octet is refused, or the input ends too early (F01 to F12)
+  3  a read or a write failed (E1, E2), more than 2^40 octets (E3), FILE does not open (E5)
+  4  the command line is refused (U2)
+  5  memory was refused (U3)
 The message is one line on standard error.",
 };
 

@@ -1,13 +1,15 @@
 //! What is written and reported of an input, by the words that ask for it.
 use super::ONES;
+use crate::command::Command;
 use crate::matches::command_of;
 use crate::runner::run;
 use crate::words::Words;
 use std::alloc::Global;
 use std::process::Abort;
 use std::test::Fail;
+use tlv_show::Rules;
 use tlv_value::Names;
-use tlv_walk::{MemDrain, MemSource};
+use tlv_walk::{Framing, MemDrain, MemSource};
 
 /// Words behind the program's name, an input, and what is written and reported of it: the octets, the status and the
 /// message.
@@ -208,6 +210,34 @@ static DUMPS: [Asked<'static>; 7] = [
     ),
 ];
 
+static CHECKS: [Asked<'static>; 7] = [
+    (&["check"], b"", b"", 2, "fault at 0: F01 empty input"),
+    (&["check", "--rules", "ber"], STRING, b"", 0, ""),
+    (&["check"], STRING, b"0 D01 indefinite length\n0 D02 constructed string\n", 1, "findings: 2"),
+    (
+        &["check", "--inside", "0"],
+        b"\x04\x06\x30\x80\x05\x00\x00\x00",
+        b"2 D01 indefinite length\n",
+        1,
+        "findings: 1",
+    ),
+    (
+        &["check", "--inside", "0"],
+        b"\x03\x00",
+        b"0 B13 no first octet of a bit string\n",
+        1,
+        "E7 no string to read at offset 0",
+    ),
+    (
+        &["check", "--inside", "0"],
+        b"\x03\x00\x00",
+        b"0 B13 no first octet of a bit string\n",
+        2,
+        "fault at 2: F03 end-of-contents outside an indefinite element",
+    ),
+    (&["check", "--padding"], b"\x00\x05\x00\x00", b"", 0, ""),
+];
+
 /// Runs the command that the words ask for over the input in these pieces.
 fn expect(rt: &impl Abort, alloc: Global, row: &Asked<'_>, cuts: &[u64]) -> Result<(), Fail> {
     let (list, input, written, status, message) = *row;
@@ -224,13 +254,39 @@ fn expect(rt: &impl Abort, alloc: Global, row: &Asked<'_>, cuts: &[u64]) -> Resu
     assert_eq!(rt; drain.written(), written, "{list:?}");
     assert_eq!(rt; report.message.as_slice(), message.as_bytes(), "{list:?}");
     assert_eq!(rt; report.status, status, "{list:?}");
-    assert_eq!(rt; report.findings, 0, "{list:?}");
     Ok(())
+}
+
+/// The count of findings stays behind a fault and an offset without a string, and is 0 where a device fails.
+#[test]
+fn findings_are_counted(rt: HostRuntime) {
+    let input = b"\x02\x02\x00\x7f\x02\x00\x00";
+    for (fail_at, octets, findings, status) in [
+        (None, 6, 2, 1),
+        (None, 7, 2, 2),
+        (Some(1), 7, 0, 3),
+    ] {
+        let command = Command::Check {
+            rules: Rules::Ber,
+            framing: Framing::plain(),
+            file: None,
+        };
+        let mut room = [0; 128];
+        let mut source = MemSource::new(&input[..octets], &[6], fail_at);
+        let mut drain = MemDrain::new(&mut room, 4096);
+        let report = run(&command, &Names::empty(), &mut source, &mut drain);
+        assert_eq!(rt; report.findings, findings);
+        assert_eq!(rt; report.status, status);
+        assert_eq!(rt;
+            drain.written(),
+            b"0 B08 integer is padded\n4 B07 no contents of an integer\n".as_slice()
+        );
+    }
 }
 
 #[test]
 fn words_ask_for_what_is_written(rt: HostRuntime) -> Result<(), Fail> {
-    for rows in [EXTRACTS.as_slice(), &INDEFS, &DUMPS] {
+    for rows in [EXTRACTS.as_slice(), &INDEFS, &DUMPS, &CHECKS] {
         for row in rows {
             expect(&rt, rt.alloc(), row, &[])?;
             expect(&rt, rt.alloc(), row, &ONES)?;

@@ -1,4 +1,5 @@
 //! Inputs, and what a dump of them writes and reports.
+use tlv_show::Rules;
 
 /// An input, how it is read, and what a dump of it writes and reports.
 #[derive(Clone, Copy)]
@@ -9,6 +10,8 @@ pub(crate) struct Row<'a> {
     pub inside: &'a [u64],
     /// Whether octets `00` may stand between the encodings.
     pub padding: bool,
+    /// Whose rules are told of.
+    pub rules: Rules,
     /// How many rows of a value are written.
     pub limit: Option<u32>,
     /// Whether the first columns are left out.
@@ -19,6 +22,7 @@ pub(crate) struct Row<'a> {
     /// Where the octet stands that is refused; behind it nothing is read.
     pub refused: Option<usize>,
     pub status: u8,
+    pub findings: u64,
     pub message: &'a str,
 }
 
@@ -27,12 +31,14 @@ pub(crate) const CLEAN: Row<'static> = Row {
     name: "",
     inside: &[],
     padding: false,
+    rules: Rules::Ber,
     limit: None,
     pure: false,
     input: b"",
     lines: &[],
     refused: None,
     status: 0,
+    findings: 0,
     message: "",
 };
 

@@ -5,11 +5,13 @@ use crate::words::Words;
 use std::alloc::Global;
 use std::process::Abort;
 use std::test::Fail;
+use tlv_show::Rules;
 
 /// What words come to.
 #[derive(Clone, Copy, Debug, PartialEq, Eq)]
 enum Comes<'a> {
-    Dump(Option<u32>, bool),
+    Dump(Rules, Option<u32>, bool),
+    Check(Rules),
     Extract(u64, bool),
     Indef,
     /// `clap` refuses them.
@@ -21,18 +23,18 @@ enum Comes<'a> {
     Memory,
 }
 
-static ROWS: [(&[&str], Comes<'static>); 46] = [
-    (&["dump"], Comes::Dump(None, false)),
+static ROWS: [(&[&str], Comes<'static>); 57] = [
+    (&["dump"], Comes::Dump(Rules::Ber, None, false)),
     (
         &["dump", "--limit", "4294967295"],
-        Comes::Dump(Some(4294967295), false),
+        Comes::Dump(Rules::Ber, Some(4294967295), false),
     ),
     (&["dump", "--limit", "4294967296"], Comes::Value("--limit")),
     (&["dump", "--limit", "+5"], Comes::Value("--limit")),
     (&["dump", "--limit=", "--pure"], Comes::Value("--limit")),
     (
         &["dump", "--limit", "0000000000005"],
-        Comes::Dump(Some(5), false),
+        Comes::Dump(Rules::Ber, Some(5), false),
     ),
     (
         &["dump", "--limit", "00000000000005"],
@@ -45,7 +47,7 @@ static ROWS: [(&[&str], Comes<'static>); 46] = [
     (&["dump", "--lim", "5"], Comes::Refused),
     (
         &["dump", "--pure", "--limit", "3"],
-        Comes::Dump(Some(3), true),
+        Comes::Dump(Rules::Ber, Some(3), true),
     ),
     (&["dump", "--pure=1"], Comes::Refused),
     (&["dump", "--pure", "--pure"], Comes::Refused),
@@ -64,7 +66,7 @@ static ROWS: [(&[&str], Comes<'static>); 46] = [
     (&["dump", "--inside", ""], Comes::Value("--inside")),
     (
         &["dump", "--inside", "0,1099511627776"],
-        Comes::Dump(None, false),
+        Comes::Dump(Rules::Ber, None, false),
     ),
     (
         &["dump", "--inside", "1099511627777"],
@@ -72,7 +74,7 @@ static ROWS: [(&[&str], Comes<'static>); 46] = [
     ),
     (
         &["dump", "--inside", "1,2,3,4,5,6,7,8,9,10,11,12,13,14,15,16"],
-        Comes::Dump(None, false),
+        Comes::Dump(Rules::Ber, None, false),
     ),
     (
         &[
@@ -91,7 +93,6 @@ static ROWS: [(&[&str], Comes<'static>); 46] = [
     (&["-h"], Comes::Refused),
     (&["-V"], Comes::Refused),
     (&["help"], Comes::Refused),
-    (&["check"], Comes::Refused),
     (&[], Comes::Refused),
     (&["extract"], Comes::Refused),
     (
@@ -117,6 +118,18 @@ static ROWS: [(&[&str], Comes<'static>); 46] = [
     (&["indef", "--inside", "0"], Comes::Refused),
     (&["indef", "a.der"], Comes::Indef),
     (&["indef", "--padding", "-"], Comes::Indef),
+    (&["dump", "--rules", "der"], Comes::Dump(Rules::Der, None, false)),
+    (&["dump", "--rules=ber"], Comes::Dump(Rules::Ber, None, false)),
+    (&["dump", "--rules", "xer", "--limit", "x"], Comes::Value("--rules")),
+    (&["check"], Comes::Check(Rules::Der)),
+    (&["check", "--rules", "cer", "--padding"], Comes::Check(Rules::Cer)),
+    (&["check", "--rules", "ber"], Comes::Check(Rules::Ber)),
+    (&["check", "--rules", "xer"], Comes::Value("--rules")),
+    (&["check", "--inside", "x", "--rules", "DER"], Comes::Value("--rules")),
+    (&["check", "--inside", "x"], Comes::Value("--inside")),
+    (&["check", "--limit", "1"], Comes::Refused),
+    (&["check", "--pure"], Comes::Refused),
+    (&["extract", "--offset", "0", "--rules", "der"], Comes::Refused),
 ];
 
 fn command(alloc: Global, list: &[&str]) -> Result<Command, UsageFault> {
@@ -130,7 +143,8 @@ fn command(alloc: Global, list: &[&str]) -> Result<Command, UsageFault> {
 
 fn comes_of(asked: &Command) -> Comes<'static> {
     match asked {
-        Command::Dump { options, .. } => Comes::Dump(options.limit, options.pure),
+        Command::Dump { options, .. } => Comes::Dump(options.rules, options.limit, options.pure),
+        Command::Check { rules, .. } => Comes::Check(*rules),
         Command::Extract {
             offset,
             contents,

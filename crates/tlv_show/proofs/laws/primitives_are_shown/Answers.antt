@@ -1,5 +1,5 @@
-use Rattle.tlv_show.proofs.DumpTexts.{primitives_shown}
+use Rattle.tlv_show.proofs.DumpShown.{primitives_are_shown}
 use Rattle.tlv_show.proofs.laws.primitives_are_shown.Goals as goal
 
 pub returns : goal.returns
-returns c = primitives_shown
+returns c = primitives_are_shown

@@ -1,33 +1,43 @@
-use Rattle.std.proofs.Common.{rules, refl, sym}
-use Rattle.tlv_walk.proofs.Followed.{each_octet-goes_on}
-use Rattle.tlv_walk.proofs.Puts.{puts_as, puts_failed_last}
-use Rattle.tlv_show.specs.Dumped.{one_dumped, one_padded}
+use Rattle.std.proofs.Common.{rules, refl, sym, ◌∙◌}
+use Rattle.tlv_walk.specs.Tells.{told_of}
+use Rattle.tlv_walk.proofs.Puts.{front_first, puts_as, puts_failed_in, puts_failed_last, puts_text, puts_then}
+use Rattle.tlv_show.proofs.DumpSteps.{header-state, header-text, other-state, other-text}
 use Rattle.tlv_show.proofs.follower.DumpFollow.on.Goals as goal
 
-pub returns-in_ok-bytes-in-Bytes-clause-state : goal.returns-in_ok-bytes-in-Bytes-clause-state
-returns-in_ok-bytes-in-Bytes-clause-state g c =
-    let a = c.in_ok-bytes-in-Bytes.ensures in
-    rw c.in-Bytes.is (a.state, sym (each_octet-goes_on one_dumped c.args.self.now c.in-Bytes.octets.now))
+pub returns-in_err-put_findings-clause-puts : goal.returns-in_err-put_findings-clause-puts
+returns-in_err-put_findings-clause-puts g c = rw (← c.self.view_is)
+    (puts_text g.D.Drain.told _ _ _ _ _ (header-text (record { lines = c.self.inside.lines; finder = c.self.inside.finder }) c.find-found.new.self (told_of c.args.event.now) c.find-found.result c.find-found.ensures (sym c.if-is_header.ensures))
+    (puts_failed_in g.D.Drain.told _ _ _ _ _ _ (rw c.layout.ensures at c.in_err-put_findings.ensures) (search rules) (front_first _ _)))
 
-pub returns-in_ok-pad-in-Pad-clause-state : goal.returns-in_ok-pad-in-Pad-clause-state
-returns-in_ok-pad-in-Pad-clause-state g c =
-    let a = c.in_ok-pad-in-Pad.ensures in
-    rw c.in-Pad.is (a.state, sym (each_octet-goes_on one_padded c.args.self.now c.in-Pad.octets.now))
+pub returns-in_err-show-clause-puts : goal.returns-in_err-show-clause-puts
+returns-in_err-show-clause-puts g c = rw (← c.self.view_is)
+    (puts_text g.D.Drain.told _ _ _ _ _ (header-text (record { lines = c.self.inside.lines; finder = c.self.inside.finder }) c.find-found.new.self (told_of c.args.event.now) c.find-found.result c.find-found.ensures (sym c.if-is_header.ensures))
+    (puts_failed_last g.D.Drain.told _ _ _ _ _ (puts_then g.D.Drain.told _ _ _ _ _ _ _ (rw c.layout.ensures at c.in_ok-put_findings.ensures) c.in_err-show.ensures.puts) (search rules)))
 
-pub returns-in_err-open-in-Open-clause-puts : goal.returns-in_err-open-in-Open-clause-puts
-returns-in_err-open-in-Open-clause-puts g c = rw c.in-Open.is (puts_failed_last g.D.Drain.told _ _ _ _ _ c.in_err-open-in-Open.ensures.puts (search rules))
+pub returns-in_err-show-2-clause-puts : goal.returns-in_err-show-2-clause-puts
+returns-in_err-show-2-clause-puts g c = rw (← c.self.view_is)
+    (puts_text g.D.Drain.told _ _ _ _ _ (other-text (record { lines = c.self.inside.lines; finder = c.self.inside.finder }) c.find-found.new.self (told_of c.args.event.now) c.find-found.result c.find-found.ensures (sym c.if-is_header.ensures))
+    (puts_failed_in g.D.Drain.told _ _ _ _ _ _ c.in_err-show-2.ensures.puts (search rules) (front_first _ _)))
 
-pub returns-in_ok-open-in-Open-clause-puts : goal.returns-in_ok-open-in-Open-clause-puts
-returns-in_ok-open-in-Open-clause-puts g c = rw c.in-Open.is (puts_as g.D.Drain.told _ _ _ _ _ _ c.in_ok-open-in-Open.ensures.puts refl)
+pub returns-in_err-put_findings-2-clause-puts : goal.returns-in_err-put_findings-2-clause-puts
+returns-in_err-put_findings-2-clause-puts g c = rw (← c.self.view_is)
+    (puts_text g.D.Drain.told _ _ _ _ _ (other-text (record { lines = c.self.inside.lines; finder = c.self.inside.finder }) c.find-found.new.self (told_of c.args.event.now) c.find-found.result c.find-found.ensures (sym c.if-is_header.ensures))
+    (puts_failed_last g.D.Drain.told _ _ _ _ _ (puts_then g.D.Drain.told _ _ _ _ _ _ _ c.in_ok-show-2.ensures.puts (rw c.layout.ensures at c.in_err-put_findings-2.ensures)) (search rules)))
 
-pub returns-in_err-open-in-Enter-clause-puts : goal.returns-in_err-open-in-Enter-clause-puts
-returns-in_err-open-in-Enter-clause-puts g c = rw c.in-Enter.is (puts_failed_last g.D.Drain.told _ _ _ _ _ c.in_err-open-in-Enter.ensures.puts (search rules))
+pub returns-in_ok-show-clause-puts : goal.returns-in_ok-show-clause-puts
+returns-in_ok-show-clause-puts g c = rw (← c.self.view_is)
+    (puts_text g.D.Drain.told _ _ _ _ _ (header-text (record { lines = c.self.inside.lines; finder = c.self.inside.finder }) c.find-found.new.self (told_of c.args.event.now) c.find-found.result c.find-found.ensures (sym c.if-is_header.ensures))
+    (puts_as g.D.Drain.told _ _ _ _ _ _ (puts_then g.D.Drain.told _ _ _ _ _ _ _ (rw c.layout.ensures at c.in_ok-put_findings.ensures) c.in_ok-show.ensures.puts) refl))
 
-pub returns-in_ok-open-in-Enter-clause-puts : goal.returns-in_ok-open-in-Enter-clause-puts
-returns-in_ok-open-in-Enter-clause-puts g c = rw c.in-Enter.is (puts_as g.D.Drain.told _ _ _ _ _ _ c.in_ok-open-in-Enter.ensures.puts refl)
+pub returns-in_ok-show-clause-state : goal.returns-in_ok-show-clause-state
+returns-in_ok-show-clause-state g c = rw (← c.self.view_is)
+    (header-state (record { lines = c.self.inside.lines; finder = c.self.inside.finder }) c.find-found.new.self (told_of c.args.event.now) c.find-found.result c.find-found.ensures c.show.new.self (sym c.if-is_header.ensures) c.in_ok-show.ensures.state)
 
-pub returns-in_err-begin-in-Begin-clause-puts : goal.returns-in_err-begin-in-Begin-clause-puts
-returns-in_err-begin-in-Begin-clause-puts g c = rw c.in-Begin.is (puts_failed_last g.D.Drain.told _ _ _ _ _ c.in_err-begin-in-Begin.ensures.puts (search rules))
+pub returns-in_ok-put_findings-2-clause-puts : goal.returns-in_ok-put_findings-2-clause-puts
+returns-in_ok-put_findings-2-clause-puts g c = rw (← c.self.view_is)
+    (puts_text g.D.Drain.told _ _ _ _ _ (other-text (record { lines = c.self.inside.lines; finder = c.self.inside.finder }) c.find-found.new.self (told_of c.args.event.now) c.find-found.result c.find-found.ensures (sym c.if-is_header.ensures))
+    (puts_as g.D.Drain.told _ _ _ _ _ _ (puts_then g.D.Drain.told _ _ _ _ _ _ _ c.in_ok-show-2.ensures.puts (rw c.layout.ensures at c.in_ok-put_findings-2.ensures)) refl))
 
-pub returns-in_ok-begin-in-Begin-clause-puts : goal.returns-in_ok-begin-in-Begin-clause-puts
-returns-in_ok-begin-in-Begin-clause-puts g c = rw c.in-Begin.is (puts_as g.D.Drain.told _ _ _ _ _ _ c.in_ok-begin-in-Begin.ensures.puts refl)
+pub returns-in_ok-put_findings-2-clause-state : goal.returns-in_ok-put_findings-2-clause-state
+returns-in_ok-put_findings-2-clause-state g c = rw (← c.self.view_is)
+    (other-state (record { lines = c.self.inside.lines; finder = c.self.inside.finder }) c.find-found.new.self (told_of c.args.event.now) c.find-found.result c.find-found.ensures c.show-else-is_header.new.self (sym c.if-is_header.ensures) c.in_ok-show-2.ensures.state)

@@ -1,6 +1,6 @@
 use Rattle.std.proofs.Common.{◌≡◌, false, eqb, refl, ◌∙◌, ne_eqb}
 use Rattle.tlv_walk.proofs.Puts.{puts_nothing, puts_text}
-use Rattle.tlv_show.proofs.follower.put_end.Goals as goal
+use Rattle.tlv_show.proofs.line_follower.put_end.Goals as goal
 
 pub returns-in_default : goal.returns-in_default
 returns-in_default g c =

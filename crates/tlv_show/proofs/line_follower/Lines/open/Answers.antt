@@ -2,7 +2,7 @@ use Rattle.std.proofs.Common.{refl, ap, ◌∙◌}
 use Rattle.tlv_walk.proofs.Puts.{puts_as, puts_text}
 use Rattle.tlv_show.specs.Dumped.{Dumping}
 use Rattle.tlv_show.specs.Lines.{opening_line}
-use Rattle.tlv_show.proofs.follower.Dump.open.Goals as goal
+use Rattle.tlv_show.proofs.line_follower.Lines.open.Goals as goal
 
 pub returns-clause-puts : goal.returns-clause-puts
 returns-clause-puts g c =

@@ -4,7 +4,7 @@ use Rattle.tlv_walk.specs.Follow.{Following, each_octet}
 use Rattle.tlv_show.specs.Dumped.{Dumping, further, if_open, one_padded}
 use Rattle.tlv_show.proofs.Dumped.{padded_first, padded_more}
 use Rattle.tlv_walk.proofs.Puts.{puts_nothing, puts_text}
-use Rattle.tlv_show.proofs.follower.Dump.pad.Goals as goal
+use Rattle.tlv_show.proofs.line_follower.Lines.pad.Goals as goal
 
 pub returns-then-self-clause-state : goal.returns-then-self-clause-state
 returns-then-self-clause-state g c =

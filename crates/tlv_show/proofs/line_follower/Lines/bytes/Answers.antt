@@ -6,7 +6,7 @@ use Rattle.tlv_walk.specs.Follow.{Following, each_octet}
 use Rattle.tlv_show.specs.Dumped.{Dumping, further, one_dumped}
 use Rattle.tlv_show.proofs.Dumped.{dumped_bytes}
 use Rattle.tlv_walk.proofs.Puts.{puts_text}
-use Rattle.tlv_show.proofs.follower.Dump.bytes.Goals as goal
+use Rattle.tlv_show.proofs.line_follower.Lines.bytes.Goals as goal
 
 pub returns-clause-state : goal.returns-clause-state
 returns-clause-state g c =

@@ -1,0 +1,51 @@
+-- A dump shows its text, and counts its findings.
+use Rattle.std.proofs.Common.{◌≡◌, ℕ, ◌^◌, ◌≤◌, Bool, true, false, List, [], ◌∷◌, length, refl, ap, ◌∙◌, arith, length-append}
+use Rattle.std.specs.Prelude.{None}
+use Rattle.tlv_value.specs.Names.{Table}
+use Rattle.tlv_walk.specs.declared.follow.Go.{Go}
+use Rattle.tlv_walk.specs.Events.{Told, events}
+use Rattle.tlv_walk.specs.Follow.{Following, followed, if_on}
+use Rattle.tlv_walk.specs.Forest.{Forest, spell}
+use Rattle.tlv_walk.specs.Place.{top as place_top}
+use Rattle.tlv_walk.specs.Reading.{IsReading}
+use Rattle.tlv_show.specs.declared.options.Options.{Options}
+use Rattle.tlv_show.specs.Dumps.{dumped_text, top_layout}
+use Rattle.tlv_show.specs.Dumped.{dumped}
+use Rattle.tlv_show.specs.DumpStep.{Showing, dump_step, is_header, nothing_shown}
+use Rattle.tlv_show.specs.FinderState.{FinderState, find, top_frame}
+use Rattle.tlv_show.specs.Site.{Start}
+use Rattle.tlv_show.specs.Texts.{found_count}
+use Rattle.tlv_show.proofs.CheckFolds.{count-run}
+use Rattle.tlv_show.proofs.DumpShown.{told}
+use Rattle.tlv_show.proofs.DumpSteps.{all_on, by_order, one_on, step-is}
+use Rattle.tlv_show.proofs.FinderTold.{run}
+use Rattle.tlv_show.proofs.Shows.{Shower}
+
+-- the finder of a dump goes by the events alone
+finder-by : (s : Showing) (e : Told) → (dump_step s e).state.finder ≡ (find s.finder e).state
+finder-by s e = ap (λ (t : Following Showing). t.state.finder) (step-is s e) ∙ ordered (is_header e)
+  where
+    ordered : (k : Bool) → (by_order k s (find s.finder e) (dumped s.lines e)).state.finder ≡ (find s.finder e).state
+    ordered true = refl
+    ordered false = refl
+
+finder-run : (s : Showing) (es : List Told) → (followed dump_step s es).state.finder ≡ (run s.finder es).state
+finder-run s [] = refl
+finder-run s (e ∷ es) =
+    ap (λ (g : Go). (if_on g (dump_step s e) (λ u. followed dump_step u es)).state.finder) (one_on s e)
+    ∙ finder-run (dump_step s e).state es
+    ∙ ap (λ (u : FinderState). (run u es).state) (finder-by s e)
+
+module _ (options : Options) (names : Table) (octets : List ℕ) (f : Forest) (short : length octets ≤ 2 ^ 40) (r : IsReading options.framing octets f) where
+  pub text-made : (followed dump_step (nothing_shown options.rules (top_layout options) names) (events f)).put ≡ dumped_text options names f
+  text-made =
+      (told (top_layout options) names options.rules (place_top options.framing) None Start top_frame [] f r.is_open (omega (arith, short, ap length r.front.1, length-append (spell f) r.front.0))
+      (record { segments = refl; bits = refl; unused = refl; not_full = refl }, refl, λ e. refl)).text 0
+
+  pub count-made : (followed dump_step (nothing_shown options.rules (top_layout options) names) (events f)).state.finder.count ≡ found_count options.rules f
+  count-made =
+      ap (λ (u : FinderState). u.count) (finder-run (nothing_shown options.rules (top_layout options) names) (events f)) ∙ count-run options.rules options.framing octets f short r
+
+pub dumps : (options : Options) (names : Table)
+    → Shower dump_step (nothing_shown options.rules (top_layout options) names) options.framing (dumped_text options names) (found_count options.rules) (λ (s : Showing). s.finder.count)
+dumps options names = record { goes_on = all_on; put = λ octets f few r. text-made options names octets f few r; counts = λ octets f few r. count-made options names octets f few r }

@@ -1,0 +1,360 @@
+-- What a dump makes of the events of elements is their text.
+use Rattle.std.proofs.Common.{◌≡◌, ℕ, ◌+◌, ◌-◌, ◌^◌, ◌<◌, ◌≤◌, ◌==◌, Bool, true, false, if◌then◌else◌, List, [], ◌∷◌, ◌++◌, length, map, refl, sym, subst, not, ap, ap₂, ◌∙◌, arith, append_assoc, append-nil, length-append}
+use Rattle.std.proofs.lemmas.Grind.{flat_map-append}
+use Rattle.std.specs.FinMap as finite
+use Rattle.std.specs.Prelude.{flat_map, Option, Some, None, codes}
+use Rattle.tlv_head.specs.Header.{Heading, announced, octets_of, wraps}
+use Rattle.tlv_value.specs.declared.finding.Finding.{Finding}
+use Rattle.tlv_value.specs.declared.layout.Layout.{Layout}
+use Rattle.tlv_value.specs.CheckState.{checked, has_unused, unchecked}
+use Rattle.tlv_value.specs.Names.{Table}
+use Rattle.tlv_value.specs.State.{open_lines, whole_lines}
+use Rattle.tlv_value.specs.Types.{is_primitive}
+use Rattle.tlv_walk.specs.declared.follow.Go.{Go}
+use Rattle.tlv_walk.specs.declared.follow.Go.TheVariants as go
+use Rattle.tlv_walk.specs.Events.{Told, Open, Begin, Bytes, End, Close, Enter, Unused, Leave, Pad, closes, end_offset, events, opens}
+use Rattle.tlv_walk.specs.Follow.{Following, and_then, each_octet, followed, if_on}
+use Rattle.tlv_walk.specs.Forest.{Forest, Stop, Fill, Whole, Closed, Partial, Entered, Awaiting, Begun, Zero, extent, is_whole, lead, opening, spell}
+use Rattle.tlv_walk.specs.Place.{IsOpen, Place, after, inside_of as place_inside}
+use Rattle.tlv_walk.proofs.Followed.{followed-more}
+use Rattle.tlv_walk.proofs.Spellings.{length-closed, length-whole}
+use Rattle.tlv_show.specs.declared.frames.Frame.{Frame}
+use Rattle.tlv_show.specs.declared.rules.Rules.{Rules}
+use Rattle.tlv_show.specs.declared.style.Style.TheVariants.{Dump}
+use Rattle.tlv_show.specs.CheckStep.{all_written}
+use Rattle.tlv_show.specs.Dumped.{Dumping, dumped, entered, one_dumped}
+use Rattle.tlv_show.specs.DumpStep.{Showing, dump_step}
+use Rattle.tlv_show.specs.DumpText.{end_place, holder_line, wrapper_line}
+use Rattle.tlv_show.specs.FinderState.{FinderState, Finds, find_begin, find_bytes, find_close, find_end, find_open, frame_of, header_notes, noted}
+use Rattle.tlv_show.specs.Found.{contents_findings, end_findings, header_findings}
+use Rattle.tlv_show.specs.Laws.{PrimitivesAreShown}
+use Rattle.tlv_show.specs.Items.{Item, FindingAt, OpeningLine, ClosingLine, WholePrimitive, OpenPrimitive, PaddingLine, findings_at, heads, items}
+use Rattle.tlv_show.specs.Lines.{close_line, opening_line, padding_line}
+use Rattle.tlv_show.specs.Site.{Before, Padding, Sibling, Site, Start, behind, behind_holder, behind_padding, first_octet, inside_of, is_padding}
+use Rattle.tlv_show.specs.Texts.{item_text}
+use Rattle.tlv_show.specs.Dumped.{further, value_after, value_told}
+use Rattle.tlv_show.proofs.Dumped.{dumped_bytes, of_bytes}
+use Rattle.tlv_show.proofs.DumpSteps.{all_on, each-shown}
+use Rattle.tlv_show.proofs.DumpTexts.{standing as lines_at, at_level, closer_told, fill_told, holder_told, no_padding, padded_behind, part_told, primitive_told, primitives_shown}
+use Rattle.tlv_show.proofs.FinderFolds.{knows-behind, knows-inside, knows-padding, not-constructed, noted_all, unused-of}
+use Rattle.tlv_show.proofs.FinderTold.{behind_contents, behind_end, behind_header, behind_primitive, closed-find, opened-find, primitive-find, primitive-found, standing}
+use Rattle.tlv_show.proofs.HeaderNotes.{Knows, header-same}
+
+-- ---- events one behind another
+
+abbrev pair : Dumping → FinderState → Showing
+pair l f = record { lines = l; finder = f }
+
+abbrev shows : Showing → List ℕ → Following Showing
+shows s put = record { state = s; put = put; goes = go.On }
+
+shown-more : (s : Showing) (xs ys : List Told) → followed dump_step s (xs ++ ys) ≡ and_then (followed dump_step s xs) (λ u. followed dump_step u ys)
+shown-more s xs ys = followed-more dump_step s xs ys (all_on s xs)
+
+then_shown : (s t : Showing) (put : List ℕ) (xs ys : List Told) → followed dump_step s xs ≡ shows t put
+    → followed dump_step s (xs ++ ys) ≡ record (followed dump_step t ys) { put = put ++ (followed dump_step t ys).put }
+then_shown s t put xs ys e = shown-more s xs ys ∙ ap (λ (k : Following Showing). and_then k (λ u. followed dump_step u ys)) e
+
+-- the lines of what is found, as a dump in this layout puts them
+abbrev texts : Layout → Finds → List ℕ
+texts layout f = all_written (Dump layout) f.level f.at f.found
+
+-- ---- an element that holds others
+
+opens-by : (l : Dumping) (s : FinderState) (h : Heading) (k three : Bool)
+    → followed dump_step (pair l s) ((if k then Open h else Enter h) ∷ map {A = ℕ} (λ z. Unused) (if k then [] else (if three then 0 ∷ [] else [])))
+    ≡ (let d = followed dumped l ((if k then Open h else Enter h) ∷ map {A = ℕ} (λ z. Unused) (if k then [] else (if three then 0 ∷ [] else []))) in
+    shows (pair d.state (find_open s h).state) (texts l.layout (find_open s h) ++ d.put))
+opens-by l s h true three = ap (shows _) (append_assoc (texts l.layout (find_open s h)) (dumped l (Open h)).put [])
+opens-by l s h false true = ap (shows _) (append_assoc (texts l.layout (find_open s h)) (dumped l (Enter h)).put [])
+opens-by l s h false false = ap (shows _) (append_assoc (texts l.layout (find_open s h)) (dumped l (Enter h)).put [])
+
+again : (a b : List ℕ) → (a ++ b) ++ [] ≡ (a ++ []) ++ b
+again a b = append-nil (a ++ b) ∙ ap (λ (x : List ℕ). x ++ b) (sym (append-nil a))
+
+closes-by : (l : Dumping) (s : FinderState) (at : Option ℕ) (k : Bool)
+    → followed dump_step (pair l s) ((if k then Close at else Leave) ∷ [])
+    ≡ (let d = followed dumped l ((if k then Close at else Leave) ∷ []) in
+    shows (pair d.state (find_close s).state) (d.put ++ texts l.layout (find_close s)))
+closes-by l s None true = ap (shows _) (again (dumped l (Close None)).put (texts l.layout (find_close s)))
+closes-by l s (Some at) true = ap (shows _) (again (dumped l (Close (Some at))).put (texts l.layout (find_close s)))
+closes-by l s at false = ap (shows _) (again (dumped l Leave).put (texts l.layout (find_close s)))
+
+-- ---- a primitive
+
+around : (a b m e t : List ℕ) → (a ++ b) ++ (m ++ ((e ++ t) ++ [])) ≡ a ++ ((b ++ (m ++ (e ++ []))) ++ t)
+around a b m e t = simp (append_assoc, append-nil)
+
+primitive-by : (l : Dumping) (s : FinderState) (h : Heading) (c : List ℕ)
+    → followed dump_step (pair l s) (Begin h ∷ Bytes c ∷ End ∷ [])
+    ≡ (let d = followed dumped l (Begin h ∷ Bytes c ∷ End ∷ []) in
+    let f = find_end (find_bytes (find_begin s h).state c) in
+    shows (pair d.state f.state) (texts l.layout (find_begin s h) ++ (d.put ++ texts l.layout f)))
+primitive-by l s h c =
+    let b = dumped l (Begin h) in
+    let m = each_octet one_dumped b.state c in
+    let e = dumped m.state End in
+    let u : FinderState = find_bytes (find_begin s h).state c in
+    let f = find_end u in
+    let first = texts l.layout (find_begin s h) in
+    let whole : Following Dumping → Following Showing = λ k. shows (pair (dumped k.state End).state f.state) ((first ++ b.put) ++ (k.put ++ (((dumped k.state End).put ++ texts k.state.layout f) ++ []))) in
+    let parts : Following Dumping → Following Showing =
+    λ k. let d = and_then b (λ z. if_on k.goes k (λ w. followed dumped w (End ∷ []))) in shows (pair d.state f.state) (first ++ (d.put ++ texts l.layout f)) in
+    let o : Following Dumping = of_bytes b.state (further b.state.offset (length c)) (value_after b.state.value c) (value_told b.state.value c) in
+    let is : m ≡ o = dumped_bytes b.state c in
+    ap (λ (k : Following Showing). record {
+      state = (if_on k.goes k (λ w. followed dump_step w (End ∷ []))).state;
+      put = (first ++ b.put) ++ (if_on k.goes k (λ w. followed dump_step w (End ∷ []))).put;
+      goes = (if_on k.goes k (λ w. followed dump_step w (End ∷ []))).goes;
+    })
+    (each-shown (pair b.state (find_begin s h).state) c)
+    ∙ ap whole is
+    ∙ ap (shows (pair (dumped o.state End).state f.state)) (around first b.put o.put (dumped o.state End).put (texts l.layout f))
+    ∙ sym (ap parts is)
+
+pub primitives_are_shown : PrimitivesAreShown
+primitives_are_shown s h c size =
+    let d = primitives_shown s.lines h c size in
+    let f = primitive-found s.finder h c (sym size) in
+    let l : Dumping = record (entered s.lines h) { offset = further (entered s.lines h).offset (length c); value = None } in
+    (pair l f.0, refl, f.1,
+    primitive-by s.lines s.finder h c
+    ∙ ap₂ (λ (d : Following Dumping) (f : Finds). shows (pair d.state f.state) (texts s.lines.layout (find_begin s.finder h) ++ (d.put ++ texts s.lines.layout f))) d f.2)
+
+-- a primitive that is open
+part-by : (l : Dumping) (s : FinderState) (h : Heading) (c : List ℕ)
+    → (followed dump_step (pair l s) (Begin h ∷ Bytes c ∷ [])).put ≡ texts l.layout (find_begin s h) ++ (followed dumped l (Begin h ∷ Bytes c ∷ [])).put
+part-by l s h c =
+    let b = dumped l (Begin h) in
+    let m = each_octet one_dumped b.state c in
+    let first = texts l.layout (find_begin s h) in
+    let o : Following Dumping = of_bytes b.state (further b.state.offset (length c)) (value_after b.state.value c) (value_told b.state.value c) in
+    let is : m ≡ o = dumped_bytes b.state c in
+    ap (λ (k : Following Showing). (first ++ b.put) ++ (if_on k.goes k (λ w. followed dump_step w [])).put) (each-shown (pair b.state (find_begin s h).state) c)
+    ∙ append_assoc first b.put (m.put ++ [])
+    ∙ ap (λ (k : Following Dumping). first ++ (b.put ++ (k.put ++ []))) is
+    ∙ sym (ap (λ (k : Following Dumping). first ++ (and_then b (λ z. if_on k.goes k (λ w. followed dumped w []))).put) is)
+
+-- ---- elements, in this style, with these names and rules
+module _ (style : Layout) (names : Table) (rules : Rules) where
+  abbrev item : Item → List ℕ
+  item i = item_text (finite.get names) style i
+
+  abbrev texts_of : List Item → List ℕ
+  texts_of l = flat_map item l
+
+  abbrev site : Place → Option Heading → Before → Site
+  site p holder before = record { at = p.at; level = p.depth; holder = holder; before = before }
+
+  lines_of : (level at : ℕ) (fs : List Finding) → all_written (Dump style) level at fs ≡ texts_of (findings_at level at fs)
+  lines_of level at [] = refl
+  lines_of level at (f ∷ fs) = ap (λ (l : List ℕ). item (FindingAt level at f) ++ l) (lines_of level at fs)
+
+  split : (xs ys : List Item) → texts_of (xs ++ ys) ≡ texts_of xs ++ texts_of ys
+  split xs ys = flat_map-append item xs ys
+
+  -- findings, and then other lines
+  found-first : (n level at : ℕ) (gs fs : List Finding) (more : List ℕ) (rest : List Item) → n ≡ level → gs ≡ fs → more ≡ texts_of rest
+      → all_written (Dump style) n at gs ++ more ≡ texts_of (findings_at level at fs ++ rest)
+  found-first n level at gs fs more rest e f g =
+      ap₂ (λ (k : ℕ) (hs : List Finding). all_written (Dump style) k at hs ++ more) e f
+      ∙ ap₂ (λ (a b : List ℕ). a ++ b) (lines_of level at fs) g
+      ∙ sym (split (findings_at level at fs) rest)
+
+  abbrev start : Place → Bool → Frame → List Frame → ℕ → Showing
+  start p padded w outer n = pair (lines_at style names p.depth p.at padded) (standing rules w outer n)
+
+  pub record IsShown (p : Place) (holder : Option Heading) (before : Before) (w : Frame) (outer : List Frame) (f : Forest) : Type 0 where
+    pub text : (n : ℕ) → (followed dump_step (start p (is_padding before) w outer n) (events f)).put ≡ texts_of (items rules (site p holder before) f)
+    pub stands : (n : ℕ) → is_whole f ≡ true → (m : ℕ)
+        × ((followed dump_step (start p (is_padding before) w outer n) (events f)).state
+        ≡ pair (lines_at style names p.depth (p.at + length (spell f)) (padded_behind style names (is_padding before) f)) (standing rules (noted_all w f) outer m))
+
+  -- elements behind what was shown
+  behind-shown : (p q : Place) (padded : Bool) (w : Frame) (outer : List Frame) (n m : ℕ) (v : Frame) (holder : Option Heading) (before : Before) (es : List Told) (put : List ℕ) (rest : Forest)
+      → q.depth ≡ p.depth
+      → followed dump_step (start p padded w outer n) es ≡ shows (start q (is_padding before) v outer m) put → IsShown q holder before v outer rest
+      → followed dump_step (start p padded w outer n) (es ++ events rest)
+      ≡ record (followed dump_step (start q (is_padding before) v outer m) (events rest)) { put = put ++ texts_of (items rules (site q holder before) rest) }
+  behind-shown p q padded w outer n m v holder before es put rest d e t =
+      then_shown (start p padded w outer n) (start q (is_padding before) v outer m) put es (events rest) e
+      ∙ ap (λ (l : List ℕ). record (followed dump_step (start q (is_padding before) v outer m) (events rest)) { put = put ++ l }) (t.text m)
+
+  abbrev Known : Place → Option Heading → Before → Frame → List Frame → Type 0
+  Known p holder before w outer = Knows w (site p holder before) × (length outer ≡ p.depth) × (p.padding ≡ true → holder ≡ None)
+
+  -- an element that holds others begins
+  opened-shown : (p : Place) (holder : Option Heading) (before : Before) (w : Frame) (outer : List Frame) (n : ℕ) (h : Heading) → Known p holder before w outer
+      → h.offset ≡ p.at → p.depth < 128 → p.at + length (opening h) ≤ 2 ^ 64 - 1
+      → followed dump_step (start p (is_padding before) w outer n) (opens h)
+      ≡ shows (start (place_inside p h) false (frame_of h) (w ∷ outer) (behind_header rules w h n)) (all_written (Dump style) (length outer) h.offset (header_notes rules w h) ++ holder_line (at_level style names p.depth) h)
+  opened-shown p holder before w outer n h k there low far =
+      opens-by (lines_at style names p.depth p.at (is_padding before)) (standing rules w outer n) h h.constructed (h.number == 3)
+      ∙ ap₂ (λ (d : Following Dumping) (f : Finds). shows (pair d.state f.state) (texts style f ++ d.put))
+      (holder_told style names p.depth p.at (is_padding before) h there (omega (arith, low)) far)
+      (opened-find rules w outer n h (omega (arith, k.1, low)))
+
+  -- a primitive
+  primitive-shown : (p : Place) (padded : Bool) (w : Frame) (outer : List Frame) (n : ℕ) (h : Heading) (c : List ℕ) → h.offset ≡ p.at → announced h.size ≡ length c
+      → p.at + (length (octets_of h) + length c) ≤ 2 ^ 64 - 1
+      → followed dump_step (start p padded w outer n) (Begin h ∷ Bytes c ∷ End ∷ [])
+      ≡ shows (start (after p (length (octets_of h) + length c)) false (behind_primitive rules w h c) outer (behind_contents rules w h c n))
+      (all_written (Dump style) (length outer) h.offset (header_notes rules w h) ++ (whole_lines (finite.get names) h (at_level style names p.depth) c ++ all_written (Dump style) (length outer) h.offset (contents_findings rules h c)))
+  primitive-shown p padded w outer n h c there size far =
+      primitive-by (lines_at style names p.depth p.at padded) (standing rules w outer n) h c
+      ∙ ap₂ (λ (d : Following Dumping) (f : Finds). shows (pair d.state f.state) (all_written (Dump style) (length outer) h.offset (header_notes rules w h) ++ (d.put ++ texts style f)))
+      (primitive_told style names p.depth p.at padded h c there size far)
+      (primitive-find rules w outer n h c (sym size))
+
+  pub told : (p : Place) (holder : Option Heading) (before : Before) (w : Frame) (outer : List Frame) (f : Forest) → IsOpen p f → p.at + length (spell f) ≤ 2 ^ 64 - 1 → Known p holder before w outer
+      → IsShown p holder before w outer f
+  told p holder before w outer Stop v b k = record {
+    text = λ n. refl;
+    stands = λ n e. (n, ap (λ (at : ℕ). pair (lines_at style names p.depth at (is_padding before)) (standing rules w outer n)) (omega arith));
+  }
+  told p holder before w outer (Fill rest) v b k =
+      let s : Site = site p holder before in
+      let t = told (after p 1) holder Padding w outer rest v.1 (omega (arith, b)) (knows-padding w s k.0 (k.2 v.0.allowed), k.1, k.2) in
+      let one : (n : ℕ) → followed dump_step (start p (is_padding before) w outer n) (Pad (0 ∷ []) ∷ []) ≡ shows (start (after p 1) true w outer n) (if is_padding before then [] else padding_line (at_level style names p.depth) p.at) =
+      λ n. ap (λ (d : Following Dumping). shows (pair d.state (standing rules w outer n)) d.put) (fill_told style names p.depth p.at (is_padding before) (omega (arith, b))) in
+      let all = λ (n : ℕ). behind-shown p (after p 1) (is_padding before) w outer n n w holder Padding (Pad (0 ∷ []) ∷ []) (if is_padding before then [] else padding_line (at_level style names p.depth) p.at) rest refl (one n) t in
+      record {
+        text = λ n. ap (λ (x : Following Showing). x.put) (all n) ∙ pads (is_padding before) p.depth p.at (items rules (behind_padding s) rest);
+        stands = λ n e.
+            let r = t.stands n e in
+            (r.0, ap (λ (x : Following Showing). x.state) (all n) ∙ r.1 ∙ ap (λ (at : ℕ). pair (lines_at style names p.depth at (padded_behind style names true rest)) (standing rules (noted_all w rest) outer r.0)) (omega arith));
+      }
+    where
+      pads : (k : Bool) (level at : ℕ) (l : List Item)
+          → (if k then [] else padding_line (at_level style names level) at) ++ texts_of l ≡ texts_of ((if k then [] else PaddingLine level at ∷ []) ++ l)
+      pads true level at l = refl
+      pads false level at l = refl
+  told p holder before w outer (Whole h c rest) v b k =
+      let s : Site = site p holder before in
+      let q : Place = after p (length (octets_of h) + length c) in
+      let size : announced h.size ≡ length c = ap announced v.0.size in
+      let form : h.constructed ≡ false = not-constructed h.constructed (wraps h) v.0.header.form in
+      let u : Bool = has_unused (checked (unchecked h) c) in
+      let known : Knows (behind_primitive rules w h c) (behind s h c) =
+      subst (λ (x : Bool). Knows (noted w x (announced h.size) u) (behind s h c)) (ap not form) (knows-behind w s (behind s h c) h (first_octet c) u k.0 refl refl (unused-of h c form)) in
+      let t = told q holder (Sibling h (first_octet c)) (behind_primitive rules w h c) outer rest v.1 (omega (arith, b, length-whole h c rest)) (known, k.1, k.2) in
+      let all = λ (n : ℕ). behind-shown p q (is_padding before) w outer n (behind_contents rules w h c n) (behind_primitive rules w h c) holder (Sibling h (first_octet c)) (Begin h ∷ Bytes c ∷ End ∷ []) _ rest refl
+      (primitive-shown p (is_padding before) w outer n h c v.0.header.offset size (omega (arith, b, length-whole h c rest))) t in
+      let others : List Item = items rules (behind s h c) rest in
+      record {
+        text = λ n.
+            ap (λ (x : Following Showing). x.put) (all n)
+            ∙ three (all_written (Dump style) (length outer) h.offset (header_notes rules w h)) (whole_lines (finite.get names) h (at_level style names p.depth) c) (all_written (Dump style) (length outer) h.offset (contents_findings rules h c)) (texts_of others)
+            ∙ found-first (length outer) p.depth h.offset (header_notes rules w h) (header_findings rules s h) _ (WholePrimitive p.depth h c ∷ (findings_at p.depth h.offset (contents_findings rules h c) ++ others)) k.1 (header-same rules w s h k.0)
+            (ap (λ (l : List ℕ). whole_lines (finite.get names) h (at_level style names p.depth) c ++ l) (found-first (length outer) p.depth h.offset (contents_findings rules h c) (contents_findings rules h c) (texts_of others) others k.1 refl refl));
+        stands = λ n e.
+            let r = t.stands (behind_contents rules w h c n) e in
+            (r.0, ap (λ (x : Following Showing). x.state) (all n) ∙ r.1
+            ∙ ap (λ (at : ℕ). pair (lines_at style names p.depth at (padded_behind style names false rest)) (standing rules (noted_all (behind_primitive rules w h c) rest) outer r.0)) (omega (arith, length-whole h c rest)));
+      }
+    where
+      three : (a b c d : List ℕ) → (a ++ (b ++ c)) ++ d ≡ a ++ (b ++ (c ++ d))
+      three a b c d = simp append_assoc
+  told p holder before w outer (Closed h inside rest) v b k =
+      let s : Site = site p holder before in
+      let q : Place = after p (extent h inside) in
+      let i_place : Place = place_inside p h in
+      let size = length-closed h inside rest in
+      let i = told i_place (Some h) Start (frame_of h) (w ∷ outer) inside v.1 (omega (arith, b, size)) (knows-inside s h, omega (arith, k.1), λ e. absurd (cc (e))) in
+      let t = told q holder (Sibling h None) (noted w (is_primitive h) (announced h.size) false) outer rest v.2 (omega (arith, b, size))
+      (knows-behind w s (behind_holder s h inside) h None false k.0 refl refl refl, k.1, k.2) in
+      let end : ℕ = p.at + length (opening h) + length (spell inside) in
+      let line : List ℕ = holder_line (at_level style names p.depth) h in
+      let close : List ℕ = close_line (at_level style names p.depth) (end_place h inside) in
+      let first : List ℕ = all_written (Dump style) (length outer) h.offset (header_notes rules w h) in
+      let last : List ℕ = all_written (Dump style) (length outer) h.offset (end_findings rules h (heads inside)) in
+      let held : List ℕ = texts_of (items rules (inside_of s h) inside) in
+      let closes-shown : (m : ℕ) → followed dump_step (pair (lines_at style names (p.depth + 1) end false) (standing rules (noted_all (frame_of h) inside) (w ∷ outer) m)) (closes h inside ∷ [])
+      ≡ shows (start q false (noted w (is_primitive h) (announced h.size) false) outer (behind_end rules h inside m)) (close ++ last) =
+      λ m.
+          closes-by (lines_at style names (p.depth + 1) end false) (standing rules (noted_all (frame_of h) inside) (w ∷ outer) m) (end_offset h.size (h.offset + length (opening h) + length (spell inside))) h.constructed
+          ∙ ap₂ (λ (d : Following Dumping) (f : Finds). shows (pair d.state f.state) (d.put ++ texts style f))
+          (closer_told style names p.depth end h inside (omega (arith, v.0.header.offset)) v.0.header.valid.allowed (omega (arith, b, size)))
+          (closed-find rules i_place w outer m h inside v.1 v.0.whole)
+          ∙ ap (λ (at : ℕ). shows (pair (lines_at style names p.depth at false) (standing rules (noted w (is_primitive h) (announced h.size) false) outer (behind_end rules h inside m))) (close ++ last)) (omega arith) in
+      let held-shown : (m : ℕ) → (r : ℕ) × (followed dump_step (start i_place false (frame_of h) (w ∷ outer) m) (events inside)
+      ≡ shows (pair (lines_at style names (p.depth + 1) end false) (standing rules (noted_all (frame_of h) inside) (w ∷ outer) r)) held) =
+      λ m.
+          let r = i.stands m v.0.whole in
+          (r.0, as_shows (start i_place false (frame_of h) (w ∷ outer) m) _ (events inside) held
+          (r.1 ∙ ap (λ (x : Bool). pair (lines_at style names (p.depth + 1) end x) (standing rules (noted_all (frame_of h) inside) (w ∷ outer) r.0)) (no_padding style names i_place inside refl v.1)) (i.text m)) in
+      let element : (n : ℕ) → (m : ℕ) × (followed dump_step (start p (is_padding before) w outer n) (opens h ++ (events inside ++ closes h inside ∷ []))
+      ≡ shows (start q false (noted w (is_primitive h) (announced h.size) false) outer m) ((first ++ line) ++ (held ++ (close ++ last)))) =
+      λ n.
+          let a : ℕ = behind_header rules w h n in
+          let r = held-shown a in
+          (behind_end rules h inside r.0,
+          then_shown (start p (is_padding before) w outer n) (start i_place false (frame_of h) (w ∷ outer) a) (first ++ line) (opens h) (events inside ++ closes h inside ∷ [])
+          (opened-shown p holder before w outer n h k v.0.header.offset v.0.depth (omega (arith, b, size)))
+          ∙ ap (λ (x : Following Showing). record x { put = (first ++ line) ++ x.put })
+          (then_shown (start i_place false (frame_of h) (w ∷ outer) a) (pair (lines_at style names (p.depth + 1) end false) (standing rules (noted_all (frame_of h) inside) (w ∷ outer) r.0)) held (events inside) (closes h inside ∷ []) r.1
+          ∙ ap (λ (x : Following Showing). record x { put = held ++ x.put }) (closes-shown r.0))) in
+      let es : List Told = opens h ++ (events inside ++ closes h inside ∷ []) in
+      let joined : es ++ events rest ≡ opens h ++ (events inside ++ closes h inside ∷ events rest) =
+      append_assoc (opens h) (events inside ++ closes h inside ∷ []) (events rest) ∙ ap (λ (l : List Told). opens h ++ l) (append_assoc (events inside) (closes h inside ∷ []) (events rest)) in
+      let all = λ (n : ℕ).
+          ap (followed dump_step (start p (is_padding before) w outer n)) (sym joined)
+          ∙ behind-shown p q (is_padding before) w outer n (element n).0 (noted w (is_primitive h) (announced h.size) false) holder (Sibling h None) es ((first ++ line) ++ (held ++ (close ++ last))) rest refl (element n).1 t in
+      let others : List Item = items rules (behind_holder s h inside) rest in
+      let closing : List Item = ClosingLine p.depth (end_place h inside) ∷ (findings_at p.depth h.offset (end_findings rules h (heads inside)) ++ others) in
+      record {
+        text = λ n.
+            ap (λ (x : Following Showing). x.put) (all n)
+            ∙ six first line held close last (texts_of others)
+            ∙ found-first (length outer) p.depth h.offset (header_notes rules w h) (header_findings rules s h) _ (OpeningLine p.depth h ∷ (items rules (inside_of s h) inside ++ closing)) k.1 (header-same rules w s h k.0)
+            (ap (λ (l : List ℕ). line ++ l)
+            (ap (λ (l : List ℕ). held ++ (close ++ l)) (found-first (length outer) p.depth h.offset (end_findings rules h (heads inside)) (end_findings rules h (heads inside)) (texts_of others) others k.1 refl refl)
+            ∙ sym (split (items rules (inside_of s h) inside) closing)));
+        stands = λ n e.
+            let r = t.stands (element n).0 e in
+            (r.0, ap (λ (x : Following Showing). x.state) (all n) ∙ r.1
+            ∙ ap (λ (at : ℕ). pair (lines_at style names p.depth at (padded_behind style names false rest)) (standing rules (noted_all (noted w (is_primitive h) (announced h.size) false) rest) outer r.0)) (omega (arith, size)));
+      }
+    where
+      six : (a b c d e f : List ℕ) → ((a ++ b) ++ (c ++ (d ++ e))) ++ f ≡ a ++ (b ++ (c ++ (d ++ (e ++ f))))
+      six a b c d e f = simp append_assoc
+      as_shows : (s t : Showing) (es : List Told) (put : List ℕ) → (followed dump_step s es).state ≡ t → (followed dump_step s es).put ≡ put → followed dump_step s es ≡ shows t put
+      as_shows s t es put e f =
+          ap (λ (g : Go). record { state = (followed dump_step s es).state; put = (followed dump_step s es).put; goes = g }) (all_on s es) ∙ ap₂ (λ (u : Showing) (l : List ℕ). shows u l) e f
+  told p holder before w outer (Partial h c) v b k = record {
+    text = λ n.
+        part-by (lines_at style names p.depth p.at (is_padding before)) (standing rules w outer n) h c
+        ∙ found-first (length outer) p.depth h.offset (header_notes rules w h) (header_findings rules (site p holder before) h) _ (OpenPrimitive p.depth h c ∷ []) k.1 (header-same rules w (site p holder before) h k.0)
+        (part_told style names p.depth p.at (is_padding before) h c (omega (arith, ap announced v.size, v.fewer)) ∙ sym (append-nil (open_lines h (at_level style names p.depth) c)));
+    stands = λ n e. absurd (cc (e));
+  }
+  told p holder before w outer (Entered h inside) v b k =
+      let s : Site = site p holder before in
+      let size = length-append (opening h) (spell inside) in
+      let i = told (place_inside p h) (Some h) Start (frame_of h) (w ∷ outer) inside v.1 (omega (arith, b, size)) (knows-inside s h, omega (arith, k.1), λ e. absurd (cc (e))) in
+      let first : List ℕ = all_written (Dump style) (length outer) h.offset (header_notes rules w h) in
+      let line : List ℕ = holder_line (at_level style names p.depth) h in
+      record {
+        text = λ n.
+            ap (λ (x : Following Showing). x.put)
+            (then_shown (start p (is_padding before) w outer n) (start (place_inside p h) false (frame_of h) (w ∷ outer) (behind_header rules w h n)) (first ++ line) (opens h) (events inside)
+            (opened-shown p holder before w outer n h k v.0.entry.header.offset v.0.entry.depth (omega (arith, b, size))))
+            ∙ ap (λ (l : List ℕ). (first ++ line) ++ l) (i.text (behind_header rules w h n))
+            ∙ append_assoc first line (texts_of (items rules (inside_of s h) inside))
+            ∙ found-first (length outer) p.depth h.offset (header_notes rules w h) (header_findings rules s h) _ (OpeningLine p.depth h ∷ items rules (inside_of s h) inside) k.1 (header-same rules w s h k.0) refl;
+        stands = λ n e. absurd (cc (e));
+      }
+  told p holder before w outer (Awaiting h) v b k = record {
+    text = λ n.
+        append_assoc (all_written (Dump style) (length outer) h.offset (header_notes rules w h)) (wrapper_line (at_level style names p.depth) h) []
+        ∙ found-first (length outer) p.depth h.offset (header_notes rules w h) (header_findings rules (site p holder before) h) _ (OpeningLine p.depth h ∷ []) k.1 (header-same rules w (site p holder before) h k.0)
+        (ap (λ (l : List ℕ). l ++ []) (sym (awaiting p.depth h h.constructed v.lead)));
+    stands = λ n e. absurd (cc (e));
+  }
+    where
+      awaiting : (level : ℕ) (h : Heading) (k : Bool) → (if k then [] else lead (record h { constructed = false })) ≡ 0 ∷ []
+          → (if k then opening_line (at_level style names level) h (codes " {") else wrapper_line (at_level style names level) h) ≡ wrapper_line (at_level style names level) h
+      awaiting level h true e = absurd (cc (e))
+      awaiting level h false e = refl
+  told p holder before w outer (Begun octets) v b k = record { text = λ n. refl; stands = λ n e. absurd (cc (e)) }
+  told p holder before w outer Zero v b k = record { text = λ n. refl; stands = λ n e. absurd (cc (e)) }

@@ -1,0 +1,108 @@
+-- What a dump makes of an event: what its lines and its finder make of it.
+use Rattle.std.proofs.Common.{◌≡◌, ℕ, Bool, true, false, if◌then◌else◌, List, [], ◌∷◌, ◌++◌, refl, sym, ap, ap₂, ◌∙◌, append-nil}
+use Rattle.tlv_walk.specs.declared.follow.Go.{Go}
+use Rattle.tlv_walk.specs.declared.follow.Go.TheVariants as go
+use Rattle.tlv_walk.specs.Events.{Told, Open, Begin, Bytes, End, Close, Enter, Unused, Leave, Pad}
+use Rattle.tlv_walk.specs.Follow.{Following, each_octet, followed, if_on}
+use Rattle.tlv_show.specs.declared.finder.Found.{Found}
+use Rattle.tlv_show.specs.declared.style.Style.TheVariants.{Dump}
+use Rattle.tlv_show.specs.CheckStep.{all_written}
+use Rattle.tlv_show.specs.Dumped.{Dumping, dumped, one_dumped, one_padded}
+use Rattle.tlv_show.specs.DumpStep.{Showing, dump_step, findings_first, findings_last, found_lines, is_header, one_filled, one_shown}
+use Rattle.tlv_show.specs.FinderState.{FinderState, Finds, find, find_bytes, finds_nothing}
+use Rattle.tlv_show.specs.Finds.{Tells}
+use Rattle.tlv_show.proofs.CheckLaws.{found-join}
+
+-- octet by octet, and at once
+pub each-shown : (s : Showing) (octets : List ℕ)
+    → each_octet one_shown s octets
+    ≡ record {
+      state = record { lines = (each_octet one_dumped s.lines octets).state; finder = find_bytes s.finder octets };
+      put = (each_octet one_dumped s.lines octets).put;
+      goes = go.On;
+    }
+each-shown s [] = refl
+each-shown s (x ∷ octets) =
+    let d = one_dumped s.lines x in
+    let u : Showing = record { lines = d.state; finder = find_bytes s.finder (x ∷ []) } in
+    ap (λ (k : Following Showing). record { state = k.state; put = d.put ++ k.put; goes = k.goes }) (each-shown u octets)
+    ∙ ap (λ (f : FinderState). record { state = record { lines = (each_octet one_dumped d.state octets).state; finder = f }; put = d.put ++ (each_octet one_dumped d.state octets).put; goes = go.On })
+    (sym (found-join s.finder (x ∷ []) octets))
+
+pub each-filled : (s : Showing) (octets : List ℕ)
+    → each_octet one_filled s octets
+    ≡ record {
+      state = record { lines = (each_octet one_padded s.lines octets).state; finder = s.finder };
+      put = (each_octet one_padded s.lines octets).put;
+      goes = go.On;
+    }
+each-filled s [] = refl
+each-filled s (x ∷ octets) =
+    let d = one_padded s.lines x in
+    ap (λ (k : Following Showing). record { state = k.state; put = d.put ++ k.put; goes = k.goes }) (each-filled (record { lines = d.state; finder = s.finder }) octets)
+
+-- findings first, or last
+abbrev pub by_order : Bool → Showing → Finds → Following Dumping → Following Showing
+by_order first s f d = if first then findings_first s f d else findings_last s f d
+
+none-behind : (s : Showing) (f : FinderState) (d : Following Dumping)
+    → record { state = record { lines = d.state; finder = f }; put = d.put; goes = go.On } ≡ findings_last s (finds_nothing f) d
+none-behind s f d = ap (λ (l : List ℕ). record { state = record { lines = d.state; finder = f }; put = l; goes = go.On }) (sym (append-nil d.put))
+
+pub step-is : (s : Showing) (e : Told) → dump_step s e ≡ by_order (is_header e) s (find s.finder e) (dumped s.lines e)
+step-is s (Open h) = refl
+step-is s (Begin h) = refl
+step-is s (Bytes octets) = each-shown s octets ∙ none-behind s (find_bytes s.finder octets) (each_octet one_dumped s.lines octets)
+step-is s End = refl
+step-is s (Close at) = refl
+step-is s (Enter h) = refl
+step-is s Unused = refl
+step-is s Leave = refl
+step-is s (Pad octets) = each-filled s octets ∙ none-behind s s.finder (each_octet one_padded s.lines octets)
+
+goes-by : (k : Bool) (s : Showing) (f : Finds) (d : Following Dumping) → (by_order k s f d).goes ≡ go.On
+goes-by true s f d = refl
+goes-by false s f d = refl
+
+pub one_on : (s : Showing) (e : Told) → (dump_step s e).goes ≡ go.On
+one_on s e = ap (λ (t : Following Showing). t.goes) (step-is s e) ∙ goes-by (is_header e) s (find s.finder e) (dumped s.lines e)
+
+-- a dump always wants more
+pub all_on : (s : Showing) (es : List Told) → (followed dump_step s es).goes ≡ go.On
+all_on s [] = refl
+all_on s (e ∷ es) = ap (λ (g : Go). (if_on g (dump_step s e) (λ u. followed dump_step u es)).goes) (one_on s e) ∙ all_on (dump_step s e).state es
+
+-- ---- what was returned and put is what the step says
+
+abbrev found_text : Showing → Found → List ℕ
+found_text s r = all_written (Dump s.lines.layout) r.level r.at r.findings.items
+
+text-of : (s : Showing) (u : FinderState) (e : Told) (r : Found) → Tells (find s.finder e) u r → found_lines s (find s.finder e) ≡ found_text s r
+text-of s u e r t =
+    ap₂ (λ (l n : ℕ). all_written (Dump s.lines.layout) l n (find s.finder e).found) (sym t.level) (sym t.at) ∙ ap (all_written (Dump s.lines.layout) r.level r.at) (sym t.items)
+
+module _ (s : Showing) (u : FinderState) (e : Told) (r : Found) (told : Tells (find s.finder e) u r) where
+  abbrev d : Following Dumping
+  d = dumped s.lines e
+
+  header-step : is_header e ≡ true → dump_step s e ≡ record { state = record { lines = d.state; finder = u }; put = found_text s r ++ d.put; goes = go.On }
+  header-step h =
+      step-is s e ∙ ap (λ (k : Bool). by_order k s (find s.finder e) d) h
+      ∙ ap₂ (λ (f : FinderState) (l : List ℕ). record { state = record { lines = d.state; finder = f }; put = l ++ d.put; goes = go.On }) (sym told.state) (text-of s u e r told)
+
+  other-step : is_header e ≡ false → dump_step s e ≡ record { state = record { lines = d.state; finder = u }; put = d.put ++ found_text s r; goes = go.On }
+  other-step h =
+      step-is s e ∙ ap (λ (k : Bool). by_order k s (find s.finder e) d) h
+      ∙ ap₂ (λ (f : FinderState) (l : List ℕ). record { state = record { lines = d.state; finder = f }; put = d.put ++ l; goes = go.On }) (sym told.state) (text-of s u e r told)
+
+  pub header-text : is_header e ≡ true → found_text s r ++ d.put ≡ (dump_step s e).put
+  header-text h = ap (λ (k : Following Showing). k.put) (sym (header-step h))
+
+  pub other-text : is_header e ≡ false → d.put ++ found_text s r ≡ (dump_step s e).put
+  other-text h = ap (λ (k : Following Showing). k.put) (sym (other-step h))
+
+  pub header-state : (v : Dumping) → is_header e ≡ true → v ≡ d.state → (record { lines = v; finder = u } ≡ (dump_step s e).state) × (go.On ≡ (dump_step s e).goes)
+  header-state v h w = rw (header-step h) (ap (λ (x : Dumping). record { lines = x; finder = u }) w, refl)
+
+  pub other-state : (v : Dumping) → is_header e ≡ false → v ≡ d.state → (record { lines = v; finder = u } ≡ (dump_step s e).state) × (go.On ≡ (dump_step s e).goes)
+  other-state v h w = rw (other-step h) (ap (λ (x : Dumping). record { lines = x; finder = u }) w, refl)

@@ -1,0 +1,161 @@
+-- A finder tells the findings of the items, event by event.
+use Rattle.std.proofs.Common.{◌≡◌, ℕ, ◌+◌, ◌-◌, ◌&&◌, ◌||◌, ◌==◌, not, Bool, true, false, min, if◌then◌else◌, List, [], ◌∷◌, length, refl, sym, ap, ap₂, ◌∙◌, arith}
+use Rattle.std.proofs.Math.Bool.{and_assoc}
+use Rattle.std.proofs.lemmas.Bool.{true≢false}
+use Rattle.std.specs.List.{fold, list_all}
+use Rattle.std.specs.Prelude.{Option, None}
+use Rattle.tlv_head.specs.Header.{Heading, announced, is_universal, octets_of, wraps}
+use Rattle.tlv_value.specs.CheckState.{checked, has_unused, unchecked}
+use Rattle.tlv_value.specs.Types.{bit_string, has_segments, is_a, is_primitive}
+use Rattle.tlv_walk.specs.Forest.{Forest, Stop, Fill, Whole, Closed, Partial, Entered, Awaiting, Begun, Zero, extent, is_whole}
+use Rattle.tlv_walk.specs.Place.{IsOpen, Place, after}
+use Rattle.tlv_show.specs.declared.frames.Frame.{Frame}
+use Rattle.tlv_show.specs.declared.rules.Rules.{Rules}
+use Rattle.tlv_show.specs.Conditions.{end_conditions, ends_empty, has_unused_bits, is_not_full}
+use Rattle.tlv_show.specs.FinderState.{end_notes, frame_of, noted}
+use Rattle.tlv_show.specs.Found.{end_findings}
+use Rattle.tlv_show.specs.Items.{heads}
+use Rattle.tlv_show.specs.Site.{Sibling, Site, behind_padding, first_octet, in_string, inside_of, is_held_by}
+use Rattle.tlv_show.proofs.HeaderNotes.{Knows, end-by, ends-are, ends_by, filter-held}
+
+-- ---- what frames know
+
+never : (k : Bool) → false ≡ (k && false)
+never true = refl
+never false = refl
+
+
+pub knows-inside : (s : Site) (h : Heading) → Knows (frame_of h) (inside_of s h)
+knows-inside s h = record { segments = refl; bits = refl; unused = never (has_segments h); not_full = never (has_segments h) }
+
+-- behind an element
+full-or-not : (k e : Bool) → not (not k && e) ≡ (k || not e)
+full-or-not true e = refl
+full-or-not false e = refl
+
+pub unused-of : (h : Heading) (c : List ℕ) → h.constructed ≡ false → has_unused (checked (unchecked h) c) ≡ has_unused_bits (Sibling h (first_octet c))
+unused-of h [] e = by-none (is_universal h.class) (h.number == bit_string)
+  where
+    by-none : (a b : Bool) → (a && b && false) ≡ false
+    by-none true true = refl
+    by-none true false = refl
+    by-none false b = refl
+unused-of h (x ∷ c) e = rw e refl
+
+primitive-in : (w : Frame) (size : ℕ) (unused k : Bool) (h : Heading) → is_primitive h ≡ k → noted w (is_primitive h) size unused ≡ noted w k size unused
+primitive-in w size unused k h e = ap (λ (b : Bool). noted w b size unused) e
+
+pub knows-behind : (w : Frame) (s t : Site) (h : Heading) (first : Option ℕ) (unused : Bool) → Knows w s → t.holder ≡ s.holder → t.before ≡ Sibling h first
+    → unused ≡ has_unused_bits (Sibling h first) → Knows (noted w (is_primitive h) (announced h.size) unused) t
+knows-behind w s t h first unused k e b u =
+    let same : in_string s ≡ in_string t = ap (is_held_by has_segments) (sym e) in
+    record {
+      segments = k.segments ∙ same;
+      bits = k.bits ∙ ap (is_held_by (λ h. has_segments h && is_a bit_string h)) (sym e);
+      unused = ap₂ (λ (x y : Bool). x && y) (k.segments ∙ same) (u ∙ ap has_unused_bits (sym b));
+      not_full = ap₂ (λ (x y : Bool). x && y) (k.segments ∙ same) (full-or-not h.constructed (announced h.size == 1000) ∙ ap is_not_full (sym b));
+    }
+
+pub knows-padding : (w : Frame) (s : Site) → Knows w s → s.holder ≡ None → Knows w (behind_padding s)
+knows-padding w s k e =
+    let none : in_string s ≡ false = ap (is_held_by has_segments) e in
+    record {
+      segments = k.segments;
+      bits = k.bits;
+      unused = k.unused ∙ ap (λ (b : Bool). b && has_unused_bits s.before) none ∙ ap (λ (b : Bool). b && false) (sym none);
+      not_full = k.not_full ∙ ap (λ (b : Bool). b && is_not_full s.before) none ∙ ap (λ (b : Bool). b && false) (sym none);
+    }
+
+-- a frame behind elements of which none is open
+abbrev pub noted_all : Frame → Forest → Frame
+noted_all w Stop = w
+noted_all w (Fill rest) = noted_all w rest
+noted_all w (Whole h c rest) = noted_all (noted w true (announced h.size) (has_unused (checked (unchecked h) c))) rest
+noted_all w (Closed h inside rest) = noted_all (noted w (is_primitive h) (announced h.size) false) rest
+noted_all w (Partial h c) = w
+noted_all w (Entered h inside) = w
+noted_all w (Awaiting h) = w
+noted_all w (Begun octets) = w
+noted_all w Zero = w
+
+-- a primitive that holds nothing is not constructed
+pub not-constructed : (k wraps : Bool) → (k || wraps) ≡ false → k ≡ false
+not-constructed true wraps e = absurd (true≢false e)
+not-constructed false wraps e = refl
+
+abbrev added : ℕ → ℕ → List Heading → ℕ
+added bits n hs = fold (λ (m : ℕ) (g : Heading). m + (announced g.size - bits)) n hs
+
+abbrev bit_of : Bool → ℕ
+bit_of b = if b then 1 else 0
+
+pub record SumsUp (w : Frame) (n : ℕ) (f : Forest) : Type 0 where
+  pub at : (noted_all w f).at ≡ w.at
+  pub size : (noted_all w f).size ≡ w.size
+  pub primitive : (noted_all w f).is_primitive ≡ w.is_primitive
+  pub segments : (noted_all w f).has_segments ≡ w.has_segments
+  pub bits : (noted_all w f).has_bits ≡ w.has_bits
+  pub all : (noted_all w f).all_primitive ≡ (w.all_primitive && list_all is_primitive (heads f))
+  pub octets : (noted_all w f).octets ≡ min (added (bit_of w.has_bits) n (heads f)) 1001
+  pub empty : (noted_all w f).is_empty ≡ ends_empty w.is_empty (heads f)
+
+and-true : (a : Bool) → a ≡ (a && true)
+and-true true = refl
+and-true false = refl
+
+more-octets : (w n d : ℕ) → w ≡ min n 1001 → min (w + d) 1001 ≡ min (n + d) 1001
+more-octets w n d e = omega (arith, e)
+
+pub sums-up : (p : Place) (w : Frame) (n : ℕ) (f : Forest) → IsOpen p f → is_whole f ≡ true → w.octets ≡ min n 1001 → SumsUp w n f
+sums-up p w n Stop v e o =
+    record { at = refl; size = refl; primitive = refl; segments = refl; bits = refl; all = and-true w.all_primitive; octets = o; empty = refl }
+sums-up p w n (Fill rest) v e o =
+    let r = sums-up (after p 1) w n rest v.1 e o in
+    record { at = r.at; size = r.size; primitive = r.primitive; segments = r.segments; bits = r.bits; all = r.all; octets = r.octets; empty = r.empty }
+sums-up p w n (Whole h c rest) v e o =
+    let d : ℕ = announced h.size - bit_of w.has_bits in
+    let k : is_primitive h ≡ true = ap not (not-constructed h.constructed (wraps h) v.0.header.form) in
+    let u : Bool = has_unused (checked (unchecked h) c) in
+    let r = sums-up (after p (length (octets_of h) + length c)) (noted w true (announced h.size) u) (n + d) rest v.1 e (more-octets w.octets n d o) in
+    record {
+      at = r.at;
+      size = r.size;
+      primitive = r.primitive;
+      segments = r.segments;
+      bits = r.bits;
+      all = r.all ∙ and_assoc w.all_primitive true (list_all is_primitive (heads rest)) ∙ ap (λ (b : Bool). w.all_primitive && (b && list_all is_primitive (heads rest))) (sym k);
+      octets = r.octets;
+      empty = r.empty ∙ ap (λ (b : Bool). ends_empty (b && announced h.size == 0) (heads rest)) (sym k);
+    }
+sums-up p w n (Closed h inside rest) v e o =
+    let d : ℕ = announced h.size - bit_of w.has_bits in
+    let r = sums-up (after p (extent h inside)) (noted w (is_primitive h) (announced h.size) false) (n + d) rest v.2 e (more-octets w.octets n d o) in
+    record {
+      at = r.at;
+      size = r.size;
+      primitive = r.primitive;
+      segments = r.segments;
+      bits = r.bits;
+      all = r.all ∙ and_assoc w.all_primitive (is_primitive h) (list_all is_primitive (heads rest));
+      octets = r.octets;
+      empty = r.empty;
+    }
+sums-up p w n (Partial h c) v e o = absurd (cc (e))
+sums-up p w n (Entered h inside) v e o = absurd (cc (e))
+sums-up p w n (Awaiting h) v e o = absurd (cc (e))
+sums-up p w n (Begun octets) v e o = absurd (cc (e))
+sums-up p w n Zero v e o = absurd (cc (e))
+
+-- what is found with an end, by the frame of what was held
+pub summed : (rules : Rules) (p : Place) (h : Heading) (inside : Forest) → IsOpen p inside → is_whole inside ≡ true → end_notes rules (noted_all (frame_of h) inside) ≡ end_findings rules h (heads inside)
+summed rules p h inside v e =
+    let r = sums-up p (frame_of h) 0 inside v e refl in
+    let w : Frame = noted_all (frame_of h) inside in
+    let k : Bool = has_segments h in
+    let b : Bool = is_a bit_string h in
+    ends-are rules w
+    ∙ ap₂ (λ (x y : Bool). ends_by rules x y w.all_primitive w.octets w.is_empty) r.segments r.bits
+    ∙ ap₂ (λ (x y : Bool). ends_by rules k (k && b) x w.octets y) r.all r.empty
+    ∙ ap (λ (n : ℕ). ends_by rules k (k && b) (list_all is_primitive (heads inside)) n (ends_empty false (heads inside))) r.octets
+    ∙ end-by rules k b (list_all is_primitive (heads inside)) (ends_empty false (heads inside)) (λ (n : ℕ). added n 0 (heads inside))
+    ∙ sym (filter-held rules (end_conditions h (heads inside)))

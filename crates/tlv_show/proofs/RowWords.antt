@@ -1,0 +1,42 @@
+-- What rows of findings are said with: an input, and what is written of it.
+use Rattle.std.proofs.Common.{ℕ, true, false, List, [], ◌∷◌, ◌++◌, None, Some}
+use Rattle.std.specs.Prelude.{flat_map}
+use Rattle.tlv_value.specs.declared.layout.Layout.{Layout}
+use Rattle.tlv_value.specs.Value.{no_names}
+use Rattle.tlv_walk.specs.declared.framing.Framing.{Framing}
+use Rattle.tlv_walk.proofs.Readings.{reading}
+use Rattle.tlv_show.specs.declared.rules.Rules.{Rules}
+use Rattle.tlv_show.specs.Texts.{check_text, dump_text, found_count}
+
+abbrev pub plain : Framing
+plain = record { inside = []; padding = false }
+
+abbrev pub padded : Framing
+padded = record { inside = []; padding = true }
+
+abbrev pub naming : ℕ → Framing
+naming n = record { inside = n ∷ []; padding = false }
+
+abbrev pub full : Layout
+full = record { level = 0; limit = None; pure = false }
+
+abbrev pub pure_layout : Layout
+pure_layout = record { level = 0; limit = None; pure = true }
+
+abbrev pub at_most : ℕ → Layout
+at_most n = record { level = 0; limit = Some n; pure = false }
+
+-- what is written, and how many findings there are
+pub record Answer : Type 0 where
+  pub text : List ℕ
+  pub count : ℕ
+
+abbrev pub dumped : Framing → Layout → Rules → List ℕ → Answer
+dumped framing layout rules b = let f = reading framing b in record { text = dump_text no_names layout rules f; count = found_count rules f }
+
+abbrev pub checked : Framing → Rules → List ℕ → Answer
+checked framing rules b = let f = reading framing b in record { text = check_text rules f; count = found_count rules f }
+
+-- so many findings, and these lines
+abbrev pub says : ℕ → List (List ℕ) → Answer
+says n lines = record { text = flat_map (λ line. line ++ 10 ∷ []) lines; count = n }

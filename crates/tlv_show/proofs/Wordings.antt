@@ -1,0 +1,71 @@
+-- How long the wordings of findings are.
+use Rattle.std.proofs.Common.{◌≤◌, length, arith}
+use Rattle.tlv_value.specs.declared.finding.Finding.{Finding}
+use Rattle.tlv_value.specs.declared.finding.Finding.TheVariants.{B01, B02, B03, B04, B05, B06, B07, B08, B09, B10, B11, B12, B13, B14, B15, B16, B17, B18, B19, S01, S02, S03, S04, D01, D02, C01, C02, C03, C04, C05, C06}
+use Rattle.tlv_value.specs.Finding.{code_of, text_of}
+
+pub short_code : (finding : Finding) → length (code_of finding) ≤ 3
+short_code B01 = omega arith
+short_code B02 = omega arith
+short_code B03 = omega arith
+short_code B04 = omega arith
+short_code B05 = omega arith
+short_code B06 = omega arith
+short_code B07 = omega arith
+short_code B08 = omega arith
+short_code B09 = omega arith
+short_code B10 = omega arith
+short_code B11 = omega arith
+short_code B12 = omega arith
+short_code B13 = omega arith
+short_code B14 = omega arith
+short_code B15 = omega arith
+short_code B16 = omega arith
+short_code B17 = omega arith
+short_code B18 = omega arith
+short_code B19 = omega arith
+short_code S01 = omega arith
+short_code S02 = omega arith
+short_code S03 = omega arith
+short_code S04 = omega arith
+short_code D01 = omega arith
+short_code D02 = omega arith
+short_code C01 = omega arith
+short_code C02 = omega arith
+short_code C03 = omega arith
+short_code C04 = omega arith
+short_code C05 = omega arith
+short_code C06 = omega arith
+
+pub short_text : (finding : Finding) → length (text_of finding) ≤ 40
+short_text B01 = omega arith
+short_text B02 = omega arith
+short_text B03 = omega arith
+short_text B04 = omega arith
+short_text B05 = omega arith
+short_text B06 = omega arith
+short_text B07 = omega arith
+short_text B08 = omega arith
+short_text B09 = omega arith
+short_text B10 = omega arith
+short_text B11 = omega arith
+short_text B12 = omega arith
+short_text B13 = omega arith
+short_text B14 = omega arith
+short_text B15 = omega arith
+short_text B16 = omega arith
+short_text B17 = omega arith
+short_text B18 = omega arith
+short_text B19 = omega arith
+short_text S01 = omega arith
+short_text S02 = omega arith
+short_text S03 = omega arith
+short_text S04 = omega arith
+short_text D01 = omega arith
+short_text D02 = omega arith
+short_text C01 = omega arith
+short_text C02 = omega arith
+short_text C03 = omega arith
+short_text C04 = omega arith
+short_text C05 = omega arith
+short_text C06 = omega arith

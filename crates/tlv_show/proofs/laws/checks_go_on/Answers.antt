@@ -1,0 +1,5 @@
+use Rattle.tlv_show.proofs.Longer.{checks_on}
+use Rattle.tlv_show.proofs.laws.checks_go_on.Goals as goal
+
+pub returns : goal.returns
+returns c = checks_on

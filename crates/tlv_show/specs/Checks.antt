@@ -1,0 +1,11 @@
+-- What a check over all that a source gives comes to.
+use Rattle.tlv_walk.specs.declared.framing.Framing.{Framing}
+use Rattle.tlv_walk.specs.Job.{Job}
+use Rattle.tlv_show.specs.declared.outcome.Outcome.{Outcome}
+use Rattle.tlv_show.specs.declared.rules.Rules.{Rules}
+use Rattle.tlv_show.specs.Shows.{showing}
+use Rattle.tlv_show.specs.Texts.{check_text, found_count}
+
+-- the findings of all elements, listed
+abbrev pub checking : Rules → Framing → Job Outcome
+checking rules framing = showing framing (check_text rules) (found_count rules)

@@ -1,0 +1,100 @@
+-- What is found in an element by the rules of X.690: each finding beside its condition, in the order of the codes.
+use Rattle.std.specs.Prelude.{ℕ, ◌+◌, ◌-◌, ◌%◌, Bool, false, ◌&&◌, ◌||◌, not, ◌==◌, nat_le, nat_lt, if◌then◌else◌, List, [], ◌∷◌, length, slice_index, Some, None, sum_by}
+use Rattle.std.specs.List.{list_all}
+use Rattle.tlv_head.specs.Header.{Heading, announced}
+use Rattle.tlv_value.specs.declared.finding.Finding.{Finding}
+use Rattle.tlv_value.specs.declared.finding.Finding.TheVariants.{B01, B02, B03, B04, B05, B16, B17, S01, D01, D02, C01, C02, C03, C04, C05, C06}
+use Rattle.tlv_value.specs.Types.{bit_string, constructed_types, has_segments, is_a, is_one_of, is_primitive, is_string, is_unassigned, octet_string, primitive_types}
+use Rattle.tlv_walk.specs.Place.{is_indefinite}
+use Rattle.tlv_show.specs.Site.{Before, Padding, Sibling, Site, Start, in_bit_string, in_string}
+
+-- ---- With the header
+
+-- 8.1.2.4: there are subsequent identifier octets
+abbrev pub has_high_form : Heading → Bool
+has_high_form h = nat_lt 1 (length h.identifier)
+
+-- 8.1.2.4.2 c): bits 7 to 1 of the first of them
+abbrev pub leading_bits : Heading → ℕ
+leading_bits h = slice_index h.identifier 1 % 128
+
+-- 8.1.3.5: there are subsequent length octets
+abbrev pub has_long_form : Heading → Bool
+has_long_form h = nat_lt 1 (length h.lengths)
+
+-- the first of them
+abbrev pub first_length : Heading → ℕ
+first_length h = slice_index h.lengths 1
+
+-- 8.6.4, 8.7.3: the type of the segments of a string
+abbrev pub segment_type : Site → ℕ
+segment_type s = if in_bit_string s then bit_string else octet_string
+
+-- 8.6.2.2: a primitive BIT STRING with unused bits
+abbrev pub has_unused_bits : Before → Bool
+has_unused_bits Start = false
+has_unused_bits Padding = false
+has_unused_bits (Sibling h None) = false
+has_unused_bits (Sibling h (Some x)) = is_primitive h && is_a bit_string h && not (x == 0)
+
+-- 9.2: an element, but no primitive of 1000 contents octets
+abbrev pub is_not_full : Before → Bool
+is_not_full Start = false
+is_not_full Padding = false
+is_not_full (Sibling h first) = h.constructed || not (announced h.size == 1000)
+
+abbrev pub header_conditions : Site → Heading → List (Bool × Finding)
+header_conditions s h =
+    -- 8.1.2.2: a number below 31 is in the single identifier octet
+    (has_high_form h && nat_lt h.number 31, B01)
+    -- 8.1.2.4.2 c): the subsequent octets do not begin with seven bits 0
+    ∷ (has_high_form h && leading_bits h == 0, B02)
+    -- X.680, table 1: the universal number is that of a type
+    ∷ (is_unassigned h, B03)
+    -- 8.2.1, 8.3.1, 8.4, 8.5.1, 8.8.1, 8.19.1, 8.20.1: the encodings of these types are primitive
+    ∷ (h.constructed && is_one_of primitive_types h, B04)
+    -- 8.9.1, 8.11.1, 8.17, 8.18, 8.24: the encodings of these types are constructed
+    ∷ (is_primitive h && is_one_of constructed_types h, B05)
+    -- 8.6.4: each segment of a BIT STRING but the last has a multiple of eight bits
+    ∷ (in_bit_string s && has_unused_bits s.before, B16)
+    -- 8.6.4, 8.7.3: a segment has the tag of BIT STRING in a BIT STRING, and of OCTET STRING in any other string
+    ∷ (in_string s && not (is_a (segment_type s) h), B17)
+    -- 9.1, 10.1: a definite length has the fewest octets
+    ∷ (has_long_form h && (nat_lt (announced h.size) 128 || first_length h == 0), S01)
+    -- 10.1: lengths are definite
+    ∷ (is_indefinite h.size, D01)
+    -- 10.2: strings are primitive
+    ∷ (has_segments h, D02)
+    -- 9.1: the length of a constructed element is indefinite
+    ∷ (h.constructed && not (is_indefinite h.size), C01)
+    -- 9.2: a primitive string has at most 1000 contents octets
+    ∷ (is_primitive h && is_string h && nat_lt 1000 (announced h.size), C02)
+    -- 9.2: segments are primitive
+    ∷ (h.constructed && in_string s, C03)
+    -- 9.2: each segment but the last has 1000 contents octets
+    ∷ (in_string s && is_not_full s.before, C04)
+    ∷ []
+
+-- ---- With the end of an element that holds others
+
+-- 8.6.2: the octet for unused bits, with which the contents of a BIT STRING begin
+abbrev pub bits_octet : Heading → ℕ
+bits_octet h = if is_a bit_string h then 1 else 0
+
+-- 9.2: how many contents octets a string with these segments would have as a primitive: those of each segment but for its
+-- octet for unused bits, and one such octet for the whole string
+abbrev pub total : Heading → List Heading → ℕ
+total h segments = bits_octet h + sum_by (λ (g : Heading). announced g.size - bits_octet h) segments
+
+-- whether the last of the elements is a primitive without contents octets, behind one that is or is not
+abbrev pub ends_empty : Bool → List Heading → Bool
+ends_empty empty [] = empty
+ends_empty empty (h ∷ hs) = ends_empty (is_primitive h && announced h.size == 0) hs
+
+abbrev pub end_conditions : Heading → List Heading → List (Bool × Finding)
+end_conditions h inside =
+    -- 9.2: a string of at most 1000 contents octets is primitive
+    (has_segments h && list_all is_primitive inside && nat_le (total h inside) 1000, C05)
+    -- 9.2: the last segment has one contents octet or more
+    ∷ (has_segments h && ends_empty false inside, C06)
+    ∷ []

@@ -1,0 +1,198 @@
+-- What is kept of elements so that what is found in them can be told event by event, and what is told. Nothing here is to be
+-- believed: `Items` has what is told, and a law has that it is the same.
+use Rattle.std.specs.Prelude.{ℕ, ◌+◌, ◌-◌, ◌^◌, Bool, true, false, ◌&&◌, ◌||◌, not, ◌==◌, nat_le, nat_lt, if◌then◌else◌, List, [], ◌∷◌, ◌++◌, length, max, min, take, Option, Some, None}
+use Rattle.std.specs.List.{filter}
+use Rattle.tlv_head.specs.Header.{Heading, announced}
+use Rattle.tlv_value.specs.declared.finding.Finding.{Finding}
+use Rattle.tlv_value.specs.declared.finding.Finding.TheVariants.{B01, B02, B03, B04, B05, B16, B17, S01, D01, D02, C01, C02, C03, C04, C05, C06}
+use Rattle.tlv_value.specs.CheckNotes.{where_it}
+use Rattle.tlv_value.specs.CheckState.{CheckState, checked, found_in, has_unused, unchecked}
+use Rattle.tlv_value.specs.Types.{bit_string, constructed_types, has_segments, is_a, is_one_of, is_primitive, is_string, is_unassigned, octet_string, primitive_types}
+use Rattle.tlv_walk.specs.Events.{Told, Open, Begin, Bytes, End, Close, Enter, Unused, Leave, Pad}
+use Rattle.tlv_walk.specs.Place.{is_indefinite}
+use Rattle.tlv_show.specs.declared.frames.Frame.{Frame}
+use Rattle.tlv_show.specs.declared.rules.Rules.{Rules}
+use Rattle.tlv_show.specs.declared.rules.Rules.TheVariants.{Ber, Der, Cer}
+use Rattle.tlv_show.specs.Conditions.{first_length, has_high_form, has_long_form, leading_bits}
+use Rattle.tlv_show.specs.Found.{shows}
+
+-- ---- Frames
+
+abbrev pub innermost_of : List Frame → Option Frame
+innermost_of [] = None
+innermost_of (w ∷ outer) = Some w
+
+-- at the top, where no element holds others
+abbrev pub top_frame : Frame
+top_frame = record {
+  at = 0;
+  size = 0;
+  is_primitive = false;
+  has_segments = false;
+  has_bits = false;
+  is_unused = false;
+  is_not_full = false;
+  all_primitive = true;
+  octets = 0;
+  is_empty = false;
+}
+
+-- inside an element that holds others
+abbrev pub frame_of : Heading → Frame
+frame_of h = record {
+  at = h.offset;
+  size = announced h.size;
+  is_primitive = is_primitive h;
+  has_segments = has_segments h;
+  has_bits = has_segments h && is_a bit_string h;
+  is_unused = false;
+  is_not_full = false;
+  all_primitive = true;
+  octets = 0;
+  is_empty = false;
+}
+
+-- behind an element more: whether it is primitive, how many contents octets it announces, and whether bits of it are unused
+abbrev pub noted : Frame → Bool → ℕ → Bool → Frame
+noted w primitive size unused = record w {
+  is_unused = w.has_segments && unused;
+  is_not_full = w.has_segments && not (primitive && size == 1000);
+  all_primitive = w.all_primitive && primitive;
+  octets = min (w.octets + (size - (if w.has_bits then 1 else 0))) 1001;
+  is_empty = primitive && size == 0;
+}
+
+-- ---- Findings, by a frame
+
+abbrev pub basic_notes : Frame → Heading → List Finding
+basic_notes w h =
+    where_it (has_high_form h && nat_lt h.number 31) B01
+    ++ where_it (has_high_form h && leading_bits h == 0) B02
+    ++ where_it (is_unassigned h) B03
+    ++ where_it (h.constructed && is_one_of primitive_types h) B04
+    ++ where_it (is_primitive h && is_one_of constructed_types h) B05
+    ++ where_it (w.has_bits && w.is_unused) B16
+    ++ where_it (w.has_segments && not (is_a (if w.has_bits then bit_string else octet_string) h)) B17
+
+abbrev pub length_notes : Heading → List Finding
+length_notes h = where_it (has_long_form h && (nat_lt (announced h.size) 128 || first_length h == 0)) S01
+
+abbrev pub der_notes : Heading → List Finding
+der_notes h = where_it (is_indefinite h.size) D01 ++ where_it (has_segments h) D02
+
+abbrev pub cer_notes : Frame → Heading → List Finding
+cer_notes w h =
+    where_it (h.constructed && not (is_indefinite h.size)) C01
+    ++ where_it (is_primitive h && is_string h && nat_lt 1000 (announced h.size)) C02
+    ++ where_it (h.constructed && w.has_segments) C03
+    ++ where_it w.is_not_full C04
+
+abbrev pub header_notes : Rules → Frame → Heading → List Finding
+header_notes Ber w h = basic_notes w h
+header_notes Der w h = basic_notes w h ++ length_notes h ++ der_notes h
+header_notes Cer w h = basic_notes w h ++ length_notes h ++ cer_notes w h
+
+-- with the end of an element that holds others
+abbrev pub end_notes : Rules → Frame → List Finding
+end_notes Ber w = []
+end_notes Der w = []
+end_notes Cer w =
+    where_it (w.has_segments && w.all_primitive && nat_le ((if w.has_bits then 1 else 0) + w.octets) 1000) C05
+    ++ where_it (w.has_segments && w.is_empty) C06
+
+-- ---- What contracts see of a `Finder`
+
+-- the primitive that is open: where it begins, and what is noted of its contents
+pub record OpenValue : Type 0 where
+  pub at : ℕ
+  pub check : CheckState
+
+-- a primitive, if one is open
+abbrev pub begun_at : ℕ → Option CheckState → Option OpenValue
+begun_at at None = None
+begun_at at (Some check) = Some (record { at = at; check = check })
+
+abbrev pub open_by : Bool → ℕ → Option CheckState → Option OpenValue
+open_by is_open at check = if is_open then begun_at at check else None
+
+pub record FinderState : Type 0 where
+  pub rules : Rules
+  -- the frame of the innermost element that is open, or of the top, and those outside, innermost first
+  pub frame : Frame
+  pub outer : List Frame
+  pub value : Option OpenValue
+  -- how many findings were told; it stops at 2^64 - 1
+  pub count : ℕ
+
+abbrev pub no_findings : Rules → FinderState
+no_findings rules = record { rules = rules; frame = top_frame; outer = []; value = None; count = 0 }
+
+-- it becomes `state`, and these are found in the element that begins at the offset and that so many elements hold
+pub record Finds : Type 0 where
+  pub state : FinderState
+  pub level : ℕ
+  pub at : ℕ
+  pub found : List Finding
+
+abbrev pub count_up : ℕ → ℕ → ℕ
+count_up count n = max count (min (count + n) (2 ^ 64 - 1))
+
+-- findings are counted
+abbrev pub finds : FinderState → ℕ → ℕ → List Finding → Finds
+finds s level at found = record { state = record s { count = count_up s.count (length found) }; level = level; at = at; found = found }
+
+abbrev pub finds_nothing : FinderState → Finds
+finds_nothing s = record { state = s; level = 0; at = 0; found = [] }
+
+-- ---- What it makes of an event
+
+-- an element that holds others begins. Past 128 of them no frame is kept
+abbrev pub entered_in : FinderState → Heading → FinderState
+entered_in s h = if nat_lt (length s.outer) 128 then record s { frame = frame_of h; outer = s.frame ∷ s.outer } else s
+
+abbrev pub find_open : FinderState → Heading → Finds
+find_open s h = finds (entered_in s h) (length s.outer) h.offset (header_notes s.rules s.frame h)
+
+-- a primitive begins
+abbrev pub find_begin : FinderState → Heading → Finds
+find_begin s h = finds (record s { value = Some (record { at = h.offset; check = unchecked h }) }) (length s.outer) h.offset (header_notes s.rules s.frame h)
+
+-- contents octets: no more count than were announced
+abbrev pub checked_by : Option OpenValue → List ℕ → Option OpenValue
+checked_by None octets = None
+checked_by (Some v) octets = Some (record v { check = checked v.check (take v.check.left octets) })
+
+abbrev pub find_bytes : FinderState → List ℕ → FinderState
+find_bytes s octets = if length octets == 0 then s else record s { value = checked_by s.value octets }
+
+-- a primitive ends, of which all contents octets have come
+abbrev pub contents_notes : Rules → CheckState → List Finding
+contents_notes rules t = if t.left == 0 then filter (shows rules) (found_in t) else []
+
+abbrev pub ended_by : FinderState → Option OpenValue → Finds
+ended_by s None = finds_nothing s
+ended_by s (Some v) =
+    finds (record s { frame = noted s.frame true v.check.size (has_unused v.check); value = None }) (length s.outer) v.at (contents_notes s.rules v.check)
+
+abbrev pub find_end : FinderState → Finds
+find_end s = ended_by s s.value
+
+-- an element that holds others ends
+abbrev pub closed_by : FinderState → List Frame → Finds
+closed_by s [] = finds_nothing s
+closed_by s (w ∷ outer) = finds (record s { frame = noted w s.frame.is_primitive s.frame.size false; outer = outer }) (length outer) s.frame.at (end_notes s.rules s.frame)
+
+abbrev pub find_close : FinderState → Finds
+find_close s = closed_by s s.outer
+
+-- an event
+abbrev pub find : FinderState → Told → Finds
+find s (Open h) = find_open s h
+find s (Begin h) = find_begin s h
+find s (Bytes octets) = finds_nothing (find_bytes s octets)
+find s End = find_end s
+find s (Close at) = find_close s
+find s (Enter h) = find_open s h
+find s Unused = finds_nothing s
+find s Leave = find_close s
+find s (Pad octets) = finds_nothing s

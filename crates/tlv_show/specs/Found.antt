@@ -1,0 +1,31 @@
+-- What is found in an element, by rules.
+use Rattle.std.specs.Prelude.{ℕ, Bool, List, slice_index, codes}
+use Rattle.std.specs.List.{filter}
+use Rattle.tlv_head.specs.Header.{Heading}
+use Rattle.tlv_value.specs.declared.finding.Finding.{Finding}
+use Rattle.tlv_value.specs.Checks.{contents_findings as found_on_contents, held}
+use Rattle.tlv_value.specs.Finding.{code_of}
+use Rattle.tlv_value.specs.Types.{is_among}
+use Rattle.tlv_show.specs.declared.rules.Rules.{Rules}
+use Rattle.tlv_show.specs.declared.rules.Rules.TheVariants.{Ber, Der, Cer}
+use Rattle.tlv_show.specs.Conditions.{end_conditions, header_conditions}
+use Rattle.tlv_show.specs.Site.{Site}
+
+-- the letters of the codes: B is of all encodings, S of those by DER and those by CER, D and C of one of them
+abbrev pub letters : Rules → List ℕ
+letters Ber = codes "B"
+letters Der = codes "BSD"
+letters Cer = codes "BSC"
+
+abbrev pub shows : Rules → Finding → Bool
+shows rules finding = is_among (slice_index (code_of finding) 0) (letters rules)
+
+-- with the header; with the last octet of a primitive; with the end of an element that holds others, by the headers of these
+abbrev pub header_findings : Rules → Site → Heading → List Finding
+header_findings rules s h = filter (shows rules) (held (header_conditions s h))
+
+abbrev pub contents_findings : Rules → Heading → List ℕ → List Finding
+contents_findings rules h c = filter (shows rules) (found_on_contents h c)
+
+abbrev pub end_findings : Rules → Heading → List Heading → List Finding
+end_findings rules h inside = filter (shows rules) (held (end_conditions h inside))

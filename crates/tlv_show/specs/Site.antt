@@ -1,0 +1,62 @@
+-- Where an element stands among others: X.690 8.1.1, 8.1.4.
+use Rattle.std.specs.Prelude.{ℕ, ◌+◌, Bool, true, false, ◌&&◌, List, [], ◌∷◌, length, Option, Some, None}
+use Rattle.tlv_head.specs.Header.{Heading, octets_of}
+use Rattle.tlv_value.specs.Types.{bit_string, has_segments, is_a}
+use Rattle.tlv_walk.specs.Forest.{Forest, extent, opening}
+
+-- what stands right before an element, in what holds it
+pub data Before : Type 0 where
+  -- nothing: it is the first
+  Start : Before
+  -- octets 00 between encodings
+  Padding : Before
+  -- an element. Of a primitive that wraps nothing the first contents octet is kept, if there is one
+  Sibling : (head : Heading) (first : Option ℕ) → Before
+
+pub record Site : Type 0 where
+  -- the offset of its first octet
+  pub at : ℕ
+  -- how many elements hold it
+  pub level : ℕ
+  -- the innermost of these
+  pub holder : Option Heading
+  pub before : Before
+
+-- the start of the input
+abbrev pub top : Site
+top = record { at = 0; level = 0; holder = None; before = Start }
+
+abbrev pub first_octet : List ℕ → Option ℕ
+first_octet [] = None
+first_octet (x ∷ octets) = Some x
+
+-- behind a primitive
+abbrev pub behind : Site → Heading → List ℕ → Site
+behind s h c = record s { at = s.at + (length (octets_of h) + length c); before = Sibling h (first_octet c) }
+
+-- inside an element that holds others, and behind it
+abbrev pub inside_of : Site → Heading → Site
+inside_of s h = record { at = s.at + length (opening h); level = s.level + 1; holder = Some h; before = Start }
+
+abbrev pub behind_holder : Site → Heading → Forest → Site
+behind_holder s h inside = record s { at = s.at + extent h inside; before = Sibling h None }
+
+-- behind an octet of padding
+abbrev pub behind_padding : Site → Site
+behind_padding s = record s { at = s.at + 1; before = Padding }
+
+abbrev pub is_padding : Before → Bool
+is_padding Start = false
+is_padding Padding = true
+is_padding (Sibling h first) = false
+
+abbrev pub is_held_by : (Heading → Bool) → Option Heading → Bool
+is_held_by test None = false
+is_held_by test (Some h) = test h
+
+-- 8.6.4, 8.7.3: in a constructed string: the element is a segment of it
+abbrev pub in_string : Site → Bool
+in_string s = is_held_by has_segments s.holder
+
+abbrev pub in_bit_string : Site → Bool
+in_bit_string s = is_held_by (λ h. has_segments h && is_a bit_string h) s.holder

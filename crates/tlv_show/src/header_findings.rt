@@ -1,0 +1,269 @@
+//! What is found with a header, and with the end of an element that holds others.
+ghost use Rattle.std.specs.Prelude.{◌≡◌, ◌<◌, ◌≤◌, ◌+◌, ◌++◌, ◌&&◌, ◌||◌, ◌==◌, if◌then◌else◌, nat_le, nat_lt, length};
+ghost use Rattle.tlv_head.specs.Header.{announced, is_universal as is_universal_class};
+ghost use Rattle.tlv_value.specs.CheckNotes.{where_it};
+ghost use Rattle.tlv_value.specs.Types.{
+  bit_string,
+  constructed_types,
+  is_a,
+  is_one_of,
+  is_string as is_string_of,
+  is_unassigned as is_unassigned_of,
+  octet_string,
+  primitive_types,
+};
+ghost use Rattle.tlv_walk.specs.Place.{is_indefinite as is_indefinite_of};
+ghost use Rattle.tlv_show.specs.Conditions.{first_length, has_high_form as has_high_form_of, has_long_form, leading_bits};
+ghost use Rattle.tlv_show.specs.FinderState.{basic_notes, cer_notes, der_notes, end_notes as end_notes_of, header_notes, length_notes};
+
+use crate::Rules;
+use crate::frames::Frame;
+use arrayvec::ArrayVec;
+use tlv_head::{Class, Header, Size};
+use tlv_value::Finding;
+
+/// What is found with a header, in order, by the frame of the element that holds it.
+pub(crate) fn header_findings(rules: Rules, frame: &Frame, header: &Header) -> ArrayVec<Finding, 16>
+    ensures { result.items ≡ header_notes rules frame.now header.now }
+{
+    let mut found = basic_findings(frame, header);
+    match rules {
+        Rules::Ber => {}
+        Rules::Der => {
+            note_length(header, &mut found);
+            note_der(header, &mut found);
+        }
+        Rules::Cer => {
+            note_length(header, &mut found);
+            note_cer(frame, header, &mut found);
+        }
+    }
+    found
+}
+
+/// What is found with the end of the element whose frame this is.
+pub(crate) fn end_findings(rules: Rules, frame: &Frame) -> ArrayVec<Finding, 16>
+    ensures { result.items ≡ end_notes_of rules frame.now }
+{
+    let mut found = ArrayVec::new();
+    if matches!(rules, Rules::Cer) {
+        note(
+            frame.has_segments && frame.all_primitive && fits(frame),
+            Finding::C05,
+            &mut found,
+        );
+        note(
+            frame.has_segments && frame.is_empty,
+            Finding::C06,
+            &mut found,
+        );
+    }
+    found
+}
+
+/// Whether a string with the segments of this frame has at most 1000 contents octets as a primitive.
+fn fits(frame: &Frame) -> bool
+    ensures { result ≡ nat_le ((if frame.now.has_bits then 1 else 0) + frame.now.octets) 1000 }
+{
+    frame.octets <= if frame.has_bits { 999 } else { 1000 }
+}
+
+/// Adds a finding, where it is there.
+fn note(there: bool, finding: Finding, found: &mut ArrayVec<Finding, 16>)
+    requires { length found.old.items < 16 }
+    ensures items { found.new.items ≡ found.old.items ++ where_it there finding }
+    ensures few { length found.new.items ≤ length found.old.items + 1 }
+{
+    if there {
+        found.push(finding);
+    }
+}
+
+/// What violates the rules of all encodings.
+fn basic_findings(frame: &Frame, header: &Header) -> ArrayVec<Finding, 16>
+    ensures items { result.items ≡ basic_notes frame.now header.now }
+    ensures few { length result.items ≤ 7 }
+{
+    let mut found = ArrayVec::new();
+    let is_high = has_high_form(header);
+    note(is_high && header.number < 31, Finding::B01, &mut found);
+    note(
+        is_high && begins_with_zero_bits(header),
+        Finding::B02,
+        &mut found,
+    );
+    note(is_unassigned(header), Finding::B03, &mut found);
+    note(
+        header.constructed && is_always_primitive(header),
+        Finding::B04,
+        &mut found,
+    );
+    note(
+        !header.constructed && is_always_constructed(header),
+        Finding::B05,
+        &mut found,
+    );
+    note(
+        frame.has_bits && frame.is_unused,
+        Finding::B16,
+        &mut found,
+    );
+    note(
+        frame.has_segments && !is_segment(frame.has_bits, header),
+        Finding::B17,
+        &mut found,
+    );
+    found
+}
+
+/// Adds a length that is not the shortest.
+fn note_length(header: &Header, found: &mut ArrayVec<Finding, 16>)
+    requires { length found.old.items ≤ 7 }
+    ensures items { found.new.items ≡ found.old.items ++ length_notes header.now }
+    ensures few { length found.new.items ≤ 8 }
+{
+    note(is_length_padded(header), Finding::S01, found);
+}
+
+/// Adds what violates the rules of DER alone.
+fn note_der(header: &Header, found: &mut ArrayVec<Finding, 16>)
+    requires { length found.old.items ≤ 8 }
+    ensures { found.new.items ≡ found.old.items ++ der_notes header.now }
+{
+    note(is_indefinite(header), Finding::D01, found);
+    note(
+        header.constructed && is_string(header),
+        Finding::D02,
+        found,
+    );
+}
+
+/// Adds what violates the rules of CER alone.
+fn note_cer(frame: &Frame, header: &Header, found: &mut ArrayVec<Finding, 16>)
+    requires { length found.old.items ≤ 8 }
+    ensures { found.new.items ≡ found.old.items ++ cer_notes frame.now header.now }
+{
+    note(
+        header.constructed && !is_indefinite(header),
+        Finding::C01,
+        found,
+    );
+    note(
+        !header.constructed && is_string(header) && size_of(header) > 1000,
+        Finding::C02,
+        found,
+    );
+    note(
+        header.constructed && frame.has_segments,
+        Finding::C03,
+        found,
+    );
+    note(frame.is_not_full, Finding::C04, found);
+}
+
+/// The identifier octets.
+fn identifier_of(header: &Header) -> &[u8]
+    ensures { result.now ≡ header.now.identifier }
+{
+    let raw = header.raw();
+    &raw[..usize::from(header.id_len).min(raw.len())]
+}
+
+/// The length octets.
+fn lengths_of(header: &Header) -> &[u8]
+    ensures { result.now ≡ header.now.lengths }
+{
+    let raw = header.raw();
+    &raw[usize::from(header.id_len).min(raw.len())..]
+}
+
+/// Whether the tag is in the high form (8.1.2.4).
+fn has_high_form(header: &Header) -> bool
+    ensures { result ≡ has_high_form_of header.now }
+{
+    identifier_of(header).len() > 1
+}
+
+/// Whether bits 7 to 1 of the first subsequent identifier octet are 0 (8.1.2.4.2 c).
+fn begins_with_zero_bits(header: &Header) -> bool
+    ensures { result ≡ (leading_bits header.now == 0) }
+{
+    match identifier_of(header) {
+        [_, first, ..] => first % 128 == 0,
+        _ => true,
+    }
+}
+
+/// Whether fewer length octets would do (9.1, 10.1).
+fn is_length_padded(header: &Header) -> bool
+    ensures { result ≡ (has_long_form header.now && (nat_lt (announced header.now.size) 128 || first_length header.now == 0)) }
+{
+    match lengths_of(header) {
+        [_, first, ..] => size_of(header) < 128 || *first == 0,
+        _ => false,
+    }
+}
+
+/// How many contents octets the header announces; none in the indefinite form.
+pub(crate) fn size_of(header: &Header) -> u64
+    ensures { result ≡ announced header.now.size }
+{
+    match header.size {
+        Size::Definite(size) => size,
+        Size::Indefinite => 0,
+    }
+}
+
+fn is_indefinite(header: &Header) -> bool
+    ensures { result ≡ is_indefinite_of header.now.size }
+{
+    matches!(header.size, Size::Indefinite)
+}
+
+fn is_universal(header: &Header) -> bool
+    ensures { result ≡ is_universal_class header.now.class }
+{
+    matches!(header.class, Class::Universal)
+}
+
+/// Whether no type has this universal number.
+fn is_unassigned(header: &Header) -> bool
+    ensures { result ≡ is_unassigned_of header.now }
+{
+    is_universal(header) && (header.number == 0 || header.number == 15 || header.number >= 37)
+}
+
+/// Whether the encodings of the type are primitive.
+fn is_always_primitive(header: &Header) -> bool
+    ensures { result ≡ is_one_of primitive_types header.now }
+{
+    is_universal(header) && matches!(header.number, 1 | 2 | 5 | 6 | 9 | 10 | 13)
+}
+
+/// Whether the encodings of the type are constructed.
+fn is_always_constructed(header: &Header) -> bool
+    ensures { result ≡ is_one_of constructed_types header.now }
+{
+    is_universal(header) && matches!(header.number, 8 | 11 | 16 | 17 | 29)
+}
+
+/// Whether the type is that of a string, with the strings of characters and the two times.
+pub(crate) fn is_string(header: &Header) -> bool
+    ensures { result ≡ is_string_of header.now }
+{
+    is_universal(header) && matches!(header.number, 3 | 4 | 7 | 12 | 30 | 18..=28)
+}
+
+/// Whether the type is BIT STRING.
+pub(crate) fn is_bit_string(header: &Header) -> bool
+    ensures { result ≡ is_a bit_string header.now }
+{
+    is_universal(header) && header.number == 3
+}
+
+/// Whether the tag is that of a segment, of a BIT STRING or of any other string.
+fn is_segment(has_bits: bool, header: &Header) -> bool
+    ensures { result ≡ is_a (if has_bits then bit_string else octet_string) header.now }
+{
+    is_universal(header) && header.number == if has_bits { 3 } else { 4 }
+}

@@ -1,0 +1,266 @@
+//! The lines of a dump that are no findings.
+ghost use Rattle.std.specs.Prelude.{◌≡◌, ◌≤◌, ◌-◌, ◌^◌, OnOk, length};
+ghost use Rattle.tlv_walk.specs.Follow.{each_octet};
+ghost use Rattle.tlv_walk.specs.Out.{Puts};
+ghost use Rattle.tlv_walk.specs.Tells.{told_of};
+ghost use Rattle.tlv_show.specs.Dumped.{
+  dumped,
+  dumped_begin,
+  dumped_close,
+  dumped_end,
+  dumped_open,
+  entered,
+  fresh,
+  one_dumped,
+  one_padded,
+};
+
+use crate::lines::{write_closing, write_opening, write_padding};
+use std::marker::Model;
+use tlv_head::Header;
+use tlv_value::{Layout, Line, Names, ValueText};
+use tlv_walk::{Drain, Event, Out, WriteFault};
+
+/// Writes the lines that each event allows. The line of an element that holds others comes with its header, and that
+/// of its end with its end; those of a primitive come as [`ValueText`] writes them.
+#[derive(Drop)]
+pub(crate) struct Lines<'n> {
+    /// How lines are laid out: the level is how many elements are open that hold others.
+    layout: Layout,
+    names: &'n Names,
+    /// Where the next octet stands.
+    offset: u64,
+    /// Whether the last octets were padding.
+    in_padding: bool,
+    /// Whether a primitive is open.
+    is_open: bool,
+    /// The primitive that is open, or the last one. It is used again for the next one, so its room is not filled anew
+    /// each time.
+    value: Option<ValueText>,
+    line: Line,
+}
+
+impl<'n> Model for Lines<'n> {
+    ghost use Rattle.std.specs.Coded.{codes};
+    ghost use Rattle.tlv_show.specs.Dumped.{Dumping, if_open};
+    ghost use Rattle.tlv_value.specs.Names.{table_code};
+
+    ghost Value = { Dumping };
+
+    ghost coded = { Prim.hlevel (codes, table_code) };
+
+    ghost view = { λ d. record {
+      layout = d.layout;
+      names = d.names.now;
+      offset = d.offset;
+      in_padding = d.in_padding;
+      value = if_open d.is_open d.value;
+    } };
+}
+
+impl<'n> Lines<'n> {
+    /// Lines in this layout, of which none is written.
+    pub fn new(layout: Layout, names: &'n Names) -> Lines<'n>
+        ensures { result ≡ fresh layout names.now }
+    {
+        Lines {
+            layout,
+            names,
+            offset: 0,
+            in_padding: false,
+            is_open: false,
+            value: None,
+            line: Line::new(),
+        }
+    }
+
+    /// How lines are laid out.
+    pub fn layout(&self) -> Layout
+        ensures { result ≡ self.now.layout }
+    {
+        self.layout
+    }
+
+    /// Puts the lines that an event allows.
+    #[inline(always)]
+    pub fn show<D: Drain>(
+        &mut self,
+        event: &Event<'_>,
+        out: &mut Out<'_, D>,
+    ) -> Result<(), WriteFault>
+        ensures state { OnOk result (self.new ≡ (dumped self.old (told_of event.now)).state) }
+        ensures puts { Puts D.told out.old out.new (dumped self.old (told_of event.now)).put result }
+    {
+        match event {
+            Event::Open(header) => self.open(header, b" {", out),
+            Event::Enter(header) => self.open(header, b" wraps {", out),
+            Event::Begin(header) => self.begin(header, out),
+            Event::Bytes(octets) => self.bytes(octets, out),
+            Event::End => self.end(out),
+            Event::Close(at) => self.close(*at, out),
+            Event::Leave => self.close(None, out),
+            Event::Unused => {
+                self.offset = self.offset.saturating_add(1);
+                Ok(())
+            }
+            Event::Pad(octets) => self.pad(octets, out),
+        }
+    }
+
+    /// An element begins: padding ends, and its contents stand behind its header.
+    #[inline(always)]
+    fn enter(&mut self, header: &Header)
+        ensures { self.new ≡ entered self.old header.now }
+    {
+        self.offset = header.offset.saturating_add(header.raw().len() as u64);
+        self.in_padding = false;
+    }
+
+    /// An element that holds others begins.
+    #[inline(always)]
+    fn open<D: Drain>(
+        &mut self,
+        header: &Header,
+        word: &[u8],
+        out: &mut Out<'_, D>,
+    ) -> Result<(), WriteFault>
+        requires { length word.now ≤ 16 }
+        ensures state { OnOk result (self.new ≡ (dumped_open self.old header.now word.now).state) }
+        ensures puts { Puts D.told out.old out.new (dumped_open self.old header.now word.now).put result }
+    {
+        write_opening(&mut self.line, self.layout, header, word);
+        out.put(self.line.as_slice())?;
+        self.layout.level = self.layout.level.saturating_add(1);
+        self.enter(header);
+        Ok(())
+    }
+
+    /// An element that holds others ends: `at` is where its end-of-contents octets stand.
+    fn close<D: Drain>(&mut self, at: Option<u64>, out: &mut Out<'_, D>) -> Result<(), WriteFault>
+        ensures state { OnOk result (self.new ≡ (dumped_close self.old at).state) }
+        ensures puts { Puts D.told out.old out.new (dumped_close self.old at).put result }
+    {
+        self.layout.level = self.layout.level.saturating_sub(1);
+        if let Some(at) = at {
+            self.offset = at.saturating_add(2);
+        }
+        write_closing(&mut self.line, self.layout, at);
+        out.put(self.line.as_slice())
+    }
+
+    /// A primitive begins.
+    #[inline(always)]
+    fn begin<D: Drain>(&mut self, header: &Header, out: &mut Out<'_, D>) -> Result<(), WriteFault>
+        ensures state { OnOk result (self.new ≡ (dumped_begin self.old header.now).state) }
+        ensures puts { Puts D.told out.old out.new (dumped_begin self.old header.now).put result }
+    {
+        self.enter(header);
+        self.is_open = true;
+        put_begin(&mut self.value, header, self.layout, out)
+    }
+
+    /// Contents of a primitive go on.
+    fn bytes<D: Drain>(&mut self, octets: &[u8], out: &mut Out<'_, D>) -> Result<(), WriteFault>
+        ensures state { OnOk result (self.new ≡ (each_octet one_dumped self.old octets.now).state) }
+        ensures puts { Puts D.told out.old out.new (each_octet one_dumped self.old octets.now).put result }
+    {
+        self.offset = self.offset.saturating_add(octets.len() as u64);
+        put_bytes(self.is_open, &mut self.value, octets, out)
+    }
+
+    /// A primitive ends.
+    fn end<D: Drain>(&mut self, out: &mut Out<'_, D>) -> Result<(), WriteFault>
+        ensures state { self.new ≡ (dumped_end self.old).state }
+        ensures puts { Puts D.told out.old out.new (dumped_end self.old).put result }
+    {
+        let put = put_end(self.is_open, &mut self.value, self.names, out);
+        self.is_open = false;
+        put
+    }
+
+    /// Padding goes on. A run of it has one line, which comes with its first octet.
+    fn pad<D: Drain>(&mut self, octets: &[u8], out: &mut Out<'_, D>) -> Result<(), WriteFault>
+        ensures state { OnOk result (self.new ≡ (each_octet one_padded self.old octets.now).state) }
+        ensures puts { Puts D.told out.old out.new (each_octet one_padded self.old octets.now).put result }
+    {
+        if octets.is_empty() {
+            return Ok(());
+        }
+        let offset = self.offset;
+        self.offset = offset.saturating_add(octets.len() as u64);
+        if self.in_padding {
+            return Ok(());
+        }
+        self.in_padding = true;
+        write_padding(&mut self.line, self.layout, offset);
+        out.put(self.line.as_slice())
+    }
+}
+
+ghost use Rattle.std.specs.Prelude.{Some};
+ghost use Rattle.tlv_value.specs.State.{begun, start};
+ghost use Rattle.tlv_show.specs.Dumped.{if_open, value_after, value_ended, value_told};
+
+/// A primitive begins, in place of the last one.
+#[inline(always)]
+fn restart(value: &mut Option<ValueText>, header: &Header, layout: Layout)
+    ensures { value.new ≡ Some (start header.now layout) }
+{
+    match value {
+        Some(value) => value.restart(header, layout),
+        None => *value = Some(ValueText::new(header, layout)),
+    }
+}
+
+/// Puts what the header tells of a primitive that begins.
+#[inline(always)]
+fn put_begin<D: Drain>(
+    value: &mut Option<ValueText>,
+    header: &Header,
+    layout: Layout,
+    out: &mut Out<'_, D>,
+) -> Result<(), WriteFault>
+    ensures state { value.new ≡ Some (start header.now layout) }
+    ensures puts { Puts D.told out.old out.new (begun (start header.now layout)) result }
+{
+    restart(value, header, layout);
+    match value {
+        Some(value) => value.begin(out),
+        None => Ok(()),
+    }
+}
+
+/// Puts what more contents octets tell of the primitive that is open. Of octets past those that were announced
+/// nothing is told.
+fn put_bytes<D: Drain>(
+    is_open: bool,
+    value: &mut Option<ValueText>,
+    octets: &[u8],
+    out: &mut Out<'_, D>,
+) -> Result<(), WriteFault>
+    ensures state { OnOk result (if_open is_open value.new ≡ value_after (if_open is_open value.old) octets.now) }
+    ensures puts { Puts D.told out.old out.new (value_told (if_open is_open value.old) octets.now) result }
+{
+    match value {
+        Some(value) if is_open => {
+            let count = value.left().min(octets.len() as u64) as usize;
+            value.bytes(&octets[..count], out)
+        }
+        _ => Ok(()),
+    }
+}
+
+/// Puts what the end tells of the primitive that is open, if all its contents octets have come.
+fn put_end<D: Drain>(
+    is_open: bool,
+    value: &mut Option<ValueText>,
+    names: &Names,
+    out: &mut Out<'_, D>,
+) -> Result<(), WriteFault>
+    ensures { Puts D.told out.old out.new (value_ended names.now (if_open is_open value.old)) result }
+{
+    match value {
+        Some(value) if is_open && value.left() == 0 => value.end(names, out),
+        _ => Ok(()),
+    }
+}

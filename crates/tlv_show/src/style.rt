@@ -1,0 +1,81 @@
+//! How findings are written.
+ghost use Rattle.std.specs.Prelude.{◌≡◌};
+ghost use Rattle.tlv_walk.specs.Out.{Puts};
+ghost use Rattle.tlv_show.specs.CheckStep.{all_written, written};
+ghost use Rattle.tlv_show.specs.Texts.{finding_line, listed};
+
+use crate::finder::Found;
+use itoa::Buffer;
+use tlv_value::{Finding, Layout, Line};
+use tlv_walk::{Drain, Out, WriteFault};
+
+/// How findings are written.
+#[derive(Clone, Copy)]
+pub(crate) enum Style {
+    /// As lines of a check.
+    Check,
+    /// As lines of a dump in this layout, but for its level.
+    Dump(Layout),
+}
+
+/// Nothing stands before the text of a line in this layout.
+const BARE: Layout = Layout {
+    level: 0,
+    limit: None,
+    pure: true,
+};
+
+/// Puts a line for each finding, in order.
+pub(crate) fn put_findings<D: Drain>(
+    line: &mut Line,
+    style: Style,
+    found: &Found,
+    out: &mut Out<'_, D>,
+) -> Result<(), WriteFault>
+    ensures { Puts D.told out.old out.new (all_written style found.now.level found.now.at found.now.findings.items) result }
+{
+    for finding in found.findings.as_slice() {
+        write_finding(line, style, found.level, found.at, *finding);
+        out.put(line.as_slice())?;
+    }
+    Ok(())
+}
+
+/// Makes the line of a finding in an element at this level and offset.
+fn write_finding(line: &mut Line, style: Style, level: u8, at: u64, finding: Finding)
+    ensures { line.new ≡ written style level at finding }
+{
+    match style {
+        Style::Check => write_listed(line, at, finding),
+        Style::Dump(layout) => write_between(line, Layout { level, ..layout }, at, finding),
+    }
+}
+
+/// Makes the line of a finding in a check.
+#[tactic(auto, using(crate::proofs::Wordings::short_code, crate::proofs::Wordings::short_text))]
+fn write_listed(line: &mut Line, at: u64, finding: Finding)
+    ensures { line.new ≡ listed at finding }
+{
+    let mut digits = Buffer::new();
+    line.begin_blank(BARE);
+    line.add(digits.format(at).as_bytes());
+    line.add(b" ");
+    line.add(finding.code());
+    line.add(b" ");
+    line.add(finding.text());
+    line.add(b"\n");
+}
+
+/// Makes the line of a finding in a dump; none where first columns are left out.
+#[tactic(auto, using(crate::proofs::Wordings::short_code, crate::proofs::Wordings::short_text))]
+fn write_between(line: &mut Line, layout: Layout, at: u64, finding: Finding)
+    ensures { line.new ≡ finding_line layout at finding }
+{
+    if layout.pure {
+        line.begin_blank(BARE);
+        return;
+    }
+    line.begin(layout, at, finding.code());
+    line.add(finding.text());
+    line.add(b"\n");
+}

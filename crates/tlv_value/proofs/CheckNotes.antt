@@ -1,0 +1,182 @@
+-- The findings on contents by their conditions are those by what is noted of the contents.
+use Rattle.std.proofs.Common.{◌≡◌, ℕ, Bool, true, false, ◌&&◌, ◌||◌, ◌==◌, ◌%◌, ◌^◌, not, eqb, ◌≤◌, nat_le, nat_lt, cond, if◌then◌else◌, List, [], ◌∷◌, ◌++◌, length, take, refl, sym, ap, ◌∙◌, subst, arith, append_assoc, append-nil}
+use Rattle.std.proofs.lemmas.Bool.{eqb-true, leb-true}
+use Rattle.std.proofs.lemmas.Grind.{common_steps}
+use Rattle.std.specs.Prelude.{slice_index}
+use Rattle.tlv_head.specs.declared.header.Class.{Class}
+use Rattle.tlv_head.specs.declared.header.Class.TheVariants.{Universal, Application, Context, Private}
+use Rattle.tlv_head.specs.declared.header.Size.TheVariants.{Definite}
+use Rattle.tlv_head.specs.Header.{Heading}
+use Rattle.tlv_value.specs.declared.finding.Finding.{Finding}
+use Rattle.tlv_value.specs.declared.finding.Finding.TheVariants.{B06, B07, B08, B09, B10, B11, B12, B13, B14, B15, B18, B19, S02, S03, S04}
+use Rattle.tlv_value.specs.Checks.{allows, allows_octet, contents_conditions, contents_findings, every, first, held, is_padded_integer, is_padded_object, last_of}
+use Rattle.tlv_value.specs.CheckNotes.{noted, noted_findings, time_findings, universal_findings, where_it}
+use Rattle.tlv_value.specs.Times.{Form, canonical_general_time, canonical_utc_time, general_time, has_form, utc_time}
+
+-- a primitive with this tag
+abbrev pub with_tag : Class → ℕ → Heading
+with_tag class number = record { offset = 0; named = false; class = class; constructed = false; number = number; size = Definite 0; identifier = []; lengths = [] }
+
+-- its findings
+abbrev on : ℕ → List ℕ → List Finding
+on number c = held (contents_conditions (with_tag Universal number) c)
+
+-- what is noted
+first-noted : (c : List ℕ) → slice_index c 0 ≡ slice_index (take 64 c) 0
+first-noted [] = refl
+first-noted (x ∷ c) = refl
+
+padded-noted : (c : List ℕ) → is_padded_integer c ≡ is_padded_integer (take 64 c)
+padded-noted [] = refl
+padded-noted (x ∷ []) = refl
+padded-noted (x ∷ y ∷ c) = refl
+
+take-all : (n : ℕ) (c : List ℕ) → length c ≤ n → take n c ≡ c
+take-all n c h = grind (arith, common_steps)
+
+every-is : (test : ℕ → Bool) → ((x : ℕ) → test x ≡ true) → (c : List ℕ) → every test c ≡ true
+every-is test e [] = refl
+every-is test e (x ∷ c) = rw (e x) (every-is test e c)
+
+three : (a b d : List Finding) → a ++ (b ++ (d ++ [])) ≡ (a ++ b) ++ d
+three a b d = ap (λ (l : List Finding). a ++ (b ++ l)) (append-nil d) ∙ sym (append_assoc a b d)
+
+four : (a b d e : List Finding) → a ++ (b ++ (d ++ (e ++ []))) ≡ ((a ++ b) ++ d) ++ e
+four a b d e = ap (λ (l : List Finding). a ++ l) (three b d e) ∙ sym (append_assoc a (b ++ d) e) ∙ ap (λ (l : List Finding). l ++ e) (sym (append_assoc a b d))
+
+-- ---- type by type
+
+boolean-same : (c : List ℕ) → on 1 c ≡ universal_findings 1 (noted 1 c)
+boolean-same c =
+    let a : List Finding = where_it (not (length c == 1)) B06 in
+    let odd : ℕ → List Finding = λ x. where_it (length c == 1 && not (x == 0 || x == 255)) S02 in
+    ap (λ (k : Bool). a ++ (where_it (not k) B18 ++ (odd (first c) ++ []))) (every-is (allows_octet 1) (λ x. refl) c)
+    ∙ ap (λ (l : List Finding). a ++ l) (append-nil (odd (first c)))
+    ∙ ap (λ (x : ℕ). a ++ odd x) (first-noted c)
+
+integer-by : (c : List ℕ) → where_it (length c == 0) B07 ++ (where_it (is_padded_integer c) B08 ++ []) ≡ where_it (length c == 0) B07 ++ where_it (is_padded_integer (take 64 c)) B08
+integer-by c =
+    let a : List Finding = where_it (length c == 0) B07 in
+    ap (λ (l : List Finding). a ++ l) (append-nil (where_it (is_padded_integer c) B08)) ∙ ap (λ (k : Bool). a ++ where_it k B08) (padded-noted c)
+
+integer-same : (c : List ℕ) → on 2 c ≡ universal_findings 2 (noted 2 c)
+integer-same c =
+    ap (λ (k : Bool). where_it (length c == 0) B07 ++ (where_it (is_padded_integer c) B08 ++ (where_it (not k) B18 ++ []))) (every-is (allows_octet 2) (λ x. refl) c) ∙ integer-by c
+
+enumerated-same : (c : List ℕ) → on 10 c ≡ universal_findings 10 (noted 10 c)
+enumerated-same c =
+    ap (λ (k : Bool). where_it (length c == 0) B07 ++ (where_it (is_padded_integer c) B08 ++ (where_it (not k) B18 ++ []))) (every-is (allows_octet 10) (λ x. refl) c) ∙ integer-by c
+
+bits-same : (c : List ℕ) → on 3 c ≡ universal_findings 3 (noted 3 c)
+bits-same c =
+    let a : List Finding = where_it (length c == 0) B13 in
+    let b : ℕ → List Finding = λ x. where_it (nat_lt 7 x) B14 in
+    let d : ℕ → List Finding = λ x. where_it (length c == 1 && nat_le 1 x && nat_le x 7) B15 in
+    let e : ℕ → List Finding = λ x. where_it (nat_le 2 (length c) && nat_le x 7 && not (last_of 0 c % 2 ^ x == 0)) S03 in
+    let x : ℕ = first c in
+    ap (λ (k : Bool). a ++ (b x ++ (d x ++ (where_it (not k) B18 ++ (e x ++ []))))) (every-is (allows_octet 3) (λ y. refl) c)
+    ∙ four a (b x) (d x) (e x)
+    ∙ ap (λ (y : ℕ). ((a ++ b y) ++ d y) ++ e y) (first-noted c)
+
+null-same : (c : List ℕ) → on 5 c ≡ universal_findings 5 (noted 5 c)
+null-same c =
+    let a : List Finding = where_it (not (length c == 0)) B09 in
+    ap (λ (k : Bool). a ++ (where_it (not k) B18 ++ [])) (every-is (allows_octet 5) (λ x. refl) c) ∙ append-nil a
+
+object-same : (c : List ℕ) → on 6 c ≡ universal_findings 6 (noted 6 c)
+object-same c =
+    let a : List Finding = where_it (length c == 0) B10 in
+    let b : List Finding = where_it (is_padded_object c) B11 in
+    let d : List Finding = where_it (nat_le 128 (last_of 0 c)) B12 in
+    ap (λ (k : Bool). a ++ (b ++ (d ++ (where_it (not k) B18 ++ [])))) (every-is (allows_octet 6) (λ x. refl) c)
+    ∙ ap (λ (l : List Finding). a ++ (b ++ l)) (append-nil d)
+
+relative-same : (c : List ℕ) → on 13 c ≡ universal_findings 13 (noted 13 c)
+relative-same c =
+    let b : List Finding = where_it (is_padded_object c) B11 in
+    let d : List Finding = where_it (nat_le 128 (last_of 0 c)) B12 in
+    ap (λ (k : Bool). b ++ (d ++ (where_it (not k) B18 ++ []))) (every-is (allows_octet 13) (λ x. refl) c) ∙ ap (λ (l : List Finding). b ++ l) (append-nil d)
+
+tests : (a b : Bool) → where_it (not a) B19 ++ (where_it (a && not b) S04 ++ []) ≡ time_findings a b
+tests true true = refl
+tests true false = refl
+tests false true = refl
+tests false false = refl
+
+-- of a grammar, and of its canonical form
+time-by : (short : Bool) (form canonical : Form) (c c' : List ℕ) → (short ≡ true → c' ≡ c)
+    → where_it (short && not (has_form form c)) B19 ++ (where_it (short && has_form form c && not (has_form canonical c)) S04 ++ [])
+    ≡ (if short then time_findings (has_form form c') (has_form canonical c') else [])
+time-by false form canonical c c' e = refl
+time-by true form canonical c c' e = tests (has_form form c) (has_form canonical c) ∙ ap (λ (d : List ℕ). time_findings (has_form form d) (has_form canonical d)) (sym (e refl))
+
+utc-same : (c : List ℕ) → on 23 c ≡ universal_findings 23 (noted 23 c)
+utc-same c =
+    ap (λ (k : Bool). where_it (not k) B18 ++ (where_it (nat_le (length c) 64 && not (has_form utc_time c)) B19 ++ (where_it (nat_le (length c) 64 && has_form utc_time c && not (has_form canonical_utc_time c)) S04 ++ [])))
+    (every-is (allows_octet 23) (λ x. refl) c)
+    ∙ time-by (nat_le (length c) 64) utc_time canonical_utc_time c (take 64 c) (λ e. take-all 64 c (leb-true (length c) 64 e))
+
+general-same : (c : List ℕ) → on 24 c ≡ universal_findings 24 (noted 24 c)
+general-same c =
+    ap (λ (k : Bool). where_it (not k) B18 ++ (where_it (nat_le (length c) 64 && not (has_form general_time c)) B19 ++ (where_it (nat_le (length c) 64 && has_form general_time c && not (has_form canonical_general_time c)) S04 ++ [])))
+    (every-is (allows_octet 24) (λ x. refl) c)
+    ∙ time-by (nat_le (length c) 64) general_time canonical_general_time c (take 64 c) (λ e. take-all 64 c (leb-true (length c) 64 e))
+
+-- of any other type
+other-same : (n : ℕ) (c : List ℕ) → eqb n 1 ≡ false → eqb n 2 ≡ false → eqb n 3 ≡ false → eqb n 5 ≡ false → eqb n 6 ≡ false → eqb n 10 ≡ false → eqb n 13 ≡ false → eqb n 23 ≡ false → eqb n 24 ≡ false
+    → on n c ≡ universal_findings n (noted n c)
+other-same n c e1 e2 e3 e5 e6 e10 e13 e23 e24 = rw (e1, e2, e3, e5, e6, e10, e13, e23, e24) (append-nil (where_it (not (allows n c)) B18))
+
+-- ---- all types
+
+by-number : (n k : ℕ) (c : List ℕ) → on k c ≡ universal_findings k (noted k c) → eqb n k ≡ true → on n c ≡ universal_findings n (noted n c)
+by-number n k c same e = subst (λ (m : ℕ). on m c ≡ universal_findings m (noted m c)) (sym (eqb-true n k e)) same
+
+abbrev Same : ℕ → List ℕ → Type 0
+Same n c = on n c ≡ universal_findings n (noted n c)
+
+from-24 : (n : ℕ) (c : List ℕ) (test : Bool) → eqb n 24 ≡ test → eqb n 1 ≡ false → eqb n 2 ≡ false → eqb n 3 ≡ false → eqb n 5 ≡ false → eqb n 6 ≡ false → eqb n 10 ≡ false → eqb n 13 ≡ false → eqb n 23 ≡ false → Same n c
+from-24 n c true e e1 e2 e3 e5 e6 e10 e13 e23 = by-number n 24 c (general-same c) e
+from-24 n c false e e1 e2 e3 e5 e6 e10 e13 e23 = other-same n c e1 e2 e3 e5 e6 e10 e13 e23 e
+
+from-23 : (n : ℕ) (c : List ℕ) (test : Bool) → eqb n 23 ≡ test → eqb n 1 ≡ false → eqb n 2 ≡ false → eqb n 3 ≡ false → eqb n 5 ≡ false → eqb n 6 ≡ false → eqb n 10 ≡ false → eqb n 13 ≡ false → Same n c
+from-23 n c true e e1 e2 e3 e5 e6 e10 e13 = by-number n 23 c (utc-same c) e
+from-23 n c false e e1 e2 e3 e5 e6 e10 e13 = from-24 n c (eqb n 24) refl e1 e2 e3 e5 e6 e10 e13 e
+
+from-13 : (n : ℕ) (c : List ℕ) (test : Bool) → eqb n 13 ≡ test → eqb n 1 ≡ false → eqb n 2 ≡ false → eqb n 3 ≡ false → eqb n 5 ≡ false → eqb n 6 ≡ false → eqb n 10 ≡ false → Same n c
+from-13 n c true e e1 e2 e3 e5 e6 e10 = by-number n 13 c (relative-same c) e
+from-13 n c false e e1 e2 e3 e5 e6 e10 = from-23 n c (eqb n 23) refl e1 e2 e3 e5 e6 e10 e
+
+from-10 : (n : ℕ) (c : List ℕ) (test : Bool) → eqb n 10 ≡ test → eqb n 1 ≡ false → eqb n 2 ≡ false → eqb n 3 ≡ false → eqb n 5 ≡ false → eqb n 6 ≡ false → Same n c
+from-10 n c true e e1 e2 e3 e5 e6 = by-number n 10 c (enumerated-same c) e
+from-10 n c false e e1 e2 e3 e5 e6 = from-13 n c (eqb n 13) refl e1 e2 e3 e5 e6 e
+
+from-6 : (n : ℕ) (c : List ℕ) (test : Bool) → eqb n 6 ≡ test → eqb n 1 ≡ false → eqb n 2 ≡ false → eqb n 3 ≡ false → eqb n 5 ≡ false → Same n c
+from-6 n c true e e1 e2 e3 e5 = by-number n 6 c (object-same c) e
+from-6 n c false e e1 e2 e3 e5 = from-10 n c (eqb n 10) refl e1 e2 e3 e5 e
+
+from-5 : (n : ℕ) (c : List ℕ) (test : Bool) → eqb n 5 ≡ test → eqb n 1 ≡ false → eqb n 2 ≡ false → eqb n 3 ≡ false → Same n c
+from-5 n c true e e1 e2 e3 = by-number n 5 c (null-same c) e
+from-5 n c false e e1 e2 e3 = from-6 n c (eqb n 6) refl e1 e2 e3 e
+
+from-3 : (n : ℕ) (c : List ℕ) (test : Bool) → eqb n 3 ≡ test → eqb n 1 ≡ false → eqb n 2 ≡ false → Same n c
+from-3 n c true e e1 e2 = by-number n 3 c (bits-same c) e
+from-3 n c false e e1 e2 = from-5 n c (eqb n 5) refl e1 e2 e
+
+from-2 : (n : ℕ) (c : List ℕ) (test : Bool) → eqb n 2 ≡ test → eqb n 1 ≡ false → Same n c
+from-2 n c true e e1 = by-number n 2 c (integer-same c) e
+from-2 n c false e e1 = from-3 n c (eqb n 3) refl e1 e
+
+from-1 : (n : ℕ) (c : List ℕ) (test : Bool) → eqb n 1 ≡ test → Same n c
+from-1 n c true e = by-number n 1 c (boolean-same c) e
+from-1 n c false e = from-2 n c (eqb n 2) refl e
+
+of-class : (class : Class) (n : ℕ) (c : List ℕ) → held (contents_conditions (with_tag class n) c) ≡ noted_findings class n c
+of-class Universal n c = from-1 n c (eqb n 1) refl
+of-class Application n c = refl
+of-class Context n c = refl
+of-class Private n c = refl
+
+-- of a primitive with this header
+pub noted-same : (h : Heading) (c : List ℕ) → contents_findings h c ≡ noted_findings h.class h.number c
+noted-same h c = of-class h.class h.number c

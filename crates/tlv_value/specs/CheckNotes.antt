@@ -1,0 +1,100 @@
+-- The findings on contents again, by what is noted of the contents while they come. `Checks` has their conditions.
+use Rattle.std.specs.Prelude.{ℕ, ◌%◌, ◌^◌, Bool, ◌&&◌, ◌||◌, not, eqb, nat_le, nat_lt, if◌then◌else◌, List, [], ◌∷◌, ◌++◌, length, slice_index, take}
+use Rattle.tlv_head.specs.declared.header.Class.{Class}
+use Rattle.tlv_head.specs.Header.{is_universal}
+use Rattle.tlv_value.specs.declared.finding.Finding.{Finding}
+use Rattle.tlv_value.specs.declared.finding.Finding.TheVariants.{B06, B07, B08, B09, B10, B11, B12, B13, B14, B15, B18, B19, S02, S03, S04}
+use Rattle.tlv_value.specs.Checks.{allows, is_padded_integer, is_padded_object, last_of}
+use Rattle.tlv_value.specs.Times.{canonical_general_time, canonical_utc_time, general_time, has_form, utc_time}
+
+-- a finding, where it is there
+abbrev pub where_it : Bool → Finding → List Finding
+where_it there finding = if there then finding ∷ [] else []
+
+-- OBJECT IDENTIFIER, RELATIVE-OID
+abbrev pub is_object : ℕ → Bool
+is_object number = eqb number 6 || eqb number 13
+
+-- what the findings go by: the number of octets, the first 64 of them, the last, whether a subidentifier is padded, and
+-- whether the characters are those of the type
+pub record Noted : Type 0 where
+  pub size : ℕ
+  pub front : List ℕ
+  pub last : ℕ
+  pub padded : Bool
+  pub allowed : Bool
+
+abbrev pub first_of : Noted → ℕ
+first_of n = slice_index n.front 0
+
+-- 8.2.1, 11.1
+abbrev pub boolean_findings : Noted → List Finding
+boolean_findings n = where_it (not (eqb n.size 1)) B06 ++ where_it (eqb n.size 1 && not (eqb (first_of n) 0 || eqb (first_of n) 255)) S02
+
+-- 8.3.1, 8.3.2
+abbrev pub integer_findings : Noted → List Finding
+integer_findings n = where_it (eqb n.size 0) B07 ++ where_it (is_padded_integer n.front) B08
+
+-- 8.6.2, 11.2.1
+abbrev pub bits_findings : Noted → List Finding
+bits_findings n =
+    where_it (eqb n.size 0) B13
+    ++ where_it (nat_lt 7 (first_of n)) B14
+    ++ where_it (eqb n.size 1 && nat_le 1 (first_of n) && nat_le (first_of n) 7) B15
+    ++ where_it (nat_le 2 n.size && nat_le (first_of n) 7 && not (eqb (n.last % 2 ^ first_of n) 0)) S03
+
+-- 8.8.2
+abbrev pub null_findings : Noted → List Finding
+null_findings n = where_it (not (eqb n.size 0)) B09
+
+-- 8.20.2
+abbrev pub relative_findings : Noted → List Finding
+relative_findings n = where_it n.padded B11 ++ where_it (nat_le 128 n.last) B12
+
+-- 8.19.2
+abbrev pub object_findings : Noted → List Finding
+object_findings n = where_it (eqb n.size 0) B10 ++ relative_findings n
+
+-- the grammar, and then the canonical form (11.7, 11.8)
+abbrev pub time_findings : Bool → Bool → List Finding
+time_findings of_grammar is_canonical = if of_grammar then where_it (not is_canonical) S04 else B19 ∷ []
+
+-- of a time of at most 64 octets
+abbrev pub utc_findings : Noted → List Finding
+utc_findings n = if nat_le n.size 64 then time_findings (has_form utc_time n.front) (has_form canonical_utc_time n.front) else []
+
+abbrev pub general_findings : Noted → List Finding
+general_findings n = if nat_le n.size 64 then time_findings (has_form general_time n.front) (has_form canonical_general_time n.front) else []
+
+abbrev pub text_findings : Noted → List Finding
+text_findings n = where_it (not n.allowed) B18
+
+-- on a primitive with this universal number
+abbrev pub universal_findings : ℕ → Noted → List Finding
+universal_findings number n =
+    if eqb number 1 then boolean_findings n
+    else if eqb number 2 then integer_findings n
+    else if eqb number 3 then bits_findings n
+    else if eqb number 5 then null_findings n
+    else if eqb number 6 then object_findings n
+    else if eqb number 10 then integer_findings n
+    else if eqb number 13 then relative_findings n
+    else if eqb number 23 then utc_findings n
+    else if eqb number 24 then general_findings n
+    else text_findings n
+
+abbrev pub findings_on : Class → ℕ → Noted → List Finding
+findings_on class number n = if is_universal class then universal_findings number n else []
+
+abbrev pub noted : ℕ → List ℕ → Noted
+noted number octets = record {
+  size = length octets;
+  front = take 64 octets;
+  last = last_of 0 octets;
+  padded = is_object number && is_padded_object octets;
+  allowed = allows number octets;
+}
+
+-- what is found by what is noted of all contents
+abbrev pub noted_findings : Class → ℕ → List ℕ → List Finding
+noted_findings class number octets = findings_on class number (noted number octets)
