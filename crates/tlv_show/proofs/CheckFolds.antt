@@ -53,7 +53,7 @@ followed-run s (e ∷ es) =
     (ap (λ (l : List ℕ). l ++ flat_map check_line (run f.state es).put) (sym (written-items f.level f.at f.found))
     ∙ sym (flat_map-append check_line (told_items f) (run f.state es).put))
 
-only-written : (l : List Item) → flat_map check_line (only l) ≡ flat_map check_line l
+pub only-written : (l : List Item) → flat_map check_line (only l) ≡ flat_map check_line l
 only-written [] = refl
 only-written (FindingAt level at finding ∷ l) = ap (λ (t : List ℕ). check_line (FindingAt level at finding) ++ t) (only-written l)
 only-written (OpeningLine level h ∷ l) = only-written l

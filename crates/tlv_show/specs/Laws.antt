@@ -1,5 +1,6 @@
 -- Laws of the text of a dump.
-use Rattle.std.specs.Prelude.{◌≡◌, ℕ, ◌^◌, ◌≤◌, List, [], ◌∷◌, ◌++◌, length, None}
+use Rattle.std.specs.Prelude.{◌≡◌, ℕ, ◌^◌, ◌≤◌, List, [], ◌∷◌, ◌++◌, length, None, Bool, false, flat_map}
+use Rattle.std.specs.List.{filter}
 use Rattle.std.specs.FinMap as finite
 use Rattle.tlv_head.specs.Header.{Heading, announced}
 use Rattle.tlv_value.specs.Names.{Table}
@@ -11,13 +12,16 @@ use Rattle.tlv_walk.specs.Reading.{IsPrefixOf, IsReading}
 use Rattle.tlv_walk.specs.declared.framing.Framing.{Framing}
 use Rattle.tlv_show.specs.declared.options.Options.{Options}
 use Rattle.tlv_show.specs.declared.rules.Rules.{Rules}
-use Rattle.tlv_show.specs.Texts.{check_text}
+use Rattle.tlv_show.specs.declared.rules.Rules.TheVariants.{Ber}
+use Rattle.tlv_show.specs.Items.{Item, FindingAt, OpeningLine, ClosingLine, WholePrimitive, OpenPrimitive, PaddingLine, items}
+use Rattle.tlv_show.specs.Site.{top}
+use Rattle.tlv_show.specs.Texts.{check_line, check_text}
 use Rattle.tlv_walk.specs.declared.follow.Go.TheVariants.{On}
 use Rattle.tlv_show.specs.declared.style.Style.TheVariants.{Dump}
 use Rattle.tlv_show.specs.CheckStep.{all_written}
 use Rattle.tlv_show.specs.DumpStep.{Showing, dump_step, found_lines}
 use Rattle.tlv_show.specs.FinderState.{find_begin}
-use Rattle.tlv_show.specs.Found.{contents_findings}
+use Rattle.tlv_show.specs.Found.{contents_findings, shows}
 use Rattle.tlv_show.specs.Dumps.{dumped_text}
 
 -- the text of a longer input, of no more octets than are dumped, begins with that of the shorter
@@ -45,3 +49,15 @@ PrimitivesAreShown = (s : Showing) (h : Heading) (c : List ℕ) → announced h.
           ++ (whole_lines (finite.get s.lines.names) h s.lines.layout c ++ all_written (Dump s.lines.layout) (length s.finder.outer) h.offset (contents_findings s.finder.rules h c));
       goes = On;
     })
+
+abbrev pub is_basic : Item → Bool
+is_basic (FindingAt level at finding) = shows Ber finding
+is_basic (OpeningLine level h) = false
+is_basic (ClosingLine level offset) = false
+is_basic (WholePrimitive level h c) = false
+is_basic (OpenPrimitive level h c) = false
+is_basic (PaddingLine level offset) = false
+
+-- what a check lists under BER is what it lists under other rules, but for the findings that these rules add
+abbrev pub BasicFindingsStay : Type 0
+BasicFindingsStay = (rules : Rules) (f : Forest) → check_text Ber f ≡ flat_map check_line (filter is_basic (items rules top f))

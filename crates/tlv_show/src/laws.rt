@@ -1,6 +1,6 @@
 //! Laws of a dump: each is the contract of a function that does nothing.
 
-ghost use Rattle.tlv_show.specs.Laws.{ChecksGoOn, DumpsGoOn, PrimitivesAreShown};
+ghost use Rattle.tlv_show.specs.Laws.{BasicFindingsStay, ChecksGoOn, DumpsGoOn, PrimitivesAreShown};
 
 /// What is written of a longer input is what is written of the shorter, and then more.
 pub fn dumps_go_on()
@@ -16,4 +16,9 @@ pub fn checks_go_on()
 /// header and on its contents. Where it has ended nothing of it is kept.
 pub fn primitives_are_shown()
     ensures { PrimitivesAreShown }
+{}
+
+/// What a check lists under BER is among what it lists under DER and under CER, in the same order.
+pub fn basic_findings_stay()
+    ensures { BasicFindingsStay }
 {}
