@@ -117,6 +117,7 @@ held-few rules (row ∷ rows) = let e = one-few row.0 (held-few rules rows) in o
     kept-few : (k : Bool) (f : Finding) (l : List Finding) (n : ℕ) → length l ≤ n → length (if k then f ∷ l else l) ≤ n + 1
     kept-few true f l n e = omega (arith, e)
     kept-few false f l n e = omega (arith, e)
+
     one-few : (b : Bool) → length (filter (shows rules) (held rows)) ≤ length rows → length (filter (shows rules) ((if b then row.1 ∷ [] else []) ++ held rows)) ≤ length rows + 1
     one-few true e = kept-few (shows rules row.1) row.1 (filter (shows rules) (held rows)) (length rows) e
     one-few false e = omega (arith, e)

@@ -76,10 +76,10 @@ module _ {S : Type 0} (next : S → Told → Following S) (first t : S) (framing
       let on : run.enough ≡ false = on_of octets run v in
       shows_by (Ok run) (Ok outcome) d (
         λ f r. (
-            text_put octets v.put (goes_of run.enough) few v.made v.appended f r,
-            findings ∙ counted octets v.put (goes_of run.enough) few v.made f r,
-            unused ∙ (v.spelled on f r).1,
-          ),
+          text_put octets v.put (goes_of run.enough) few v.made v.appended f r,
+          findings ∙ counted octets v.put (goes_of run.enough) few v.made f r,
+          unused ∙ (v.spelled on f r).1,
+        ),
         subst (λ (e : Ending). IsEnding framing octets e) (sym ending) (subst (λ (k : Bool). EndsWith framing octets k run.ending) on v.ending),
         ended on d.comes.1,
       )

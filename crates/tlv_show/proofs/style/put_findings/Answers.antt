@@ -24,6 +24,6 @@ loop-finding-preserved g c =
         i.put.0 ++ c.as_slice.result.now,
         appends_trans _ (put_to g.D.Drain.taken c.loop-finding.out) _ i.put.0 c.as_slice.result.now i.put.1 c.in_ok-put.ensures.ok,
         append_assoc i.put.0 c.as_slice.result.now _
-        ∙ next_line c.args.style c.args.found.now.level c.args.found.now.at i.put.0 c.as_slice.result.now _ c.as_slice-finding-items.result.now c.loop-finding.finding-index _ (omega arith) (c.as_slice.ensures ∙ c.write_finding.ensures) i.put.2,
+            ∙ next_line c.args.style c.args.found.now.level c.args.found.now.at i.put.0 c.as_slice.result.now _ c.as_slice-finding-items.result.now c.loop-finding.finding-index _ (omega arith) (c.as_slice.ensures ∙ c.write_finding.ensures) i.put.2,
       );
     }
