@@ -53,7 +53,7 @@ followed-run s (e ∷ es) =
     (ap (λ (l : List ℕ). l ++ flat_map check_line (run f.state es).put) (sym (written-items f.level f.at f.found))
     ∙ sym (flat_map-append check_line (told_items f) (run f.state es).put))
 
-only-written : (l : List Item) → flat_map check_line (only l) ≡ flat_map check_line l
+pub only-written : (l : List Item) → flat_map check_line (only l) ≡ flat_map check_line l
 only-written [] = refl
 only-written (FindingAt level at finding ∷ l) = ap (λ (t : List ℕ). check_line (FindingAt level at finding) ++ t) (only-written l)
 only-written (OpeningLine level h ∷ l) = only-written l
@@ -117,6 +117,7 @@ held-few rules (row ∷ rows) = let e = one-few row.0 (held-few rules rows) in o
     kept-few : (k : Bool) (f : Finding) (l : List Finding) (n : ℕ) → length l ≤ n → length (if k then f ∷ l else l) ≤ n + 1
     kept-few true f l n e = omega (arith, e)
     kept-few false f l n e = omega (arith, e)
+
     one-few : (b : Bool) → length (filter (shows rules) (held rows)) ≤ length rows → length (filter (shows rules) ((if b then row.1 ∷ [] else []) ++ held rows)) ≤ length rows + 1
     one-few true e = kept-few (shows rules row.1) row.1 (filter (shows rules) (held rows)) (length rows) e
     one-few false e = omega (arith, e)

@@ -116,10 +116,13 @@ pub primitives_are_shown : PrimitivesAreShown
 primitives_are_shown s h c size =
     let d = primitives_shown s.lines h c size in
     let f = primitive-found s.finder h c (sym size) in
-    let l : Dumping = record (entered s.lines h) { offset = further (entered s.lines h).offset (length c); value = None } in
-    (pair l f.0, refl, f.1,
-    primitive-by s.lines s.finder h c
-    ∙ ap₂ (λ (d : Following Dumping) (f : Finds). shows (pair d.state f.state) (texts s.lines.layout (find_begin s.finder h) ++ (d.put ++ texts s.lines.layout f))) d f.2)
+    let l : Dumping = record (entered s.lines h) { offset = further (entered s.lines h).offset (length c); value = None } in (
+      pair l f.0,
+      refl,
+      f.1,
+      primitive-by s.lines s.finder h c
+          ∙ ap₂ (λ (d : Following Dumping) (f : Finds). shows (pair d.state f.state) (texts s.lines.layout (find_begin s.finder h) ++ (d.put ++ texts s.lines.layout f))) d f.2,
+    )
 
 -- a primitive that is open
 part-by : (l : Dumping) (s : FinderState) (h : Heading) (c : List ℕ)
@@ -248,9 +251,11 @@ module _ (style : Layout) (names : Table) (rules : Rules) where
             ∙ found-first (length outer) p.depth h.offset (header_notes rules w h) (header_findings rules s h) _ (WholePrimitive p.depth h c ∷ (findings_at p.depth h.offset (contents_findings rules h c) ++ others)) k.1 (header-same rules w s h k.0)
             (ap (λ (l : List ℕ). whole_lines (finite.get names) h (at_level style names p.depth) c ++ l) (found-first (length outer) p.depth h.offset (contents_findings rules h c) (contents_findings rules h c) (texts_of others) others k.1 refl refl));
         stands = λ n e.
-            let r = t.stands (behind_contents rules w h c n) e in
-            (r.0, ap (λ (x : Following Showing). x.state) (all n) ∙ r.1
-            ∙ ap (λ (at : ℕ). pair (lines_at style names p.depth at (padded_behind style names false rest)) (standing rules (noted_all (behind_primitive rules w h c) rest) outer r.0)) (omega (arith, length-whole h c rest)));
+            let r = t.stands (behind_contents rules w h c n) e in (
+              r.0,
+              ap (λ (x : Following Showing). x.state) (all n) ∙ r.1
+                  ∙ ap (λ (at : ℕ). pair (lines_at style names p.depth at (padded_behind style names false rest)) (standing rules (noted_all (behind_primitive rules w h c) rest) outer r.0)) (omega (arith, length-whole h c rest)),
+            );
       }
     where
       three : (a b c d : List ℕ) → (a ++ (b ++ c)) ++ d ≡ a ++ (b ++ (c ++ d))
@@ -272,34 +277,37 @@ module _ (style : Layout) (names : Table) (rules : Rules) where
       let closes-shown : (m : ℕ) → followed dump_step (pair (lines_at style names (p.depth + 1) end false) (standing rules (noted_all (frame_of h) inside) (w ∷ outer) m)) (closes h inside ∷ [])
       ≡ shows (start q false (noted w (is_primitive h) (announced h.size) false) outer (behind_end rules h inside m)) (close ++ last) =
       λ m.
-          closes-by (lines_at style names (p.depth + 1) end false) (standing rules (noted_all (frame_of h) inside) (w ∷ outer) m) (end_offset h.size (h.offset + length (opening h) + length (spell inside))) h.constructed
-          ∙ ap₂ (λ (d : Following Dumping) (f : Finds). shows (pair d.state f.state) (d.put ++ texts style f))
-          (closer_told style names p.depth end h inside (omega (arith, v.0.header.offset)) v.0.header.valid.allowed (omega (arith, b, size)))
-          (closed-find rules i_place w outer m h inside v.1 v.0.whole)
-          ∙ ap (λ (at : ℕ). shows (pair (lines_at style names p.depth at false) (standing rules (noted w (is_primitive h) (announced h.size) false) outer (behind_end rules h inside m))) (close ++ last)) (omega arith) in
+      closes-by (lines_at style names (p.depth + 1) end false) (standing rules (noted_all (frame_of h) inside) (w ∷ outer) m) (end_offset h.size (h.offset + length (opening h) + length (spell inside))) h.constructed
+      ∙ ap₂ (λ (d : Following Dumping) (f : Finds). shows (pair d.state f.state) (d.put ++ texts style f))
+      (closer_told style names p.depth end h inside (omega (arith, v.0.header.offset)) v.0.header.valid.allowed (omega (arith, b, size)))
+      (closed-find rules i_place w outer m h inside v.1 v.0.whole)
+      ∙ ap (λ (at : ℕ). shows (pair (lines_at style names p.depth at false) (standing rules (noted w (is_primitive h) (announced h.size) false) outer (behind_end rules h inside m))) (close ++ last)) (omega arith) in
       let held-shown : (m : ℕ) → (r : ℕ) × (followed dump_step (start i_place false (frame_of h) (w ∷ outer) m) (events inside)
       ≡ shows (pair (lines_at style names (p.depth + 1) end false) (standing rules (noted_all (frame_of h) inside) (w ∷ outer) r)) held) =
       λ m.
-          let r = i.stands m v.0.whole in
-          (r.0, as_shows (start i_place false (frame_of h) (w ∷ outer) m) _ (events inside) held
-          (r.1 ∙ ap (λ (x : Bool). pair (lines_at style names (p.depth + 1) end x) (standing rules (noted_all (frame_of h) inside) (w ∷ outer) r.0)) (no_padding style names i_place inside refl v.1)) (i.text m)) in
+      let r = i.stands m v.0.whole in (
+        r.0,
+        as_shows (start i_place false (frame_of h) (w ∷ outer) m) _ (events inside) held
+            (r.1 ∙ ap (λ (x : Bool). pair (lines_at style names (p.depth + 1) end x) (standing rules (noted_all (frame_of h) inside) (w ∷ outer) r.0)) (no_padding style names i_place inside refl v.1)) (i.text m),
+      ) in
       let element : (n : ℕ) → (m : ℕ) × (followed dump_step (start p (is_padding before) w outer n) (opens h ++ (events inside ++ closes h inside ∷ []))
       ≡ shows (start q false (noted w (is_primitive h) (announced h.size) false) outer m) ((first ++ line) ++ (held ++ (close ++ last)))) =
       λ n.
-          let a : ℕ = behind_header rules w h n in
-          let r = held-shown a in
-          (behind_end rules h inside r.0,
-          then_shown (start p (is_padding before) w outer n) (start i_place false (frame_of h) (w ∷ outer) a) (first ++ line) (opens h) (events inside ++ closes h inside ∷ [])
-          (opened-shown p holder before w outer n h k v.0.header.offset v.0.depth (omega (arith, b, size)))
-          ∙ ap (λ (x : Following Showing). record x { put = (first ++ line) ++ x.put })
-          (then_shown (start i_place false (frame_of h) (w ∷ outer) a) (pair (lines_at style names (p.depth + 1) end false) (standing rules (noted_all (frame_of h) inside) (w ∷ outer) r.0)) held (events inside) (closes h inside ∷ []) r.1
-          ∙ ap (λ (x : Following Showing). record x { put = held ++ x.put }) (closes-shown r.0))) in
+      let a : ℕ = behind_header rules w h n in
+      let r = held-shown a in (
+        behind_end rules h inside r.0,
+        then_shown (start p (is_padding before) w outer n) (start i_place false (frame_of h) (w ∷ outer) a) (first ++ line) (opens h) (events inside ++ closes h inside ∷ [])
+            (opened-shown p holder before w outer n h k v.0.header.offset v.0.depth (omega (arith, b, size)))
+            ∙ ap (λ (x : Following Showing). record x { put = (first ++ line) ++ x.put })
+            (then_shown (start i_place false (frame_of h) (w ∷ outer) a) (pair (lines_at style names (p.depth + 1) end false) (standing rules (noted_all (frame_of h) inside) (w ∷ outer) r.0)) held (events inside) (closes h inside ∷ []) r.1
+            ∙ ap (λ (x : Following Showing). record x { put = held ++ x.put }) (closes-shown r.0)),
+      ) in
       let es : List Told = opens h ++ (events inside ++ closes h inside ∷ []) in
       let joined : es ++ events rest ≡ opens h ++ (events inside ++ closes h inside ∷ events rest) =
       append_assoc (opens h) (events inside ++ closes h inside ∷ []) (events rest) ∙ ap (λ (l : List Told). opens h ++ l) (append_assoc (events inside) (closes h inside ∷ []) (events rest)) in
       let all = λ (n : ℕ).
-          ap (followed dump_step (start p (is_padding before) w outer n)) (sym joined)
-          ∙ behind-shown p q (is_padding before) w outer n (element n).0 (noted w (is_primitive h) (announced h.size) false) holder (Sibling h None) es ((first ++ line) ++ (held ++ (close ++ last))) rest refl (element n).1 t in
+      ap (followed dump_step (start p (is_padding before) w outer n)) (sym joined)
+      ∙ behind-shown p q (is_padding before) w outer n (element n).0 (noted w (is_primitive h) (announced h.size) false) holder (Sibling h None) es ((first ++ line) ++ (held ++ (close ++ last))) rest refl (element n).1 t in
       let others : List Item = items rules (behind_holder s h inside) rest in
       let closing : List Item = ClosingLine p.depth (end_place h inside) ∷ (findings_at p.depth h.offset (end_findings rules h (heads inside)) ++ others) in
       record {
@@ -311,13 +319,16 @@ module _ (style : Layout) (names : Table) (rules : Rules) where
             (ap (λ (l : List ℕ). held ++ (close ++ l)) (found-first (length outer) p.depth h.offset (end_findings rules h (heads inside)) (end_findings rules h (heads inside)) (texts_of others) others k.1 refl refl)
             ∙ sym (split (items rules (inside_of s h) inside) closing)));
         stands = λ n e.
-            let r = t.stands (element n).0 e in
-            (r.0, ap (λ (x : Following Showing). x.state) (all n) ∙ r.1
-            ∙ ap (λ (at : ℕ). pair (lines_at style names p.depth at (padded_behind style names false rest)) (standing rules (noted_all (noted w (is_primitive h) (announced h.size) false) rest) outer r.0)) (omega (arith, size)));
+            let r = t.stands (element n).0 e in (
+              r.0,
+              ap (λ (x : Following Showing). x.state) (all n) ∙ r.1
+                  ∙ ap (λ (at : ℕ). pair (lines_at style names p.depth at (padded_behind style names false rest)) (standing rules (noted_all (noted w (is_primitive h) (announced h.size) false) rest) outer r.0)) (omega (arith, size)),
+            );
       }
     where
       six : (a b c d e f : List ℕ) → ((a ++ b) ++ (c ++ (d ++ e))) ++ f ≡ a ++ (b ++ (c ++ (d ++ (e ++ f))))
       six a b c d e f = simp append_assoc
+
       as_shows : (s t : Showing) (es : List Told) (put : List ℕ) → (followed dump_step s es).state ≡ t → (followed dump_step s es).put ≡ put → followed dump_step s es ≡ shows t put
       as_shows s t es put e f =
           ap (λ (g : Go). record { state = (followed dump_step s es).state; put = (followed dump_step s es).put; goes = g }) (all_on s es) ∙ ap₂ (λ (u : Showing) (l : List ℕ). shows u l) e f

@@ -24,7 +24,6 @@ never : (k : Bool) → false ≡ (k && false)
 never true = refl
 never false = refl
 
-
 pub knows-inside : (s : Site) (h : Heading) → Knows (frame_of h) (inside_of s h)
 knows-inside s h = record { segments = refl; bits = refl; unused = never (has_segments h); not_full = never (has_segments h) }
 

@@ -86,10 +86,12 @@ pub primitive-found : (s : FinderState) (h : Heading) (c : List ℕ) → length 
 primitive-found s h c e =
     let n = count_up s.count (length (header_notes s.rules s.frame h)) in
     let t : CheckState = checked (unchecked h) c in
-    let behind : List Finding → FinderState = λ fs. record { rules = s.rules; frame = noted s.frame true (announced h.size) (has_unused t); outer = s.outer; value = None; count = count_up n (length fs) } in
-    (behind (contents_findings s.rules h c), refl,
-    ap find_end (took (record s { count = n }) h.offset h c (omega (arith, e)))
-    ∙ ap (λ (fs : List Finding). record { state = behind fs; level = length s.outer; at = h.offset; found = fs }) (ended s.rules h c e))
+    let behind : List Finding → FinderState = λ fs. record { rules = s.rules; frame = noted s.frame true (announced h.size) (has_unused t); outer = s.outer; value = None; count = count_up n (length fs) } in (
+      behind (contents_findings s.rules h c),
+      refl,
+      ap find_end (took (record s { count = n }) h.offset h c (omega (arith, e)))
+          ∙ ap (λ (fs : List Finding). record { state = behind fs; level = length s.outer; at = h.offset; found = fs }) (ended s.rules h c e),
+    )
 
 module _ (rules : Rules) where
   -- between two elements
@@ -231,15 +233,16 @@ module _ (rules : Rules) where
       ≡ then_told (findings_at (length outer) h.offset (header_notes rules w h)) (then_told (only (items rules (inside_of s h) inside))
       (then_told (findings_at (length outer) h.offset (end_findings rules h (heads inside))) (run (standing (noted w (is_primitive h) (announced h.size) false) outer m) (events rest))))) =
       λ n.
-          let a : ℕ = behind_header w h n in
-          let t = i.stands a v.0.whole in
-          let put : List Item = findings_at (length outer) h.offset (header_notes rules w h) in
-          (behind_end h inside t.0,
-          opened w outer n h (events inside ++ es) few
-          ∙ ap (then_told put)
-          (run-more (standing (frame_of h) (w ∷ outer) a) (events inside) es
-          ∙ ap₂ (λ (l : List Item) (x : FinderState). then_told l (run x es)) (i.put a) t.1
-          ∙ ap (then_told (only (items rules (inside_of s h) inside))) (closed (place_inside p h) w outer t.0 h inside (events rest) v.1 v.0.whole))) in
+      let a : ℕ = behind_header w h n in
+      let t = i.stands a v.0.whole in
+      let put : List Item = findings_at (length outer) h.offset (header_notes rules w h) in (
+        behind_end h inside t.0,
+        opened w outer n h (events inside ++ es) few
+            ∙ ap (then_told put)
+            (run-more (standing (frame_of h) (w ∷ outer) a) (events inside) es
+            ∙ ap₂ (λ (l : List Item) (x : FinderState). then_told l (run x es)) (i.put a) t.1
+            ∙ ap (then_told (only (items rules (inside_of s h) inside))) (closed (place_inside p h) w outer t.0 h inside (events rest) v.1 v.0.whole)),
+      ) in
       let last : List Item = ClosingLine s.level (end_place h inside) ∷ (findings_at s.level h.offset (end_findings rules h (heads inside)) ++ items rules (behind_holder s h inside) rest) in
       record {
         put = λ n.

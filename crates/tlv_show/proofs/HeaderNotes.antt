@@ -132,9 +132,9 @@ in-bits (Some h) u = in-its-string (has_segments h) (is_a bit_string h) u
 pub header-same : (rules : Rules) (w : Frame) (s : Site) (h : Heading) → Knows w s → header_notes rules w h ≡ header_findings rules s h
 header-same rules w s h k =
     let unused : (w.has_bits && w.is_unused) ≡ (in_bit_string s && has_unused_bits s.before) =
-        ap₂ (λ (a b : Bool). a && b) k.bits k.unused ∙ sym (in-bits s.holder (has_unused_bits s.before)) in
+    ap₂ (λ (a b : Bool). a && b) k.bits k.unused ∙ sym (in-bits s.holder (has_unused_bits s.before)) in
     let other : (w.has_segments && not (is_a (if w.has_bits then bit_string else octet_string) h)) ≡ (in_string s && not (is_a (segment_type s) h)) =
-        ap₂ (λ (a b : Bool). a && not (is_a (if b then bit_string else octet_string) h)) k.segments k.bits in
+    ap₂ (λ (a b : Bool). a && not (is_a (if b then bit_string else octet_string) h)) k.segments k.bits in
     sym (noted-by rules w h)
     ∙ ap₂ (λ (a b : Bool). shown rules (rows_by a b (h.constructed && w.has_segments) w.is_not_full h)) unused other
     ∙ ap₂ (λ (a b : Bool). shown rules (rows_by (in_bit_string s && has_unused_bits s.before) (in_string s && not (is_a (segment_type s) h)) (h.constructed && a) b h)) k.segments k.not_full

@@ -11,6 +11,7 @@ pub mod CheckFolds
 pub mod DumpSteps
 pub mod DumpShown
 pub mod DumpFolds
+pub mod BasicFindings
 pub mod Longer
 pub mod Lists
 pub mod Wordings

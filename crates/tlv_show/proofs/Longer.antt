@@ -25,9 +25,11 @@ module _ {S : Type 0} (next : S → Told → Following S) (first : S) (framing :
   goes_on b c f g few r s =
       let more : (others : List Told) × AreEqualJoined (events g) (events f ++ others) = events-prefix framing b c f g r s in
       let rest : List ℕ = (followed next (followed next first (events f)).state more.0).put in
-      let shorter : (followed next first (events f)).put ≡ text f = w.put b f (omega (arith, few, length-append b c)) r in
-      (rest, ap (λ (l : List ℕ). l ++ rest) (sym shorter) ∙ sym (put_both first (events f) more.0)
-      ∙ ap (λ (t : Following S). t.put) (sym (alike first (events g) (events f ++ more.0) more.1)) ∙ w.put (b ++ c) g few s)
+      let shorter : (followed next first (events f)).put ≡ text f = w.put b f (omega (arith, few, length-append b c)) r in (
+        rest,
+        ap (λ (l : List ℕ). l ++ rest) (sym shorter) ∙ sym (put_both first (events f) more.0)
+            ∙ ap (λ (t : Following S). t.put) (sym (alike first (events g) (events f ++ more.0) more.1)) ∙ w.put (b ++ c) g few s,
+      )
 
 pub dumps_on : DumpsGoOn
 dumps_on options names b c f g few r s =

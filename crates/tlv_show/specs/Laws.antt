@@ -1,6 +1,10 @@
 -- Laws of the texts of a dump and of a check.
-use Rattle.std.specs.Prelude.{◌≡◌, ℕ, ◌^◌, ◌≤◌, List, [], ◌∷◌, ◌++◌, length, None, take}
+use Rattle.std.specs.Prelude.{◌≡◌, ℕ, ◌^◌, ◌≤◌, List, [], ◌∷◌, ◌++◌, length, None, take, Bool, false, flat_map}
 use Rattle.std.specs.FinMap as finite
+use Rattle.std.specs.List.{filter}
+use Rattle.tlv_show.specs.Items.{Item, FindingAt, OpeningLine, ClosingLine, WholePrimitive, OpenPrimitive, PaddingLine, items}
+use Rattle.tlv_show.specs.Site.{top}
+use Rattle.tlv_show.specs.declared.rules.Rules.TheVariants.{Ber}
 use Rattle.std.specs.Io.KnownBytes.{Appends}
 use Rattle.tlv_walk.specs.Device.{Taken}
 use Rattle.tlv_walk.specs.Ending.{IsEnding}
@@ -8,7 +12,7 @@ use Rattle.tlv_walk.specs.Wrappers.{unused_of}
 use Rattle.tlv_show.specs.declared.outcome.Outcome.{Outcome}
 use Rattle.tlv_show.specs.Dumps.{top_layout}
 use Rattle.tlv_show.specs.FinderState.{no_findings}
-use Rattle.tlv_show.specs.Texts.{found_count}
+use Rattle.tlv_show.specs.Texts.{check_line, check_text, found_count}
 use Rattle.tlv_show.specs.CheckStep.{check_step}
 use Rattle.tlv_show.specs.DumpStep.{nothing_shown}
 use Rattle.tlv_head.specs.Header.{Heading, announced}
@@ -21,13 +25,12 @@ use Rattle.tlv_walk.specs.Reading.{IsPrefixOf, IsReading}
 use Rattle.tlv_walk.specs.declared.framing.Framing.{Framing}
 use Rattle.tlv_show.specs.declared.options.Options.{Options}
 use Rattle.tlv_show.specs.declared.rules.Rules.{Rules}
-use Rattle.tlv_show.specs.Texts.{check_text}
 use Rattle.tlv_walk.specs.declared.follow.Go.TheVariants.{On}
 use Rattle.tlv_show.specs.declared.style.Style.TheVariants.{Dump}
 use Rattle.tlv_show.specs.CheckStep.{all_written}
 use Rattle.tlv_show.specs.DumpStep.{Showing, dump_step, found_lines}
 use Rattle.tlv_show.specs.FinderState.{find_begin}
-use Rattle.tlv_show.specs.Found.{contents_findings}
+use Rattle.tlv_show.specs.Found.{contents_findings, shows}
 use Rattle.tlv_show.specs.Dumps.{dumped_text}
 
 -- the text of a longer input, of no more octets than are dumped, begins with that of the shorter
@@ -76,3 +79,16 @@ pub record DumpsOctets (options : Options) (names : Table) (octets : List ℕ) (
   pub ending : IsEnding options.framing (take (2 ^ 40) octets) outcome.ending
   pub findings : outcome.findings ≡ found_count options.rules reading
   pub unused : outcome.unused ≡ unused_of options.framing.inside reading
+
+-- a finding of BER
+abbrev pub is_basic : Item → Bool
+is_basic (FindingAt level at finding) = shows Ber finding
+is_basic (OpeningLine level h) = false
+is_basic (ClosingLine level offset) = false
+is_basic (WholePrimitive level h c) = false
+is_basic (OpenPrimitive level h c) = false
+is_basic (PaddingLine level offset) = false
+
+-- what a check lists under BER is what it lists under other rules, but for the findings that these rules add
+abbrev pub BasicFindingsStay : Type 0
+BasicFindingsStay = (rules : Rules) (f : Forest) → check_text Ber f ≡ flat_map check_line (filter is_basic (items rules top f))

@@ -22,9 +22,7 @@ ghost use Rattle.tlv_show.specs.Found.{shows};
 
 use crate::Rules;
 use crate::frames::{Frame, Frames};
-use crate::header_findings::{
-    end_findings, header_findings, is_bit_string, is_string, size_of,
-};
+use crate::header_findings::{end_findings, header_findings, is_bit_string, is_string, size_of};
 use arrayvec::ArrayVec;
 use std::marker::Model;
 use tlv_head::Header;
@@ -186,12 +184,7 @@ impl Finder {
         self.count = self.count.saturating_add(findings.len() as u64);
         let closed = self.frame;
         self.frame = outer;
-        note_element(
-            &mut self.frame,
-            closed.is_primitive,
-            closed.size,
-            false,
-        );
+        note_element(&mut self.frame, closed.is_primitive, closed.size, false);
         Found {
             level: self.outer.len(),
             at: closed.at,

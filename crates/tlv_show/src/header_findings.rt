@@ -103,11 +103,7 @@ fn basic_findings(frame: &Frame, header: &Header) -> ArrayVec<Finding, 16>
         Finding::B05,
         &mut found,
     );
-    note(
-        frame.has_bits && frame.is_unused,
-        Finding::B16,
-        &mut found,
-    );
+    note(frame.has_bits && frame.is_unused, Finding::B16, &mut found);
     note(
         frame.has_segments && !is_segment(frame.has_bits, header),
         Finding::B17,
@@ -131,11 +127,7 @@ fn note_der(header: &Header, found: &mut ArrayVec<Finding, 16>)
     ensures { found.new.items ≡ found.old.items ++ der_notes header.now }
 {
     note(is_indefinite(header), Finding::D01, found);
-    note(
-        header.constructed && is_string(header),
-        Finding::D02,
-        found,
-    );
+    note(header.constructed && is_string(header), Finding::D02, found);
 }
 
 /// Adds what violates the rules of CER alone.

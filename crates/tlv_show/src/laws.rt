@@ -1,7 +1,7 @@
 //! Laws of a dump and of a check: each is the contract of a function that does nothing, or no more than to call `dump`.
 
 ghost use Rattle.std.specs.Prelude.{IfOk};
-ghost use Rattle.tlv_show.specs.Laws.{ChecksGoOn, ChecksMakeTexts, DumpsGoOn, DumpsMakeTexts, DumpsOctets, PrimitivesAreShown};
+ghost use Rattle.tlv_show.specs.Laws.{BasicFindingsStay, ChecksGoOn, ChecksMakeTexts, DumpsGoOn, DumpsMakeTexts, DumpsOctets, PrimitivesAreShown};
 
 use crate::{Options, Outcome, dump};
 use tlv_value::Names;
@@ -54,4 +54,9 @@ pub fn checks_go_on()
 /// header and on its contents. Where it has ended nothing of it is kept.
 pub fn primitives_are_shown()
     ensures { PrimitivesAreShown }
+{}
+
+/// What a check lists under BER is among what it lists under DER and under CER, in the same order.
+pub fn basic_findings_stay()
+    ensures { BasicFindingsStay }
 {}

@@ -1,6 +1,8 @@
 //! What `dump` writes: a line for each element, and rows for the contents of a long primitive.
 #![tactic(auto)]
 
+#[cfg(test)]
+mod check_tests;
 mod checker;
 mod checking;
 mod dumping;
@@ -8,15 +10,13 @@ mod finder;
 mod follower;
 mod frames;
 mod header_findings;
-mod line_follower;
 pub mod laws;
+mod line_follower;
 mod lines;
 mod options;
 mod outcome;
 mod rules;
 mod style;
-#[cfg(test)]
-mod check_tests;
 #[cfg(test)]
 mod tests;
 

@@ -1,0 +1,79 @@
+-- What is found under BER is found under other rules too.
+use Rattle.std.proofs.Common.{◌≡◌, ℕ, Bool, true, false, if◌then◌else◌, List, [], ◌∷◌, ◌++◌, refl, sym, ap, ap₂, ◌∙◌}
+use Rattle.std.proofs.lemmas.List.Elements.{filter-append}
+use Rattle.std.specs.List.{filter}
+use Rattle.std.specs.Prelude.{◌||◌, flat_map}
+use Rattle.tlv_head.specs.Header.{Heading}
+use Rattle.tlv_value.specs.declared.finding.Finding.{Finding}
+use Rattle.tlv_value.specs.Checks.{contents_findings as found_on_contents, held}
+use Rattle.tlv_walk.specs.Forest.{Forest, Stop, Fill, Whole, Closed, Partial, Entered, Awaiting, Begun, Zero}
+use Rattle.tlv_show.specs.declared.rules.Rules.{Rules}
+use Rattle.tlv_show.specs.declared.rules.Rules.TheVariants.{Ber, Der, Cer}
+use Rattle.tlv_show.specs.Conditions.{end_conditions, header_conditions}
+use Rattle.tlv_show.specs.DumpText.{end_place}
+use Rattle.tlv_show.specs.Found.{contents_findings, end_findings, header_findings, shows}
+use Rattle.tlv_show.specs.Items.{Item, FindingAt, OpeningLine, ClosingLine, WholePrimitive, OpenPrimitive, PaddingLine, findings_at, heads, items}
+use Rattle.tlv_show.specs.Laws.{BasicFindingsStay, is_basic}
+use Rattle.tlv_show.specs.Site.{Site, behind, behind_holder, behind_padding, inside_of, is_padding, top}
+use Rattle.tlv_show.specs.Texts.{check_line}
+use Rattle.tlv_show.proofs.CheckFolds.{only-written}
+use Rattle.tlv_show.proofs.FinderTold.{only, only-findings_at}
+
+-- each letter of BER is one of the other rules
+among-more : (k others : Bool) → (k || false) ≡ true → (k || others) ≡ true
+among-more true others e = refl
+among-more false others e = absurd (cc (e))
+
+pub still-shown : (rules : Rules) (f : Finding) → shows Ber f ≡ true → shows rules f ≡ true
+still-shown Ber f e = e
+still-shown Der f e = among-more _ _ e
+still-shown Cer f e = among-more _ _ e
+
+module _ (rules : Rules) where
+  abbrev basic : List Item → List Item
+  basic l = filter is_basic l
+
+  -- findings, and then other items
+  basic-found : (level at : ℕ) (fs : List Finding) (rest : List Item) → basic (findings_at level at (filter (shows rules) fs) ++ rest) ≡ findings_at level at (filter (shows Ber) fs) ++ basic rest
+  basic-found level at [] rest = refl
+  basic-found level at (x ∷ fs) rest = by-tests (shows Ber x) (shows rules x) refl refl (still-shown rules x) (basic-found level at fs rest)
+    where
+      by-tests : (b r : Bool) → shows Ber x ≡ b → shows rules x ≡ r → (shows Ber x ≡ true → shows rules x ≡ true)
+          → basic (findings_at level at (filter (shows rules) fs) ++ rest) ≡ findings_at level at (filter (shows Ber) fs) ++ basic rest
+          → basic (findings_at level at (filter (shows rules) (x ∷ fs)) ++ rest) ≡ findings_at level at (filter (shows Ber) (x ∷ fs)) ++ basic rest
+      by-tests true true e f g h = rw (f, e) (ap (λ (l : List Item). FindingAt level at x ∷ l) h)
+      by-tests true false e f g h = absurd (cc (e, f, g e))
+      by-tests false true e f g h = rw (f, e) h
+      by-tests false false e f g h = rw (f, e) h
+
+  same-found : (level at : ℕ) (fs : List Finding) (xs ys : List Item) → only xs ≡ basic ys
+      → only (findings_at level at (filter (shows Ber) fs) ++ xs) ≡ basic (findings_at level at (filter (shows rules) fs) ++ ys)
+  same-found level at fs xs ys e =
+      only-findings_at level at (filter (shows Ber) fs) xs ∙ ap (λ (l : List Item). findings_at level at (filter (shows Ber) fs) ++ l) e ∙ sym (basic-found level at fs ys)
+
+  same-pads : (k : Bool) (level at : ℕ) (xs ys : List Item) → only xs ≡ basic ys → only ((if k then [] else PaddingLine level at ∷ []) ++ xs) ≡ basic ((if k then [] else PaddingLine level at ∷ []) ++ ys)
+  same-pads true level at xs ys e = e
+  same-pads false level at xs ys e = e
+
+  same : (s : Site) (f : Forest) → only (items Ber s f) ≡ basic (items rules s f)
+  same s Stop = refl
+  same s (Fill rest) = same-pads (is_padding s.before) s.level s.at _ _ (same (behind_padding s) rest)
+  same s (Whole h c rest) =
+      same-found s.level h.offset (held (header_conditions s h)) (WholePrimitive s.level h c ∷ (findings_at s.level h.offset (contents_findings Ber h c) ++ items Ber (behind s h c) rest))
+      (WholePrimitive s.level h c ∷ (findings_at s.level h.offset (contents_findings rules h c) ++ items rules (behind s h c) rest))
+      (same-found s.level h.offset (found_on_contents h c) _ _ (same (behind s h c) rest))
+  same s (Closed h inside rest) =
+      let last : Rules → List Item = λ r. ClosingLine s.level (end_place h inside) ∷ (findings_at s.level h.offset (end_findings r h (heads inside)) ++ items r (behind_holder s h inside) rest) in
+      same-found s.level h.offset (held (header_conditions s h)) (OpeningLine s.level h ∷ (items Ber (inside_of s h) inside ++ last Ber)) (OpeningLine s.level h ∷ (items rules (inside_of s h) inside ++ last rules))
+      (filter-append _ (items Ber (inside_of s h) inside) (last Ber)
+      ∙ ap₂ (λ (a b : List Item). a ++ b) (same (inside_of s h) inside) (same-found s.level h.offset (held (end_conditions h (heads inside))) _ _ (same (behind_holder s h inside) rest))
+      ∙ sym (filter-append is_basic (items rules (inside_of s h) inside) (last rules)))
+  same s (Partial h c) = same-found s.level h.offset (held (header_conditions s h)) (OpenPrimitive s.level h c ∷ []) (OpenPrimitive s.level h c ∷ []) refl
+  same s (Entered h inside) =
+      same-found s.level h.offset (held (header_conditions s h)) (OpeningLine s.level h ∷ items Ber (inside_of s h) inside) (OpeningLine s.level h ∷ items rules (inside_of s h) inside) (same (inside_of s h) inside)
+  same s (Awaiting h) = same-found s.level h.offset (held (header_conditions s h)) (OpeningLine s.level h ∷ []) (OpeningLine s.level h ∷ []) refl
+  same s (Begun octets) = refl
+  same s Zero = refl
+
+pub basic_stay : BasicFindingsStay
+basic_stay rules f = sym (only-written (items Ber top f)) ∙ ap (flat_map check_line) (same rules top f)

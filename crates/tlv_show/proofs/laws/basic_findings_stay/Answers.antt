@@ -1,0 +1,5 @@
+use Rattle.tlv_show.proofs.BasicFindings.{basic_stay}
+use Rattle.tlv_show.proofs.laws.basic_findings_stay.Goals as goal
+
+pub returns : goal.returns
+returns c = basic_stay
