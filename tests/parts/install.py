@@ -74,6 +74,35 @@ def installed(part):
     part.expect("no folder of its own stays", not os.path.exists(part.path("a place/share/tlvdump")))
 
 
+def clone(part, name, built):
+    """A clone with what the script needs; its program is newer than its sources, or missing."""
+    root = part.path(name)
+    for place in ("crates/tlvdump/src", "crates/tlvdump/specs", "crates/tlvdump/proofs", "crates/tlvdump/out"):
+        os.makedirs(os.path.join(root, place))
+    for place in ("install", "tlvdump", "tlvdump-inside", "crates.txt"):
+        shutil.copy(os.path.join(part.root, place), root)
+    for place in ("man", "data", "completions"):
+        shutil.copytree(os.path.join(part.root, place), os.path.join(root, place))
+    if built:
+        shutil.copy(part.program, os.path.join(root, "crates", "tlvdump", "out", "tlvdump"))
+    return os.path.join(root, "install")
+
+
+def builds(part):
+    """Without TLVDUMP the program of the clone is taken; where it cannot be built nothing is put."""
+    env = {"PATH": "/usr/bin:/bin"}
+    how = {"cwd": part.folder, "env": env, "capture_output": True, "text": True, "timeout": 60}
+    got = subprocess.run([clone(part, "built", True), "from-clone"], **how)
+    part.expect("the program of a clone", got.returncode == 0 and got.stderr == "", got.stderr)
+    places(part, "from-clone")
+    if shutil.which("rt", path=env["PATH"]):
+        part.note("rt is in /usr/bin: a build that fails is not tried")
+        return
+    got = subprocess.run([clone(part, "unbuilt", False), "nowhere"], **how)
+    fine = got.returncode == 70 and "tlvdump: not built" in got.stderr and not os.path.exists(part.path("nowhere"))
+    part.expect("a program that cannot be built", fine, str(got.returncode), got.stderr)
+
+
 def refused(part):
     for words in (["--nonsense"], ["-x"], ["a", "b"], [""], ["--remove", "a", "b"]):
         status, out, err = install(part, *words)
@@ -134,6 +163,7 @@ def zsh(part, options):
 
 def test(part):
     installed(part)
+    builds(part)
     refused(part)
     options = words_of(part)
     bash(part, options)
