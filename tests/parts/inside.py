@@ -145,8 +145,8 @@ def ends(script):
     script.gives("300 strings", ["many"], 1, "", behind, "no string holds encodings")
     part.write("cut", element(0x30, string(NULL) + string(NULL))[:-1])
     script.gives("a fault behind a string", ["cut"], 0, "2", "fault at 9: F02 input ends inside an encoding")
-    part.write("cut", element(4, NULL * 2)[:-2])
-    cut = "fault at 4: F02 input ends inside an encoding"
+    part.write("cut", element(4, NULL * 10)[:-2])
+    cut = "fault at 20: F02 input ends inside an encoding"
     script.gives("a string that is cut behind an element", ["cut"], 1, "", cut, "no string holds encodings")
     deep = string(element(0x30, NULL))
     for _ in range(127):
