@@ -119,7 +119,6 @@ def recipes(part, text):
         part.note("no openssl: the recipes are not run")
         return
     record = prepared(part)
-    install(part, "there")
     blocks, wanted = recipes_of(text), wanted_of(part, record)
     part.expect("each recipe has its test", len(blocks) == len(wanted), f"{len(blocks)} recipes, {len(wanted)} tests")
     env = {"PATH": part.path("there/bin") + ":" + os.environ["PATH"], "NAMES": part.path("there/share/tlvdump/names.txt")}
@@ -138,10 +137,37 @@ def recipes(part, text):
     part.expect("the names that the manual tells of", name in wanted[1][1])
 
 
+def replacements(part, text):
+    """The commands that take the place of other programs' options, with F, N, M, out and hex put in."""
+    section = text.split("\n.Ss Options of other programs\n")[1].split("\n.Sh ")[0]
+    commands = [line[4:].removesuffix(" ,") for line in section.splitlines() if line.startswith(".Li ")]
+    commands = [line for line in commands if line.startswith(("tlvdump", "tail", "head", "echo"))]
+    part.expect("commands in place of options", len(commands) >= 8, *commands)
+    part.write("octets", element(4, NULL))
+    part.write("bits", element(3, b"\0" + NULL))
+    part.write("plain", NULL)
+    null = b"       0      0: NULL\n"
+    for line in commands:
+        if "xxd" in line and not shutil.which("xxd"):
+            part.note("no xxd: echo is not run")
+            continue
+        inner = "--contents" in line
+        file = "bits" if "tail -c +2" in line else "octets" if inner else "plain"
+        values = {"F": file, "N": "2" if line.startswith("head") else "0", "M": "1", "hex": "0500"}
+        script = re.sub(r"\b(F|N|M|hex)\b", lambda it: values[it[0]], line)
+        env = {"PATH": part.path("there/bin") + ":" + os.environ["PATH"]}
+        got = subprocess.run(["sh", "-c", script], cwd=part.folder, env=env, stdin=subprocess.DEVNULL, capture_output=True)
+        wanted = b"" if ">" in line else null
+        part.expect(line, (got.returncode, got.stdout, got.stderr) == (0, wanted, b""), script, str(got))
+    part.expect("what extract wrote", read(part, "out") == NULL)
+
+
 def test(part):
     page = os.path.join(part.root, "man", "tlvdump.1")
     with open(page, encoding="ascii") as file:
         text = file.read()
     rendered(part, page)
     complete(part, text)
+    install(part, "there")
     recipes(part, text)
+    replacements(part, text)
