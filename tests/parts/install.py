@@ -1,0 +1,170 @@
+"""install: what it puts where, what it takes away; the completions for bash and zsh."""
+import os
+import re
+import shutil
+import stat
+import subprocess
+
+PLACES = {
+    "bin/tlvdump": None,
+    "bin/tlvdump-inside": "tlvdump-inside",
+    "share/man/man1/tlvdump.1": "man/tlvdump.1",
+    "share/man/man1/tlvdump-inside.1": "man/tlvdump-inside.1",
+    "share/tlvdump/names.txt": "data/names.txt",
+    "share/bash-completion/completions/tlvdump": "completions/tlvdump.bash",
+    "share/zsh/site-functions/_tlvdump": "completions/_tlvdump",
+}
+
+
+def install(part, *words):
+    """Runs the script with the program of the tests, and returns its status, its output and its errors."""
+    env = dict(os.environ, TLVDUMP=part.program)
+    script = os.path.join(part.root, "install")
+    got = subprocess.run([script, *words], cwd=part.folder, env=env, capture_output=True, text=True, timeout=60)
+    return got.returncode, got.stdout, got.stderr
+
+
+def content(path):
+    with open(path, "rb") as file:
+        return file.read()
+
+
+def files_below(folder):
+    found = [os.path.join(path, name) for path, _, names in os.walk(folder) for name in names]
+    return sorted(os.path.relpath(path, folder) for path in found)
+
+
+def places(part, prefix):
+    """That each file stands below this prefix, as its source has it, and nothing else."""
+    part.expect(f"files below {prefix}", files_below(part.path(prefix)) == sorted(PLACES), *files_below(part.path(prefix)))
+    for place, source in PLACES.items():
+        path = os.path.join(part.folder, prefix, place)
+        wanted = os.path.join(part.root, source) if source else part.program
+        mode = 0o755 if place.startswith("bin/") else 0o644
+        fine = content(path) == content(wanted) and stat.S_IMODE(os.stat(path).st_mode) == mode
+        part.expect(f"{prefix}/{place}", fine)
+
+
+def installed(part):
+    """Puts, puts again, takes away."""
+    told = "".join(f"there/{place}\n" for place in PLACES)
+    for what in ("first", "again"):
+        got = install(part, "there")
+        part.expect(f"install, {what}", got == (0, told, ""), *map(str, got))
+        places(part, "there")
+    # What is installed works by itself.
+    octets = part.write("cert", b"\x30\x07\x06\x03\x55\x04\x03\x05\x00")
+    env = {"PATH": os.path.join(part.folder, "there", "bin") + ":" + os.environ["PATH"]}
+    got = subprocess.run(["tlvdump", "dump", "--pure", "--names", "there/share/tlvdump/names.txt", octets],
+                         cwd=part.folder, env=env, capture_output=True)
+    part.expect("the installed program", got.returncode == 0 and b"2.5.4.3 (commonName)" in got.stdout)
+    part.write("string", b"\x04\x02\x05\x00")
+    got = subprocess.run(["tlvdump-inside", "string"], cwd=part.folder, env=env, capture_output=True)
+    part.expect("the installed script", (got.returncode, got.stdout, got.stderr) == (0, b"0\n", b""))
+    part.write("there/share/tlvdump/mine.txt", b"2.5.4.3 cn\n")
+    got = install(part, "--remove", "there")
+    told = "".join(f"removed there/{place}\n" for place in PLACES)
+    part.expect("remove", got == (0, told, ""), *map(str, got))
+    part.expect("what it did not put stays", files_below(part.path("there")) == ["share/tlvdump/mine.txt"])
+    got = install(part, "--remove", "there")
+    part.expect("remove, again", got == (0, "", ""), *map(str, got))
+    part.expect("install, a space", install(part, "a place")[0] == 0)
+    places(part, "a place")
+    install(part, "--remove", part.path("a place"))
+    part.expect("no folder of its own stays", not os.path.exists(part.path("a place/share/tlvdump")))
+
+
+def clone(part, name, built):
+    """A clone with what the script needs; its program is newer than its sources, or missing."""
+    root = part.path(name)
+    for place in ("crates/tlvdump/src", "crates/tlvdump/specs", "crates/tlvdump/proofs", "crates/tlvdump/out"):
+        os.makedirs(os.path.join(root, place))
+    for place in ("install", "tlvdump", "tlvdump-inside", "crates.txt"):
+        shutil.copy(os.path.join(part.root, place), root)
+    for place in ("man", "data", "completions"):
+        shutil.copytree(os.path.join(part.root, place), os.path.join(root, place))
+    if built:
+        shutil.copy(part.program, os.path.join(root, "crates", "tlvdump", "out", "tlvdump"))
+    return os.path.join(root, "install")
+
+
+def builds(part):
+    """Without TLVDUMP the program of the clone is taken; where it cannot be built nothing is put."""
+    env = {"PATH": "/usr/bin:/bin"}
+    how = {"cwd": part.folder, "env": env, "capture_output": True, "text": True, "timeout": 60}
+    got = subprocess.run([clone(part, "built", True), "from-clone"], **how)
+    part.expect("the program of a clone", got.returncode == 0 and got.stderr == "", got.stderr)
+    places(part, "from-clone")
+    if shutil.which("rt", path=env["PATH"]):
+        part.note("rt is in /usr/bin: a build that fails is not tried")
+        return
+    got = subprocess.run([clone(part, "unbuilt", False), "nowhere"], **how)
+    fine = got.returncode == 70 and "tlvdump: not built" in got.stderr and not os.path.exists(part.path("nowhere"))
+    part.expect("a program that cannot be built", fine, str(got.returncode), got.stderr)
+
+
+def refused(part):
+    for words in (["--nonsense"], ["-x"], ["a", "b"], [""], ["--remove", "a", "b"]):
+        status, out, err = install(part, *words)
+        part.expect(f"refused: {words}", (status, out) == (4, "") and err.startswith("usage: "), err)
+    status, out, err = install(part, "--help")
+    part.expect("--help", status == 0 and out.startswith("usage: ./install [PREFIX]") and not err)
+    part.write("plain", b"")
+    status, out, err = install(part, "plain")
+    part.expect("a file for PREFIX", (status, out) == (1, "") and err)
+
+
+def words_of(part):
+    """The commands, and the options of each, by the program's own help."""
+    top = part.run(["--help"]).out.decode()
+    commands = re.findall(r"^  (\w+)  ", top.split("Commands:")[1].split("Options:")[0], re.M)
+    options = {}
+    for name in commands:
+        options[name] = set(re.findall(r"^ +(--[a-z]+)", part.run([name, "--help"]).out.decode(), re.M))
+    return options
+
+
+def bash(part, options):
+    def completed(*words):
+        script = 'source "$1"; shift; COMP_WORDS=("$@"); COMP_CWORD=$(($# - 1)); _tlvdump; printf "%s\\n" "${COMPREPLY[@]}"'
+        path = os.path.join(part.root, "completions", "tlvdump.bash")
+        got = subprocess.run(["bash", "-c", script, "bash", path, "tlvdump", *words], cwd=part.folder, capture_output=True, text=True)
+        return set(got.stdout.split())
+
+    part.expect("bash: commands", completed("") == {*options, "--help", "--version"}, str(completed("")))
+    part.expect("bash: d", completed("d") == {"dump"})
+    for name, wanted in options.items():
+        part.expect(f"bash: options of {name}", completed(name, "--") == wanted, str(completed(name, "--")))
+        part.expect(f"bash: FILE of {name}", completed(name, "str") == {"string"})
+    part.expect("bash: --names", completed("dump", "--names", "str") == {"string"})
+    part.expect("bash: --limit", completed("dump", "--limit", "") == set())
+
+
+def zsh(part, options):
+    """The function is run with commands in place of zsh's, which write what they are given."""
+    if not shutil.which("zsh"):
+        part.note("no zsh: its completion is not run")
+        return
+    stubs = '_arguments() { print -rl -- "$@" }; _describe() { print -rl -- "${(P@)2}" }; _files() { }\n'
+    path = os.path.join(part.root, "completions", "_tlvdump")
+
+    def completed(service, *words):
+        call = f'service={service}; words=({service} "$@"); CURRENT=$(($# + 1)); main() {{ source "{path}" }}; main'
+        got = subprocess.run(["zsh", "-f", "-c", stubs + call, "zsh", *words], cwd=part.folder, capture_output=True, text=True)
+        return got.stdout if not got.stderr else got.stderr
+
+    commands = re.findall(r"^(\w+):", completed("tlvdump", ""), re.M)
+    part.expect("zsh: commands", set(commands) == set(options) and len(commands) == len(options), completed("tlvdump", ""))
+    for name, wanted in options.items():
+        told = completed("tlvdump", name, "--")
+        part.expect(f"zsh: options of {name}", set(re.findall(r"--[a-z]+", told)) == wanted and "1:file:_files" in told, told)
+    part.expect("zsh: tlvdump-inside", "1:file:_files" in completed("tlvdump-inside", ""))
+
+
+def test(part):
+    installed(part)
+    builds(part)
+    refused(part)
+    options = words_of(part)
+    bash(part, options)
+    zsh(part, options)
