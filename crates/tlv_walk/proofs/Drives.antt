@@ -1,39 +1,43 @@
--- What a walk over all that a source gives comes to, turn by turn.
-use Rattle.std.proofs.Common.{◌≡◌, ◌≢◌, ◌⊎◌, inl, inr, ℕ, ◌+◌, ◌-◌, ◌≤◌, true, List, [], ◌∷◌, ◌++◌, length, take, refl, sym, ap, ◌∙◌, subst, arith, append_assoc, append-nil, length-append}
+-- A walk over all that a source gives, turn by turn.
+use Rattle.std.proofs.Common.{◌≡◌, ◌≢◌, ◌⊎◌, inl, inr, ℕ, zero, suc, ◌+◌, ◌-◌, ◌^◌, ◌≤◌, ◌<◌, min, Bool, true, false, List, [], ◌∷◌, ◌++◌, length, take, flat_map, refl, sym, ap, ◌∙◌, subst, arith, append_assoc, append-nil, length-append}
+use Rattle.std.proofs.lemmas.Bool.{cases_Bool, true≢false}
 use Rattle.std.proofs.lemmas.List.{length-take}
+use Rattle.std.proofs.lemmas.List.Elements.{All-append, All-nil, All-take}
 use Rattle.std.proofs.Math.Seq.{take-append-add}
-use Rattle.std.specs.Prelude.{Option, Some, None, Result, Ok, Err}
-use Rattle.std.specs.Io.KnownBytes.{Consumes}
+use Rattle.std.specs.Prelude.{Option, Result, Ok, Err, OnOk, ⊤}
+use Rattle.std.specs.Io.KnownBytes.{IsAtEnd}
+use Rattle.tlv_walk.specs.declared.ending.Ending.{Ending}
+use Rattle.tlv_walk.specs.declared.ending.Ending.TheVariants as ending
 use Rattle.tlv_walk.specs.declared.follow.Go.{Go}
 use Rattle.tlv_walk.specs.declared.follow.Go.TheVariants as go
 use Rattle.tlv_walk.specs.declared.framing.Framing.{Framing}
 use Rattle.tlv_walk.specs.declared.run.DeviceFault.{DeviceFault}
 use Rattle.tlv_walk.specs.declared.run.DeviceFault.TheVariants.{ReadFailed, WriteFailed, InputTooLong}
 use Rattle.tlv_walk.specs.declared.run.Run.{Run}
+use Rattle.tlv_walk.specs.declared.run.Turn.{Turn}
 use Rattle.tlv_walk.specs.declared.run.Turn.TheVariants.{Again, Ended}
-use Rattle.tlv_walk.specs.Device.{Last, counted, failed, gave, never}
-use Rattle.tlv_walk.specs.Drives.{ComesTo, Drives, GaveLast, WalksAll, WalksTo}
-use Rattle.tlv_walk.specs.Events.{AreEqualJoined, Told, events}
-use Rattle.tlv_walk.specs.Follow.{Following, and_then, followed}
+use Rattle.tlv_walk.specs.Device.{GaveLast, Last, Supply, Taken, failed, failures_after, gave, never, put_together}
+use Rattle.tlv_walk.specs.Drives.{Drives, had_enough, octets_told, run_of, walk}
+use Rattle.tlv_walk.specs.Events.{AreEqualJoined, Told, Open, Begin, Bytes, End, Close, Enter, Unused, Leave, Pad, events}
+use Rattle.tlv_walk.specs.Follow.{Following, GoesOn, Joins, Rests, followed, followed_events}
 use Rattle.tlv_walk.specs.Follows.{Made}
 use Rattle.tlv_walk.specs.Forest.{Forest, spell}
+use Rattle.tlv_walk.specs.Job.{AreSound, ComesTo, EndsWith, IsFinalEnding, Runs, of_drain, of_source}
+use Rattle.tlv_walk.specs.Laws.{AreOctets}
 use Rattle.tlv_walk.specs.Machine.{Machine, new_machine}
-use Rattle.tlv_walk.specs.Wrappers.{unused_of}
-use Rattle.tlv_walk.specs.Prefix.{HasPrefix}
+use Rattle.tlv_walk.specs.Out.{Sends}
 use Rattle.tlv_walk.specs.Reading.{IsReading}
 use Rattle.tlv_walk.specs.State.{Stands, waiting_of}
-use Rattle.tlv_walk.specs.Turns.{EndsIn, EndsWith, Gave, GaveUpTo, IsFinalEnding, IsMadeOf, IsPrefixMade, StandsOn, TurnsTo, given, goes_of}
-use Rattle.tlv_walk.proofs.Followed.{followed-more}
-use Rattle.tlv_walk.proofs.Following.{made_none}
-use Rattle.tlv_walk.proofs.Known.{appends_trans, prefix_behind}
-use Rattle.tlv_walk.proofs.Turns.{appends_kept, stands_spelled, stands_told}
+use Rattle.tlv_walk.specs.Turns.{Calls, EndsBy, EndsIn, Gave, GaveUpTo, StandsOn, StopsIn, Turns, given}
+use Rattle.tlv_walk.specs.Wrappers.{enters, first_other, unused_of}
+use Rattle.tlv_walk.proofs.Followed.{events_enough, followed-alike, followed-enough, kept-alike}
+use Rattle.tlv_walk.proofs.Following.{made_both, made_none, made_put}
+use Rattle.tlv_walk.proofs.Pieces.{Gathered, gathered_more, gathered_none, pieces_all, together_more}
+use Rattle.tlv_walk.proofs.Puts.{sends_nothing, sends_ok, sends_then}
+use Rattle.tlv_walk.proofs.Readings.{is-reading, reading}
+use Rattle.tlv_walk.proofs.Turns.{stands_spelled, stands_told}
 
--- octets were consumed, and others behind them
-consumes_both : (a b c : Option (List ℕ)) (xs ys : List ℕ) → Consumes a b xs → Consumes b c ys → Consumes a c (xs ++ ys)
-consumes_both None b c xs ys p q = tt
-consumes_both (Some x) None c xs ys p q = absurd p
-consumes_both (Some x) (Some y) None xs ys p q = absurd q
-consumes_both (Some x) (Some y) (Some z) xs ys p q = p ∙ ap (λ (l : List ℕ). xs ++ l) q ∙ sym (append_assoc xs ys z)
+-- ---- reads
 
 -- what the last read gave
 gave_last : (last : Last) (piece : List ℕ) → GaveUpTo (length piece) last → GaveLast last (given last piece)
@@ -46,191 +50,322 @@ gave_none never piece g e = absurd g
 gave_none (gave n) piece g e = ap gave (omega (arith, g, length-take n piece, ap length e))
 gave_none failed piece g e = absurd g
 
+given_short : (last : Last) (piece : List ℕ) (room : ℕ) → length piece ≤ room → length (given last piece) ≤ room
+given_short never piece room h = omega arith
+given_short (gave n) piece room h = omega (arith, h, length-take n piece)
+given_short failed piece room h = omega arith
+
+given_octets : (last : Last) (piece : List ℕ) → AreOctets piece → AreOctets (given last piece)
+given_octets never piece a = All-nil (λ x. x < 256)
+given_octets (gave n) piece a = All-take (λ x. x < 256) n piece a
+given_octets failed piece a = All-nil (λ x. x < 256)
+
 -- of octets behind others as many as the limit leaves
 limit_behind : (limit : ℕ) (b r : List ℕ) → length b ≤ limit → b ++ take (limit - length b) r ≡ take limit (b ++ r)
 limit_behind limit b r h = sym (take-append-add b r (limit - length b)) ∙ ap (λ (k : ℕ). take k (b ++ r)) (omega (arith, h))
 
+-- ---- what is kept of events
+
+enters_each : (es : List Told) → enters es ≡ flat_map (λ e. enters (e ∷ [])) es
+enters_each [] = refl
+enters_each (Enter h ∷ es) = ap (λ (l : List ℕ). h.offset ∷ l) (enters_each es)
+enters_each (Open h ∷ es) = enters_each es
+enters_each (Begin h ∷ es) = enters_each es
+enters_each (Bytes c ∷ es) = enters_each es
+enters_each (End ∷ es) = enters_each es
+enters_each (Close o ∷ es) = enters_each es
+enters_each (Unused ∷ es) = enters_each es
+enters_each (Leave ∷ es) = enters_each es
+enters_each (Pad c ∷ es) = enters_each es
+
+-- a run with these values
+run_is : (run : Run) (e : Ending) (n : ℕ) (k : Bool) (u : Option ℕ) → run.ending ≡ e → run.octets ≡ n → run.enough ≡ k → run.unused ≡ u → run ≡ record { ending = e; octets = n; enough = k; unused = u }
+run_is run e n k u p q r s =
+    ap (λ (x : Ending). record { ending = x; octets = run.octets; enough = run.enough; unused = run.unused }) p
+    ∙ ap (λ (x : ℕ). record { ending = e; octets = x; enough = run.enough; unused = run.unused }) q
+    ∙ ap (λ (x : Bool). record { ending = e; octets = n; enough = x; unused = run.unused }) r
+    ∙ ap (λ (x : Option ℕ). record { ending = e; octets = n; enough = k; unused = x }) s
+
 module _ {S : Type 0} (next : S → Told → Following S) where
   -- the walk so far: the octets given, the events told of them, and what was made of these
-  pub record Walking (framing : Framing) (w : Machine) (s t : S) (old new left left' : Option (List ℕ)) (reads reads' : ℕ) : Type 0 where
-    pub before : List ℕ
-    pub consumed : Consumes left left' before
-    pub many : reads' ≤ reads + length before
+  pub record Walking (framing : Framing) (w : Machine) (s t : S) (old new : Supply) (from to : Taken) : Type 0 where
+    pub gathered : Gathered old new
+    pub octets : AreOctets (put_together gathered.pieces)
+    pub failures : new.failures ≡ old.failures
     pub told : List Told
-    pub made : Made next s t old new told go.On
+    pub made : Made next s t told go.On
+    pub sends : Sends {T = ⊤} {E = DeviceFault} from to (followed next s told).put (Ok tt)
     pub same : w.framing ≡ framing
-    pub stands : Stands w before told
+    pub stands : Stands w (put_together gathered.pieces) told
     pub quiet : waiting_of w ≡ []
 
-  consumes_none : (a : Option (List ℕ)) → Consumes a a []
-  consumes_none None = tt
-  consumes_none (Some xs) = refl
-
-  pub walking_none : (framing : Framing) (s : S) (a left : Option (List ℕ)) (reads : ℕ) → Stands (new_machine framing) [] [] → Walking framing (new_machine framing) s s a a left left reads reads
-  walking_none framing s a left reads st = record {
-    before = [];
-    consumed = consumes_none left;
-    many = omega arith;
+  pub walking_none : (framing : Framing) (s : S) (old : Supply) (from : Taken) → Stands (new_machine framing) [] [] → Walking framing (new_machine framing) s s old old from from
+  walking_none framing s old from st = record {
+    gathered = gathered_none old;
+    octets = All-nil (λ x. x < 256);
+    failures = refl;
     told = [];
-    made = made_none next s a;
+    made = made_none next s;
+    sends = sends_nothing from tt;
     same = refl;
     stands = st;
     quiet = refl;
   }
 
-module _ {S : Type 0} (next : S → Told → Following S) (alike : (s : S) (xs ys : List Told) → AreEqualJoined xs ys → followed next s xs ≡ followed next s ys) where
-  -- one part behind another
-  made_both : (s t u : S) (a b c : Option (List ℕ)) (es fs : List Told) (goes : Go) → Made next s t a b es go.On → Made next t u b c fs goes → Made next s u a c (es ++ fs) goes
-  made_both s t u a b c es fs goes m k = record {
-    put = m.put ++ k.put;
-    made =
-        followed-more next s es fs (ap (λ (f : Following S). f.goes) m.made)
-        ∙ ap (λ (f : Following S). and_then f (λ v. followed next v fs)) m.made
-        ∙ ap (λ (f : Following S). record f { put = m.put ++ f.put }) k.made;
-    appended = appends_trans a b c m.put k.put m.appended k.appended;
-  }
+module _ {S : Type 0} (next : S → Told → Following S)
+    (bytes_join : Joins next Bytes) (bytes_rest : Rests next Bytes) (bytes_go_on : GoesOn next Bytes)
+    (pad_join : Joins next Pad) (pad_rest : Rests next Pad) (pad_go_on : GoesOn next Pad) where
+  alike : (s : S) (es fs : List Told) → AreEqualJoined es fs → followed next s es ≡ followed next s fs
+  alike = followed-alike next bytes_join bytes_rest bytes_go_on pad_join pad_rest pad_go_on
 
-  module _ (framing : Framing) (w : Machine) (s t : S) (old mid left left' : Option (List ℕ)) (reads reads' : ℕ) (x : Walking next framing w s t old mid left left' reads reads') where
-    -- what was made of all events of these octets and others
-    whole : (o : List ℕ) (m : Following S) → IsMadeOf next w.framing o x.told t m → (f : Forest) → IsReading framing o f → followed next s (events f) ≡ record m { put = x.made.put ++ m.put }
-    whole o m made f r =
-        let y : (more : List Told) × AreEqualJoined (x.told ++ more) (events f) × (followed next t more ≡ m) = made f (subst (λ (g : Framing). IsReading g o f) (sym x.same) r) in
-        sym (alike s (x.told ++ y.0) (events f) y.1)
-        ∙ followed-more next s x.told y.0 (ap (λ (k : Following S). k.goes) x.made.made)
-        ∙ ap (λ (k : Following S). and_then k (λ v. followed next v y.0)) x.made.made
-        ∙ ap (λ (k : Following S). record k { put = x.made.put ++ k.put }) y.2
+  octets_alike : (s : S) (es fs : List Told) → AreEqualJoined es fs → flat_map octets_told (followed_events next s es) ≡ flat_map octets_told (followed_events next s fs)
+  octets_alike s es fs e =
+      kept-alike next bytes_join bytes_rest bytes_go_on pad_join pad_rest pad_go_on octets_told (λ x y. refl) refl (λ x y. refl) refl s es fs e
+
+  enters_alike : (s : S) (es fs : List Told) → AreEqualJoined es fs → enters (followed_events next s es) ≡ enters (followed_events next s fs)
+  enters_alike s es fs e =
+      enters_each (followed_events next s es)
+      ∙ kept-alike next bytes_join bytes_rest bytes_go_on pad_join pad_rest pad_go_on (λ e. enters (e ∷ [])) (λ x y. refl) refl (λ x y. refl) refl s es fs e
+      ∙ sym (enters_each (followed_events next s fs))
+
+  -- what was made of all events of a forest
+  pub record MadeAll (s t : S) (f : Forest) (goes : Go) (text : List ℕ) : Type 0 where
+    pub state : t ≡ (followed next s (events f)).state
+    pub goes_so : (followed next s (events f)).goes ≡ goes
+    pub text_is : text ≡ (followed next s (events f)).put
+
+  made_all : (s t : S) (es : List Told) (f : Forest) (goes : Go) → Made next s t es goes → AreEqualJoined es (events f) → MadeAll s t f goes (followed next s es).put
+  made_all s t es f goes m e =
+      let same : followed next s es ≡ followed next s (events f) = alike s es (events f) e in record {
+        state = m.state ∙ ap (λ (k : Following S). k.state) same;
+        goes_so = sym (ap (λ (k : Following S). k.goes) same) ∙ m.goes_so;
+        text_is = ap (λ (k : Following S). k.put) same;
+      }
+
+  -- where there was enough before the last of them
+  made_enough : (s t : S) (es others : List Told) (f : Forest) → Made next s t es go.Enough → AreEqualJoined (es ++ others) (events f) → MadeAll s t f go.Enough (followed next s es).put
+  made_enough s t es others f m e =
+      let same : followed next s es ≡ followed next s (events f) = sym (followed-enough next s es others m.goes_so) ∙ alike s (es ++ others) (events f) e in record {
+        state = m.state ∙ ap (λ (k : Following S). k.state) same;
+        goes_so = sym (ap (λ (k : Following S). k.goes) same) ∙ m.goes_so;
+        text_is = ap (λ (k : Following S). k.put) same;
+      }
+
+  -- the events followed are then these
+  enough_events : (s t : S) (es others : List Told) → Made next s t es go.Enough → followed_events next s (es ++ others) ≡ es
+  enough_events s t es others m = events_enough next s es others m.goes_so ∙ m.all
+
+  enough_octets : (s t : S) (es others : List Told) (f : Forest) → Made next s t es go.Enough → AreEqualJoined (es ++ others) (events f) → flat_map octets_told es ≡ flat_map octets_told (followed_events next s (events f))
+  enough_octets s t es others f m e = ap (flat_map octets_told) (sym (enough_events s t es others m)) ∙ octets_alike s (es ++ others) (events f) e
+
+  enough_enters : (s t : S) (es others : List Told) (f : Forest) → Made next s t es go.Enough → AreEqualJoined (es ++ others) (events f) → enters es ≡ enters (followed_events next s (events f))
+  enough_enters s t es others f m e = ap enters (sym (enough_events s t es others m)) ∙ enters_alike s (es ++ others) (events f) e
+
+  module _ (framing : Framing) (limit : ℕ) (w : Machine) (s t : S) (old mid : Supply) (from at : Taken) (x : Walking next framing w s t old mid from at) where
+    abbrev before : List ℕ
+    before = put_together x.gathered.pieces
+
+    first_reading : IsReading framing before x.stands.reading
+    first_reading = subst (λ (g : Framing). IsReading g before x.stands.reading) x.same x.stands.is_reading
+
+    first_made : MadeAll s t x.stands.reading go.On (followed next s x.told).put
+    first_made = made_all s t x.told x.stands.reading go.On x.made (stands_told w before x.told x.stands.reading x.stands x.quiet x.stands.is_reading)
+
+    first_spelled : spell x.stands.reading ≡ before
+    first_spelled = stands_spelled w before x.told x.stands.reading x.stands x.stands.is_reading
 
     -- the octets so far hold neither a fault nor enough
-    so_far : (f : Forest) → IsReading framing x.before f → (spell f ≡ x.before) × (followed next s (events f) ≡ record { state = t; put = x.made.put; goes = go.On })
-    so_far f r =
-        let r' : IsReading w.framing x.before f = subst (λ (g : Framing). IsReading g x.before f) (sym x.same) r in (
-          stands_spelled w x.before x.told f x.stands r',
-          sym (alike s x.told (events f) (stands_told w x.before x.told f x.stands x.quiet r')) ∙ x.made.made,
-        )
+    first_sound : AreSound (walk next framing limit s) before
+    first_sound = record {
+      forest = x.stands.reading;
+      is_reading = first_reading;
+      spelled = first_spelled;
+      not_enough = ap had_enough first_made.goes_so;
+    }
 
-    read_before : (f : Forest) → IsReading framing x.before f → (spell f ≡ x.before) × ((followed next s (events f)).goes ≡ go.On)
-    read_before f r = let y = so_far f r in (y.0, ap (λ (k : Following S). k.goes) y.1)
+    module _ (v : Machine) (u : S) (new : Supply) (to : Taken) (piece : List ℕ) (result : Result Turn DeviceFault) (calls : Calls 4096 mid new at to piece result)
+        (room : length piece ≡ 4096) (octets : AreOctets piece) (below : w.offset ≤ limit) where
+      abbrev r : List ℕ
+      r = given new.last piece
 
-    module _ (v : Machine) (u : S) (new left'' : Option (List ℕ)) (r : List ℕ) (limit : ℕ) (consumed : Consumes left' left'' r) (below : w.offset ≤ limit) where
-      within : length x.before ≤ limit
+      few : length r ≤ 4096
+      few = given_short new.last piece 4096 (omega (arith, room))
+
+      within : length before ≤ limit
       within = omega (arith, x.stands.has_state.offset, below)
 
-      followed_so_far : x.before ++ take (limit - length x.before) r ≡ take limit (x.before ++ r)
-      followed_so_far = limit_behind limit x.before r within
+      all_octets : AreOctets (before ++ r)
+      all_octets = All-append (λ x. x < 256) before r x.octets (given_octets new.last piece octets)
+
+      abbrev walked : List ℕ
+      walked = before ++ take (limit - length before) r
+
+      walked_is : walked ≡ take limit (before ++ r)
+      walked_is = limit_behind limit before r within
+
+      walked_octets : AreOctets walked
+      walked_octets = subst AreOctets (sym walked_is) (All-take (λ x. x < 256) limit (before ++ r) all_octets)
+
+      -- what was sent before and in this turn
+      sent : (more : List Told) (result : Result ⊤ DeviceFault) → Sends at to (followed next t more).put result → Sends from to (followed next s (x.told ++ more)).put result
+      sent more result k =
+          subst (λ (l : List ℕ). Sends from to l result) (made_put next s t x.told more x.made) (sends_then from at to (followed next s x.told).put (followed next t more).put tt result x.sends k)
+
+      some_octets : (o : List ℕ) → o ≢ [] → 0 < length o
+      some_octets [] n = absurd (n refl)
+      some_octets (z ∷ o) n = omega arith
 
       -- the walk goes on
-      pub walking_on : TurnsTo next w v t u mid new x.before x.told r limit (Ok Again) → Walking next framing v s u old new left left'' reads (counted reads')
-      walking_on y = record {
-        before = x.before ++ r;
-        consumed = consumes_both left left' left'' x.before r x.consumed consumed;
-        many = omega (arith, x.many, length-append x.before r, some_octets r y.0);
+      pub walking_on : result ≡ Ok Again → Turns next limit w v t u before x.told r at to (Ok Again) → Walking next framing v s u old new from to
+      walking_on is y = record {
+        gathered = gathered_more old mid new x.gathered r calls.octets calls.reads (some_octets r y.0, few);
+        octets = subst AreOctets (sym (together_more x.gathered.pieces r)) all_octets;
+        failures = calls.failed_reads ∙ ap (λ (k : Result Turn DeviceFault). failures_after (of_source k) mid.failures) is ∙ x.failures;
         told = x.told ++ y.2.more;
-        made = made_both s t u old mid new x.told y.2.more go.On x.made y.2.made;
+        made = made_both next s t u x.told y.2.more go.On x.made y.2.made;
+        sends = sent y.2.more (Ok tt) y.2.put;
         same = y.2.framing ∙ x.same;
-        stands = y.2.stands;
+        stands = subst (λ (o : List ℕ). Stands v o (x.told ++ y.2.more)) (sym (together_more x.gathered.pieces r)) y.2.stands;
         quiet = y.2.quiet;
       }
-        where
-          some_octets : (o : List ℕ) → o ≢ [] → 1 ≤ length o
-          some_octets [] n = absurd (n refl)
-          some_octets (z ∷ o) n = omega arith
-
-      -- behind the octets so far, within the limit, all is made
-      walks_all : StandsOn next w v t u mid new (x.before ++ take (limit - length x.before) r) x.told → WalksAll next framing s u old new (take limit (x.before ++ r))
-      walks_all y =
-          let both : Made next s u old new (x.told ++ y.more) go.On = made_both s t u old mid new x.told y.more go.On x.made y.made in
-          subst (λ (o : List ℕ). WalksAll next framing s u old new o) followed_so_far (record {
-            put = both.put;
-            appended = both.appended;
-            spelled = λ f q. stands_spelled v _ (x.told ++ y.more) f y.stands (subst (λ (g : Framing). IsReading g (x.before ++ take (limit - length x.before) r) f) (sym (y.framing ∙ x.same)) q);
-            made = λ f q.
-                sym (alike s (x.told ++ y.more) (events f)
-                (stands_told v _ (x.told ++ y.more) f y.stands y.quiet (subst (λ (g : Framing). IsReading g (x.before ++ take (limit - length x.before) r) f) (sym (y.framing ∙ x.same)) q)))
-                ∙ both.made;
-          })
-
-      walks_to : (run : Run) → EndsIn next w v t u mid new (x.before ++ take (limit - length x.before) r) x.told run → WalksTo next framing s u old new (take limit (x.before ++ r)) run
-      walks_to run y = subst (λ (o : List ℕ). WalksTo next framing s u old new o run) followed_so_far (record {
-        put = x.made.put ++ y.put;
-        appended = appends_trans old mid new x.made.put y.put x.made.appended y.appended;
-        made = λ f q. whole (x.before ++ take (limit - length x.before) r) (record { state = u; put = y.put; goes = goes_of run.enough }) y.made f q;
-        ending = subst (λ (g : Framing). EndsWith g (x.before ++ take (limit - length x.before) r) run.enough run.ending) x.same y.ending;
-        spelled = λ no f q. let k = y.spelled no f (subst (λ (g : Framing). IsReading g (x.before ++ take (limit - length x.before) r) f) (sym x.same) q) in (k.0, k.1 ∙ ap (λ (g : Framing). unused_of g.inside f) x.same);
-        last = λ enough. let k = y.last enough in (
-          v,
-          record {
-            same = k.same ∙ x.same;
-            front = k.front;
-            is_front = k.is_front;
-            more = x.told ++ k.more;
-            made = followed-more next s x.told k.more (ap (λ (f : Following S). f.goes) x.made.made)
-                ∙ ap (λ (f : Following S). and_then f (λ z. followed next z k.more)) x.made.made
-                ∙ ap (λ (f : Following S). record f { put = x.made.put ++ f.put }) k.made;
-            stands = k.stands;
-            octets_are = k.octets_are;
-            unused = k.unused ∙ ap (λ (g : Framing). unused_of g.inside k.stands.reading) x.same;
-          },
-        );
-      })
-
-      prefix_whole : IsPrefixMade next w.framing (x.before ++ take (limit - length x.before) r) x.told t mid new
-          → (f : Forest) → IsReading framing (take limit (x.before ++ r)) f → HasPrefix old new (followed next s (events f)).put
-      prefix_whole y f q =
-          let q' : IsReading w.framing (x.before ++ take (limit - length x.before) r) f =
-          subst (λ (g : Framing). IsReading g (x.before ++ take (limit - length x.before) r) f) (sym x.same) (subst (λ (o : List ℕ). IsReading framing o f) (sym followed_so_far) q) in
-          let z : (more : List Told) × AreEqualJoined (x.told ++ more) (events f) × HasPrefix mid new (followed next t more).put = y f q' in
-          subst (λ (k : Following S). HasPrefix old new k.put) (alike s (x.told ++ z.0) (events f) z.1)
-          (subst (λ (k : Following S). HasPrefix old new k.put)
-          (sym (followed-more next s x.told z.0 (ap (λ (k : Following S). k.goes) x.made.made) ∙ ap (λ (k : Following S). and_then k (λ a. followed next a z.0)) x.made.made))
-          (prefix_behind old mid new x.made.put (followed next t z.0).put x.made.appended z.2))
 
       -- ---- the walk has ended
 
-      drives_by : (last : Last) (result : Result Run DeviceFault) → GaveLast last r → ComesTo next framing s u old new (x.before ++ r) last limit result
-          → Drives next framing s u old new left left'' reads (counted reads') last limit result
-      drives_by last result g c = record {
-        before = x.before;
-        rest = r;
-        consumed = consumes_both left left' left'' x.before r x.consumed consumed;
-        gave_last = g;
-        many = omega (arith, x.many);
+      runs_by : (answer : Result Run DeviceFault) (f : Forest) → GaveLast new.last r → IsReading framing walked f → (es : List Told) → (goes : Go) (k : MadeAll s u f goes (followed next s es).put)
+          → of_source answer ≡ of_source result → Sends from to (followed next s es).put (of_drain answer) → ComesTo (walk next framing limit s) (before ++ r) f new answer
+          → Runs (walk next framing limit s) old new from to answer
+      runs_by answer f last read es goes k same sends comes = record {
+        pieces = pieces_all old mid new x.gathered r calls.octets calls.reads last few;
+        failures = calls.failed_reads ∙ ap (λ (k : Result ⊤ DeviceFault). failures_after k mid.failures) (sym same) ∙ ap (failures_after (of_source answer)) x.failures;
+        sound = first_sound;
         within = within;
-        read = read_before;
-        comes = c;
+        reading = f;
+        is_reading = subst (λ (o : List ℕ). IsReading framing o f) walked_is read;
+        sends = subst (λ (l : List ℕ). Sends from to l (of_drain answer)) k.text_is sends;
+        comes = comes;
       }
 
-      pub drives_ended : (last : Last) (piece : List ℕ) (run : Run) → GaveUpTo (length piece) last → r ≡ given last piece → TurnsTo next w v t u mid new x.before x.told r limit (Ok (Ended run))
-          → Drives next framing s u old new left left'' reads (counted reads') last limit (Ok run)
-      drives_ended last piece run g e y = drives_by last (Ok run) (subst (GaveLast last) (sym e) (gave_last last piece g)) (walks_to run y.0, ended y.1)
-        where
-          ended : (run.enough ≡ true) ⊎ IsFinalEnding run.ending ⊎ (r ≡ []) → (run.enough ≡ true) ⊎ IsFinalEnding run.ending ⊎ (last ≡ gave 0)
-          ended (inl k) = inl k
-          ended (inr (inl k)) = inr (inl k)
-          ended (inr (inr k)) = inr (inr (gave_none last piece g (sym e ∙ k)))
+      is_enough_so : (f : Forest) (goes : Go) (text : List ℕ) → MadeAll s u f goes text → had_enough (followed next s (events f)).goes ≡ had_enough goes
+      is_enough_so f goes text k = ap had_enough k.goes_so
 
-      drives_read_failed : (last : Last) → last ≡ failed → r ≡ [] → TurnsTo next w v t u mid new x.before x.told r limit (Err ReadFailed)
-          → Drives next framing s u old new left left'' reads (counted reads') last limit (Err ReadFailed)
-      drives_read_failed last l e y =
-          drives_by last (Err ReadFailed) (subst (λ (k : Last). GaveLast k r) (sym l) e) (l, omega (arith, within, length-append x.before r, ap length e), subst (λ (o : List ℕ). WalksAll next framing s u old new o) (sym (append-nil x.before) ∙ ap (λ (o : List ℕ). x.before ++ o) (sym e)) all)
-        where
-          all : WalksAll next framing s u old new x.before
-          all = record {
-            put = x.made.put;
-            appended = appends_kept old mid new x.made.put x.made.appended y.2;
-            spelled = λ f q. (so_far f q).0;
-            made = λ f q. (so_far f q).1 ∙ ap (λ (k : S). record { state = k; put = x.made.put; goes = go.On }) (sym y.1);
+      ended_by : (run : Run) (f : Forest) → (run.enough ≡ true → had_enough (followed next s (events f)).goes ≡ true) → GaveUpTo (length piece) new.last → (run.enough ≡ true) ⊎ IsFinalEnding run.ending ⊎ (r ≡ [])
+          → (had_enough (followed next s (events f)).goes ≡ true) ⊎ IsFinalEnding run.ending ⊎ ((new.last ≡ gave 0) × IsAtEnd new.left)
+      ended_by run f e g (inl k) = inl (e k)
+      ended_by run f e g (inr (inl k)) = inr (inl k)
+      ended_by run f e g (inr (inr k)) = let z = gave_none new.last piece g k in inr (inr (z, calls.at_end z))
+
+      -- with a fault or the end of the input
+      ends_without : (run : Run) → result ≡ Ok (Ended run) → GaveUpTo (length piece) new.last → run.enough ≡ false → EndsIn next w t u walked x.told (λ text. Sends {T = ⊤} {E = DeviceFault} at to text (Ok tt)) run
+          → (run.enough ≡ true) ⊎ IsFinalEnding run.ending ⊎ (r ≡ []) → Drives next framing limit s u old new from to (Ok run)
+      unfolding runs_by
+      ends_without run is g none y ended =
+          let es : List Told = x.told ++ y.more in
+          let f : Forest = y.reading in
+          let read : IsReading framing walked f = subst (λ (k : Framing). IsReading k walked f) x.same y.is_reading in
+          let k : MadeAll s u f go.On (followed next s es).put = made_all s u es f go.On (made_both next s t u x.told y.more go.On x.made y.made) y.tells in
+          let answer : run ≡ run_of framing f (followed_events next s (events f)) (followed next s (events f)).goes run.ending =
+          run_is run run.ending (length (spell f)) false (unused_of framing.inside f) refl y.spelled none (y.unused ∙ ap (λ (k : Framing). unused_of k.inside f) x.same)
+          ∙ ap (λ (g : Go). run_of framing f (followed_events next s (events f)) g run.ending) (sym k.goes_so) in
+          let ends : EndsWith framing (take limit (before ++ r)) (had_enough (followed next s (events f)).goes) run.ending =
+          subst (λ (b : Bool). EndsWith framing (take limit (before ++ r)) b run.ending) (sym (is_enough_so f go.On (followed next s es).put k))
+          (subst (λ (o : List ℕ). EndsWith framing o false run.ending) walked_is (subst (λ (k : Framing). EndsWith k walked false run.ending) x.same y.ending)) in record {
+            runs = runs_by (Ok run) f (gave_last new.last piece g) read es go.On k (ap of_source (sym is)) (sent y.more (Ok tt) y.put)
+                (run.ending, answer, ends, ended_by run f (λ e. absurd (true≢false (sym e ∙ none))) g ended);
+            state = k.state;
           }
 
-      drives_write_failed : (last : Last) (piece : List ℕ) → GaveUpTo (length piece) last → r ≡ given last piece → TurnsTo next w v t u mid new x.before x.told r limit (Err WriteFailed)
-          → Drives next framing s u old new left left'' reads (counted reads') last limit (Err WriteFailed)
-      drives_write_failed last piece g e y = drives_by last (Err WriteFailed) (subst (GaveLast last) (sym e) (gave_last last piece g)) (prefix_whole y)
+      -- with enough
+      ends_with : (run : Run) → result ≡ Ok (Ended run) → GaveUpTo (length piece) new.last → run.enough ≡ true → StopsIn next w v t u walked x.told (λ text. Sends {T = ⊤} {E = DeviceFault} at to text (Ok tt)) run
+          → Drives next framing limit s u old new from to (Ok run)
+      unfolding runs_by
+      ends_with run is g yes' y =
+          let es : List Told = x.told ++ y.more in
+          let f : Forest = reading framing walked in
+          let read : IsReading framing walked f = is-reading framing walked walked_octets in
+          let others : (others : List Told) × AreEqualJoined (es ++ others) (events f) = y.tells f (subst (λ (k : Framing). IsReading k walked f) (sym x.same) read) in
+          let made : Made next s u es go.Enough = made_both next s t u x.told y.more go.Enough x.made y.made in
+          let k : MadeAll s u f go.Enough (followed next s es).put = made_enough s u es others.0 f made others.1 in
+          let answer : run ≡ run_of framing f (followed_events next s (events f)) (followed next s (events f)).goes run.ending =
+          run_is run run.ending (length (flat_map octets_told (followed_events next s (events f)))) true (first_other framing.inside (enters (followed_events next s (events f)))) refl
+          (y.spelled ∙ ap length (enough_octets s u es others.0 f made others.1)) yes'
+          (y.unused ∙ ap (λ (k : Framing). first_other k.inside (enters es)) x.same ∙ ap (first_other framing.inside) (enough_enters s u es others.0 f made others.1))
+          ∙ ap (λ (g : Go). run_of framing f (followed_events next s (events f)) g run.ending) (sym k.goes_so) in
+          let enough : had_enough (followed next s (events f)).goes ≡ true = is_enough_so f go.Enough (followed next s es).put k in
+          let ends : EndsWith framing (take limit (before ++ r)) (had_enough (followed next s (events f)).goes) run.ending =
+          subst (λ (b : Bool). EndsWith framing (take limit (before ++ r)) b run.ending) (sym enough) y.ending in record {
+            runs = runs_by (Ok run) f (gave_last new.last piece g) read es go.Enough k (ap of_source (sym is)) (sent y.more (Ok tt) y.put) (run.ending, answer, ends, inl enough);
+            state = k.state;
+          }
 
-      drives_long : (last : Last) (piece : List ℕ) → GaveUpTo (length piece) last → r ≡ given last piece → TurnsTo next w v t u mid new x.before x.told r limit (Err InputTooLong)
-          → Drives next framing s u old new left left'' reads (counted reads') last limit (Err InputTooLong)
-      drives_long last piece g e y = drives_by last (Err InputTooLong) (subst (GaveLast last) (sym e) (gave_last last piece g)) (y.0, walks_all y.1)
+      pub drives_ended : (run : Run) → result ≡ Ok (Ended run) → Turns next limit w v t u before x.told r at to (Ok (Ended run)) → Drives next framing limit s u old new from to (Ok run)
+      drives_ended run is y =
+          let P : List ℕ → Type 0 = λ text. Sends {T = ⊤} {E = DeviceFault} at to text (Ok tt) in
+          let g : GaveUpTo (length piece) new.last = subst (λ (n : ℕ). GaveUpTo n new.last) (sym room) (subst (λ (k : Result Turn DeviceFault). Gave 4096 k new.last) is calls.last) in
+          elim (cases_Bool run.enough) [
+            | inl e ↦ ends_with run is g e (subst (λ (k : Bool). EndsBy next k w v t u walked x.told P run) e y.0)
+            | inr e ↦ ends_without run is g e (subst (λ (k : Bool). EndsBy next k w v t u walked x.told P run) e y.0) y.1
+          ]
 
-      pub drives_err : (last : Last) (piece : List ℕ) (e : DeviceFault) → Gave (length piece) (Err e) last → r ≡ given last piece → TurnsTo next w v t u mid new x.before x.told r limit (Err e)
-          → Drives next framing s u old new left left'' reads (counted reads') last limit (Err e)
-      drives_err last piece ReadFailed g e y = drives_read_failed last g (e ∙ ap (λ (k : Last). given k piece) g) y
-      drives_err last piece WriteFailed g e y = drives_write_failed last piece g e y
-      drives_err last piece InputTooLong g e y = drives_long last piece g e y
+      drives_read_failed : result ≡ Err ReadFailed → Turns next limit w v t u before x.told r at to (Err ReadFailed) → Drives next framing limit s u old new from to (Err ReadFailed)
+      unfolding runs_by
+      drives_read_failed is y =
+          let last : new.last ≡ failed = subst (λ (k : Result Turn DeviceFault). Gave 4096 k new.last) is calls.last in
+          let none : r ≡ [] = ap (λ (l : Last). given l piece) last in
+          let f : Forest = x.stands.reading in
+          let all : before ≡ walked = sym (ap (λ (o : List ℕ). before ++ take (limit - length before) o) none ∙ ap (λ (o : List ℕ). before ++ o) (none_taken (limit - length before)) ∙ append-nil before) in
+          let k : MadeAll s u f go.On (followed next s x.told).put = record { state = y.1 ∙ first_made.state; goes_so = first_made.goes_so; text_is = first_made.text_is } in
+          let put : Sends from to (followed next s x.told).put (Ok tt) =
+          sends_ok {T = ⊤} {U = ⊤} {E = DeviceFault} {F = DeviceFault} from to ((followed next s x.told).put ++ []) (followed next s x.told).put tt tt (sends_then from at to (followed next s x.told).put [] tt (Ok tt) x.sends y.2) (append-nil _) in record {
+            runs = runs_by (Err ReadFailed) f (subst (λ (l : Last). GaveLast l r) (sym last) none) (subst (λ (o : List ℕ). IsReading framing o f) all first_reading) x.told go.On k (ap of_source (sym is)) put last;
+            state = k.state;
+          }
+        where
+          none_taken : (n : ℕ) → take {A = ℕ} n [] ≡ []
+          none_taken zero = refl
+          none_taken (suc n) = refl
+
+      drives_write_failed : result ≡ Err WriteFailed → Turns next limit w v t u before x.told r at to (Err WriteFailed) → Drives next framing limit s u old new from to (Err WriteFailed)
+      drives_write_failed is y =
+          let g : GaveUpTo (length piece) new.last = subst (λ (n : ℕ). GaveUpTo n new.last) (sym room) (subst (λ (k : Result Turn DeviceFault). Gave 4096 k new.last) is calls.last) in
+          let f : Forest = reading framing walked in
+          let read : IsReading framing walked f = is-reading framing walked walked_octets in
+          let z = y f (subst (λ (k : Framing). IsReading k walked f) (sym x.same) read) in
+          let es : List Told = x.told ++ z.0 in
+          let same : followed next s es ≡ followed next s (events f) = alike s es (events f) z.1 in record {
+            runs = record {
+              pieces = pieces_all old mid new x.gathered r calls.octets calls.reads (gave_last new.last piece g) few;
+              failures = calls.failed_reads ∙ ap (λ (k : Result Turn DeviceFault). failures_after (of_source k) mid.failures) is ∙ x.failures;
+              sound = first_sound;
+              within = within;
+              reading = f;
+              is_reading = subst (λ (o : List ℕ). IsReading framing o f) walked_is read;
+              sends = subst (λ (l : List ℕ). Sends {T = ⊤} {E = DeviceFault} from to l (Err WriteFailed)) (ap (λ (k : Following S). k.put) same) (sent z.0 (Err WriteFailed) z.2);
+              comes = tt;
+            };
+            state = tt;
+          }
+
+      drives_long : result ≡ Err InputTooLong → Turns next limit w v t u before x.told r at to (Err InputTooLong) → Drives next framing limit s u old new from to (Err InputTooLong)
+      unfolding runs_by
+      drives_long is y =
+          let g : GaveUpTo (length piece) new.last = subst (λ (n : ℕ). GaveUpTo n new.last) (sym room) (subst (λ (k : Result Turn DeviceFault). Gave 4096 k new.last) is calls.last) in
+          let z = y.1 in
+          let es : List Told = x.told ++ z.more in
+          let f : Forest = z.stands.reading in
+          let read : IsReading framing walked f = subst (λ (k : Framing). IsReading k walked f) (z.framing ∙ x.same) z.stands.is_reading in
+          let k : MadeAll s u f go.On (followed next s es).put =
+          made_all s u es f go.On (made_both next s t u x.told z.more go.On x.made z.made) (stands_told v walked es f z.stands z.quiet z.stands.is_reading) in
+          let sound : AreSound (walk next framing limit s) (take limit (before ++ r)) = subst (AreSound (walk next framing limit s)) walked_is (record {
+            forest = f;
+            is_reading = read;
+            spelled = stands_spelled v walked es f z.stands z.stands.is_reading;
+            not_enough = is_enough_so f go.On (followed next s es).put k;
+          }) in record {
+            runs = runs_by (Err InputTooLong) f (gave_last new.last piece g) read es go.On k (ap of_source (sym is)) (sent z.more (Ok tt) z.put) (y.0, sound);
+            state = k.state;
+          }
+
+      pub drives_err : (e : DeviceFault) → result ≡ Err e → Turns next limit w v t u before x.told r at to (Err e) → Drives next framing limit s u old new from to (Err e)
+      drives_err ReadFailed is y = drives_read_failed is y
+      drives_err WriteFailed is y = drives_write_failed is y
+      drives_err InputTooLong is y = drives_long is y

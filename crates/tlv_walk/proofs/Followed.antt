@@ -1,9 +1,9 @@
 -- What a follower makes of lists of events, and of lists that are equal joined.
-use Rattle.std.proofs.Common.{◌≡◌, ℕ, List, [], ◌∷◌, ◌++◌, refl, sym, ap, ◌∙◌, append_assoc, append-nil}
+use Rattle.std.proofs.Common.{◌≡◌, ℕ, List, [], ◌∷◌, ◌++◌, refl, sym, ap, ◌∙◌, append_assoc, append-nil, flat_map}
 use Rattle.tlv_walk.specs.declared.follow.Go.{Go}
 use Rattle.tlv_walk.specs.declared.follow.Go.TheVariants.{On, Enough}
 use Rattle.tlv_walk.specs.Events.{Told, Open, Begin, Bytes, End, Close, Enter, Unused, Leave, Pad, AreEqualJoined, joined, with_bytes, with_pad}
-use Rattle.tlv_walk.specs.Follow.{Following, GoesOn, Joins, Rests, and_then, each_octet, followed, if_on, stay}
+use Rattle.tlv_walk.specs.Follow.{Following, GoesOn, Joins, Rests, and_then, each_octet, followed, followed_events, if_more, if_on, stay}
 
 module _ {S : Type 0} where
   -- what was put before
@@ -41,6 +41,9 @@ module _ {S : Type 0} where
       behind m Enough = refl
   if_on-assoc Enough t f g e = ap (λ (go : Go). if_on go t g) e
 
+on_is_not_enough : On ≡ Enough → ⊥
+on_is_not_enough e = cc
+
 module _ {S : Type 0} (next : S → Told → Following S) where
   -- some events and then others
   pub followed-append : (s : S) (xs ys : List Told) → followed next s (xs ++ ys) ≡ if_on (followed next s xs).goes (followed next s xs) (λ u. followed next u ys)
@@ -76,6 +79,42 @@ module _ {S : Type 0} (next : S → Told → Following S) where
       one : (go : Go) (t : Following S) → t.goes ≡ go → if_on go t stay ≡ t
       one On t g = and_then-stay t g
       one Enough t g = refl
+
+  -- ---- the events up to the first at which it has enough
+
+  -- where it wanted more behind some events, they are followed, and others behind them
+  pub events_more : (s : S) (xs ys : List Told) → (followed next s xs).goes ≡ On → followed_events next s (xs ++ ys) ≡ xs ++ followed_events next (followed next s xs).state ys
+  events_more s [] ys h = refl
+  events_more s (e ∷ xs) ys h = by (λ (k : (followed next (next s e).state xs).goes ≡ On). events_more (next s e).state xs ys k) (next s e).goes refl h
+    where
+      by : ((followed next (next s e).state xs).goes ≡ On → followed_events next (next s e).state (xs ++ ys) ≡ xs ++ followed_events next (followed next (next s e).state xs).state ys)
+          → (g : Go) → (next s e).goes ≡ g → (if_on g (next s e) (λ u. followed next u xs)).goes ≡ On
+          → e ∷ if_more g (followed_events next (next s e).state (xs ++ ys)) ≡ e ∷ (xs ++ followed_events next (if_on g (next s e) (λ u. followed next u xs)).state ys)
+      by step On k h = ap (λ (l : List Told). e ∷ l) (step h)
+      by step Enough k h = absurd (on_is_not_enough (sym h ∙ k))
+
+  -- one event is followed
+  pub events_one : (s : S) (e : Told) → followed_events next s (e ∷ []) ≡ e ∷ []
+  events_one s e = by (next s e).goes
+    where
+      by : (g : Go) → e ∷ if_more g [] ≡ e ∷ []
+      by On = refl
+      by Enough = refl
+
+  -- and so are those behind which it wants more
+  pub events_all : (s : S) (xs : List Told) → (followed next s xs).goes ≡ On → followed_events next s xs ≡ xs
+  events_all s xs h = ap (followed_events next s) (sym (append-nil xs)) ∙ events_more s xs [] h ∙ append-nil xs
+
+  -- where it had enough, none behind them
+  pub events_enough : (s : S) (xs ys : List Told) → (followed next s xs).goes ≡ Enough → followed_events next s (xs ++ ys) ≡ followed_events next s xs
+  events_enough s [] ys h = absurd (cc (h))
+  events_enough s (e ∷ xs) ys h = by (λ (k : (followed next (next s e).state xs).goes ≡ Enough). events_enough (next s e).state xs ys k) (next s e).goes refl h
+    where
+      by : ((followed next (next s e).state xs).goes ≡ Enough → followed_events next (next s e).state (xs ++ ys) ≡ followed_events next (next s e).state xs)
+          → (g : Go) → (next s e).goes ≡ g → (if_on g (next s e) (λ u. followed next u xs)).goes ≡ Enough
+          → e ∷ if_more g (followed_events next (next s e).state (xs ++ ys)) ≡ e ∷ if_more g (followed_events next (next s e).state xs)
+      by step On k h = ap (λ (l : List Told). e ∷ l) (step h)
+      by step Enough k h = refl
 
   -- events behind one event may be others that are followed alike
   behind : (s : S) (e : Told) (es fs : List Told) → ((u : S) → followed next u es ≡ followed next u fs) → followed next s (e ∷ es) ≡ followed next s (e ∷ fs)
@@ -144,6 +183,48 @@ module _ {S : Type 0} (next : S → Told → Following S)
   -- events that are equal joined make the same
   pub followed-alike : (s : S) (es fs : List Told) → AreEqualJoined es fs → followed next s es ≡ followed next s fs
   followed-alike s es fs e = sym (followed-joined s es) ∙ ap (followed next s) e ∙ followed-joined s fs
+
+-- ---- of the events that are followed, what is kept of each
+
+module _ {S : Type 0} (next : S → Told → Following S) (part : Told → List ℕ) where
+  -- a follower that puts what is kept
+  abbrev keeping : S → Told → Following S
+  keeping s e = record { state = (next s e).state; put = part e; goes = (next s e).goes }
+
+  kept : (s : S) (es : List Told) → flat_map part (followed_events next s es) ≡ (followed keeping s es).put
+  kept s [] = refl
+  kept s (e ∷ es) = by (kept (next s e).state es) (next s e).goes
+    where
+      by : flat_map part (followed_events next (next s e).state es) ≡ (followed keeping (next s e).state es).put
+          → (g : Go) → part e ++ flat_map part (if_more g (followed_events next (next s e).state es)) ≡ (if_on g (keeping s e) (λ u. followed keeping u es)).put
+      by step On = ap (λ (l : List ℕ). part e ++ l) step
+      by step Enough = append-nil (part e)
+
+  module _ (o : List ℕ → Told) (parts : (x y : List ℕ) → part (o (x ++ y)) ≡ part (o x) ++ part (o y)) (none : part (o []) ≡ []) where
+    keeping_joins : Joins next o → Joins keeping o
+    keeping_joins joins s x y =
+        let both = and_then (next s (o x)) (λ u. next u (o y)) in
+        ap (λ (t : Following S). record { state = t.state; put = part (o (x ++ y)); goes = t.goes }) (joins s x y)
+        ∙ ap (λ (l : List ℕ). record { state = both.state; put = l; goes = both.goes }) (parts x y)
+
+    keeping_rests : Rests next o → Rests keeping o
+    keeping_rests rests s =
+        ap (λ (t : Following S). record { state = t.state; put = part (o []); goes = t.goes }) (rests s)
+        ∙ ap (λ (l : List ℕ). record { state = s; put = l; goes = On }) none
+
+module _ {S : Type 0} (next : S → Told → Following S)
+    (bytes_join : Joins next Bytes) (bytes_rest : Rests next Bytes) (bytes_go_on : GoesOn next Bytes)
+    (pad_join : Joins next Pad) (pad_rest : Rests next Pad) (pad_go_on : GoesOn next Pad)
+    (part : Told → List ℕ)
+    (bytes : (x y : List ℕ) → part (Bytes (x ++ y)) ≡ part (Bytes x) ++ part (Bytes y)) (no_bytes : part (Bytes []) ≡ [])
+    (pads : (x y : List ℕ) → part (Pad (x ++ y)) ≡ part (Pad x) ++ part (Pad y)) (no_pads : part (Pad []) ≡ []) where
+  -- of events that are equal joined the same is kept
+  pub kept-alike : (s : S) (es fs : List Told) → AreEqualJoined es fs → flat_map part (followed_events next s es) ≡ flat_map part (followed_events next s fs)
+  kept-alike s es fs e =
+      let same : followed (keeping next part) s es ≡ followed (keeping next part) s fs =
+      followed-alike (keeping next part) (keeping_joins next part Bytes bytes no_bytes bytes_join) (keeping_rests next part Bytes bytes no_bytes bytes_rest) bytes_go_on
+      (keeping_joins next part Pad pads no_pads pad_join) (keeping_rests next part Pad pads no_pads pad_rest) pad_go_on s es fs e in
+      kept next part s es ∙ ap (λ (t : Following S). t.put) same ∙ sym (kept next part s fs)
 
 -- ---- octet by octet
 

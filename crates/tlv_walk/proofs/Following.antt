@@ -1,28 +1,35 @@
 -- What a follower comes to, event by event.
 use Rattle.std.proofs.Common.{◌≡◌, inl, inr, ℕ, List, [], ◌∷◌, ◌++◌, length, refl, sym, ap, ap₂, ◌∙◌, subst, arith, append_assoc, append-nil, length-append}
-use Rattle.std.specs.Prelude.{Option, Some, None, slice_get}
-use Rattle.std.specs.Io.KnownBytes.{Appends}
+use Rattle.std.specs.Prelude.{Result, Ok, Err, slice_get}
 use Rattle.tlv_head.specs.declared.fault.Fault.{Fault}
+use Rattle.tlv_walk.specs.declared.drain.WriteFault.{WriteFault}
+use Rattle.tlv_walk.specs.declared.event.Step.TheVariants as step
 use Rattle.tlv_walk.specs.declared.follow.Go.{Go}
 use Rattle.tlv_walk.specs.declared.follow.Go.TheVariants as go
-use Rattle.tlv_walk.specs.declared.event.Step.TheVariants as step
 use Rattle.tlv_walk.specs.declared.framing.Framing.{Framing}
+use Rattle.tlv_walk.specs.declared.out.Out.{Out}
+use Rattle.tlv_walk.specs.declared.turning.Stop.{Stop}
 use Rattle.tlv_walk.specs.declared.turning.Stop.TheVariants as stop
 use Rattle.tlv_walk.specs.declared.walker.Phase.{Phase}
 use Rattle.tlv_walk.specs.declared.walker.Phase.TheVariants as phase
-use Rattle.tlv_walk.specs.Events.{AreEqualJoined, Told, events}
-use Rattle.tlv_walk.specs.Follow.{Following, and_then, followed}
-use Rattle.tlv_walk.specs.Follows.{Fails, Follows, Made, Stops, Walked, WalkedTo}
+use Rattle.tlv_walk.specs.Device.{Taken}
+use Rattle.tlv_walk.specs.Events.{AreEqualJoined, Told, apart, events}
+use Rattle.tlv_walk.specs.Follow.{Following, and_then, followed, followed_events}
+use Rattle.tlv_walk.specs.Follows.{Fails, Follows, FollowsTo, GoesOnIn, Made, Stops, Walked, WalkedTo}
+use Rattle.tlv_walk.specs.Forest.{Forest}
 use Rattle.tlv_walk.specs.Inside.{CanName}
 use Rattle.tlv_walk.specs.Machine.{Machine, Refuses, found_in}
-use Rattle.tlv_walk.specs.Wrappers.{enters}
-use Rattle.tlv_walk.proofs.Unused.{told_unused}
-use Rattle.tlv_walk.specs.Prefix.{HasPrefix}
+use Rattle.tlv_walk.specs.Out.{Puts}
 use Rattle.tlv_walk.specs.Place.{Place}
-use Rattle.tlv_walk.specs.State.{IsPhaseOf, Stands, Tail, place_of}
+use Rattle.tlv_walk.specs.Reading.{IsReading}
+use Rattle.tlv_walk.specs.State.{IsPhaseOf, Stands, Tail, place_of, waiting_of}
 use Rattle.tlv_walk.specs.Tells.{IsRefusedBehind, StandsBehind, StandsStep}
-use Rattle.tlv_walk.proofs.Followed.{followed-more, followed-one}
-use Rattle.tlv_walk.proofs.Known.{appends_trans, prefix_behind}
+use Rattle.tlv_walk.specs.Wrappers.{enters}
+use Rattle.tlv_walk.proofs.Followed.{events_more, events_one, followed-more, followed-one}
+use Rattle.tlv_walk.proofs.Joined.{apart-before, apart-from_joined, joined-from_apart}
+use Rattle.tlv_walk.proofs.Prefixes.{events-prefix}
+use Rattle.tlv_walk.proofs.Puts.{HasPut, puts_as, puts_failed_last, puts_nothing, puts_then_as}
+use Rattle.tlv_walk.proofs.Unused.{told_unused}
 
 -- a walker that stands for octets was refused none
 never_failed : (w : Machine) (b : List ℕ) (told : List Told) (f : Fault) → Stands w b told → w.phase ≡ phase.Failed f → ⊥
@@ -55,98 +62,135 @@ walked_both w u v before mid after es fs x y = record {
 pub walked_event : (w v : Machine) (before after : List ℕ) (e : Told) → StandsBehind w v before after e → Walked w v before after (e ∷ [])
 walked_event w v before after e t = record { taken = t.0; piece = t.1; framing = t.2; stands = t.3 }
 
+-- an octet is refused behind what was walked over
+refused_there : (w u v : Machine) (piece mid after : List ℕ) (f : Fault) (more : List Told) (x : Walked w u piece mid more) (moved : Refuses u v mid after f) (o : List ℕ) (told : List Told)
+    → Stands w o told → Stands u (o ++ x.taken) (told ++ more) → StandsStep u v mid after (step.Fault f) → WalkedTo w v piece more f o told
+refused_there w u v piece mid after f more x moved o told st' st (inl r) =
+    let behind : IsRefusedBehind u.framing ((o ++ x.taken) ++ r.taken) r.octet (told ++ more) f = r.ends (o ++ x.taken) (told ++ more) st in
+    let all : (o ++ x.taken) ++ r.taken ≡ o ++ (x.taken ++ r.taken) = append_assoc o x.taken r.taken in
+    let refused : IsRefusedBehind w.framing (o ++ (x.taken ++ r.taken)) r.octet (told ++ more) f =
+    subst (λ (g : Framing). IsRefusedBehind g (o ++ (x.taken ++ r.taken)) r.octet (told ++ more) f) x.framing (subst (λ (l : List ℕ). IsRefusedBehind u.framing l r.octet (told ++ more) f) all behind) in record {
+      taken = x.taken ++ r.taken;
+      octet = r.octet;
+      rest = r.rest;
+      piece = x.piece ∙ ap (λ (l : List ℕ). x.taken ++ l) r.before_is ∙ sym (append_assoc x.taken r.taken (r.octet ∷ r.rest));
+      offset = omega (arith, moved.0, st.has_state.offset, ap length r.before_is, ap length r.after_is, length-append r.taken (r.octet ∷ r.rest), length-append (o ++ x.taken) r.taken, ap length all);
+      refused = refused;
+      unused =
+          ap₂ (λ (g : Framing) (n : ℕ). slice_get g.inside n) (moved.3 ∙ x.framing) (moved.4 ∙ st.found ∙ ap (λ (g : Framing). found_in g.inside 0 (enters (told ++ more))) x.framing)
+          ∙ told_unused w.framing (told ++ more) [] refused.reading (subst (λ (g : Framing). CanName g.inside) x.framing st.named) (refused.stays []).is_open refl
+          (subst (λ (es : List Told). AreEqualJoined es (events refused.reading)) (sym (append-nil (told ++ more))) refused.all_told);
+    }
+refused_there w u v piece mid after f more x moved o told st' st (inr r) = absurd (never_failed u (o ++ x.taken) (told ++ more) f st r.0)
+
+-- what a walker told of the front of octets, others follow
+told_front : (w v : Machine) (b piece after : List ℕ) (told more : List Told) (f : Forest) → Walked w v piece after more → Stands w b told → IsReading w.framing (b ++ piece) f
+    → (others : List Told) × AreEqualJoined (told ++ (more ++ others)) (events f)
+told_front w v b piece after told more f walked st r =
+    let there : Stands v (b ++ walked.taken) (told ++ more) = walked.stands b told st in
+    let all : b ++ piece ≡ (b ++ walked.taken) ++ after = ap (λ (o : List ℕ). b ++ o) walked.piece ∙ sym (append_assoc b walked.taken after) in
+    let r' : IsReading v.framing ((b ++ walked.taken) ++ after) f =
+    subst (λ (g : Framing). IsReading g ((b ++ walked.taken) ++ after) f) (sym walked.framing) (subst (λ (o : List ℕ). IsReading w.framing o f) all r) in
+    let goes : (es : List Told) × AreEqualJoined (events f) (events there.reading ++ es) = events-prefix v.framing (b ++ walked.taken) after there.reading f there.is_reading r' in (
+      waiting_of v ++ goes.0,
+      joined-from_apart (told ++ (more ++ (waiting_of v ++ goes.0))) (events f)
+          (ap apart (sym (append_assoc told more (waiting_of v ++ goes.0)) ∙ sym (append_assoc (told ++ more) (waiting_of v) goes.0))
+          ∙ apart-before ((told ++ more) ++ waiting_of v) (events there.reading) goes.0 (apart-from_joined ((told ++ more) ++ waiting_of v) (events there.reading) there.all_told)
+          ∙ sym (apart-from_joined (events f) (events there.reading ++ goes.0) goes.1)),
+    )
+
+pub walked_goes_on : (w v : Machine) (piece after : List ℕ) (more : List Told) → Walked w v piece after more → (b : List ℕ) (told : List Told) → Stands w b told → GoesOnIn w.framing (b ++ piece) (told ++ more)
+walked_goes_on w v piece after more walked b told st f r =
+    let o = told_front w v b piece after told more f walked st r in
+    (o.0, subst (λ (es : List Told). AreEqualJoined es (events f)) (sym (append_assoc told more o.0)) o.1)
+
 module _ {S : Type 0} (next : S → Told → Following S) where
-  appends_none : (a : Option (List ℕ)) → Appends a a []
-  appends_none None = tt
-  appends_none (Some xs) = sym (append-nil xs)
-
   -- of no event
-  pub made_none : (s : S) (a : Option (List ℕ)) → Made next s s a a [] go.On
-  made_none s a = record { put = []; made = refl; appended = appends_none a }
+  pub made_none : (s : S) → Made next s s [] go.On
+  made_none s = record { state = refl; goes_so = refl; all = refl }
 
-  -- what one event more makes
-  one_more : (s t : S) (a b : Option (List ℕ)) (es : List Told) (e : Told) → (m : Made next s t a b es go.On) → followed next s (es ++ e ∷ []) ≡ record (next t e) { put = m.put ++ (next t e).put }
-  one_more s t a b es e m =
-      followed-more next s es (e ∷ []) (ap (λ (f : Following S). f.goes) m.made)
-      ∙ ap (λ (f : Following S). and_then f (λ v. followed next v (e ∷ []))) m.made
-      ∙ ap (λ (f : Following S). record f { put = m.put ++ f.put }) (followed-one next t e)
+  -- of some events, and then of others
+  both_made : (s t : S) (es fs : List Told) → Made next s t es go.On → followed next s (es ++ fs) ≡ and_then (followed next s es) (λ u. followed next u fs)
+  both_made s t es fs m = followed-more next s es fs m.goes_so
 
-  -- one event more
-  pub made_event : (s t u : S) (a b c : Option (List ℕ)) (es : List Told) (e : Told) (goes : Go) → Made next s t a b es go.On
-      → u ≡ (next t e).state → goes ≡ (next t e).goes → Appends b c (next t e).put → Made next s u a c (es ++ e ∷ []) goes
-  made_event s t u a b c es e goes m is go app = record {
-    put = m.put ++ (next t e).put;
-    made =
-        one_more s t a b es e m
-        ∙ ap (λ (v : S). record { state = v; put = m.put ++ (next t e).put; goes = (next t e).goes }) (sym is)
-        ∙ ap (λ (g : Go). record { state = u; put = m.put ++ (next t e).put; goes = g }) (sym go);
-    appended = appends_trans a b c m.put (next t e).put m.appended app;
+  pub made_put : (s t : S) (es fs : List Told) → Made next s t es go.On → (followed next s es).put ++ (followed next t fs).put ≡ (followed next s (es ++ fs)).put
+  made_put s t es fs m =
+      sym (ap (λ (f : Following S). f.put) (both_made s t es fs m) ∙ ap (λ (u : S). (followed next s es).put ++ (followed next u fs).put) (sym m.state))
+
+  pub made_both : (s t u : S) (es fs : List Told) (goes : Go) → Made next s t es go.On → Made next t u fs goes → Made next s u (es ++ fs) goes
+  made_both s t u es fs goes m k = record {
+    state = k.state ∙ ap (λ (x : S). (followed next x fs).state) m.state ∙ sym (ap (λ (f : Following S). f.state) (both_made s t es fs m));
+    goes_so = ap (λ (f : Following S). f.goes) (both_made s t es fs m) ∙ ap (λ (x : S). (followed next x fs).goes) (sym m.state) ∙ k.goes_so;
+    all = events_more next s es fs m.goes_so ∙ ap (λ (x : S). es ++ followed_events next x fs) (sym m.state) ∙ ap (λ (l : List Told). es ++ l) k.all;
   }
 
-  -- a follower that has followed nothing
-  pub follows_none : (w : Machine) (s : S) (a : Option (List ℕ)) (piece : List ℕ) → Follows next w w s s a a piece piece go.On
-  follows_none w s a piece = ([], made_none s a, walked_none w piece)
+  -- of one event
+  pub made_event : (t u : S) (e : Told) (goes : Go) → u ≡ (next t e).state → goes ≡ (next t e).goes → Made next t u (e ∷ []) goes
+  made_event t u e goes is go = record {
+    state = is ∙ sym (ap (λ (f : Following S). f.state) (followed-one next t e));
+    goes_so = ap (λ (f : Following S). f.goes) (followed-one next t e) ∙ sym go;
+    all = events_one next t e;
+  }
 
-  -- it followed one event more
-  pub follows_event : (w u v : Machine) (s t t' : S) (a b c : Option (List ℕ)) (piece mid after : List ℕ) (e : Told) (goes : Go) → Follows next w u s t a b piece mid go.On
-      → StandsBehind u v mid after e → (t' ≡ (next t e).state) × (goes ≡ (next t e).goes) × Appends b c (next t e).put → Follows next w v s t' a c piece after goes
-  follows_event w u v s t t' a b c piece mid after e goes x y z =
-      (x.0 ++ e ∷ [], made_event s t t' a b c x.0 e goes x.1 z.0 z.1 z.2, walked_both w u v piece mid after x.0 (e ∷ []) x.2 (walked_event u v mid after e y))
+  module _ {D : Type 0} (told : D → Taken) where
+    -- a follower that has followed nothing
+    pub follows_none : (w : Machine) (s : S) (a : Out D) (piece : List ℕ) → Follows next w w s s piece piece (HasPut told a a) go.On
+    follows_none w s a piece = record { more = []; made = made_none s; put = puts_nothing told a tt; walked = walked_none w piece }
 
-  -- the drain failed at an event
-  pub fails_event : (w u v : Machine) (s t : S) (a b c : Option (List ℕ)) (piece mid after : List ℕ) (e : Told) → Follows next w u s t a b piece mid go.On
-      → StandsBehind u v mid after e → HasPrefix b c (next t e).put → Fails next w s a c piece
-  fails_event w u v s t a b c piece mid after e x y p =
-      let m : Made next s t a b x.0 go.On = x.1 in
-      let front : HasPrefix a c (m.put ++ (next t e).put) = prefix_behind a b c m.put (next t e).put m.appended p in (
-        v,
-        x.0 ++ e ∷ [],
-        after,
-        walked_both w u v piece mid after x.0 (e ∷ []) x.2 (walked_event u v mid after e y),
-        subst (λ (f : Following S). HasPrefix a c f.put) (sym (one_more s t a b x.0 e m)) front,
-      )
+    one_put : (s t : S) (es : List Told) (e : Told) → Made next s t es go.On → (followed next s es).put ++ (next t e).put ≡ (followed next s (es ++ e ∷ [])).put
+    one_put s t es e m = ap (λ (f : Following S). (followed next s es).put ++ f.put) (sym (followed-one next t e)) ∙ made_put s t es (e ∷ []) m
 
-  -- the piece is used up
-  pub stops_used_up : (w u v : Machine) (s t : S) (a b : Option (List ℕ)) (piece mid after : List ℕ) → Follows next w u s t a b piece mid go.On
-      → StandsStep u v mid after step.NeedMore → Stops next w v s t a b piece stop.UsedUp
-  stops_used_up w u v s t a b piece mid after x y = (
-    (
-      x.0,
-      x.1,
-      record {
-        taken = x.2.taken ++ mid;
-        piece = x.2.piece ∙ sym (append-nil (x.2.taken ++ mid));
-        framing = y.1 ∙ x.2.framing;
-        stands = λ o told st. subst (λ (all : List ℕ). Stands v all (told ++ x.0)) (append_assoc o x.2.taken mid) (y.2 (o ++ x.2.taken) (told ++ x.0) (x.2.stands o told st)).0;
-      },
-    ),
-    λ o told st. (y.2 (o ++ x.2.taken) (told ++ x.0) (x.2.stands o told st)).1,
-  )
+    -- it followed one event more
+    pub follows_event : (w u v : Machine) (s t t' : S) (a b c : Out D) (piece mid after : List ℕ) (e : Told) (goes : Go) → Follows next w u s t piece mid (HasPut told a b) go.On
+        → StandsBehind u v mid after e → (t' ≡ (next t e).state) × (goes ≡ (next t e).goes) → (g : Go) → Puts {T = Go} {E = WriteFault} told b c (next t e).put (Ok g)
+        → Follows next w v s t' piece after (HasPut told a c) goes
+    follows_event w u v s t t' a b c piece mid after e goes x y z g p = record {
+      more = x.more ++ e ∷ [];
+      made = made_both s t t' x.more (e ∷ []) goes x.made (made_event t t' e goes z.0 z.1);
+      put = puts_then_as told a b c (followed next s x.more).put (next t e).put (followed next s (x.more ++ e ∷ [])).put tt (Ok tt) x.put (puts_as told b c (next t e).put (next t e).put g tt p refl) (one_put s t x.more e x.made);
+      walked = walked_both w u v piece mid after x.more (e ∷ []) x.walked (walked_event u v mid after e y);
+    }
 
-  -- an octet is refused
-  pub stops_fault : (w u v : Machine) (s t : S) (a b : Option (List ℕ)) (piece mid after : List ℕ) (f : Fault) → Follows next w u s t a b piece mid go.On
-      → StandsStep u v mid after (step.Fault f) → Refuses u v mid after f → Stops next w v s t a b piece (stop.Fault f)
-  stops_fault w u v s t a b piece mid after f x y moved = (
-    x.0,
-    x.1,
-    λ o told st. stops_there o told (x.2.stands o told st) y,
-  )
-    where
-      stops_there : (o : List ℕ) (told : List Told) → Stands u (o ++ x.2.taken) (told ++ x.0) → StandsStep u v mid after (step.Fault f) → WalkedTo w v piece x.0 f o told
-      stops_there o told st (inl r) =
-          let behind : IsRefusedBehind u.framing ((o ++ x.2.taken) ++ r.taken) r.octet (told ++ x.0) f = r.ends (o ++ x.2.taken) (told ++ x.0) st in
-          let all : (o ++ x.2.taken) ++ r.taken ≡ o ++ (x.2.taken ++ r.taken) = append_assoc o x.2.taken r.taken in
-          let refused : IsRefusedBehind w.framing (o ++ (x.2.taken ++ r.taken)) r.octet (told ++ x.0) f =
-          subst (λ (g : Framing). IsRefusedBehind g (o ++ (x.2.taken ++ r.taken)) r.octet (told ++ x.0) f) x.2.framing (subst (λ (l : List ℕ). IsRefusedBehind u.framing l r.octet (told ++ x.0) f) all behind) in record {
-            taken = x.2.taken ++ r.taken;
-            octet = r.octet;
-            rest = r.rest;
-            piece = x.2.piece ∙ ap (λ (l : List ℕ). x.2.taken ++ l) r.before_is ∙ sym (append_assoc x.2.taken r.taken (r.octet ∷ r.rest));
-            offset = omega (arith, moved.0, st.has_state.offset, ap length r.before_is, ap length r.after_is, length-append r.taken (r.octet ∷ r.rest), length-append (o ++ x.2.taken) r.taken, ap length all);
-            refused = refused;
-            unused =
-                ap₂ (λ (g : Framing) (n : ℕ). slice_get g.inside n) (moved.3 ∙ x.2.framing) (moved.4 ∙ st.found ∙ ap (λ (g : Framing). found_in g.inside 0 (enters (told ++ x.0))) x.2.framing)
-                ∙ told_unused w.framing (told ++ x.0) [] refused.reading (subst (λ (g : Framing). CanName g.inside) x.2.framing st.named) (refused.stays []).is_open refl
-                (subst (λ (es : List Told). AreEqualJoined es (events refused.reading)) (sym (append-nil (told ++ x.0))) refused.all_told);
-          }
-      stops_there o told st (inr r) = absurd (never_failed u (o ++ x.2.taken) (told ++ x.0) f st r.0)
+    -- the same was put, and a stop is answered
+    pub follows_as : (w v : Machine) (s t : S) (a b : Out D) (piece after : List ℕ) (goes : Go) (why : Stop) → Follows next w v s t piece after (HasPut told a b) goes
+        → Follows next w v s t piece after (λ text. Puts {T = Stop} {E = WriteFault} told a b text (Ok why)) goes
+    follows_as w v s t a b piece after goes why x =
+        record { more = x.more; made = x.made; put = puts_as told a b (followed next s x.more).put (followed next s x.more).put tt why x.put refl; walked = x.walked }
+
+    -- the drain failed at an event
+    pub fails_event : (w u v : Machine) (s t : S) (a b c : Out D) (piece mid after : List ℕ) (e : Told) → Follows next w u s t piece mid (HasPut told a b) go.On
+        → StandsBehind u v mid after e → (x y : WriteFault) → Puts {T = Go} {E = WriteFault} told b c (next t e).put (Err x)
+        → Fails next w s piece (λ text. Puts {T = Stop} {E = WriteFault} told a c text (Err y))
+    fails_event w u v s t a b c piece mid after e x y i j p = record {
+      more = x.more ++ e ∷ [];
+      put = puts_failed_last told a c _ i (Err j) (puts_then_as told a b c (followed next s x.more).put (next t e).put (followed next s (x.more ++ e ∷ [])).put tt (Err i) x.put p (one_put s t x.more e x.made)) refl;
+      tells = walked_goes_on w v piece after (x.more ++ e ∷ []) (walked_both w u v piece mid after x.more (e ∷ []) x.walked (walked_event u v mid after e y));
+    }
+
+    -- the piece is used up
+    pub stops_used_up : (w u v : Machine) (s t : S) (a b : Out D) (piece mid after : List ℕ) → Follows next w u s t piece mid (HasPut told a b) go.On
+        → StandsStep u v mid after step.NeedMore → Stops next w v s t piece (λ text. Puts {T = Stop} {E = WriteFault} told a b text (Ok stop.UsedUp)) (Ok stop.UsedUp)
+    stops_used_up w u v s t a b piece mid after x y = (
+      follows_as w v s t a b piece [] go.On stop.UsedUp (record {
+        more = x.more;
+        made = x.made;
+        put = x.put;
+        walked = record {
+          taken = x.walked.taken ++ mid;
+          piece = x.walked.piece ∙ sym (append-nil (x.walked.taken ++ mid));
+          framing = y.1 ∙ x.walked.framing;
+          stands = λ o es st. subst (λ (all : List ℕ). Stands v all (es ++ x.more)) (append_assoc o x.walked.taken mid) (y.2 (o ++ x.walked.taken) (es ++ x.more) (x.walked.stands o es st)).0;
+        };
+      }),
+      λ o es st. (y.2 (o ++ x.walked.taken) (es ++ x.more) (x.walked.stands o es st)).1,
+    )
+
+    -- an octet is refused
+    pub stops_fault : (w u v : Machine) (s t : S) (a b : Out D) (piece mid after : List ℕ) (f : Fault) → Follows next w u s t piece mid (HasPut told a b) go.On
+        → StandsStep u v mid after (step.Fault f) → Refuses u v mid after f → FollowsTo next w v s t piece (λ text. Puts {T = Stop} {E = WriteFault} told a b text (Ok (stop.Fault f))) f
+    stops_fault w u v s t a b piece mid after f x y moved = record {
+      more = x.more;
+      made = x.made;
+      put = puts_as told a b (followed next s x.more).put (followed next s x.more).put tt (stop.Fault f) x.put refl;
+      walked = λ o es st. refused_there w u v piece mid after f x.more x.walked moved o es st (x.walked.stands o es st) y;
+    }

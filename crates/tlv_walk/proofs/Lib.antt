@@ -31,11 +31,13 @@ pub mod HeaderSteps
 pub mod HeaderRefusals
 pub mod Standing
 pub mod Rows
-pub mod Known
+pub mod Puts
 pub mod Followed
 pub mod Finals
 pub mod Unused
 pub mod Waiting
+pub mod ToldOctets
+pub mod Pieces
 pub mod Following
 pub mod Turns
 pub mod Drives

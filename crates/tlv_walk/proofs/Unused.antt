@@ -122,3 +122,9 @@ told_unused framing told waits f named v none e =
 pub stands_unused : (w : Machine) (b : List ℕ) (told : List Told) → (st : Stands w b told) → unused_in w ≡ unused_of w.framing.inside st.reading
 stands_unused w b told st =
     ap (slice_get w.framing.inside) st.found ∙ told_unused w.framing told (waiting_of w) st.reading st.named st.is_reading.is_open (waits_enter_none w.phase w.stack w.offset) st.all_told
+
+-- it is the first that no event told entered
+pub stands-entered : (w : Machine) (b : List ℕ) (told : List Told) → Stands w b told → unused_in w ≡ first_other w.framing.inside (enters told)
+stands-entered w b told st =
+    stands_unused w b told st
+    ∙ ap (first_other w.framing.inside) (sym (told_wrappers w.framing told (waiting_of w) st.reading st.is_reading.is_open (waits_enter_none w.phase w.stack w.offset) st.all_told))

@@ -1,5 +1,7 @@
--- What sources and drains tell of their calls.
-use Rattle.std.specs.Prelude.{◌+◌, ◌-◌, ◌^◌, ◌<◌, ◌≤◌, ℕ, List, Result, Ok, Err, min, IfOk, length}
+-- What sources and drains tell of themselves, and what one call makes of that.
+use Rattle.std.specs.Prelude.{◌≡◌, ◌+◌, ◌-◌, ◌^◌, ◌<◌, ◌≤◌, ℕ, List, [], ◌∷◌, ◌++◌, All, Option, Result, Ok, Err, min, IfOk, length}
+use Rattle.std.specs.Io.{ReadsAtMost}
+use Rattle.std.specs.Io.KnownBytes.{Consumes, ReadConsumes, WriteAppends}
 
 -- what the last read gave: a number of octets, or a failure; nothing before the first read
 pub data Last : Type 0 where
@@ -7,26 +9,90 @@ pub data Last : Type 0 where
   gave : ℕ → Last
   failed : Last
 
--- what a read with this result gave
-abbrev pub last_of : {E : Type 0} → Result ℕ E → Last
-last_of (Ok n) = gave n
-last_of (Err e) = failed
-
--- a count after one more; it stops at 2^64 - 1
-abbrev pub counted : ℕ → ℕ
-counted n = min (n + 1) (2 ^ 64 - 1)
-
--- the failures after a call with this result
-abbrev pub failures_after : {T E : Type 0} → Result T E → ℕ → ℕ
-failures_after (Ok x) before = before
-failures_after (Err e) before = counted before
-
--- the reads of a source, what the last of them gave, and how many failed
+-- what is kept of reads: how many there were, failed ones too, what the last of them gave, and how many failed
 pub record Reads : Type 0 where
   pub reads : ℕ
   pub last : Last
   pub failures : ℕ
 
--- a write takes at least one of the octets offered, or fails
-abbrev pub TakesSome : {E : Type 0} → Result ℕ E → List ℕ → Type 0
-TakesSome result from = IfOk result (λ n. (0 < n) × (n ≤ length from))
+-- what a source tells: the octets still to give, where it knows them, and its reads
+pub record Supply : Type 0 where
+  pub left : Option (List ℕ)
+  pub reads : ℕ
+  pub last : Last
+  pub failures : ℕ
+
+-- what a drain tells: the octets that it took, where it knows them, and how many writes failed
+pub record Taken : Type 0 where
+  pub octets : Option (List ℕ)
+  pub failures : ℕ
+
+-- a source with these octets, of which nothing was read
+abbrev pub unread : Option (List ℕ) → Supply
+unread left = record { left = left; reads = 0; last = never; failures = 0 }
+
+-- a count after one more; it stops at 2^64 - 1
+abbrev pub counted : ℕ → ℕ
+counted n = min (n + 1) (2 ^ 64 - 1)
+
+module _ {T E : Type 0} where
+  -- the failures after a call with this result
+  abbrev pub failures_after : Result T E → ℕ → ℕ
+  failures_after (Ok x) before = before
+  failures_after (Err e) before = counted before
+
+module _ {E : Type 0} where
+  -- what a read with this result gave
+  abbrev pub last_of : Result ℕ E → Last
+  last_of (Ok n) = gave n
+  last_of (Err e) = failed
+
+  -- what is kept of reads after one more with this result
+  abbrev pub after_read : Result ℕ E → Reads → Reads
+  after_read result old =
+      record { reads = counted old.reads; last = last_of result; failures = failures_after result old.failures }
+
+  -- one read into room that then holds these octets
+  pub record ReadsOnce (old new : Supply) (result : Result ℕ E) (to : List ℕ) : Type 0 where
+    pub octets : ReadConsumes old.left new.left result to
+    pub bound : ReadsAtMost result to
+    pub reads : new.reads ≡ counted old.reads
+    pub last : new.last ≡ last_of result
+    pub failures : new.failures ≡ failures_after result old.failures
+
+  -- one write of octets from the front of these: at least one, or it fails
+  pub record WritesOnce (old new : Taken) (result : Result ℕ E) (from : List ℕ) : Type 0 where
+    pub octets : WriteAppends old.octets new.octets result from
+    pub some : IfOk result (λ n. (0 < n) × (n ≤ length from))
+    pub failures : new.failures ≡ failures_after result old.failures
+
+-- the last read gave these octets, or failed and gave none
+abbrev pub GaveLast : Last → List ℕ → Type 0
+GaveLast never octets = ⊥
+GaveLast (gave n) octets = n ≡ length octets
+GaveLast failed octets = octets ≡ []
+
+-- what a read gives that is not the last: between one octet and 4096
+abbrev pub IsPiece : List ℕ → Type 0
+IsPiece octets = (0 < length octets) × (length octets ≤ 4096)
+
+abbrev pub put_together : List (List ℕ) → List ℕ
+put_together [] = []
+put_together (piece ∷ pieces) = piece ++ put_together pieces
+
+-- reads of a source, one or more: the octets that each gave, and the last
+pub record Pieces (old new : Supply) : Type 0 where
+  pub pieces : List (List ℕ)
+  pub last : List ℕ
+  pub each : All IsPiece pieces
+  pub short : length last ≤ 4096
+  pub gave_last : GaveLast new.last last
+  pub reads : new.reads ≡ min (old.reads + (length pieces + 1)) (2 ^ 64 - 1)
+  pub consumed : Consumes old.left new.left (put_together pieces ++ last)
+
+-- the octets that the reads gave before the last, and with it
+abbrev pub before_in : {old new : Supply} → Pieces old new → List ℕ
+before_in p = put_together p.pieces
+
+abbrev pub given_in : {old new : Supply} → Pieces old new → List ℕ
+given_in p = put_together p.pieces ++ p.last

@@ -1,63 +1,56 @@
 -- What a walk over all that a source gives comes to.
-use Rattle.std.specs.Prelude.{◌≡◌, ◌⊎◌, ℕ, ◌+◌, ◌<◌, ◌≤◌, true, false, List, [], ◌++◌, length, take, Option, Result, Ok, Err}
-use Rattle.std.specs.Io.KnownBytes.{Appends, Consumes}
+use Rattle.std.specs.Prelude.{◌≡◌, ℕ, Bool, true, false, List, [], ◌∷◌, flat_map, length, Some, None, Result, OnOk}
+use Rattle.tlv_head.specs.Header.{octets_of}
+use Rattle.tlv_walk.specs.declared.ending.Ending.{Ending}
+use Rattle.tlv_walk.specs.declared.follow.Go.{Go}
 use Rattle.tlv_walk.specs.declared.follow.Go.TheVariants as go
 use Rattle.tlv_walk.specs.declared.framing.Framing.{Framing}
 use Rattle.tlv_walk.specs.declared.run.DeviceFault.{DeviceFault}
-use Rattle.tlv_walk.specs.declared.run.DeviceFault.TheVariants.{ReadFailed, WriteFailed, InputTooLong}
 use Rattle.tlv_walk.specs.declared.run.Run.{Run}
-use Rattle.tlv_walk.specs.Device.{Last, never, gave, failed}
-use Rattle.tlv_walk.specs.Events.{Told, events}
-use Rattle.tlv_walk.specs.Follow.{Following, followed}
+use Rattle.tlv_walk.specs.Device.{Supply, Taken}
+use Rattle.tlv_walk.specs.Events.{Told, Open, Begin, Bytes, End, Close, Enter, Unused, Leave, Pad, events}
+use Rattle.tlv_walk.specs.Follow.{Following, followed, followed_events}
 use Rattle.tlv_walk.specs.Forest.{Forest, spell}
-use Rattle.tlv_walk.specs.Machine.{Machine}
-use Rattle.tlv_walk.specs.Prefix.{HasPrefix}
-use Rattle.tlv_walk.specs.Reading.{IsReading}
-use Rattle.tlv_walk.specs.Wrappers.{unused_of}
-use Rattle.tlv_walk.specs.Turns.{EndsWith, IsFinalEnding, StoppedAt, goes_of}
+use Rattle.tlv_walk.specs.Job.{Job, Runs, of_drain}
+use Rattle.tlv_walk.specs.Wrappers.{enters, first_other, unused_of}
 
--- the last read gave these octets, or failed and gave none
-abbrev pub GaveLast : Last → List ℕ → Type 0
-GaveLast never octets = ⊥
-GaveLast (gave n) octets = n ≡ length octets
-GaveLast failed octets = octets ≡ []
+-- whether a follower had enough
+abbrev pub had_enough : Go → Bool
+had_enough go.On = false
+had_enough go.Enough = true
+
+-- the octets that an event tells of
+abbrev pub octets_told : Told → List ℕ
+octets_told (Open h) = octets_of h
+octets_told (Begin h) = octets_of h
+octets_told (Bytes octets) = octets
+octets_told End = []
+octets_told (Close None) = []
+octets_told (Close (Some at)) = 0 ∷ 0 ∷ []
+octets_told (Enter h) = octets_of h
+octets_told Unused = 0 ∷ []
+octets_told Leave = []
+octets_told (Pad octets) = octets
+
+-- the run over a forest of which a follower followed these events: where it had enough, it ends behind the last of them
+abbrev pub run_of : Framing → Forest → List Told → Go → Ending → Run
+run_of framing f es go.On e =
+    record { ending = e; octets = length (spell f); enough = false; unused = unused_of framing.inside f }
+run_of framing f es go.Enough e =
+    record { ending = e; octets = length (flat_map octets_told es); enough = true; unused = first_other framing.inside (enters es) }
 
 module _ {S : Type 0} (next : S → Told → Following S) where
-  -- the octets hold neither a fault nor enough for the follower, and this was made of all their events
-  pub record WalksAll (framing : Framing) (s t : S) (old new : Option (List ℕ)) (octets : List ℕ) : Type 0 where
-    pub put : List ℕ
-    pub appended : Appends old new put
-    pub spelled : (f : Forest) → IsReading framing octets f → spell f ≡ octets
-    pub made : (f : Forest) → IsReading framing octets f → followed next s (events f) ≡ record { state = t; put = put; goes = go.On }
+  -- a walk, followed from this state on
+  abbrev pub walk : Framing → ℕ → S → Job Run
+  walk framing limit s = record {
+    framing = framing;
+    limit = limit;
+    text = λ f. (followed next s (events f)).put;
+    is_enough = λ f. had_enough (followed next s (events f)).goes;
+    answer = λ f e. run_of framing f (followed_events next s (events f)) (followed next s (events f)).goes e;
+  }
 
-  -- the walk has ended in these octets
-  pub record WalksTo (framing : Framing) (s t : S) (old new : Option (List ℕ)) (octets : List ℕ) (run : Run) : Type 0 where
-    pub put : List ℕ
-    pub appended : Appends old new put
-    pub made : (f : Forest) → IsReading framing octets f → followed next s (events f) ≡ record { state = t; put = put; goes = goes_of run.enough }
-    pub ending : EndsWith framing octets run.enough run.ending
-    -- the octets before a fault, or all of them
-    pub spelled : run.enough ≡ false → (f : Forest) → IsReading framing octets f → (run.octets ≡ length (spell f)) × (run.unused ≡ unused_of framing.inside f)
-    -- or those up to the event at which the follower had enough
-    pub last : run.enough ≡ true → (v : Machine) × StoppedAt next framing v s t put octets [] run
-
-  -- what the walk came to, by its answer. No more octets are followed than the limit
-  abbrev pub ComesTo : Framing → S → S → Option (List ℕ) → Option (List ℕ) → List ℕ → Last → ℕ → Result Run DeviceFault → Type 0
-  ComesTo framing s t old new given last limit (Ok run) =
-      WalksTo framing s t old new (take limit given) run × ((run.enough ≡ true) ⊎ IsFinalEnding run.ending ⊎ (last ≡ gave 0))
-  ComesTo framing s t old new given last limit (Err ReadFailed) = (last ≡ failed) × (length given ≤ limit) × WalksAll framing s t old new given
-  ComesTo framing s t old new given last limit (Err WriteFailed) =
-      (f : Forest) → IsReading framing (take limit given) f → HasPrefix old new (followed next s (events f)).put
-  ComesTo framing s t old new given last limit (Err InputTooLong) = (limit < length given) × WalksAll framing s t old new (take limit given)
-
-  -- the octets that a source gave, and what the walk over them came to. Those before the last read hold neither a
-  -- fault nor enough, and each read before the last gave one octet or more
-  pub record Drives (framing : Framing) (s t : S) (old new left left' : Option (List ℕ)) (reads reads' : ℕ) (last : Last) (limit : ℕ) (result : Result Run DeviceFault) : Type 0 where
-    pub before : List ℕ
-    pub rest : List ℕ
-    pub consumed : Consumes left left' (before ++ rest)
-    pub gave_last : GaveLast last rest
-    pub many : reads' ≤ reads + length before + 1
-    pub within : length before ≤ limit
-    pub read : (f : Forest) → IsReading framing before f → (spell f ≡ before) × ((followed next s (events f)).goes ≡ go.On)
-    pub comes : ComesTo framing s t old new (before ++ rest) last limit result
+  -- what it comes to, and the state that it leaves
+  pub record Drives (framing : Framing) (limit : ℕ) (s t : S) (old new : Supply) (from to : Taken) (result : Result Run DeviceFault) : Type 0 where
+    pub runs : Runs (walk framing limit s) old new from to result
+    pub state : OnOk (of_drain result) (t ≡ (followed next s (events runs.reading)).state)

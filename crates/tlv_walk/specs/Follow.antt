@@ -1,5 +1,5 @@
 -- What a follower makes of events.
-use Rattle.std.specs.Prelude.{◌≡◌, ℕ, List, [], ◌∷◌, ◌++◌}
+use Rattle.std.specs.Prelude.{◌≡◌, ℕ, List, [], ◌∷◌, ◌++◌, Result, IfOk}
 use Rattle.tlv_walk.specs.declared.follow.Go.{Go}
 use Rattle.tlv_walk.specs.declared.follow.Go.TheVariants as go
 use Rattle.tlv_walk.specs.Events.{Told}
@@ -27,6 +27,19 @@ if_on go.Enough t f = t
 abbrev pub followed : {S : Type 0} → (S → Told → Following S) → S → List Told → Following S
 followed next s [] = stay s
 followed next s (e ∷ es) = if_on (next s e).goes (next s e) (λ u. followed next u es)
+
+-- the events up to the first at which it has enough
+abbrev pub if_more : Go → List Told → List Told
+if_more go.On es = es
+if_more go.Enough es = []
+
+abbrev pub followed_events : {S : Type 0} → (S → Told → Following S) → S → List Told → List Told
+followed_events next s [] = []
+followed_events next s (e ∷ es) = e ∷ if_more (next s e).goes (followed_events next (next s e).state es)
+
+-- a call in which this was made leaves that state, and returns whether more is wanted
+abbrev pub IsFollowed : {S E : Type 0} → Following S → S → Result Go E → Type 0
+IsFollowed made new result = IfOk result (λ go. (new ≡ made.state) × (go ≡ made.goes))
 
 -- what octets make in two parts they make in one
 abbrev pub Joins : {S : Type 0} → (S → Told → Following S) → (List ℕ → Told) → Type 0

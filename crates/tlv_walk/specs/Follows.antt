@@ -1,15 +1,17 @@
 -- What a follower comes to that follows a walker over a piece.
-use Rattle.std.specs.Prelude.{◌≡◌, ℕ, List, [], ◌∷◌, ◌++◌, Option, length}
-use Rattle.std.specs.Io.KnownBytes.{Appends}
+use Rattle.std.specs.Prelude.{◌≡◌, ℕ, List, [], ◌∷◌, ◌++◌, Result, Ok, Err, length}
 use Rattle.tlv_head.specs.declared.fault.Fault.{Fault}
+use Rattle.tlv_walk.specs.declared.drain.WriteFault.{WriteFault}
 use Rattle.tlv_walk.specs.declared.follow.Go.{Go}
 use Rattle.tlv_walk.specs.declared.follow.Go.TheVariants as go
+use Rattle.tlv_walk.specs.declared.framing.Framing.{Framing}
 use Rattle.tlv_walk.specs.declared.turning.Stop.{Stop}
 use Rattle.tlv_walk.specs.declared.turning.Stop.TheVariants as stop
-use Rattle.tlv_walk.specs.Events.{Told}
-use Rattle.tlv_walk.specs.Follow.{Following, followed}
-use Rattle.tlv_walk.specs.Machine.{Machine, unused_in}
-use Rattle.tlv_walk.specs.Prefix.{HasPrefix}
+use Rattle.tlv_walk.specs.Events.{AreEqualJoined, Told, events}
+use Rattle.tlv_walk.specs.Follow.{Following, followed, followed_events}
+use Rattle.tlv_walk.specs.Forest.{Forest}
+use Rattle.tlv_walk.specs.Machine.{IsTold, Machine, unused_in}
+use Rattle.tlv_walk.specs.Reading.{IsReading}
 use Rattle.tlv_walk.specs.State.{Stands, waiting_of}
 use Rattle.tlv_walk.specs.Tells.{IsRefusedBehind}
 use Rattle.tlv_walk.specs.Wrappers.{unused_of}
@@ -31,26 +33,41 @@ pub record WalkedTo (old new : Machine) (before : List ℕ) (more : List Told) (
   pub refused : IsRefusedBehind old.framing (b ++ taken) octet (told ++ more) f
   pub unused : unused_in new ≡ unused_of old.framing.inside refused.reading
 
-module _ {S : Type 0} (next : S → Told → Following S) where
-  -- what was made of events: the follower's state, and what the drain, if it tells, took and is to take
-  pub record Made (s t : S) (old new : Option (List ℕ)) (more : List Told) (goes : Go) : Type 0 where
-    pub put : List ℕ
-    pub made : followed next s more ≡ record { state = t; put = put; goes = goes }
-    pub appended : Appends old new put
+-- the octets tell these events, joined, and then others
+abbrev pub GoesOnIn : Framing → List ℕ → List Told → Type 0
+GoesOnIn framing octets told = (f : Forest) → IsReading framing octets f → (others : List Told) × AreEqualJoined (told ++ others) (events f)
 
-  -- what was made of the front of a piece
-  abbrev pub Follows : Machine → Machine → S → S → Option (List ℕ) → Option (List ℕ) → List ℕ → List ℕ → Go → Type 0
-  Follows w v s t old new before after goes = (more : List Told) × Made s t old new more goes × Walked w v before after more
+module _ {S : Type 0} (next : S → Told → Following S) where
+  -- what was made of events: the follower's state, and whether it wants more. It had enough with the last, if at all
+  pub record Made (s t : S) (more : List Told) (goes : Go) : Type 0 where
+    pub state : t ≡ (followed next s more).state
+    pub goes_so : (followed next s more).goes ≡ goes
+    pub all : followed_events next s more ≡ more
+
+  -- what was made of the front of a piece, where `puts` says that octets were put
+  pub record Follows (w v : Machine) (s t : S) (before after : List ℕ) (puts : List ℕ → Type 0) (goes : Go) : Type 0 where
+    pub more : List Told
+    pub made : Made s t more goes
+    pub put : puts (followed next s more).put
+    pub walked : Walked w v before after more
+
+  -- the same of a piece in which an octet is refused
+  pub record FollowsTo (w v : Machine) (s t : S) (piece : List ℕ) (puts : List ℕ → Type 0) (f : Fault) : Type 0 where
+    pub more : List Told
+    pub made : Made s t more go.On
+    pub put : puts (followed next s more).put
+    pub walked : (b : List ℕ) (told : List Told) → Stands w b told → WalkedTo w v piece more f b told
+
+  -- the drain failed at what is put at these events, or before
+  pub record Fails (w : Machine) (s : S) (piece : List ℕ) (puts : List ℕ → Type 0) : Type 0 where
+    pub more : List Told
+    pub put : puts (followed next s more).put
+    pub tells : (b : List ℕ) (told : List Told) → Stands w b told → GoesOnIn w.framing (b ++ piece) (told ++ more)
 
   -- what was made of a piece, by why it is not followed any further
-  abbrev pub Stops : Machine → Machine → S → S → Option (List ℕ) → Option (List ℕ) → List ℕ → Stop → Type 0
-  Stops w v s t old new piece stop.UsedUp =
-      Follows w v s t old new piece [] go.On × ((b : List ℕ) (told : List Told) → Stands w b told → waiting_of v ≡ [])
-  Stops w v s t old new piece (stop.Fault f) =
-      (more : List Told) × Made s t old new more go.On × ((b : List ℕ) (told : List Told) → Stands w b told → WalkedTo w v piece more f b told)
-  Stops w v s t old new piece stop.Enough = (after : List ℕ) × Follows w v s t old new piece after go.Enough
-
-  -- what a drain has that failed: a prefix of what is made of events that were told
-  abbrev pub Fails : Machine → S → Option (List ℕ) → Option (List ℕ) → List ℕ → Type 0
-  Fails w s old new piece =
-      (v : Machine) × (more : List Told) × (after : List ℕ) × Walked w v piece after more × HasPrefix old new (followed next s more).put
+  abbrev pub Stops : Machine → Machine → S → S → List ℕ → (List ℕ → Type 0) → Result Stop WriteFault → Type 0
+  Stops w v s t piece puts (Ok stop.UsedUp) =
+      Follows w v s t piece [] puts go.On × ((b : List ℕ) (told : List Told) → Stands w b told → waiting_of v ≡ [])
+  Stops w v s t piece puts (Ok (stop.Fault f)) = FollowsTo w v s t piece puts f
+  Stops w v s t piece puts (Ok stop.Enough) = (after : List ℕ) × Follows w v s t piece after puts go.Enough × IsTold v.phase
+  Stops w v s t piece puts (Err e) = Fails w s piece puts

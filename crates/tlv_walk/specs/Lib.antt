@@ -3,7 +3,6 @@ pub mod LastRead
 pub mod MemDrain
 pub mod MemSource
 pub mod Out
-pub mod Prefix
 pub mod Inside
 pub mod Follow
 pub mod Forest
@@ -22,5 +21,6 @@ pub mod ReadsOn
 pub mod OpenCount
 pub mod Follows
 pub mod Turns
+pub mod Job
 pub mod Drives
 pub mod Lined

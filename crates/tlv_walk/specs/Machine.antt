@@ -86,11 +86,21 @@ IsReadyIn (Failed fault) stack offset = ⊥
 abbrev pub IsReady : Machine → Type 0
 IsReady w = IsReadyIn w.phase w.stack w.offset
 
+-- an event was told of each octet taken: no header has begun, no end-of-contents octets, and nothing was refused
+abbrev pub IsTold : Phase → Type 0
+IsTold Between = Unit {0}
+IsTold (Header r) = ⊥
+IsTold (Contents left) = Unit {0}
+IsTold Unused = Unit {0}
+IsTold Zero = ⊥
+IsTold (Failed fault) = ⊥
+
 -- an event was told, and the walker stands at this offset
 pub record Tells (old new : Machine) (at : ℕ) : Type 0 where
   pub offset : new.offset ≡ at
   pub events : new.events ≡ old.events + 1
   pub within : new.events ≤ new.offset
+  pub told : IsTold new.phase
 
 -- a header begins with the piece, inside the bound
 pub record CanBegin (w : Machine) (piece : List ℕ) : Type 0 where
@@ -124,7 +134,7 @@ pub record CanReadOn (w : Machine) (r : Progress) (piece : List ℕ) : Type 0 wh
 -- so many octets were taken, and one event was told
 abbrev pub TellsOne : Machine → Machine → List ℕ → List ℕ → Type 0
 TellsOne old new before after =
-    (new.offset + length after ≡ old.offset + length before) × (new.events ≡ old.events + 1) × (new.events ≤ new.offset)
+    (new.offset + length after ≡ old.offset + length before) × (new.events ≡ old.events + 1) × (new.events ≤ new.offset) × IsTold new.phase
 
 -- all octets were taken, and no event was told nor waits
 abbrev pub TakesAll : Machine → Machine → List ℕ → List ℕ → Type 0

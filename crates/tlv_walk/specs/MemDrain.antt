@@ -1,6 +1,7 @@
 -- A drain over memory, as contracts see it.
-use Rattle.std.specs.Prelude.{◌-◌, ℕ, List, min, max, length, take}
+use Rattle.std.specs.Prelude.{◌-◌, ℕ, List, Some, min, max, length, take}
 use Rattle.std.specs.Borrow.{MutBor}
+use Rattle.tlv_walk.specs.Device.{Taken}
 use Rattle.tlv_walk.specs.declared.memory.MemDrain.{MemDrain}
 
 -- the room that it was lent
@@ -26,3 +27,7 @@ taken_count drain count = min count (min (most_of drain) (free_in drain))
 -- how many writes failed
 abbrev pub failures_of : MemDrain → ℕ
 failures_of drain = drain.failures
+
+-- what it tells
+abbrev pub told_of : MemDrain → Taken
+told_of drain = record { octets = Some (taken_by drain); failures = failures_of drain }

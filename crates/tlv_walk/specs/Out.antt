@@ -1,8 +1,9 @@
--- What an `Out` shows: the drain that it was lent, the octets that it holds, and what was put.
-use Rattle.std.specs.Prelude.{ℕ, List, Option}
-use Rattle.std.specs.Io.KnownBytes.{append_known}
+-- What an `Out` shows, and what is made of it by a call to which octets are put.
+use Rattle.std.specs.Prelude.{◌≡◌, ◌++◌, ℕ, List, [], Result, OnOk}
+use Rattle.std.specs.Io.KnownBytes.{Appends}
 use Rattle.std.specs.Borrow.{MutBor}
 use Rattle.tlv_walk.specs.declared.out.Out.{Out}
+use Rattle.tlv_walk.specs.Device.{Taken, failures_after}
 
 module _ {D : Type 0} where
   -- the drain that is lent
@@ -13,7 +14,23 @@ module _ {D : Type 0} where
   abbrev pub held_in : Out D → List ℕ
   held_in out = out.held
 
-module _ {D : Type 0} (taken : D → Option (List ℕ)) where
-  -- all that was put: what the drain took, and then what is held
-  abbrev pub put_to : Out D → Option (List ℕ)
-  put_to out = append_known (taken (lender_of out).now) (held_in out)
+module _ {T E : Type 0} where
+  -- one call that hands octets to a drain: all of them, or, where it fails, a front of them
+  pub record Sends (old new : Taken) (octets : List ℕ) (result : Result T E) : Type 0 where
+    pub sent : List ℕ
+    pub left : List ℕ
+    pub front : sent ++ left ≡ octets
+    pub took : Appends old.octets new.octets sent
+    pub all : OnOk result (left ≡ [])
+    pub failures : new.failures ≡ failures_after result old.failures
+
+  -- a call that puts octets to an `Out`. The drain takes a front of what was held and then these, and what it had stays
+  -- in front of that; what it does not take is held, or, where the call fails, lost
+  pub record Puts {D : Type 0} (told : D → Taken) (old new : Out D) (octets : List ℕ) (result : Result T E) : Type 0 where
+    pub same_reference : (lender_of new).ghost_name ≡ (lender_of old).ghost_name
+    pub sent : List ℕ
+    pub left : List ℕ
+    pub front : sent ++ left ≡ held_in old ++ octets
+    pub took : Appends (told (lender_of old).now).octets (told (lender_of new).now).octets sent
+    pub held : OnOk result (held_in new ≡ left)
+    pub failures : (told (lender_of new).now).failures ≡ failures_after result (told (lender_of old).now).failures

@@ -1,9 +1,7 @@
 -- What one read of a source, followed, comes to.
-use Rattle.std.specs.Prelude.{◌≡◌, ◌≢◌, ◌⊎◌, ℕ, ◌-◌, ◌<◌, ◌≤◌, Bool, true, false, List, [], ◌++◌, length, take, Option, Result, Ok, Err}
-use Rattle.std.specs.Io.KnownBytes.{Appends, Keeps}
-use Rattle.tlv_walk.specs.declared.ending.Ending.{Ending}
+use Rattle.std.specs.Prelude.{◌≡◌, ◌≢◌, ◌⊎◌, ℕ, ◌-◌, ◌<◌, ◌≤◌, Bool, true, false, List, [], ◌++◌, flat_map, length, take, Result, Ok, Err}
+use Rattle.std.specs.Io.KnownBytes.{Consumes, IsAtEnd}
 use Rattle.tlv_walk.specs.declared.ending.Ending.TheVariants as ending
-use Rattle.tlv_walk.specs.declared.follow.Go.{Go}
 use Rattle.tlv_walk.specs.declared.follow.Go.TheVariants as go
 use Rattle.tlv_walk.specs.declared.framing.Framing.{Framing}
 use Rattle.tlv_walk.specs.declared.run.DeviceFault.{DeviceFault}
@@ -11,18 +9,19 @@ use Rattle.tlv_walk.specs.declared.run.DeviceFault.TheVariants.{ReadFailed, Writ
 use Rattle.tlv_walk.specs.declared.run.Run.{Run}
 use Rattle.tlv_walk.specs.declared.run.Turn.{Turn}
 use Rattle.tlv_walk.specs.declared.run.Turn.TheVariants.{Again, Ended}
-use Rattle.tlv_walk.specs.Device.{Last, never, gave, failed}
+use Rattle.tlv_walk.specs.Device.{Last, Supply, Taken, counted, never, gave, failed, failures_after}
+use Rattle.tlv_walk.specs.Drives.{octets_told}
 use Rattle.tlv_walk.specs.Ending.{IsEnding}
 use Rattle.tlv_walk.specs.Events.{AreEqualJoined, Told, events}
 use Rattle.tlv_walk.specs.Follow.{Following, followed}
-use Rattle.tlv_walk.specs.Follows.{Made}
+use Rattle.tlv_walk.specs.Follows.{GoesOnIn, Made}
 use Rattle.tlv_walk.specs.Forest.{Forest, spell}
-use Rattle.tlv_walk.specs.Laws.{IsFinal}
+use Rattle.tlv_walk.specs.Job.{IsFinalEnding, of_drain, of_source}
 use Rattle.tlv_walk.specs.Machine.{Machine}
-use Rattle.tlv_walk.specs.Prefix.{HasPrefix}
+use Rattle.tlv_walk.specs.Out.{Sends}
 use Rattle.tlv_walk.specs.Reading.{IsPrefixOf, IsReading}
 use Rattle.tlv_walk.specs.State.{Stands, waiting_of}
-use Rattle.tlv_walk.specs.Wrappers.{unused_of}
+use Rattle.tlv_walk.specs.Wrappers.{enters, first_other, unused_of}
 
 -- the octets that the last read gave, at the front of the piece
 abbrev pub given : Last → List ℕ → List ℕ
@@ -43,70 +42,71 @@ Gave room (Err ReadFailed) last = last ≡ failed
 Gave room (Err WriteFailed) last = GaveUpTo room last
 Gave room (Err InputTooLong) last = GaveUpTo room last
 
--- whether the follower had enough
-abbrev pub goes_of : Bool → Go
-goes_of true = go.Enough
-goes_of false = go.On
-
--- a fault that is the ending whatever follows
-abbrev pub IsFinalEnding : Ending → Type 0
-IsFinalEnding ending.Done = ⊥
-IsFinalEnding (ending.Fault f) = IsFinal f.code
-
--- what an input came to, where the follower had enough and where it had not
-abbrev pub EndsWith : Framing → List ℕ → Bool → Ending → Type 0
-EndsWith framing octets true e = e ≡ ending.Done
-EndsWith framing octets false e = IsEnding framing octets e
+-- one read into this room, which then holds the piece, and writes
+pub record Calls (room : ℕ) (old new : Supply) (from to : Taken) (piece : List ℕ) (result : Result Turn DeviceFault) : Type 0 where
+  pub octets : Consumes old.left new.left (given new.last piece)
+  pub reads : new.reads ≡ counted old.reads
+  pub last : Gave room result new.last
+  pub at_end : new.last ≡ gave 0 → IsAtEnd new.left
+  pub failed_reads : new.failures ≡ failures_after (of_source result) old.failures
+  pub failed_writes : to.failures ≡ failures_after (of_drain result) from.failures
 
 module _ {S : Type 0} (next : S → Told → Following S) where
-  -- all that the octets tell, behind those events that were told, was made of it
-  abbrev pub IsMadeOf : Framing → List ℕ → List Told → S → Following S → Type 0
-  IsMadeOf framing octets told s made =
-      (f : Forest) → IsReading framing octets f → (more : List Told) × AreEqualJoined (told ++ more) (events f) × (followed next s more ≡ made)
-
-  -- what a drain has is a prefix of what is made of all that the octets tell, behind those events
-  abbrev pub IsPrefixMade : Framing → List ℕ → List Told → S → Option (List ℕ) → Option (List ℕ) → Type 0
-  IsPrefixMade framing octets told s old new =
-      (f : Forest) → IsReading framing octets f → (more : List Told) × AreEqualJoined (told ++ more) (events f) × HasPrefix old new (followed next s more).put
-
   -- the walker stands behind all that the octets tell, and that was made of it
-  pub record StandsOn (w v : Machine) (s t : S) (old new : Option (List ℕ)) (octets : List ℕ) (told : List Told) : Type 0 where
+  pub record StandsOn (w v : Machine) (s t : S) (octets : List ℕ) (told : List Told) (puts : List ℕ → Type 0) : Type 0 where
     pub more : List Told
-    pub made : Made next s t old new more go.On
+    pub made : Made next s t more go.On
+    pub put : puts (followed next s more).put
     pub framing : v.framing ≡ w.framing
     pub stands : Stands v octets (told ++ more)
     pub quiet : waiting_of v ≡ []
 
-  -- the walker stands behind the front of the octets that told the event at which the follower had enough
-  pub record StoppedAt (framing : Framing) (v : Machine) (s t : S) (put octets : List ℕ) (told : List Told) (run : Run) : Type 0 where
-    pub same : v.framing ≡ framing
-    pub front : List ℕ
-    pub is_front : IsPrefixOf front octets
+  -- the walk has ended in these octets, of which all that they tell was followed
+  pub record EndsIn (w : Machine) (s t : S) (octets : List ℕ) (told : List Told) (puts : List ℕ → Type 0) (run : Run) : Type 0 where
     pub more : List Told
-    pub made : followed next s more ≡ record { state = t; put = put; goes = go.Enough }
-    pub stands : Stands v front (told ++ more)
-    pub octets_are : run.octets ≡ length front
-    pub unused : run.unused ≡ unused_of framing.inside stands.reading
+    pub made : Made next s t more go.On
+    pub put : puts (followed next s more).put
+    pub reading : Forest
+    pub is_reading : IsReading w.framing octets reading
+    pub tells : AreEqualJoined (told ++ more) (events reading)
+    pub ending : IsEnding w.framing octets run.ending
+    pub spelled : run.octets ≡ length (spell reading)
+    pub unused : run.unused ≡ unused_of w.framing.inside reading
 
-  -- the run has ended in these octets
-  pub record EndsIn (w v : Machine) (s t : S) (old new : Option (List ℕ)) (octets : List ℕ) (told : List Told) (run : Run) : Type 0 where
-    pub put : List ℕ
-    pub appended : Appends old new put
-    pub made : IsMadeOf w.framing octets told s (record { state = t; put = put; goes = goes_of run.enough })
-    pub ending : EndsWith w.framing octets run.enough run.ending
-    -- the octets before a fault, or all of them
-    pub spelled : run.enough ≡ false → (f : Forest) → IsReading w.framing octets f → (run.octets ≡ length (spell f)) × (run.unused ≡ unused_of w.framing.inside f)
-    -- or those up to the event at which the follower had enough
-    pub last : run.enough ≡ true → StoppedAt w.framing v s t put octets told run
+  -- the follower had enough with the last of these events, and the walker stands behind the octets that they tell of
+  pub record StopsIn (w v : Machine) (s t : S) (octets : List ℕ) (told : List Told) (puts : List ℕ → Type 0) (run : Run) : Type 0 where
+    pub more : List Told
+    pub made : Made next s t more go.Enough
+    pub put : puts (followed next s more).put
+    pub tells : GoesOnIn w.framing octets (told ++ more)
+    pub ending : run.ending ≡ ending.Done
+    pub framing : v.framing ≡ w.framing
+    pub is_front : IsPrefixOf (flat_map octets_told (told ++ more)) octets
+    pub stands : Stands v (flat_map octets_told (told ++ more)) (told ++ more)
+    pub spelled : run.octets ≡ length (flat_map octets_told (told ++ more))
+    pub unused : run.unused ≡ first_other w.framing.inside (enters (told ++ more))
+
+  abbrev pub EndsBy : Bool → Machine → Machine → S → S → List ℕ → List Told → (List ℕ → Type 0) → Run → Type 0
+  EndsBy false w v s t octets told puts run = EndsIn w s t octets told puts run
+  EndsBy true w v s t octets told puts run = StopsIn w v s t octets told puts run
+
+  -- the drain failed at a front of what is made of all that the octets tell
+  abbrev pub FailsIn : Machine → S → List ℕ → List Told → (List ℕ → Type 0) → Type 0
+  FailsIn w s octets told puts = (f : Forest) → IsReading w.framing octets f
+      → (more : List Told) × AreEqualJoined (told ++ more) (events f) × puts (followed next s more).put
 
   -- what a turn came to whose read gave r behind b. Of r only as many octets are followed as the limit leaves
-  abbrev pub TurnsTo : Machine → Machine → S → S → Option (List ℕ) → Option (List ℕ) → List ℕ → List Told → List ℕ → ℕ → Result Turn DeviceFault → Type 0
-  TurnsTo w v s t old new b told r limit (Ok Again) = (r ≢ []) × (length (b ++ r) ≤ limit) × StandsOn w v s t old new (b ++ r) told
-  TurnsTo w v s t old new b told r limit (Ok (Ended run)) =
-      EndsIn w v s t old new (b ++ take (limit - length b) r) told run
+  abbrev pub TurnsTo : ℕ → Machine → Machine → S → S → List ℕ → List Told → List ℕ → (List ℕ → Type 0) → Result Turn DeviceFault → Type 0
+  TurnsTo limit w v s t b told r puts (Ok Again) = (r ≢ []) × (length (b ++ r) ≤ limit) × StandsOn w v s t (b ++ r) told puts
+  TurnsTo limit w v s t b told r puts (Ok (Ended run)) =
+      EndsBy run.enough w v s t (b ++ take (limit - length b) r) told puts run
       × ((run.enough ≡ true) ⊎ IsFinalEnding run.ending ⊎ (r ≡ []))
-  TurnsTo w v s t old new b told r limit (Err ReadFailed) = (v ≡ w) × (t ≡ s) × Keeps old new
-  TurnsTo w v s t old new b told r limit (Err WriteFailed) =
-      IsPrefixMade w.framing (b ++ take (limit - length b) r) told s old new
-  TurnsTo w v s t old new b told r limit (Err InputTooLong) =
-      (limit < length (b ++ r)) × StandsOn w v s t old new (b ++ take (limit - length b) r) told
+  TurnsTo limit w v s t b told r puts (Err ReadFailed) = (v ≡ w) × (t ≡ s) × puts []
+  TurnsTo limit w v s t b told r puts (Err WriteFailed) = FailsIn w s (b ++ take (limit - length b) r) told puts
+  TurnsTo limit w v s t b told r puts (Err InputTooLong) =
+      (limit < length (b ++ r)) × StandsOn w v s t (b ++ take (limit - length b) r) told puts
+
+  -- what was made of octets that a read gave behind b, of which these events were told
+  abbrev pub Turns : ℕ → Machine → Machine → S → S → List ℕ → List Told → List ℕ → Taken → Taken → Result Turn DeviceFault → Type 0
+  Turns limit w v s t b told r from to result =
+      TurnsTo limit w v s t b told r (λ text. Sends from to text (of_drain result)) result

@@ -1,8 +1,7 @@
 //! What octets are written to.
 
-ghost use Rattle.std.specs.Prelude.{◌≡◌, ◌<◌, ℕ, List, Option, length};
-ghost use Rattle.std.specs.Io.KnownBytes.{WriteAppends};
-ghost use Rattle.tlv_walk.specs.Device.{TakesSome, failures_after};
+ghost use Rattle.std.specs.Prelude.{◌<◌, length};
+ghost use Rattle.tlv_walk.specs.Device.{Taken, WritesOnce};
 
 /// A write failed.
 #[derive(Clone, Copy, Debug, PartialEq, Eq)]
@@ -10,11 +9,8 @@ pub struct WriteFault;
 
 /// What octets are written to, in order. The count that it tells stops at 2^64 - 1.
 pub trait Drain {
-    /// The octets taken, where the drain knows them.
-    ghost taken: { Self → Option (List ℕ) };
-
-    /// The writes that failed.
-    ghost failures: { Self → ℕ };
+    /// What it tells: its octets and its failures.
+    ghost told: { Self → Taken };
 
     /// Takes octets from the front of `from`, which holds at least one. Returns how many: one or more.
     ///
@@ -23,7 +19,5 @@ pub trait Drain {
     /// `WriteFault` where the write failed. It then took nothing.
     fn write(&mut self, from: &[u8]) -> Result<usize, WriteFault>
         requires { 0 < length from.now }
-        ensures octets { WriteAppends (taken self.old) (taken self.new) result from.now }
-        ensures some { TakesSome result from.now }
-        ensures failed { failures self.new ≡ failures_after result (failures self.old) };
+        ensures { WritesOnce (told self.old) (told self.new) result from.now };
 }

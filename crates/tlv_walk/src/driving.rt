@@ -1,6 +1,5 @@
 //! A walk over all that a source gives.
-ghost use Rattle.std.specs.Prelude.{◌≡◌, ◌≤◌, ◌^◌, IsErrOf, OnOk};
-ghost use Rattle.tlv_walk.specs.Device.{counted};
+ghost use Rattle.std.specs.Prelude.{◌≤◌, ◌^◌};
 ghost use Rattle.tlv_walk.specs.Drives.{Drives};
 
 use crate::{DeviceFault, Drain, Follow, Framing, INPUT_LIMIT, Run, Source, Turn, Walker, turn};
@@ -19,11 +18,8 @@ pub fn drive<S: Source, F: Follow, D: Drain>(
     drain: &mut D,
     framing: &Framing,
 ) -> Result<Run, DeviceFault>
-    ensures drives { Drives F.next framing.now follower.old follower.new (D.taken drain.old) (D.taken drain.new) (S.left source.old) (S.left source.new) (S.reads source.old) (S.reads source.new) (S.last source.new) (2 ^ 40) result }
-    ensures ok { OnOk result ((S.failures source.new ≡ S.failures source.old) × (D.failures drain.new ≡ D.failures drain.old)) }
-    ensures read { IsErrOf result DeviceFault.ReadFailed → (S.failures source.new ≡ counted (S.failures source.old)) × (D.failures drain.new ≡ D.failures drain.old) }
-    ensures write { IsErrOf result DeviceFault.WriteFailed → (S.failures source.new ≡ S.failures source.old) × (D.failures drain.new ≡ counted (D.failures drain.old)) }
-    ensures long { IsErrOf result DeviceFault.InputTooLong → (S.failures source.new ≡ S.failures source.old) × (D.failures drain.new ≡ D.failures drain.old) }
+    ensures { Drives F.next framing.now (2 ^ 40) follower.old follower.new
+        (S.told source.old) (S.told source.new) (D.told drain.old) (D.told drain.new) result }
 {
     drive_up_to(source, follower, drain, INPUT_LIMIT, framing)
 }
@@ -44,11 +40,8 @@ pub fn drive_up_to<S: Source, F: Follow, D: Drain>(
     framing: &Framing,
 ) -> Result<Run, DeviceFault>
     requires { limit ≤ 2 ^ 40 }
-    ensures drives { Drives F.next framing.now follower.old follower.new (D.taken drain.old) (D.taken drain.new) (S.left source.old) (S.left source.new) (S.reads source.old) (S.reads source.new) (S.last source.new) limit result }
-    ensures ok { OnOk result ((S.failures source.new ≡ S.failures source.old) × (D.failures drain.new ≡ D.failures drain.old)) }
-    ensures read { IsErrOf result DeviceFault.ReadFailed → (S.failures source.new ≡ counted (S.failures source.old)) × (D.failures drain.new ≡ D.failures drain.old) }
-    ensures write { IsErrOf result DeviceFault.WriteFailed → (S.failures source.new ≡ S.failures source.old) × (D.failures drain.new ≡ counted (D.failures drain.old)) }
-    ensures long { IsErrOf result DeviceFault.InputTooLong → (S.failures source.new ≡ S.failures source.old) × (D.failures drain.new ≡ D.failures drain.old) }
+    ensures { Drives F.next framing.now limit follower.old follower.new
+        (S.told source.old) (S.told source.new) (D.told drain.old) (D.told drain.new) result }
 {
     let mut piece = [0; PIECE];
     let mut walker = Walker::new(framing);

@@ -1,11 +1,7 @@
 //! What follows a walk.
-ghost use Rattle.std.specs.Prelude.{◌≡◌, IfOk, OnErr};
-ghost use Rattle.std.specs.Io.KnownBytes.{Appends};
-ghost use Rattle.tlv_walk.specs.Device.{failures_after};
 ghost use Rattle.tlv_walk.specs.Events.{Bytes, Pad, Told};
-ghost use Rattle.tlv_walk.specs.Follow.{Following, GoesOn, Joins, Rests};
-ghost use Rattle.tlv_walk.specs.Out.{lender_of, put_to};
-ghost use Rattle.tlv_walk.specs.Prefix.{HasPrefix};
+ghost use Rattle.tlv_walk.specs.Follow.{Following, GoesOn, IsFollowed, Joins, Rests};
+ghost use Rattle.tlv_walk.specs.Out.{Puts};
 ghost use Rattle.tlv_walk.specs.Tells.{told_of};
 
 use crate::{Drain, Event, Out, WriteFault};
@@ -33,10 +29,8 @@ pub trait Follow {
     /// `WriteFault` exactly where the drain's failures rose in the call. The drain then has a prefix
     /// of what was put before and what was to be put now.
     fn on<D: Drain>(&mut self, event: &Event<'_>, out: &mut Out<'_, D>) -> Result<Go, WriteFault>
-        ensures same_reference { (lender_of out.new).ghost_name ≡ (lender_of out.old).ghost_name }
-        ensures ok { IfOk result (λ go. (self.new ≡ (next self.old (told_of event.now)).state) × (go ≡ (next self.old (told_of event.now)).goes) × Appends (put_to D.taken out.old) (put_to D.taken out.new) (next self.old (told_of event.now)).put) }
-        ensures err { OnErr result (HasPrefix (put_to D.taken out.old) (D.taken (lender_of out.new).now) (next self.old (told_of event.now)).put) }
-        ensures failed { D.failures (lender_of out.new).now ≡ failures_after result (D.failures (lender_of out.old).now) };
+        ensures puts { Puts D.told out.old out.new (next self.old (told_of event.now)).put result }
+        ensures state { IsFollowed (next self.old (told_of event.now)) self.new result };
 
     // Contents in two parts are followed as in one, no octets as no event, and octets are never
     // enough. So it is for padding.

@@ -1,10 +1,8 @@
 //! A source and a drain over memory.
 
 ghost use Rattle.std.specs.Prelude.{◌≡◌, ◌<◌, ◌≤◌, ◌↔◌, [], IfOk, IsErr, Some, drop, length, max, take};
-ghost use Rattle.std.specs.Io.KnownBytes.{ReadConsumes, WriteAppends};
-ghost use Rattle.std.specs.Io.{ReadsAtMost};
-ghost use Rattle.tlv_walk.specs.Device.{TakesSome, counted, failures_after, last_of, never};
-ghost use Rattle.tlv_walk.specs.MemSource.{cut_to, given_count};
+ghost use Rattle.tlv_walk.specs.Device.{ReadsOnce, WritesOnce, never};
+ghost use Rattle.tlv_walk.specs.MemSource.{cut_to, given_count, told_by};
 
 use crate::drain::{Drain, WriteFault};
 use crate::source::{ReadFault, ReadLog, Source};
@@ -20,17 +18,15 @@ pub struct MemSource<'a> {
 }
 
 impl<'a> Model for MemSource<'a> {
-    ghost use Rattle.tlv_walk.specs.MemSource.{Supply};
+    ghost use Rattle.tlv_walk.specs.MemSource.{MemSupply};
 
-    ghost Value = { Supply };
+    ghost Value = { MemSupply };
 
     ghost view = { λ source. record {
       left = source.octets.now;
       cuts = source.cuts.now;
       fail_at = source.fail_at;
-      reads = source.log.reads;
-      last = source.log.last;
-      failures = source.log.failures;
+      log = source.log;
     } };
 }
 
@@ -44,9 +40,7 @@ impl<'a> MemSource<'a> {
           left = octets.now;
           cuts = cuts.now;
           fail_at = fail_at;
-          reads = 0;
-          last = never;
-          failures = 0;
+          log = record { reads = 0; last = never; failures = 0 };
         } }
     {
         MemSource {
@@ -59,27 +53,17 @@ impl<'a> MemSource<'a> {
 }
 
 impl Source for MemSource<'_> {
-    ghost left = { λ source. Some source.left };
-
-    ghost reads = { λ source. source.reads };
-
-    ghost last = { λ source. source.last };
-
-    ghost failures = { λ source. source.failures };
+    ghost told = { told_by };
 
     fn read(&mut self, to: &mut [u8]) -> Result<usize, ReadFault>
         requires { 0 < length to.old }
 
         // What each source promises.
-        ensures octets { ReadConsumes (Some self.old.left) (Some self.new.left) result to.new }
-        ensures bound { ReadsAtMost result to.new }
-        ensures read { self.new.reads ≡ counted self.old.reads }
-        ensures gave { self.new.last ≡ last_of result }
-        ensures failed { self.new.failures ≡ failures_after result self.old.failures }
+        ensures told { ReadsOnce (told_by self.old) (told_by self.new) result to.new }
 
         // How many octets it gives, and which read fails.
         ensures count { IfOk result (λ n. n ≡ given_count self.old (length to.old)) }
-        ensures fails { IsErr result ↔ (self.old.fail_at ≡ Some self.old.reads) }
+        ensures fails { IsErr result ↔ (self.old.fail_at ≡ Some self.old.log.reads) }
 
         // What stays.
         ensures cuts { self.new.cuts ≡ self.old.cuts }
@@ -148,19 +132,15 @@ impl<'a> MemDrain<'a> {
 }
 
 impl Drain for MemDrain<'_> {
-    ghost use Rattle.tlv_walk.specs.MemDrain.{failures_of, free_in, most_of, room_of, taken_by, taken_count};
+    ghost use Rattle.tlv_walk.specs.MemDrain.{free_in, most_of, room_of, taken_by, taken_count, told_of};
 
-    ghost taken = { λ drain. Some (taken_by drain) };
-
-    ghost failures = { failures_of };
+    ghost told = { told_of };
 
     fn write(&mut self, from: &[u8]) -> Result<usize, WriteFault>
         requires { 0 < length from.now }
 
         // What each drain promises.
-        ensures octets { WriteAppends (Some (taken_by self.old)) (Some (taken_by self.new)) result from.now }
-        ensures some { TakesSome result from.now }
-        ensures failed { failures_of self.new ≡ failures_after result (failures_of self.old) }
+        ensures told { WritesOnce (told_of self.old) (told_of self.new) result from.now }
 
         // How many octets it takes, and when it fails.
         ensures count { IfOk result (λ n. n ≡ taken_count self.old (length from.now)) }

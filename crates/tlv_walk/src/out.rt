@@ -1,10 +1,7 @@
 //! Octets on their way to a drain.
 
-ghost use Rattle.std.specs.Prelude.{◌≡◌, ◌+◌, ◌≤◌, ◌++◌, [], length, OnOk, OnErr};
-ghost use Rattle.std.specs.Io.KnownBytes.{Appends, Keeps};
-ghost use Rattle.tlv_walk.specs.Device.{failures_after};
-ghost use Rattle.tlv_walk.specs.Out.{held_in, lender_of, put_to};
-ghost use Rattle.tlv_walk.specs.Prefix.{HasPrefix, TookPrefix};
+ghost use Rattle.std.specs.Prelude.{◌≡◌, ◌+◌, ◌≤◌, ◌++◌, [], length, OnOk};
+ghost use Rattle.tlv_walk.specs.Out.{Puts, Sends, held_in, lender_of};
 
 use crate::drain::{Drain, WriteFault};
 use std::marker::Model;
@@ -42,10 +39,7 @@ impl<'d, D: Drain> Out<'d, D> {
     /// `WriteFault` where a write failed. The drain then has a prefix of what was put before and these octets.
     #[inline]
     pub fn put(&mut self, octets: &[u8]) -> Result<(), WriteFault>
-        ensures same_reference { (lender_of self.new).ghost_name ≡ (lender_of self.old).ghost_name }
-        ensures ok { OnOk result (Appends (put_to D.taken self.old) (put_to D.taken self.new) octets.now) }
-        ensures err { OnErr result (HasPrefix (put_to D.taken self.old) (D.taken (lender_of self.new).now) octets.now) }
-        ensures failed { D.failures (lender_of self.new).now ≡ failures_after result (D.failures (lender_of self.old).now) }
+        ensures puts { Puts D.told self.old self.new octets.now result }
         ensures bound { length (held_in self.new) ≤ 4096 }
     {
         if octets.len() < self.held.room() {
@@ -59,10 +53,7 @@ impl<'d, D: Drain> Out<'d, D> {
     #[cold]
     #[inline(never)]
     fn put_past_room(&mut self, octets: &[u8]) -> Result<(), WriteFault>
-        ensures same_reference { (lender_of self.new).ghost_name ≡ (lender_of self.old).ghost_name }
-        ensures ok { OnOk result (Appends (put_to D.taken self.old) (put_to D.taken self.new) octets.now) }
-        ensures err { OnErr result (HasPrefix (put_to D.taken self.old) (D.taken (lender_of self.new).now) octets.now) }
-        ensures failed { D.failures (lender_of self.new).now ≡ failures_after result (D.failures (lender_of self.old).now) }
+        ensures puts { Puts D.told self.old self.new octets.now result }
         ensures bound { length (held_in self.new) ≤ 4096 }
     {
         if octets.len() > self.held.room() {
@@ -82,11 +73,8 @@ impl<'d, D: Drain> Out<'d, D> {
     ///
     /// `WriteFault` where a write failed. The drain then has a prefix of what was put.
     pub fn flush(&mut self) -> Result<(), WriteFault>
-        ensures same_reference { (lender_of self.new).ghost_name ≡ (lender_of self.old).ghost_name }
-        ensures ok { OnOk result (Keeps (put_to D.taken self.old) (put_to D.taken self.new)) }
+        ensures puts { Puts D.told self.old self.new [] result }
         ensures empty { OnOk result (held_in self.new ≡ []) }
-        ensures err { OnErr result (HasPrefix (put_to D.taken self.old) (D.taken (lender_of self.new).now) []) }
-        ensures failed { D.failures (lender_of self.new).now ≡ failures_after result (D.failures (lender_of self.old).now) }
         ensures bound { length (held_in self.new) ≤ 4096 }
     {
         send(self.drain, self.held.as_slice())?;
@@ -97,9 +85,7 @@ impl<'d, D: Drain> Out<'d, D> {
 
 /// Hands all of the octets to the drain, in as many writes as that needs.
 fn send<D: Drain>(drain: &mut D, octets: &[u8]) -> Result<(), WriteFault>
-    ensures ok { OnOk result (Appends (D.taken drain.old) (D.taken drain.new) octets.now) }
-    ensures err { OnErr result (TookPrefix (D.taken drain.old) (D.taken drain.new) octets.now) }
-    ensures failed { D.failures drain.new ≡ failures_after result (D.failures drain.old) }
+    ensures { Sends (D.told drain.old) (D.told drain.new) octets.now result }
 {
     let mut sent = 0;
     while sent < octets.len() {

@@ -1,9 +1,7 @@
 //! What octets are read from.
 
-ghost use Rattle.std.specs.Prelude.{◌≡◌, ◌<◌, ℕ, List, Option, length};
-ghost use Rattle.std.specs.Io.KnownBytes.{ReadConsumes};
-ghost use Rattle.std.specs.Io.{ReadsAtMost};
-ghost use Rattle.tlv_walk.specs.Device.{Last, counted, failures_after, last_of, never};
+ghost use Rattle.std.specs.Prelude.{◌≡◌, ◌<◌, length};
+ghost use Rattle.tlv_walk.specs.Device.{ReadsOnce, Supply, after_read, never};
 
 use std::marker::Model;
 
@@ -13,17 +11,8 @@ pub struct ReadFault;
 
 /// What octets are read from, in order and each one once. The counts that it tells stop at 2^64 - 1.
 pub trait Source {
-    /// The octets still to give, where the source knows them.
-    ghost left: { Self → Option (List ℕ) };
-
-    /// The reads so far, failed ones too.
-    ghost reads: { Self → ℕ };
-
-    /// What the last read gave. The source has ended where that is 0 octets.
-    ghost last: { Self → Last };
-
-    /// The reads that failed.
-    ghost failures: { Self → ℕ };
+    /// What it tells: its octets, its reads and its failures.
+    ghost told: { Self → Supply };
 
     /// Reads octets into the front of `to`, which has room for at least one. Returns how many; 0 is the end.
     ///
@@ -32,11 +21,7 @@ pub trait Source {
     /// `ReadFault` where the read failed. It then gave nothing, and no octet is lost.
     fn read(&mut self, to: &mut [u8]) -> Result<usize, ReadFault>
         requires { 0 < length to.old }
-        ensures octets { ReadConsumes (left self.old) (left self.new) result to.new }
-        ensures bound { ReadsAtMost result to.new }
-        ensures read { reads self.new ≡ counted (reads self.old) }
-        ensures gave { last self.new ≡ last_of result }
-        ensures failed { failures self.new ≡ failures_after result (failures self.old) };
+        ensures { ReadsOnce (told self.old) (told self.new) result to.new };
 }
 
 #[derive(Clone, Copy, Debug, PartialEq, Eq)]
@@ -85,9 +70,7 @@ impl ReadLog {
     /// Counts a read with this answer, and passes the answer on.
     pub(crate) fn count(&mut self, answer: Result<usize, ReadFault>) -> Result<usize, ReadFault>
         ensures same { result ≡ answer }
-        ensures read { self.new.reads ≡ counted self.old.reads }
-        ensures gave { self.new.last ≡ last_of answer }
-        ensures failed { self.new.failures ≡ failures_after answer self.old.failures }
+        ensures log { self.new ≡ after_read answer self.old }
     {
         self.reads = self.reads.saturating_add(1);
         match answer {

@@ -1,7 +1,7 @@
 //! A reader as a source, and a writer as a drain.
 
 ghost use Rattle.std.specs.Prelude.{◌≡◌};
-ghost use Rattle.tlv_walk.specs.Device.{never};
+ghost use Rattle.tlv_walk.specs.Device.{unread};
 
 use crate::drain::{Drain, WriteFault};
 use crate::source::{ReadFault, ReadLog, Source};
@@ -17,10 +17,7 @@ pub struct ReadSource<R> {
 impl<R: Read + Drop> ReadSource<R> {
     /// A source that gives the octets that `reader` has left.
     pub fn new(reader: R) -> ReadSource<R>
-        ensures left { ⟦<ReadSource<R> as Source>⟧.left result ≡ R.remaining reader }
-        ensures reads { ⟦<ReadSource<R> as Source>⟧.reads result ≡ 0 }
-        ensures last { ⟦<ReadSource<R> as Source>⟧.last result ≡ never }
-        ensures failures { ⟦<ReadSource<R> as Source>⟧.failures result ≡ 0 }
+        ensures { ⟦<ReadSource<R> as Source>⟧.told result ≡ unread (R.remaining reader) }
     {
         ReadSource {
             reader,
@@ -30,13 +27,12 @@ impl<R: Read + Drop> ReadSource<R> {
 }
 
 impl<R: Read + Drop> Source for ReadSource<R> {
-    ghost left = { λ source. R.remaining source.reader };
-
-    ghost reads = { λ source. source.log.reads };
-
-    ghost last = { λ source. source.log.last };
-
-    ghost failures = { λ source. source.log.failures };
+    ghost told = { λ source. record {
+      left = R.remaining source.reader;
+      reads = source.log.reads;
+      last = source.log.last;
+      failures = source.log.failures;
+    } };
 
     fn read(&mut self, to: &mut [u8]) -> Result<usize, ReadFault> {
         // `read` itself: the reader's other methods try again after an interruption.
@@ -55,8 +51,7 @@ pub struct WriteDrain<W> {
 impl<W: Write + Drop> WriteDrain<W> {
     /// A drain that writes behind what `writer` holds.
     pub fn new(writer: W) -> WriteDrain<W>
-        ensures taken { ⟦<WriteDrain<W> as Drain>⟧.taken result ≡ W.contents writer }
-        ensures failures { ⟦<WriteDrain<W> as Drain>⟧.failures result ≡ 0 }
+        ensures { ⟦<WriteDrain<W> as Drain>⟧.told result ≡ record { octets = W.contents writer; failures = 0 } }
     {
         WriteDrain {
             writer,
@@ -66,9 +61,7 @@ impl<W: Write + Drop> WriteDrain<W> {
 }
 
 impl<W: Write + Drop> Drain for WriteDrain<W> {
-    ghost taken = { λ drain. W.contents drain.writer };
-
-    ghost failures = { λ drain. drain.failures };
+    ghost told = { λ drain. record { octets = W.contents drain.writer; failures = drain.failures } };
 
     fn write(&mut self, from: &[u8]) -> Result<usize, WriteFault> {
         match self.writer.write(from) {

@@ -1,13 +1,13 @@
 //! One read of a source, followed.
-ghost use Rattle.std.specs.Prelude.{◌≡◌, ℕ, List, ◌+◌, ◌<◌, ◌≤◌, ◌^◌, ◌++◌, IfOk, IsErrOf, OnErr, OnOk, length};
-ghost use Rattle.std.specs.Io.KnownBytes.{Consumes};
-ghost use Rattle.tlv_walk.specs.Device.{counted, failures_after};
+ghost use Rattle.std.specs.Prelude.{◌≡◌, ℕ, List, ◌+◌, ◌<◌, ◌≤◌, ◌^◌, IfOk, length};
+ghost use Rattle.tlv_walk.specs.Device.{failures_after};
 ghost use Rattle.tlv_walk.specs.Events.{Told};
+ghost use Rattle.tlv_walk.specs.Follows.{Stops};
+ghost use Rattle.tlv_walk.specs.Laws.{AreOctets};
 ghost use Rattle.tlv_walk.specs.Machine.{IsReady, unused_in};
-ghost use Rattle.tlv_walk.specs.Follows.{Fails, Stops};
-ghost use Rattle.tlv_walk.specs.Out.{lender_of, put_to};
+ghost use Rattle.tlv_walk.specs.Out.{Puts, Sends, lender_of};
 ghost use Rattle.tlv_walk.specs.State.{Stands};
-ghost use Rattle.tlv_walk.specs.Turns.{Gave, IsPrefixMade, TurnsTo, given};
+ghost use Rattle.tlv_walk.specs.Turns.{Calls, Turns, given};
 
 use crate::{
     DeviceFault, Drain, Ending, Follow, Go, Out, Run, Source, Step, Turn, Walker, WriteFault,
@@ -46,18 +46,15 @@ pub fn turn<F: Follow, S: Source, D: Drain>(
     requires limit { limit ≤ 2 ^ 40 }
     requires taken { walker.old.offset ≤ limit }
     requires ready { IsReady walker.old }
-    // What the source gave, and what was made of it, wherever the walker stands.
-    ensures octets { Consumes (S.left source.old) (S.left source.new) (given (S.last source.new) piece.new) }
-    ensures reads { S.reads source.new ≡ counted (S.reads source.old) }
-    ensures last { Gave (length piece.old) result (S.last source.new) }
-    ensures turned { (b : List ℕ) (told : List Told) → Stands walker.old b told → TurnsTo F.next walker.old walker.new follower.old follower.new (D.taken drain.old) (D.taken drain.new) b told (given (S.last source.new) piece.new) limit result }
-    ensures again { IfOk result (λ t. t ≡ Turn.Again → (walker.old.offset < walker.new.offset) × (walker.new.offset ≤ limit) × IsReady walker.new) }
-
-    // Which device failed, if one did.
-    ensures ok { OnOk result ((S.failures source.new ≡ S.failures source.old) × (D.failures drain.new ≡ D.failures drain.old)) }
-    ensures read { IsErrOf result DeviceFault.ReadFailed → (S.failures source.new ≡ counted (S.failures source.old)) × (D.failures drain.new ≡ D.failures drain.old) }
-    ensures write { IsErrOf result DeviceFault.WriteFailed → (S.failures source.new ≡ S.failures source.old) × (D.failures drain.new ≡ counted (D.failures drain.old)) }
-    ensures long { IsErrOf result DeviceFault.InputTooLong → (S.failures source.new ≡ S.failures source.old) × (D.failures drain.new ≡ D.failures drain.old) }
+    // What the devices did, and what was made of it where the walker stands for octets.
+    ensures calls { Calls (length piece.old) (S.told source.old) (S.told source.new)
+        (D.told drain.old) (D.told drain.new) piece.new result }
+    ensures turned { (b : List ℕ) (told : List Told) → Stands walker.old b told
+        → Turns F.next limit walker.old walker.new follower.old follower.new b told
+          (given (S.told source.new).last piece.new) (D.told drain.old) (D.told drain.new) result }
+    ensures octets { AreOctets piece.new }
+    ensures again { IfOk result (λ t. t ≡ Turn.Again
+        → (walker.old.offset < walker.new.offset) × (walker.new.offset ≤ limit) × IsReady walker.new) }
 {
     let Ok(count) = source.read(piece) else {
         return Err(DeviceFault::ReadFailed);
@@ -98,10 +95,11 @@ fn follow_and_flush<F: Follow, D: Drain>(
     piece: &[u8],
 ) -> Result<Stop, WriteFault>
     requires { walker.old.offset + length piece.now ≤ 2 ^ 40 }
-    ensures ok { IfOk result (Stops F.next walker.old walker.new follower.old follower.new (D.taken drain.old) (D.taken drain.new) piece.now) }
-    ensures err { OnErr result ((b : List ℕ) (told : List Told) → Stands walker.old b told → IsPrefixMade F.next walker.old.framing (b ++ piece.now) told follower.old (D.taken drain.old) (D.taken drain.new)) }
-    ensures failed { D.failures drain.new ≡ failures_after result (D.failures drain.old) }
-    ensures used_up { IfOk result (λ s. s ≡ Stop.UsedUp → (walker.new.offset ≡ walker.old.offset + length piece.now) × IsReady walker.new) }
+    ensures stops { Stops F.next walker.old walker.new follower.old follower.new piece.now
+        (λ text. Sends (D.told drain.old) (D.told drain.new) text result) result }
+    ensures failed { (D.told drain.new).failures ≡ failures_after result (D.told drain.old).failures }
+    ensures used_up { IfOk result (λ s. s ≡ Stop.UsedUp
+        → (walker.new.offset ≡ walker.old.offset + length piece.now) × IsReady walker.new) }
 {
     let mut out = Out::new(drain);
     let stop = follow(walker, follower, piece, &mut out)?;
@@ -117,11 +115,13 @@ fn follow<F: Follow, D: Drain>(
     out: &mut Out<'_, D>,
 ) -> Result<Stop, WriteFault>
     requires { walker.old.offset + length piece.now ≤ 2 ^ 40 }
-    ensures ok { IfOk result (Stops F.next walker.old walker.new follower.old follower.new (put_to D.taken out.old) (put_to D.taken out.new) piece.now) }
-    ensures err { OnErr result (Fails F.next walker.old follower.old (put_to D.taken out.old) (D.taken (lender_of out.new).now) piece.now) }
+    ensures stops { Stops F.next walker.old walker.new follower.old follower.new piece.now
+        (λ text. Puts D.told out.old out.new text result) result }
     ensures same_reference { (lender_of out.new).ghost_name ≡ (lender_of out.old).ghost_name }
-    ensures failed { D.failures (lender_of out.new).now ≡ failures_after result (D.failures (lender_of out.old).now) }
-    ensures used_up { IfOk result (λ s. s ≡ Stop.UsedUp → (walker.new.offset ≡ walker.old.offset + length piece.now) × IsReady walker.new) }
+    ensures failed { (D.told (lender_of out.new).now).failures
+        ≡ failures_after result (D.told (lender_of out.old).now).failures }
+    ensures used_up { IfOk result (λ s. s ≡ Stop.UsedUp
+        → (walker.new.offset ≡ walker.old.offset + length piece.now) × IsReady walker.new) }
 {
     let mut rest = piece;
     'events: loop {

@@ -1,8 +1,7 @@
 //! A follower that writes each event as a line of text.
-ghost use Rattle.std.specs.Prelude.{◌≡◌, ◌+◌, ◌*◌, ◌≤◌, ◌++◌, IfOk, OnErr, OnOk, length};
-ghost use Rattle.std.specs.Io.KnownBytes.{Appends};
+ghost use Rattle.std.specs.Prelude.{◌≡◌, ◌+◌, ◌*◌, ◌≤◌, ◌++◌, length};
 ghost use Rattle.arrayvec.specs.ArrayVec.{array_vec_len};
-ghost use Rattle.tlv_walk.specs.Device.{failures_after};
+ghost use Rattle.tlv_walk.specs.Follow.{IsFollowed};
 ghost use Rattle.tlv_walk.specs.Lined.{
   close_line as close_line_of,
   ends,
@@ -12,8 +11,7 @@ ghost use Rattle.tlv_walk.specs.Lined.{
   pairs,
   place as place_of,
 };
-ghost use Rattle.tlv_walk.specs.Out.{lender_of, put_to};
-ghost use Rattle.tlv_walk.specs.Prefix.{HasPrefix};
+ghost use Rattle.tlv_walk.specs.Out.{Puts};
 
 use crate::{Drain, Event, Follow, Go, Out, WriteFault};
 use arrayvec::ArrayVec;
@@ -46,11 +44,8 @@ impl Lines {
 
     /// An element ends.
     fn end<D: Drain>(&mut self, line: &[u8], out: &mut Out<'_, D>) -> Result<Go, WriteFault>
-        ensures same_reference { (lender_of out.new).ghost_name ≡ (lender_of out.old).ghost_name }
-        ensures state { IfOk result (λ go. (self.new ≡ (ends self.old line.now).state) × (go ≡ (ends self.old line.now).goes)) }
-        ensures ok { OnOk result (Appends (put_to D.taken out.old) (put_to D.taken out.new) line.now) }
-        ensures err { OnErr result (HasPrefix (put_to D.taken out.old) (D.taken (lender_of out.new).now) line.now) }
-        ensures failed { D.failures (lender_of out.new).now ≡ failures_after result (D.failures (lender_of out.old).now) }
+        ensures state { IsFollowed (ends self.old line.now) self.new result }
+        ensures puts { Puts D.told out.old out.new line.now result }
     {
         out.put(line)?;
         let is_last = self.ends == 1;
@@ -129,20 +124,14 @@ fn put_header<D: Drain>(
     out: &mut Out<'_, D>,
 ) -> Result<(), WriteFault>
     requires { length word.now ≤ 5 }
-    ensures same_reference { (lender_of out.new).ghost_name ≡ (lender_of out.old).ghost_name }
-    ensures ok { OnOk result (Appends (put_to D.taken out.old) (put_to D.taken out.new) (header_line_of word.now header.now)) }
-    ensures err { OnErr result (HasPrefix (put_to D.taken out.old) (D.taken (lender_of out.new).now) (header_line_of word.now header.now)) }
-    ensures failed { D.failures (lender_of out.new).now ≡ failures_after result (D.failures (lender_of out.old).now) }
+    ensures { Puts D.told out.old out.new (header_line_of word.now header.now) result }
 {
     out.put(header_line(word, header).as_slice())
 }
 
 /// Puts each octet as a space and two digits.
 fn put_pairs<D: Drain>(octets: &[u8], out: &mut Out<'_, D>) -> Result<(), WriteFault>
-    ensures same_reference { (lender_of out.new).ghost_name ≡ (lender_of out.old).ghost_name }
-    ensures ok { OnOk result (Appends (put_to D.taken out.old) (put_to D.taken out.new) (pairs octets.now)) }
-    ensures err { OnErr result (HasPrefix (put_to D.taken out.old) (D.taken (lender_of out.new).now) (pairs octets.now)) }
-    ensures failed { D.failures (lender_of out.new).now ≡ failures_after result (D.failures (lender_of out.old).now) }
+    ensures { Puts D.told out.old out.new (pairs octets.now) result }
 {
     for octet in octets {
         out.put(&pair(*octet))?;
@@ -152,10 +141,7 @@ fn put_pairs<D: Drain>(octets: &[u8], out: &mut Out<'_, D>) -> Result<(), WriteF
 
 /// Puts a line for each octet of padding.
 fn put_padding<D: Drain>(octets: &[u8], out: &mut Out<'_, D>) -> Result<(), WriteFault>
-    ensures same_reference { (lender_of out.new).ghost_name ≡ (lender_of out.old).ghost_name }
-    ensures ok { OnOk result (Appends (put_to D.taken out.old) (put_to D.taken out.new) (pads octets.now)) }
-    ensures err { OnErr result (HasPrefix (put_to D.taken out.old) (D.taken (lender_of out.new).now) (pads octets.now)) }
-    ensures failed { D.failures (lender_of out.new).now ≡ failures_after result (D.failures (lender_of out.old).now) }
+    ensures { Puts D.told out.old out.new (pads octets.now) result }
 {
     for _octet in octets {
         out.put(b"pad\n")?;

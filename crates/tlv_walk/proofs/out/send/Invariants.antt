@@ -3,10 +3,10 @@ use Rattle.std.specs.Io.KnownBytes.{Appends}
 use Rattle.tlv_walk.proofs.out.send.Given as goal
 
 abbrev pub invariant-loop-sent : goal.invariant-loop-sent
-invariant-loop-sent g l = record {
+invariant-loop-sent g l = let told = g.D.Drain.told in record {
   within : l.sent ≤ length l.octets;
-  took : Appends (g.D.Drain.taken l.initial.drain) (g.D.Drain.taken l.drain) (take l.sent l.octets);
-  failures : g.D.Drain.failures l.drain ≡ g.D.Drain.failures l.initial.drain;
+  took : Appends (told l.initial.drain).octets (told l.drain).octets (take l.sent l.octets);
+  failures : (told l.drain).failures ≡ (told l.initial.drain).failures;
 }
 
 abbrev pub decreases-loop-sent : goal.decreases-loop-sent

@@ -1,14 +1,18 @@
 use Rattle.std.proofs.Common.{rules}
 use Rattle.std.proofs.lemmas.Result.{err_from_is_err_and}
-use Rattle.tlv_walk.proofs.Turns.{fails_drain, stops_drain}
+use Rattle.tlv_walk.proofs.Turns.{fails_sent, stops_flushed, stops_unflushed}
 use Rattle.tlv_walk.proofs.turning.follow_and_flush.Goals as goal
 
-pub returns-in_err-stop-clause-err : goal.returns-in_err-stop-clause-err
-returns-in_err-stop-clause-err g c =
+pub returns-in_err-stop-clause-stops : goal.returns-in_err-stop-clause-stops
+returns-in_err-stop-clause-stops g c =
     let p = err_from_is_err_and c.from_residual.result c.from_residual.ensures.1 in rw p.1
-    (fails_drain g.F.Follow.next _ _ _ _ _ _ _ c.in_err-stop.ensures.err (search rules) (search rules))
+    (fails_sent g.F.Follow.next g.D.Drain.told _ _ _ _ _ _ _ (search rules) (search rules) (search rules) _ _ c.in_err-stop.ensures.stops)
 
-pub returns-in_err-flush-clause-err : goal.returns-in_err-flush-clause-err
-returns-in_err-flush-clause-err g c =
+pub returns-in_err-flush-clause-stops : goal.returns-in_err-flush-clause-stops
+returns-in_err-flush-clause-stops g c =
     let p = err_from_is_err_and c.from_residual-in_err-flush.result c.from_residual-in_err-flush.ensures.1 in rw p.1
-    (stops_drain g.F.Follow.next _ _ _ _ _ _ _ _ _ _ _ c.in_ok-stop.ensures.ok c.in_err-flush.ensures.err (search rules) (search rules))
+    (stops_unflushed g.F.Follow.next g.D.Drain.told _ _ _ _ _ _ _ _ _ _ (search rules) (search rules) (search rules) _ _ _ c.in_ok-stop.ensures.stops c.in_err-flush.ensures.puts)
+
+pub returns-clause-stops : goal.returns-clause-stops
+returns-clause-stops g c =
+    stops_flushed g.F.Follow.next g.D.Drain.told _ _ _ _ _ _ _ _ _ _ (search rules) (search rules) (search rules) _ c.in_ok-stop.ensures.stops c.in_ok-flush.ensures.puts (search rules)

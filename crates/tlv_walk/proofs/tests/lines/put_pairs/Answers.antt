@@ -1,9 +1,12 @@
-use Rattle.std.proofs.lemmas.Result.{err_from_is_err_and}
+use Rattle.std.proofs.Common.{rules}
 use Rattle.tlv_walk.specs.Lined.{pair}
-use Rattle.tlv_walk.proofs.Lined.{fails_octet}
+use Rattle.tlv_walk.proofs.Puts.{fails_octet, puts_octet}
 use Rattle.tlv_walk.proofs.tests.lines.put_pairs.Goals as goal
 
-pub returns-in_err-put-clause-err : goal.returns-in_err-put-clause-err
-returns-in_err-put-clause-err g c =
-    let p = err_from_is_err_and c.from_residual.result c.from_residual.ensures.1 in rw p.1
-    (fails_octet pair _ _ _ c.args.octets.now c.loop-octet.octet-index c.loop-octet-test.true c.loop-octet.invariant.put (rw c.pair.ensures at c.in_err-put.ensures.err))
+pub returns-in_err-put : goal.returns-in_err-put
+returns-in_err-put g c =
+    fails_octet g.D.Drain.told pair _ _ _ c.args.octets.now c.loop-octet.octet-index _ _ c.loop-octet-test.true c.loop-octet.invariant (rw c.pair.ensures at c.in_err-put.ensures.puts) (search rules)
+
+pub loop-octet-preserved : goal.loop-octet-preserved
+loop-octet-preserved g c =
+    puts_octet g.D.Drain.told pair _ _ _ c.args.octets.now c.loop-octet.octet-index c.loop-octet-test.true c.loop-octet.invariant (rw c.pair.ensures at c.in_ok-put.ensures.puts)

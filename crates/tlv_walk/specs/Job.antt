@@ -1,0 +1,80 @@
+-- What a job over all that a source gives comes to.
+use Rattle.std.specs.Prelude.{◌≡◌, ◌⊎◌, ℕ, ◌<◌, ◌≤◌, Bool, true, false, List, length, take, Result, Ok, Err, ⊤}
+use Rattle.std.specs.Io.KnownBytes.{IsAtEnd}
+use Rattle.tlv_walk.specs.declared.ending.Ending.{Ending}
+use Rattle.tlv_walk.specs.declared.ending.Ending.TheVariants as ending
+use Rattle.tlv_walk.specs.declared.framing.Framing.{Framing}
+use Rattle.tlv_walk.specs.declared.run.DeviceFault.{DeviceFault}
+use Rattle.tlv_walk.specs.declared.run.DeviceFault.TheVariants.{ReadFailed, WriteFailed, InputTooLong}
+use Rattle.tlv_walk.specs.Device.{Pieces, Supply, Taken, before_in, gave, given_in, failed, failures_after}
+use Rattle.tlv_walk.specs.Ending.{IsEnding}
+use Rattle.tlv_walk.specs.Forest.{Forest, spell}
+use Rattle.tlv_walk.specs.Laws.{IsFinal}
+use Rattle.tlv_walk.specs.Out.{Sends}
+use Rattle.tlv_walk.specs.Reading.{IsReading}
+
+-- what is wanted of an input, said of its reading
+pub record Job (A : Type 0) : Type 0 where
+  -- how it is read, and of how many octets
+  pub framing : Framing
+  pub limit : ℕ
+  -- what is written of elements
+  pub text : Forest → List ℕ
+  -- nothing more is wanted, whatever follows
+  pub is_enough : Forest → Bool
+  -- what is returned of elements and the ending
+  pub answer : Forest → Ending → A
+
+module _ {A : Type 0} where
+  -- what a result says of the source alone, and of the drain alone
+  abbrev pub of_source : Result A DeviceFault → Result ⊤ DeviceFault
+  of_source (Ok a) = Ok tt
+  of_source (Err ReadFailed) = Err ReadFailed
+  of_source (Err WriteFailed) = Ok tt
+  of_source (Err InputTooLong) = Ok tt
+
+  abbrev pub of_drain : Result A DeviceFault → Result ⊤ DeviceFault
+  of_drain (Ok a) = Ok tt
+  of_drain (Err ReadFailed) = Ok tt
+  of_drain (Err WriteFailed) = Err WriteFailed
+  of_drain (Err InputTooLong) = Ok tt
+
+-- a fault that is the ending whatever follows
+abbrev pub IsFinalEnding : Ending → Type 0
+IsFinalEnding ending.Done = ⊥
+IsFinalEnding (ending.Fault f) = IsFinal f.code
+
+-- the ending: Done where there was enough, otherwise what the octets come to
+abbrev pub EndsWith : Framing → List ℕ → Bool → Ending → Type 0
+EndsWith framing octets true e = e ≡ ending.Done
+EndsWith framing octets false e = IsEnding framing octets e
+
+module _ {A : Type 0} (job : Job A) where
+  -- there is neither a fault in the octets nor enough
+  pub record AreSound (octets : List ℕ) : Type 0 where
+    pub forest : Forest
+    pub is_reading : IsReading job.framing octets forest
+    pub spelled : spell forest ≡ octets
+    pub not_enough : job.is_enough forest ≡ false
+
+  -- by the result, for octets that were given and their reading: what is returned, or why it is not
+  abbrev pub ComesTo : List ℕ → Forest → Supply → Result A DeviceFault → Type 0
+  ComesTo given f new (Ok a) =
+      (e : Ending) × (a ≡ job.answer f e) × EndsWith job.framing (take job.limit given) (job.is_enough f) e
+      × ((job.is_enough f ≡ true) ⊎ IsFinalEnding e ⊎ ((new.last ≡ gave 0) × IsAtEnd new.left))
+  ComesTo given f new (Err ReadFailed) = new.last ≡ failed
+  ComesTo given f new (Err WriteFailed) = ⊤
+  ComesTo given f new (Err InputTooLong) = (job.limit < length given) × AreSound (take job.limit given)
+
+  -- a source was read to its end, to a fault or to enough, and what that makes was sent to a drain
+  pub record Runs (old new : Supply) (from to : Taken) (result : Result A DeviceFault) : Type 0 where
+    pub pieces : Pieces old new
+    pub failures : new.failures ≡ failures_after (of_source result) old.failures
+    -- before the last read there was no reason to stop
+    pub sound : AreSound (before_in pieces)
+    pub within : length (before_in pieces) ≤ job.limit
+    -- no more octets are read as encodings than the limit
+    pub reading : Forest
+    pub is_reading : IsReading job.framing (take job.limit (given_in pieces)) reading
+    pub sends : Sends from to (job.text reading) (of_drain result)
+    pub comes : ComesTo (given_in pieces) reading new result
