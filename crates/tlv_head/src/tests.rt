@@ -5,8 +5,8 @@ ghost use Rattle.std.specs.Prelude.{◌≤◌};
 
 use self::octets::{OFFSET, Place, REFUSALS, SHAPES, Shape, TOP};
 use crate::{
-    Class, Fault, FaultCode, Head, HeadReader, Header, Size, read_header, spell_indefinite,
-    tag_text,
+    Class, Fault, FaultCode, Head, HeadReader, Header, Size, read_header, read_short,
+    spell_indefinite, tag_text,
 };
 use std::process::Abort;
 
@@ -81,6 +81,29 @@ fn headers_are_read(rt: HostRuntime) {
     }
 }
 
+/// A header of at most three identifier and three length octets is read at once, no longer one is, and no front of one.
+#[test]
+fn short_headers_are_read_at_once(rt: HostRuntime) {
+    for shape in &SHAPES {
+        let lengths = shape.octets.len().saturating_sub(usize::from(shape.id_len));
+        let found = read_short(OFFSET, false, shape.octets);
+        assert_eq!(rt;
+            found.is_some(),
+            shape.id_len <= 3 && lengths <= 3,
+            "of {:?}",
+            shape.octets
+        );
+        if let Some((fields, count)) = found {
+            assert_eq!(rt; count, shape.octets.len());
+            let header = Header::new(&fields, &shape.octets[..count]);
+            expect_shape(&rt, &header, shape);
+        }
+        for i in 0..shape.octets.len() {
+            assert!(rt; read_short(OFFSET, false, &shape.octets[..i]).is_none());
+        }
+    }
+}
+
 /// A header is made of fields and octets, and gives the fields again.
 #[test]
 fn fields_make_headers(rt: HostRuntime) {
@@ -91,6 +114,10 @@ fn fields_make_headers(rt: HostRuntime) {
         assert_eq!(rt; count, shape.octets.len());
         let header = Header::new(&fields, &shape.octets[..count]);
         expect_shape(&rt, &header, shape);
+        assert_eq!(rt;
+            header.identifier(),
+            &shape.octets[..usize::from(shape.id_len)]
+        );
         let again = header.fields();
         assert_eq!(rt; again.offset, OFFSET);
         assert!(rt; again.named);

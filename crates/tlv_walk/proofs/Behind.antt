@@ -41,11 +41,11 @@ module _ (old mid new : Machine) (x : ℕ) (first : Continues old mid (x ∷ [])
         ),
   )
 
-  fault_behind : (rest after : List ℕ) (f : Fault) → mid.phase ≡ phase.Zero → TellsFault mid new rest after f → TellsFault old new (x ∷ rest) after f
+  fault_behind : (rest after : List ℕ) (f : Fault) → mid.phase ≡ phase.InEnd → TellsFault mid new rest after f → TellsFault old new (x ∷ rest) after f
   fault_behind rest after f z (inl r) = inl (refused_behind rest after f r)
   fault_behind rest after f z (inr r) = absurd (cc (z, r.0))
 
-  pub step_behind : (rest after : List ℕ) (m : Step) → mid.phase ≡ phase.Zero → TellsStep mid new rest after m → TellsStep old new (x ∷ rest) after m
+  pub step_behind : (rest after : List ℕ) (m : Step) → mid.phase ≡ phase.InEnd → TellsStep mid new rest after m → TellsStep old new (x ∷ rest) after m
   step_behind rest after (step.Event e) z t = event_behind rest after (told_of e) t
   step_behind rest after step.NeedMore z t = continues_both old mid new (x ∷ []) rest [] [] first t
   step_behind rest after (step.Fault f) z t = fault_behind rest after f z t

@@ -14,7 +14,7 @@ use Rattle.tlv_walk.specs.Machine.{found_in, Machine}
 use Rattle.tlv_walk.specs.Place.{Fits, HasLength, IsEntry, IsZero, Place, after, bound_in, is_indefinite}
 use Rattle.tlv_walk.specs.Stack.{IsFilled, IsInIndefinite, Within, bound_of, innermost_of}
 use Rattle.tlv_walk.specs.Tells.{Continues}
-use Rattle.tlv_walk.specs.State.{AreWhole, HasState, Layer, Tail, Nothing, Lone, State, ending_of, events_layers, events_tail, frame_of, frames_of, place_in, place_of, spell_layers, spell_tail}
+use Rattle.tlv_walk.specs.State.{AreWhole, HasState, Layer, Tail, Between, InEnd, State, ending_of, events_layers, events_tail, frame_of, frames_of, place_in, place_of, spell_layers, spell_tail}
 use Rattle.tlv_walk.proofs.Moves.{began, between_tail, closed_here, continues_both, lone_tail, phase_at, tail_state, tells_zero, told_more, with_layers, with_tail}
 use Rattle.tlv_walk.proofs.Places.{definite-size, place-offset}
 use Rattle.tlv_walk.proofs.Spellings.{length-opening}
@@ -57,9 +57,9 @@ pub close_state : (w v : Machine) (b : List ℕ) (told : List Told) (l : Layer) 
     → spell_tail tail ++ t ≡ end_octets l.head.size → HasLength l.head.size (contents_length l.head here)
     → Fits (after (place_in w.framing ls) (length (spell l.before))) (extent l.head here)
     → v ≡ record w { stack = drop 1 w.stack; phase = phase.Between; offset = w.offset + length t; events = w.events + 1 } → w.has_element ≡ true
-    → HasState v (b ++ t) (told ++ closes l.head here ∷ []) (record { layers = ls; here = closed_here l here; tail = Nothing })
+    → HasState v (b ++ t) (told ++ closes l.head here ∷ []) (record { layers = ls; here = closed_here l here; tail = Between })
 close_state w v b told l ls here tail t has stack quiet ends filled fits is_v element =
-    subst (λ (u : Machine). HasState u (b ++ t) (told ++ closes l.head here ∷ []) (record { layers = ls; here = closed_here l here; tail = Nothing })) (sym is_v) (record {
+    subst (λ (u : Machine). HasState u (b ++ t) (told ++ closes l.head here ∷ []) (record { layers = ls; here = closed_here l here; tail = Between })) (sym is_v) (record {
       spelled = spelled_closed ls l here (spell_tail tail) t b has.layers.1.whole ends has.spelled;
       offset = omega (arith, has.offset, length-append b t);
       stack = ap (drop 1) stack;
@@ -89,14 +89,14 @@ closes_indefinite h here n k s e =
     ap (λ (c : Bool). if c then Close (end_offset h.size (h.offset + length (opening h) + length (spell here))) else Leave) k
     ∙ ap (λ (t : Size). Close (end_offset t (h.offset + length (opening h) + length (spell here)))) s ∙ ap (λ (m : ℕ). Close (Some m)) e
 
-second_from : (w : Machine) (b : List ℕ) (told : List Told) (s : State) (ls : List Layer) → HasState w b told (with_layers s ls Lone) → IsZero (place_of w.framing (with_layers s ls Lone))
+second_from : (w : Machine) (b : List ℕ) (told : List Told) (s : State) (ls : List Layer) → HasState w b told (with_layers s ls InEnd) → IsZero (place_of w.framing (with_layers s ls InEnd))
     → Within (bound_of w.stack) (w.offset + 1)
     → (t : State) × HasState (record w { stack = drop 1 w.stack; phase = phase.Between; offset = w.offset + 1; events = w.events + 1 }) (b ++ 0 ∷ []) (told ++ Close (Some (w.offset - 1)) ∷ []) t
 second_from w b told s [] has zero room = absurd (true≢false (sym zero.indefinite))
 second_from w b told s (l ∷ ls) has zero room =
     let p : Place = after (place_in w.framing ls) (length (spell l.before)) in
     let size : l.head.size ≡ Indefinite = size_indefinite l.head.size zero.indefinite in
-    let at : w.offset ≡ (place_of w.framing (with_layers s (l ∷ ls) Lone)).at + 1 = place-offset w b told _ has in
+    let at : w.offset ≡ (place_of w.framing (with_layers s (l ∷ ls) InEnd)).at + 1 = place-offset w b told _ has in
     let head : l.head.offset ≡ p.at = has.layers.2.header.offset in
     let k : l.head.constructed ≡ true = constructed_indefinite l.head.constructed l.head.size size has.layers.2.header.valid.allowed in
     let ends : end_octets l.head.size ≡ 0 ∷ 0 ∷ [] = ap end_octets size in
@@ -106,20 +106,20 @@ second_from w b told s (l ∷ ls) has zero room =
     let two : length (end_octets l.head.size) ≡ 2 = ap length ends in
     let fits : Fits p (extent l.head s.here) = subst (λ (n : ℕ). Within p.bound n) (omega arith) outer in (
       _,
-      subst (λ (e : Told). HasState (record w { stack = drop 1 w.stack; phase = phase.Between; offset = w.offset + 1; events = w.events + 1 }) (b ++ 0 ∷ []) (told ++ e ∷ []) (record { layers = ls; here = closed_here l s.here; tail = Nothing })) event
-          (close_state w _ b told l ls s.here Lone (0 ∷ []) has has.stack refl (sym ends) (length_of l.head Indefinite _ size tt) fits refl (has.element)),
+      subst (λ (e : Told). HasState (record w { stack = drop 1 w.stack; phase = phase.Between; offset = w.offset + 1; events = w.events + 1 }) (b ++ 0 ∷ []) (told ++ e ∷ []) (record { layers = ls; here = closed_here l s.here; tail = Between })) event
+          (close_state w _ b told l ls s.here InEnd (0 ∷ []) has has.stack refl (sym ends) (length_of l.head Indefinite _ size tt) fits refl (has.element)),
     )
 
 -- the second of the end-of-contents octets
-pub tells_second : (w : Machine) → w.phase ≡ phase.Zero → Within (bound_of w.stack) (w.offset + 1)
+pub tells_second : (w : Machine) → w.phase ≡ phase.InEnd → Within (bound_of w.stack) (w.offset + 1)
     → Continues w (record w { stack = drop 1 w.stack; phase = phase.Between; offset = w.offset + 1; events = w.events + 1 }) (0 ∷ []) (Close (Some (w.offset - 1)) ∷ [])
 tells_second w e room = record {
   framing = refl;
   found = refl;
   goes = λ b told s has.
       let t = lone_tail s.tail _ (phase_at w b told s _ e has) in
-      let has' : HasState w b told (with_tail s Lone) = tail_state w b told s _ t has in
-      second_from w b told s s.layers has' (phase_at w b told (with_tail s Lone) _ e has') room;
+      let has' : HasState w b told (with_tail s InEnd) = tail_state w b told s _ t has in
+      second_from w b told s s.layers has' (phase_at w b told (with_tail s InEnd) _ e has') room;
 }
 
 -- an element that is filled told to end
@@ -131,7 +131,7 @@ closes_definite false s m o e = refl
 head_frame : (f g : Frame) (fs gs : List Frame) → f ∷ fs ≡ g ∷ gs → f ≡ g
 head_frame f g fs gs e = cc
 
-filled_from : (w : Machine) (b : List ℕ) (told : List Told) (s : State) (ls : List Layer) → HasState w b told (with_layers s ls Nothing) → w.phase ≡ phase.Between
+filled_from : (w : Machine) (b : List ℕ) (told : List Told) (s : State) (ls : List Layer) → HasState w b told (with_layers s ls Between) → w.phase ≡ phase.Between
     → (f : Frame) (fs : List Frame) → w.stack ≡ f ∷ fs → f.end ≡ Some w.offset
     → (t : State) × HasState (record w { stack = drop 1 w.stack; events = w.events + 1 }) (b ++ []) (told ++ ending_of f ∷ []) t
 filled_from w b told s [] has e f fs is full = absurd (cc (has.stack))
@@ -139,7 +139,7 @@ filled_from w b told s (l ∷ ls) has e f fs is full =
     let p : Place = after (place_in w.framing ls) (length (spell l.before)) in
     let same : f ≡ frame_of p l.head = head_frame f (frame_of p l.head) fs (frames_of w.framing ls) (sym is ∙ has.stack) in
     let size : (n : ℕ) × (l.head.size ≡ Definite n) × (p.at + length (octets_of l.head) + n ≡ w.offset) = definite-size l.head.size _ w.offset (sym (ap (λ (g : Frame). g.end) same) ∙ full) in
-    let at : w.offset ≡ (place_of w.framing (with_layers s (l ∷ ls) Nothing)).at + 0 = place-offset w b told _ has in
+    let at : w.offset ≡ (place_of w.framing (with_layers s (l ∷ ls) Between)).at + 0 = place-offset w b told _ has in
     let long : contents_length l.head s.here ≡ size.0 = omega (arith, size.2, at, length-opening l.head) in
     let none : end_octets l.head.size ≡ [] = ap end_octets size.1 in
     let zero : length (end_octets l.head.size) ≡ 0 = ap length none in
@@ -148,8 +148,8 @@ filled_from w b told s (l ∷ ls) has e f fs is full =
     let fits : Fits p (extent l.head s.here) = subst (λ (n : ℕ). Fits p n) (omega (arith, long, zero, length-opening l.head)) entry in
     let still : w.offset ≡ w.offset + 0 = omega arith in (
       _,
-      subst (λ (t : Told). HasState (record w { stack = drop 1 w.stack; events = w.events + 1 }) (b ++ []) (told ++ t ∷ []) (record { layers = ls; here = closed_here l s.here; tail = Nothing })) event
-          (close_state w _ b told l ls s.here Nothing [] has has.stack refl (sym none) (length_of l.head (Definite size.0) _ size.1 long) fits
+      subst (λ (t : Told). HasState (record w { stack = drop 1 w.stack; events = w.events + 1 }) (b ++ []) (told ++ t ∷ []) (record { layers = ls; here = closed_here l s.here; tail = Between })) event
+          (close_state w _ b told l ls s.here Between [] has has.stack refl (sym none) (length_of l.head (Definite size.0) _ size.1 long) fits
           (λ i. record w { stack = drop 1 w.stack; phase = e i; offset = still i; events = w.events + 1 }) has.element),
     )
 
@@ -198,7 +198,7 @@ within_less (Some k) m n h w = omega (arith, h, w)
 pub tells_both : (w : Machine) → w.phase ≡ phase.Between → IsInIndefinite w.stack → Within (bound_of w.stack) (w.offset + 2)
     → Continues w (record w { stack = drop 1 w.stack; offset = w.offset + 2; events = w.events + 1 }) (0 ∷ 0 ∷ []) (Close (Some w.offset) ∷ [])
 tells_both w e inside fits =
-    let mid : Machine = record w { phase = phase.Zero; offset = w.offset + 1 } in
+    let mid : Machine = record w { phase = phase.InEnd; offset = w.offset + 1 } in
     let room : Within (bound_of w.stack) (w.offset + 1) = within_less (bound_of w.stack) (w.offset + 1) (w.offset + 2) (omega arith) fits in
     let two : w.offset + 1 + 1 ≡ w.offset + 2 = omega arith in
     let one : w.offset + 1 - 1 ≡ w.offset = omega arith in

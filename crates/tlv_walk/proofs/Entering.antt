@@ -12,7 +12,7 @@ use Rattle.tlv_walk.specs.Inside.{is_among}
 use Rattle.tlv_walk.specs.Machine.{Machine, behind_header}
 use Rattle.tlv_walk.specs.Place.{Fits, IsAwaiting, IsEntry, IsHeadAt, Place}
 use Rattle.tlv_walk.specs.Stack.{Within, bound_of}
-use Rattle.tlv_walk.specs.State.{HasState, IsPhaseOf, Layer, Tail, Nothing, Contents, Lead, Front, Lone, State, events_layers, events_tail, frame_of, frames_of, place_in, place_of, spell_layers, spell_tail}
+use Rattle.tlv_walk.specs.State.{HasState, IsPhaseOf, Layer, Tail, Between, InContents, BeforeUnused, InHeader, InEnd, State, events_layers, events_tail, frame_of, frames_of, place_in, place_of, spell_layers, spell_tail}
 use Rattle.tlv_walk.specs.Tells.{Continues}
 use Rattle.tlv_walk.proofs.Moves.{between_tail, phase_at, spelled_behind, tail_state, told_behind, with_tail}
 use Rattle.tlv_walk.proofs.Places.{place-bound, place-depth, place-inside, place-offset}
@@ -27,11 +27,11 @@ pub record AtHeader (w : Machine) (b : List ℕ) (told : List Told) (s : State) 
   pub stack : w.stack ≡ frames_of w.framing s.layers
 
 pub at_new : (w : Machine) (b : List ℕ) (told : List Told) (s : State) (r : Progress) → HasState w b told s → w.phase ≡ phase.Between → r.octets ≡ [] → r.offset ≡ w.offset
-    → r.named ≡ is_among w.offset w.framing.inside → AtHeader w b told (with_tail s Nothing) r
+    → r.named ≡ is_among w.offset w.framing.inside → AtHeader w b told (with_tail s Between) r
 at_new w b told s r has e none at named =
-    let t : s.tail ≡ Nothing = between_tail s.tail _ (phase_at w b told s _ e has) in
-    let has' : HasState w b told (with_tail s Nothing) = tail_state w b told s _ t has in
-    let place : w.offset ≡ (place_of w.framing (with_tail s Nothing)).at + 0 = place-offset w b told _ has' in
+    let t : s.tail ≡ Between = between_tail s.tail _ (phase_at w b told s _ e has) in
+    let has' : HasState w b told (with_tail s Between) = tail_state w b told s _ t has in
+    let place : w.offset ≡ (place_of w.framing (with_tail s Between)).at + 0 = place-offset w b told _ has' in
     record {
       has = has';
       octets = sym none;
@@ -41,19 +41,19 @@ at_new w b told s r has e none at named =
       stack = has'.stack;
     }
 
-front_tail : (r : Progress) (t : Tail) (p : Place) → IsPhaseOf (phase.Header r) t p → (o : List ℕ) × (t ≡ Front o)
-front_tail r Nothing p x = absurd x
-front_tail r (Contents h c) p x = absurd x
-front_tail r (Lead h) p x = absurd x
-front_tail r (Front o) p x = (o, refl)
-front_tail r Lone p x = absurd x
+front_tail : (r : Progress) (t : Tail) (p : Place) → IsPhaseOf (phase.InHeader r) t p → (o : List ℕ) × (t ≡ InHeader o)
+front_tail r Between p x = absurd x
+front_tail r (InContents h c) p x = absurd x
+front_tail r (BeforeUnused h) p x = absurd x
+front_tail r (InHeader o) p x = (o, refl)
+front_tail r InEnd p x = absurd x
 
-pub at_front : (w : Machine) (b : List ℕ) (told : List Told) (s : State) (r : Progress) → HasState w b told s → w.phase ≡ phase.Header r
-    → (o : List ℕ) × AtHeader w b told (with_tail s (Front o)) r
+pub at_front : (w : Machine) (b : List ℕ) (told : List Told) (s : State) (r : Progress) → HasState w b told s → w.phase ≡ phase.InHeader r
+    → (o : List ℕ) × AtHeader w b told (with_tail s (InHeader o)) r
 at_front w b told s r has e =
     let t = front_tail r s.tail _ (phase_at w b told s _ e has) in
-    let has' : HasState w b told (with_tail s (Front t.0)) = tail_state w b told s _ t.1 has in
-    let at : IsPhaseOf (phase.Header r) (Front t.0) (place_of w.framing s) = phase_at w b told _ _ e has' in (
+    let has' : HasState w b told (with_tail s (InHeader t.0)) = tail_state w b told s _ t.1 has in
+    let at : IsPhaseOf (phase.InHeader r) (InHeader t.0) (place_of w.framing s) = phase_at w b told _ _ e has' in (
       t.0,
       record {
         has = has';
@@ -111,7 +111,7 @@ header_end w b told s r t h at c =
 -- a primitive begins
 pub primitive_state : (w : Machine) (b : List ℕ) (told : List Told) (s : State) (r : Progress) (t : List ℕ) (h : Heading) (n : ℕ) → AtHeader w b told s r → Completed w r t h
     → holds h ≡ false → h.size ≡ Definite n
-    → HasState (behind_header w (phase.Contents n) (h.offset + length (octets_of h))) (b ++ t) (told ++ Begin h ∷ []) (with_tail s (Contents h []))
+    → HasState (behind_header w (phase.InContents n) (h.offset + length (octets_of h))) (b ++ t) (told ++ Begin h ∷ []) (with_tail s (InContents h []))
 primitive_state w b told s r t h n at c e size =
     let zero : n ≡ 0 + n = omega arith in
     record {
@@ -147,7 +147,7 @@ opening_event h = if h.constructed then Open h else Enter h
 pub holding_state : (w : Machine) (b : List ℕ) (told : List Told) (s : State) (r : Progress) (t : List ℕ) (h : Heading) (k : ℕ) → AtHeader w b told s r → Completed w r t h
     → holds h ≡ true → lead h ≡ []
     → HasState (record (behind_header w phase.Between (h.offset + length (octets_of h))) { stack = frame_of (place_of w.framing s) h ∷ w.stack; wrappers = k }) (b ++ t) (told ++ opening_event h ∷ [])
-    (record { layers = record { before = s.here; head = h } ∷ s.layers; here = Stop; tail = Nothing })
+    (record { layers = record { before = s.here; head = h } ∷ s.layers; here = Stop; tail = Between })
 holding_state w b told s r t h k at c e none = record {
   spelled = layer_spelled s.layers s.here h (spell_tail s.tail) t b
       (ap (λ (o : List ℕ). o ++ t) at.octets ∙ (sym c.octets ∙ (sym (append-nil (octets_of h)) ∙ ap (λ (l : List ℕ). octets_of h ++ l) (sym none)))) at.has.spelled;
@@ -163,8 +163,8 @@ holding_state w b told s r t h k at c e none = record {
 -- a wrapping BIT STRING begins
 pub lead_state : (w : Machine) (b : List ℕ) (told : List Told) (s : State) (r : Progress) (t : List ℕ) (h : Heading) (k : ℕ) → AtHeader w b told s r → Completed w r t h
     → holds h ≡ true → lead h ≡ 0 ∷ []
-    → HasState (record (behind_header w phase.Unused (h.offset + length (octets_of h))) { stack = frame_of (place_of w.framing s) h ∷ w.stack; wrappers = k }) (b ++ t) (told ++ Enter h ∷ [])
-    (with_tail s (Lead h))
+    → HasState (record (behind_header w phase.BeforeUnused (h.offset + length (octets_of h))) { stack = frame_of (place_of w.framing s) h ∷ w.stack; wrappers = k }) (b ++ t) (told ++ Enter h ∷ [])
+    (with_tail s (BeforeUnused h))
 lead_state w b told s r t h k at c e one = record {
   spelled = spelled_behind s.layers s.here (spell_tail s.tail) (octets_of h) t b (c.octets ∙ ap (λ (o : List ℕ). o ++ t) (sym at.octets)) at.has.spelled;
   offset = header_end w b told s r t h at c;
@@ -177,12 +177,12 @@ lead_state w b told s r t h k at c e one = record {
 }
 
 -- its first contents octet
-pub lead_tail : (t : Tail) (p : Place) → IsPhaseOf phase.Unused t p → (h : Heading) × (t ≡ Lead h)
-lead_tail Nothing p x = absurd x
-lead_tail (Contents h c) p x = absurd x
-lead_tail (Lead h) p x = (h, refl)
-lead_tail (Front o) p x = absurd x
-lead_tail Lone p x = absurd x
+pub lead_tail : (t : Tail) (p : Place) → IsPhaseOf phase.BeforeUnused t p → (h : Heading) × (t ≡ BeforeUnused h)
+lead_tail Between p x = absurd x
+lead_tail (InContents h c) p x = absurd x
+lead_tail (BeforeUnused h) p x = (h, refl)
+lead_tail (InHeader o) p x = absurd x
+lead_tail InEnd p x = absurd x
 
 abbrev pub lead_by : Bool → Bool → List ℕ
 lead_by constructed bits = if constructed then [] else (if bits then 0 ∷ [] else [])
@@ -191,9 +191,9 @@ lead_primitive : (k n : Bool) → lead_by k n ≡ 0 ∷ [] → k ≡ false
 lead_primitive true n e = absurd (cc)
 lead_primitive false n e = refl
 
-unused_state : (w : Machine) (b : List ℕ) (told : List Told) (s : State) (h : Heading) → HasState w b told (with_tail s (Lead h)) → IsAwaiting (place_of w.framing s) h
+unused_state : (w : Machine) (b : List ℕ) (told : List Told) (s : State) (h : Heading) → HasState w b told (with_tail s (BeforeUnused h)) → IsAwaiting (place_of w.framing s) h
     → HasState (record w { phase = phase.Between; offset = w.offset + 1; events = w.events + 1 }) (b ++ 0 ∷ []) (told ++ Unused ∷ [])
-    (record { layers = record { before = s.here; head = h } ∷ s.layers; here = Stop; tail = Nothing })
+    (record { layers = record { before = s.here; head = h } ∷ s.layers; here = Stop; tail = Between })
 unused_state w b told s h has a =
     let k : h.constructed ≡ false = lead_primitive h.constructed (eqb h.number 3) a.lead in
     record {
@@ -208,21 +208,21 @@ unused_state w b told s h has a =
       element = has.element;
     }
 
-pub tells_unused : (w : Machine) → w.phase ≡ phase.Unused
+pub tells_unused : (w : Machine) → w.phase ≡ phase.BeforeUnused
     → Continues w (record w { phase = phase.Between; offset = w.offset + 1; events = w.events + 1 }) (0 ∷ []) (Unused ∷ [])
 tells_unused w e = record {
   framing = refl;
   found = refl;
   goes = λ b told s has.
       let t = lead_tail s.tail _ (phase_at w b told s _ e has) in
-      let has' : HasState w b told (with_tail s (Lead t.0)) = tail_state w b told s _ t.1 has in
-      (_, unused_state w b told s t.0 has' (phase_at w b told (with_tail s (Lead t.0)) _ e has'));
+      let has' : HasState w b told (with_tail s (BeforeUnused t.0)) = tail_state w b told s _ t.1 has in
+      (_, unused_state w b told s t.0 has' (phase_at w b told (with_tail s (BeforeUnused t.0)) _ e has'));
 }
 
 -- more octets of a header
 pub front_state : (w : Machine) (b : List ℕ) (told : List Told) (s : State) (r q : Progress) (t : List ℕ) → AtHeader w b told s r → q.octets ≡ r.octets ++ t → q.offset ≡ r.offset
     → q.named ≡ r.named → (q.octets ≡ [] → ⊥) → IsFront q.octets → Within (bound_of w.stack) (q.offset + length q.octets)
-    → HasState (record w { phase = phase.Header q; offset = q.offset + length q.octets; has_element = true }) (b ++ t) (told ++ []) (with_tail s (Front q.octets))
+    → HasState (record w { phase = phase.InHeader q; offset = q.offset + length q.octets; has_element = true }) (b ++ t) (told ++ []) (with_tail s (InHeader q.octets))
 front_state w b told s r q t at o f n some front fits =
     let bound : bound_of w.stack ≡ (place_in w.framing s.layers).bound = ap bound_of at.stack ∙ sym (place-bound w.framing s.layers) in
     let place : q.offset ≡ (place_of w.framing s).at = f ∙ at.offset in

@@ -20,7 +20,7 @@ use Rattle.tlv_walk.specs.Stack.{Within, bound_of}
 use Rattle.tlv_walk.specs.Tells.{Continues}
 use Rattle.tlv_head.specs.Read.{BeginsWithFields}
 use Rattle.tlv_head.specs.Refusal.{BeginsWith}
-use Rattle.tlv_walk.specs.State.{HasState, Contents, Nothing, State, frame_of, place_of}
+use Rattle.tlv_walk.specs.State.{HasState, InContents, Between, State, frame_of, place_of}
 use Rattle.tlv_walk.proofs.Entering.{AtHeader, Completed, at_new, holding_state, lead_by, lead_state, primitive_state}
 use Rattle.tlv_walk.proofs.Moves.{with_tail}
 use Rattle.tlv_walk.proofs.Places.{place-bound}
@@ -62,7 +62,7 @@ or-right a b e f = ap (λ (x : Bool). x || b) e ∙ f
 
 -- the state inside an element that has just begun
 abbrev inside_state : State → Heading → State
-inside_state s h = record { layers = record { before = s.here; head = h } ∷ s.layers; here = Stop; tail = Nothing }
+inside_state s h = record { layers = record { before = s.here; head = h } ∷ s.layers; here = Stop; tail = Between }
 
 constructed_enters : (w : Machine) (b : List ℕ) (told : List Told) (s : State) (r : Progress) (t : List ℕ) (h : Heading) → AtHeader w b told s r → Completed w r t h → h.constructed ≡ true
     → (u : State) × HasState (entered_machine w h phase.Between w.wrappers) (b ++ t) (told ++ Open h ∷ []) u
@@ -76,10 +76,10 @@ constructed_enters w b told s r t h at c k =
     )
 
 wrapper_enters : (w : Machine) (b : List ℕ) (told : List Told) (s : State) (r : Progress) (t : List ℕ) (h : Heading) (n : ℕ) → AtHeader w b told s r → Completed w r t h → h.constructed ≡ false → holds h ≡ true
-    → (bits : Bool) → eqb h.number 3 ≡ bits → (u : State) × HasState (entered_machine w h (if bits then phase.Unused else phase.Between) n) (b ++ t) (told ++ Enter h ∷ []) u
+    → (bits : Bool) → eqb h.number 3 ≡ bits → (u : State) × HasState (entered_machine w h (if bits then phase.BeforeUnused else phase.Between) n) (b ++ t) (told ++ Enter h ∷ []) u
 wrapper_enters w b told s r t h n at c k hold true bits =
     let one : lead h ≡ 0 ∷ [] = lead_at h false true k bits in
-    (_, pushed w b told s r t h phase.Unused n (Enter h) _ at c (lead_state w b told s r t h n at c hold one))
+    (_, pushed w b told s r t h phase.BeforeUnused n (Enter h) _ at c (lead_state w b told s r t h n at c hold one))
 wrapper_enters w b told s r t h n at c k hold false bits =
     let none : lead h ≡ [] = lead_at h false false k bits in
     let has = holding_state w b told s r t h n at c hold none in (
@@ -90,11 +90,11 @@ wrapper_enters w b told s r t h n at c k hold false bits =
     )
 
 primitive_enters : (w : Machine) (b : List ℕ) (told : List Told) (s : State) (r : Progress) (t : List ℕ) (h : Heading) → AtHeader w b told s r → Completed w r t h → holds h ≡ false
-    → (u : State) × HasState (behind_header w (phase.Contents (announced h.size)) (h.offset + length (octets_of h))) (b ++ t) (told ++ Begin h ∷ []) u
+    → (u : State) × HasState (behind_header w (phase.InContents (announced h.size)) (h.offset + length (octets_of h))) (b ++ t) (told ++ Begin h ∷ []) u
 primitive_enters w b told s r t h at c no_hold =
     let size : (n : ℕ) × (h.size ≡ Definite n) = size-definite h c.valid no_hold in (
       _,
-      subst (λ (n : ℕ). HasState (behind_header w (phase.Contents n) (h.offset + length (octets_of h))) (b ++ t) (told ++ Begin h ∷ []) (with_tail s (Contents h []))) (sym (ap announced size.1))
+      subst (λ (n : ℕ). HasState (behind_header w (phase.InContents n) (h.offset + length (octets_of h))) (b ++ t) (told ++ Begin h ∷ []) (with_tail s (InContents h []))) (sym (ap announced size.1))
           (primitive_state w b told s r t h size.0 at c no_hold size.1),
     )
 
@@ -146,7 +146,7 @@ fast_enters w v piece named f count o k e begins front name shallow fits enters 
       framing = enters_framing w v f (f.offset + length o) k enters;
       found = enters_found w v f o (f.offset + length o) k enters;
       goes = λ b told s has.
-          enters_state w v b told (with_tail s Nothing) r o f o k (at_new w b told s r has e refl refl name) completed
+          enters_state w v b told (with_tail s Between) r o f o k (at_new w b told s r has e refl refl name) completed
           (subst (λ (x : List ℕ). Enters w v f (f.offset + length x) k) (sym whole) enters);
     }
 

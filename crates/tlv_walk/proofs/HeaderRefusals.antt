@@ -12,14 +12,15 @@ use Rattle.tlv_head.specs.Push.{Completes, IsRefused}
 use Rattle.tlv_head.proofs.Front.{header-two}
 use Rattle.tlv_walk.specs.declared.stack.Frame.{Frame}
 use Rattle.tlv_walk.specs.declared.walker.Phase.TheVariants as phase
-use Rattle.tlv_walk.specs.Ending.{BelowBound, Completed, InHeader, IsEnding, IsFault, fault, indefinite_primitive, length_too_large, no_room, overrun, reserved_length, tag_too_long, too_deep}
+use Rattle.tlv_walk.specs.Ending as open_end
+use Rattle.tlv_walk.specs.Ending.{BelowBound, Completed, IsEnding, IsFault, fault, indefinite_primitive, length_too_large, no_room, overrun, reserved_length, tag_too_long, too_deep}
 use Rattle.tlv_walk.specs.Events.{Told}
 use Rattle.tlv_walk.specs.Inside.{is_among}
 use Rattle.tlv_walk.specs.Machine.{Machine}
 use Rattle.tlv_walk.specs.Place.{Place}
 use Rattle.tlv_walk.specs.ReadsOn.{HandsOver}
 use Rattle.tlv_walk.specs.Stack.{Within, bound_of, left_to}
-use Rattle.tlv_walk.specs.State.{HasState, Front, State, place_of}
+use Rattle.tlv_walk.specs.State.{HasState, InHeader, State, place_of}
 use Rattle.tlv_walk.specs.Tells.{RefusesOctet}
 use Rattle.tlv_walk.proofs.HeaderSteps.{HasTaken, TakenState, in_header, taken_state}
 use Rattle.tlv_walk.proofs.Moves.{phase_at, with_tail}
@@ -84,7 +85,7 @@ below_there : (p : Place) (q : Progress) (room : Option ℕ) (depth : ℕ) → I
 below_there p q room depth k some = below_bound p.bound (p.at + length q.octets) (λ e. some (k.left ∙ e))
 
 -- each cause of a reader is a line of the faults
-pub refused_fault : (p : Place) (q : Progress) (room : Option ℕ) (depth x : ℕ) (code : FaultCode) → IsReader p q room depth → IsRefused code q x room depth → IsFault p x (InHeader q.octets) code
+pub refused_fault : (p : Place) (q : Progress) (room : Option ℕ) (depth x : ℕ) (code : FaultCode) → IsReader p q room depth → IsRefused code q x room depth → IsFault p x (open_end.InHeader q.octets) code
 refused_fault p q room depth x Overrun k (inl none) = no_room (at_bound p.bound (p.at + length q.octets) k.within (sym k.left ∙ none))
 refused_fault p q room depth x Overrun k (inr past) =
     let h : Heading = past.1.head in
@@ -108,11 +109,11 @@ refused_fault p q room depth x BadInside k f = absurd f.1
 -- ---- a walker refuses it
 
 -- the reader of a walker inside a header stands where its state says
-reader_there : (w : Machine) (b : List ℕ) (told : List Told) (s : State) (q : Progress) (depth : ℕ) → w.phase ≡ phase.Header q → HasState w b told (with_tail s (Front q.octets)) → depth ≡ length w.stack
+reader_there : (w : Machine) (b : List ℕ) (told : List Told) (s : State) (q : Progress) (depth : ℕ) → w.phase ≡ phase.InHeader q → HasState w b told (with_tail s (InHeader q.octets)) → depth ≡ length w.stack
     → IsReader (place_of w.framing s) q (left_to (bound_of w.stack) (q.offset + length q.octets)) depth
 reader_there w b told s q depth e has d =
     let p : Place = place_of w.framing s in
-    let at = phase_at w b told (with_tail s (Front q.octets)) (phase.Header q) e has in
+    let at = phase_at w b told (with_tail s (InHeader q.octets)) (phase.InHeader q) e has in
     let bound : bound_of w.stack ≡ p.bound = ap bound_of has.stack ∙ sym (place-bound w.framing s.layers) in
     record {
       offset = at.1;
@@ -136,21 +137,21 @@ refuses_header w u r q before after rest x depth at f over k e within place deep
       e,
       λ b told s has.
           let t : TakenState w u q k.taken b told = taken_state w u r q before after over k some (subst (Within (bound_of u.stack)) (sym place) within) b told s has in
-          let has' : HasState (in_header w q) (b ++ k.taken) told (with_tail t.state (Front q.octets)) =
-          subst (λ (es : List Told). HasState (in_header w q) (b ++ k.taken) es (with_tail t.state (Front q.octets))) (append-nil told) t.has in
+          let has' : HasState (in_header w q) (b ++ k.taken) told (with_tail t.state (InHeader q.octets)) =
+          subst (λ (es : List Told). HasState (in_header w q) (b ++ k.taken) es (with_tail t.state (InHeader q.octets))) (append-nil told) t.has in
           let same : u.stack ≡ w.stack = ap (λ (m : Machine). m.stack) t.same in
           let left : left_to (bound_of u.stack) at ≡ left_to (bound_of w.stack) (q.offset + length q.octets) =
           ap (λ (fs : List Frame). left_to (bound_of fs) at) same ∙ ap (left_to (bound_of w.stack)) (sym place) in
-          let faulty : IsFault (place_of w.framing t.state) x (InHeader q.octets) f.code =
+          let faulty : IsFault (place_of w.framing t.state) x (open_end.InHeader q.octets) f.code =
           refused_fault _ q _ depth x f.code (reader_there (in_header w q) (b ++ k.taken) told t.state q depth refl has' (deep ∙ ap length same))
           (subst (λ (o : Option ℕ). IsRefused f.code q x o depth) left refused) in (
             in_header w q,
-            with_tail t.state (Front q.octets),
+            with_tail t.state (InHeader q.octets),
             has',
             λ z. z,
             there,
             λ c. subst (λ (n : ℕ). IsEnding w.framing ((b ++ k.taken) ++ x ∷ c) (fault f.code n)) (sym has'.offset ∙ sym there)
-                (state-fault (in_header w q) (b ++ k.taken) told (with_tail t.state (Front q.octets)) x c f.code has' (λ z. z) faulty),
+                (state-fault (in_header w q) (b ++ k.taken) told (with_tail t.state (InHeader q.octets)) x c f.code has' (λ z. z) faulty),
             refl,
             refl,
           ),

@@ -20,7 +20,7 @@ use Rattle.tlv_walk.specs.Machine.{CanEnter, Enters, Machine, found_in}
 use Rattle.tlv_walk.specs.Wrappers.{enters}
 use Rattle.tlv_walk.specs.ReadsOn.{HandsOver, Makes, TellsHeader}
 use Rattle.tlv_walk.specs.Stack.{Within, bound_of, left_to}
-use Rattle.tlv_walk.specs.State.{HasState, IsPhaseOf, Nothing, Front, State, place_of}
+use Rattle.tlv_walk.specs.State.{HasState, IsPhaseOf, Between, InHeader, State, place_of}
 use Rattle.tlv_walk.specs.Tells.{Continues, TellsEvent}
 use Rattle.tlv_walk.proofs.Entering.{AtHeader, Completed, at_front, at_new, front_state}
 use Rattle.tlv_walk.proofs.HeaderKinds.{enters_found, enters_framing, enters_state, event_of}
@@ -33,9 +33,9 @@ pub handed : (w u : Machine) (r : Progress) → HandsOver w u r → (b : List �
     → (t : State) × AtHeader w b told t r × (u ≡ record w { phase = phase.Between; has_element = true })
 handed w u r (inl h) b told s has =
     let a = at_front w b told s r has h.0 in
-    (with_tail s (Front a.0), a.1, h.1 ∙ ap (λ (k : Bool). record w { phase = phase.Between; has_element = k }) a.1.has.element)
+    (with_tail s (InHeader a.0), a.1, h.1 ∙ ap (λ (k : Bool). record w { phase = phase.Between; has_element = k }) a.1.has.element)
 handed w u r (inr h) b told s has = (
-  with_tail s Nothing,
+  with_tail s Between,
   at_new w b told s r has h.0.phase h.0.none h.0.offset h.0.named,
   h.1 ∙ ap (λ (f : Phase). record w { phase = f; has_element = true }) h.0.phase,
 )
@@ -44,7 +44,7 @@ handed w u r (inr h) b told s has = (
 handed_front : (w u : Machine) (r : Progress) → HandsOver w u r → (b : List ℕ) (told : List Told) (s : State) → HasState w b told s → (r.octets ≡ [] → ⊥) → IsFront r.octets
 handed_front w u r (inl h) b told s has some =
     let a = at_front w b told s r has h.0 in
-    let at : IsPhaseOf (phase.Header r) (Front a.0) (place_of w.framing s) = phase_at w b told _ _ h.0 a.1.has in
+    let at : IsPhaseOf (phase.InHeader r) (InHeader a.0) (place_of w.framing s) = phase_at w b told _ _ h.0 a.1.has in
     subst IsFront (sym at.0) at.3.front
 handed_front w u r (inr h) b told s has some = absurd (some h.0.none)
 
@@ -77,12 +77,12 @@ taken_more r q p before after rest x k e front same =
 
 -- the walker behind the octets of a reader that it has
 abbrev pub in_header : Machine → Progress → Machine
-in_header w q = record w { phase = phase.Header q; offset = q.offset + length q.octets; has_element = true }
+in_header w q = record w { phase = phase.InHeader q; offset = q.offset + length q.octets; has_element = true }
 
 -- the state behind them, of the walker that the reader was taken from
 pub record TakenState (w u : Machine) (q : Progress) (t b : List ℕ) (told : List Told) : Type 0 where
   pub state : State
-  pub has : HasState (in_header w q) (b ++ t) (told ++ []) (with_tail state (Front q.octets))
+  pub has : HasState (in_header w q) (b ++ t) (told ++ []) (with_tail state (InHeader q.octets))
   pub same : u ≡ record w { phase = phase.Between; has_element = true }
 
 pub taken_state : (w u : Machine) (r q : Progress) (before after : List ℕ) → HandsOver w u r → (k : HasTaken r q before after) → (q.octets ≡ [] → ⊥)
@@ -107,18 +107,18 @@ handed_wrappers w u r (inr h) = ap (λ (m : Machine). m.wrappers) h.1
 
 -- the piece is used up inside a header
 pub tells_unfinished : (w u : Machine) (r q : Progress) (before : List ℕ) (at : ℕ) → HandsOver w u r → HasTaken r q before [] → (q.octets ≡ [] → ⊥) → q.offset + length q.octets ≡ at
-    → Within (bound_of u.stack) at → Continues w (record u { phase = phase.Header q; offset = at }) before []
+    → Within (bound_of u.stack) at → Continues w (record u { phase = phase.InHeader q; offset = at }) before []
 tells_unfinished w u r q before at over k some e fits = record {
   framing = handed_framing w u r over;
   found = handed_wrappers w u r over;
   goes = λ b told s has.
       let t : TakenState w u q k.taken b told = taken_state w u r q before [] over k some (subst (Within (bound_of u.stack)) (sym e) fits) b told s has in
-      let new : in_header w q ≡ record u { phase = phase.Header q; offset = at } =
-      ap (λ (n : ℕ). record w { phase = phase.Header q; offset = n; has_element = true }) e ∙ ap (λ (m : Machine). record m { phase = phase.Header q; offset = at }) (sym t.same) in
+      let new : in_header w q ≡ record u { phase = phase.InHeader q; offset = at } =
+      ap (λ (n : ℕ). record w { phase = phase.InHeader q; offset = n; has_element = true }) e ∙ ap (λ (m : Machine). record m { phase = phase.InHeader q; offset = at }) (sym t.same) in
       let all : k.taken ≡ before = sym (k.piece ∙ append-nil k.taken) in (
-        with_tail t.state (Front q.octets),
-        subst (λ (m : Machine). HasState m (b ++ before) (told ++ []) (with_tail t.state (Front q.octets))) new
-            (subst (λ (o : List ℕ). HasState (in_header w q) (b ++ o) (told ++ []) (with_tail t.state (Front q.octets))) all t.has),
+        with_tail t.state (InHeader q.octets),
+        subst (λ (m : Machine). HasState m (b ++ before) (told ++ []) (with_tail t.state (InHeader q.octets))) new
+            (subst (λ (o : List ℕ). HasState (in_header w q) (b ++ o) (told ++ []) (with_tail t.state (InHeader q.octets))) all t.has),
       );
 }
 

@@ -15,7 +15,7 @@ use Rattle.tlv_walk.proofs.Wrappers.{enters-append}
 use Rattle.tlv_walk.specs.Place.{Fits, IsOpen, Place, after, is_indefinite}
 use Rattle.tlv_walk.specs.declared.stack.Frame.{Frame}
 use Rattle.tlv_walk.specs.Stack.{IsInIndefinite, Within, bound_of}
-use Rattle.tlv_walk.specs.State.{AreWhole, HasState, IsContents, IsPhaseOf, Layer, Tail, Nothing, Contents, Lead, Front, Lone, State, begins_among, events_layers, frames_of, place_in, place_of, spell_layers}
+use Rattle.tlv_walk.specs.State.{AreWhole, HasState, IsContents, IsPhaseOf, Layer, Tail, Between, InContents, BeforeUnused, InHeader, InEnd, State, begins_among, events_layers, frames_of, place_in, place_of, spell_layers}
 use Rattle.tlv_walk.specs.Tells.{Continues}
 use Rattle.tlv_walk.proofs.Joined.{apart-before, apart-from_joined, apart-more, joined-from_apart}
 use Rattle.tlv_walk.proofs.Spellings.{append_assoc-3}
@@ -108,17 +108,17 @@ pub phase_at : (w : Machine) (b : List ℕ) (told : List Told) (s : State) (f : 
 phase_at w b told s f e has = subst (λ (g : Phase). IsPhaseOf g s.tail (place_of w.framing s)) e has.phase
 
 -- contents of a primitive
-contents_tail : (left : ℕ) (t : Tail) (p : Place) → IsPhaseOf (phase.Contents left) t p → (h : Heading) × (c : List ℕ) × (t ≡ Contents h c)
-contents_tail left Nothing p x = absurd x
-contents_tail left (Contents h c) p x = (h, c, refl)
-contents_tail left (Lead h) p x = absurd x
-contents_tail left (Front o) p x = absurd x
-contents_tail left Lone p x = absurd x
+contents_tail : (left : ℕ) (t : Tail) (p : Place) → IsPhaseOf (phase.InContents left) t p → (h : Heading) × (c : List ℕ) × (t ≡ InContents h c)
+contents_tail left Between p x = absurd x
+contents_tail left (InContents h c) p x = (h, c, refl)
+contents_tail left (BeforeUnused h) p x = absurd x
+contents_tail left (InHeader o) p x = absurd x
+contents_tail left InEnd p x = absurd x
 
 contents_state : (w : Machine) (b : List ℕ) (told : List Told) (s : State) (h : Heading) (c t : List ℕ) (left : ℕ)
-    → HasState w b told (with_tail s (Contents h c)) → w.phase ≡ phase.Contents left → length t ≤ left
-    → HasState (record w { phase = phase.Contents (left - length t); offset = w.offset + length t; events = w.events + 1 }) (b ++ t) (told ++ Bytes t ∷ [])
-    (with_tail s (Contents h (c ++ t)))
+    → HasState w b told (with_tail s (InContents h c)) → w.phase ≡ phase.InContents left → length t ≤ left
+    → HasState (record w { phase = phase.InContents (left - length t); offset = w.offset + length t; events = w.events + 1 }) (b ++ t) (told ++ Bytes t ∷ [])
+    (with_tail s (InContents h (c ++ t)))
 contents_state w b told s h c t left has e most =
     let k : IsContents (place_of w.framing s) h c left = phase_at w b told _ _ e has in
     let same : length c + left ≡ length (c ++ t) + (left - length t) = omega (arith, length-append c t) in
@@ -140,10 +140,10 @@ contents_state w b told s h c t left has e most =
     bytes_more : (h : Heading) (c t : List ℕ) → apart (Begin h ∷ Bytes (c ++ t) ∷ []) ≡ apart (Begin h ∷ Bytes c ∷ Bytes t ∷ [])
     bytes_more h c t = ap (λ (es : List Told). Begin h ∷ es) (ap (λ (es : List Told). es ++ []) (map-append (λ x. Bytes (x ∷ [])) c t) ∙ append_assoc (map (λ x. Bytes (x ∷ [])) c) _ [])
 
-pub tells_contents : (w : Machine) (left : ℕ) (t : List ℕ) (n : ℕ) → w.phase ≡ phase.Contents left → length t ≤ left → n ≡ length t
-    → Continues w (record w { phase = phase.Contents (left - n); offset = w.offset + n; events = w.events + 1 }) t (Bytes t ∷ [])
+pub tells_contents : (w : Machine) (left : ℕ) (t : List ℕ) (n : ℕ) → w.phase ≡ phase.InContents left → length t ≤ left → n ≡ length t
+    → Continues w (record w { phase = phase.InContents (left - n); offset = w.offset + n; events = w.events + 1 }) t (Bytes t ∷ [])
 tells_contents w left t n e most len =
-    subst (λ (m : ℕ). Continues w (record w { phase = phase.Contents (left - m); offset = w.offset + m; events = w.events + 1 }) t (Bytes t ∷ [])) (sym len) (record {
+    subst (λ (m : ℕ). Continues w (record w { phase = phase.InContents (left - m); offset = w.offset + m; events = w.events + 1 }) t (Bytes t ∷ [])) (sym len) (record {
       framing = refl;
       found = refl;
       goes = λ b told s has.
@@ -152,9 +152,9 @@ tells_contents w left t n e most len =
     })
 
 -- the end of a primitive
-end_state : (w : Machine) (b : List ℕ) (told : List Told) (s : State) (h : Heading) (c : List ℕ) → HasState w b told (with_tail s (Contents h c)) → w.phase ≡ phase.Contents 0
+end_state : (w : Machine) (b : List ℕ) (told : List Told) (s : State) (h : Heading) (c : List ℕ) → HasState w b told (with_tail s (InContents h c)) → w.phase ≡ phase.InContents 0
     → HasState (record w { phase = phase.Between; events = w.events + 1 }) (b ++ []) (told ++ End ∷ [])
-    (record { layers = s.layers; here = behind s.here (Whole h c Stop); tail = Nothing })
+    (record { layers = s.layers; here = behind s.here (Whole h c Stop); tail = Between })
 end_state w b told s h c has e =
     let p : Place = place_of w.framing s in
     let k : IsContents p h c 0 = phase_at w b told _ _ e has in
@@ -170,7 +170,7 @@ end_state w b told s h c has e =
       element = has.element ∙ sym (began s.layers s.here (Whole h c Stop) has.here.whole refl);
     }
 
-pub tells_end : (w : Machine) → w.phase ≡ phase.Contents 0 → Continues w (record w { phase = phase.Between; events = w.events + 1 }) [] (End ∷ [])
+pub tells_end : (w : Machine) → w.phase ≡ phase.InContents 0 → Continues w (record w { phase = phase.Between; events = w.events + 1 }) [] (End ∷ [])
 tells_end w e = record {
   framing = refl;
   found = refl;
@@ -180,19 +180,19 @@ tells_end w e = record {
 }
 
 -- between elements
-pub between_tail : (t : Tail) (p : Place) → IsPhaseOf phase.Between t p → t ≡ Nothing
-between_tail Nothing p x = refl
-between_tail (Contents h c) p x = absurd x
-between_tail (Lead h) p x = absurd x
-between_tail (Front o) p x = absurd x
-between_tail Lone p x = absurd x
+pub between_tail : (t : Tail) (p : Place) → IsPhaseOf phase.Between t p → t ≡ Between
+between_tail Between p x = refl
+between_tail (InContents h c) p x = absurd x
+between_tail (BeforeUnused h) p x = absurd x
+between_tail (InHeader o) p x = absurd x
+between_tail InEnd p x = absurd x
 
-pub lone_tail : (t : Tail) (p : Place) → IsPhaseOf phase.Zero t p → t ≡ Lone
-lone_tail Nothing p x = absurd x
-lone_tail (Contents h c) p x = absurd x
-lone_tail (Lead h) p x = absurd x
-lone_tail (Front o) p x = absurd x
-lone_tail Lone p x = refl
+pub lone_tail : (t : Tail) (p : Place) → IsPhaseOf phase.InEnd t p → t ≡ InEnd
+lone_tail Between p x = absurd x
+lone_tail (InContents h c) p x = absurd x
+lone_tail (BeforeUnused h) p x = absurd x
+lone_tail (InHeader o) p x = absurd x
+lone_tail InEnd p x = refl
 
 -- a state inside an element that has these layers
 abbrev pub with_layers : State → List Layer → Tail → State
@@ -204,8 +204,8 @@ closed_here l inside = behind l.before (Closed l.head inside Stop)
 
 -- the first of the end-of-contents octets
 zero_state : (w : Machine) (b : List ℕ) (told : List Told) (s : State) (l : Layer) (ls : List Layer)
-    → HasState w b told (record { layers = l ∷ ls; here = s.here; tail = Nothing }) → l.head.size ≡ Indefinite → Fits (after (place_in w.framing (l ∷ ls)) (length (spell s.here))) 1
-    → HasState (record w { phase = phase.Zero; offset = w.offset + 1 }) (b ++ 0 ∷ []) (told ++ []) (record { layers = l ∷ ls; here = s.here; tail = Lone })
+    → HasState w b told (record { layers = l ∷ ls; here = s.here; tail = Between }) → l.head.size ≡ Indefinite → Fits (after (place_in w.framing (l ∷ ls)) (length (spell s.here))) 1
+    → HasState (record w { phase = phase.InEnd; offset = w.offset + 1 }) (b ++ 0 ∷ []) (told ++ []) (record { layers = l ∷ ls; here = s.here; tail = InEnd })
 zero_state w b told s l ls has e f = record {
   spelled = spelled_behind (l ∷ ls) s.here [] (0 ∷ []) (0 ∷ []) b refl has.spelled;
   offset = omega (arith, has.offset, length-append b (0 ∷ []));
@@ -218,23 +218,23 @@ zero_state w b told s l ls has e f = record {
 }
 
 pub tells_zero : (w : Machine) → w.phase ≡ phase.Between → IsInIndefinite w.stack → Within (bound_of w.stack) (w.offset + 1)
-    → Continues w (record w { phase = phase.Zero; offset = w.offset + 1 }) (0 ∷ []) []
+    → Continues w (record w { phase = phase.InEnd; offset = w.offset + 1 }) (0 ∷ []) []
 tells_zero w e i f = record {
   framing = refl;
   found = refl;
   goes = λ b told s has.
       let t = between_tail s.tail _ (phase_at w b told s _ e has) in
-      let has' : HasState w b told (with_tail s Nothing) = tail_state w b told s _ t has in
+      let has' : HasState w b told (with_tail s Between) = tail_state w b told s _ t has in
       zero_from w b told s s.layers refl has' i f;
 }
   where
-    zero_from : (w : Machine) (b : List ℕ) (told : List Told) (s : State) (ls : List Layer) → s.layers ≡ ls → HasState w b told (with_layers s ls Nothing) → IsInIndefinite w.stack
-        → Within (bound_of w.stack) (w.offset + 1) → (t : State) × HasState (record w { phase = phase.Zero; offset = w.offset + 1 }) (b ++ 0 ∷ []) (told ++ []) t
+    zero_from : (w : Machine) (b : List ℕ) (told : List Told) (s : State) (ls : List Layer) → s.layers ≡ ls → HasState w b told (with_layers s ls Between) → IsInIndefinite w.stack
+        → Within (bound_of w.stack) (w.offset + 1) → (t : State) × HasState (record w { phase = phase.InEnd; offset = w.offset + 1 }) (b ++ 0 ∷ []) (told ++ []) t
     zero_from w b told s [] q has i f = absurd (subst IsInIndefinite has.stack i)
     zero_from w b told s (l ∷ ls) q has i f =
         let inside : IsInIndefinite (frames_of w.framing (l ∷ ls)) = subst IsInIndefinite has.stack i in
         let fits : Within (place_in w.framing (l ∷ ls)).bound (w.offset + 1) = subst (λ (fs : List Frame). Within (bound_of fs) (w.offset + 1)) has.stack f in
-        let at : w.offset ≡ (place_of w.framing (with_layers s (l ∷ ls) Nothing)).at + 0 = place-offset w b told _ has in (
+        let at : w.offset ≡ (place_of w.framing (with_layers s (l ∷ ls) Between)).at + 0 = place-offset w b told _ has in (
           _,
           zero_state w b told s l ls has (indefinite-size l.head.size _ inside)
               (subst (λ (n : ℕ). Within (place_in w.framing (l ∷ ls)).bound n) (omega (arith, at)) fits),

@@ -8,7 +8,7 @@ use Rattle.tlv_walk.specs.Forest.{Forest, Stop, Fill, Whole, Closed, Partial, En
 use Rattle.tlv_walk.specs.Machine.{IsWaiting, Machine}
 use Rattle.tlv_walk.specs.OpenCount.{open_count}
 use Rattle.tlv_walk.specs.Place.{Place}
-use Rattle.tlv_walk.specs.State.{AreLayers, HasState, Layer, Tail, Nothing, Contents, Lead, Front, Lone, State, frames_of, place_of, stack_of}
+use Rattle.tlv_walk.specs.State.{AreLayers, HasState, Layer, Tail, Between, InContents, BeforeUnused, InHeader, InEnd, State, frames_of, place_of, stack_of}
 use Rattle.tlv_walk.proofs.StateEndings.{forest_of, state-within}
 use Rattle.tlv_walk.proofs.Zipper.{behind, reading_of, within}
 
@@ -37,11 +37,11 @@ length-frames w (l ∷ ls) = ap suc (length-frames w ls)
 
 -- and so has a wrapping BIT STRING before its first contents octet
 length-stack : (w : Framing) (ls : List Layer) (p : Place) (t : Tail) → length (stack_of w ls p t) ≡ length ls + open_count (forest_of t)
-length-stack w ls p Nothing = omega (arith, length-frames w ls)
-length-stack w ls p (Contents h c) = omega (arith, length-frames w ls)
-length-stack w ls p (Lead h) = omega (arith, length-frames w ls)
-length-stack w ls p (Front octets) = omega (arith, length-frames w ls)
-length-stack w ls p Lone = omega (arith, length-frames w ls)
+length-stack w ls p Between = omega (arith, length-frames w ls)
+length-stack w ls p (InContents h c) = omega (arith, length-frames w ls)
+length-stack w ls p (BeforeUnused h) = omega (arith, length-frames w ls)
+length-stack w ls p (InHeader octets) = omega (arith, length-frames w ls)
+length-stack w ls p InEnd = omega (arith, length-frames w ls)
 
 -- the frames of a walker are as many as the open elements of its reading that hold others
 pub state-depth : (w : Machine) (b : List ℕ) (told : List Told) (s : State) → HasState w b told s → (IsWaiting w → ⊥) → length w.stack ≡ open_count (reading_of s)

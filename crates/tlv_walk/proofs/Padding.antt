@@ -7,7 +7,7 @@ use Rattle.tlv_walk.specs.Events.{Told, Pad, apart, events}
 use Rattle.tlv_walk.specs.Forest.{Forest, Stop, Fill, has_element, is_whole, spell}
 use Rattle.tlv_walk.specs.Machine.{Machine}
 use Rattle.tlv_walk.specs.Place.{IsOpen, Place, after}
-use Rattle.tlv_walk.specs.State.{HasState, IsPhaseOf, Layer, Nothing, State, place_in, place_of}
+use Rattle.tlv_walk.specs.State.{HasState, IsPhaseOf, Layer, Between, State, place_in, place_of}
 use Rattle.tlv_walk.specs.Tells.{Continues}
 use Rattle.tlv_walk.proofs.Moves.{are_whole, element-either, between_tail, phase_at, spelled_whole, tail_state, told_whole, with_layers}
 use Rattle.tlv_walk.proofs.Zipper.{behind}
@@ -44,20 +44,20 @@ or-false : (k : Bool) → (k || false) ≡ k
 or-false true = refl
 or-false false = refl
 
-pad_state : (w : Machine) (b : List ℕ) (told : List Told) (s : State) (t : List ℕ) → HasState w b told (with_layers s [] Nothing) → w.phase ≡ phase.Between → w.framing.padding ≡ true → All (λ x. x ≡ 0) t
-    → HasState (record w { offset = w.offset + length t; events = w.events + 1 }) (b ++ t) (told ++ Pad t ∷ []) (record { layers = []; here = behind s.here (fills t); tail = Nothing })
+pad_state : (w : Machine) (b : List ℕ) (told : List Told) (s : State) (t : List ℕ) → HasState w b told (with_layers s [] Between) → w.phase ≡ phase.Between → w.framing.padding ≡ true → All (λ x. x ≡ 0) t
+    → HasState (record w { offset = w.offset + length t; events = w.events + 1 }) (b ++ t) (told ++ Pad t ∷ []) (record { layers = []; here = behind s.here (fills t); tail = Between })
 pad_state w b told s t has e padding zeros = record {
   spelled = spelled_whole [] s.here (fills t) [] t b has.here.whole (spell-fills t zeros) has.spelled;
   offset = omega (arith, has.offset, length-append b t);
   stack = has.stack;
   layers = tt;
   here = are_whole (place_in w.framing []) s.here (fills t) has.here (open-fills _ t padding refl refl) (whole-fills t);
-  phase = subst (λ (f : Phase). IsPhaseOf f Nothing (place_of w.framing (record { layers = []; here = behind s.here (fills t); tail = Nothing }))) (sym e) tt;
+  phase = subst (λ (f : Phase). IsPhaseOf f Between (place_of w.framing (record { layers = []; here = behind s.here (fills t); tail = Between }))) (sym e) tt;
   told_of = told_whole told [] s.here (fills t) [] (Pad t ∷ []) has.here.whole has.told_of (events-fills t zeros ∙ sym (append-nil (map (λ x. Pad (x ∷ [])) t)));
   element = has.element ∙ sym (element-either s.here (fills t) has.here.whole ∙ (ap (λ (k : Bool). has_element s.here || k) (element-fills t) ∙ or-false (has_element s.here)));
 }
 
-pad_from : (w : Machine) (b : List ℕ) (told : List Told) (s : State) (t : List ℕ) (ls : List Layer) → HasState w b told (with_layers s ls Nothing) → w.phase ≡ phase.Between → w.stack ≡ [] → w.framing.padding ≡ true → All (λ x. x ≡ 0) t
+pad_from : (w : Machine) (b : List ℕ) (told : List Told) (s : State) (t : List ℕ) (ls : List Layer) → HasState w b told (with_layers s ls Between) → w.phase ≡ phase.Between → w.stack ≡ [] → w.framing.padding ≡ true → All (λ x. x ≡ 0) t
     → (u : State) × HasState (record w { offset = w.offset + length t; events = w.events + 1 }) (b ++ t) (told ++ Pad t ∷ []) u
 pad_from w b told s t [] has e none padding zeros = (_, pad_state w b told s t has e padding zeros)
 pad_from w b told s t (l ∷ ls) has e none padding zeros = absurd (cc (has.stack))

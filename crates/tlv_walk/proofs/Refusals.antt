@@ -11,7 +11,7 @@ use Rattle.tlv_walk.specs.Ending.{IsEnding, IsFault, bad_end, bad_inside, fault,
 use Rattle.tlv_walk.specs.Events.{Told}
 use Rattle.tlv_walk.specs.Machine.{IsWaiting, IsWaitingIn, Machine, fault_at}
 use Rattle.tlv_walk.specs.Stack.{IsFilled, IsInIndefinite, Within, bound_of, left_to, room_of}
-use Rattle.tlv_walk.specs.State.{HasState, Layer, Nothing, Lead, Lone, State, frames_of, place_in, place_of}
+use Rattle.tlv_walk.specs.State.{HasState, Layer, Between, BeforeUnused, InEnd, State, frames_of, place_in, place_of}
 use Rattle.tlv_walk.specs.Tells.{RefusesOctet}
 use Rattle.tlv_walk.proofs.Entering.{lead_tail}
 use Rattle.tlv_walk.proofs.Moves.{between_tail, lone_tail, phase_at, tail_state, with_tail}
@@ -71,10 +71,10 @@ pub refuses_missing : (w : Machine) (x : ℕ) (rest : List ℕ) → w.phase ≡ 
     → RefusesOctet w (x ∷ rest) (x ∷ rest) (fault_at MissingEnd w.offset)
 refuses_missing w x rest e unfilled inside within room = refuses_here w x rest MissingEnd (idle_at w phase.Between e unfilled) (λ b told s has.
     let t = between_tail s.tail _ (phase_at w b told s _ e has) in
-    let has' : HasState w b told (with_tail s Nothing) = tail_state w b told s _ t has in
-    let place : w.offset ≡ (place_of w.framing (with_tail s Nothing)).at + 0 = place-offset w b told _ has' in
-    let bound : (place_of w.framing (with_tail s Nothing)).bound ≡ Some w.offset = sym (bound_there w b told _ has' has'.stack) ∙ at_bound (bound_of w.stack) w.offset within room in (
-      with_tail s Nothing,
+    let has' : HasState w b told (with_tail s Between) = tail_state w b told s _ t has in
+    let place : w.offset ≡ (place_of w.framing (with_tail s Between)).at + 0 = place-offset w b told _ has' in
+    let bound : (place_of w.framing (with_tail s Between)).bound ≡ Some w.offset = sym (bound_there w b told _ has' has'.stack) ∙ at_bound (bound_of w.stack) w.offset within room in (
+      with_tail s Between,
       has',
       no_end ((place-indefinite w.framing s.layers).1 (subst IsInIndefinite has'.stack inside)) (bound ∙ ap Some place),
     ))
@@ -95,8 +95,8 @@ pub refuses_stray : (w : Machine) (rest : List ℕ) → w.phase ≡ phase.Betwee
     → RefusesOctet w (0 ∷ rest) (0 ∷ rest) (fault_at StrayEnd w.offset)
 refuses_stray w rest e unfilled outside padding = refuses_here w 0 rest StrayEnd (idle_at w phase.Between e unfilled) (λ b told s has.
     let t = between_tail s.tail _ (phase_at w b told s _ e has) in
-    let has' : HasState w b told (with_tail s Nothing) = tail_state w b told s _ t has in (
-      with_tail s Nothing,
+    let has' : HasState w b told (with_tail s Between) = tail_state w b told s _ t has in (
+      with_tail s Between,
       has',
       stray_end (not_indefinite _ (λ i. outside (subst IsInIndefinite (sym has'.stack) ((place-indefinite w.framing s.layers).0 i)))) (not_padding w s.layers has'.stack padding) refl,
     ))
@@ -108,27 +108,27 @@ refuses_stray_front w piece some zero e unfilled outside padding =
     (refuses_stray w (drop 1 piece) e unfilled outside padding))
 
 -- the second of the end-of-contents octets
-pub refuses_second_missing : (w : Machine) (x : ℕ) (rest : List ℕ) → w.phase ≡ phase.Zero → Within (bound_of w.stack) w.offset → room_of w.stack w.offset ≡ Some 0
+pub refuses_second_missing : (w : Machine) (x : ℕ) (rest : List ℕ) → w.phase ≡ phase.InEnd → Within (bound_of w.stack) w.offset → room_of w.stack w.offset ≡ Some 0
     → RefusesOctet w (x ∷ rest) (x ∷ rest) (fault_at MissingEnd w.offset)
-refuses_second_missing w x rest e within room = refuses_here w x rest MissingEnd (idle_at w phase.Zero e (λ k. k)) (λ b told s has.
+refuses_second_missing w x rest e within room = refuses_here w x rest MissingEnd (idle_at w phase.InEnd e (λ k. k)) (λ b told s has.
     let t = lone_tail s.tail _ (phase_at w b told s _ e has) in
-    let has' : HasState w b told (with_tail s Lone) = tail_state w b told s _ t has in
-    let place : w.offset ≡ (place_of w.framing (with_tail s Lone)).at + 1 = place-offset w b told _ has' in
-    (with_tail s Lone, has', missing_end (sym (bound_there w b told _ has' has'.stack) ∙ at_bound (bound_of w.stack) w.offset within room ∙ ap Some place)))
+    let has' : HasState w b told (with_tail s InEnd) = tail_state w b told s _ t has in
+    let place : w.offset ≡ (place_of w.framing (with_tail s InEnd)).at + 1 = place-offset w b told _ has' in
+    (with_tail s InEnd, has', missing_end (sym (bound_there w b told _ has' has'.stack) ∙ at_bound (bound_of w.stack) w.offset within room ∙ ap Some place)))
 
-pub refuses_second : (w : Machine) (x : ℕ) (rest : List ℕ) → w.phase ≡ phase.Zero → (room_of w.stack w.offset ≡ Some 0 → ⊥) → x ≢ 0
+pub refuses_second : (w : Machine) (x : ℕ) (rest : List ℕ) → w.phase ≡ phase.InEnd → (room_of w.stack w.offset ≡ Some 0 → ⊥) → x ≢ 0
     → RefusesOctet w (x ∷ rest) (x ∷ rest) (fault_at BadEnd w.offset)
-refuses_second w x rest e room nonzero = refuses_here w x rest BadEnd (idle_at w phase.Zero e (λ k. k)) (λ b told s has.
+refuses_second w x rest e room nonzero = refuses_here w x rest BadEnd (idle_at w phase.InEnd e (λ k. k)) (λ b told s has.
     let t = lone_tail s.tail _ (phase_at w b told s _ e has) in
-    let has' : HasState w b told (with_tail s Lone) = tail_state w b told s _ t has in
-    let place : w.offset ≡ (place_of w.framing (with_tail s Lone)).at + 1 = place-offset w b told _ has' in (
-      with_tail s Lone,
+    let has' : HasState w b told (with_tail s InEnd) = tail_state w b told s _ t has in
+    let place : w.offset ≡ (place_of w.framing (with_tail s InEnd)).at + 1 = place-offset w b told _ has' in (
+      with_tail s InEnd,
       has',
       bad_end (λ at. below_bound (bound_of w.stack) w.offset room (bound_there w b told _ has' has'.stack ∙ at ∙ ap Some (sym place))) nonzero,
     ))
 
 -- the first contents octet of a wrapping BIT STRING
-pub refuses_unused : (w : Machine) (x : ℕ) (rest : List ℕ) → w.phase ≡ phase.Unused → x ≢ 0 → RefusesOctet w (x ∷ rest) (x ∷ rest) (fault_at BadInside w.offset)
-refuses_unused w x rest e nonzero = refuses_here w x rest BadInside (idle_at w phase.Unused e (λ k. k)) (λ b told s has.
+pub refuses_unused : (w : Machine) (x : ℕ) (rest : List ℕ) → w.phase ≡ phase.BeforeUnused → x ≢ 0 → RefusesOctet w (x ∷ rest) (x ∷ rest) (fault_at BadInside w.offset)
+refuses_unused w x rest e nonzero = refuses_here w x rest BadInside (idle_at w phase.BeforeUnused e (λ k. k)) (λ b told s has.
     let t = lead_tail s.tail _ (phase_at w b told s _ e has) in
-    (with_tail s (Lead t.0), tail_state w b told s _ t.1 has, bad_inside nonzero))
+    (with_tail s (BeforeUnused t.0), tail_state w b told s _ t.1 has, bad_inside nonzero))

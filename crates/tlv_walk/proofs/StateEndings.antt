@@ -12,7 +12,7 @@ use Rattle.tlv_walk.specs.Events.{Told}
 use Rattle.tlv_walk.specs.Forest.{Forest, Stop, Partial, Awaiting, Begun, Zero, has_element, is_whole, spell}
 use Rattle.tlv_walk.specs.Machine.{IsReady, IsReadyIn, IsWaiting, IsWaitingIn, Machine}
 use Rattle.tlv_walk.specs.Place.{Place, top}
-use Rattle.tlv_walk.specs.State.{HasState, IsPhaseOf, Layer, Tail, Nothing, Contents, Lead, Front, Lone, State, begins_element, frames_of, place_in, place_of, spell_tail, stack_of}
+use Rattle.tlv_walk.specs.State.{HasState, IsPhaseOf, Layer, Tail, Between, InContents, BeforeUnused, InHeader, InEnd, State, begins_element, frames_of, place_in, place_of, spell_tail, stack_of}
 use Rattle.tlv_walk.proofs.Endings.{halt-ending}
 use Rattle.tlv_walk.proofs.Faults.{fault-refused}
 use Rattle.tlv_walk.proofs.Push.{Spells}
@@ -23,11 +23,11 @@ use Rattle.tlv_walk.proofs.Zipper.{behind, behind-none, open_end_of, reading_in,
 
 -- what is open behind the whole elements, as a forest: of a primitive, one that lacks contents octets
 abbrev pub forest_of : Tail → Forest
-forest_of Nothing = Stop
-forest_of (Contents h c) = Partial h c
-forest_of (Lead h) = Awaiting h
-forest_of (Front octets) = Begun octets
-forest_of Lone = Zero
+forest_of Between = Stop
+forest_of (InContents h c) = Partial h c
+forest_of (BeforeUnused h) = Awaiting h
+forest_of (InHeader octets) = Begun octets
+forest_of InEnd = Zero
 
 -- the whole elements end at the offset: no element is filled there
 filled-at : (w : Framing) (ls : List Layer) (here : Forest) (at : ℕ) → at ≡ end_in w ls here + 0 → (IsWaitingIn phase.Between (frames_of w ls) at → ⊥) → IsWaitingIn phase.Between (frames_of w ls) (end_in w ls here) → ⊥
@@ -37,12 +37,12 @@ filled-at w ls here at e n f = let there : end_in w ls here ≡ at = omega arith
 reading-within : (w : Framing) (ls : List Layer) (here : Forest) (f : Phase) (t : Tail) (at : ℕ) → IsPhaseOf f t (place_behind w ls here)
     → at ≡ (place_behind w ls here).at + length (spell_tail t) → (IsWaitingIn f (stack_of w ls (place_behind w ls here) t) at → ⊥)
     → reading_in ls here t ≡ within ls (behind here (forest_of t))
-reading-within w ls here phase.Between Nothing at j e n =
+reading-within w ls here phase.Between Between at j e n =
     settled-within w ls here (filled-at w ls here at e n) ∙ ap (within ls) (sym (behind-none here))
-reading-within w ls here (phase.Contents left) (Contents h c) at j e n = rw (contents-less _ h c left j n) refl
-reading-within w ls here (phase.Header r) (Front octets) at j e n = refl
-reading-within w ls here phase.Unused (Lead h) at j e n = refl
-reading-within w ls here phase.Zero Lone at j e n = refl
+reading-within w ls here (phase.InContents left) (InContents h c) at j e n = rw (contents-less _ h c left j n) refl
+reading-within w ls here (phase.InHeader r) (InHeader octets) at j e n = refl
+reading-within w ls here phase.BeforeUnused (BeforeUnused h) at j e n = refl
+reading-within w ls here phase.InEnd InEnd at j e n = refl
 reading-within w ls here f t at j e n = absurd j
 
 -- so what a walker with nothing waiting has read is its layers, its whole elements and what is open
@@ -56,21 +56,21 @@ pub ready-waits : (w : Machine) → IsReady w → IsWaiting w → ⊥
 ready-waits w = ready-waits-in w.phase w.stack w.offset where
   ready-waits-in : (f : Phase) (stack : List Frame) (at : ℕ) → IsReadyIn f stack at → IsWaitingIn f stack at → ⊥
   ready-waits-in phase.Between stack at r i = r i
-  ready-waits-in (phase.Contents left) stack at r i = r i
-  ready-waits-in (phase.Header p) stack at r i = i
-  ready-waits-in phase.Unused stack at r i = i
-  ready-waits-in phase.Zero stack at r i = i
+  ready-waits-in (phase.InContents left) stack at r i = r i
+  ready-waits-in (phase.InHeader p) stack at r i = i
+  ready-waits-in phase.BeforeUnused stack at r i = i
+  ready-waits-in phase.InEnd stack at r i = i
   ready-waits-in (phase.Failed f) stack at r i = i
 
 -- ---- the open end
 
 -- what is open behind the whole elements is the open end
 tip-tail : (p : Place) (t : Tail) → tip p (forest_of t) ≡ record { place = p; open_end = open_end_of t }
-tip-tail p Nothing = refl
-tip-tail p (Contents h c) = refl
-tip-tail p (Lead h) = refl
-tip-tail p (Front octets) = refl
-tip-tail p Lone = refl
+tip-tail p Between = refl
+tip-tail p (InContents h c) = refl
+tip-tail p (BeforeUnused h) = refl
+tip-tail p (InHeader octets) = refl
+tip-tail p InEnd = refl
 
 -- the open end of the reading is that of the state
 pub state-tip : (w : Machine) (b : List ℕ) (told : List Told) (s : State) → HasState w b told s → (IsWaiting w → ⊥)
@@ -96,15 +96,15 @@ state-fault w b told s x rest code h n k =
 -- outside all elements that hold others, between encodings, the whole elements are the reading
 outermost-reading : (w : Framing) (ls : List Layer) (here : Forest) (t : Tail) → IsPhaseOf phase.Between t (place_behind w ls here) → stack_of w ls (place_behind w ls here) t ≡ []
     → reading_in ls here t ≡ here
-outermost-reading w [] here Nothing j e = refl
-outermost-reading w (l ∷ ls) here Nothing j e = absurd (cc)
+outermost-reading w [] here Between j e = refl
+outermost-reading w (l ∷ ls) here Between j e = absurd (cc)
 outermost-reading w ls here t j e = absurd j
 
 -- there an octet of an element came where one is in the reading
 outermost-element : (w : Framing) (ls : List Layer) (here : Forest) (t : Tail) → IsPhaseOf phase.Between t (place_behind w ls here) → stack_of w ls (place_behind w ls here) t ≡ []
     → begins_element ls here t ≡ has_element here
-outermost-element w [] here Nothing j e = refl
-outermost-element w (l ∷ ls) here Nothing j e = absurd (cc)
+outermost-element w [] here Between j e = refl
+outermost-element w (l ∷ ls) here Between j e = absurd (cc)
 outermost-element w ls here t j e = absurd j
 
 -- what a walker has read between encodings and outside all elements that hold others
@@ -142,11 +142,11 @@ state-empty w b told s h e none no_element =
 -- elsewhere something is open: an element that holds others, or what is behind the whole elements
 open-elsewhere : (w : Framing) (ls : List Layer) (here : Forest) (f : Phase) (t : Tail) → IsPhaseOf f t (place_behind w ls here)
     → (f ≡ phase.Between → stack_of w ls (place_behind w ls here) t ≡ [] → ⊥) → ls ≡ [] → is_whole (forest_of t) ≡ false
-open-elsewhere w ls here phase.Between Nothing j n e = absurd (n refl (ap (frames_of w) e))
-open-elsewhere w ls here (phase.Header r) (Front octets) j n e = refl
-open-elsewhere w ls here (phase.Contents left) (Contents h c) j n e = refl
-open-elsewhere w ls here phase.Unused (Lead h) j n e = refl
-open-elsewhere w ls here phase.Zero Lone j n e = refl
+open-elsewhere w ls here phase.Between Between j n e = absurd (n refl (ap (frames_of w) e))
+open-elsewhere w ls here (phase.InHeader r) (InHeader octets) j n e = refl
+open-elsewhere w ls here (phase.InContents left) (InContents h c) j n e = refl
+open-elsewhere w ls here phase.BeforeUnused (BeforeUnused h) j n e = refl
+open-elsewhere w ls here phase.InEnd InEnd j n e = refl
 open-elsewhere w ls here f t j n e = absurd j
 
 -- there the input is too short

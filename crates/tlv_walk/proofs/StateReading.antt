@@ -12,7 +12,7 @@ use Rattle.tlv_walk.specs.Forest.{Forest, Stop, Whole, Partial, Awaiting, Begun,
 use Rattle.tlv_walk.specs.Machine.{Machine, new_machine, found_in}
 use Rattle.tlv_walk.specs.Place.{IsAwaiting, IsBegun, IsOpen, IsPartial, IsZero, Place, after, top}
 use Rattle.tlv_walk.specs.Reading.{IsReading}
-use Rattle.tlv_walk.specs.State.{AreLayers, AreWhole, HasState, IsContents, IsPhaseOf, Layer, Tail, Nothing, Contents, Lead, Front, Lone, Stands, State, endings_at, events_layers, events_state, events_tail, frames_of, place_in, place_of, spell_layers, spell_state, spell_tail, stack_of, waiting_in, waiting_of, wrappers_layers, wrappers_state, wrappers_tail}
+use Rattle.tlv_walk.specs.State.{AreLayers, AreWhole, HasState, IsContents, IsPhaseOf, Layer, Tail, Between, InContents, BeforeUnused, InHeader, InEnd, Stands, State, endings_at, events_layers, events_state, events_tail, frames_of, place_in, place_of, spell_layers, spell_state, spell_tail, stack_of, waiting_in, waiting_of, wrappers_layers, wrappers_state, wrappers_tail}
 use Rattle.tlv_walk.specs.Inside.{CanName}
 use Rattle.tlv_walk.specs.Wrappers.{enters, wrappers}
 use Rattle.tlv_walk.proofs.Joined.{apart-before, apart-from_joined, joined-from_apart}
@@ -104,28 +104,28 @@ contents-less p h c left i n =
 
 -- what holds of what is open behind the whole elements, whatever the phase
 abbrev pub IsTailAt : Place → Tail → Type 0
-IsTailAt p Nothing = Unit {0}
-IsTailAt p (Contents h c) = (left : ℕ) × IsContents p h c left
-IsTailAt p (Lead h) = IsAwaiting p h
-IsTailAt p (Front octets) = IsBegun p octets
-IsTailAt p Lone = IsZero p
+IsTailAt p Between = Unit {0}
+IsTailAt p (InContents h c) = (left : ℕ) × IsContents p h c left
+IsTailAt p (BeforeUnused h) = IsAwaiting p h
+IsTailAt p (InHeader octets) = IsBegun p octets
+IsTailAt p InEnd = IsZero p
 
 -- the phase says so
 pub phase-tail : (f : Phase) (t : Tail) (p : Place) → IsPhaseOf f t p → IsTailAt p t
-phase-tail phase.Between Nothing p i = tt
-phase-tail (phase.Header r) (Front octets) p i = i.3
-phase-tail (phase.Contents left) (Contents h c) p i = (left, i)
-phase-tail phase.Unused (Lead h) p i = i
-phase-tail phase.Zero Lone p i = i
+phase-tail phase.Between Between p i = tt
+phase-tail (phase.InHeader r) (InHeader octets) p i = i.3
+phase-tail (phase.InContents left) (InContents h c) p i = (left, i)
+phase-tail phase.BeforeUnused (BeforeUnused h) p i = i
+phase-tail phase.InEnd InEnd p i = i
 phase-tail f t p i = absurd i
 
 -- what a state has been read as is open, with the state's octets
 reading-spells : (w : Framing) (ls : List Layer) (here : Forest) (t : Tail) → AreLayers w ls → AreWhole (place_in w ls) here → IsTailAt (place_behind w ls here) t
     → Spells (top w) (spell_layers ls ++ (spell here ++ spell_tail t)) (reading_in ls here t)
-reading-spells w ls here Nothing a i j =
+reading-spells w ls here Between a i j =
     let r : Spells (top w) (spell_layers ls ++ spell here) (settled ls here) = settled-spells w ls here a i in
     record { is_open = r.is_open; spelled = r.spelled ∙ ap (λ (t : List ℕ). spell_layers ls ++ t) (sym (append-nil (spell here))) }
-reading-spells w ls here (Contents h c) a i j = elim (cases_eq j.0 0) [
+reading-spells w ls here (InContents h c) a i j = elim (cases_eq j.0 0) [
   | inl z ↦
       let r : Spells (top w) (spell_layers ls ++ (spell here ++ (octets_of h ++ (c ++ [])))) (settled ls (behind here (Whole h c Stop))) =
       whole-spells w ls here (Whole h c Stop) a i (contents-whole _ h c j.0 j.1 z) in
@@ -133,21 +133,21 @@ reading-spells w ls here (Contents h c) a i j = elim (cases_eq j.0 0) [
       (record { is_open = r.is_open; spelled = r.spelled ∙ ap (λ (t : List ℕ). spell_layers ls ++ (spell here ++ (octets_of h ++ t))) (append-nil c) })
   | inr n ↦ rw (contents-less _ h c j.0 j.1 n) (open-spells w ls here (Partial h c) a i (contents-partial _ h c j.0 j.1 n) refl)
 ]
-reading-spells w ls here (Lead h) a i j = open-spells w ls here (Awaiting h) a i j refl
-reading-spells w ls here (Front octets) a i j = open-spells w ls here (Begun octets) a i j refl
-reading-spells w ls here Lone a i j = open-spells w ls here Zero a i j refl
+reading-spells w ls here (BeforeUnused h) a i j = open-spells w ls here (Awaiting h) a i j refl
+reading-spells w ls here (InHeader octets) a i j = open-spells w ls here (Begun octets) a i j refl
+reading-spells w ls here InEnd a i j = open-spells w ls here Zero a i j refl
 
 -- its wrappers are the state's
 reading-wrappers : (w : Framing) (ls : List Layer) (here : Forest) (t : Tail) → AreLayers w ls → AreWhole (place_in w ls) here → IsTailAt (place_behind w ls here) t
     → wrappers (reading_in ls here t) ≡ wrappers_layers ls ++ (wrappers here ++ wrappers_tail t)
-reading-wrappers w ls here Nothing a i j = wrappers-settled w ls here a i ∙ ap (λ (t : List ℕ). wrappers_layers ls ++ t) (sym (append-nil (wrappers here)))
-reading-wrappers w ls here (Contents h c) a i j = elim (cases_eq j.0 0) [
+reading-wrappers w ls here Between a i j = wrappers-settled w ls here a i ∙ ap (λ (t : List ℕ). wrappers_layers ls ++ t) (sym (append-nil (wrappers here)))
+reading-wrappers w ls here (InContents h c) a i j = elim (cases_eq j.0 0) [
   | inl z ↦ rw (contents-all _ h c j.0 j.1 z) (whole-wrappers w ls here (Whole h c Stop) a i (contents-whole _ h c j.0 j.1 z))
   | inr n ↦ rw (contents-less _ h c j.0 j.1 n) (open-wrappers w ls here (Partial h c) a i)
 ]
-reading-wrappers w ls here (Lead h) a i j = open-wrappers w ls here (Awaiting h) a i
-reading-wrappers w ls here (Front octets) a i j = open-wrappers w ls here (Begun octets) a i
-reading-wrappers w ls here Lone a i j = open-wrappers w ls here Zero a i
+reading-wrappers w ls here (BeforeUnused h) a i j = open-wrappers w ls here (Awaiting h) a i
+reading-wrappers w ls here (InHeader octets) a i j = open-wrappers w ls here (Begun octets) a i
+reading-wrappers w ls here InEnd a i j = open-wrappers w ls here Zero a i
 
 -- a primitive's end, told behind what has been told of it
 contents-end : (around before ends : List Told) (h : Heading) (c : List ℕ)
@@ -158,19 +158,19 @@ contents-end around before ends h c = simp append_assoc
 reading-events : (w : Framing) (ls : List Layer) (here : Forest) (f : Phase) (t : Tail) (at : ℕ) → AreLayers w ls → AreWhole (place_in w ls) here → IsPhaseOf f t (place_behind w ls here)
     → at ≡ (place_behind w ls here).at + length (spell_tail t)
     → (events_layers ls ++ (events here ++ events_tail t)) ++ waiting_in f (stack_of w ls (place_behind w ls here) t) at ≡ events (reading_in ls here t)
-reading-events w ls here phase.Between Nothing at a i j e =
+reading-events w ls here phase.Between Between at a i j e =
     let there : at ≡ end_in w ls here = omega arith in
     rw (append-nil (events here), there) (sym (events-settled w ls here a i))
-reading-events w ls here (phase.Contents left) (Contents h c) at a i j e = elim (cases_eq left 0) [
+reading-events w ls here (phase.InContents left) (InContents h c) at a i j e = elim (cases_eq left 0) [
   | inl z ↦
       let there : at ≡ (place_behind w ls here).at + length (octets_of h ++ (c ++ [])) = e ∙ ap (λ (t : List ℕ). (place_behind w ls here).at + length (octets_of h ++ t)) (sym (append-nil c)) in
       rw (contents-all _ h c left j z, eq-eqb left 0 z)
       (contents-end (events_layers ls) (events here) (endings_at at (frames_of w ls)) h c ∙ sym (whole-events w ls here (Whole h c Stop) at a i (contents-whole _ h c left j z) there))
   | inr n ↦ rw (contents-less _ h c left j n, ne_eqb left 0 n) (open-events w ls here (Partial h c) a i)
 ]
-reading-events w ls here (phase.Header r) (Front octets) at a i j e = open-events w ls here (Begun octets) a i
-reading-events w ls here phase.Unused (Lead h) at a i j e = open-events w ls here (Awaiting h) a i
-reading-events w ls here phase.Zero Lone at a i j e = open-events w ls here Zero a i
+reading-events w ls here (phase.InHeader r) (InHeader octets) at a i j e = open-events w ls here (Begun octets) a i
+reading-events w ls here phase.BeforeUnused (BeforeUnused h) at a i j e = open-events w ls here (Awaiting h) a i
+reading-events w ls here phase.InEnd InEnd at a i j e = open-events w ls here Zero a i
 reading-events w ls here f t at a i j e = absurd j
 
 -- ---- of a walker
@@ -211,7 +211,7 @@ stands w b told s h n k =
 
 -- the state of a new walker: nothing is open, and nothing came
 abbrev pub new_state : State
-new_state = record { layers = []; here = Stop; tail = Nothing }
+new_state = record { layers = []; here = Stop; tail = Between }
 
 -- a new walker has it
 pub state-new : (framing : Framing) → HasState (new_machine framing) [] [] new_state

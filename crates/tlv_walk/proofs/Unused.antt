@@ -93,13 +93,13 @@ ends_enter_none at (f ∷ fs) = elim (cases_Bool (is_end f.end at)) [
 
 waits_enter_none : (f : Phase) (fs : List Frame) (at : ℕ) → enters (waiting_in f fs at) ≡ []
 waits_enter_none phase.Between fs at = ends_enter_none at fs
-waits_enter_none (phase.Header r) fs at = refl
-waits_enter_none (phase.Contents left) fs at = elim (cases_Bool (eqb left 0)) [
+waits_enter_none (phase.InHeader r) fs at = refl
+waits_enter_none (phase.InContents left) fs at = elim (cases_Bool (eqb left 0)) [
   | inl e ↦ rw e (ends_enter_none at fs)
   | inr e ↦ rw e refl
 ]
-waits_enter_none phase.Unused fs at = refl
-waits_enter_none phase.Zero fs at = refl
+waits_enter_none phase.BeforeUnused fs at = refl
+waits_enter_none phase.InEnd fs at = refl
 waits_enter_none (phase.Failed fault) fs at = refl
 
 -- events that are equal joined enter the same wrappers

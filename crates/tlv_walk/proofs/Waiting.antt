@@ -21,10 +21,10 @@ no_endings at (f ∷ fs) n = ap (λ (k : Bool). if k then ending_of f ∷ ending
 
 quiet_in : (f : Phase) (stack : List Frame) (at : ℕ) → (IsWaitingIn f stack at → ⊥) → waiting_in f stack at ≡ []
 quiet_in phase.Between stack at n = no_endings at stack n
-quiet_in (phase.Header r) stack at n = refl
-quiet_in (phase.Contents left) stack at n = ap (λ (k : Bool). if k then End ∷ endings_at at stack else []) (ne_eqb left 0 n)
-quiet_in phase.Unused stack at n = refl
-quiet_in phase.Zero stack at n = refl
+quiet_in (phase.InHeader r) stack at n = refl
+quiet_in (phase.InContents left) stack at n = ap (λ (k : Bool). if k then End ∷ endings_at at stack else []) (ne_eqb left 0 n)
+quiet_in phase.BeforeUnused stack at n = refl
+quiet_in phase.InEnd stack at n = refl
 quiet_in (phase.Failed fault) stack at n = refl
 
 pub quiet : (w : Machine) → (IsWaiting w → ⊥) → waiting_of w ≡ []
@@ -38,19 +38,19 @@ no_more e es false t n = absurd (cc)
 loud_in : (f : Phase) (stack : List Frame) (at : ℕ) → IsWaitingIn f stack at → waiting_in f stack at ≡ [] → ⊥
 loud_in phase.Between [] at i n = i
 loud_in phase.Between (f ∷ fs) at i n = no_more (ending_of f) (endings_at at fs) (is_end f.end at) (ap (λ (e : Option ℕ). is_end e at) i ∙ eq-eqb at at refl) n
-loud_in (phase.Header r) stack at i n = i
-loud_in (phase.Contents left) stack at i n = no_more End (endings_at at stack) (eqb left 0) (eq-eqb left 0 i) n
-loud_in phase.Unused stack at i n = i
-loud_in phase.Zero stack at i n = i
+loud_in (phase.InHeader r) stack at i n = i
+loud_in (phase.InContents left) stack at i n = no_more End (endings_at at stack) (eqb left 0) (eq-eqb left 0 i) n
+loud_in phase.BeforeUnused stack at i n = i
+loud_in phase.InEnd stack at i n = i
 loud_in (phase.Failed fault) stack at i n = i
 
 pub idle : (w : Machine) → NothingWaits w → IsWaiting w → ⊥
 idle w n i = loud_in w.phase w.stack w.offset i n
 
 -- what `waiting` answers
-pub waits : (w : Machine) (k : Bool) → IsTrue k ↔ IsWaiting w → IsTrue k ↔ (NothingWaits w → ⊥)
-waits w true h = (λ t n. idle w n (h.0 t), λ n. refl)
-waits w false h = (λ t. absurd (cc (t)), λ n. absurd (n (quiet w (λ i. cc (h.1 i)))))
+pub waits : (w : Machine) (k : Bool) → IsTrue k ↔ IsWaiting w → (k ≡ false) ↔ NothingWaits w
+waits w true h = (λ e. absurd (cc (e)), λ n. absurd (idle w n (h.0 refl)))
+waits w false h = (λ e. quiet w (λ i. cc (h.1 i)), λ n. refl)
 
 -- a walker that is ready has none waiting
 pub ready-quiet : (w : Machine) → IsReady w → NothingWaits w

@@ -5,11 +5,12 @@ use Rattle.tlv_head.specs.declared.header.Size.{Size}
 use Rattle.tlv_head.specs.declared.header.Size.TheVariants.{Definite, Indefinite}
 use Rattle.tlv_head.specs.Header.{Heading, announced, octets_of}
 use Rattle.tlv_walk.specs.declared.framing.Framing.{Framing}
-use Rattle.tlv_walk.specs.Ending.{OpenEnd, Between, InContents, BeforeUnused, InHeader, InEnd, tip}
+use Rattle.tlv_walk.specs.Ending.{OpenEnd, tip}
+use Rattle.tlv_walk.specs.Ending as open_end
 use Rattle.tlv_walk.specs.Forest.{Forest, Stop, Fill, Whole, Closed, Partial, Entered, Awaiting, Begun, Zero, contents_length, end_octets, extent, has_element, is_whole, opening, spell}
 use Rattle.tlv_walk.specs.Place.{Fits, IsOpen, LacksOctets, Place, after, bound_in, is_indefinite, top}
 use Rattle.tlv_walk.specs.Stack.{IsInIndefinite, bound_of}
-use Rattle.tlv_walk.specs.State.{AreLayers, AreWhole, Layer, Tail, Nothing, Contents, Lead, Front, Lone, State, frames_of, place_in, spell_layers}
+use Rattle.tlv_walk.specs.State.{AreLayers, AreWhole, Layer, Tail, Between, InContents, BeforeUnused, InHeader, InEnd, State, frames_of, place_in, spell_layers}
 use Rattle.tlv_walk.proofs.Bounds.{fits-inside}
 use Rattle.tlv_walk.proofs.Push.{is_filled}
 use Rattle.tlv_walk.proofs.Spellings.{append_assoc-3, append_assoc-4, length-closed, length-whole}
@@ -42,21 +43,21 @@ primitive_in ls here h c false = within ls (behind here (Partial h c))
 
 -- what a state has been read as
 abbrev pub reading_in : List Layer → Forest → Tail → Forest
-reading_in ls here Nothing = settled ls here
-reading_in ls here (Contents h c) = primitive_in ls here h c (eqb (length c) (announced h.size))
-reading_in ls here (Lead h) = within ls (behind here (Awaiting h))
-reading_in ls here (Front octets) = within ls (behind here (Begun octets))
-reading_in ls here Lone = within ls (behind here Zero)
+reading_in ls here Between = settled ls here
+reading_in ls here (InContents h c) = primitive_in ls here h c (eqb (length c) (announced h.size))
+reading_in ls here (BeforeUnused h) = within ls (behind here (Awaiting h))
+reading_in ls here (InHeader octets) = within ls (behind here (Begun octets))
+reading_in ls here InEnd = within ls (behind here Zero)
 
 abbrev pub reading_of : State → Forest
 reading_of s = reading_in s.layers s.here s.tail
 
 abbrev pub open_end_of : Tail → OpenEnd
-open_end_of Nothing = Between
-open_end_of (Contents h c) = InContents
-open_end_of (Lead h) = BeforeUnused
-open_end_of (Front octets) = InHeader octets
-open_end_of Lone = InEnd
+open_end_of Between = open_end.Between
+open_end_of (InContents h c) = open_end.InContents
+open_end_of (BeforeUnused h) = open_end.BeforeUnused
+open_end_of (InHeader octets) = open_end.InHeader octets
+open_end_of InEnd = open_end.InEnd
 
 -- ---- places
 
@@ -166,7 +167,7 @@ behind-none (Begun octets) = refl
 behind-none Zero = refl
 
 -- behind whole elements the open end is between them and the next
-pub tip-whole : (p : Place) (f : Forest) → is_whole f ≡ true → tip p f ≡ record { place = after p (length (spell f)); open_end = Between }
+pub tip-whole : (p : Place) (f : Forest) → is_whole f ≡ true → tip p f ≡ record { place = after p (length (spell f)); open_end = open_end.Between }
 tip-whole p f e = ap (λ (g : Forest). tip p g) (sym (behind-none f)) ∙ tip-behind p f Stop e
 
 -- ---- where the elements in the innermost open element begin

@@ -17,7 +17,7 @@ use Rattle.tlv_walk.specs.Place.{bound_in}
 use Rattle.tlv_walk.specs.declared.framing.Framing.{Framing}
 use Rattle.tlv_walk.specs.declared.stack.Frame.{Frame}
 use Rattle.tlv_walk.specs.declared.walker.Phase.{Phase}
-use Rattle.tlv_walk.specs.declared.walker.Phase.TheVariants.{Between, Header, Contents, Unused, Zero, Failed}
+use Rattle.tlv_walk.specs.declared.walker.Phase.TheVariants.{Between, InHeader, InContents, BeforeUnused, InEnd, Failed}
 use Rattle.tlv_walk.specs.Stack.{IsFilled, IsInIndefinite, IsInWrapper, IsNested, Within, bound_of, room_of}
 
 pub record Machine : Type 0 where
@@ -47,10 +47,10 @@ pub record IsInHeader (r : Progress) (at : ℕ) : Type 0 where
 -- by phase: an open element, a begun header and a lone 00 have octets that no event was told for
 abbrev pub IsPhase : Phase → List Frame → ℕ → ℕ → Type 0
 IsPhase Between stack offset events = events + length stack ≤ offset
-IsPhase (Header r) stack offset events = IsInHeader r offset × (events + length stack + length r.octets ≤ offset)
-IsPhase (Contents left) stack offset events = Within (bound_of stack) (offset + left) × (events + length stack + 1 ≤ offset)
-IsPhase Unused stack offset events = IsInWrapper stack × Within (bound_of stack) (offset + 1) × (events + length stack ≤ offset)
-IsPhase Zero stack offset events = IsInIndefinite stack × (events + length stack + 1 ≤ offset)
+IsPhase (InHeader r) stack offset events = IsInHeader r offset × (events + length stack + length r.octets ≤ offset)
+IsPhase (InContents left) stack offset events = Within (bound_of stack) (offset + left) × (events + length stack + 1 ≤ offset)
+IsPhase BeforeUnused stack offset events = IsInWrapper stack × Within (bound_of stack) (offset + 1) × (events + length stack ≤ offset)
+IsPhase InEnd stack offset events = IsInIndefinite stack × (events + length stack + 1 ≤ offset)
 IsPhase (Failed fault) stack offset events = events + length stack ≤ offset
 
 pub record IsMachine (w : Machine) : Type 0 where
@@ -65,10 +65,10 @@ pub record IsMachine (w : Machine) : Type 0 where
 -- an event is to come that needs no further octet
 abbrev pub IsWaitingIn : Phase → List Frame → ℕ → Type 0
 IsWaitingIn Between stack offset = IsFilled stack offset
-IsWaitingIn (Header r) stack offset = ⊥
-IsWaitingIn (Contents left) stack offset = left ≡ 0
-IsWaitingIn Unused stack offset = ⊥
-IsWaitingIn Zero stack offset = ⊥
+IsWaitingIn (InHeader r) stack offset = ⊥
+IsWaitingIn (InContents left) stack offset = left ≡ 0
+IsWaitingIn BeforeUnused stack offset = ⊥
+IsWaitingIn InEnd stack offset = ⊥
 IsWaitingIn (Failed fault) stack offset = ⊥
 
 abbrev pub IsWaiting : Machine → Type 0
@@ -77,10 +77,10 @@ IsWaiting w = IsWaitingIn w.phase w.stack w.offset
 -- nothing is waiting, and nothing was refused
 abbrev pub IsReadyIn : Phase → List Frame → ℕ → Type 0
 IsReadyIn Between stack offset = IsFilled stack offset → ⊥
-IsReadyIn (Header r) stack offset = Unit {0}
-IsReadyIn (Contents left) stack offset = left ≢ 0
-IsReadyIn Unused stack offset = Unit {0}
-IsReadyIn Zero stack offset = Unit {0}
+IsReadyIn (InHeader r) stack offset = Unit {0}
+IsReadyIn (InContents left) stack offset = left ≢ 0
+IsReadyIn BeforeUnused stack offset = Unit {0}
+IsReadyIn InEnd stack offset = Unit {0}
 IsReadyIn (Failed fault) stack offset = ⊥
 
 abbrev pub IsReady : Machine → Type 0
@@ -114,10 +114,10 @@ pub record CanBegin (w : Machine) (piece : List ℕ) : Type 0 where
 -- a header has begun
 abbrev pub IsHeader : Phase → Type 0
 IsHeader Between = ⊥
-IsHeader (Header r) = Unit {0}
-IsHeader (Contents left) = ⊥
-IsHeader Unused = ⊥
-IsHeader Zero = ⊥
+IsHeader (InHeader r) = Unit {0}
+IsHeader (InContents left) = ⊥
+IsHeader BeforeUnused = ⊥
+IsHeader InEnd = ⊥
 IsHeader (Failed fault) = ⊥
 
 -- the piece begins with octets of a header
@@ -205,14 +205,14 @@ frame_with start outer size constructed = record { end = bound_in size start Non
 abbrev pub Enters : Machine → Machine → HeaderFields → ℕ → Kind → Type 0
 Enters old new f at kind.Primitive =
     ((f.constructed || is_wrapper f.named f.class f.constructed f.number f.size) ≡ false)
-    × (new ≡ behind_header old (Contents (announced f.size)) at)
+    × (new ≡ behind_header old (InContents (announced f.size)) at)
 Enters old new f at kind.Constructed =
     (f.constructed ≡ true)
     × (new ≡ record (behind_header old Between at) { stack = frame_with at (bound_of old.stack) f.size f.constructed ∷ old.stack })
 Enters old new f at kind.Wrapper =
     (f.constructed ≡ false)
     × (is_wrapper f.named f.class f.constructed f.number f.size ≡ true)
-    × (new ≡ record (behind_header old (if eqb f.number 3 then Unused else Between) at) {
+    × (new ≡ record (behind_header old (if eqb f.number 3 then BeforeUnused else Between) at) {
       stack = frame_with at (bound_of old.stack) f.size f.constructed ∷ old.stack;
       wrappers = next_wrapper old.framing.inside old.wrappers f.offset;
     })

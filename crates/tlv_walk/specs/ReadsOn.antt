@@ -3,7 +3,7 @@ use Rattle.std.specs.Prelude.{◌≡◌, ◌⊎◌, ℕ, true, List, [], ◌∷�
 use Rattle.tlv_head.specs.Header.{Heading, octets_of}
 use Rattle.tlv_head.specs.Progress.{Progress}
 use Rattle.tlv_walk.specs.declared.event.Step.{Step}
-use Rattle.tlv_walk.specs.declared.walker.Phase.TheVariants.{Between, Header}
+use Rattle.tlv_walk.specs.declared.walker.Phase.TheVariants.{Between, InHeader}
 use Rattle.tlv_walk.specs.Events.{Told}
 use Rattle.tlv_walk.specs.Inside.{is_among}
 use Rattle.tlv_walk.specs.Machine.{Machine}
@@ -18,7 +18,7 @@ pub record BeginsAt (w : Machine) (r : Progress) : Type 0 where
 
 -- the walker w becomes u where its reader r is taken out of it, or where it begins a header with r
 abbrev pub HandsOver : Machine → Machine → Progress → Type 0
-HandsOver w u r = ((w.phase ≡ Header r) × (u ≡ record w { phase = Between })) ⊎ (BeginsAt w r × (u ≡ record w { has_element = true }))
+HandsOver w u r = ((w.phase ≡ InHeader r) × (u ≡ record w { phase = Between })) ⊎ (BeginsAt w r × (u ≡ record w { has_element = true }))
 
 -- the reader's octets and these make the header
 pub record Makes (r : Progress) (t : List ℕ) (h : Heading) : Type 0 where

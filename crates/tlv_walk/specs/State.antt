@@ -21,15 +21,15 @@ pub record Layer : Type 0 where
 
 -- what is open behind the whole elements of the innermost open element
 pub data Tail : Type 0 where
-  Nothing : Tail
+  Between : Tail
   -- contents octets so far, which may be all: the end is then still to be told
-  Contents : (head : Heading) (contents : List ℕ) → Tail
+  InContents : (head : Heading) (contents : List ℕ) → Tail
   -- a wrapping BIT STRING without its first contents octet
-  Lead : (head : Heading) → Tail
+  BeforeUnused : (head : Heading) → Tail
   -- the front of a header
-  Front : (octets : List ℕ) → Tail
+  InHeader : (octets : List ℕ) → Tail
   -- the first of the end-of-contents octets
-  Lone : Tail
+  InEnd : Tail
 
 -- the open elements that hold others, innermost first; the whole elements in the innermost of them; and
 -- what is open behind those
@@ -74,20 +74,20 @@ frames_of w (l ∷ ls) = frame_of (after (place_in w ls) (length (spell l.before
 
 -- the frames of a state: a wrapping BIT STRING has one before its first contents octet
 abbrev pub stack_of : Framing → List Layer → Place → Tail → List Frame
-stack_of w ls p Nothing = frames_of w ls
-stack_of w ls p (Contents h c) = frames_of w ls
-stack_of w ls p (Lead h) = frame_of p h ∷ frames_of w ls
-stack_of w ls p (Front octets) = frames_of w ls
-stack_of w ls p Lone = frames_of w ls
+stack_of w ls p Between = frames_of w ls
+stack_of w ls p (InContents h c) = frames_of w ls
+stack_of w ls p (BeforeUnused h) = frame_of p h ∷ frames_of w ls
+stack_of w ls p (InHeader octets) = frames_of w ls
+stack_of w ls p InEnd = frames_of w ls
 
 -- the phase of a walker is what is open there
 abbrev pub IsPhaseOf : Phase → Tail → Place → Type 0
-IsPhaseOf phase.Between Nothing p = Unit {0}
-IsPhaseOf (phase.Header r) (Front octets) p =
+IsPhaseOf phase.Between Between p = Unit {0}
+IsPhaseOf (phase.InHeader r) (InHeader octets) p =
     (r.octets ≡ octets) × (r.offset ≡ p.at) × (r.named ≡ is_among p.at p.inside) × IsBegun p octets
-IsPhaseOf (phase.Contents left) (Contents h c) p = IsContents p h c left
-IsPhaseOf phase.Unused (Lead h) p = IsAwaiting p h
-IsPhaseOf phase.Zero Lone p = IsZero p
+IsPhaseOf (phase.InContents left) (InContents h c) p = IsContents p h c left
+IsPhaseOf phase.BeforeUnused (BeforeUnused h) p = IsAwaiting p h
+IsPhaseOf phase.InEnd InEnd p = IsZero p
 IsPhaseOf f t p = ⊥
 
 -- the octets
@@ -96,11 +96,11 @@ spell_layers [] = []
 spell_layers (l ∷ ls) = spell_layers ls ++ (spell l.before ++ opening l.head)
 
 abbrev pub spell_tail : Tail → List ℕ
-spell_tail Nothing = []
-spell_tail (Contents h c) = octets_of h ++ c
-spell_tail (Lead h) = octets_of h
-spell_tail (Front octets) = octets
-spell_tail Lone = 0 ∷ []
+spell_tail Between = []
+spell_tail (InContents h c) = octets_of h ++ c
+spell_tail (BeforeUnused h) = octets_of h
+spell_tail (InHeader octets) = octets
+spell_tail InEnd = 0 ∷ []
 
 abbrev pub spell_state : State → List ℕ
 spell_state s = spell_layers s.layers ++ (spell s.here ++ spell_tail s.tail)
@@ -111,11 +111,11 @@ events_layers [] = []
 events_layers (l ∷ ls) = events_layers ls ++ (events l.before ++ opens l.head)
 
 abbrev pub events_tail : Tail → List Told
-events_tail Nothing = []
-events_tail (Contents h c) = Begin h ∷ Bytes c ∷ []
-events_tail (Lead h) = Enter h ∷ []
-events_tail (Front octets) = []
-events_tail Lone = []
+events_tail Between = []
+events_tail (InContents h c) = Begin h ∷ Bytes c ∷ []
+events_tail (BeforeUnused h) = Enter h ∷ []
+events_tail (InHeader octets) = []
+events_tail InEnd = []
 
 abbrev pub events_state : State → List Told
 events_state s = events_layers s.layers ++ (events s.here ++ events_tail s.tail)
@@ -126,11 +126,11 @@ wrappers_layers [] = []
 wrappers_layers (l ∷ ls) = wrappers_layers ls ++ (wrappers l.before ++ wrapper_at l.head)
 
 abbrev pub wrappers_tail : Tail → List ℕ
-wrappers_tail Nothing = []
-wrappers_tail (Contents h c) = []
-wrappers_tail (Lead h) = wrapper_at h
-wrappers_tail (Front octets) = []
-wrappers_tail Lone = []
+wrappers_tail Between = []
+wrappers_tail (InContents h c) = []
+wrappers_tail (BeforeUnused h) = wrapper_at h
+wrappers_tail (InHeader octets) = []
+wrappers_tail InEnd = []
 
 abbrev pub wrappers_state : State → List ℕ
 wrappers_state s = wrappers_layers s.layers ++ (wrappers s.here ++ wrappers_tail s.tail)
@@ -141,11 +141,11 @@ begins_among [] here = has_element here
 begins_among (l ∷ ls) here = true
 
 abbrev pub begins_element : List Layer → Forest → Tail → Bool
-begins_element layers here Nothing = begins_among layers here
-begins_element layers here (Contents h c) = true
-begins_element layers here (Lead h) = true
-begins_element layers here (Front octets) = true
-begins_element layers here Lone = true
+begins_element layers here Between = begins_among layers here
+begins_element layers here (InContents h c) = true
+begins_element layers here (BeforeUnused h) = true
+begins_element layers here (InHeader octets) = true
+begins_element layers here InEnd = true
 
 -- the walker has this state: octets so far, frames, phase and counts are the state's
 pub record HasState (w : Machine) (b : List ℕ) (told : List Told) (s : State) : Type 0 where
@@ -174,10 +174,10 @@ endings_at at (f ∷ fs) = if is_end f.end at then ending_of f ∷ endings_at at
 -- the events that need no further octet
 abbrev pub waiting_in : Phase → List Frame → ℕ → List Told
 waiting_in phase.Between stack at = endings_at at stack
-waiting_in (phase.Header r) stack at = []
-waiting_in (phase.Contents left) stack at = if eqb left 0 then End ∷ endings_at at stack else []
-waiting_in phase.Unused stack at = []
-waiting_in phase.Zero stack at = []
+waiting_in (phase.InHeader r) stack at = []
+waiting_in (phase.InContents left) stack at = if eqb left 0 then End ∷ endings_at at stack else []
+waiting_in phase.BeforeUnused stack at = []
+waiting_in phase.InEnd stack at = []
 waiting_in (phase.Failed fault) stack at = []
 
 abbrev pub waiting_of : Machine → List Told

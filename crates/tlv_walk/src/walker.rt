@@ -17,13 +17,13 @@ enum Phase {
     /// A new element, or the end of the innermost one.
     Between,
     /// An unfinished header.
-    Header(HeadReader),
+    InHeader(HeadReader),
     /// A primitive's contents, of which so many octets are to follow.
-    Contents(u64),
+    InContents(u64),
     /// A wrapping BIT STRING, whose first contents octet is to follow.
-    Unused,
+    BeforeUnused,
     /// The end of an indefinite element, whose first `00` has come.
-    Zero,
+    InEnd,
     /// Nothing: an octet was refused.
     Failed(Fault),
 }
@@ -57,7 +57,7 @@ impl Model for Walker {
 }
 
 impl Walker {
-    ghost use Rattle.std.specs.Prelude.{◌≢◌, ◌∷◌, ◌++◌, List, [], Some, slice_get, true};
+    ghost use Rattle.std.specs.Prelude.{◌≢◌, ◌∷◌, ◌++◌, List, [], Some, false, slice_get, true};
     ghost use Rattle.tlv_head.specs.Fields.{Suits, heading_with};
     ghost use Rattle.tlv_head.specs.Header.{announced, holds, octets_of};
     ghost use Rattle.tlv_walk.specs.declared.walker.Phase.TheVariants as phases;
@@ -131,7 +131,7 @@ impl Walker {
 
     /// Whether an event is still to come that needs no further octet.
     pub fn waiting(&self) -> bool
-        ensures { IsTrue result ↔ (NothingWaits self.now → ⊥) }
+        ensures { (result ≡ false) ↔ NothingWaits self.now }
     {
         self.is_waiting()
     }
@@ -141,7 +141,7 @@ impl Walker {
         ensures { IsTrue result ↔ IsWaiting self.now }
     {
         match &self.phase {
-            Phase::Contents(left) => *left == 0,
+            Phase::InContents(left) => *left == 0,
             Phase::Between => self.stack.is_filled(self.offset),
             _ => false,
         }
@@ -208,7 +208,7 @@ impl Walker {
         ensures tells { TellsStep self.old self.new piece.old.now piece.new.now result }
         ensures again { (f : FaultOf) → self.old.phase ≡ phases.Failed f → (result ≡ Step.Fault f) × (self.new ≡ self.old) × (piece.new.now ≡ piece.old.now) }
     {
-        if let Phase::Contents(left) = self.phase {
+        if let Phase::InContents(left) = self.phase {
             if left == 0 {
                 return Step::Event(self.end_primitive());
             }
@@ -223,10 +223,10 @@ impl Walker {
             }
             return self.between(piece);
         }
-        if matches!(self.phase, Phase::Unused) {
+        if matches!(self.phase, Phase::BeforeUnused) {
             return self.unused_octet(piece);
         }
-        if matches!(self.phase, Phase::Zero) {
+        if matches!(self.phase, Phase::InEnd) {
             return self.second_zero(piece);
         }
         if let Phase::Failed(fault) = &self.phase {
@@ -246,7 +246,7 @@ impl Walker {
         ensures steps { StepsAtOnce self.old self.new piece.old.now piece.new.now result }
         ensures tells { TellsAtOnce self.old self.new piece.old.now piece.new.now result }
     {
-        if let Phase::Contents(left) = self.phase {
+        if let Phase::InContents(left) = self.phase {
             if left == 0 {
                 return Some(self.end_primitive());
             }

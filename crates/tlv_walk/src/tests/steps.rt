@@ -127,6 +127,29 @@ fn expect_fault(rt: &impl Abort, walker: &mut Walker, octets: &[u8], ending: End
     assert_eq!(rt; finish(rt, walker), ending);
 }
 
+/// Behind a fault the walker stands where it stood before the octet that is refused: here that of the third header's length.
+#[test]
+fn what_is_open_stays_so_behind_a_fault(rt: HostRuntime) {
+    let mut walker = Walker::new(&Framing::plain());
+    let mut piece: &[u8] = b"\x30\x80\x30\x80\x04\x80";
+    for _ in 0..2 {
+        assert!(rt;
+            matches!(
+                step(&rt, &mut walker, &mut piece),
+                Step::Event(Event::Open(_))
+            )
+        );
+    }
+    assert!(rt; matches!(step(&rt, &mut walker, &mut piece), Step::Fault(_)));
+    expect_state(&rt, &walker, 5, 2, 2, false);
+    assert_eq!(rt; piece, b"\x80".as_slice());
+    assert_eq!(rt;
+        finish(&rt, &walker),
+        fault(FaultCode::IndefinitePrimitive, 5)
+    );
+    assert_eq!(rt; walker.unused(), None);
+}
+
 /// After a fault each step answers the same and takes nothing.
 #[test]
 fn a_fault_is_answered_again(rt: HostRuntime) {

@@ -12,7 +12,7 @@ impl Walker {
     /// Takes contents of a primitive.
     #[inline(always)]
     pub(super) fn contents<'a>(&mut self, left: u64, piece: &mut &'a [u8]) -> Event<'a>
-        requires phase { self.old.phase ≡ phases.Contents left }
+        requires phase { self.old.phase ≡ phases.InContents left }
         requires some { (0 < left) × (piece.old.now ≢ []) }
         requires limit { self.old.offset + length piece.old.now ≤ 2 ^ 40 }
         ensures one { TellsOne self.old self.new piece.old.now piece.new.now }
@@ -24,7 +24,7 @@ impl Walker {
         let (front, rest) = octets.split_at(count as usize);
         *piece = rest;
         self.offset += count;
-        self.phase = Phase::Contents(left - count);
+        self.phase = Phase::InContents(left - count);
         self.events += 1;
         Event::Bytes(front)
     }
@@ -32,7 +32,7 @@ impl Walker {
     /// The end of a primitive whose contents have all come.
     #[inline(always)]
     pub(super) fn end_primitive<'a>(&mut self) -> Event<'a>
-        requires { self.old.phase ≡ phases.Contents 0 }
+        requires { self.old.phase ≡ phases.InContents 0 }
         ensures tells { Tells self.old self.new self.old.offset }
         ensures event { Continues self.old self.new [] (told_of result ∷ []) }
         ensures octets { HasOctets result }
@@ -64,7 +64,7 @@ impl Walker {
 
     /// Takes the first contents octet of a wrapping BIT STRING.
     pub(super) fn unused_octet<'a>(&mut self, piece: &mut &'a [u8]) -> Step<'a>
-        requires phase { self.old.phase ≡ phases.Unused }
+        requires phase { self.old.phase ≡ phases.BeforeUnused }
         requires limit { self.old.offset + length piece.old.now ≤ 2 ^ 40 }
         ensures steps { Steps self.old self.new piece.old.now piece.new.now result }
         ensures tells { TellsStep self.old self.new piece.old.now piece.new.now result }

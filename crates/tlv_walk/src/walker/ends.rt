@@ -32,7 +32,7 @@ impl Walker {
         if indefinite {
             *piece = rest;
             self.offset += 1;
-            self.phase = Phase::Zero;
+            self.phase = Phase::InEnd;
             return self.second_zero(piece);
         }
         if self.framing.padding && self.stack.is_empty() {
@@ -88,7 +88,7 @@ impl Walker {
 
     /// Takes the second of the end-of-contents octets.
     pub(super) fn second_zero<'a>(&mut self, piece: &mut &'a [u8]) -> Step<'a>
-        requires phase { self.old.phase ≡ phases.Zero }
+        requires phase { self.old.phase ≡ phases.InEnd }
         requires limit { self.old.offset + length piece.old.now ≤ 2 ^ 40 }
         ensures steps { Steps self.old self.new piece.old.now piece.new.now result }
         ensures tells { TellsStep self.old self.new piece.old.now piece.new.now result }

@@ -82,8 +82,8 @@ impl Walker {
         ensures steps { Steps self.old self.new piece.old.now piece.new.now result }
         ensures tells { TellsStep self.old self.new piece.old.now piece.new.now result }
     {
-        if matches!(self.phase, Phase::Header(_)) {
-            let Phase::Header(reader) = replace(&mut self.phase, Phase::Between) else {
+        if matches!(self.phase, Phase::InHeader(_)) {
+            let Phase::InHeader(reader) = replace(&mut self.phase, Phase::Between) else {
                 unreachable!();
             };
             return self.read_on(reader, piece);
@@ -124,7 +124,7 @@ impl Walker {
             }
         }
         self.offset = offset;
-        self.phase = Phase::Header(reader);
+        self.phase = Phase::InHeader(reader);
         Step::NeedMore
     }
 
@@ -160,7 +160,7 @@ impl Walker {
             Size::Indefinite => (None, 0),
         };
         if !fields.constructed && !fields.wraps() {
-            self.phase = Phase::Contents(length);
+            self.phase = Phase::InContents(length);
             return Kind::Primitive;
         }
         let bound = end.or(self.stack.bound());
@@ -174,7 +174,7 @@ impl Walker {
         }
         self.found_wrapper(fields.offset);
         if fields.number == 3 {
-            self.phase = Phase::Unused;
+            self.phase = Phase::BeforeUnused;
         }
         Kind::Wrapper
     }
