@@ -4,10 +4,9 @@ use Rattle.std.proofs.lemmas.Bool.{true≢false}
 use Rattle.tlv_head.specs.Header.{AllowsSize, Heading, octets_of}
 use Rattle.tlv_walk.specs.declared.follow.Go.TheVariants as go
 use Rattle.tlv_walk.specs.Events.{Told, Begin, Bytes, End, Enter, closes, events, opens}
-use Rattle.tlv_walk.specs.Follow.{Following, followed, stay}
+use Rattle.tlv_walk.specs.Follow.{Following, followed, goes_of, stay}
 use Rattle.tlv_walk.specs.Forest.{Forest, Stop, Fill, Whole, Closed, Partial, Entered, Awaiting, Begun, Zero, end_octets, extent, has_element, is_whole, lead, opening}
 use Rattle.tlv_walk.specs.Place.{IsOpen, Place, after, inside_of}
-use Rattle.tlv_walk.specs.Turns.{goes_of}
 use Rattle.tlv_walk.proofs.Followed.{followed-enough, followed-one}
 use Rattle.tlv_cut.specs.declared.extractor.Stand.TheVariants as stand
 use Rattle.tlv_cut.specs.Cut.{cut_of, element_at, first_of, kept}

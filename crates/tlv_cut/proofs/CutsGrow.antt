@@ -6,11 +6,10 @@ use Rattle.tlv_walk.specs.declared.follow.Go.{Go}
 use Rattle.tlv_walk.specs.declared.follow.Go.TheVariants as go
 use Rattle.tlv_walk.specs.declared.framing.Framing.{Framing}
 use Rattle.tlv_walk.specs.Events.{AreEqualJoined, Told, Open, Begin, Bytes, End, Close, Enter, Unused, Leave, Pad, events}
-use Rattle.tlv_walk.specs.Follow.{Following, followed, if_on}
+use Rattle.tlv_walk.specs.Follow.{Following, followed, goes_of, if_on}
 use Rattle.tlv_walk.specs.Forest.{Forest}
 use Rattle.tlv_walk.specs.Place.{top}
 use Rattle.tlv_walk.specs.Reading.{IsPrefixOf, IsReading}
-use Rattle.tlv_walk.specs.Turns.{goes_of}
 use Rattle.tlv_walk.proofs.Followed.{each_octet-goes_on, each_octet-joins, followed-alike, followed-append, followed-enough, followed-front}
 use Rattle.tlv_walk.proofs.Prefixes.{events-prefix}
 use Rattle.tlv_cut.specs.declared.extractor.Stand.{Stand}

@@ -4,10 +4,9 @@ use Rattle.tlv_head.specs.Header.{Heading, IsHeading, octets_of}
 use Rattle.tlv_walk.specs.declared.follow.Go.TheVariants.{Enough}
 use Rattle.tlv_walk.specs.declared.framing.Framing.{Framing}
 use Rattle.tlv_walk.specs.Events.{Told, Open, Begin, Bytes, End, Close, Enter, Unused, Leave, Pad, events}
-use Rattle.tlv_walk.specs.Follow.{followed}
+use Rattle.tlv_walk.specs.Follow.{followed, goes_of}
 use Rattle.tlv_walk.specs.Forest.{Forest, end_octets}
 use Rattle.tlv_walk.specs.Reading.{IsPrefixOf, IsReading}
-use Rattle.tlv_walk.specs.Turns.{goes_of}
 use Rattle.tlv_cut.specs.Cut.{cut, has_element_at, has_whole_element_at}
 use Rattle.tlv_cut.specs.Extracted.{Extracting, extracted, has_begun, waiting}
 

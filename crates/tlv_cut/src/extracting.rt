@@ -1,7 +1,6 @@
 //! `extract`, over a source and a drain.
-ghost use Rattle.std.specs.Prelude.{◌≡◌, IsErrOf, OnOk};
-ghost use Rattle.tlv_walk.specs.Device.{counted};
-ghost use Rattle.tlv_cut.specs.Extracts.{Extracts};
+ghost use Rattle.tlv_walk.specs.Job.{Runs};
+ghost use Rattle.tlv_cut.specs.Extracts.{cutting};
 
 use crate::Extract;
 use tlv_walk::{DeviceFault, Drain, Ending, Framing, Source, drive};
@@ -32,11 +31,8 @@ pub fn extract<S: Source, D: Drain>(
     contents_only: bool,
     framing: &Framing,
 ) -> Result<Cut, DeviceFault>
-    ensures extracts { Extracts framing.now offset contents_only (D.taken drain.old) (D.taken drain.new) (S.left source.old) (S.left source.new) (S.reads source.old) (S.reads source.new) (S.last source.new) result }
-    ensures ok { OnOk result ((S.failures source.new ≡ S.failures source.old) × (D.failures drain.new ≡ D.failures drain.old)) }
-    ensures read { IsErrOf result DeviceFault.ReadFailed → (S.failures source.new ≡ counted (S.failures source.old)) × (D.failures drain.new ≡ D.failures drain.old) }
-    ensures write { IsErrOf result DeviceFault.WriteFailed → (S.failures source.new ≡ S.failures source.old) × (D.failures drain.new ≡ counted (D.failures drain.old)) }
-    ensures long { IsErrOf result DeviceFault.InputTooLong → (S.failures source.new ≡ S.failures source.old) × (D.failures drain.new ≡ D.failures drain.old) }
+    ensures { Runs (cutting framing.now offset contents_only) (S.told source.old) (S.told source.new)
+        (D.told drain.old) (D.told drain.new) result }
 {
     let mut follower = Extract::new(offset, contents_only);
     let run = drive(source, &mut follower, drain, framing)?;

@@ -1,10 +1,7 @@
 //! The follower that writes one element, or its contents.
-ghost use Rattle.std.specs.Prelude.{◌≡◌, IfOk, OnErr, OnOk};
-ghost use Rattle.std.specs.Io.KnownBytes.{Appends};
-ghost use Rattle.tlv_walk.specs.Device.{failures_after};
-ghost use Rattle.tlv_walk.specs.Follow.{each_octet};
-ghost use Rattle.tlv_walk.specs.Out.{lender_of, put_to};
-ghost use Rattle.tlv_walk.specs.Prefix.{HasPrefix};
+ghost use Rattle.std.specs.Prelude.{◌≡◌, OnOk};
+ghost use Rattle.tlv_walk.specs.Follow.{IsFollowed, each_octet};
+ghost use Rattle.tlv_walk.specs.Out.{Puts};
 ghost use Rattle.tlv_cut.specs.Extracted.{begun, ended, has_begun, one_passed, waiting};
 
 use std::marker::Model;
@@ -61,11 +58,8 @@ impl Extract {
 
     /// An element begins.
     fn begin<D: Drain>(&mut self, header: &Header, out: &mut Out<'_, D>) -> Result<(), WriteFault>
-        ensures same_reference { (lender_of out.new).ghost_name ≡ (lender_of out.old).ghost_name }
         ensures state { OnOk result (self.new ≡ (begun self.old.stand self.old header.now).state) }
-        ensures ok { OnOk result (Appends (put_to D.taken out.old) (put_to D.taken out.new) (begun self.old.stand self.old header.now).put) }
-        ensures err { OnErr result (HasPrefix (put_to D.taken out.old) (D.taken (lender_of out.new).now) (begun self.old.stand self.old header.now).put) }
-        ensures failed { D.failures (lender_of out.new).now ≡ failures_after result (D.failures (lender_of out.old).now) }
+        ensures puts { Puts D.told out.old out.new (begun self.old.stand self.old header.now).put result }
     {
         match self.stand {
             Stand::Before if header.offset == self.offset => {
@@ -85,10 +79,7 @@ impl Extract {
 
     /// Contents octets come.
     fn pass<D: Drain>(&self, octets: &[u8], out: &mut Out<'_, D>) -> Result<(), WriteFault>
-        ensures same_reference { (lender_of out.new).ghost_name ≡ (lender_of out.old).ghost_name }
-        ensures ok { OnOk result (Appends (put_to D.taken out.old) (put_to D.taken out.new) (each_octet one_passed self.now octets.now).put) }
-        ensures err { OnErr result (HasPrefix (put_to D.taken out.old) (D.taken (lender_of out.new).now) (each_octet one_passed self.now octets.now).put) }
-        ensures failed { D.failures (lender_of out.new).now ≡ failures_after result (D.failures (lender_of out.old).now) }
+        ensures { Puts D.told out.old out.new (each_octet one_passed self.now octets.now).put result }
     {
         match self.stand {
             Stand::Inside(_) => out.put(octets),
@@ -98,11 +89,8 @@ impl Extract {
 
     /// An element ends, with these end-of-contents octets.
     fn end<D: Drain>(&mut self, octets: &[u8], out: &mut Out<'_, D>) -> Result<Go, WriteFault>
-        ensures same_reference { (lender_of out.new).ghost_name ≡ (lender_of out.old).ghost_name }
-        ensures state { IfOk result (λ go. (self.new ≡ (ended self.old.stand self.old octets.now).state) × (go ≡ (ended self.old.stand self.old octets.now).goes)) }
-        ensures ok { OnOk result (Appends (put_to D.taken out.old) (put_to D.taken out.new) (ended self.old.stand self.old octets.now).put) }
-        ensures err { OnErr result (HasPrefix (put_to D.taken out.old) (D.taken (lender_of out.new).now) (ended self.old.stand self.old octets.now).put) }
-        ensures failed { D.failures (lender_of out.new).now ≡ failures_after result (D.failures (lender_of out.old).now) }
+        ensures state { IsFollowed (ended self.old.stand self.old octets.now) self.new result }
+        ensures puts { Puts D.told out.old out.new (ended self.old.stand self.old octets.now).put result }
     {
         match self.stand {
             Stand::Inside(0) => {

@@ -1,7 +1,6 @@
 //! `indef`, over a source and a drain.
-ghost use Rattle.std.specs.Prelude.{◌≡◌, IsErrOf, OnOk};
-ghost use Rattle.tlv_walk.specs.Device.{counted};
-ghost use Rattle.tlv_cut.specs.IndefRuns.{IndefRuns, unnamed};
+ghost use Rattle.tlv_walk.specs.Job.{Runs};
+ghost use Rattle.tlv_cut.specs.IndefRuns.{respelling, unnamed};
 
 use crate::Indef;
 use tlv_walk::{DeviceFault, Drain, Ending, Framing, Inside, Source, drive};
@@ -21,11 +20,8 @@ pub fn indef<S: Source, D: Drain>(
     drain: &mut D,
     padding: bool,
 ) -> Result<Ending, DeviceFault>
-    ensures runs { IndefRuns (unnamed padding) (D.taken drain.old) (D.taken drain.new) (S.left source.old) (S.left source.new) (S.reads source.old) (S.reads source.new) (S.last source.new) result }
-    ensures ok { OnOk result ((S.failures source.new ≡ S.failures source.old) × (D.failures drain.new ≡ D.failures drain.old)) }
-    ensures read { IsErrOf result DeviceFault.ReadFailed → (S.failures source.new ≡ counted (S.failures source.old)) × (D.failures drain.new ≡ D.failures drain.old) }
-    ensures write { IsErrOf result DeviceFault.WriteFailed → (S.failures source.new ≡ S.failures source.old) × (D.failures drain.new ≡ counted (D.failures drain.old)) }
-    ensures long { IsErrOf result DeviceFault.InputTooLong → (S.failures source.new ≡ S.failures source.old) × (D.failures drain.new ≡ D.failures drain.old) }
+    ensures { Runs (respelling (unnamed padding)) (S.told source.old) (S.told source.new)
+        (D.told drain.old) (D.told drain.new) result }
 {
     let framing = Framing {
         inside: Inside::none(),

@@ -1,7 +1,6 @@
 //! `dump`, over a source and a drain.
-ghost use Rattle.std.specs.Prelude.{◌≡◌, IsErrOf, OnOk};
-ghost use Rattle.tlv_walk.specs.Device.{counted};
-ghost use Rattle.tlv_show.specs.Dumps.{Dumps};
+ghost use Rattle.tlv_walk.specs.Job.{Runs};
+ghost use Rattle.tlv_show.specs.Dumps.{dumping};
 
 use crate::{Dump, Options};
 use tlv_value::Names;
@@ -29,11 +28,8 @@ pub fn dump<S: Source, D: Drain>(
     options: &Options,
     names: &Names,
 ) -> Result<Outcome, DeviceFault>
-    ensures dumps { Dumps options.now names.now (D.taken drain.old) (D.taken drain.new) (S.left source.old) (S.left source.new) (S.reads source.old) (S.reads source.new) (S.last source.new) result }
-    ensures ok { OnOk result ((S.failures source.new ≡ S.failures source.old) × (D.failures drain.new ≡ D.failures drain.old)) }
-    ensures read { IsErrOf result DeviceFault.ReadFailed → (S.failures source.new ≡ counted (S.failures source.old)) × (D.failures drain.new ≡ D.failures drain.old) }
-    ensures write { IsErrOf result DeviceFault.WriteFailed → (S.failures source.new ≡ S.failures source.old) × (D.failures drain.new ≡ counted (D.failures drain.old)) }
-    ensures long { IsErrOf result DeviceFault.InputTooLong → (S.failures source.new ≡ S.failures source.old) × (D.failures drain.new ≡ D.failures drain.old) }
+    ensures { Runs (dumping options.now names.now) (S.told source.old) (S.told source.new)
+        (D.told drain.old) (D.told drain.new) result }
 {
     let mut follower = Dump::new(options, names);
     let run = drive(source, &mut follower, drain, &options.framing)?;

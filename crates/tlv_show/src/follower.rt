@@ -1,10 +1,7 @@
 //! The follower that writes a dump.
-ghost use Rattle.std.specs.Prelude.{◌≡◌, ◌≤◌, ◌-◌, ◌^◌, OnErr, OnOk, length};
-ghost use Rattle.std.specs.Io.KnownBytes.{Appends};
-ghost use Rattle.tlv_walk.specs.Device.{failures_after};
+ghost use Rattle.std.specs.Prelude.{◌≡◌, ◌≤◌, ◌-◌, ◌^◌, OnOk, length};
 ghost use Rattle.tlv_walk.specs.Follow.{each_octet};
-ghost use Rattle.tlv_walk.specs.Out.{lender_of, put_to};
-ghost use Rattle.tlv_walk.specs.Prefix.{HasPrefix};
+ghost use Rattle.tlv_walk.specs.Out.{Puts};
 ghost use Rattle.tlv_show.specs.Dumped.{
   dumped_begin,
   dumped_close,
@@ -99,11 +96,8 @@ impl<'n> Dump<'n> {
         out: &mut Out<'_, D>,
     ) -> Result<(), WriteFault>
         requires { length word.now ≤ 16 }
-        ensures same_reference { (lender_of out.new).ghost_name ≡ (lender_of out.old).ghost_name }
         ensures state { OnOk result (self.new ≡ (dumped_open self.old header.now word.now).state) }
-        ensures ok { OnOk result (Appends (put_to D.taken out.old) (put_to D.taken out.new) (dumped_open self.old header.now word.now).put) }
-        ensures err { OnErr result (HasPrefix (put_to D.taken out.old) (D.taken (lender_of out.new).now) (dumped_open self.old header.now word.now).put) }
-        ensures failed { D.failures (lender_of out.new).now ≡ failures_after result (D.failures (lender_of out.old).now) }
+        ensures puts { Puts D.told out.old out.new (dumped_open self.old header.now word.now).put result }
     {
         write_opening(&mut self.line, self.layout, header, word);
         out.put(self.line.as_slice())?;
@@ -114,11 +108,8 @@ impl<'n> Dump<'n> {
 
     /// An element that holds others ends: `at` is where its end-of-contents octets stand.
     fn close<D: Drain>(&mut self, at: Option<u64>, out: &mut Out<'_, D>) -> Result<(), WriteFault>
-        ensures same_reference { (lender_of out.new).ghost_name ≡ (lender_of out.old).ghost_name }
         ensures state { OnOk result (self.new ≡ (dumped_close self.old at).state) }
-        ensures ok { OnOk result (Appends (put_to D.taken out.old) (put_to D.taken out.new) (dumped_close self.old at).put) }
-        ensures err { OnErr result (HasPrefix (put_to D.taken out.old) (D.taken (lender_of out.new).now) (dumped_close self.old at).put) }
-        ensures failed { D.failures (lender_of out.new).now ≡ failures_after result (D.failures (lender_of out.old).now) }
+        ensures puts { Puts D.told out.old out.new (dumped_close self.old at).put result }
     {
         self.layout.level = self.layout.level.saturating_sub(1);
         if let Some(at) = at {
@@ -131,11 +122,8 @@ impl<'n> Dump<'n> {
     /// A primitive begins.
     #[inline(always)]
     fn begin<D: Drain>(&mut self, header: &Header, out: &mut Out<'_, D>) -> Result<(), WriteFault>
-        ensures same_reference { (lender_of out.new).ghost_name ≡ (lender_of out.old).ghost_name }
         ensures state { OnOk result (self.new ≡ (dumped_begin self.old header.now).state) }
-        ensures ok { OnOk result (Appends (put_to D.taken out.old) (put_to D.taken out.new) (dumped_begin self.old header.now).put) }
-        ensures err { OnErr result (HasPrefix (put_to D.taken out.old) (D.taken (lender_of out.new).now) (dumped_begin self.old header.now).put) }
-        ensures failed { D.failures (lender_of out.new).now ≡ failures_after result (D.failures (lender_of out.old).now) }
+        ensures puts { Puts D.told out.old out.new (dumped_begin self.old header.now).put result }
     {
         self.enter(header);
         self.is_open = true;
@@ -144,11 +132,8 @@ impl<'n> Dump<'n> {
 
     /// Contents of a primitive go on.
     fn bytes<D: Drain>(&mut self, octets: &[u8], out: &mut Out<'_, D>) -> Result<(), WriteFault>
-        ensures same_reference { (lender_of out.new).ghost_name ≡ (lender_of out.old).ghost_name }
         ensures state { OnOk result (self.new ≡ (each_octet one_dumped self.old octets.now).state) }
-        ensures ok { OnOk result (Appends (put_to D.taken out.old) (put_to D.taken out.new) (each_octet one_dumped self.old octets.now).put) }
-        ensures err { OnErr result (HasPrefix (put_to D.taken out.old) (D.taken (lender_of out.new).now) (each_octet one_dumped self.old octets.now).put) }
-        ensures failed { D.failures (lender_of out.new).now ≡ failures_after result (D.failures (lender_of out.old).now) }
+        ensures puts { Puts D.told out.old out.new (each_octet one_dumped self.old octets.now).put result }
     {
         self.offset = self.offset.saturating_add(octets.len() as u64);
         put_bytes(self.is_open, &mut self.value, octets, out)
@@ -156,11 +141,8 @@ impl<'n> Dump<'n> {
 
     /// A primitive ends.
     fn end<D: Drain>(&mut self, out: &mut Out<'_, D>) -> Result<(), WriteFault>
-        ensures same_reference { (lender_of out.new).ghost_name ≡ (lender_of out.old).ghost_name }
         ensures state { self.new ≡ (dumped_end self.old).state }
-        ensures ok { OnOk result (Appends (put_to D.taken out.old) (put_to D.taken out.new) (dumped_end self.old).put) }
-        ensures err { OnErr result (HasPrefix (put_to D.taken out.old) (D.taken (lender_of out.new).now) (dumped_end self.old).put) }
-        ensures failed { D.failures (lender_of out.new).now ≡ failures_after result (D.failures (lender_of out.old).now) }
+        ensures puts { Puts D.told out.old out.new (dumped_end self.old).put result }
     {
         let put = put_end(self.is_open, &mut self.value, self.names, out);
         self.is_open = false;
@@ -169,11 +151,8 @@ impl<'n> Dump<'n> {
 
     /// Padding goes on. A run of it has one line, which comes with its first octet.
     fn pad<D: Drain>(&mut self, octets: &[u8], out: &mut Out<'_, D>) -> Result<(), WriteFault>
-        ensures same_reference { (lender_of out.new).ghost_name ≡ (lender_of out.old).ghost_name }
         ensures state { OnOk result (self.new ≡ (each_octet one_padded self.old octets.now).state) }
-        ensures ok { OnOk result (Appends (put_to D.taken out.old) (put_to D.taken out.new) (each_octet one_padded self.old octets.now).put) }
-        ensures err { OnErr result (HasPrefix (put_to D.taken out.old) (D.taken (lender_of out.new).now) (each_octet one_padded self.old octets.now).put) }
-        ensures failed { D.failures (lender_of out.new).now ≡ failures_after result (D.failures (lender_of out.old).now) }
+        ensures puts { Puts D.told out.old out.new (each_octet one_padded self.old octets.now).put result }
     {
         if octets.is_empty() {
             return Ok(());
@@ -212,11 +191,8 @@ fn put_begin<D: Drain>(
     layout: Layout,
     out: &mut Out<'_, D>,
 ) -> Result<(), WriteFault>
-    ensures same_reference { (lender_of out.new).ghost_name ≡ (lender_of out.old).ghost_name }
     ensures state { value.new ≡ Some (start header.now layout) }
-    ensures ok { OnOk result (Appends (put_to D.taken out.old) (put_to D.taken out.new) (begun (start header.now layout))) }
-    ensures err { OnErr result (HasPrefix (put_to D.taken out.old) (D.taken (lender_of out.new).now) (begun (start header.now layout))) }
-    ensures failed { D.failures (lender_of out.new).now ≡ failures_after result (D.failures (lender_of out.old).now) }
+    ensures puts { Puts D.told out.old out.new (begun (start header.now layout)) result }
 {
     restart(value, header, layout);
     match value {
@@ -233,11 +209,8 @@ fn put_bytes<D: Drain>(
     octets: &[u8],
     out: &mut Out<'_, D>,
 ) -> Result<(), WriteFault>
-    ensures same_reference { (lender_of out.new).ghost_name ≡ (lender_of out.old).ghost_name }
     ensures state { OnOk result (if_open is_open value.new ≡ value_after (if_open is_open value.old) octets.now) }
-    ensures ok { OnOk result (Appends (put_to D.taken out.old) (put_to D.taken out.new) (value_told (if_open is_open value.old) octets.now)) }
-    ensures err { OnErr result (HasPrefix (put_to D.taken out.old) (D.taken (lender_of out.new).now) (value_told (if_open is_open value.old) octets.now)) }
-    ensures failed { D.failures (lender_of out.new).now ≡ failures_after result (D.failures (lender_of out.old).now) }
+    ensures puts { Puts D.told out.old out.new (value_told (if_open is_open value.old) octets.now) result }
 {
     match value {
         Some(value) if is_open => {
@@ -255,10 +228,7 @@ fn put_end<D: Drain>(
     names: &Names,
     out: &mut Out<'_, D>,
 ) -> Result<(), WriteFault>
-    ensures same_reference { (lender_of out.new).ghost_name ≡ (lender_of out.old).ghost_name }
-    ensures ok { OnOk result (Appends (put_to D.taken out.old) (put_to D.taken out.new) (value_ended names.now (if_open is_open value.old))) }
-    ensures err { OnErr result (HasPrefix (put_to D.taken out.old) (D.taken (lender_of out.new).now) (value_ended names.now (if_open is_open value.old))) }
-    ensures failed { D.failures (lender_of out.new).now ≡ failures_after result (D.failures (lender_of out.old).now) }
+    ensures { Puts D.told out.old out.new (value_ended names.now (if_open is_open value.old)) result }
 {
     match value {
         Some(value) if is_open && value.left() == 0 => value.end(names, out),

@@ -1,27 +1,104 @@
 -- Octets read one piece after another.
-use Rattle.std.proofs.Common.{◌≡◌, ℕ, ◌+◌, ◌-◌, ◌<◌, ◌≤◌, List, ◌++◌, length, take, sym, ap, ◌∙◌, arith, append_assoc, length-append}
-use Rattle.std.specs.Prelude.{Option, Some, None}
-use Rattle.std.specs.Io.KnownBytes.{Consumes}
+use Rattle.std.proofs.Common.{◌≡◌, inl, inr, ℕ, ◌+◌, ◌-◌, ◌<◌, ◌≤◌, List, [], ◌++◌, length, take, refl, sym, ap, ◌∙◌, subst, arith, append-nil, length-append}
+use Rattle.std.specs.Prelude.{Option, Some, None, Vec, Result, Ok, Err}
+use Rattle.std.specs.Io.KnownBytes.{Consumes, IsAtEnd, Keeps}
 use Rattle.std.proofs.lemmas.List.{length-take-le}
-use Rattle.tlv_walk.specs.Device.{Last, gave}
-use Rattle.tlv_value.specs.NamesReading.{IsTooLong}
+use Rattle.tlv_walk.specs.declared.source.ReadFault.{ReadFault}
+use Rattle.tlv_walk.specs.Device.{GaveLast, Last, Pieces, ReadsOnce, Supply, counted, failed, gave, given_in, put_together}
+use Rattle.tlv_walk.proofs.Pieces.{Gathered, gathered_more, pieces_all, together_more}
+use Rattle.tlv_value.specs.declared.names.fault.NamesFault.{NamesFault}
+use Rattle.tlv_value.specs.declared.names.fault.NamesFault.TheVariants.{BadOid, BadName, Repeated, TooLarge, ReadFailed, Memory}
+use Rattle.std.specs.BTreeMap.{BTreeMap}
+use Rattle.tlv_value.specs.Names.{Table, names_of}
+use Rattle.tlv_value.specs.NamesReading.{IsSaid, ReadsFrom}
+use Rattle.tlv_value.specs.NamesSteps.{ComesTo, Gives, GivesAll, result_in, table_in}
 
-pub consumes-more : (a b c : Option (List ℕ)) (xs ys : List ℕ) → Consumes a b xs → Consumes b c ys → Consumes a c (xs ++ ys)
-consumes-more None b c xs ys h g = tt
-consumes-more (Some old) None c xs ys h g = absurd h
-consumes-more (Some old) (Some bs) None xs ys h g = absurd g
-consumes-more (Some old) (Some bs) (Some cs) xs ys h g = h ∙ ap (λ (t : List ℕ). xs ++ t) g ∙ sym (append_assoc xs ys cs)
+-- the octets that the reads so far gave
+pub record Given (old new : Supply) (octets : List ℕ) : Type 0 where
+  pub gathered : Gathered old new
+  pub are : put_together gathered.pieces ≡ octets
 
--- a read goes past the limit
-pub too-long : (a b c : Option (List ℕ)) (last : Last) (xs piece : List ℕ) (n : ℕ) → Consumes a b xs → Consumes b c (take n piece) → last ≡ gave n
-    → length xs ≤ 1048576 → n ≤ length piece → 1048576 - length xs < n → (octets : List ℕ) × Consumes a c octets × IsTooLong last octets
-too-long a b c last xs piece n h g l most bound more =
-    let size : length (xs ++ take n piece) ≡ length xs + n = length-append xs (take n piece) ∙ ap (λ m. length xs + m) (length-take-le n piece bound) in
-    (xs ++ take n piece, consumes-more a b c xs (take n piece) h g, (n, l, omega arith, omega arith))
+module _ (old mid new : Supply) (octets : List ℕ) (x : Given old mid octets) (most : length octets ≤ 1048576) (failures : mid.failures ≡ old.failures) (piece : List ℕ) (room : length piece ≡ 4096) where
+  -- a read that failed
+  pub gives_failed : {Z : Type 0} → (e : ReadFault) → ReadsOnce mid new (Err e) piece → Gives {Z = Z} old new (Err ReadFailed)
+  gives_failed e r = record {
+    pieces = pieces_all old mid new x.gathered [] (consumes_kept mid.left new.left r.octets) r.reads (subst (λ (l : Last). GaveLast l []) (sym r.last) refl) (omega arith);
+    gives = (r.last, subst (λ (l : List ℕ). length l ≤ 1048576) (sym (append-nil (put_together x.gathered.pieces) ∙ x.are)) most);
+    failures = r.failures ∙ ap counted failures;
+  }
+    where
+      consumes_kept : (a b : Option (List ℕ)) → Keeps a b → Consumes a b []
+      consumes_kept None b k = tt
+      consumes_kept (Some xs) None k = absurd k
+      consumes_kept (Some xs) (Some ys) k = sym k
 
--- a read stays within the limit
-pub within : (a b c : Option (List ℕ)) (xs piece : List ℕ) (n : ℕ) → Consumes a b xs → Consumes b c (take n piece)
-    → length xs ≤ 1048576 → n ≤ length piece → n ≤ 1048576 - length xs → (octets : List ℕ) × Consumes a c octets × (length octets ≤ 1048576)
-within a b c xs piece n h g most bound few =
-    let size : length (xs ++ take n piece) ≡ length xs + n = length-append xs (take n piece) ∙ ap (λ m. length xs + m) (length-take-le n piece bound) in
-    (xs ++ take n piece, consumes-more a b c xs (take n piece) h g, omega arith)
+  module _ (n : ℕ) (r : ReadsOnce {E = ReadFault} mid new (Ok n) piece) where
+    pub r_length : length (take n piece) ≡ n
+    r_length = length-take-le n piece r.bound.0
+
+    pub all_are : put_together x.gathered.pieces ++ take n piece ≡ octets ++ take n piece
+    all_are = ap (λ (l : List ℕ). l ++ take n piece) x.are
+
+    pub few : length (take n piece) ≤ 4096
+    few = omega (arith, r_length, r.bound.0, room)
+
+    -- and these are all
+    abbrev pub pieces_so : Pieces old new
+    pieces_so = pieces_all old mid new x.gathered (take n piece) r.octets.0 r.reads (subst (λ (l : Last). GaveLast l (take n piece)) (sym r.last) (sym r_length)) few
+
+    length_all : length (put_together x.gathered.pieces ++ take n piece) ≡ length octets + n
+    length_all = ap length all_are ∙ length-append octets (take n piece) ∙ ap (λ (k : ℕ). length octets + k) r_length
+
+    same_failures : new.failures ≡ old.failures
+    same_failures = r.failures ∙ failures
+
+    pub gives_end : {Z : Type 0} → n ≡ 0 → (v : Vec ℕ Z) → v.items ≡ octets → Gives {Z = Z} old new (Ok v)
+    gives_end z v is = record {
+      pieces = pieces_so;
+      gives = (all_are ∙ ap (λ (k : ℕ). octets ++ take k piece) z ∙ none_taken ∙ sym is, r.last ∙ ap gave z, r.octets.1 z (omega (arith, room)), subst (λ (l : List ℕ). length l ≤ 1048576) (sym is) most);
+      failures = same_failures;
+    }
+      where
+        none_taken : octets ++ take 0 piece ≡ octets
+        none_taken = append-nil octets
+
+    pub gives_long : {Z : Type 0} → 1048576 - length octets < n → Gives {Z = Z} old new (Err TooLarge)
+    gives_long more = record {
+      pieces = pieces_so;
+      gives = (n, r.last, omega (arith, more, most, length_all), omega (arith, most, length_all));
+      failures = same_failures;
+    }
+
+    pub gives_memory : {Z : Type 0} → n ≤ 1048576 - length octets → Gives {Z = Z} old new (Err Memory)
+    gives_memory less = record { pieces = pieces_so; gives = omega (arith, less, most, length_all); failures = same_failures }
+
+    -- or there are more
+    pub given_more : (n ≡ 0 → ⊥) → (more : List ℕ) → more ≡ octets ++ take n piece → Given old new more
+    given_more some more is = record {
+      gathered = gathered_more old mid new x.gathered (take n piece) r.octets.0 r.reads (omega (arith, some, r_length), few);
+      are = together_more x.gathered.pieces (take n piece) ∙ all_are ∙ sym is;
+    }
+
+-- ---- what is made of all of them
+
+-- the octets that were read say the result
+said : {Z : Type 0} (new : Supply) (octets : List ℕ) (v : Vec ℕ Z) (r : Result Table NamesFault) → GivesAll new octets (Ok v) → names_of v.items ≡ r → IsSaid new octets r
+said new octets v r x n = (x.1, x.2, subst (λ (l : List ℕ). length l ≤ 1048576) (sym x.0) x.3, ap names_of x.0 ∙ n)
+
+pub judged : {Y Z : Type 0} (old new : Supply) (v : Vec ℕ Y) (result : Result (BTreeMap (Vec ℕ Z) (Vec ℕ Z)) NamesFault) → Gives old new (Ok v) → ComesTo v.items result → ReadsFrom old new (result_in result)
+judged old new v (Ok m) x n = record { pieces = x.pieces; said = said new (given_in x.pieces) v (Ok (table_in m)) x.gives n; failures = x.failures }
+judged old new v (Err (BadOid k)) x n = record { pieces = x.pieces; said = said new (given_in x.pieces) v (Err (BadOid k)) x.gives n; failures = x.failures }
+judged old new v (Err (BadName k)) x n = record { pieces = x.pieces; said = said new (given_in x.pieces) v (Err (BadName k)) x.gives n; failures = x.failures }
+judged old new v (Err (Repeated k)) x n = record { pieces = x.pieces; said = said new (given_in x.pieces) v (Err (Repeated k)) x.gives n; failures = x.failures }
+judged old new v (Err TooLarge) x n = record { pieces = x.pieces; said = inl (said new (given_in x.pieces) v (Err TooLarge) x.gives n); failures = x.failures }
+judged old new v (Err ReadFailed) x n = absurd n
+judged old new v (Err Memory) x n = record { pieces = x.pieces; said = subst (λ (l : List ℕ). length l ≤ 1048576) (sym x.gives.0) x.gives.3; failures = x.failures }
+
+-- they could not be read
+pub unread : {Z : Type 0} (old new : Supply) (e : NamesFault) → Gives {Z = Z} old new (Err e) → ReadsFrom old new (Err e)
+unread old new (BadOid k) x = absurd x.gives
+unread old new (BadName k) x = absurd x.gives
+unread old new (Repeated k) x = absurd x.gives
+unread old new TooLarge x = record { pieces = x.pieces; said = inr x.gives; failures = x.failures }
+unread old new ReadFailed x = record { pieces = x.pieces; said = x.gives; failures = x.failures }
+unread old new Memory x = record { pieces = x.pieces; said = x.gives; failures = x.failures }

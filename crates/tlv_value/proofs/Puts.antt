@@ -1,28 +1,11 @@
 -- Puts, one behind another.
 use Rattle.std.proofs.Common.{◌≡◌, ℕ, ◌+◌, ◌++◌, ◌∷◌, [], List, length, arith, refl, sym, ap, ◌∙◌, append_assoc}
-use Rattle.std.specs.Prelude.{Option, Result, OnOk, OnErr}
-use Rattle.std.specs.Io.KnownBytes.{Appends}
-use Rattle.tlv_walk.specs.Prefix.{HasPrefix}
 use Rattle.tlv_value.specs.declared.kind.Kind.{Kind}
 use Rattle.tlv_value.specs.declared.layout.Layout.{Layout}
 use Rattle.tlv_value.specs.Layout.{row_line}
 use Rattle.tlv_value.specs.Rows.{full_rows, last_rows, open_row, rows_of}
 use Rattle.tlv_value.specs.State.{row_lines}
 use Rattle.tlv_value.specs.Value.{row_text}
-use Rattle.tlv_walk.proofs.Known.{prefix_behind, prefix_front}
-
--- a put failed behind others, and before others
-pub put_failed : (a b c : Option (List ℕ)) (text piece more total : List ℕ) → Appends a b text → HasPrefix b c piece → text ++ (piece ++ more) ≡ total → HasPrefix a c total
-put_failed a b c text piece more total p q e =
-    rw (← e) (rw (← append_assoc text piece more) (prefix_front a c (text ++ piece) more (prefix_behind a b c text piece p q)))
-
--- a put failed before another
-pub put_failed_first : (a c : Option (List ℕ)) (piece more total : List ℕ) → HasPrefix a c piece → piece ++ more ≡ total → HasPrefix a c total
-put_failed_first a c piece more total p e = rw (← e) (prefix_front a c piece more p)
-
--- a put failed behind another
-pub put_failed_last : (a b c : Option (List ℕ)) (text piece total : List ℕ) → Appends a b text → HasPrefix b c piece → text ++ piece ≡ total → HasPrefix a c total
-put_failed_last a b c text piece total p q e = rw (← e) (prefix_behind a b c text piece p q)
 
 -- rows in order, with others behind them
 pub row_lines-append : (kind : Kind) (layout : Layout) (i : ℕ) (xs ys : List (List ℕ)) → row_lines kind layout i (xs ++ ys) ≡ row_lines kind layout i xs ++ row_lines kind layout (i + length xs) ys
@@ -43,11 +26,3 @@ rows-split kind layout octets =
 -- the line feed behind the text
 pub line_end : (line text s : List ℕ) → s ≡ line ++ text → s ++ 10 ∷ [] ≡ line ++ (text ++ 10 ∷ [])
 line_end line text s e = ap (λ (t : List ℕ). t ++ 10 ∷ []) e ∙ append_assoc line text (10 ∷ [])
-
-module _ {T E : Type 0} (result : Result T E) where
-  -- the same octets
-  pub ok_as : (a b : Option (List ℕ)) (x y : List ℕ) → x ≡ y → OnOk result (Appends a b x) → OnOk result (Appends a b y)
-  ok_as a b x y e p = rw e at p
-
-  pub err_as : (a b : Option (List ℕ)) (x y : List ℕ) → x ≡ y → OnErr result (HasPrefix a b x) → OnErr result (HasPrefix a b y)
-  err_as a b x y e p = rw e at p

@@ -7,10 +7,10 @@ use Rattle.std.specs.Cmp.Lexicographic.{slice_cmp}
 use Rattle.std.specs.FinMap as finite
 use Rattle.std.specs.Borrow.{Bor}
 use Rattle.std.specs.BTreeMap.{BTreeMap}
-use Rattle.std.specs.Io.KnownBytes.{Consumes, IsAtEnd}
-use Rattle.tlv_walk.specs.Device.{Last, gave, failed}
+use Rattle.std.specs.Io.KnownBytes.{IsAtEnd}
+use Rattle.tlv_walk.specs.Device.{Pieces, Supply, failed, gave, given_in}
 use Rattle.tlv_value.specs.Names.{Entry, Line, nothing, named, no_oid, no_name, too_long, Table, is_among, names_of}
-use Rattle.tlv_value.specs.NamesReading.{IsTooLong}
+use Rattle.tlv_value.specs.NamesReading.{IsTooLong, failures_of}
 use Rattle.tlv_value.specs.declared.names.fault.NamesFault.{NamesFault}
 use Rattle.tlv_value.specs.declared.names.fault.NamesFault.TheVariants.{BadOid, BadName, Repeated, TooLarge, ReadFailed, Memory}
 
@@ -72,12 +72,18 @@ abbrev pub result_in : {Z : Type 0} → Result (BTreeMap (Vec ℕ Z) (Vec ℕ Z)
 result_in (Ok m) = Ok (table_in m)
 result_in (Err fault) = Err fault
 
--- all octets of a source, by what its last read gave and what it has to give before and after
-abbrev pub GivesAll : {Z : Type 0} → Last → Option (List ℕ) → Option (List ℕ) → Result (Vec ℕ Z) NamesFault → Type 0
-GivesAll last before after (Ok v) = Consumes before after v.items × (last ≡ gave 0) × IsAtEnd after × (length v.items ≤ 1048576)
-GivesAll last before after (Err (BadOid n)) = ⊥
-GivesAll last before after (Err (BadName n)) = ⊥
-GivesAll last before after (Err (Repeated n)) = ⊥
-GivesAll last before after (Err TooLarge) = (octets : List ℕ) × Consumes before after octets × IsTooLong last octets
-GivesAll last before after (Err ReadFailed) = (octets : List ℕ) × Consumes before after octets × (last ≡ failed) × (length octets ≤ 1048576)
-GivesAll last before after (Err Memory) = (octets : List ℕ) × Consumes before after octets × (length octets ≤ 1048576)
+-- all octets of a source, by what its last read gave
+abbrev pub GivesAll : {Z : Type 0} → Supply → List ℕ → Result (Vec ℕ Z) NamesFault → Type 0
+GivesAll new octets (Ok v) = (octets ≡ v.items) × (new.last ≡ gave 0) × IsAtEnd new.left × (length v.items ≤ 1048576)
+GivesAll new octets (Err (BadOid n)) = ⊥
+GivesAll new octets (Err (BadName n)) = ⊥
+GivesAll new octets (Err (Repeated n)) = ⊥
+GivesAll new octets (Err TooLarge) = IsTooLong new.last octets
+GivesAll new octets (Err ReadFailed) = (new.last ≡ failed) × (length octets ≤ 1048576)
+GivesAll new octets (Err Memory) = length octets ≤ 1048576
+
+-- they are read in pieces
+pub record Gives {Z : Type 0} (old new : Supply) (result : Result (Vec ℕ Z) NamesFault) : Type 0 where
+  pub pieces : Pieces old new
+  pub gives : GivesAll new (given_in pieces) result
+  pub failures : new.failures ≡ failures_of result old.failures

@@ -2,7 +2,7 @@
 ghost use Rattle.std.specs.Prelude.{◌≡◌};
 ghost use Rattle.std.specs.Option.{option_copied};
 ghost use Rattle.std.specs.FinMap as finite;
-ghost use Rattle.tlv_value.specs.NamesReading.{ReadsFrom, failures_of};
+ghost use Rattle.tlv_value.specs.NamesReading.{ReadsFrom};
 
 mod arcs;
 mod fault;
@@ -45,7 +45,7 @@ impl Names {
         Names { table: None }
     }
 
-    /// Reads a names file to its end, and then judges its lines in order.
+    /// Reads a names file to its end, and then judges its lines in order. Makes no read behind the end.
     ///
     /// A line is the octets up to an LF or the end, of which a CR at its end and the spaces and tabs at both ends are
     /// dropped. A line that is then empty or begins with `#` says nothing. Any other is the dotted text of an object
@@ -59,8 +59,7 @@ impl Names {
     /// an earlier line, and `TooLarge` for an entry past the first 65,536. `Memory` at any time, where memory is
     /// refused.
     pub fn read<S: Source>(alloc: Global, source: &mut S) -> Result<Names, NamesFault>
-        ensures reading { ReadsFrom (S.last source.new) (S.left source.old) (S.left source.new) result }
-        ensures failures { S.failures source.new ≡ failures_of result (S.failures source.old) }
+        ensures { ReadsFrom (S.told source.old) (S.told source.new) result }
     {
         let table = read_in(alloc, source)?;
         Ok(Names { table: Some(table) })

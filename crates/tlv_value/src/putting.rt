@@ -1,9 +1,6 @@
 //! Lines on their way to an [`Out`].
-ghost use Rattle.std.specs.Prelude.{◌≡◌, ◌+◌, ◌-◌, ◌*◌, ◌<◌, ◌≤◌, ◌^◌, ◌++◌, ◌∷◌, [], codes, false, if◌then◌else◌, length, true, OnErr, OnOk};
-ghost use Rattle.std.specs.Io.KnownBytes.{Appends};
-ghost use Rattle.tlv_walk.specs.Device.{failures_after};
-ghost use Rattle.tlv_walk.specs.Out.{lender_of, put_to};
-ghost use Rattle.tlv_walk.specs.Prefix.{HasPrefix};
+ghost use Rattle.std.specs.Prelude.{◌≡◌, ◌+◌, ◌-◌, ◌*◌, ◌<◌, ◌≤◌, ◌^◌, ◌++◌, ◌∷◌, [], codes, false, if◌then◌else◌, length, true, OnOk};
+ghost use Rattle.tlv_walk.specs.Out.{Puts};
 ghost use Rattle.tlv_value.specs.Layout.{row_line as row_line_of};
 ghost use Rattle.tlv_value.specs.ObjectLines.{object_lines, octets_lines};
 ghost use Rattle.tlv_value.specs.Rows.{full_rows, last_rows, open_row, row_size as row_size_of, rows_of};
@@ -21,10 +18,7 @@ use tlv_walk::{Drain, Out, WriteFault};
 /// Puts a line that lacks its line feed alone.
 pub(crate) fn put_line<D: Drain>(line: &mut Line, out: &mut Out<'_, D>) -> Result<(), WriteFault>
     requires { length line.old + 1 ≤ 1024 }
-    ensures same_reference { (lender_of out.new).ghost_name ≡ (lender_of out.old).ghost_name }
-    ensures ok { OnOk result (Appends (put_to D.taken out.old) (put_to D.taken out.new) (line.old ++ 10 ∷ [])) }
-    ensures err { OnErr result (HasPrefix (put_to D.taken out.old) (D.taken (lender_of out.new).now) (line.old ++ 10 ∷ [])) }
-    ensures failed { D.failures (lender_of out.new).now ≡ failures_after result (D.failures (lender_of out.old).now) }
+    ensures { Puts D.told out.old out.new (line.old ++ 10 ∷ []) result }
 {
     line.push(b"\n");
     out.put(line.as_slice())
@@ -39,10 +33,7 @@ pub(crate) fn put_value<D: Drain>(
 ) -> Result<(), WriteFault>
     requires short { length line.old ≤ 613 }
     requires held { length contents.now ≤ most_held kind }
-    ensures same_reference { (lender_of out.new).ghost_name ≡ (lender_of out.old).ghost_name }
-    ensures ok { OnOk result (Appends (put_to D.taken out.old) (put_to D.taken out.new) (line.old ++ plain_text kind contents.now ++ 10 ∷ [])) }
-    ensures err { OnErr result (HasPrefix (put_to D.taken out.old) (D.taken (lender_of out.new).now) (line.old ++ plain_text kind contents.now ++ 10 ∷ [])) }
-    ensures failed { D.failures (lender_of out.new).now ≡ failures_after result (D.failures (lender_of out.old).now) }
+    ensures { Puts D.told out.old out.new (line.old ++ plain_text kind contents.now ++ 10 ∷ []) result }
 {
     line.value(kind, contents);
     put_line(line, out)
@@ -57,10 +48,7 @@ pub(crate) fn put_bits<D: Drain>(
 ) -> Result<(), WriteFault>
     requires short { length line.old ≤ 613 }
     requires long { 9 < size }
-    ensures same_reference { (lender_of out.new).ghost_name ≡ (lender_of out.old).ghost_name }
-    ensures ok { OnOk result (Appends (put_to D.taken out.old) (put_to D.taken out.new) (line.old ++ long_text Kind.Bits size (unused ∷ []) ++ 10 ∷ [])) }
-    ensures err { OnErr result (HasPrefix (put_to D.taken out.old) (D.taken (lender_of out.new).now) (line.old ++ long_text Kind.Bits size (unused ∷ []) ++ 10 ∷ [])) }
-    ensures failed { D.failures (lender_of out.new).now ≡ failures_after result (D.failures (lender_of out.old).now) }
+    ensures { Puts D.told out.old out.new (line.old ++ long_text Kind.Bits size (unused ∷ []) ++ 10 ∷ []) result }
 {
     line.long_bits(size, unused);
     put_line(line, out)
@@ -76,10 +64,8 @@ pub(crate) fn put_object<N: NameTable, D: Drain>(
 ) -> Result<(), WriteFault>
     requires short { length line.old ≤ 613 }
     requires held { length contents.now ≤ 64 }
-    ensures same_reference { (lender_of out.new).ghost_name ≡ (lender_of out.old).ghost_name }
-    ensures ok { OnOk result (Appends (put_to D.taken out.old) (put_to D.taken out.new) (object_lines (N.name_of names.now) layout line.old false contents.now)) }
-    ensures err { OnErr result (HasPrefix (put_to D.taken out.old) (D.taken (lender_of out.new).now) (object_lines (N.name_of names.now) layout line.old false contents.now)) }
-    ensures failed { D.failures (lender_of out.new).now ≡ failures_after result (D.failures (lender_of out.old).now) }
+    ensures { Puts D.told out.old out.new
+        (object_lines (N.name_of names.now) layout line.old false contents.now) result }
 {
     let mut dotted = ArrayVec::new();
     if !dotted_of(contents, false, &mut dotted) {
@@ -100,10 +86,7 @@ pub(crate) fn put_relative<D: Drain>(
 ) -> Result<(), WriteFault>
     requires short { length line.old ≤ 613 }
     requires held { length contents.now ≤ 64 }
-    ensures same_reference { (lender_of out.new).ghost_name ≡ (lender_of out.old).ghost_name }
-    ensures ok { OnOk result (Appends (put_to D.taken out.old) (put_to D.taken out.new) (object_lines no_names layout line.old true contents.now)) }
-    ensures err { OnErr result (HasPrefix (put_to D.taken out.old) (D.taken (lender_of out.new).now) (object_lines no_names layout line.old true contents.now)) }
-    ensures failed { D.failures (lender_of out.new).now ≡ failures_after result (D.failures (lender_of out.old).now) }
+    ensures { Puts D.told out.old out.new (object_lines no_names layout line.old true contents.now) result }
 {
     let mut dotted = ArrayVec::new();
     if !dotted_of(contents, true, &mut dotted) {
@@ -120,10 +103,7 @@ fn put_dotted<D: Drain>(
 ) -> Result<(), WriteFault>
     requires short { length line.old ≤ 613 }
     requires held { length dotted.now ≤ 320 }
-    ensures same_reference { (lender_of out.new).ghost_name ≡ (lender_of out.old).ghost_name }
-    ensures ok { OnOk result (Appends (put_to D.taken out.old) (put_to D.taken out.new) (line.old ++ 32 ∷ dotted.now ++ 10 ∷ [])) }
-    ensures err { OnErr result (HasPrefix (put_to D.taken out.old) (D.taken (lender_of out.new).now) (line.old ++ 32 ∷ dotted.now ++ 10 ∷ [])) }
-    ensures failed { D.failures (lender_of out.new).now ≡ failures_after result (D.failures (lender_of out.old).now) }
+    ensures { Puts D.told out.old out.new (line.old ++ 32 ∷ dotted.now ++ 10 ∷ []) result }
 {
     line.push(b" ");
     line.push(dotted);
@@ -139,10 +119,8 @@ fn put_named<D: Drain>(
 ) -> Result<(), WriteFault>
     requires short { length line.old ≤ 613 }
     requires held { length dotted.now ≤ 320 }
-    ensures same_reference { (lender_of out.new).ghost_name ≡ (lender_of out.old).ghost_name }
-    ensures ok { OnOk result (Appends (put_to D.taken out.old) (put_to D.taken out.new) (((line.old ++ 32 ∷ dotted.now ++ codes " (") ++ name.now) ++ codes ")\n")) }
-    ensures err { OnErr result (HasPrefix (put_to D.taken out.old) (D.taken (lender_of out.new).now) (((line.old ++ 32 ∷ dotted.now ++ codes " (") ++ name.now) ++ codes ")\n")) }
-    ensures failed { D.failures (lender_of out.new).now ≡ failures_after result (D.failures (lender_of out.old).now) }
+    ensures { Puts D.told out.old out.new
+        (((line.old ++ 32 ∷ dotted.now ++ codes " (") ++ name.now) ++ codes ")\n") result }
 {
     line.push(b" ");
     line.push(dotted);
@@ -157,10 +135,7 @@ fn put_three<D: Drain>(
     third: &[u8],
     out: &mut Out<'_, D>,
 ) -> Result<(), WriteFault>
-    ensures same_reference { (lender_of out.new).ghost_name ≡ (lender_of out.old).ghost_name }
-    ensures ok { OnOk result (Appends (put_to D.taken out.old) (put_to D.taken out.new) ((first.now ++ second.now) ++ third.now)) }
-    ensures err { OnErr result (HasPrefix (put_to D.taken out.old) (D.taken (lender_of out.new).now) ((first.now ++ second.now) ++ third.now)) }
-    ensures failed { D.failures (lender_of out.new).now ≡ failures_after result (D.failures (lender_of out.old).now) }
+    ensures { Puts D.told out.old out.new ((first.now ++ second.now) ++ third.now) result }
 {
     out.put(first)?;
     out.put(second)?;
@@ -176,10 +151,7 @@ fn put_octets<D: Drain>(
 ) -> Result<(), WriteFault>
     requires short { length line.old ≤ 613 }
     requires held { length contents.now ≤ 64 }
-    ensures same_reference { (lender_of out.new).ghost_name ≡ (lender_of out.old).ghost_name }
-    ensures ok { OnOk result (Appends (put_to D.taken out.old) (put_to D.taken out.new) (octets_lines layout line.old contents.now)) }
-    ensures err { OnErr result (HasPrefix (put_to D.taken out.old) (D.taken (lender_of out.new).now) (octets_lines layout line.old contents.now)) }
-    ensures failed { D.failures (lender_of out.new).now ≡ failures_after result (D.failures (lender_of out.old).now) }
+    ensures { Puts D.told out.old out.new (octets_lines layout line.old contents.now) result }
 {
     if contents.len() <= 16 {
         return put_value(line, Kind::Octets, contents, out);
@@ -196,10 +168,8 @@ fn put_all_rows<D: Drain>(
     out: &mut Out<'_, D>,
 ) -> Result<(), WriteFault>
     requires { length contents.now ≤ 64 }
-    ensures same_reference { (lender_of out.new).ghost_name ≡ (lender_of out.old).ghost_name }
-    ensures ok { OnOk result (Appends (put_to D.taken out.old) (put_to D.taken out.new) (row_lines Kind.Octets layout 0 (rows_of Kind.Octets contents.now))) }
-    ensures err { OnErr result (HasPrefix (put_to D.taken out.old) (D.taken (lender_of out.new).now) (row_lines Kind.Octets layout 0 (rows_of Kind.Octets contents.now))) }
-    ensures failed { D.failures (lender_of out.new).now ≡ failures_after result (D.failures (lender_of out.old).now) }
+    ensures { Puts D.told out.old out.new
+        (row_lines Kind.Octets layout 0 (rows_of Kind.Octets contents.now)) result }
 {
     let mut row = ArrayVec::new();
     let mut rows = 0;
@@ -231,10 +201,8 @@ pub(crate) fn put_rows<D: Drain>(
     ensures counted { rows.new + length row.new.items ≤ rows.old + length row.old.items + length octets.now }
     ensures row { OnOk result (row.new.items ≡ open_row kind row.old.items octets.now) }
     ensures rows { OnOk result (rows.new ≡ rows.old + length (full_rows kind row.old.items octets.now)) }
-    ensures same_reference { (lender_of out.new).ghost_name ≡ (lender_of out.old).ghost_name }
-    ensures ok { OnOk result (Appends (put_to D.taken out.old) (put_to D.taken out.new) (row_lines kind layout rows.old (full_rows kind row.old.items octets.now))) }
-    ensures err { OnErr result (HasPrefix (put_to D.taken out.old) (D.taken (lender_of out.new).now) (row_lines kind layout rows.old (full_rows kind row.old.items octets.now))) }
-    ensures failed { D.failures (lender_of out.new).now ≡ failures_after result (D.failures (lender_of out.old).now) }
+    ensures puts { Puts D.told out.old out.new
+        (row_lines kind layout rows.old (full_rows kind row.old.items octets.now)) result }
 {
     let size = row_size(kind);
     let mut rest = octets;
@@ -264,10 +232,8 @@ fn put_full<D: Drain>(
 ) -> Result<(), WriteFault>
     requires { length row.old.items + length part.now ≤ 64 }
     ensures row { row.new.items ≡ [] }
-    ensures same_reference { (lender_of out.new).ghost_name ≡ (lender_of out.old).ghost_name }
-    ensures ok { OnOk result (Appends (put_to D.taken out.old) (put_to D.taken out.new) (row_line_of layout index (row_text kind (row.old.items ++ part.now)))) }
-    ensures err { OnErr result (HasPrefix (put_to D.taken out.old) (D.taken (lender_of out.new).now) (row_line_of layout index (row_text kind (row.old.items ++ part.now)))) }
-    ensures failed { D.failures (lender_of out.new).now ≡ failures_after result (D.failures (lender_of out.old).now) }
+    ensures puts { Puts D.told out.old out.new
+        (row_line_of layout index (row_text kind (row.old.items ++ part.now))) result }
 {
     if row.is_empty() {
         return put_row(kind, layout, index, part, line, out);
@@ -288,10 +254,7 @@ pub(crate) fn put_last<D: Drain>(
     out: &mut Out<'_, D>,
 ) -> Result<(), WriteFault>
     requires { length row.now ≤ 64 }
-    ensures same_reference { (lender_of out.new).ghost_name ≡ (lender_of out.old).ghost_name }
-    ensures ok { OnOk result (Appends (put_to D.taken out.old) (put_to D.taken out.new) (row_lines kind layout index (last_rows row.now))) }
-    ensures err { OnErr result (HasPrefix (put_to D.taken out.old) (D.taken (lender_of out.new).now) (row_lines kind layout index (last_rows row.now))) }
-    ensures failed { D.failures (lender_of out.new).now ≡ failures_after result (D.failures (lender_of out.old).now) }
+    ensures { Puts D.told out.old out.new (row_lines kind layout index (last_rows row.now)) result }
 {
     if row.is_empty() {
         return Ok(());
@@ -309,10 +272,7 @@ fn put_row<D: Drain>(
     out: &mut Out<'_, D>,
 ) -> Result<(), WriteFault>
     requires { length row.now ≤ 64 }
-    ensures same_reference { (lender_of out.new).ghost_name ≡ (lender_of out.old).ghost_name }
-    ensures ok { OnOk result (Appends (put_to D.taken out.old) (put_to D.taken out.new) (row_line_of layout index (row_text kind row.now))) }
-    ensures err { OnErr result (HasPrefix (put_to D.taken out.old) (D.taken (lender_of out.new).now) (row_line_of layout index (row_text kind row.now))) }
-    ensures failed { D.failures (lender_of out.new).now ≡ failures_after result (D.failures (lender_of out.old).now) }
+    ensures { Puts D.told out.old out.new (row_line_of layout index (row_text kind row.now)) result }
 {
     if !write_row(kind, layout, index, row, line) {
         return Ok(());

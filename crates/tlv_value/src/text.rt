@@ -1,9 +1,6 @@
 //! The lines of a primitive, from its contents in pieces.
-ghost use Rattle.std.specs.Prelude.{◌≡◌, ◌+◌, ◌<◌, ◌≤◌, ◌^◌, ◌++◌, ◌∷◌, [], decimal, length, OnErr, OnOk, false, true};
-ghost use Rattle.std.specs.Io.KnownBytes.{Appends};
-ghost use Rattle.tlv_walk.specs.Device.{failures_after};
-ghost use Rattle.tlv_walk.specs.Out.{lender_of, put_to};
-ghost use Rattle.tlv_walk.specs.Prefix.{HasPrefix};
+ghost use Rattle.std.specs.Prelude.{◌≡◌, ◌+◌, ◌<◌, ◌≤◌, ◌^◌, ◌++◌, ◌∷◌, [], decimal, length, OnOk, false, true};
+ghost use Rattle.tlv_walk.specs.Out.{Puts};
 ghost use Rattle.tlv_head.specs.Tag.{tag_text_of};
 ghost use Rattle.tlv_value.specs.Layout.{columns, margin};
 ghost use Rattle.tlv_value.specs.State.{after, begun, ended, start, told};
@@ -149,10 +146,7 @@ impl ValueText {
     ///
     /// `WriteFault` exactly where the drain's failures rose in the call.
     pub fn begin<D: Drain>(&self, out: &mut Out<'_, D>) -> Result<(), WriteFault>
-        ensures same_reference { (lender_of out.new).ghost_name ≡ (lender_of out.old).ghost_name }
-        ensures ok { OnOk result (Appends (put_to D.taken out.old) (put_to D.taken out.new) (begun self.now)) }
-        ensures err { OnErr result (HasPrefix (put_to D.taken out.old) (D.taken (lender_of out.new).now) (begun self.now)) }
-        ensures failed { D.failures (lender_of out.new).now ≡ failures_after result (D.failures (lender_of out.old).now) }
+        ensures { Puts D.told out.old out.new (begun self.now) result }
     {
         if !is_long(self.kind, self.size) || !self.has_line {
             return Ok(());
@@ -177,10 +171,7 @@ impl ValueText {
     pub fn bytes<D: Drain>(&mut self, octets: &[u8], out: &mut Out<'_, D>) -> Result<(), WriteFault>
         requires { length octets.now ≤ self.old.left }
         ensures state { OnOk result (self.new ≡ after self.old octets.now) }
-        ensures same_reference { (lender_of out.new).ghost_name ≡ (lender_of out.old).ghost_name }
-        ensures ok { OnOk result (Appends (put_to D.taken out.old) (put_to D.taken out.new) (told self.old octets.now)) }
-        ensures err { OnErr result (HasPrefix (put_to D.taken out.old) (D.taken (lender_of out.new).now) (told self.old octets.now)) }
-        ensures failed { D.failures (lender_of out.new).now ≡ failures_after result (D.failures (lender_of out.old).now) }
+        ensures puts { Puts D.told out.old out.new (told self.old octets.now) result }
     {
         self.left -= octets.len() as u64;
         if !is_long(self.kind, self.size) {
@@ -235,10 +226,7 @@ impl ValueText {
     ) -> Result<(), WriteFault>
         requires { self.old.left ≡ 0 }
         ensures state { self.new ≡ self.old }
-        ensures same_reference { (lender_of out.new).ghost_name ≡ (lender_of out.old).ghost_name }
-        ensures ok { OnOk result (Appends (put_to D.taken out.old) (put_to D.taken out.new) (ended (N.name_of names.now) self.old)) }
-        ensures err { OnErr result (HasPrefix (put_to D.taken out.old) (D.taken (lender_of out.new).now) (ended (N.name_of names.now) self.old)) }
-        ensures failed { D.failures (lender_of out.new).now ≡ failures_after result (D.failures (lender_of out.old).now) }
+        ensures puts { Puts D.told out.old out.new (ended (N.name_of names.now) self.old) result }
     {
         let contents = self.row.as_slice();
         if is_long(self.kind, self.size) {

@@ -41,5 +41,6 @@ pub mod Pieces
 pub mod Following
 pub mod Turns
 pub mod Drives
+pub mod Jobs
 pub mod Inputs
 pub mod Lined

@@ -123,6 +123,10 @@ module _ {D : Type 0} (told : D → Taken) where
     }
 
   module _ {T E : Type 0} where
+    -- the same octets
+    pub puts_text : (a b : Out D) (xs ys : List ℕ) (r : Result T E) → xs ≡ ys → Puts told a b xs r → Puts told a b ys r
+    puts_text a b xs ys r e p = subst (λ (l : List ℕ). Puts told a b l r) e p
+
     -- nothing is put
     pub puts_nothing : (a : Out D) (x : T) → Puts {T = T} {E = E} told a a [] (Ok x)
     puts_nothing a x = record {
@@ -185,6 +189,11 @@ module _ {T U E F : Type 0} where
   }
 
 module _ {T E : Type 0} where
+  -- where the call did not fail, the drain has all of them
+  pub sends_appends : (a b : Taken) (xs : List ℕ) (x : T) → Sends {T = T} {E = E} a b xs (Ok x) → Appends a.octets b.octets xs
+  sends_appends a b xs x p = subst (Appends a.octets b.octets) (sym (append-nil p.sent) ∙ ap (λ (l : List ℕ). p.sent ++ l) (sym p.all) ∙ p.front) p.took
+
+  -- nothing is sent
   pub sends_nothing : (a : Taken) (x : T) → Sends {T = T} {E = E} a a [] (Ok x)
   sends_nothing a x = record { sent = []; left = []; front = refl; took = Appends-nil a.octets; all = refl; failures = refl }
 

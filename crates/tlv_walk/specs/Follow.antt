@@ -1,8 +1,13 @@
 -- What a follower makes of events.
-use Rattle.std.specs.Prelude.{◌≡◌, ℕ, List, [], ◌∷◌, ◌++◌, Result, IfOk}
+use Rattle.std.specs.Prelude.{◌≡◌, ℕ, Bool, true, false, List, [], ◌∷◌, ◌++◌, Result, IfOk}
 use Rattle.tlv_walk.specs.declared.follow.Go.{Go}
 use Rattle.tlv_walk.specs.declared.follow.Go.TheVariants as go
 use Rattle.tlv_walk.specs.Events.{Told}
+
+-- by whether it had enough: whether it wants more
+abbrev pub goes_of : Bool → Go
+goes_of true = go.Enough
+goes_of false = go.On
 
 -- what a follower makes of events: its new state, the octets that it puts, and whether it wants more
 pub record Following (S : Type 0) : Type 0 where

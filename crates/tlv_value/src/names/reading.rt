@@ -1,7 +1,6 @@
 //! The octets of a names file.
-ghost use Rattle.std.specs.Prelude.{◌≡◌};
-ghost use Rattle.tlv_value.specs.NamesReading.{ReadsFrom, failures_of};
-ghost use Rattle.tlv_value.specs.NamesSteps.{GivesAll, result_in};
+ghost use Rattle.tlv_value.specs.NamesReading.{ReadsFrom};
+ghost use Rattle.tlv_value.specs.NamesSteps.{Gives, result_in};
 
 use super::NamesFault;
 use super::table::{Table, table_of};
@@ -16,8 +15,7 @@ pub(super) fn read_in<A: Allocator + Copy, S: Source>(
     alloc: A,
     source: &mut S,
 ) -> Result<Table<A>, NamesFault>
-    ensures reading { ReadsFrom (S.last source.new) (S.left source.old) (S.left source.new) (result_in result) }
-    ensures failures { S.failures source.new ≡ failures_of result (S.failures source.old) }
+    ensures { ReadsFrom (S.told source.old) (S.told source.new) (result_in result) }
 {
     let octets = read_octets(alloc, source)?;
     table_of(alloc, octets.as_slice())
@@ -25,8 +23,7 @@ pub(super) fn read_in<A: Allocator + Copy, S: Source>(
 
 /// All octets of the source.
 fn read_octets<A: Allocator, S: Source>(alloc: A, source: &mut S) -> Result<Vec<u8, A>, NamesFault>
-    ensures reading { GivesAll (S.last source.new) (S.left source.old) (S.left source.new) result }
-    ensures failures { S.failures source.new ≡ failures_of result (S.failures source.old) }
+    ensures { Gives (S.told source.old) (S.told source.new) result }
 {
     let mut octets = Vec::new(alloc);
     let mut piece = [0u8; 4096];

@@ -3,10 +3,10 @@ use Rattle.std.proofs.lemmas.Result.{err_from_is_err_and}
 use Rattle.tlv_cut.proofs.Extracts.{extracts_err, extracts_ok}
 use Rattle.tlv_cut.proofs.extracting.extract.Goals as goal
 
-pub returns-in_err-run-clause-extracts : goal.returns-in_err-run-clause-extracts
-returns-in_err-run-clause-extracts g c =
+pub returns-in_err-run : goal.returns-in_err-run
+returns-in_err-run g c =
     let p = err_from_is_err_and c.from_residual.result c.from_residual.ensures.1 in rw (p.1, p.2)
-    (extracts_err _ _ _ _ _ _ _ _ _ _ _ c.in_err-run.field-0.0 (rw c.new-follower.ensures at c.in_err-run.ensures.drives))
+    (extracts_err _ _ _ _ _ _ _ _ c.in_err-run.field-0.0 (rw c.new-follower.ensures at c.in_err-run.ensures))
 
-pub returns-clause-extracts : goal.returns-clause-extracts
-returns-clause-extracts g c = extracts_ok _ _ _ _ _ _ _ _ _ _ _ c.in_ok-run.run' _ refl c.found.ensures (rw c.new-follower.ensures at c.in_ok-run.ensures.drives)
+pub returns : goal.returns
+returns g c = extracts_ok _ _ _ _ _ _ _ _ c.in_ok-run.run' _ refl c.found.ensures (rw c.new-follower.ensures at c.in_ok-run.ensures)

@@ -2,10 +2,10 @@ use Rattle.std.proofs.lemmas.Result.{err_from_is_err_and}
 use Rattle.tlv_cut.proofs.IndefRuns.{runs_err, runs_ok}
 use Rattle.tlv_cut.proofs.respelling.indef.Goals as goal
 
-pub returns-in_err-run-clause-runs : goal.returns-in_err-run-clause-runs
-returns-in_err-run-clause-runs g c =
+pub returns-in_err-run : goal.returns-in_err-run
+returns-in_err-run g c =
     let p = err_from_is_err_and c.from_residual.result c.from_residual.ensures.1 in rw (p.1, p.2)
-    (runs_err _ _ _ _ _ _ _ _ _ _ c.in_err-run.field-0.0 (rw c.none.ensures at c.in_err-run.ensures.drives))
+    (runs_err _ _ _ _ _ _ _ c.in_err-run.field-0.0 (rw c.none.ensures at c.in_err-run.ensures))
 
-pub returns-clause-runs : goal.returns-clause-runs
-returns-clause-runs g c = runs_ok _ _ _ _ _ _ _ _ _ _ c.in_ok-run.run' (rw c.none.ensures at c.in_ok-run.ensures.drives)
+pub returns : goal.returns
+returns g c = runs_ok _ _ _ _ _ _ _ c.in_ok-run.run' (rw c.none.ensures at c.in_ok-run.ensures)

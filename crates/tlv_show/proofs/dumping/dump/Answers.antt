@@ -3,10 +3,10 @@ use Rattle.std.proofs.lemmas.Result.{err_from_is_err_and}
 use Rattle.tlv_show.proofs.Dumps.{dumps_err, dumps_ok}
 use Rattle.tlv_show.proofs.dumping.dump.Goals as goal
 
-pub returns-in_err-run-clause-dumps : goal.returns-in_err-run-clause-dumps
-returns-in_err-run-clause-dumps g c =
+pub returns-in_err-run : goal.returns-in_err-run
+returns-in_err-run g c =
     let p = err_from_is_err_and c.from_residual.result c.from_residual.ensures.1 in rw (p.1, p.2)
-    (dumps_err _ _ _ _ _ _ _ _ _ _ c.in_err-run.field-0.0 (rw c.new-follower.ensures at c.in_err-run.ensures.drives))
+    (dumps_err _ _ _ _ _ _ _ c.in_err-run.field-0.0 (rw c.new-follower.ensures at c.in_err-run.ensures))
 
-pub returns-clause-dumps : goal.returns-clause-dumps
-returns-clause-dumps g c = dumps_ok _ _ _ _ _ _ _ _ _ _ c.in_ok-run.run' _ refl refl (rw c.new-follower.ensures at c.in_ok-run.ensures.drives)
+pub returns : goal.returns
+returns g c = dumps_ok _ _ _ _ _ _ _ c.in_ok-run.run' _ refl refl (rw c.new-follower.ensures at c.in_ok-run.ensures)

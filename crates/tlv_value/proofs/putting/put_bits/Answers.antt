@@ -10,14 +10,8 @@ put_line-requires g c =
     let e = c.long_bits.ensures (omega arith) in
     rw e (omega (arith, length-append c.args.line.now (long_text Bits c.args.size (c.args.unused ∷ []))))
 
-pub returns-clause-ok : goal.returns-clause-ok
-returns-clause-ok g c =
+pub returns : goal.returns
+returns g c =
     let p = long-short c.args.size c.args.unused c.ranges.size.fits in
     let e = c.long_bits.ensures (omega arith) in
-    rw e at c.put_line.ensures.ok
-
-pub returns-clause-err : goal.returns-clause-err
-returns-clause-err g c =
-    let p = long-short c.args.size c.args.unused c.ranges.size.fits in
-    let e = c.long_bits.ensures (omega arith) in
-    rw e at c.put_line.ensures.err
+    rw e at c.put_line.ensures

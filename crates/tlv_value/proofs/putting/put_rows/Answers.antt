@@ -1,15 +1,12 @@
-use Rattle.std.proofs.Common.{◌≡◌, ◌⊎◌, inl, inr, ℕ, ◌+◌, ◌<◌, ◌++◌, [], List, length, sym, ap, ◌∙◌, arith, append_assoc, append-nil}
+use Rattle.std.proofs.Common.{rules, refl, ◌≡◌, ◌⊎◌, inl, inr, ℕ, ◌+◌, ◌<◌, ◌++◌, [], List, length, sym, ap, ◌∙◌, arith, append_assoc, append-nil}
 use Rattle.std.proofs.lemmas.Bool.{eqb-true}
 use Rattle.std.proofs.lemmas.Bool.Decides.{nat_tests}
 use Rattle.std.proofs.lemmas.Grind.{common_steps}
-use Rattle.std.proofs.lemmas.Result.{err_from_is_err_and}
-use Rattle.tlv_walk.specs.Out.{lender_of, put_to}
-use Rattle.tlv_walk.proofs.Known.{appends_trans}
+use Rattle.tlv_walk.proofs.Puts.{puts_as, puts_failed_in, puts_nothing, puts_then_as}
 use Rattle.tlv_value.specs.Layout.{row_line}
 use Rattle.tlv_value.specs.Rows.{full_rows, row_size}
 use Rattle.tlv_value.specs.State.{row_lines}
 use Rattle.tlv_value.specs.Value.{row_text}
-use Rattle.tlv_value.proofs.Puts.{put_failed}
 use Rattle.tlv_value.proofs.RowSteps.{kept, progress, turned}
 use Rattle.tlv_value.proofs.putting.put_rows.Goals.{else-len-part-via-then-len-part+else-is_empty, else-len-part-via-else-len-part}
 use Rattle.tlv_value.proofs.putting.put_rows.Goals as goal
@@ -28,12 +25,12 @@ returns-then-is_empty-clause-rows g c =
     let i = c.loop-rest.invariant.rows in
     omega (arith, i, ap length k.0)
 
-pub returns-then-is_empty-clause-ok : goal.returns-then-is_empty-clause-ok
-returns-then-is_empty-clause-ok g c =
+pub returns-then-is_empty-clause-puts : goal.returns-then-is_empty-clause-puts
+returns-then-is_empty-clause-puts g c =
     let z : length c.split_at.result.1.now ≡ 0 = eqb-true (length c.split_at.result.1.now) 0 (sym c.if-is_empty.ensures) in
     let k = kept c.args.kind c.len.result c.loop-rest.row.items c.fitting.result c.loop-rest.rest.now c.split_at.result.0.now c.len.ensures.value c.split_at.ensures.front c.fitting.ensures.fits (omega arith) c.fitting.ensures.within (omega arith) in
     let i = c.loop-rest.invariant.put in
-    rw (← i.2) (rw (k.0, append-nil) i.1)
+    puts_as g.D.Drain.told _ _ i.0 _ tt tt i.1 (rw (k.0, append-nil) at i.2)
 
 pub loop-rest-preserved : goal.loop-rest-preserved
 loop-rest-preserved g c =
@@ -53,22 +50,20 @@ loop-rest-preserved g c =
     let none : c.put_full.new.row.items ≡ [] = c.put_full.ensures.row in
     let line : List ℕ = row_line c.args.layout c.loop-rest.rows (row_text kind (row ++ part)) in
     record {
-      same_reference = c.put_full.ensures.same_reference ∙ i.same_reference;
-      failures = c.in_ok-put_full.ensures.failed ∙ i.failures;
       begun = omega (arith, ap length none);
       counted = omega (arith, ap length none);
       row = rw none (sym t.1 ∙ i.row);
       rows = rw none (omega (arith, ap length t.0));
       put = (
         i.put.0 ++ line,
-        appends_trans (put_to g.D.Drain.taken c.args.out.now) (put_to g.D.Drain.taken c.loop-rest.out) (put_to g.D.Drain.taken c.put_full.new.out) i.put.0 line i.put.1 c.in_ok-put_full.ensures.ok,
+        puts_then_as g.D.Drain.told _ _ _ i.put.0 line (i.put.0 ++ line) tt _ i.put.1 c.in_ok-put_full.ensures.puts refl,
         rw none (append_assoc i.put.0 line (row_lines kind c.args.layout (c.loop-rest.rows + 1) (full_rows kind [] more))
             ∙ ap (λ (x : List ℕ). i.put.0 ++ x) (sym (ap (row_lines kind c.args.layout c.loop-rest.rows) t.0)) ∙ i.put.2),
       );
     }
 
-pub returns-in_err-put_full-clause-err : goal.returns-in_err-put_full-clause-err
-returns-in_err-put_full-clause-err g c =
+pub returns-in_err-put_full-clause-puts : goal.returns-in_err-put_full-clause-puts
+returns-in_err-put_full-clause-puts g c =
     let kind = c.args.kind in
     let i = c.loop-rest.invariant in
     let row : List ℕ = c.loop-rest.row.items in
@@ -82,7 +77,17 @@ returns-in_err-put_full-clause-err g c =
     let t = turned kind c.len.result row m c.loop-rest.rest.now part more c.len.ensures.value c.split_at.ensures.front c.split_at.ensures.back c.fitting.ensures.fits c.fitting.ensures.bound
     c.fitting.ensures.within (omega arith) c.fitting.ensures.next claim in
     let line : List ℕ = row_line c.args.layout c.loop-rest.rows (row_text kind (row ++ part)) in
-    let p = err_from_is_err_and c.from_residual.result c.from_residual.ensures.1 in
-    rw p.1 (put_failed (put_to g.D.Drain.taken c.args.out.now) (put_to g.D.Drain.taken c.loop-rest.out) (g.D.Drain.taken (lender_of c.put_full.new.out).now) i.put.0 line
-    (row_lines kind c.args.layout (c.loop-rest.rows + 1) (full_rows kind [] more)) (row_lines kind c.args.layout c.args.rows.now (full_rows kind c.args.row.now.items c.args.octets.now))
-    i.put.1 c.in_err-put_full.ensures.err (ap (λ (x : List ℕ). i.put.0 ++ x) (sym (ap (row_lines kind c.args.layout c.loop-rest.rows) t.0)) ∙ i.put.2))
+    let rest : List ℕ = row_lines kind c.args.layout (c.loop-rest.rows + 1) (full_rows kind [] more) in
+    puts_failed_in g.D.Drain.told _ _ (i.put.0 ++ line) _ _ _ (puts_then_as g.D.Drain.told _ _ _ i.put.0 line (i.put.0 ++ line) tt _ i.put.1 c.in_err-put_full.ensures.puts refl) (search rules) (record {
+      rest = rest;
+      is = append_assoc i.put.0 line rest ∙ ap (λ (x : List ℕ). i.put.0 ++ x) (sym (ap (row_lines kind c.args.layout c.loop-rest.rows) t.0)) ∙ i.put.2;
+    })
+
+pub loop-rest-init : goal.loop-rest-init
+loop-rest-init g c = record {
+  begun = search rules;
+  counted = omega arith;
+  row = refl;
+  rows = refl;
+  put = ([], puts_nothing g.D.Drain.told _ tt, refl);
+}

@@ -1,19 +1,16 @@
 use Rattle.std.proofs.Common.{◌≡◌, ℕ, ◌+◌, ◌<◌, ◌≤◌, ◌++◌, List, length}
-use Rattle.std.specs.Io.KnownBytes.{Appends}
-use Rattle.tlv_walk.specs.Out.{lender_of, put_to}
+use Rattle.tlv_walk.proofs.Puts.{HasPut}
 use Rattle.tlv_value.specs.Rows.{full_rows, open_row, row_size}
 use Rattle.tlv_value.specs.State.{row_lines}
 use Rattle.tlv_value.proofs.putting.put_rows.Given as goal
 
 abbrev pub invariant-loop-rest : goal.invariant-loop-rest
 invariant-loop-rest g l = record {
-  same_reference : (lender_of l.out).ghost_name ≡ (lender_of l.initial.out).ghost_name;
-  failures : g.D.Drain.failures (lender_of l.out).now ≡ g.D.Drain.failures (lender_of l.initial.out).now;
   begun : length l.row.items < row_size l.kind;
   counted : l.rows + length l.row.items + length l.rest ≤ l.initial.rows + length l.initial.row.items + length l.octets;
   row : open_row l.kind l.row.items l.rest ≡ open_row l.kind l.initial.row.items l.octets;
   rows : l.rows + length (full_rows l.kind l.row.items l.rest) ≡ l.initial.rows + length (full_rows l.kind l.initial.row.items l.octets);
-  put : (text : List ℕ) × Appends (put_to g.D.Drain.taken l.initial.out) (put_to g.D.Drain.taken l.out) text
+  put : (text : List ℕ) × HasPut g.D.Drain.told l.initial.out l.out text
       × (text ++ row_lines l.kind l.layout l.rows (full_rows l.kind l.row.items l.rest) ≡ row_lines l.kind l.layout l.initial.rows (full_rows l.kind l.initial.row.items l.octets));
 }
 

@@ -9,14 +9,8 @@ put_line-requires g c =
     let e = c.value.ensures (omega arith) in
     rw e (omega (arith, length-append c.args.line.now (plain_text c.args.kind c.args.contents.now)))
 
-pub returns-clause-ok : goal.returns-clause-ok
-returns-clause-ok g c =
+pub returns : goal.returns
+returns g c =
     let p = plain-short c.args.kind c.args.contents.now c.requires.held in
     let e = c.value.ensures (omega arith) in
-    rw e at c.put_line.ensures.ok
-
-pub returns-clause-err : goal.returns-clause-err
-returns-clause-err g c =
-    let p = plain-short c.args.kind c.args.contents.now c.requires.held in
-    let e = c.value.ensures (omega arith) in
-    rw e at c.put_line.ensures.err
+    rw e at c.put_line.ensures

@@ -1,11 +1,11 @@
 use Rattle.std.proofs.Common.{◌≡◌, ◌-◌, ◌^◌, ◌≤◌, ℕ, length, ap, ap₂, sym, ◌∙◌, arith}
-use Rattle.std.proofs.lemmas.Result.{on_err_weaker, on_ok_weaker}
+use Rattle.std.proofs.lemmas.Result.{on_ok_weaker}
 use Rattle.std.specs.Prelude.{Option}
 use Rattle.tlv_value.specs.State.{TextState}
 use Rattle.tlv_walk.specs.Follow.{Following, each_octet}
 use Rattle.tlv_show.specs.Dumped.{Dumping, further, one_dumped}
 use Rattle.tlv_show.proofs.Dumped.{dumped_bytes}
-use Rattle.tlv_show.proofs.Puts.{appends_same, prefix_same}
+use Rattle.tlv_walk.proofs.Puts.{puts_text}
 use Rattle.tlv_show.proofs.follower.Dump.bytes.Goals as goal
 
 pub returns-clause-state : goal.returns-clause-state
@@ -20,14 +20,8 @@ returns-clause-state g c =
     ∙ sym (ap (λ (t : Following Dumping). t.state) is))
     c.put_bytes.ensures.state
 
-pub returns-clause-ok : goal.returns-clause-ok
-returns-clause-ok g c =
+pub returns-clause-puts : goal.returns-clause-puts
+returns-clause-puts g c =
     let octets = c.args.octets.now in
     let is = ap (λ (s : Dumping). each_octet one_dumped s octets) (sym c.self.view_is) ∙ dumped_bytes _ octets in
-    on_ok_weaker c.put_bytes.result (appends_same _ _ _ _ (ap (λ (t : Following Dumping). t.put) is)) c.put_bytes.ensures.ok
-
-pub returns-clause-err : goal.returns-clause-err
-returns-clause-err g c =
-    let octets = c.args.octets.now in
-    let is = ap (λ (s : Dumping). each_octet one_dumped s octets) (sym c.self.view_is) ∙ dumped_bytes _ octets in
-    on_err_weaker c.put_bytes.result (prefix_same _ _ _ _ (ap (λ (t : Following Dumping). t.put) is)) c.put_bytes.ensures.err
+    puts_text g.D.Drain.told _ _ _ _ _ (sym (ap (λ (t : Following Dumping). t.put) is)) c.put_bytes.ensures.puts

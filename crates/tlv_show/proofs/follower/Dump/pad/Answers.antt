@@ -1,9 +1,9 @@
 use Rattle.std.proofs.Common.{◌≡◌, ◌-◌, ◌^◌, ◌<◌, ◌≤◌, ℕ, true, length, ap, sym, ◌∙◌, arith}
-use Rattle.std.proofs.lemmas.Result.{on_err_weaker, on_ok_weaker}
+use Rattle.std.proofs.lemmas.Result.{on_ok_weaker}
 use Rattle.tlv_walk.specs.Follow.{Following, each_octet}
 use Rattle.tlv_show.specs.Dumped.{Dumping, further, if_open, one_padded}
 use Rattle.tlv_show.proofs.Dumped.{padded_first, padded_more}
-use Rattle.tlv_show.proofs.Puts.{appends_nothing, appends_same, prefix_same}
+use Rattle.tlv_walk.proofs.Puts.{puts_nothing, puts_text}
 use Rattle.tlv_show.proofs.follower.Dump.pad.Goals as goal
 
 pub returns-then-self-clause-state : goal.returns-then-self-clause-state
@@ -15,11 +15,11 @@ returns-then-self-clause-state g c =
     ap (λ (o : ℕ). record { layout = s.layout; names = s.names.now; offset = o; in_padding = s.in_padding; value = if_open s.is_open s.value }) there
     ∙ sym (ap (λ (t : Following Dumping). t.state) is)
 
-pub returns-then-self-clause-ok : goal.returns-then-self-clause-ok
-returns-then-self-clause-ok g c =
+pub returns-then-self-clause-puts : goal.returns-then-self-clause-puts
+returns-then-self-clause-puts g c =
     let s = c.self.inside in
     let is = ap (λ (s : Dumping). each_octet one_padded s c.args.octets.now) (sym c.self.view_is) ∙ padded_more _ c.args.octets.now c.if-self.true in
-    appends_nothing _ _ (ap (λ (t : Following Dumping). t.put) is)
+    puts_text g.D.Drain.told _ _ _ _ _ (sym (ap (λ (t : Following Dumping). t.put) is)) (puts_nothing g.D.Drain.told _ tt)
 
 pub returns-clause-state : goal.returns-clause-state
 returns-clause-state g c =
@@ -31,18 +31,11 @@ returns-clause-state g c =
     on_ok_weaker c.put.result
     (λ _. ap (λ (o : ℕ). record { layout = s.layout; names = s.names.now; offset = o; in_padding = true; value = if_open s.is_open s.value }) there
     ∙ sym (ap (λ (t : Following Dumping). t.state) is))
-    c.put.ensures.ok
+    c.put.ensures.puts.held
 
-pub returns-clause-ok : goal.returns-clause-ok
-returns-clause-ok g c =
+pub returns-clause-puts : goal.returns-clause-puts
+returns-clause-puts g c =
     let s = c.self.inside in
     let some : 0 < length c.args.octets.now = search arith in
     let is = ap (λ (s : Dumping). each_octet one_padded s c.args.octets.now) (sym c.self.view_is) ∙ padded_first _ c.args.octets.now some c.if-self.false in
-    on_ok_weaker c.put.result (appends_same _ _ _ _ (ap (λ (t : Following Dumping). t.put) is ∙ sym (c.as_slice.ensures ∙ c.write_padding.ensures))) c.put.ensures.ok
-
-pub returns-clause-err : goal.returns-clause-err
-returns-clause-err g c =
-    let s = c.self.inside in
-    let some : 0 < length c.args.octets.now = search arith in
-    let is = ap (λ (s : Dumping). each_octet one_padded s c.args.octets.now) (sym c.self.view_is) ∙ padded_first _ c.args.octets.now some c.if-self.false in
-    on_err_weaker c.put.result (prefix_same _ _ _ _ (ap (λ (t : Following Dumping). t.put) is ∙ sym (c.as_slice.ensures ∙ c.write_padding.ensures))) c.put.ensures.err
+    puts_text g.D.Drain.told _ _ _ _ _ (sym (ap (λ (t : Following Dumping). t.put) is ∙ sym (c.as_slice.ensures ∙ c.write_padding.ensures))) c.put.ensures.puts

@@ -1,15 +1,42 @@
-use Rattle.std.proofs.Common.{arith}
-use Rattle.tlv_value.proofs.NamesReads.{too-long, within}
+use Rattle.std.proofs.Common.{rules, arith, refl}
+use Rattle.tlv_walk.proofs.Pieces.{gathered_none}
+use Rattle.tlv_value.proofs.NamesReads.{given_more, gives_end, gives_failed, gives_long, gives_memory}
 use Rattle.tlv_value.proofs.names.reading.read_octets.Goals as goal
 
-pub returns-then-count-len-clause-reading : goal.returns-then-count-len-clause-reading
-returns-then-count-len-clause-reading g c =
-    too-long (g.S.Source.left c.args.source.now) (g.S.Source.left c.loop-count.source) (g.S.Source.left c.read.new.self) (g.S.Source.last c.read.new.self)
-    c.loop-count.octets.items c.read.new.to c.in-Ok.count c.loop-count.invariant.given c.in-Ok.ensures.octets.0 c.in-Ok.ensures.gave c.loop-count.invariant.most
-    c.in-Ok.ensures.bound.0 (omega (arith, c.len.ensures, c.if-count-len.true))
+pub loop-count-init : goal.loop-count-init
+loop-count-init g c = record {
+  given = record { gathered = gathered_none (g.S.Source.told c.args.source.now); are = search rules };
+  most = search rules;
+  piece = search rules;
+  failures = refl;
+}
 
-pub returns-then-is_err-clause-reading : goal.returns-then-is_err-clause-reading
-returns-then-is_err-clause-reading g c =
-    within (g.S.Source.left c.args.source.now) (g.S.Source.left c.loop-count.source) (g.S.Source.left c.read.new.self)
-    c.loop-count.octets.items c.read.new.to c.in-Ok.count c.loop-count.invariant.given c.in-Ok.ensures.octets.0 c.loop-count.invariant.most
-    c.in-Ok.ensures.bound.0 (omega (arith, c.len.ensures, c.if-count-len.false))
+pub loop-count-preserved : goal.loop-count-preserved
+loop-count-preserved g c =
+    let i = c.loop-count.invariant in
+    record {
+      given = given_more _ _ _ _ i.given i.most i.failures c.read.new.to (search rules) c.in-Ok.count c.in-Ok.ensures (search rules) _ (search rules);
+      most = search rules;
+      piece = search rules;
+      failures = search rules;
+    }
+
+pub returns-in_default : goal.returns-in_default
+returns-in_default g c =
+    let i = c.loop-count.invariant in
+    gives_failed _ _ _ _ i.given i.most i.failures c.read.new.to (search rules) _ c.in_default.ensures
+
+pub returns-then-count-eq0 : goal.returns-then-count-eq0
+returns-then-count-eq0 g c =
+    let i = c.loop-count.invariant in
+    gives_end _ _ _ _ i.given i.most i.failures c.read.new.to (search rules) c.in-Ok.count c.in-Ok.ensures (search rules) _ refl
+
+pub returns-then-count-len : goal.returns-then-count-len
+returns-then-count-len g c =
+    let i = c.loop-count.invariant in
+    gives_long _ _ _ _ i.given i.most i.failures c.read.new.to (search rules) c.in-Ok.count c.in-Ok.ensures (omega (arith, c.len.ensures, c.if-count-len.true))
+
+pub returns-then-is_err : goal.returns-then-is_err
+returns-then-is_err g c =
+    let i = c.loop-count.invariant in
+    gives_memory _ _ _ _ i.given i.most i.failures c.read.new.to (search rules) c.in-Ok.count c.in-Ok.ensures (omega (arith, c.len.ensures, c.if-count-len.false))

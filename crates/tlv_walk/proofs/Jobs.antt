@@ -1,0 +1,105 @@
+-- A job that is a walk with some follower.
+use Rattle.std.proofs.Common.{◌≡◌, ◌⊎◌, ℕ, ◌≤◌, Bool, true, false, List, ◌++◌, length, take, refl, sym, ap, ◌∙◌, subst, arith}
+use Rattle.std.proofs.lemmas.List.{length-take}
+use Rattle.std.specs.Prelude.{Result, Ok, Err, ⊤}
+use Rattle.std.specs.Io.KnownBytes.{IsAtEnd}
+use Rattle.tlv_walk.specs.declared.ending.Ending.{Ending}
+use Rattle.tlv_walk.specs.declared.follow.Go.{Go}
+use Rattle.tlv_walk.specs.declared.follow.Go.TheVariants as go
+use Rattle.tlv_walk.specs.declared.framing.Framing.{Framing}
+use Rattle.tlv_walk.specs.declared.run.DeviceFault.{DeviceFault}
+use Rattle.tlv_walk.specs.declared.run.DeviceFault.TheVariants.{ReadFailed, WriteFailed, InputTooLong}
+use Rattle.tlv_walk.specs.declared.run.Run.{Run}
+use Rattle.tlv_walk.specs.Device.{Supply, Taken, before_in, gave, given_in}
+use Rattle.tlv_walk.specs.Drives.{Drives, had_enough, run_of, walk}
+use Rattle.tlv_walk.specs.Events.{Told, events}
+use Rattle.tlv_walk.specs.Follow.{Following, followed, goes_of}
+use Rattle.tlv_walk.specs.Forest.{Forest}
+use Rattle.tlv_walk.specs.Job.{AreSound, EndsWith, IsFinalEnding, Job, Runs, of_drain}
+use Rattle.tlv_walk.specs.Out.{Sends}
+use Rattle.tlv_walk.specs.Reading.{IsReading}
+
+-- a run has the ending that it came to, and where it does not stop the first named offset that is no wrapper's
+pub run-ending : (framing : Framing) (f : Forest) (es : List Told) (g : Go) (e : Ending) → (run_of framing f es g e).ending ≡ e
+run-ending framing f es go.On e = refl
+run-ending framing f es go.Enough e = refl
+
+pub had-goes : (k : Bool) → had_enough (goes_of k) ≡ k
+had-goes true = refl
+had-goes false = refl
+
+module _ {S A : Type 0} (next : S → Told → Following S) (job : Job A) (s : S)
+    (text : (octets : List ℕ) (f : Forest) → length octets ≤ job.limit → IsReading job.framing octets f → (followed next s (events f)).put ≡ job.text f)
+    (enough : (octets : List ℕ) (f : Forest) → length octets ≤ job.limit → IsReading job.framing octets f → had_enough (followed next s (events f)).goes ≡ job.is_enough f)
+    (t : S) (old new : Supply) (from to : Taken) where
+  within_limit : (given : List ℕ) → length (take job.limit given) ≤ job.limit
+  within_limit given = omega (arith, length-take job.limit given)
+
+  sound_as : (octets : List ℕ) → length octets ≤ job.limit → AreSound (walk next job.framing job.limit s) octets → AreSound job octets
+  sound_as octets few x = record {
+    forest = x.forest;
+    is_reading = x.is_reading;
+    spelled = x.spelled;
+    not_enough = sym (enough octets x.forest few x.is_reading) ∙ x.not_enough;
+  }
+
+  -- what the walk sent is the job's text
+  sent_as : {E : Type 0} (given : List ℕ) (f : Forest) (result : Result ⊤ E) → IsReading job.framing (take job.limit given) f → Sends from to (followed next s (events f)).put result → Sends from to (job.text f) result
+  sent_as given f result r x = subst (λ (l : List ℕ). Sends from to l result) (text (take job.limit given) f (within_limit given) r) x
+
+  pub runs_ok : (run : Run) (a : A) → Drives next job.framing job.limit s t old new from to (Ok run)
+      → ((octets : List ℕ) (f : Forest) (e : Ending) → length octets ≤ job.limit → IsReading job.framing octets f → t ≡ (followed next s (events f)).state → run ≡ (walk next job.framing job.limit s).answer f e → a ≡ job.answer f e)
+      → Runs job old new from to (Ok a)
+  runs_ok run a x answer =
+      let w = x.runs in
+      let given : List ℕ = given_in w.pieces in
+      let same = enough (take job.limit given) w.reading (within_limit given) w.is_reading in record {
+        pieces = w.pieces;
+        failures = w.failures;
+        sound = sound_as (before_in w.pieces) w.within w.sound;
+        within = w.within;
+        reading = w.reading;
+        is_reading = w.is_reading;
+        sends = sent_as given w.reading (Ok tt) w.is_reading w.sends;
+        comes = (
+          w.comes.0,
+          answer (take job.limit given) w.reading w.comes.0 (within_limit given) w.is_reading x.state w.comes.1,
+          subst (λ (k : Bool). EndsWith job.framing (take job.limit given) k w.comes.0) same w.comes.2,
+          subst (λ (k : Bool). (k ≡ true) ⊎ IsFinalEnding w.comes.0 ⊎ ((new.last ≡ gave 0) × IsAtEnd new.left)) same w.comes.3,
+        );
+      }
+
+  pub runs_err : (e : DeviceFault) → Drives next job.framing job.limit s t old new from to (Err e) → Runs job old new from to (Err e)
+  runs_err ReadFailed x =
+      let w = x.runs in record {
+        pieces = w.pieces;
+        failures = w.failures;
+        sound = sound_as (before_in w.pieces) w.within w.sound;
+        within = w.within;
+        reading = w.reading;
+        is_reading = w.is_reading;
+        sends = sent_as (given_in w.pieces) w.reading (Ok tt) w.is_reading w.sends;
+        comes = w.comes;
+      }
+  runs_err WriteFailed x =
+      let w = x.runs in record {
+        pieces = w.pieces;
+        failures = w.failures;
+        sound = sound_as (before_in w.pieces) w.within w.sound;
+        within = w.within;
+        reading = w.reading;
+        is_reading = w.is_reading;
+        sends = sent_as (given_in w.pieces) w.reading (Err WriteFailed) w.is_reading w.sends;
+        comes = tt;
+      }
+  runs_err InputTooLong x =
+      let w = x.runs in record {
+        pieces = w.pieces;
+        failures = w.failures;
+        sound = sound_as (before_in w.pieces) w.within w.sound;
+        within = w.within;
+        reading = w.reading;
+        is_reading = w.is_reading;
+        sends = sent_as (given_in w.pieces) w.reading (Ok tt) w.is_reading w.sends;
+        comes = (w.comes.0, sound_as (take job.limit (given_in w.pieces)) (within_limit (given_in w.pieces)) w.comes.1);
+      }
