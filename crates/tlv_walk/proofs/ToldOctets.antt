@@ -13,7 +13,7 @@ use Rattle.tlv_walk.specs.Events.{AreEqualJoined, Told, Open, Begin, Bytes, End,
 use Rattle.tlv_walk.specs.Forest.{Forest, Stop, Fill, Whole, Closed, Partial, Entered, Awaiting, Begun, Zero, end_octets, extent, is_whole, lead, opening, spell}
 use Rattle.tlv_walk.specs.Machine.{IsTold, Machine}
 use Rattle.tlv_walk.specs.Place.{IsHeadAt, IsOpen, Place, after, inside_of}
-use Rattle.tlv_walk.specs.State.{AreLayers, Contents, Front, HasState, IsPhaseOf, Layer, Lead, Lone, Nothing, Stands, State, Tail, events_layers, events_state, events_tail, place_in, place_of, spell_layers, spell_state, spell_tail}
+use Rattle.tlv_walk.specs.State.{AreLayers, InContents, InHeader, HasState, IsPhaseOf, Layer, BeforeUnused, InEnd, Between, Stands, State, Tail, events_layers, events_state, events_tail, place_in, place_of, spell_layers, spell_state, spell_tail}
 use Rattle.tlv_walk.proofs.Joined.{apart-from_joined}
 
 -- ---- however they are cut into pieces
@@ -117,11 +117,11 @@ octets_layers w (l ∷ ls) a =
     )
 
 octets_tail : (f : Phase) (t : Tail) (p : Place) → IsPhaseOf f t p → IsTold f → flat_map octets_told (events_tail t) ≡ spell_tail t
-octets_tail phase.Between Nothing p i k = refl
-octets_tail (phase.Header r) (Front octets) p i k = absurd k
-octets_tail (phase.Contents left) (Contents h c) p i k = ap (λ (l : List ℕ). octets_of h ++ l) (append-nil c)
-octets_tail phase.Unused (Lead h) p i k = append-nil (octets_of h)
-octets_tail phase.Zero Lone p i k = absurd k
+octets_tail phase.Between Between p i k = refl
+octets_tail (phase.InHeader r) (InHeader octets) p i k = absurd k
+octets_tail (phase.InContents left) (InContents h c) p i k = ap (λ (l : List ℕ). octets_of h ++ l) (append-nil c)
+octets_tail phase.BeforeUnused (BeforeUnused h) p i k = append-nil (octets_of h)
+octets_tail phase.InEnd InEnd p i k = absurd k
 octets_tail f t p i k = absurd i
 
 -- a walker that has told an event of each octet

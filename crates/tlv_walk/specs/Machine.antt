@@ -89,10 +89,10 @@ IsReady w = IsReadyIn w.phase w.stack w.offset
 -- an event was told of each octet taken: no header has begun, no end-of-contents octets, and nothing was refused
 abbrev pub IsTold : Phase → Type 0
 IsTold Between = Unit {0}
-IsTold (Header r) = ⊥
-IsTold (Contents left) = Unit {0}
-IsTold Unused = Unit {0}
-IsTold Zero = ⊥
+IsTold (InHeader r) = ⊥
+IsTold (InContents left) = Unit {0}
+IsTold BeforeUnused = Unit {0}
+IsTold InEnd = ⊥
 IsTold (Failed fault) = ⊥
 
 -- an event was told, and the walker stands at this offset
