@@ -254,7 +254,7 @@ module _ {S : Type 0} (next : S → Told → Following S)
       ended_by run f e g (inr (inr k)) = let z = gave_none new.last piece g k in inr (inr (z, calls.at_end z))
 
       -- with a fault or the end of the input
-      ends_without : (run : Run) → result ≡ Ok (Ended run) → GaveUpTo (length piece) new.last → run.enough ≡ false → EndsIn next w t u walked x.told (λ text. Sends {T = ⊤} {E = DeviceFault} at to text (Ok tt)) run
+      ends_without : (run : Run) → result ≡ Ok (Ended run) → GaveUpTo (length piece) new.last → run.enough ≡ false → EndsIn next w v t u walked x.told (λ text. Sends {T = ⊤} {E = DeviceFault} at to text (Ok tt)) run
           → (run.enough ≡ true) ⊎ IsFinalEnding run.ending ⊎ (r ≡ []) → Drives next framing limit s u old new from to (Ok run)
       unfolding runs_by
       ends_without run is g none y ended =

@@ -23,7 +23,7 @@ use Rattle.tlv_walk.specs.Out.{Puts}
 use Rattle.tlv_walk.specs.Place.{Place}
 use Rattle.tlv_walk.specs.Reading.{IsReading}
 use Rattle.tlv_walk.specs.State.{IsPhaseOf, Stands, Tail, place_of, waiting_of}
-use Rattle.tlv_walk.specs.Tells.{IsRefusedBehind, StandsBehind, StandsStep}
+use Rattle.tlv_walk.specs.Tells.{IsRefusedBehind, StandsRefused, StandsBehind, StandsStep}
 use Rattle.tlv_walk.specs.Wrappers.{enters}
 use Rattle.tlv_walk.proofs.Followed.{events_more, events_one, followed-more, followed-one}
 use Rattle.tlv_walk.proofs.Joined.{apart-before, apart-from_joined, joined-from_apart}
@@ -80,6 +80,7 @@ refused_there w u v piece mid after f more x moved o told st' st (inl r) =
           ap₂ (λ (g : Framing) (n : ℕ). slice_get g.inside n) (moved.3 ∙ x.framing) (moved.4 ∙ st.found ∙ ap (λ (g : Framing). found_in g.inside 0 (enters (told ++ more))) x.framing)
           ∙ told_unused w.framing (told ++ more) [] refused.reading (subst (λ (g : Framing). CanName g.inside) x.framing st.named) (refused.stays []).is_open refl
           (subst (λ (es : List Told). AreEqualJoined es (events refused.reading)) (sym (append-nil (told ++ more))) refused.all_told);
+      stands = subst (λ (l : List ℕ). StandsRefused v l r.octet (told ++ more) f) all (r.stands (o ++ x.taken) (told ++ more) st);
     }
 refused_there w u v piece mid after f more x moved o told st' st (inr r) = absurd (never_failed u (o ++ x.taken) (told ++ more) f st r.0)
 

@@ -143,7 +143,7 @@ module _ {S : Type 0} (next : S → Told → Following S) where
 
   -- the input has ended
   pub used_up_ends : (w v : Machine) (s t : S) (o : List ℕ) (told : List Told) (Q : List ℕ → Type 0) (run : Run) (e : Ending) → StandsOn next w v s t o told Q → IsRun run e false v → IsEnding v.framing o e
-      → EndsIn next w s t o told Q run
+      → EndsIn next w v s t o told Q run
   used_up_ends w v s t o told Q run e x is ends =
       let r : IsReading w.framing o x.stands.reading = subst (λ (g : Framing). IsReading g o x.stands.reading) x.framing x.stands.is_reading in record {
         more = x.more;
@@ -155,6 +155,7 @@ module _ {S : Type 0} (next : S → Told → Following S) where
         ending = subst (λ (k : Ending). IsEnding w.framing o k) (sym is.ending) (subst (λ (g : Framing). IsEnding g o e) x.framing ends);
         spelled = is.octets ∙ x.stands.has_state.offset ∙ ap length (sym (stands_spelled v o (told ++ x.more) x.stands.reading x.stands x.stands.is_reading));
         unused = is.unused ∙ stands_unused v o (told ++ x.more) x.stands ∙ ap (λ (g : Framing). unused_of g.inside x.stands.reading) x.framing;
+        walker = inl (x.stands, x.quiet);
       }
 
   -- ---- the follower had enough
@@ -180,7 +181,7 @@ module _ {S : Type 0} (next : S → Told → Following S) where
   -- ---- an octet is refused
 
   pub fault_ends : (w v : Machine) (s t : S) (b piece : List ℕ) (told : List Told) (P Q : List ℕ → Type 0) → ((x : List ℕ) → P x → Q x) → (e : Fault) → FollowsTo next w v s t piece P e → Stands w b told
-      → (run : Run) → IsRun run (ending.Fault e) false v → EndsIn next w s t (b ++ piece) told Q run
+      → (run : Run) → IsRun run (ending.Fault e) false v → EndsIn next w v s t (b ++ piece) told Q run
   fault_ends w v s t b piece told P Q h e x st run is =
       let k : WalkedTo w v piece x.more e b told = x.walked b told st in record {
         more = x.more;
@@ -192,6 +193,7 @@ module _ {S : Type 0} (next : S → Told → Following S) where
         ending = subst (λ (g : Ending). IsEnding w.framing (b ++ piece) g) (sym is.ending) (subst (λ (o : List ℕ). IsEnding w.framing o (ending.Fault e)) (fault_octets w v b piece told x.more e k) (k.refused.ends k.rest));
         spelled = is.octets ∙ k.offset ∙ ap length (sym k.refused.spelled);
         unused = is.unused ∙ k.unused;
+        walker = inr (b ++ k.taken, k.octet, k.rest, e, fault_octets w v b piece told x.more e k, is.ending, k.stands);
       }
 
 -- ---- what a turn answers
@@ -247,11 +249,11 @@ module _ {S : Type 0} (next : S → Told → Following S) (w v : Machine) (s t :
     subst (λ (o : List ℕ). StandsOn next w v s t o told (λ text. Sends {T = ⊤} {E = DeviceFault} from to text (Ok tt))) reached (used why x),
   )
 
-  ends_by : (run : Run) → run.enough ≡ false → EndsIn next w s t (b ++ piece) told (λ text. Sends {T = ⊤} {E = DeviceFault} from to text (Ok tt)) run
+  ends_by : (run : Run) → run.enough ≡ false → EndsIn next w v s t (b ++ piece) told (λ text. Sends {T = ⊤} {E = DeviceFault} from to text (Ok tt)) run
       → EndsBy next run.enough w v s t (b ++ take (limit - length b) r) told (λ text. Sends {T = ⊤} {E = DeviceFault} from to text (Ok tt)) run
   ends_by run is x =
       let P : List ℕ → Type 0 = λ text. Sends {T = ⊤} {E = DeviceFault} from to text (Ok tt) in
-      subst (λ (k : Bool). EndsBy next k w v s t (b ++ take (limit - length b) r) told P run) (sym is) (subst (λ (o : List ℕ). EndsIn next w s t o told P run) reached x)
+      subst (λ (k : Bool). EndsBy next k w v s t (b ++ take (limit - length b) r) told P run) (sym is) (subst (λ (o : List ℕ). EndsIn next w v s t o told P run) reached x)
 
   pub turns_end : (run : Run) (e : Ending) (why : Stop) → Used why → (n ≡ 0) → IsRun run e false v
       → ((o : List ℕ) (es : List Told) → Stands v o es → IsEnding v.framing o e) → Turns next limit w v s t b told r from to (Ok (Ended run))

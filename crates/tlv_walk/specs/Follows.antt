@@ -13,7 +13,7 @@ use Rattle.tlv_walk.specs.Forest.{Forest}
 use Rattle.tlv_walk.specs.Machine.{IsTold, Machine, unused_in}
 use Rattle.tlv_walk.specs.Reading.{IsReading}
 use Rattle.tlv_walk.specs.State.{Stands, waiting_of}
-use Rattle.tlv_walk.specs.Tells.{IsRefusedBehind}
+use Rattle.tlv_walk.specs.Tells.{IsRefusedBehind, StandsRefused}
 use Rattle.tlv_walk.specs.Wrappers.{unused_of}
 
 -- what was walked over: octets from the front of a piece, and the events told of them
@@ -32,6 +32,7 @@ pub record WalkedTo (old new : Machine) (before : List ℕ) (more : List Told) (
   pub offset : new.offset ≡ length (b ++ taken)
   pub refused : IsRefusedBehind old.framing (b ++ taken) octet (told ++ more) f
   pub unused : unused_in new ≡ unused_of old.framing.inside refused.reading
+  pub stands : StandsRefused new (b ++ taken) octet (told ++ more) f
 
 -- the octets tell these events, joined, and then others
 abbrev pub GoesOnIn : Framing → List ℕ → List Told → Type 0

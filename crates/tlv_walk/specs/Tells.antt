@@ -1,6 +1,7 @@
 -- What a walker's steps tell.
 use Rattle.std.specs.Prelude.{◌≡◌, ◌⊎◌, ℕ, List, [], ◌∷◌, ◌++◌, length, Option, Some, None}
 use Rattle.tlv_head.specs.declared.fault.Fault.{Fault}
+use Rattle.tlv_walk.specs.declared.ending.Ending.{Ending}
 use Rattle.tlv_walk.specs.declared.ending.Ending.TheVariants as ending
 use Rattle.tlv_walk.specs.declared.framing.Framing.{Framing}
 use Rattle.tlv_walk.specs.declared.event.Event.{Event}
@@ -83,6 +84,13 @@ pub record StandsRefused (w : Machine) (b : List ℕ) (octet : ℕ) (told : List
   pub offset : w.offset ≡ length b
   pub depth : length w.stack ≡ open_count behind.reading
   pub unused : unused_in w ≡ unused_of w.framing.inside behind.reading
+
+-- where a walker stands that walked over these octets to the end, and told these events: behind all octets, or behind the
+-- octet that it refused
+abbrev pub StandsAtEnd : Machine → List ℕ → List Told → Ending → Type 0
+StandsAtEnd w octets told e =
+    (Stands w octets told × NothingWaits w)
+    ⊎ ((b : List ℕ) × (x : ℕ) × (rest : List ℕ) × (f : Fault) × (b ++ x ∷ rest ≡ octets) × (e ≡ ending.Fault f) × StandsRefused w b x told f)
 
 -- the octet behind those that were taken is refused
 pub record IsRefused (old new : Machine) (before after : List ℕ) (f : Fault) : Type 0 where

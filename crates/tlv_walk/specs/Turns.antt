@@ -19,6 +19,7 @@ use Rattle.tlv_walk.specs.Job.{IsFinalEnding, of_drain, of_source}
 use Rattle.tlv_walk.specs.Machine.{Machine}
 use Rattle.tlv_walk.specs.Out.{Sends}
 use Rattle.tlv_walk.specs.Reading.{IsPrefixOf, IsReading}
+use Rattle.tlv_walk.specs.Tells.{StandsAtEnd}
 use Rattle.tlv_walk.specs.State.{Stands, waiting_of}
 use Rattle.tlv_walk.specs.Wrappers.{enters, first_other, unused_of}
 
@@ -61,7 +62,7 @@ module _ {S : Type 0} (next : S → Told → Following S) where
     pub quiet : waiting_of v ≡ []
 
   -- the walk has ended in these octets, of which all that they tell was followed
-  pub record EndsIn (w : Machine) (s t : S) (octets : List ℕ) (told : List Told) (puts : List ℕ → Type 0) (run : Run) : Type 0 where
+  pub record EndsIn (w v : Machine) (s t : S) (octets : List ℕ) (told : List Told) (puts : List ℕ → Type 0) (run : Run) : Type 0 where
     pub more : List Told
     pub made : Made next s t more go.On
     pub put : puts (followed next s more).put
@@ -71,6 +72,7 @@ module _ {S : Type 0} (next : S → Told → Following S) where
     pub ending : IsEnding w.framing octets run.ending
     pub spelled : run.octets ≡ length (spell reading)
     pub unused : run.unused ≡ unused_of w.framing.inside reading
+    pub walker : StandsAtEnd v octets (told ++ more) run.ending
 
   -- the follower had enough with the last of these events, and the walker stands behind the octets that they tell of
   pub record StopsIn (w v : Machine) (s t : S) (octets : List ℕ) (told : List Told) (puts : List ℕ → Type 0) (run : Run) : Type 0 where
@@ -86,7 +88,7 @@ module _ {S : Type 0} (next : S → Told → Following S) where
     pub unused : run.unused ≡ first_other w.framing.inside (enters (told ++ more))
 
   abbrev pub EndsBy : Bool → Machine → Machine → S → S → List ℕ → List Told → (List ℕ → Type 0) → Run → Type 0
-  EndsBy false w v s t octets told puts run = EndsIn w s t octets told puts run
+  EndsBy false w v s t octets told puts run = EndsIn w v s t octets told puts run
   EndsBy true w v s t octets told puts run = StopsIn w v s t octets told puts run
 
   -- the drain failed at a front of what is made of all that the octets tell

@@ -76,8 +76,6 @@ pub returns-then-eq-clause-stops : goal.returns-then-eq-clause-stops
 returns-then-eq-clause-stops g c =
     let enough : c.match-quick_event.go ≡ go.Enough = not_on _ (search rules) in
     elim c.match-quick_event.branch [
-      | in-Some+in_ok-go-in-Some w ↦ rw (w.out-is, w.follower-is, w.walker-is, ← enough, w.go-is)
-        (_, follows_as g.F.Follow.next g.D.Drain.told _ _ _ _ _ _ _ _ _ _ (follows_event g.F.Follow.next g.D.Drain.told _ _ _ _ _ _ _ _ _ _ _ _ _ _ c.events.invariant.follows (stands_behind _ _ _ _ _ w.in-Some.ensures.tells) w.in_ok-go-in-Some.ensures.state _ w.in_ok-go-in-Some.ensures.puts), w.in-Some.ensures.steps.0.3)
-      | in-None+in-Event+in_ok-go-in-Event w ↦ rw (w.out-is, w.follower-is, w.walker-is, ← enough, w.go-is)
-        (_, follows_as g.F.Follow.next g.D.Drain.told _ _ _ _ _ _ _ _ _ _ (follows_event g.F.Follow.next g.D.Drain.told _ _ _ _ _ _ _ _ _ _ _ _ _ _ c.events.invariant.follows (unmoved_event _ _ _ _ _ _ _ w.in-None.ensures.steps.0 w.in-None.ensures.steps.1 w.in-Event.ensures.stands) w.in_ok-go-in-Event.ensures.state _ w.in_ok-go-in-Event.ensures.puts), w.in-Event.ensures.steps.0.3)
+      | in-Some+in_ok-go-in-Some w ↦ rw (w.out-is, w.follower-is, w.walker-is, ← enough, w.go-is) (_, follows_as g.F.Follow.next g.D.Drain.told _ _ _ _ _ _ _ _ _ _ (follows_event g.F.Follow.next g.D.Drain.told _ _ _ _ _ _ _ _ _ _ _ _ _ _ c.events.invariant.follows (stands_behind _ _ _ _ _ w.in-Some.ensures.tells) w.in_ok-go-in-Some.ensures.state _ w.in_ok-go-in-Some.ensures.puts), w.in-Some.ensures.steps.0.3)
+      | in-None+in-Event+in_ok-go-in-Event w ↦ rw (w.out-is, w.follower-is, w.walker-is, ← enough, w.go-is) (_, follows_as g.F.Follow.next g.D.Drain.told _ _ _ _ _ _ _ _ _ _ (follows_event g.F.Follow.next g.D.Drain.told _ _ _ _ _ _ _ _ _ _ _ _ _ _ c.events.invariant.follows (unmoved_event _ _ _ _ _ _ _ w.in-None.ensures.steps.0 w.in-None.ensures.steps.1 w.in-Event.ensures.stands) w.in_ok-go-in-Event.ensures.state _ w.in_ok-go-in-Event.ensures.puts), w.in-Event.ensures.steps.0.3)
     ]
