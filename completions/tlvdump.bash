@@ -4,7 +4,7 @@ _tlvdump() {
     local word=${COMP_WORDS[COMP_CWORD]} before=${COMP_WORDS[COMP_CWORD - 1]} options=
     COMPREPLY=()
     if [ "$COMP_CWORD" -eq 1 ]; then
-        mapfile -t COMPREPLY < <(compgen -W "dump extract indef --help --version" -- "$word")
+        mapfile -t COMPREPLY < <(compgen -W "dump check extract indef --help --version" -- "$word")
         return
     fi
     case $before in
@@ -13,12 +13,17 @@ _tlvdump() {
         mapfile -t COMPREPLY < <(compgen -f -- "$word")
         return
         ;;
+    --rules)
+        mapfile -t COMPREPLY < <(compgen -W "ber der cer" -- "$word")
+        return
+        ;;
     --limit | --offset | --inside)
         return
         ;;
     esac
     case ${COMP_WORDS[1]} in
-    dump) options="--limit --pure --names --inside --padding --help" ;;
+    dump) options="--rules --limit --pure --names --inside --padding --help" ;;
+    check) options="--rules --inside --padding --help" ;;
     extract) options="--offset --contents --inside --padding --help" ;;
     indef) options="--padding --help" ;;
     esac

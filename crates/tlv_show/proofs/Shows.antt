@@ -49,9 +49,9 @@ module _ {S : Type 0} (next : S → Told → Following S) (first : S) (framing :
   shows_ok run outcome ending findings unused x =
       jobs.runs_ok next (showing framing text count) first w.put goes_on t old new from to run outcome x
       (λ octets f e few r state is. outcome_is outcome e (count f) (unused_of framing.inside f)
-          (ending ∙ ap (λ (k : Run). k.ending) (is ∙ run_on f e))
-          (findings ∙ ap count_in state ∙ w.counts octets f few r)
-          (unused ∙ ap (λ (k : Run). k.unused) (is ∙ run_on f e)))
+      (ending ∙ ap (λ (k : Run). k.ending) (is ∙ run_on f e))
+      (findings ∙ ap count_in state ∙ w.counts octets f few r)
+      (unused ∙ ap (λ (k : Run). k.unused) (is ∙ run_on f e)))
 
   pub shows_err : (e : DeviceFault) → Drives next framing (2 ^ 40) first t old new from to (Err e) → Runs (showing framing text count) old new from to (Err e)
   shows_err e x = jobs.runs_err next (showing framing text count) first w.put goes_on t old new from to e x

@@ -92,10 +92,10 @@ octets_whole p (Closed h inside rest) o e =
     octets_append (opens h) (events inside ++ closes h inside ∷ events rest)
     ∙ ap (λ (l : List ℕ). l ++ flat_map octets_told (events inside ++ closes h inside ∷ events rest)) (octets_opens h)
     ∙ ap (λ (l : List ℕ). opening h ++ l) (
-      octets_append (events inside) (closes h inside ∷ events rest)
-      ∙ ap (λ (l : List ℕ). l ++ flat_map octets_told (closes h inside ∷ events rest)) (octets_whole (inside_of p h) inside o.1 o.0.whole)
-      ∙ ap (λ (l : List ℕ). spell inside ++ (l ++ flat_map octets_told (events rest))) (octets_closes p h inside o.0.header)
-      ∙ ap (λ (l : List ℕ). spell inside ++ (end_octets h.size ++ l)) (octets_whole (after p (extent h inside)) rest o.2 e)
+    octets_append (events inside) (closes h inside ∷ events rest)
+    ∙ ap (λ (l : List ℕ). l ++ flat_map octets_told (closes h inside ∷ events rest)) (octets_whole (inside_of p h) inside o.1 o.0.whole)
+    ∙ ap (λ (l : List ℕ). spell inside ++ (l ++ flat_map octets_told (events rest))) (octets_closes p h inside o.0.header)
+    ∙ ap (λ (l : List ℕ). spell inside ++ (end_octets h.size ++ l)) (octets_whole (after p (extent h inside)) rest o.2 e)
     )
 octets_whole p (Partial h c) o e = absurd (true≢false (sym e))
 octets_whole p (Entered h inside) o e = absurd (true≢false (sym e))
@@ -111,9 +111,9 @@ octets_layers w (l ∷ ls) a =
     octets_append (events_layers ls) (events l.before ++ opens l.head)
     ∙ ap (λ (t : List ℕ). t ++ flat_map octets_told (events l.before ++ opens l.head)) (octets_layers w ls a.0)
     ∙ ap (λ (t : List ℕ). spell_layers ls ++ t) (
-      octets_append (events l.before) (opens l.head)
-      ∙ ap (λ (t : List ℕ). t ++ flat_map octets_told (opens l.head)) (octets_whole (place_in w ls) l.before a.1.is_open a.1.whole)
-      ∙ ap (λ (t : List ℕ). spell l.before ++ t) (octets_opens l.head)
+    octets_append (events l.before) (opens l.head)
+    ∙ ap (λ (t : List ℕ). t ++ flat_map octets_told (opens l.head)) (octets_whole (place_in w ls) l.before a.1.is_open a.1.whole)
+    ∙ ap (λ (t : List ℕ). spell l.before ++ t) (octets_opens l.head)
     )
 
 octets_tail : (f : Phase) (t : Tail) (p : Place) → IsPhaseOf f t p → IsTold f → flat_map octets_told (events_tail t) ≡ spell_tail t
@@ -133,8 +133,8 @@ stands-told_octets w b told st k =
     ∙ octets_append (events_layers s.layers) (events s.here ++ events_tail s.tail)
     ∙ ap (λ (t : List ℕ). t ++ flat_map octets_told (events s.here ++ events_tail s.tail)) (octets_layers w.framing s.layers h.layers)
     ∙ ap (λ (t : List ℕ). spell_layers s.layers ++ t) (
-      octets_append (events s.here) (events_tail s.tail)
-      ∙ ap (λ (t : List ℕ). t ++ flat_map octets_told (events_tail s.tail)) (octets_whole (place_in w.framing s.layers) s.here h.here.is_open h.here.whole)
-      ∙ ap (λ (t : List ℕ). spell s.here ++ t) (octets_tail w.phase s.tail (place_of w.framing s) h.phase k)
+    octets_append (events s.here) (events_tail s.tail)
+    ∙ ap (λ (t : List ℕ). t ++ flat_map octets_told (events_tail s.tail)) (octets_whole (place_in w.framing s.layers) s.here h.here.is_open h.here.whole)
+    ∙ ap (λ (t : List ℕ). spell s.here ++ t) (octets_tail w.phase s.tail (place_of w.framing s) h.phase k)
     )
     ∙ h.spelled

@@ -23,7 +23,9 @@ pub fn run<S: Source, D: Drain>(
 {
     match command {
         Command::Dump { options, .. } => shown_report(dump(source, drain, options, names)),
-        Command::Check { rules, framing, .. } => shown_report(check(source, drain, *rules, framing)),
+        Command::Check { rules, framing, .. } => shown_report(check(
+            source, drain, *rules, framing,
+        )),
         Command::Extract {
             offset,
             contents,

@@ -213,7 +213,13 @@ static DUMPS: [Asked<'static>; 7] = [
 static CHECKS: [Asked<'static>; 7] = [
     (&["check"], b"", b"", 2, "fault at 0: F01 empty input"),
     (&["check", "--rules", "ber"], STRING, b"", 0, ""),
-    (&["check"], STRING, b"0 D01 indefinite length\n0 D02 constructed string\n", 1, "findings: 2"),
+    (
+        &["check"],
+        STRING,
+        b"0 D01 indefinite length\n0 D02 constructed string\n",
+        1,
+        "findings: 2",
+    ),
     (
         &["check", "--inside", "0"],
         b"\x04\x06\x30\x80\x05\x00\x00\x00",

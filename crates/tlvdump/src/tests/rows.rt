@@ -372,10 +372,14 @@ pub(crate) static WRAPPED: [Row<'static>; 17] = [
         inside: &[0],
         input: b"\x1f\x04\x02\x05\x00",
         lines: &[
+            (3, "       0    B01: high form for a number below 31"),
             (3, "       0      2: OCTET STRING wraps {"),
             (5, "       3      0:   NULL"),
             (5, "                 }"),
         ],
+        status: 1,
+        findings: 1,
+        message: "findings: 1",
         ..CLEAN
     },
     Row {
@@ -426,9 +430,13 @@ pub(crate) static WRAPPED: [Row<'static>; 17] = [
         name: "a BIT STRING without contents",
         inside: &[0],
         input: b"\x03\x00",
-        lines: &[(2, "       0      0: BIT STRING")],
+        lines: &[
+            (2, "       0      0: BIT STRING"),
+            (2, "       0    B13: no first octet of a bit string"),
+        ],
         status: 1,
         message: "E7 no string to read at offset 0",
+        findings: 1,
         ..CLEAN
     },
     Row {

@@ -118,18 +118,36 @@ static ROWS: [(&[&str], Comes<'static>); 57] = [
     (&["indef", "--inside", "0"], Comes::Refused),
     (&["indef", "a.der"], Comes::Indef),
     (&["indef", "--padding", "-"], Comes::Indef),
-    (&["dump", "--rules", "der"], Comes::Dump(Rules::Der, None, false)),
-    (&["dump", "--rules=ber"], Comes::Dump(Rules::Ber, None, false)),
-    (&["dump", "--rules", "xer", "--limit", "x"], Comes::Value("--rules")),
+    (
+        &["dump", "--rules", "der"],
+        Comes::Dump(Rules::Der, None, false),
+    ),
+    (
+        &["dump", "--rules=ber"],
+        Comes::Dump(Rules::Ber, None, false),
+    ),
+    (
+        &["dump", "--rules", "xer", "--limit", "x"],
+        Comes::Value("--rules"),
+    ),
     (&["check"], Comes::Check(Rules::Der)),
-    (&["check", "--rules", "cer", "--padding"], Comes::Check(Rules::Cer)),
+    (
+        &["check", "--rules", "cer", "--padding"],
+        Comes::Check(Rules::Cer),
+    ),
     (&["check", "--rules", "ber"], Comes::Check(Rules::Ber)),
     (&["check", "--rules", "xer"], Comes::Value("--rules")),
-    (&["check", "--inside", "x", "--rules", "DER"], Comes::Value("--rules")),
+    (
+        &["check", "--inside", "x", "--rules", "DER"],
+        Comes::Value("--rules"),
+    ),
     (&["check", "--inside", "x"], Comes::Value("--inside")),
     (&["check", "--limit", "1"], Comes::Refused),
     (&["check", "--pure"], Comes::Refused),
-    (&["extract", "--offset", "0", "--rules", "der"], Comes::Refused),
+    (
+        &["extract", "--offset", "0", "--rules", "der"],
+        Comes::Refused,
+    ),
 ];
 
 fn command(alloc: Global, list: &[&str]) -> Result<Command, UsageFault> {
