@@ -10,6 +10,8 @@ from parts.install import install, words_of
 NULL = b"\x05\x00"
 # The texts of README and of X.690's faults, as the program writes them.
 MESSAGES = [f"F{number:02}" for number in range(1, 13)] + [f"E{number}" for number in (1, 2, 3, 4, 5, 7)]
+MESSAGES += [f"B{number:02}" for number in range(1, 20)] + [f"S{number:02}" for number in range(1, 5)]
+MESSAGES += ["D01", "D02"] + [f"C{number:02}" for number in range(1, 7)]
 MESSAGES += [f"N{number}" for number in range(1, 7)] + [f"U{number}" for number in (1, 2, 3)]
 
 
@@ -84,6 +86,7 @@ def prepared(part):
     os.mkdir(part.path("certs"))
     part.write("certs/a.der", b"\x30\x03\x02\x02\x01")
     part.write("certs/b.der", record)
+    part.write("certs/c.der", element(0x30, b"\x04\x81\x01\x07" + b"\x01\x01\x01"))
     return record
 
 
@@ -111,6 +114,7 @@ def wanted_of(part, record):
         (1, b"2c2\n<   INTEGER 5\n---\n>   INTEGER 6\n", ("old.txt", b"SEQUENCE {\n  INTEGER 5\n  NULL\n}\n")),
         (0, b"", ("der.ber", indefinite(cert))),
         (0, fault, None),
+        (0, b"certs/c.der: 2 S01 length is not the shortest\n", None),
     ]
 
 
