@@ -1,5 +1,5 @@
 -- What a reader carries can be made a header.
-use Rattle.std.proofs.Common.{◌≡◌, ◌≢◌, ℕ, suc, zero, Bool, true, false, ◌||◌, ◌+◌, ◌*◌, ◌-◌, ◌<◌, ◌≤◌, inl, inr, List, [], ◌∷◌, ◌++◌, length, Option, refl, ap, sym, ◌∙◌, arith, length-append, append_assoc, lit<}
+use Rattle.std.proofs.Common.{◌≡◌, ◌≢◌, ℕ, suc, zero, Bool, true, false, ◌||◌, ◌+◌, ◌*◌, ◌-◌, ◌<◌, ◌≤◌, inl, inr, List, [], ◌∷◌, ◌++◌, length, Option, refl, ap, sym, ◌∙◌, arith, length-append, append_assoc, lit<, take, drop}
 use Rattle.std.proofs.lemmas.Bool.{cases_eq}
 use Rattle.tlv_head.specs.Header.{Heading, IsHeading, is_wrapper}
 use Rattle.tlv_head.specs.Progress.{Progress, Fits}
@@ -12,6 +12,7 @@ use Rattle.tlv_head.specs.declared.reader.Identifier.{Identifier}
 use Rattle.tlv_head.specs.declared.reader.Part.{Part}
 use Rattle.tlv_head.specs.declared.reader.Part.TheVariants.{Start, Number, Length, Digits, Done}
 use Rattle.std.proofs.lemmas.List.{length-map}
+use Rattle.std.proofs.Math.Seq.{drop-append_seam, take-append_seam}
 use Rattle.tlv_head.proofs.Steps.{ends_number, ends_length, more_length}
 use Rattle.tlv_head.proofs.Meaning.{allows_definite}
 
@@ -70,6 +71,22 @@ made_ends_past r id size os x depth room m e c past = record {
   shallow = c;
   past = past;
 }
+
+-- the octets that make a header, cut behind its identifier
+pub made_whole : (r : Progress) (id : Identifier) (size : Size) (os : List ℕ) (x : ℕ) (m : MakesHeader id size (os ++ x ∷ [])) → os ≡ r.octets
+    → Completes r x (record {
+      offset = r.offset;
+      named = r.named;
+      class = id.class;
+      constructed = id.constructed;
+      number = id.number;
+      size = size;
+      identifier = take id.octets (os ++ x ∷ []);
+      lengths = drop id.octets (os ++ x ∷ []);
+    })
+made_whole r id size os x m e =
+    let count : id.octets ≡ length m.identifier = m.identified.count in
+    rw (m.octet, count, take-append_seam m.identifier m.lengths, drop-append_seam m.identifier m.lengths) (made_completes r id size os x m e)
 
 cons≢nil : (x : ℕ) (xs : List ℕ) → x ∷ xs ≢ []
 cons≢nil x xs e = cc

@@ -1,5 +1,5 @@
 -- What the fields of a `Header` say.
-use Rattle.std.specs.Prelude.{◌<◌, ◌≤◌, take, drop, length}
+use Rattle.std.specs.Prelude.{◌≡◌, ◌<◌, ◌≤◌, take, drop, length, slice_index}
 use Rattle.tlv_head.specs.Header.{Heading}
 use Rattle.tlv_head.specs.declared.header.Header.TheInside.{Inside}
 
@@ -18,3 +18,10 @@ heading_of h = record {
 -- the identifier has at most ten octets, and the header more, at most 137
 abbrev pub IsWithinRoom : Inside → Type 0
 IsWithinRoom h = (h.id_len < length h.raw.items) × (h.id_len ≤ 10) × (length h.raw.items ≤ 137)
+
+-- and the octets that are kept beside them are the second ones of the identifier and of the length
+abbrev pub IsHeader : Inside → Type 0
+IsHeader h =
+    IsWithinRoom h
+    × (h.number_octet ≡ slice_index (take h.id_len h.raw.items) 1)
+    × (h.length_octet ≡ slice_index (drop h.id_len h.raw.items) 1)

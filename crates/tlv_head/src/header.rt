@@ -35,6 +35,9 @@ pub struct Header {
     /// How many octets are the identifier.
     pub id_len: u8,
     pub(crate) named: bool,
+    /// These two are kept beside the octets, so that who asks for them need not have all octets moved.
+    pub(crate) number_octet: u8,
+    pub(crate) length_octet: u8,
 }
 
 /// What the octets of a header say, without the octets: small, where a [`Header`] has room for 137.
@@ -57,11 +60,11 @@ impl Model for Header {
 
     ghost Value = { Heading };
 
-    ghost use Rattle.tlv_head.specs.HeaderFields.{heading_of, IsWithinRoom};
+    ghost use Rattle.tlv_head.specs.HeaderFields.{heading_of, IsHeader};
 
     ghost view = { heading_of };
 
-    ghost invariant = { IsWithinRoom };
+    ghost invariant = { IsHeader };
 }
 
 impl HeaderFields {
@@ -83,7 +86,7 @@ impl HeaderFields {
 }
 
 impl Header {
-    ghost use Rattle.std.specs.Prelude.{◌≤◌, length, take};
+    ghost use Rattle.std.specs.Prelude.{◌≤◌, length, slice_index, take};
     ghost use Rattle.tlv_head.specs.Header.{octets_of, wraps};
     ghost use Rattle.tlv_head.specs.Fields.{heading_with, Suits};
 
@@ -95,6 +98,7 @@ impl Header {
     {
         let mut raw = ArrayVec::new();
         let _ = raw.try_extend_from_slice(octets);
+        let (number_octet, length_octet) = seconds(fields.id_len, octets);
         Header {
             offset: fields.offset,
             class: fields.class,
@@ -104,6 +108,28 @@ impl Header {
             raw,
             id_len: fields.id_len,
             named: fields.named,
+            number_octet,
+            length_octet,
+        }
+    }
+
+    /// The header with these fields and octets.
+    pub(crate) fn with_raw(fields: &HeaderFields, raw: ArrayVec<u8, 137>) -> Header
+        requires { Suits fields.now raw.items }
+        ensures { result ≡ heading_with fields.now raw.items }
+    {
+        let (number_octet, length_octet) = seconds(fields.id_len, raw.as_slice());
+        Header {
+            offset: fields.offset,
+            class: fields.class,
+            constructed: fields.constructed,
+            number: fields.number,
+            size: fields.size,
+            raw,
+            id_len: fields.id_len,
+            named: fields.named,
+            number_octet,
+            length_octet,
         }
     }
 
@@ -141,6 +167,22 @@ impl Header {
         &self.raw.as_slice()[..usize::from(self.id_len)]
     }
 
+    /// The first subsequent identifier octet (8.1.2.4.2), or 0 where there is none.
+    #[inline]
+    pub fn number_octet(&self) -> u8
+        ensures { result ≡ slice_index self.now.identifier 1 }
+    {
+        self.number_octet
+    }
+
+    /// The first subsequent length octet (8.1.3.5), or 0 where there is none.
+    #[inline]
+    pub fn length_octet(&self) -> u8
+        ensures { result ≡ slice_index self.now.lengths 1 }
+    {
+        self.length_octet
+    }
+
     /// Whether the contents are to be read as encodings although the element is primitive: it is an
     /// OCTET STRING, or a BIT STRING of one or more contents octets, whose offset the user named.
     pub fn wraps(&self) -> bool
@@ -150,8 +192,28 @@ impl Header {
     }
 }
 
-ghost use Rattle.std.specs.Prelude.{◌≡◌, eqb, true};
+ghost use Rattle.std.specs.Prelude.{◌≡◌, ◌≤◌, drop, eqb, length, slice_index, take, true};
 ghost use Rattle.tlv_head.specs.Header.{announced, indefinite_octets, is_wrapper as is_wrapper_of};
+
+/// The second octets of an identifier of so many octets and of the length behind it, or 0 where there is none.
+pub(crate) fn seconds(id_len: u8, octets: &[u8]) -> (u8, u8)
+    requires { id_len ≤ length octets.now }
+    ensures number { result.0 ≡ slice_index (take id_len octets.now) 1 }
+    ensures length { result.1 ≡ slice_index (drop id_len octets.now) 1 }
+{
+    let (identifier, lengths) = octets.split_at(usize::from(id_len));
+    (second_of(identifier), second_of(lengths))
+}
+
+/// The second octet, or 0 where there is none.
+fn second_of(octets: &[u8]) -> u8
+    ensures { result ≡ slice_index octets.now 1 }
+{
+    match octets {
+        [_, second, ..] => *second,
+        _ => 0,
+    }
+}
 
 /// [`Header::wraps`], of the fields that it goes by (8.6.2, 8.7.2).
 pub(crate) fn is_wrapper(

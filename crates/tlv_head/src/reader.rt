@@ -139,19 +139,34 @@ impl HeadReader {
                 if !fits(size, room) {
                     return refused(FaultCode::Overrun, offset);
                 }
+                let fields = self.fields(identifier, size);
                 self.raw.push(octet);
                 self.part = Part::Done;
-                Head::Whole(Header {
-                    offset: self.offset,
-                    class: identifier.class,
-                    constructed: identifier.constructed,
-                    number: identifier.number,
-                    size,
-                    raw: self.raw.take(),
-                    id_len: identifier.octets,
-                    named: self.named,
-                })
+                Head::Whole(Header::with_raw(&fields, self.raw.take()))
             }
+        }
+    }
+
+    /// The fields of the header with this identifier and size.
+    fn fields(&self, identifier: Identifier, size: Size) -> HeaderFields
+        ensures { result ≡ record {
+          offset = self.now.offset;
+          named = self.now.named;
+          class = identifier.class;
+          constructed = identifier.constructed;
+          number = identifier.number;
+          size = size;
+          id_len = identifier.octets;
+        } }
+    {
+        HeaderFields {
+            offset: self.offset,
+            named: self.named,
+            class: identifier.class,
+            constructed: identifier.constructed,
+            number: identifier.number,
+            size,
+            id_len: identifier.octets,
         }
     }
 }

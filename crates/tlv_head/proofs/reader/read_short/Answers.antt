@@ -1,4 +1,4 @@
-use Rattle.std.proofs.Common.{sym, refl, ◌∙◌, rules}
+use Rattle.std.proofs.Common.{rules}
 use Rattle.tlv_head.proofs.Front.{begins_short}
 use Rattle.tlv_head.proofs.reader.read_short.Goals as goal
 

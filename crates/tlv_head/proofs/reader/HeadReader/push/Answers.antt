@@ -1,11 +1,10 @@
 use Rattle.std.proofs.Common.{◌≤◌, length, arith, rules, inr, refl, ap, subst}
-use Rattle.std.proofs.lemmas.Grind.{common_steps}
 use Rattle.tlv_head.specs.declared.reader.Head.TheVariants.{Whole}
 use Rattle.tlv_head.specs.Progress.{Progress}
 use Rattle.tlv_head.specs.Refusal.{IsRefusedOctet}
-use Rattle.tlv_head.specs.Push.{Answers, IsRefused}
+use Rattle.tlv_head.specs.Push.{Answers, Completes, IsRefused}
 use Rattle.tlv_head.proofs.Exact.{exact, refused_in, completes_unique, front_not_whole}
-use Rattle.tlv_head.proofs.Unfinished.{length-carried, made_too_deep, made_ends_past, unfinished_part}
+use Rattle.tlv_head.proofs.Unfinished.{length-carried, made_too_deep, made_ends_past, made_whole, unfinished_part}
 use Rattle.tlv_head.proofs.reader.HeadReader.push.Goals as goal
 
 pub push-requires : goal.push-requires
@@ -58,5 +57,14 @@ returns-in-Refused c =
     rw c.refused-in-Refused.ensures (q, search rules, refl) in
     record { answer = a; whole = exact _ _ _ _ _ _ a }
 
+-- the header that is answered
+completes : (c : goal.After-with_raw) → Completes c.args.self.now c.args.octet c.with_raw.result
+completes c =
+    rw (c.with_raw.ensures, c.fields-fields.ensures, c.take.ensures.value, c.push-in-Finished.ensures.items)
+    (made_whole _ _ _ _ _ (c.in-Finished.ensures c.self.inside.raw.items c.self.invariant) (ap (λ (p : Progress). p.octets) c.self.view_is))
+
+pub returns-else-not-fits-clause-answer : goal.returns-else-not-fits-clause-answer
+returns-else-not-fits-clause-answer c = (completes c, search rules, refl)
+
 pub returns-else-not-fits-clause-whole : goal.returns-else-not-fits-clause-whole
-returns-else-not-fits-clause-whole c = λ h d n f. ap (λ g. Whole g) (completes_unique _ _ _ _ (grind (arith, common_steps)) d)
+returns-else-not-fits-clause-whole c = λ h d n f. ap (λ g. Whole g) (completes_unique _ _ _ _ (completes c) d)
