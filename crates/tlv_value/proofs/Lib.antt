@@ -23,3 +23,4 @@ pub mod NamesRows
 pub mod Worked
 pub mod PairSteps
 pub mod PlainUnits
+pub mod EachNoted

@@ -60,6 +60,20 @@ checked s octets = record {
   row = if eqb s.number 12 then open_row Utf8 s.row octets else s.row;
 }
 
+-- with what must be known of each of the octets
+abbrev pub noted_each : CheckState → List ℕ → CheckState
+noted_each s octets = record s {
+  allowed = s.allowed && every (allows_octet s.number) octets;
+  padded = if is_object s.number then s.padded || is_padded_behind s.last octets else s.padded;
+  formed = if eqb s.number 12 then s.formed && all_utf8 (full_rows Utf8 s.row octets) else s.formed;
+  row = if eqb s.number 12 then open_row Utf8 s.row octets else s.row;
+}
+
+-- each octet of the type with this number is looked at: object identifiers, UTF8String, and the strings of some characters
+abbrev pub notes_each : ℕ → Bool
+notes_each number =
+    eqb number 6 || eqb number 12 || eqb number 13 || eqb number 18 || eqb number 19 || eqb number 22 || eqb number 26
+
 -- 8.6.2.2: it is a BIT STRING whose first contents octet is not 0
 abbrev pub is_not_zero : List ℕ → Bool
 is_not_zero [] = false

@@ -1,9 +1,9 @@
 //! What is found on the contents of a primitive.
-ghost use Rattle.std.specs.Prelude.{◌≡◌, ◌+◌, ◌<◌, ◌≤◌, ◌%◌, ◌^◌, ◌++◌, ◌&&◌, ◌||◌, ℕ, List, [], eqb, if◌then◌else◌, length, not, take};
+ghost use Rattle.std.specs.Prelude.{◌≡◌, ◌+◌, ◌<◌, ◌≤◌, ◌%◌, ◌^◌, ◌++◌, ◌&&◌, ◌||◌, ℕ, List, [], eqb, false, if◌then◌else◌, length, not, take, true};
 ghost use Rattle.std.specs.Str.{is_utf8};
 ghost use Rattle.tlv_head.specs.Header.{Heading, announced};
 ghost use Rattle.tlv_value.specs.CheckNotes.{is_object, time_findings, where_it};
-ghost use Rattle.tlv_value.specs.CheckState.{all_utf8, allowed_in, checked, found_in, has_unused, unchecked};
+ghost use Rattle.tlv_value.specs.CheckState.{all_utf8, allowed_in, checked, found_in, has_unused, noted_each, notes_each, unchecked};
 ghost use Rattle.tlv_value.specs.Checks.{
   allows_octet as allows_octet_of,
   contents_findings,
@@ -78,6 +78,7 @@ impl ValueCheck {
     }
 
     /// Begins anew, for the primitive with this header.
+    #[inline(always)]
     pub fn restart(&mut self, header: &Header)
         ensures { self.new ≡ unchecked header.now }
     {
@@ -86,7 +87,7 @@ impl ValueCheck {
         self.number = header.number;
         self.size = size;
         self.left = size;
-        self.front.clear();
+        self.front = ArrayVec::new();
         self.last = 0;
         self.allowed = true;
         self.padded = false;
@@ -121,6 +122,7 @@ impl ValueCheck {
     }
 
     /// Takes more contents octets.
+    #[inline(always)]
     pub fn bytes(&mut self, octets: &[u8])
         requires { length octets.now ≤ self.old.left }
         ensures state { self.new ≡ checked self.old octets.now }
@@ -128,13 +130,25 @@ impl ValueCheck {
     {
         self.left -= octets.len() as u64;
         extend_front(&mut self.front, octets);
-        self.allowed = both(self.allowed, are_allowed(self.number, octets));
-        self.padded = padded_after(self.number, self.padded, self.last, octets);
-        self.formed = formed_after(self.number, self.formed, &mut self.row, octets);
+        self.note_each(octets);
         self.last = last_octet(self.last, octets);
     }
 
+    /// Notes what must be known of each of the octets.
+    #[inline(always)]
+    fn note_each(&mut self, octets: &[u8])
+        ensures { self.new ≡ noted_each self.old octets.now }
+    {
+        if !is_each_noted(self.number) {
+            return;
+        }
+        self.allowed = both(self.allowed, are_allowed(self.number, octets));
+        self.padded = padded_after(self.number, self.padded, self.last, octets);
+        self.formed = formed_after(self.number, self.formed, &mut self.row, octets);
+    }
+
     /// What is found on the contents, in order, by the rules of BER, CER or DER.
+    #[inline(always)]
     pub fn end(&self) -> ArrayVec<Finding, 16>
         requires { self.now.left ≡ 0 }
         ensures found { result.items ≡ found_in self.now }
@@ -144,6 +158,7 @@ impl ValueCheck {
     }
 
     /// What is found on the contents by what was noted of them.
+    #[inline(always)]
     fn found(&self) -> ArrayVec<Finding, 16>
         ensures { result.items ≡ found_in self.now }
     {
@@ -250,7 +265,23 @@ fn is_well_formed(octets: &[u8]) -> bool
     simdutf8::is_utf8(octets)
 }
 
+/// Whether each contents octet of the type with this universal number is looked at. Of the others the first octets and
+/// the last say all.
+#[inline(always)]
+fn is_each_noted(number: u64) -> bool
+    ensures { result ≡ notes_each number }
+{
+    number == 6
+        || number == 12
+        || number == 13
+        || number == 18
+        || number == 19
+        || number == 22
+        || number == 26
+}
+
 /// Keeps the first octets.
+#[inline(always)]
 fn extend_front(front: &mut ArrayVec<u8, 64>, octets: &[u8])
     ensures { front.new.items ≡ take 64 (front.old.items ++ octets.now) }
 {
