@@ -1,5 +1,5 @@
 -- Contents in pieces are checked as contents at once.
-use Rattle.std.proofs.Common.{◌≡◌, ◌-◌, ◌==◌, false, ℕ, List, [], ◌∷◌, ◌++◌, length, take, refl, sym, ap, ap₂, ◌∙◌, arith, append-nil}
+use Rattle.std.proofs.Common.{◌≡◌, ◌-◌, ◌==◌, false, ℕ, List, [], ◌∷◌, ◌++◌, length, take, refl, sym, ap, ◌∙◌, arith, append-nil}
 use Rattle.std.proofs.lemmas.Bool.Decides.{nat_tests}
 use Rattle.std.specs.Prelude.{Option, Some, None}
 use Rattle.tlv_value.specs.CheckState.{CheckState, checked}
@@ -7,11 +7,9 @@ use Rattle.tlv_value.proofs.CheckPieces.{checks-join}
 use Rattle.tlv_walk.specs.declared.follow.Go.TheVariants as go
 use Rattle.tlv_walk.specs.Events.{Told, Open, Begin, Bytes, End, Close, Enter, Unused, Leave, Pad}
 use Rattle.tlv_walk.specs.Follow.{Following, each_octet, stay}
-use Rattle.tlv_show.specs.declared.finder.Found.{Found}
 use Rattle.tlv_show.specs.declared.style.Style.TheVariants.{Check}
 use Rattle.tlv_show.specs.CheckStep.{all_written, check_step, lists, one_checked}
-use Rattle.tlv_show.specs.Finds.{Tells}
-use Rattle.tlv_show.specs.FinderState.{FinderState, OpenValue, checked_by, find, find_bytes}
+use Rattle.tlv_show.specs.FinderState.{FinderState, Finds, OpenValue, checked_by, find, find_bytes}
 use Rattle.tlv_show.proofs.Dumped.{take-both}
 
 value-join : (v : Option OpenValue) (x y : List ℕ) → checked_by (checked_by v x) y ≡ checked_by v (x ++ y)
@@ -47,16 +45,10 @@ step-is s Unused = refl
 step-is s Leave = refl
 step-is s (Pad octets) = refl
 
--- what was returned and put is what the step says
-of-found : (s u : FinderState) (e : Told) (r : Found) → Tells (find s e) u r → check_step s e ≡ record { state = u; put = all_written Check r.level r.at r.findings.items; goes = go.On }
-of-found s u e r t =
-    step-is s e
-    ∙ ap₂ (λ (v : FinderState) (k : List ℕ). record { state = v; put = k; goes = go.On }) (sym t.state)
-    (ap₂ (λ (l : ℕ) (n : ℕ). all_written Check l n (find s e).found) (sym t.level) (sym t.at) ∙ ap (all_written Check r.level r.at) (sym t.items))
+-- what was told and put is what the step says
+module _ (s t : FinderState) (u : Finds) (e : Told) where
+  pub step-text : s ≡ t → u ≡ find t e → all_written Check u.level u.at u.found ≡ (check_step s e).put
+  step-text i f = rw (i, f) (ap (λ (k : Following FinderState). k.put) (sym (step-is t e)))
 
-module _ (s t u : FinderState) (e : Told) (r : Found) where
-  pub step-text : s ≡ t → Tells (find t e) u r → all_written Check r.level r.at r.findings.items ≡ (check_step s e).put
-  step-text i f = rw i (ap (λ (k : Following FinderState). k.put) (sym (of-found t u e r f)))
-
-  pub step-state : s ≡ t → Tells (find t e) u r → (u ≡ (check_step s e).state) × (go.On ≡ (check_step s e).goes)
-  step-state i f = rw i (rw (of-found t u e r f) (refl, refl))
+  pub step-state : s ≡ t → u ≡ find t e → (u.state ≡ (check_step s e).state) × (go.On ≡ (check_step s e).goes)
+  step-state i f = rw (i, f) (rw (step-is t e) (refl, refl))

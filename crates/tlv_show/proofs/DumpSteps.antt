@@ -4,13 +4,9 @@ use Rattle.tlv_walk.specs.declared.follow.Go.{Go}
 use Rattle.tlv_walk.specs.declared.follow.Go.TheVariants as go
 use Rattle.tlv_walk.specs.Events.{Told, Open, Begin, Bytes, End, Close, Enter, Unused, Leave, Pad}
 use Rattle.tlv_walk.specs.Follow.{Following, each_octet, followed, if_on}
-use Rattle.tlv_show.specs.declared.finder.Found.{Found}
-use Rattle.tlv_show.specs.declared.style.Style.TheVariants.{Dump}
-use Rattle.tlv_show.specs.CheckStep.{all_written}
 use Rattle.tlv_show.specs.Dumped.{Dumping, dumped, one_dumped, one_padded}
 use Rattle.tlv_show.specs.DumpStep.{Showing, dump_step, findings_first, findings_last, found_lines, is_header, one_filled, one_shown}
 use Rattle.tlv_show.specs.FinderState.{FinderState, Finds, find, find_bytes, finds_nothing}
-use Rattle.tlv_show.specs.Finds.{Tells}
 use Rattle.tlv_show.proofs.CheckLaws.{found-join}
 
 -- octet by octet, and at once
@@ -72,37 +68,26 @@ pub all_on : (s : Showing) (es : List Told) → (followed dump_step s es).goes �
 all_on s [] = refl
 all_on s (e ∷ es) = ap (λ (g : Go). (if_on g (dump_step s e) (λ u. followed dump_step u es)).goes) (one_on s e) ∙ all_on (dump_step s e).state es
 
--- ---- what was returned and put is what the step says
+-- ---- what was told and put is what the step says
 
-abbrev found_text : Showing → Found → List ℕ
-found_text s r = all_written (Dump s.lines.layout) r.level r.at r.findings.items
-
-text-of : (s : Showing) (u : FinderState) (e : Told) (r : Found) → Tells (find s.finder e) u r → found_lines s (find s.finder e) ≡ found_text s r
-text-of s u e r t =
-    ap₂ (λ (l n : ℕ). all_written (Dump s.lines.layout) l n (find s.finder e).found) (sym t.level) (sym t.at) ∙ ap (all_written (Dump s.lines.layout) r.level r.at) (sym t.items)
-
-module _ (s : Showing) (u : FinderState) (e : Told) (r : Found) (told : Tells (find s.finder e) u r) where
+module _ (s : Showing) (u : Finds) (e : Told) (told : u ≡ find s.finder e) where
   abbrev d : Following Dumping
   d = dumped s.lines e
 
-  header-step : is_header e ≡ true → dump_step s e ≡ record { state = record { lines = d.state; finder = u }; put = found_text s r ++ d.put; goes = go.On }
-  header-step h =
-      step-is s e ∙ ap (λ (k : Bool). by_order k s (find s.finder e) d) h
-      ∙ ap₂ (λ (f : FinderState) (l : List ℕ). record { state = record { lines = d.state; finder = f }; put = l ++ d.put; goes = go.On }) (sym told.state) (text-of s u e r told)
+  header-step : is_header e ≡ true → dump_step s e ≡ findings_first s u d
+  header-step h = step-is s e ∙ ap₂ (λ (k : Bool) (f : Finds). by_order k s f d) h (sym told)
 
-  other-step : is_header e ≡ false → dump_step s e ≡ record { state = record { lines = d.state; finder = u }; put = d.put ++ found_text s r; goes = go.On }
-  other-step h =
-      step-is s e ∙ ap (λ (k : Bool). by_order k s (find s.finder e) d) h
-      ∙ ap₂ (λ (f : FinderState) (l : List ℕ). record { state = record { lines = d.state; finder = f }; put = d.put ++ l; goes = go.On }) (sym told.state) (text-of s u e r told)
+  other-step : is_header e ≡ false → dump_step s e ≡ findings_last s u d
+  other-step h = step-is s e ∙ ap₂ (λ (k : Bool) (f : Finds). by_order k s f d) h (sym told)
 
-  pub header-text : is_header e ≡ true → found_text s r ++ d.put ≡ (dump_step s e).put
+  pub header-text : is_header e ≡ true → found_lines s u ++ d.put ≡ (dump_step s e).put
   header-text h = ap (λ (k : Following Showing). k.put) (sym (header-step h))
 
-  pub other-text : is_header e ≡ false → d.put ++ found_text s r ≡ (dump_step s e).put
+  pub other-text : is_header e ≡ false → d.put ++ found_lines s u ≡ (dump_step s e).put
   other-text h = ap (λ (k : Following Showing). k.put) (sym (other-step h))
 
-  pub header-state : (v : Dumping) → is_header e ≡ true → v ≡ d.state → (record { lines = v; finder = u } ≡ (dump_step s e).state) × (go.On ≡ (dump_step s e).goes)
-  header-state v h w = rw (header-step h) (ap (λ (x : Dumping). record { lines = x; finder = u }) w, refl)
+  pub header-state : (v : Dumping) → is_header e ≡ true → v ≡ d.state → (record { lines = v; finder = u.state } ≡ (dump_step s e).state) × (go.On ≡ (dump_step s e).goes)
+  header-state v h w = rw (header-step h) (ap (λ (x : Dumping). record { lines = x; finder = u.state }) w, refl)
 
-  pub other-state : (v : Dumping) → is_header e ≡ false → v ≡ d.state → (record { lines = v; finder = u } ≡ (dump_step s e).state) × (go.On ≡ (dump_step s e).goes)
-  other-state v h w = rw (other-step h) (ap (λ (x : Dumping). record { lines = x; finder = u }) w, refl)
+  pub other-state : (v : Dumping) → is_header e ≡ false → v ≡ d.state → (record { lines = v; finder = u.state } ≡ (dump_step s e).state) × (go.On ≡ (dump_step s e).goes)
+  other-state v h w = rw (other-step h) (ap (λ (x : Dumping). record { lines = x; finder = u.state }) w, refl)

@@ -8,7 +8,6 @@ pub mod Found
 pub mod Items
 pub mod Texts
 pub mod FinderState
-pub mod Finds
 pub mod CheckStep
 pub mod DumpStep
 pub mod Shows

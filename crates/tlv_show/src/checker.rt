@@ -25,7 +25,7 @@ impl Model for Check {
 
     ghost Value = { FinderState };
 
-    ghost view = { λ c. c.finder };
+    ghost view = { λ c. c.finder.state };
 }
 
 impl Check {
@@ -64,8 +64,8 @@ impl Follow for Check {
 
     #[inline(always)]
     fn on<D: Drain>(&mut self, event: &Event<'_>, out: &mut Out<'_, D>) -> Result<Go, WriteFault> {
-        let found = self.finder.find(event);
-        put_findings(&mut self.line, Style::Check, &found, out)?;
+        self.finder.find(event);
+        put_findings(&mut self.line, Style::Check, &self.finder, out)?;
         Ok(Go::On)
     }
 }

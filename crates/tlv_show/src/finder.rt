@@ -1,5 +1,5 @@
 //! What is found in elements, event by event.
-ghost use Rattle.std.specs.Prelude.{◌≡◌, ℕ, Some, []};
+ghost use Rattle.std.specs.Prelude.{◌≡◌, ℕ, Some, [], length};
 ghost use Rattle.tlv_value.specs.CheckState.{unchecked};
 ghost use Rattle.tlv_walk.specs.Tells.{told_of};
 ghost use Rattle.tlv_show.specs.FinderState.{
@@ -12,30 +12,24 @@ ghost use Rattle.tlv_show.specs.FinderState.{
   find_close,
   find_end,
   find_open,
+  finds,
+  finds_nothing,
   frame_of as frame_inside,
+  header_notes,
   no_findings,
   noted,
   top_frame,
 };
-ghost use Rattle.tlv_show.specs.Finds.{Tells};
 ghost use Rattle.tlv_show.specs.Found.{shows};
 
 use crate::Rules;
 use crate::frames::{Frame, Frames};
-use crate::header_findings::{end_findings, header_findings, is_bit_string, is_string, size_of};
+use crate::header_findings::{is_bit_string, is_string, note_end, note_header, size_of};
 use arrayvec::ArrayVec;
 use std::marker::Model;
 use tlv_head::Header;
 use tlv_value::{Finding, ValueCheck};
 use tlv_walk::Event;
-
-/// What is found in an element: how many others hold it, where it begins, and the findings in order.
-#[derive(Drop)]
-pub(crate) struct Found {
-    pub level: u8,
-    pub at: u64,
-    pub findings: ArrayVec<Finding, 16>,
-}
 
 /// Finds what violates the rules, event by event. It keeps a frame for each open element that holds others, and what it
 /// must know of the primitive that is open.
@@ -52,26 +46,55 @@ pub(crate) struct Finder {
     check: Option<ValueCheck>,
     /// How many findings were told.
     count: u64,
+    /// What the last event told. It is kept here so that nothing is moved where nothing is found.
+    told: Told,
+}
+
+/// Findings in an element, in order: how many others hold it, and where it begins.
+#[derive(Drop)]
+struct Told {
+    level: u8,
+    at: u64,
+    findings: ArrayVec<Finding, 16>,
+}
+
+impl Told {
+    /// Begins anew, for the element at this level and offset.
+    #[inline(always)]
+    fn restart(&mut self, level: u8, at: u64)
+        ensures level { self.new.level ≡ level }
+        ensures at { self.new.at ≡ at }
+        ensures items { self.new.findings.items ≡ [] }
+    {
+        self.level = level;
+        self.at = at;
+        self.findings.clear();
+    }
 }
 
 impl Model for Finder {
-    ghost use Rattle.tlv_show.specs.FinderState.{FinderState, open_by};
+    ghost use Rattle.tlv_show.specs.FinderState.{Finds, open_by};
 
-    ghost Value = { FinderState };
+    ghost Value = { Finds };
 
     ghost view = { λ f. record {
-      rules = f.rules;
-      frame = f.frame;
-      outer = f.outer;
-      value = open_by f.is_open f.at f.check;
-      count = f.count;
+      state = record {
+        rules = f.rules;
+        frame = f.frame;
+        outer = f.outer;
+        value = open_by f.is_open f.at f.check;
+        count = f.count;
+      };
+      level = f.told.level;
+      at = f.told.at;
+      found = f.told.findings.items;
     } };
 }
 
 impl Finder {
     /// Of an input of which nothing was told.
     pub fn new(rules: Rules) -> Finder
-        ensures { result ≡ no_findings rules }
+        ensures { result ≡ finds_nothing (no_findings rules) }
     {
         Finder {
             rules,
@@ -81,128 +104,141 @@ impl Finder {
             is_open: false,
             check: None,
             count: 0,
+            told: Told {
+                level: 0,
+                at: 0,
+                findings: ArrayVec::new(),
+            },
         }
     }
 
     /// How many findings were told.
     pub fn count(&self) -> u64
-        ensures { result ≡ self.now.count }
+        ensures { result ≡ self.now.state.count }
     {
         self.count
     }
 
+    /// The findings that the last event told, in order.
+    #[inline(always)]
+    pub fn findings(&self) -> &[Finding]
+        ensures { result.now ≡ self.now.found }
+    {
+        self.told.findings.as_slice()
+    }
+
+    /// How many elements hold the one with these findings.
+    pub fn level(&self) -> u8
+        ensures { result ≡ self.now.level }
+    {
+        self.told.level
+    }
+
+    /// Where the element with these findings begins.
+    pub fn at(&self) -> u64
+        ensures { result ≡ self.now.at }
+    {
+        self.told.at
+    }
+
     /// Takes an event.
-    pub fn find(&mut self, event: &Event<'_>) -> Found
-        ensures { Tells (find_in self.old (told_of event.now)) self.new result }
+    #[inline(always)]
+    pub fn find(&mut self, event: &Event<'_>)
+        ensures { self.new ≡ find_in self.old.state (told_of event.now) }
     {
         match event {
             Event::Open(header) | Event::Enter(header) => self.open(header),
             Event::Begin(header) => self.begin(header),
-            Event::Bytes(octets) => {
-                self.bytes(octets);
-                nothing()
-            }
+            Event::Bytes(octets) => self.bytes(octets),
             Event::End => self.end(),
             Event::Close(_) | Event::Leave => self.close(),
-            Event::Unused | Event::Pad(_) => nothing(),
+            Event::Unused | Event::Pad(_) => self.told.restart(0, 0),
         }
     }
 
-    /// An element that holds others begins.
-    fn open(&mut self, header: &Header) -> Found
-        ensures { Tells (find_open self.old header.now) self.new result }
+    /// Tells what is found with a header.
+    #[inline(always)]
+    fn header(&mut self, header: &Header)
+        ensures { self.new ≡ finds self.old.state (length self.old.state.outer) header.now.offset
+            (header_notes self.old.state.rules self.old.state.frame header.now) }
     {
         let level = self.outer.len();
-        let findings = header_findings(self.rules, &self.frame, header);
-        self.count = self.count.saturating_add(findings.len() as u64);
-        if level < 128 {
+        self.told.restart(level, header.offset);
+        note_header(self.rules, &self.frame, header, &mut self.told.findings);
+        self.count = self.count.saturating_add(self.told.findings.len() as u64);
+    }
+
+    /// An element that holds others begins.
+    #[inline(always)]
+    fn open(&mut self, header: &Header)
+        ensures { self.new ≡ find_open self.old.state header.now }
+    {
+        self.header(header);
+        if self.outer.len() < 128 {
             self.outer.push(self.frame);
             self.frame = frame_of(header);
-        }
-        Found {
-            level,
-            at: header.offset,
-            findings,
         }
     }
 
     /// A primitive begins.
-    fn begin(&mut self, header: &Header) -> Found
-        ensures { Tells (find_begin self.old header.now) self.new result }
+    #[inline(always)]
+    fn begin(&mut self, header: &Header)
+        ensures { self.new ≡ find_begin self.old.state header.now }
     {
-        let findings = header_findings(self.rules, &self.frame, header);
-        self.count = self.count.saturating_add(findings.len() as u64);
+        self.header(header);
         self.at = header.offset;
         self.is_open = true;
         restart(&mut self.check, header);
-        Found {
-            level: self.outer.len(),
-            at: header.offset,
-            findings,
-        }
     }
 
     /// Contents of a primitive go on.
+    #[inline(always)]
     fn bytes(&mut self, octets: &[u8])
-        ensures { self.new ≡ find_bytes self.old octets.now }
+        ensures { self.new ≡ finds_nothing (find_bytes self.old.state octets.now) }
     {
+        self.told.restart(0, 0);
         if self.is_open && !octets.is_empty() {
             take_octets(&mut self.check, octets);
         }
     }
 
     /// A primitive ends.
-    fn end(&mut self) -> Found
-        ensures { Tells (find_end self.old) self.new result }
+    #[inline(always)]
+    fn end(&mut self)
+        ensures { self.new ≡ find_end self.old.state }
     {
-        match &self.check {
-            Some(check) if self.is_open => {
-                let findings = contents_findings(self.rules, check);
-                let size = check.size();
-                let has_unused_bits = check.has_unused_bits();
-                self.count = self.count.saturating_add(findings.len() as u64);
-                note_element(&mut self.frame, true, size, has_unused_bits);
-                self.is_open = false;
-                Found {
-                    level: self.outer.len(),
-                    at: self.at,
-                    findings,
-                }
-            }
-            _ => nothing(),
+        let Some(check) = &self.check else {
+            self.told.restart(0, 0);
+            return;
+        };
+        if !self.is_open {
+            self.told.restart(0, 0);
+            return;
         }
+        let level = self.outer.len();
+        self.told.restart(level, self.at);
+        note_contents(self.rules, check, &mut self.told.findings);
+        self.count = self.count.saturating_add(self.told.findings.len() as u64);
+        note_element(&mut self.frame, true, check.size(), check.has_unused_bits());
+        self.is_open = false;
     }
 
     /// An element that holds others ends.
-    fn close(&mut self) -> Found
-        ensures { Tells (find_close self.old) self.new result }
+    #[inline(always)]
+    fn close(&mut self)
+        ensures { self.new ≡ find_close self.old.state }
     {
         let Some(outer) = self.outer.pop() else {
-            return nothing();
+            self.told.restart(0, 0);
+            return;
         };
-        let findings = end_findings(self.rules, &self.frame);
-        self.count = self.count.saturating_add(findings.len() as u64);
         let closed = self.frame;
+        let level = self.outer.len();
+        self.told.restart(level, closed.at);
+        note_end(self.rules, &closed, &mut self.told.findings);
+        self.count = self.count.saturating_add(self.told.findings.len() as u64);
         self.frame = outer;
         note_element(&mut self.frame, closed.is_primitive, closed.size, false);
-        Found {
-            level: self.outer.len(),
-            at: closed.at,
-            findings,
-        }
-    }
-}
-
-/// Where nothing is found.
-fn nothing() -> Found
-    ensures level { result.level ≡ 0 }
-    ensures at { result.at ≡ 0 }
-    ensures items { result.findings.items ≡ [] }
-{
-    Found {
-        level: 0,
-        at: 0,
-        findings: ArrayVec::new(),
     }
 }
 
@@ -217,6 +253,7 @@ fn top() -> Frame
 }
 
 /// The frame of an element of which nothing inside has come.
+#[inline(always)]
 fn frame_of(header: &Header) -> Frame
     ensures { result ≡ frame_inside header.now }
 {
@@ -234,6 +271,7 @@ fn frame_of(header: &Header) -> Frame
 
 /// Keeps what must be known of an element: whether it is primitive, how many contents octets it announces, and whether
 /// bits of it are unused.
+#[inline(always)]
 fn note_element(frame: &mut Frame, is_primitive: bool, size: u64, is_unused: bool)
     ensures { frame.new ≡ noted frame.old is_primitive size is_unused }
 {
@@ -246,6 +284,7 @@ fn note_element(frame: &mut Frame, is_primitive: bool, size: u64, is_unused: boo
 }
 
 /// A primitive begins, in place of the last one.
+#[inline(always)]
 fn restart(check: &mut Option<ValueCheck>, header: &Header)
     ensures { check.new ≡ Some (unchecked header.now) }
 {
@@ -256,6 +295,7 @@ fn restart(check: &mut Option<ValueCheck>, header: &Header)
 }
 
 /// Takes contents octets of the primitive that is open. Those past the ones that were announced do not count.
+#[inline(always)]
 fn take_octets(check: &mut Option<ValueCheck>, octets: &[u8])
     ensures { (at : ℕ) → begun_at at check.new ≡ checked_by (begun_at at check.old) octets.now }
 {
@@ -265,20 +305,20 @@ fn take_octets(check: &mut Option<ValueCheck>, octets: &[u8])
     }
 }
 
-/// What is found on the contents of a primitive, if all of them have come.
-fn contents_findings(rules: Rules, check: &ValueCheck) -> ArrayVec<Finding, 16>
-    ensures items { result.items ≡ contents_notes rules check.now }
+/// Notes what is found on the contents of a primitive, if all of them have come.
+#[inline(always)]
+fn note_contents(rules: Rules, check: &ValueCheck, found: &mut ArrayVec<Finding, 16>)
+    requires { found.old.items ≡ [] }
+    ensures { found.new.items ≡ contents_notes rules check.now }
 {
-    let mut found = ArrayVec::new();
     if check.left() != 0 {
-        return found;
+        return;
     }
     for finding in check.end().as_slice() {
         if is_shown(rules, *finding) {
             found.push(*finding);
         }
     }
-    found
 }
 
 /// Whether the rules show the finding, by the letter of its code.

@@ -32,7 +32,7 @@ impl<'n> Model for Dump<'n> {
 
     ghost coded = { Prim.hlevel (codes, table_code) };
 
-    ghost view = { λ d. record { lines = d.lines; finder = d.finder } };
+    ghost view = { λ d. record { lines = d.lines; finder = d.finder.state } };
 }
 
 impl<'n> Dump<'n> {
@@ -78,13 +78,13 @@ impl Follow for Dump<'_> {
     #[inline(always)]
     fn on<D: Drain>(&mut self, event: &Event<'_>, out: &mut Out<'_, D>) -> Result<Go, WriteFault> {
         let style = Style::Dump(self.lines.layout());
-        let found = self.finder.find(event);
+        self.finder.find(event);
         if is_header(event) {
-            put_findings(&mut self.line, style, &found, out)?;
+            put_findings(&mut self.line, style, &self.finder, out)?;
             self.lines.show(event, out)?;
         } else {
             self.lines.show(event, out)?;
-            put_findings(&mut self.line, style, &found, out)?;
+            put_findings(&mut self.line, style, &self.finder, out)?;
         }
         Ok(Go::On)
     }

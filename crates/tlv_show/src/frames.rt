@@ -57,6 +57,7 @@ impl Frames {
     }
 
     /// How many elements are open.
+    #[inline(always)]
     pub fn len(&self) -> u8
         ensures value { result ≡ length self.now }
         ensures within { result ≤ 128 }
@@ -65,6 +66,7 @@ impl Frames {
     }
 
     /// Keeps a frame, as the innermost one.
+    #[inline(always)]
     pub fn push(&mut self, frame: Frame)
         requires { length self.old < 128 }
         ensures { self.new ≡ frame ∷ self.old }
@@ -73,6 +75,7 @@ impl Frames {
     }
 
     /// Takes the innermost frame back.
+    #[inline(always)]
     pub fn pop(&mut self) -> Option<Frame>
         ensures value { result ≡ innermost_of self.old }
         ensures rest { self.new ≡ drop 1 self.old }

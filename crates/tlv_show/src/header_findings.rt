@@ -1,5 +1,5 @@
 //! What is found with a header, and with the end of an element that holds others.
-ghost use Rattle.std.specs.Prelude.{◌≡◌, ◌<◌, ◌≤◌, ◌+◌, ◌++◌, ◌&&◌, ◌||◌, ◌==◌, if◌then◌else◌, nat_le, nat_lt, length};
+ghost use Rattle.std.specs.Prelude.{◌≡◌, ◌<◌, ◌≤◌, ◌+◌, ◌++◌, ◌&&◌, ◌||◌, ◌==◌, if◌then◌else◌, nat_le, nat_lt, length, []};
 ghost use Rattle.tlv_head.specs.Header.{announced, is_universal as is_universal_class};
 ghost use Rattle.tlv_value.specs.CheckNotes.{where_it};
 ghost use Rattle.tlv_value.specs.Types.{
@@ -22,46 +22,49 @@ use arrayvec::ArrayVec;
 use tlv_head::{Class, Header, Size};
 use tlv_value::Finding;
 
-/// What is found with a header, in order, by the frame of the element that holds it.
-pub(crate) fn header_findings(rules: Rules, frame: &Frame, header: &Header) -> ArrayVec<Finding, 16>
-    ensures { result.items ≡ header_notes rules frame.now header.now }
+/// Notes what is found with a header, in order, by the frame of the element that holds it.
+#[inline(always)]
+pub(crate) fn note_header(
+    rules: Rules,
+    frame: &Frame,
+    header: &Header,
+    found: &mut ArrayVec<Finding, 16>,
+)
+    requires { found.old.items ≡ [] }
+    ensures { found.new.items ≡ header_notes rules frame.now header.now }
 {
-    let mut found = basic_findings(frame, header);
+    note_basic(frame, header, found);
     match rules {
         Rules::Ber => {}
         Rules::Der => {
-            note_length(header, &mut found);
-            note_der(header, &mut found);
+            note_length(header, found);
+            note_der(header, found);
         }
         Rules::Cer => {
-            note_length(header, &mut found);
-            note_cer(frame, header, &mut found);
+            note_length(header, found);
+            note_cer(frame, header, found);
         }
     }
-    found
 }
 
-/// What is found with the end of the element whose frame this is.
-pub(crate) fn end_findings(rules: Rules, frame: &Frame) -> ArrayVec<Finding, 16>
-    ensures { result.items ≡ end_notes_of rules frame.now }
+/// Notes what is found with the end of the element whose frame this is.
+#[inline(always)]
+pub(crate) fn note_end(rules: Rules, frame: &Frame, found: &mut ArrayVec<Finding, 16>)
+    requires { found.old.items ≡ [] }
+    ensures { found.new.items ≡ end_notes_of rules frame.now }
 {
-    let mut found = ArrayVec::new();
     if matches!(rules, Rules::Cer) {
         note(
             frame.has_segments && frame.all_primitive && fits(frame),
             Finding::C05,
-            &mut found,
+            found,
         );
-        note(
-            frame.has_segments && frame.is_empty,
-            Finding::C06,
-            &mut found,
-        );
+        note(frame.has_segments && frame.is_empty, Finding::C06, found);
     }
-    found
 }
 
 /// Whether a string with the segments of this frame has at most 1000 contents octets as a primitive.
+#[inline(always)]
 fn fits(frame: &Frame) -> bool
     ensures { result ≡ nat_le ((if frame.now.has_bits then 1 else 0) + frame.now.octets) 1000 }
 {
@@ -69,6 +72,7 @@ fn fits(frame: &Frame) -> bool
 }
 
 /// Adds a finding, where it is there.
+#[inline(always)]
 fn note(there: bool, finding: Finding, found: &mut ArrayVec<Finding, 16>)
     requires { length found.old.items < 16 }
     ensures items { found.new.items ≡ found.old.items ++ where_it there finding }
@@ -79,40 +83,41 @@ fn note(there: bool, finding: Finding, found: &mut ArrayVec<Finding, 16>)
     }
 }
 
-/// What violates the rules of all encodings.
-fn basic_findings(frame: &Frame, header: &Header) -> ArrayVec<Finding, 16>
-    ensures items { result.items ≡ basic_notes frame.now header.now }
-    ensures few { length result.items ≤ 7 }
+/// Notes what violates the rules of all encodings.
+#[inline(always)]
+fn note_basic(frame: &Frame, header: &Header, found: &mut ArrayVec<Finding, 16>)
+    requires { found.old.items ≡ [] }
+    ensures items { found.new.items ≡ basic_notes frame.now header.now }
+    ensures few { length found.new.items ≤ 7 }
 {
-    let mut found = ArrayVec::new();
     let is_high = has_high_form(header);
-    note(is_high && header.number < 31, Finding::B01, &mut found);
+    note(is_high && header.number < 31, Finding::B01, found);
     note(
-        is_high && begins_with_zero_bits(header),
+        is_high && header.number_octet() % 128 == 0,
         Finding::B02,
-        &mut found,
+        found,
     );
-    note(is_unassigned(header), Finding::B03, &mut found);
+    note(is_unassigned(header), Finding::B03, found);
     note(
         header.constructed && is_always_primitive(header),
         Finding::B04,
-        &mut found,
+        found,
     );
     note(
         !header.constructed && is_always_constructed(header),
         Finding::B05,
-        &mut found,
+        found,
     );
-    note(frame.has_bits && frame.is_unused, Finding::B16, &mut found);
+    note(frame.has_bits && frame.is_unused, Finding::B16, found);
     note(
         frame.has_segments && !is_segment(frame.has_bits, header),
         Finding::B17,
-        &mut found,
+        found,
     );
-    found
 }
 
 /// Adds a length that is not the shortest.
+#[inline(always)]
 fn note_length(header: &Header, found: &mut ArrayVec<Finding, 16>)
     requires { length found.old.items ≤ 7 }
     ensures items { found.new.items ≡ found.old.items ++ length_notes header.now }
@@ -122,6 +127,7 @@ fn note_length(header: &Header, found: &mut ArrayVec<Finding, 16>)
 }
 
 /// Adds what violates the rules of DER alone.
+#[inline(always)]
 fn note_der(header: &Header, found: &mut ArrayVec<Finding, 16>)
     requires { length found.old.items ≤ 8 }
     ensures { found.new.items ≡ found.old.items ++ der_notes header.now }
@@ -131,6 +137,7 @@ fn note_der(header: &Header, found: &mut ArrayVec<Finding, 16>)
 }
 
 /// Adds what violates the rules of CER alone.
+#[inline(always)]
 fn note_cer(frame: &Frame, header: &Header, found: &mut ArrayVec<Finding, 16>)
     requires { length found.old.items ≤ 8 }
     ensures { found.new.items ≡ found.old.items ++ cer_notes frame.now header.now }
@@ -153,50 +160,25 @@ fn note_cer(frame: &Frame, header: &Header, found: &mut ArrayVec<Finding, 16>)
     note(frame.is_not_full, Finding::C04, found);
 }
 
-/// The identifier octets.
-fn identifier_of(header: &Header) -> &[u8]
-    ensures { result.now ≡ header.now.identifier }
-{
-    let raw = header.raw();
-    &raw[..usize::from(header.id_len).min(raw.len())]
-}
-
-/// The length octets.
-fn lengths_of(header: &Header) -> &[u8]
-    ensures { result.now ≡ header.now.lengths }
-{
-    let raw = header.raw();
-    &raw[usize::from(header.id_len).min(raw.len())..]
-}
-
 /// Whether the tag is in the high form (8.1.2.4).
+#[inline(always)]
 fn has_high_form(header: &Header) -> bool
     ensures { result ≡ has_high_form_of header.now }
 {
-    identifier_of(header).len() > 1
-}
-
-/// Whether bits 7 to 1 of the first subsequent identifier octet are 0 (8.1.2.4.2 c).
-fn begins_with_zero_bits(header: &Header) -> bool
-    ensures { result ≡ (leading_bits header.now == 0) }
-{
-    match identifier_of(header) {
-        [_, first, ..] => first % 128 == 0,
-        _ => true,
-    }
+    header.id_len > 1
 }
 
 /// Whether fewer length octets would do (9.1, 10.1).
+#[inline(always)]
 fn is_length_padded(header: &Header) -> bool
     ensures { result ≡ (has_long_form header.now && (nat_lt (announced header.now.size) 128 || first_length header.now == 0)) }
 {
-    match lengths_of(header) {
-        [_, first, ..] => size_of(header) < 128 || *first == 0,
-        _ => false,
-    }
+    let is_long = header.raw().len() > usize::from(header.id_len) + 1;
+    is_long && (size_of(header) < 128 || header.length_octet() == 0)
 }
 
 /// How many contents octets the header announces; none in the indefinite form.
+#[inline(always)]
 pub(crate) fn size_of(header: &Header) -> u64
     ensures { result ≡ announced header.now.size }
 {
@@ -206,12 +188,14 @@ pub(crate) fn size_of(header: &Header) -> u64
     }
 }
 
+#[inline(always)]
 fn is_indefinite(header: &Header) -> bool
     ensures { result ≡ is_indefinite_of header.now.size }
 {
     matches!(header.size, Size::Indefinite)
 }
 
+#[inline(always)]
 fn is_universal(header: &Header) -> bool
     ensures { result ≡ is_universal_class header.now.class }
 {
@@ -219,6 +203,7 @@ fn is_universal(header: &Header) -> bool
 }
 
 /// Whether no type has this universal number.
+#[inline(always)]
 fn is_unassigned(header: &Header) -> bool
     ensures { result ≡ is_unassigned_of header.now }
 {
@@ -226,6 +211,7 @@ fn is_unassigned(header: &Header) -> bool
 }
 
 /// Whether the encodings of the type are primitive.
+#[inline(always)]
 fn is_always_primitive(header: &Header) -> bool
     ensures { result ≡ is_one_of primitive_types header.now }
 {
@@ -233,6 +219,7 @@ fn is_always_primitive(header: &Header) -> bool
 }
 
 /// Whether the encodings of the type are constructed.
+#[inline(always)]
 fn is_always_constructed(header: &Header) -> bool
     ensures { result ≡ is_one_of constructed_types header.now }
 {
@@ -240,6 +227,7 @@ fn is_always_constructed(header: &Header) -> bool
 }
 
 /// Whether the type is that of a string, with the strings of characters and the two times.
+#[inline(always)]
 pub(crate) fn is_string(header: &Header) -> bool
     ensures { result ≡ is_string_of header.now }
 {
@@ -247,6 +235,7 @@ pub(crate) fn is_string(header: &Header) -> bool
 }
 
 /// Whether the type is BIT STRING.
+#[inline(always)]
 pub(crate) fn is_bit_string(header: &Header) -> bool
     ensures { result ≡ is_a bit_string header.now }
 {
@@ -254,6 +243,7 @@ pub(crate) fn is_bit_string(header: &Header) -> bool
 }
 
 /// Whether the tag is that of a segment, of a BIT STRING or of any other string.
+#[inline(always)]
 fn is_segment(has_bits: bool, header: &Header) -> bool
     ensures { result ≡ is_a (if has_bits then bit_string else octet_string) header.now }
 {

@@ -4,7 +4,7 @@ ghost use Rattle.tlv_walk.specs.Out.{Puts};
 ghost use Rattle.tlv_show.specs.CheckStep.{all_written, written};
 ghost use Rattle.tlv_show.specs.Texts.{finding_line, listed};
 
-use crate::finder::Found;
+use crate::finder::Finder;
 use itoa::Buffer;
 use tlv_value::{Finding, Layout, Line};
 use tlv_walk::{Drain, Out, WriteFault};
@@ -25,17 +25,36 @@ const BARE: Layout = Layout {
     pure: true,
 };
 
-/// Puts a line for each finding, in order.
+/// Puts a line for each finding that the last event told, in order.
+#[inline(always)]
 pub(crate) fn put_findings<D: Drain>(
     line: &mut Line,
     style: Style,
-    found: &Found,
+    finder: &Finder,
     out: &mut Out<'_, D>,
 ) -> Result<(), WriteFault>
-    ensures { Puts D.told out.old out.new (all_written style found.now.level found.now.at found.now.findings.items) result }
+    ensures { Puts D.told out.old out.new (all_written style finder.now.level finder.now.at finder.now.found) result }
 {
-    for finding in found.findings.as_slice() {
-        write_finding(line, style, found.level, found.at, *finding);
+    let findings = finder.findings();
+    if findings.is_empty() {
+        return Ok(());
+    }
+    put_each(line, style, (finder.level(), finder.at()), findings, out)
+}
+
+/// Puts a line for each of these findings in the element at this level and offset.
+#[inline(never)]
+fn put_each<D: Drain>(
+    line: &mut Line,
+    style: Style,
+    place: (u8, u64),
+    findings: &[Finding],
+    out: &mut Out<'_, D>,
+) -> Result<(), WriteFault>
+    ensures { Puts D.told out.old out.new (all_written style place.0 place.1 findings.now) result }
+{
+    for finding in findings {
+        write_finding(line, style, place.0, place.1, *finding);
         out.put(line.as_slice())?;
     }
     Ok(())
