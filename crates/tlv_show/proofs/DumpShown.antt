@@ -57,7 +57,7 @@ then_shown s t put xs ys e = shown-more s xs ys ∙ ap (λ (k : Following Showin
 
 -- the lines of what is found, as a dump in this layout puts them
 abbrev texts : Layout → Finds → List ℕ
-texts layout f = all_written (Dump layout) f.level f.at f.found
+texts layout f = all_written (Dump layout.pure) f.level f.at f.found
 
 -- ---- an element that holds others
 
@@ -149,7 +149,7 @@ module _ (style : Layout) (names : Table) (rules : Rules) where
   abbrev site : Place → Option Heading → Before → Site
   site p holder before = record { at = p.at; level = p.depth; holder = holder; before = before }
 
-  lines_of : (level at : ℕ) (fs : List Finding) → all_written (Dump style) level at fs ≡ texts_of (findings_at level at fs)
+  lines_of : (level at : ℕ) (fs : List Finding) → all_written (Dump style.pure) level at fs ≡ texts_of (findings_at level at fs)
   lines_of level at [] = refl
   lines_of level at (f ∷ fs) = ap (λ (l : List ℕ). item (FindingAt level at f) ++ l) (lines_of level at fs)
 
@@ -158,9 +158,9 @@ module _ (style : Layout) (names : Table) (rules : Rules) where
 
   -- findings, and then other lines
   found-first : (n level at : ℕ) (gs fs : List Finding) (more : List ℕ) (rest : List Item) → n ≡ level → gs ≡ fs → more ≡ texts_of rest
-      → all_written (Dump style) n at gs ++ more ≡ texts_of (findings_at level at fs ++ rest)
+      → all_written (Dump style.pure) n at gs ++ more ≡ texts_of (findings_at level at fs ++ rest)
   found-first n level at gs fs more rest e f g =
-      ap₂ (λ (k : ℕ) (hs : List Finding). all_written (Dump style) k at hs ++ more) e f
+      ap₂ (λ (k : ℕ) (hs : List Finding). all_written (Dump style.pure) k at hs ++ more) e f
       ∙ ap₂ (λ (a b : List ℕ). a ++ b) (lines_of level at fs) g
       ∙ sym (split (findings_at level at fs) rest)
 
@@ -190,7 +190,7 @@ module _ (style : Layout) (names : Table) (rules : Rules) where
   opened-shown : (p : Place) (holder : Option Heading) (before : Before) (w : Frame) (outer : List Frame) (n : ℕ) (h : Heading) → Known p holder before w outer
       → h.offset ≡ p.at → p.depth < 128 → p.at + length (opening h) ≤ 2 ^ 64 - 1
       → followed dump_step (start p (is_padding before) w outer n) (opens h)
-      ≡ shows (start (place_inside p h) false (frame_of h) (w ∷ outer) (behind_header rules w h n)) (all_written (Dump style) (length outer) h.offset (header_notes rules w h) ++ holder_line (at_level style names p.depth) h)
+      ≡ shows (start (place_inside p h) false (frame_of h) (w ∷ outer) (behind_header rules w h n)) (all_written (Dump style.pure) (length outer) h.offset (header_notes rules w h) ++ holder_line (at_level style names p.depth) h)
   opened-shown p holder before w outer n h k there low far =
       opens-by (lines_at style names p.depth p.at (is_padding before)) (standing rules w outer n) h h.constructed (h.number == 3)
       ∙ ap₂ (λ (d : Following Dumping) (f : Finds). shows (pair d.state f.state) (texts style f ++ d.put))
@@ -202,10 +202,10 @@ module _ (style : Layout) (names : Table) (rules : Rules) where
       → p.at + (length (octets_of h) + length c) ≤ 2 ^ 64 - 1
       → followed dump_step (start p padded w outer n) (Begin h ∷ Bytes c ∷ End ∷ [])
       ≡ shows (start (after p (length (octets_of h) + length c)) false (behind_primitive rules w h c) outer (behind_contents rules w h c n))
-      (all_written (Dump style) (length outer) h.offset (header_notes rules w h) ++ (whole_lines (finite.get names) h (at_level style names p.depth) c ++ all_written (Dump style) (length outer) h.offset (contents_findings rules h c)))
+      (all_written (Dump style.pure) (length outer) h.offset (header_notes rules w h) ++ (whole_lines (finite.get names) h (at_level style names p.depth) c ++ all_written (Dump style.pure) (length outer) h.offset (contents_findings rules h c)))
   primitive-shown p padded w outer n h c there size far =
       primitive-by (lines_at style names p.depth p.at padded) (standing rules w outer n) h c
-      ∙ ap₂ (λ (d : Following Dumping) (f : Finds). shows (pair d.state f.state) (all_written (Dump style) (length outer) h.offset (header_notes rules w h) ++ (d.put ++ texts style f)))
+      ∙ ap₂ (λ (d : Following Dumping) (f : Finds). shows (pair d.state f.state) (all_written (Dump style.pure) (length outer) h.offset (header_notes rules w h) ++ (d.put ++ texts style f)))
       (primitive_told style names p.depth p.at padded h c there size far)
       (primitive-find rules w outer n h c (sym size))
 
@@ -247,7 +247,7 @@ module _ (style : Layout) (names : Table) (rules : Rules) where
       record {
         text = λ n.
             ap (λ (x : Following Showing). x.put) (all n)
-            ∙ three (all_written (Dump style) (length outer) h.offset (header_notes rules w h)) (whole_lines (finite.get names) h (at_level style names p.depth) c) (all_written (Dump style) (length outer) h.offset (contents_findings rules h c)) (texts_of others)
+            ∙ three (all_written (Dump style.pure) (length outer) h.offset (header_notes rules w h)) (whole_lines (finite.get names) h (at_level style names p.depth) c) (all_written (Dump style.pure) (length outer) h.offset (contents_findings rules h c)) (texts_of others)
             ∙ found-first (length outer) p.depth h.offset (header_notes rules w h) (header_findings rules s h) _ (WholePrimitive p.depth h c ∷ (findings_at p.depth h.offset (contents_findings rules h c) ++ others)) k.1 (header-same rules w s h k.0)
             (ap (λ (l : List ℕ). whole_lines (finite.get names) h (at_level style names p.depth) c ++ l) (found-first (length outer) p.depth h.offset (contents_findings rules h c) (contents_findings rules h c) (texts_of others) others k.1 refl refl));
         stands = λ n e.
@@ -271,8 +271,8 @@ module _ (style : Layout) (names : Table) (rules : Rules) where
       let end : ℕ = p.at + length (opening h) + length (spell inside) in
       let line : List ℕ = holder_line (at_level style names p.depth) h in
       let close : List ℕ = close_line (at_level style names p.depth) (end_place h inside) in
-      let first : List ℕ = all_written (Dump style) (length outer) h.offset (header_notes rules w h) in
-      let last : List ℕ = all_written (Dump style) (length outer) h.offset (end_findings rules h (heads inside)) in
+      let first : List ℕ = all_written (Dump style.pure) (length outer) h.offset (header_notes rules w h) in
+      let last : List ℕ = all_written (Dump style.pure) (length outer) h.offset (end_findings rules h (heads inside)) in
       let held : List ℕ = texts_of (items rules (inside_of s h) inside) in
       let closes-shown : (m : ℕ) → followed dump_step (pair (lines_at style names (p.depth + 1) end false) (standing rules (noted_all (frame_of h) inside) (w ∷ outer) m)) (closes h inside ∷ [])
       ≡ shows (start q false (noted w (is_primitive h) (announced h.size) false) outer (behind_end rules h inside m)) (close ++ last) =
@@ -343,7 +343,7 @@ module _ (style : Layout) (names : Table) (rules : Rules) where
       let s : Site = site p holder before in
       let size = length-append (opening h) (spell inside) in
       let i = told (place_inside p h) (Some h) Start (frame_of h) (w ∷ outer) inside v.1 (omega (arith, b, size)) (knows-inside s h, omega (arith, k.1), λ e. absurd (cc (e))) in
-      let first : List ℕ = all_written (Dump style) (length outer) h.offset (header_notes rules w h) in
+      let first : List ℕ = all_written (Dump style.pure) (length outer) h.offset (header_notes rules w h) in
       let line : List ℕ = holder_line (at_level style names p.depth) h in
       record {
         text = λ n.
@@ -357,7 +357,7 @@ module _ (style : Layout) (names : Table) (rules : Rules) where
       }
   told p holder before w outer (Awaiting h) v b k = record {
     text = λ n.
-        append_assoc (all_written (Dump style) (length outer) h.offset (header_notes rules w h)) (wrapper_line (at_level style names p.depth) h) []
+        append_assoc (all_written (Dump style.pure) (length outer) h.offset (header_notes rules w h)) (wrapper_line (at_level style names p.depth) h) []
         ∙ found-first (length outer) p.depth h.offset (header_notes rules w h) (header_findings rules (site p holder before) h) _ (OpeningLine p.depth h ∷ []) k.1 (header-same rules w (site p holder before) h k.0)
         (ap (λ (l : List ℕ). l ++ []) (sym (awaiting p.depth h h.constructed v.lead)));
     stands = λ n e. absurd (cc (e));

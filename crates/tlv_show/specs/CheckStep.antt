@@ -1,5 +1,5 @@
 -- What a check makes of events.
-use Rattle.std.specs.Prelude.{ℕ, List, [], ◌∷◌, flat_map}
+use Rattle.std.specs.Prelude.{ℕ, List, [], ◌∷◌, None, flat_map}
 use Rattle.tlv_value.specs.declared.finding.Finding.{Finding}
 use Rattle.tlv_walk.specs.declared.follow.Go.TheVariants.{On}
 use Rattle.tlv_walk.specs.Events.{Told, Open, Begin, Bytes, End, Close, Enter, Unused, Leave, Pad}
@@ -7,12 +7,12 @@ use Rattle.tlv_walk.specs.Follow.{Following, each_octet, stay}
 use Rattle.tlv_show.specs.declared.style.Style.{Style}
 use Rattle.tlv_show.specs.declared.style.Style.TheVariants.{Check, Dump}
 use Rattle.tlv_show.specs.FinderState.{FinderState, Finds, find_begin, find_bytes, find_close, find_end, find_open}
-use Rattle.tlv_show.specs.Texts.{at_level, finding_line, listed}
+use Rattle.tlv_show.specs.Texts.{finding_line, listed}
 
 -- a finding in an element at this level and offset, as it is written
 abbrev pub written : Style → ℕ → ℕ → Finding → List ℕ
 written Check level at finding = listed at finding
-written (Dump layout) level at finding = finding_line (at_level layout level) at finding
+written (Dump pure) level at finding = finding_line (record { level = level; limit = None; pure = pure }) at finding
 
 abbrev pub all_written : Style → ℕ → ℕ → List Finding → List ℕ
 all_written style level at findings = flat_map (written style level at) findings

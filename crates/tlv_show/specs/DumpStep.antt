@@ -22,7 +22,7 @@ nothing_shown rules layout names = record { lines = fresh layout names; finder =
 
 -- the lines of what is found
 abbrev pub found_lines : Showing → Finds → List ℕ
-found_lines s f = all_written (Dump s.lines.layout) f.level f.at f.found
+found_lines s f = all_written (Dump s.lines.layout.pure) f.level f.at f.found
 
 -- what is found comes before the lines, or behind them
 abbrev pub findings_first : Showing → Finds → Following Dumping → Following Showing

@@ -55,7 +55,7 @@ PrimitivesAreShown = (s : Showing) (h : Heading) (c : List ℕ) → announced h.
       state = shown;
       put =
           found_lines s (find_begin s.finder h)
-          ++ (whole_lines (finite.get s.lines.names) h s.lines.layout c ++ all_written (Dump s.lines.layout) (length s.finder.outer) h.offset (contents_findings s.finder.rules h c));
+          ++ (whole_lines (finite.get s.lines.names) h s.lines.layout c ++ all_written (Dump s.lines.layout.pure) (length s.finder.outer) h.offset (contents_findings s.finder.rules h c));
       goes = On;
     })
 

@@ -77,7 +77,7 @@ impl Follow for Dump<'_> {
 
     #[inline(always)]
     fn on<D: Drain>(&mut self, event: &Event<'_>, out: &mut Out<'_, D>) -> Result<Go, WriteFault> {
-        let style = Style::Dump(self.lines.layout());
+        let style = Style::Dump(self.lines.layout().pure);
         self.finder.find(event);
         if is_header(event) {
             put_findings(&mut self.line, style, &self.finder, out)?;

@@ -14,8 +14,8 @@ use tlv_walk::{Drain, Out, WriteFault};
 pub(crate) enum Style {
     /// As lines of a check.
     Check,
-    /// As lines of a dump in this layout, but for its level.
-    Dump(Layout),
+    /// As lines of a dump: with first columns, or without any where it is pure.
+    Dump(bool),
 }
 
 /// Nothing stands before the text of a line in this layout.
@@ -66,7 +66,14 @@ fn write_finding(line: &mut Line, style: Style, level: u8, at: u64, finding: Fin
 {
     match style {
         Style::Check => write_listed(line, at, finding),
-        Style::Dump(layout) => write_between(line, Layout { level, ..layout }, at, finding),
+        Style::Dump(pure) => {
+            let layout = Layout {
+                level,
+                limit: None,
+                pure,
+            };
+            write_between(line, layout, at, finding);
+        }
     }
 }
 
