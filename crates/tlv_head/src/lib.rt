@@ -13,4 +13,4 @@ mod tests;
 pub use fault::{Fault, FaultCode};
 pub use header::{Class, Header, HeaderFields, Size, spell_indefinite};
 pub use reader::{Head, HeadReader, read_header, read_short};
-pub use tag::tag_text;
+pub use tag::{tag_text, type_name};

@@ -1,5 +1,5 @@
 //! The texts of tags.
-ghost use Rattle.std.specs.Prelude.{◌≡◌};
+ghost use Rattle.std.specs.Prelude.{◌≡◌, ◌≤◌, IfSome, length};
 ghost use Rattle.std.specs.Option.{option_copied};
 ghost use Rattle.tlv_head.specs.Tag.{tag_text_of, universal_name};
 
@@ -7,9 +7,11 @@ use crate::Class;
 use arrayvec::ArrayVec;
 use itoa::Buffer;
 
-/// The name of a universal type (X.680, table 1), in ASCII; none where the number is not assigned.
-fn name_of(number: u64) -> Option<&'static [u8]>
-    ensures { option_copied result ≡ universal_name number }
+/// The name of a universal type (X.680, table 1), in ASCII, as `INTEGER`: at most 17 octets. `None` where the number is
+/// not that of a type.
+pub fn type_name(number: u64) -> Option<&'static [u8]>
+    ensures name { option_copied result ≡ universal_name number }
+    ensures short { IfSome result (λ name. length name.now ≤ 17) }
 {
     Some(match number {
         1 => b"BOOLEAN",
@@ -59,7 +61,7 @@ pub fn tag_text(class: Class, number: u64) -> ArrayVec<u8, 40>
     let mut text = ArrayVec::new();
     let prefix: &[u8] = match class {
         Class::Universal => {
-            if let Some(name) = name_of(number) {
+            if let Some(name) = type_name(number) {
                 let _ = text.try_extend_from_slice(name);
                 return text;
             }

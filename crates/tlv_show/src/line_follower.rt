@@ -160,6 +160,7 @@ impl<'n> Lines<'n> {
     }
 
     /// Contents of a primitive go on.
+    #[inline(always)]
     fn bytes<D: Drain>(&mut self, octets: &[u8], out: &mut Out<'_, D>) -> Result<(), WriteFault>
         ensures state { OnOk result (self.new ≡ (each_octet one_dumped self.old octets.now).state) }
         ensures puts { Puts D.told out.old out.new (each_octet one_dumped self.old octets.now).put result }

@@ -4,7 +4,7 @@ ghost use Rattle.tlv_value.specs.Layout.{columns, margin};
 ghost use Rattle.tlv_show.specs.Lines.{close_line, opening_line, padding_line, size_text};
 
 use itoa::Buffer;
-use tlv_head::{Header, Size, tag_text};
+use tlv_head::{Header, Size};
 use tlv_value::{Layout, Line};
 
 /// Makes the line of an element that holds others, with a word behind its tag.
@@ -14,7 +14,7 @@ pub(crate) fn write_opening(line: &mut Line, layout: Layout, header: &Header, wo
     ensures { line.new ≡ opening_line layout header.now word.now }
 {
     begin_with_size(line, layout, header.offset, header.size);
-    line.add(tag_text(header.class, header.number).as_slice());
+    line.add_tag(header.class, header.number);
     line.add(word);
     line.add(b"\n");
 }

@@ -1,10 +1,12 @@
 //! A line of a dump that is being made.
 ghost use Rattle.std.specs.Prelude.{◌≡◌, ◌+◌, ◌≤◌, ◌++◌, [], length};
+ghost use Rattle.tlv_head.specs.Tag.{tag_text_of};
 ghost use Rattle.tlv_value.specs.Layout.{columns, margin, no_columns, right as right_text, spaces as spaces_text};
 
 use crate::Layout;
 use itoa::Buffer;
 use std::marker::Model;
+use tlv_head::{Class, tag_text, type_name};
 
 /// Room for the longest line: an element's, at level 255, with 64 octets of contents.
 const CAPACITY: usize = 1024;
@@ -99,7 +101,23 @@ impl Line {
         self.push(octets);
     }
 
+    /// Adds the text of a tag to a line that has room for it: it has at most 1024 octets, and the text at most 40.
+    pub fn add_tag(&mut self, class: Class, number: u64)
+        requires room { length self.old ≤ 984 }
+        ensures text { self.new ≡ self.old ++ tag_text_of class number }
+        ensures grows { length self.new ≤ length self.old + 40 }
+    {
+        if let Class::Universal = class
+            && let Some(name) = type_name(number)
+        {
+            self.push(name);
+            return;
+        }
+        self.push(tag_text(class, number).as_slice());
+    }
+
     /// Adds octets at the end, if there is room for them.
+    #[inline]
     pub(crate) fn push(&mut self, octets: &[u8])
         ensures { length self.old + length octets.now ≤ 1024 → self.new ≡ self.old ++ octets.now }
     {
@@ -130,11 +148,18 @@ impl Line {
     }
 
     /// Adds a text at the right of so many places; a longer one takes as many as it needs.
+    #[inline(always)]
     fn right(&mut self, text: &[u8], places: usize)
-        requires { places ≤ 512 }
+        requires { places ≤ 8 }
         ensures { length self.old + length (right_text places text.now) ≤ 1024 → self.new ≡ self.old ++ right_text places text.now }
     {
-        self.spaces(places.saturating_sub(text.len()));
-        self.push(text);
+        if text.len() > places {
+            self.push(text);
+            return;
+        }
+        // So many places are copied at once; a copy of as many spaces as are wanted is slower.
+        let mut padded = [b' '; 8];
+        padded[8 - text.len()..].copy_from_slice(text);
+        self.push(&padded[8 - places..]);
     }
 }

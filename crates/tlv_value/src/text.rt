@@ -13,7 +13,7 @@ use crate::{Layout, NameTable};
 use arrayvec::ArrayVec;
 use itoa::Buffer;
 use std::marker::Model;
-use tlv_head::{Class, Header, Size, tag_text};
+use tlv_head::{Class, Header, Size};
 use tlv_walk::{Drain, Out, WriteFault};
 
 /// Whether so many contents octets are too many to stand on the line.
@@ -45,7 +45,7 @@ fn write_element(line: &mut Line, layout: Layout, offset: u64, class: Class, num
 {
     let mut digits = Buffer::new();
     line.begin(layout, offset, digits.format(size).as_bytes());
-    line.push(tag_text(class, number).as_slice());
+    line.add_tag(class, number);
 }
 
 /// Writes the lines of a primitive from its contents, in whatever pieces they come.
@@ -130,7 +130,7 @@ impl ValueText {
         self.left = size;
         self.has_line = !matches!(kind, Kind::Bits);
         self.rows = 0;
-        self.row.clear();
+        self.row = ArrayVec::new();
     }
 
     /// How many contents octets are still to come.
@@ -145,6 +145,7 @@ impl ValueText {
     /// # Errors
     ///
     /// `WriteFault` exactly where the drain's failures rose in the call.
+    #[inline(always)]
     pub fn begin<D: Drain>(&self, out: &mut Out<'_, D>) -> Result<(), WriteFault>
         ensures { Puts D.told out.old out.new (begun self.now) result }
     {
