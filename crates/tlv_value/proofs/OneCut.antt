@@ -4,9 +4,9 @@ use Rattle.std.proofs.Math.Seq.{drop-append_seam, get_or-append_seam, take-appen
 use Rattle.std.proofs.lemmas.Bool.{eqb-true}
 use Rattle.std.proofs.lemmas.Bool.Decides.{nat_tests}
 use Rattle.std.proofs.lemmas.List.{get_or_append_left}
-use Rattle.std.specs.Prelude.{eqb}
+use Rattle.std.specs.Prelude.{eqb, if◌then◌else◌}
 use Rattle.tlv_value.specs.declared.kind.Kind.{Kind}
-use Rattle.tlv_value.specs.Cuts.{AreFull, AreRows, IsFull, IsRow, RowsHaveOneCut, put_together}
+use Rattle.tlv_value.specs.Cuts.{AreFull, AreRows, FullRowsAreOfTheCut, IsFull, IsRow, RowsHaveOneCut, full_ones, put_together}
 use Rattle.tlv_value.specs.Room.{HaveRoom}
 use Rattle.tlv_value.specs.Rows.{full_rows, last_rows, open_row, row_size}
 use Rattle.tlv_value.proofs.Cutting.{nil-or, size-some}
@@ -68,6 +68,35 @@ module _ (kind : Kind) where
   one-cut (row ∷ []) each full = cut-last row (eqb (length row) (row_size kind)) refl each.0
   one-cut (row ∷ next ∷ rows) each full =
       cut-full row (put_together (next ∷ rows)) (next ∷ rows) each.0 (as-filled row next (put_together rows) (has-octet next each.1.0) full.0) (one-cut (next ∷ rows) each.1 full.1)
+
+  -- ---- the rows that are full
+
+  full-front : (row rest : List ℕ) (rows : List (List ℕ)) → IsRow kind row → IsFilled kind [] (length row) (row ++ rest) → full_rows kind [] rest ≡ rows → full_rows kind [] (row ++ rest) ≡ row ∷ rows
+  full-front row rest rows r f more =
+      let z = size-some kind in
+      let s = r.short in
+      let t = turn kind [] (length row) (row ++ rest) (row-room row rest r) (omega arith) (omega (arith, length-append row rest)) (omega arith) f in
+      rw (t.0, take-append_seam row rest, drop-append_seam row rest) (ap (λ (x : List (List ℕ)). row ∷ x) more)
+
+  full-last : (row : List ℕ) (full : Bool) → eqb (length row) (row_size kind) ≡ full → IsRow kind row → full_rows kind [] (row ++ []) ≡ (if full then row ∷ [] else [])
+  full-last row true e r =
+      let n : length row ≡ row_size kind = eqb-true (length row) (row_size kind) e in
+      full-front row [] [] r (inl (omega arith)) refl
+  full-last row false e r =
+      let s = r.short in
+      let room : HaveRoom kind 0 row (length row) = rw (append-nil row) at (row-room row [] r) in
+      let short : length row < row_size kind = grind (arith, nat_tests) in
+      let t = keep kind [] row room (omega arith) in
+      rw (append-nil row) t.0
+
+  full-rows : (rows : List (List ℕ)) → AreRows kind rows → AreFull kind rows → full_rows kind [] (put_together rows) ≡ full_ones kind rows
+  full-rows [] each full = refl
+  full-rows (row ∷ []) each full = full-last row (eqb (length row) (row_size kind)) refl each.0
+  full-rows (row ∷ next ∷ rows) each full =
+      full-front row (put_together (next ∷ rows)) (full_ones kind (next ∷ rows)) each.0 (as-filled row next (put_together rows) (has-octet next each.1.0) full.0) (full-rows (next ∷ rows) each.1 full.1)
+
+pub full-rows-of-cut : FullRowsAreOfTheCut
+full-rows-of-cut kind octets rows cut = rw cut.together at (full-rows kind rows cut.each cut.full)
 
 pub rows-one-cut : RowsHaveOneCut
 rows-one-cut kind octets rows cut = rw cut.together at (sym (one-cut kind rows cut.each cut.full))

@@ -1,7 +1,7 @@
 -- How the octets of long contents stand in rows, as a condition on rows.
-use Rattle.std.specs.Prelude.{◌≡◌, ◌≢◌, ◌⊎◌, ℕ, ◌+◌, ◌<◌, ◌≤◌, List, [], ◌∷◌, ◌++◌, length, slice_index}
+use Rattle.std.specs.Prelude.{◌≡◌, ◌≢◌, ◌⊎◌, ℕ, ◌+◌, ◌<◌, ◌≤◌, eqb, if◌then◌else◌, List, [], ◌∷◌, ◌++◌, length, slice_index}
 use Rattle.tlv_value.specs.declared.kind.Kind.{Kind}
-use Rattle.tlv_value.specs.Rows.{announced, row_size, rows_of}
+use Rattle.tlv_value.specs.Rows.{announced, full_rows, row_size, rows_of}
 
 abbrev pub put_together : List (List ℕ) → List ℕ
 put_together [] = []
@@ -38,3 +38,13 @@ RowsAreACut = (kind : Kind) (octets : List ℕ) → IsCut kind octets (rows_of k
 -- and are the only one
 abbrev pub RowsHaveOneCut : Type 0
 RowsHaveOneCut = (kind : Kind) (octets : List ℕ) (rows : List (List ℕ)) → IsCut kind octets rows → rows ≡ rows_of kind octets
+
+-- the rows of a cut, without the last one where it is not full
+abbrev pub full_ones : Kind → List (List ℕ) → List (List ℕ)
+full_ones kind [] = []
+full_ones kind (row ∷ []) = if eqb (length row) (row_size kind) then row ∷ [] else []
+full_ones kind (row ∷ next ∷ rows) = row ∷ full_ones kind (next ∷ rows)
+
+-- the rows that are full before the end of the contents
+abbrev pub FullRowsAreOfTheCut : Type 0
+FullRowsAreOfTheCut = (kind : Kind) (octets : List ℕ) (rows : List (List ℕ)) → IsCut kind octets rows → full_rows kind [] octets ≡ full_ones kind rows
