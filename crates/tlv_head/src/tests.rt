@@ -6,7 +6,7 @@ ghost use Rattle.std.specs.Prelude.{◌≤◌};
 use self::octets::{OFFSET, Place, REFUSALS, SHAPES, Shape, TOP};
 use crate::{
     Class, Fault, FaultCode, Head, HeadReader, Header, Size, read_header, read_short,
-    spell_indefinite, tag_text,
+    spell_indefinite, tag_text, type_name,
 };
 use std::process::Abort;
 
@@ -101,6 +101,23 @@ fn short_headers_are_read_at_once(rt: HostRuntime) {
         for i in 0..shape.octets.len() {
             assert!(rt; read_short(OFFSET, false, &shape.octets[..i]).is_none());
         }
+    }
+}
+
+/// The octets behind the first of the identifier and of the length.
+#[test]
+fn headers_give_their_second_octets(rt: HostRuntime) {
+    for (octets, number, length) in [
+        (b"\x02\x01".as_slice(), 0, 0),
+        (b"\x04\x82\x03\xe8".as_slice(), 0, 3),
+        (b"\x1f\x85\x06\x81\x80".as_slice(), 0x85, 0x80),
+    ] {
+        let Some((fields, count)) = read_header(OFFSET, false, octets) else {
+            panic!(rt; "{octets:?} begins with no header");
+        };
+        let header = Header::new(&fields, &octets[..count]);
+        assert_eq!(rt; header.number_octet(), number, "of {octets:?}");
+        assert_eq!(rt; header.length_octet(), length, "of {octets:?}");
     }
 }
 
@@ -340,6 +357,10 @@ fn tags_have_texts(rt: HostRuntime) {
     for (number, text) in UNIVERSAL.iter().enumerate() {
         let tag = tag_text(Class::Universal, number as u64);
         assert_eq!(rt; tag.as_slice(), text.as_bytes(), "{}", number);
+        match type_name(number as u64) {
+            Some(name) => assert_eq!(rt; name, text.as_bytes()),
+            None => assert!(rt; text.starts_with("[UNIVERSAL "), "{}", number),
+        }
     }
     for (class, number, text) in [
         (

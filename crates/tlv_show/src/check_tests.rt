@@ -254,7 +254,7 @@ fn framing(wrapped: bool) -> Framing {
 fn expect_check(
     rt: &impl Abort,
     row: &Row,
-    cuts: &'static [u64],
+    cuts: &[u64],
     wrapped: bool,
     room: &mut [u8],
     text: &[u8],
@@ -272,17 +272,23 @@ fn expect_check(
     assert_eq!(rt; answer, Ok(outcome));
 }
 
-fn expect_row(rt: &impl Abort, row: &Row, cuts: &'static [u64], wrapped: bool) {
+fn expect_row(rt: &impl Abort, row: &Row, cuts: &[u64], wrapped: bool) {
     let mut room = [0; 200];
     expect_check(rt, row, cuts, wrapped, &mut room, row.text);
 }
 
-/// Expects each row, of an input that comes at once, in two pieces, and octet by octet.
+/// Expects the row of an input that comes at once, octet by octet, and in each two pieces.
+fn expect_cuts(rt: &impl Abort, row: &Row, wrapped: bool) {
+    expect_row(rt, row, &[], wrapped);
+    expect_row(rt, row, &ONES, wrapped);
+    for first in 1..row.input.len() {
+        expect_row(rt, row, &[first as u64], wrapped);
+    }
+}
+
 fn expect_rows(rt: &impl Abort, rows: &[Row]) {
     for row in rows {
-        expect_row(rt, row, &[], false);
-        expect_row(rt, row, &[3], false);
-        expect_row(rt, row, &ONES, false);
+        expect_cuts(rt, row, false);
     }
 }
 
@@ -333,6 +339,5 @@ fn wrappers_and_padding(rt: HostRuntime) {
         text: b"2 D01 indefinite length\n",
         findings: 1,
     };
-    expect_row(&rt, &wrapper, &[], true);
-    expect_row(&rt, &wrapper, &ONES, true);
+    expect_cuts(&rt, &wrapper, true);
 }

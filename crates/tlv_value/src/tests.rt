@@ -5,6 +5,7 @@ mod long;
 mod rows;
 mod texts;
 mod types;
+mod unused;
 
 ghost use Rattle.std.specs.Prelude.{◌≡◌, ◌≤◌, ◌==◌, IfSome, List, None, Option, Some, bytes_eq, codes, if◌then◌else◌, option_copied, ℕ};
 
@@ -19,7 +20,7 @@ use crate::{
 use arrayvec::ArrayVec;
 use std::process::Abort;
 use std::test::Fail;
-use tlv_head::{Header, Size, read_header};
+use tlv_head::{Class, Header, Size, read_header};
 use tlv_walk::{MemDrain, MemSource, Out};
 
 /// A table of one name.
@@ -531,4 +532,12 @@ fn lines_are_made(rt: HostRuntime) {
     line.begin_blank(layout);
     line.add(b"}\n");
     assert_eq!(rt; line.as_slice(), b"                   }\n".as_slice());
+    line.begin_blank(layout);
+    line.add_tag(Class::Context, 5);
+    line.add_tag(Class::Universal, 4);
+    line.add_tag(Class::Universal, 15);
+    assert_eq!(rt;
+        line.as_slice(),
+        b"                   [5]OCTET STRING[UNIVERSAL 15]".as_slice()
+    );
 }

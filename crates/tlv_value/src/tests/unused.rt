@@ -1,0 +1,57 @@
+//! Unused bits of a BIT STRING.
+use crate::ValueCheck;
+use std::process::Abort;
+use tlv_head::{Header, read_header};
+
+/// An element, and whether bits of its last contents octet are unused.
+struct Row {
+    element: &'static [u8],
+    unused: bool,
+}
+
+static ROWS: [Row; 5] = [
+    Row {
+        element: b"\x03\x02\x01\x80",
+        unused: true,
+    },
+    Row {
+        element: b"\x03\x02\x00\x80",
+        unused: false,
+    },
+    Row {
+        element: b"\x03\x00",
+        unused: false,
+    },
+    Row {
+        element: b"\x04\x02\x01\x80",
+        unused: false,
+    },
+    Row {
+        element: b"\x83\x02\x01\x80",
+        unused: false,
+    },
+];
+
+/// Whether bits are unused, by an element's whole contents.
+fn has_unused_bits(element: &[u8]) -> Option<bool> {
+    let (fields, count) = read_header(0, false, element)?;
+    let header = Header::new(&fields, &element[..count]);
+    let mut check = ValueCheck::new(&header);
+    if check.left() != element[count..].len() as u64 {
+        return None;
+    }
+    check.bytes(&element[count..]);
+    Some(check.has_unused_bits())
+}
+
+#[test]
+fn unused_bits(rt: HostRuntime) {
+    for row in &ROWS {
+        assert_eq!(rt;
+            has_unused_bits(row.element),
+            Some(row.unused),
+            "{:?}",
+            row.element
+        );
+    }
+}
