@@ -368,13 +368,18 @@ fn is_padded_number(front: &[u8]) -> bool
 fn are_allowed(number: u64, octets: &[u8]) -> bool
     ensures { result ≡ every (allows_octet_of number) octets.now }
 {
+    // A call for each type: where it is inlined, the type is then not asked for again at each octet.
     match number {
-        18 | 19 | 22 | 26 => is_each_allowed(number, octets),
+        18 => is_each_allowed(18, octets),
+        19 => is_each_allowed(19, octets),
+        22 => is_each_allowed(22, octets),
+        26 => is_each_allowed(26, octets),
         _ => true,
     }
 }
 
 /// Whether the type with this universal number has each of the octets.
+#[inline(always)]
 fn is_each_allowed(number: u64, octets: &[u8]) -> bool
     ensures { result ≡ every (allows_octet_of number) octets.now }
 {
@@ -387,6 +392,7 @@ fn is_each_allowed(number: u64, octets: &[u8]) -> bool
 }
 
 /// Whether the type with this universal number has the octet: NumericString, PrintableString, IA5String, VisibleString.
+#[inline(always)]
 fn allows_octet(number: u64, octet: u8) -> bool
     ensures { result ≡ allows_octet_of number octet }
 {
@@ -400,6 +406,7 @@ fn allows_octet(number: u64, octet: u8) -> bool
 }
 
 /// Whether PrintableString has the octet (X.680 41.4).
+#[inline(always)]
 fn is_printable(octet: u8) -> bool
     ensures { result ≡ is_printable_string octet }
 {

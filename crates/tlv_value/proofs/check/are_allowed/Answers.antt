@@ -5,7 +5,3 @@ use Rattle.tlv_value.proofs.check.are_allowed.Goals as goal
 pub returns-in_default : goal.returns-in_default
 returns-in_default c =
     sym (every-other c.args.number c.args.octets.now (λ (e : c.args.number ≡ 18). omega (arith, e)) (λ (e : c.args.number ≡ 19). omega (arith, e)) (λ (e : c.args.number ≡ 22). omega (arith, e)) (λ (e : c.args.number ≡ 26). omega (arith, e)))
-
-pub returns-in_default-2 : goal.returns-in_default-2
-returns-in_default-2 c =
-    sym (every-other c.args.number c.args.octets.now (λ (e : c.args.number ≡ 18). first_of (omega (arith, e), grind (arith, e), cc)) (λ (e : c.args.number ≡ 19). first_of (omega (arith, e), grind (arith, e), cc)) (λ (e : c.args.number ≡ 22). first_of (omega (arith, e), grind (arith, e), cc)) (λ (e : c.args.number ≡ 26). first_of (omega (arith, e), grind (arith, e), cc)))
