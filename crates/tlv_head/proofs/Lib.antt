@@ -1,4 +1,5 @@
 pub mod Digits
+pub mod LeadingDigits
 pub mod Steps
 pub mod Unfinished
 pub mod Scan
