@@ -1,5 +1,7 @@
 pub mod Digits
 pub mod LeadingDigits
+pub mod OneValue
+pub mod Shortest
 pub mod Steps
 pub mod Unfinished
 pub mod Scan

@@ -1,0 +1,114 @@
+-- Headers of one tag and one size: those that are as short as they can be are one, and no other is shorter.
+use Rattle.std.proofs.Common.{◌≡◌, ◌≢◌, ℕ, ◌+◌, ◌%◌, ◌<◌, ◌≤◌, inl, inr, Bool, List, [], ◌∷◌, ◌++◌, length, All, sym, ap, ap₂, ◌∙◌, arith, lit<, length-append}
+use Rattle.std.proofs.lemmas.List.{length-map, same_from_push}
+use Rattle.std.proofs.lemmas.List.Elements.{All-head, All-push}
+use Rattle.std.specs.Prelude.{slice_index}
+use Rattle.tlv_head.specs.declared.header.Class.{Class}
+use Rattle.tlv_head.specs.declared.header.Size.{Size}
+use Rattle.tlv_head.specs.declared.header.Size.TheVariants.{Definite, Indefinite}
+use Rattle.tlv_head.specs.Header.{Heading, IsHeading, IsHighForm, IsIdentifier, IsLength, announced, flagged, leading_octet, value_of}
+use Rattle.tlv_head.specs.Shortest.{HaveOneTag, IsShortestIdentifier, IsShortestLength, ShortestHeadersAreOne, ShortestHeadersAreShortest}
+use Rattle.tlv_head.proofs.OneValue.{fewest-digits, same-digits}
+
+-- ---- identifier octets
+
+-- the subsequent octets
+abbrev all_digits : {class : Class} {constructed : Bool} {n : ℕ} {octets : List ℕ} → IsHighForm class constructed n octets → List ℕ
+all_digits f = f.digits ++ f.last ∷ []
+
+count-high : (class : Class) (constructed : Bool) (n : ℕ) (octets : List ℕ) (f : IsHighForm class constructed n octets) → length octets ≡ 1 + length (all_digits f)
+count-high class constructed n octets f =
+    omega (arith, ap length f.octet, length-append (flagged f.digits) (f.last ∷ []), length-append f.digits (f.last ∷ []), length-map f.digits (λ d. 128 + d))
+
+each-high : (class : Class) (constructed : Bool) (n : ℕ) (octets : List ℕ) (f : IsHighForm class constructed n octets) → All (λ d. d < 128) (all_digits f)
+each-high class constructed n octets f = All-push (λ d. d < 128) f.digits f.last f.each f.last_digit
+
+-- the first of them, without bit 8
+high-first : (lead : ℕ) (ds : List ℕ) (last : ℕ) → All (λ d. d < 128) ds → last < 128 → slice_index (lead ∷ (flagged ds ++ last ∷ [])) 1 % 128 ≡ slice_index (ds ++ last ∷ []) 0
+high-first lead [] last each below = omega arith
+high-first lead (d ∷ ds) last each below = let small : d < 128 = All-head (λ d. d < 128) d ds each in omega arith
+
+fewest : (b : ℕ) (xs ys : List ℕ) → 0 < b → slice_index xs 0 ≢ 0 → All (λ d. d < b) ys → value_of b xs ≡ value_of b ys → length xs ≤ length ys
+fewest b [] ys some nonzero v e = omega arith
+fewest b (x ∷ xs) ys some nonzero v e = fewest-digits b x xs ys some nonzero v e
+
+identifier-le : (class : Class) (constructed : Bool) (n : ℕ) (xs ys : List ℕ) → IsIdentifier class constructed n xs → IsIdentifier class constructed n ys
+    → IsShortestIdentifier n xs → length xs ≤ length ys
+identifier-le class constructed n xs ys (inl f) (inl g) s = omega (arith, ap length f.octet, ap length g.octet)
+identifier-le class constructed n xs ys (inl f) (inr g) s = omega (arith, ap length f.octet, count-high class constructed n ys g)
+identifier-le class constructed n xs ys (inr f) (inl g) s = omega (arith, s.single g.small, ap length g.octet)
+identifier-le class constructed n xs ys (inr f) (inr g) s =
+    let some : 1 < length xs = omega (arith, count-high class constructed n xs f, length-append f.digits (f.last ∷ [])) in
+    let nonzero : slice_index (all_digits f) 0 ≢ 0 =
+    λ z. s.leading some (ap (λ (l : List ℕ). slice_index l 1 % 128) f.octet ∙ high-first (leading_octet class constructed 31) f.digits f.last f.each f.last_digit ∙ z) in
+    let fewer : length (all_digits f) ≤ length (all_digits g) =
+    fewest 128 (all_digits f) (all_digits g) (lit< tt) nonzero (each-high class constructed n ys g) (sym f.value ∙ g.value) in
+    omega (arith, fewer, count-high class constructed n xs f, count-high class constructed n ys g)
+
+-- as many subsequent octets
+high-same : (class : Class) (constructed : Bool) (n : ℕ) (xs ys : List ℕ) → IsHighForm class constructed n xs → IsHighForm class constructed n ys → length xs ≡ length ys → xs ≡ ys
+high-same class constructed n xs ys f g e =
+    let count : length (all_digits f) ≡ length (all_digits g) = omega (arith, e, count-high class constructed n xs f, count-high class constructed n ys g) in
+    let digits : all_digits f ≡ all_digits g =
+    same-digits 128 (all_digits f) (all_digits g) (lit< tt) (each-high class constructed n xs f) (each-high class constructed n ys g) count (sym f.value ∙ g.value) in
+    let parts : (f.digits ≡ g.digits) × (f.last ≡ g.last) = same_from_push f.digits g.digits f.last g.last digits in
+    f.octet ∙ ap₂ (λ (ds : List ℕ) (last : ℕ). leading_octet class constructed 31 ∷ (flagged ds ++ last ∷ [])) parts.0 parts.1 ∙ sym g.octet
+
+identifier-same : (class : Class) (constructed : Bool) (n : ℕ) (xs ys : List ℕ) → IsIdentifier class constructed n xs → IsIdentifier class constructed n ys
+    → IsShortestIdentifier n xs → IsShortestIdentifier n ys → xs ≡ ys
+identifier-same class constructed n xs ys (inl f) (inl g) s t = f.octet ∙ sym g.octet
+identifier-same class constructed n xs ys (inl f) (inr g) s t =
+    absurd (omega (arith, t.single f.small, count-high class constructed n ys g, length-append g.digits (g.last ∷ [])))
+identifier-same class constructed n xs ys (inr f) (inl g) s t =
+    absurd (omega (arith, s.single g.small, count-high class constructed n xs f, length-append f.digits (f.last ∷ [])))
+identifier-same class constructed n xs ys (inr f) (inr g) s t =
+    let le : length xs ≤ length ys = identifier-le class constructed n xs ys (inr f) (inr g) s in
+    let ge : length ys ≤ length xs = identifier-le class constructed n ys xs (inr g) (inr f) t in
+    high-same class constructed n xs ys f g (omega arith)
+
+-- ---- length octets
+
+length-le : (size : Size) (xs ys : List ℕ) → IsLength size xs → IsLength size ys → IsShortestLength (announced size) xs → length xs ≤ length ys
+length-le Indefinite xs ys u v s = omega (arith, ap length u, ap length v)
+length-le (Definite n) xs ys (inl f) (inl g) s = omega (arith, ap length f.1, ap length g.1)
+length-le (Definite n) xs ys (inl f) (inr g) s = omega (arith, ap length f.1, ap length g.octet)
+length-le (Definite n) xs ys (inr f) (inl g) s = omega (arith, s.single g.0, ap length g.1)
+length-le (Definite n) xs ys (inr f) (inr g) s =
+    let some : 1 < length xs = omega (arith, ap length f.octet, f.some) in
+    let nonzero : slice_index f.digits 0 ≢ 0 = λ z. s.leading some (ap (λ (l : List ℕ). slice_index l 1) f.octet ∙ z) in
+    let fewer : length f.digits ≤ length g.digits = fewest 256 f.digits g.digits (lit< tt) nonzero g.each (sym f.value ∙ g.value) in
+    omega (arith, fewer, ap length f.octet, ap length g.octet)
+
+length-same : (size : Size) (xs ys : List ℕ) → IsLength size xs → IsLength size ys → IsShortestLength (announced size) xs → IsShortestLength (announced size) ys → xs ≡ ys
+length-same Indefinite xs ys u v s t = u ∙ sym v
+length-same (Definite n) xs ys (inl f) (inl g) s t = f.1 ∙ sym g.1
+length-same (Definite n) xs ys (inl f) (inr g) s t = absurd (omega (arith, t.single f.0, ap length g.octet, g.some))
+length-same (Definite n) xs ys (inr f) (inl g) s t = absurd (omega (arith, s.single g.0, ap length f.octet, f.some))
+length-same (Definite n) xs ys (inr f) (inr g) s t =
+    let le : length xs ≤ length ys = length-le (Definite n) xs ys (inr f) (inr g) s in
+    let ge : length ys ≤ length xs = length-le (Definite n) ys xs (inr g) (inr f) t in
+    let count : length f.digits ≡ length g.digits = omega (arith, le, ge, ap length f.octet, ap length g.octet) in
+    let digits : f.digits ≡ g.digits = same-digits 256 f.digits g.digits (lit< tt) f.each g.each count (sym f.value ∙ g.value) in
+    f.octet ∙ ap (λ (ds : List ℕ). (128 + length ds) ∷ ds) digits ∙ sym g.octet
+
+-- ---- both
+
+-- the other's octets, as they say the first's fields
+moved-identifier : (h g : Heading) → IsHeading g → HaveOneTag h g → IsIdentifier h.class h.constructed h.number g.identifier
+moved-identifier h g valid tag = rw (tag.class, tag.constructed, tag.number) valid.identifier
+
+moved-lengths : (h g : Heading) → IsHeading g → h.size ≡ g.size → IsLength h.size g.lengths
+moved-lengths h g valid size = rw size valid.lengths
+
+pub shortest_are_one : ShortestHeadersAreOne
+shortest_are_one h g u v tag size s t = (
+  identifier-same h.class h.constructed h.number h.identifier g.identifier u.identifier (moved-identifier h g v tag) s.identifier
+      (rw tag.number t.identifier),
+  length-same h.size h.lengths g.lengths u.lengths (moved-lengths h g v size) s.lengths (rw size t.lengths),
+)
+
+pub shortest_are_shortest : ShortestHeadersAreShortest
+shortest_are_shortest h g u v tag size s = (
+  identifier-le h.class h.constructed h.number h.identifier g.identifier u.identifier (moved-identifier h g v tag) s.identifier,
+  length-le h.size h.lengths g.lengths u.lengths (moved-lengths h g v size) s.lengths,
+)
