@@ -44,3 +44,4 @@ pub mod Drives
 pub mod Jobs
 pub mod Inputs
 pub mod Lined
+pub mod Alike
