@@ -1,5 +1,6 @@
 -- Headers of one tag and one size: those that are as short as they can be are one, and no other is shorter.
 use Rattle.std.proofs.Common.{◌≡◌, ◌≢◌, ℕ, ◌+◌, ◌%◌, ◌<◌, ◌≤◌, inl, inr, Bool, List, [], ◌∷◌, ◌++◌, length, All, sym, ap, ap₂, ◌∙◌, arith, lit<, length-append}
+use Rattle.std.proofs.lemmas.Bool.{cases_lt}
 use Rattle.std.proofs.lemmas.List.{length-map, same_from_push}
 use Rattle.std.proofs.lemmas.List.Elements.{All-head, All-push}
 use Rattle.std.specs.Prelude.{slice_index}
@@ -7,7 +8,7 @@ use Rattle.tlv_head.specs.declared.header.Class.{Class}
 use Rattle.tlv_head.specs.declared.header.Size.{Size}
 use Rattle.tlv_head.specs.declared.header.Size.TheVariants.{Definite, Indefinite}
 use Rattle.tlv_head.specs.Header.{Heading, IsHeading, IsHighForm, IsIdentifier, IsLength, announced, flagged, leading_octet, value_of}
-use Rattle.tlv_head.specs.Shortest.{HaveOneTag, IsShortestIdentifier, IsShortestLength, ShortestHeadersAreOne, ShortestHeadersAreShortest}
+use Rattle.tlv_head.specs.Shortest.{IsShortest, HaveOneTag, IsShortestIdentifier, IsShortestLength, ShortestHeadersAreOne, ShortestHeadersAreShortest}
 use Rattle.tlv_head.proofs.OneValue.{fewest-digits, same-digits}
 
 -- ---- identifier octets
@@ -112,3 +113,35 @@ shortest_are_shortest h g u v tag size s = (
   identifier-le h.class h.constructed h.number h.identifier g.identifier u.identifier (moved-identifier h g v tag) s.identifier,
   length-le h.size h.lengths g.lengths u.lengths (moved-lengths h g v size) s.lengths,
 )
+
+-- ---- what makes a header as short as it can be
+
+identifier-some : (class : Class) (constructed : Bool) (n : ℕ) (octets : List ℕ) → IsIdentifier class constructed n octets → 1 ≤ length octets
+identifier-some class constructed n octets (inl f) = omega (arith, ap length f.octet)
+identifier-some class constructed n octets (inr f) = omega (arith, ap length f.octet)
+
+lengths-some : (size : Size) (octets : List ℕ) → IsLength size octets → 1 ≤ length octets
+lengths-some (Definite n) octets (inl f) = omega (arith, ap length f.1)
+lengths-some (Definite n) octets (inr f) = omega (arith, ap length f.octet)
+lengths-some Indefinite octets v = omega (arith, ap length v)
+
+-- where there is one octet or more, a number that is too small for more leaves one
+single-octet : (n m least : ℕ) → 1 ≤ n → (1 < n → least ≤ m) → m < least → n ≡ 1
+single-octet n m least some large small = elim (cases_lt 1 n) [
+  | inl more ↦ absurd (omega (arith, large more))
+  | inr le ↦ omega arith
+]
+
+pub shortest-from : (h : Heading) → IsHeading h → (1 < length h.identifier → (31 ≤ h.number) × (slice_index h.identifier 1 % 128 ≢ 0))
+    → (1 < length h.lengths → (128 ≤ announced h.size) × (slice_index h.lengths 1 ≢ 0)) → IsShortest h
+shortest-from h valid high long = record {
+  identifier = record {
+    single =
+        single-octet (length h.identifier) h.number 31 (identifier-some h.class h.constructed h.number h.identifier valid.identifier) (λ more. (high more).0);
+    leading = λ more. (high more).1;
+  };
+  lengths = record {
+    single = single-octet (length h.lengths) (announced h.size) 128 (lengths-some h.size h.lengths valid.lengths) (λ more. (long more).0);
+    leading = λ more. (long more).1;
+  };
+}

@@ -23,3 +23,4 @@ pub mod StrictRows
 pub mod CanonicalRows
 pub mod WholeRows
 pub mod Memory
+pub mod Spellings
