@@ -24,3 +24,4 @@ pub mod CanonicalRows
 pub mod WholeRows
 pub mod Memory
 pub mod Spellings
+pub mod SpellingRows

@@ -2,6 +2,7 @@
 
 ghost use Rattle.std.specs.Prelude.{IfOk};
 ghost use Rattle.tlv_show.specs.Laws.{BasicFindingsStay, ChecksGoOn, ChecksMakeTexts, DumpsGoOn, DumpsMakeTexts, DumpsOctets, PrimitivesAreShown};
+ghost use Rattle.tlv_show.specs.Spellings.{OneSpelling};
 
 use crate::{Options, Outcome, dump};
 use tlv_value::Names;
@@ -59,4 +60,11 @@ pub fn primitives_are_shown()
 /// What a check lists under BER is among what it lists under DER and under CER, in the same order.
 pub fn basic_findings_stay()
     ensures { BasicFindingsStay }
+{}
+
+/// Encodings by DER, and by CER, have one spelling. Two sound inputs are the same octets where their elements agree, one by
+/// one, in class, form, number, and contents, and where a check under DER, or under CER, finds none of B01, B02, S01, D01 and
+/// C01 in either (X.690 8.1.2.2, 8.1.2.4.2 c), 9.1 and 10.1).
+pub fn one_spelling()
+    ensures { OneSpelling }
 {}
