@@ -33,3 +33,55 @@ longer-length-ber = refl
 
 lengths-alike : AreAlike (reading plain (2 ∷ 1 ∷ 5 ∷ [])) (reading plain (2 ∷ 129 ∷ 1 ∷ 5 ∷ []))
 lengths-alike = primitives _ _ (5 ∷ []) _ _ (one_tag _ _ refl refl refl) nothing
+
+-- 82 01 05 and 9f 02 01 05
+low-form : misspelled plain Der (130 ∷ 1 ∷ 5 ∷ []) ≡ false
+low-form = refl
+
+high-form : misspelled plain Der (159 ∷ 2 ∷ 1 ∷ 5 ∷ []) ≡ true
+high-form = refl
+
+forms-alike : AreAlike (reading plain (130 ∷ 1 ∷ 5 ∷ [])) (reading plain (159 ∷ 2 ∷ 1 ∷ 5 ∷ []))
+forms-alike = primitives _ _ (5 ∷ []) _ _ (one_tag _ _ refl refl refl) nothing
+
+-- 9f 1f 00 and 9f 80 1f 00
+fewest-digits : misspelled plain Der (159 ∷ 31 ∷ 0 ∷ []) ≡ false
+fewest-digits = refl
+
+more-digits : misspelled plain Der (159 ∷ 128 ∷ 31 ∷ 0 ∷ []) ≡ true
+more-digits = refl
+
+digits-alike : AreAlike (reading plain (159 ∷ 31 ∷ 0 ∷ [])) (reading plain (159 ∷ 128 ∷ 31 ∷ 0 ∷ []))
+digits-alike = primitives _ _ [] _ _ (one_tag _ _ refl refl refl) nothing
+
+-- 30 03 02 01 05 and 30 80 02 01 05 00 00: the first is by DER, the second by CER
+definite-der : misspelled plain Der (48 ∷ 3 ∷ 2 ∷ 1 ∷ 5 ∷ []) ≡ false
+definite-der = refl
+
+definite-cer : misspelled plain Cer (48 ∷ 3 ∷ 2 ∷ 1 ∷ 5 ∷ []) ≡ true
+definite-cer = refl
+
+indefinite-der : misspelled plain Der (48 ∷ 128 ∷ 2 ∷ 1 ∷ 5 ∷ 0 ∷ 0 ∷ []) ≡ true
+indefinite-der = refl
+
+indefinite-cer : misspelled plain Cer (48 ∷ 128 ∷ 2 ∷ 1 ∷ 5 ∷ 0 ∷ 0 ∷ []) ≡ false
+indefinite-cer = refl
+
+lengths_of_both-alike : AreAlike (reading plain (48 ∷ 3 ∷ 2 ∷ 1 ∷ 5 ∷ [])) (reading plain (48 ∷ 128 ∷ 2 ∷ 1 ∷ 5 ∷ 0 ∷ 0 ∷ []))
+lengths_of_both-alike =
+    holders _ _ _ _ _ _ (one_tag _ _ refl refl refl) (primitives _ _ (5 ∷ []) _ _ (one_tag _ _ refl refl refl) nothing) nothing
+
+-- 04 02 05 00 and 04 81 02 05 00, read as encodings: a string that is named holds elements
+wrapper : misspelled (naming 0) Der (4 ∷ 2 ∷ 5 ∷ 0 ∷ []) ≡ false
+wrapper = refl
+
+longer-wrapper : misspelled (naming 0) Der (4 ∷ 129 ∷ 2 ∷ 5 ∷ 0 ∷ []) ≡ true
+longer-wrapper = refl
+
+wrappers-alike : AreAlike (reading (naming 0) (4 ∷ 2 ∷ 5 ∷ 0 ∷ [])) (reading (naming 0) (4 ∷ 129 ∷ 2 ∷ 5 ∷ 0 ∷ []))
+wrappers-alike =
+    holders _ _ _ _ _ _ (one_tag _ _ refl refl refl) (primitives _ _ [] _ _ (one_tag _ _ refl refl refl) nothing) nothing
+
+-- 05 00 00 00 and 05 81 00 00 00, each with two octets of padding
+padded-alike : AreAlike (reading padded (5 ∷ 0 ∷ 0 ∷ 0 ∷ [])) (reading padded (5 ∷ 129 ∷ 0 ∷ 0 ∷ 0 ∷ []))
+padded-alike = primitives _ _ [] _ _ (one_tag _ _ refl refl refl) (padding _ _ (padding _ _ nothing))

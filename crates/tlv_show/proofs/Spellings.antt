@@ -1,18 +1,15 @@
 -- Elements without findings on their spelling have headers as short as they can be, and lengths of one form.
-use Rattle.std.proofs.Common.{◌≡◌, ◌≢◌, ℕ, ◌+◌, ◌%◌, ◌==◌, ◌<◌, ◌≤◌, ◌&&◌, ◌||◌, not, nat_lt, Bool, true, false, List, [], ◌∷◌, ◌++◌, length, map, refl, sym, ap, subst, ◌∙◌, arith}
+use Rattle.std.proofs.Common.{◌≡◌, ◌≢◌, ℕ, ◌+◌, ◌%◌, ◌==◌, ◌<◌, ◌≤◌, ◌&&◌, ◌||◌, not, nat_lt, Bool, true, false, List, [], ◌∷◌, ◌++◌, length, refl, sym, ap, subst, ◌∙◌, arith}
 use Rattle.std.proofs.lemmas.Bool.{or_parts}
 use Rattle.std.proofs.lemmas.Bool.Decides.{nat_tests}
 use Rattle.std.proofs.lemmas.List.Folds.{list_any-append}
-use Rattle.std.specs.List.{filter, list_any}
+use Rattle.std.specs.List.{list_any}
 use Rattle.std.specs.Prelude.{if◌then◌else◌, slice_index}
 use Rattle.tlv_head.specs.declared.header.Size.{Size}
 use Rattle.tlv_head.specs.declared.header.Size.TheVariants.{Definite, Indefinite}
 use Rattle.tlv_head.specs.Header.{AllowsSize, Heading, IsHeading, announced, octets_of}
-use Rattle.tlv_head.specs.Shortest.{IsShortest}
 use Rattle.tlv_head.proofs.Shortest.{shortest-from}
 use Rattle.tlv_value.specs.declared.finding.Finding.{Finding}
-use Rattle.tlv_value.specs.declared.finding.Finding.TheVariants.{B01, B02, S01, D01, C01}
-use Rattle.tlv_value.specs.Checks.{held}
 use Rattle.tlv_walk.specs.declared.ending.Ending.TheVariants.{Done}
 use Rattle.tlv_walk.specs.declared.framing.Framing.{Framing}
 use Rattle.tlv_walk.specs.Ending.{IsEnding}
@@ -26,10 +23,10 @@ use Rattle.tlv_show.specs.declared.rules.Rules.{Rules}
 use Rattle.tlv_show.specs.declared.rules.Rules.TheVariants.{Ber, Der, Cer}
 use Rattle.tlv_show.specs.Conditions.{first_length, has_high_form, has_long_form, header_conditions, leading_bits}
 use Rattle.tlv_show.specs.Found.{header_findings, shows}
-use Rattle.tlv_show.specs.Items.{Item, FindingAt, OpeningLine, ClosingLine, WholePrimitive, PaddingLine, findings_at, items, on_contents, on_end, on_header}
+use Rattle.tlv_show.specs.Items.{Item, OpeningLine, ClosingLine, WholePrimitive, PaddingLine, findings_at, items, on_contents, on_end, on_header}
 use Rattle.tlv_show.specs.DumpText.{end_place}
 use Rattle.tlv_show.specs.Site.{Site, behind, behind_holder, behind_padding, inside_of, is_padding, top}
-use Rattle.tlv_show.specs.Spellings.{IsWellSpelled, OneSpelling, is_on_spelling, tells_of_spelling}
+use Rattle.tlv_show.specs.Spellings.{OneSpelling, is_on_spelling, tells_of_spelling}
 use Rattle.tlv_show.proofs.HeaderNotes.{filter-held, one_shown, shown}
 
 -- ---- conditions whose findings are not told

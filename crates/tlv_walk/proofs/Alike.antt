@@ -1,5 +1,5 @@
 -- Elements alike whose headers are as short as they can be, and whose lengths are of one form, have one spelling.
-use Rattle.std.proofs.Common.{◌≡◌, ℕ, ◌+◌, Bool, true, false, List, [], ◌∷◌, ◌++◌, length, refl, sym, ap, ap₂, ◌∙◌, arith}
+use Rattle.std.proofs.Common.{◌≡◌, ℕ, ◌+◌, Bool, List, ◌∷◌, ◌++◌, length, refl, sym, ap, ap₂, ◌∙◌}
 use Rattle.tlv_head.specs.declared.header.Size.{Size}
 use Rattle.tlv_head.specs.declared.header.Size.TheVariants.{Definite, Indefinite}
 use Rattle.tlv_head.specs.Header.{Heading, IsHeading, octets_of}
@@ -7,7 +7,7 @@ use Rattle.tlv_head.specs.Shortest.{HaveOneTag, IsShortest}
 use Rattle.tlv_head.proofs.Shortest.{shortest_are_one}
 use Rattle.tlv_walk.specs.Alike.{AreAlike, holders, nothing, padding, primitives}
 use Rattle.tlv_walk.specs.Forest.{Forest, Stop, Fill, Whole, Closed, Partial, Entered, Awaiting, Begun, Zero, contents_length, end_octets, extent, lead, opening, spell}
-use Rattle.tlv_walk.specs.Place.{HasLength, IsHeadAt, Place, after, inside_of, is_indefinite}
+use Rattle.tlv_walk.specs.Place.{HasLength, Place, after, inside_of, is_indefinite}
 use Rattle.tlv_walk.specs.Reading.{IsSound}
 
 -- a header as short as it can be, whose length is indefinite or not as the form of the element says
