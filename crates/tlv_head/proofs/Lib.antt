@@ -2,6 +2,7 @@ pub mod Digits
 pub mod LeadingDigits
 pub mod OneValue
 pub mod Shortest
+pub mod ShortestSpelling
 pub mod Steps
 pub mod Unfinished
 pub mod Scan

@@ -25,7 +25,7 @@ each-high : (class : Class) (constructed : Bool) (n : ℕ) (octets : List ℕ) (
 each-high class constructed n octets f = All-push (λ d. d < 128) f.digits f.last f.each f.last_digit
 
 -- the first of them, without bit 8
-high-first : (lead : ℕ) (ds : List ℕ) (last : ℕ) → All (λ d. d < 128) ds → last < 128 → slice_index (lead ∷ (flagged ds ++ last ∷ [])) 1 % 128 ≡ slice_index (ds ++ last ∷ []) 0
+pub high-first : (lead : ℕ) (ds : List ℕ) (last : ℕ) → All (λ d. d < 128) ds → last < 128 → slice_index (lead ∷ (flagged ds ++ last ∷ [])) 1 % 128 ≡ slice_index (ds ++ last ∷ []) 0
 high-first lead [] last each below = omega arith
 high-first lead (d ∷ ds) last each below = let small : d < 128 = All-head (λ d. d < 128) d ds each in omega arith
 

@@ -1,6 +1,6 @@
 -- Identifier and length octets that are as few as they can be: X.690 8.1.2, 9.1 and 10.1.
 use Rattle.std.specs.Prelude.{◌≡◌, ◌≢◌, ℕ, ◌%◌, ◌<◌, ◌≤◌, List, length, slice_index}
-use Rattle.tlv_head.specs.Header.{Heading, IsHeading, announced}
+use Rattle.tlv_head.specs.Header.{Heading, IsHeading, announced, leading_octet}
 
 -- 8.1.2.2: a number below 31 is in the single octet. 8.1.2.4.2 c): no subsequent octets begin with seven bits 0
 pub record IsShortestIdentifier (number : ℕ) (octets : List ℕ) : Type 0 where
@@ -31,3 +31,8 @@ ShortestHeadersAreOne = (h g : Heading) → IsHeading h → IsHeading g → Have
 abbrev pub ShortestHeadersAreShortest : Type 0
 ShortestHeadersAreShortest = (h g : Heading) → IsHeading h → IsHeading g → HaveOneTag h g → h.size ≡ g.size → IsShortest h
     → (length h.identifier ≤ length g.identifier) × (length h.lengths ≤ length g.lengths)
+
+-- each header but that of the universal primitive 0, whose low form would be 00, can be spelled as short as these rules say
+abbrev pub HeadersHaveAShortest : Type 0
+HeadersHaveAShortest = (h : Heading) → IsHeading h → leading_octet h.class h.constructed h.number ≢ 0
+    → (g : Heading) × IsHeading g × HaveOneTag h g × (h.size ≡ g.size) × IsShortest g

@@ -1,6 +1,6 @@
 //! Laws of the definitions: each is the contract of a function that does nothing.
 ghost use Rattle.tlv_head.specs.Laws.{HeadersAreNoFronts, HeadersHaveOneReading, OctetsBeginOneHeader, OctetsGoOnOrAreRefused, PushesHaveOneAnswer, RefusalsAreFinal, RefusedInputsBeginWithNone};
-ghost use Rattle.tlv_head.specs.Shortest.{ShortestHeadersAreOne, ShortestHeadersAreShortest};
+ghost use Rattle.tlv_head.specs.Shortest.{HeadersHaveAShortest, ShortestHeadersAreOne, ShortestHeadersAreShortest};
 
 /// Octets begin with one header at most: two headers that stand at one offset and are both fronts of
 /// one input are the same, and the same octets follow them.
@@ -48,4 +48,10 @@ pub fn one_shortest_header()
 /// No other header of that class, form, number and size has fewer identifier octets than such a one, or fewer length octets.
 pub fn no_shorter_header()
     ensures { ShortestHeadersAreShortest }
+{}
+
+/// Each header can be spelled as short as that, but the one of the universal primitive 0, whose identifier octet would be the
+/// `00` of end-of-contents octets (8.1.5).
+pub fn some_shortest_header()
+    ensures { HeadersHaveAShortest }
 {}
