@@ -8,7 +8,7 @@ use Rattle.tlv_head.specs.declared.header.Class.{Class}
 use Rattle.tlv_head.specs.declared.header.Size.{Size}
 use Rattle.tlv_head.specs.declared.header.Size.TheVariants.{Definite, Indefinite}
 use Rattle.tlv_head.specs.Header.{Heading, IsHeading, IsHighForm, IsIdentifier, IsLength, announced, flagged, leading_octet, value_of}
-use Rattle.tlv_head.specs.Shortest.{IsShortest, HaveOneTag, IsShortestIdentifier, IsShortestLength, ShortestHeadersAreOne, ShortestHeadersAreShortest}
+use Rattle.tlv_head.specs.Shortest.{HaveOneTag, IsShortestIdentifier, IsShortestLength, ShortestHeadersAreOne, ShortestHeadersAreShortest}
 use Rattle.tlv_head.proofs.OneValue.{fewest-digits, same-digits}
 
 -- ---- identifier octets
@@ -33,7 +33,7 @@ fewest : (b : ℕ) (xs ys : List ℕ) → 0 < b → slice_index xs 0 ≢ 0 → A
 fewest b [] ys some nonzero v e = omega arith
 fewest b (x ∷ xs) ys some nonzero v e = fewest-digits b x xs ys some nonzero v e
 
-identifier-le : (class : Class) (constructed : Bool) (n : ℕ) (xs ys : List ℕ) → IsIdentifier class constructed n xs → IsIdentifier class constructed n ys
+pub identifier-le : (class : Class) (constructed : Bool) (n : ℕ) (xs ys : List ℕ) → IsIdentifier class constructed n xs → IsIdentifier class constructed n ys
     → IsShortestIdentifier n xs → length xs ≤ length ys
 identifier-le class constructed n xs ys (inl f) (inl g) s = omega (arith, ap length f.octet, ap length g.octet)
 identifier-le class constructed n xs ys (inl f) (inr g) s = omega (arith, ap length f.octet, count-high class constructed n ys g)
@@ -55,21 +55,19 @@ high-same class constructed n xs ys f g e =
     let parts : (f.digits ≡ g.digits) × (f.last ≡ g.last) = same_from_push f.digits g.digits f.last g.last digits in
     f.octet ∙ ap₂ (λ (ds : List ℕ) (last : ℕ). leading_octet class constructed 31 ∷ (flagged ds ++ last ∷ [])) parts.0 parts.1 ∙ sym g.octet
 
-identifier-same : (class : Class) (constructed : Bool) (n : ℕ) (xs ys : List ℕ) → IsIdentifier class constructed n xs → IsIdentifier class constructed n ys
-    → IsShortestIdentifier n xs → IsShortestIdentifier n ys → xs ≡ ys
-identifier-same class constructed n xs ys (inl f) (inl g) s t = f.octet ∙ sym g.octet
-identifier-same class constructed n xs ys (inl f) (inr g) s t =
-    absurd (omega (arith, t.single f.small, count-high class constructed n ys g, length-append g.digits (g.last ∷ [])))
-identifier-same class constructed n xs ys (inr f) (inl g) s t =
-    absurd (omega (arith, s.single g.small, count-high class constructed n xs f, length-append f.digits (f.last ∷ [])))
-identifier-same class constructed n xs ys (inr f) (inr g) s t =
-    let le : length xs ≤ length ys = identifier-le class constructed n xs ys (inr f) (inr g) s in
-    let ge : length ys ≤ length xs = identifier-le class constructed n ys xs (inr g) (inr f) t in
-    high-same class constructed n xs ys f g (omega arith)
+-- as many identifier octets
+pub identifier-same : (class : Class) (constructed : Bool) (n : ℕ) (xs ys : List ℕ) → IsIdentifier class constructed n xs → IsIdentifier class constructed n ys
+    → length xs ≡ length ys → xs ≡ ys
+identifier-same class constructed n xs ys (inl f) (inl g) e = f.octet ∙ sym g.octet
+identifier-same class constructed n xs ys (inl f) (inr g) e =
+    absurd (omega (arith, e, ap length f.octet, count-high class constructed n ys g, length-append g.digits (g.last ∷ [])))
+identifier-same class constructed n xs ys (inr f) (inl g) e =
+    absurd (omega (arith, e, ap length g.octet, count-high class constructed n xs f, length-append f.digits (f.last ∷ [])))
+identifier-same class constructed n xs ys (inr f) (inr g) e = high-same class constructed n xs ys f g e
 
 -- ---- length octets
 
-length-le : (size : Size) (xs ys : List ℕ) → IsLength size xs → IsLength size ys → IsShortestLength (announced size) xs → length xs ≤ length ys
+pub length-le : (size : Size) (xs ys : List ℕ) → IsLength size xs → IsLength size ys → IsShortestLength (announced size) xs → length xs ≤ length ys
 length-le Indefinite xs ys u v s = omega (arith, ap length u, ap length v)
 length-le (Definite n) xs ys (inl f) (inl g) s = omega (arith, ap length f.1, ap length g.1)
 length-le (Definite n) xs ys (inl f) (inr g) s = omega (arith, ap length f.1, ap length g.octet)
@@ -80,15 +78,14 @@ length-le (Definite n) xs ys (inr f) (inr g) s =
     let fewer : length f.digits ≤ length g.digits = fewest 256 f.digits g.digits (lit< tt) nonzero g.each (sym f.value ∙ g.value) in
     omega (arith, fewer, ap length f.octet, ap length g.octet)
 
-length-same : (size : Size) (xs ys : List ℕ) → IsLength size xs → IsLength size ys → IsShortestLength (announced size) xs → IsShortestLength (announced size) ys → xs ≡ ys
-length-same Indefinite xs ys u v s t = u ∙ sym v
-length-same (Definite n) xs ys (inl f) (inl g) s t = f.1 ∙ sym g.1
-length-same (Definite n) xs ys (inl f) (inr g) s t = absurd (omega (arith, t.single f.0, ap length g.octet, g.some))
-length-same (Definite n) xs ys (inr f) (inl g) s t = absurd (omega (arith, s.single g.0, ap length f.octet, f.some))
-length-same (Definite n) xs ys (inr f) (inr g) s t =
-    let le : length xs ≤ length ys = length-le (Definite n) xs ys (inr f) (inr g) s in
-    let ge : length ys ≤ length xs = length-le (Definite n) ys xs (inr g) (inr f) t in
-    let count : length f.digits ≡ length g.digits = omega (arith, le, ge, ap length f.octet, ap length g.octet) in
+-- as many length octets
+pub length-same : (size : Size) (xs ys : List ℕ) → IsLength size xs → IsLength size ys → length xs ≡ length ys → xs ≡ ys
+length-same Indefinite xs ys u v e = u ∙ sym v
+length-same (Definite n) xs ys (inl f) (inl g) e = f.1 ∙ sym g.1
+length-same (Definite n) xs ys (inl f) (inr g) e = absurd (omega (arith, e, ap length f.1, ap length g.octet, g.some))
+length-same (Definite n) xs ys (inr f) (inl g) e = absurd (omega (arith, e, ap length g.1, ap length f.octet, f.some))
+length-same (Definite n) xs ys (inr f) (inr g) e =
+    let count : length f.digits ≡ length g.digits = omega (arith, e, ap length f.octet, ap length g.octet) in
     let digits : f.digits ≡ g.digits = same-digits 256 f.digits g.digits (lit< tt) f.each g.each count (sym f.value ∙ g.value) in
     f.octet ∙ ap (λ (ds : List ℕ). (128 + length ds) ∷ ds) digits ∙ sym g.octet
 
@@ -101,18 +98,27 @@ moved-identifier h g valid tag = rw (tag.class, tag.constructed, tag.number) val
 moved-lengths : (h g : Heading) → IsHeading g → h.size ≡ g.size → IsLength h.size g.lengths
 moved-lengths h g valid size = rw size valid.lengths
 
-pub shortest_are_one : ShortestHeadersAreOne
-shortest_are_one h g u v tag size s t = (
-  identifier-same h.class h.constructed h.number h.identifier g.identifier u.identifier (moved-identifier h g v tag) s.identifier
-      (rw tag.number t.identifier),
-  length-same h.size h.lengths g.lengths u.lengths (moved-lengths h g v size) s.lengths (rw size t.lengths),
-)
+-- no other is shorter
+pub shortest-identifier : (h g : Heading) → IsHeading h → IsHeading g → HaveOneTag h g → IsShortestIdentifier h.number h.identifier → length h.identifier ≤ length g.identifier
+shortest-identifier h g u v tag s = identifier-le h.class h.constructed h.number h.identifier g.identifier u.identifier (moved-identifier h g v tag) s
+
+pub shortest-length : (h g : Heading) → IsHeading h → IsHeading g → h.size ≡ g.size → IsShortestLength (announced h.size) h.lengths → length h.lengths ≤ length g.lengths
+shortest-length h g u v size s = length-le h.size h.lengths g.lengths u.lengths (moved-lengths h g v size) s
 
 pub shortest_are_shortest : ShortestHeadersAreShortest
-shortest_are_shortest h g u v tag size s = (
-  identifier-le h.class h.constructed h.number h.identifier g.identifier u.identifier (moved-identifier h g v tag) s.identifier,
-  length-le h.size h.lengths g.lengths u.lengths (moved-lengths h g v size) s.lengths,
-)
+shortest_are_shortest h g u v tag size s = (shortest-identifier h g u v tag s.identifier, shortest-length h g u v size s.lengths)
+
+-- the other way round
+turned : (h g : Heading) → HaveOneTag h g → HaveOneTag g h
+turned h g tag = record { class = sym tag.class; constructed = sym tag.constructed; number = sym tag.number }
+
+pub shortest_are_one : ShortestHeadersAreOne
+shortest_are_one h g u v tag size s t =
+    let le : (length h.identifier ≤ length g.identifier) × (length h.lengths ≤ length g.lengths) = shortest_are_shortest h g u v tag size s in
+    let ge : (length g.identifier ≤ length h.identifier) × (length g.lengths ≤ length h.lengths) = shortest_are_shortest g h v u (turned h g tag) (sym size) t in (
+      identifier-same h.class h.constructed h.number h.identifier g.identifier u.identifier (moved-identifier h g v tag) (omega (arith, le.0, ge.0)),
+      length-same h.size h.lengths g.lengths u.lengths (moved-lengths h g v size) (omega (arith, le.1, ge.1)),
+    )
 
 -- ---- what makes a header as short as it can be
 
@@ -132,16 +138,16 @@ single-octet n m least some large small = elim (cases_lt 1 n) [
   | inr le ↦ omega arith
 ]
 
-pub shortest-from : (h : Heading) → IsHeading h → (1 < length h.identifier → (31 ≤ h.number) × (slice_index h.identifier 1 % 128 ≢ 0))
-    → (1 < length h.lengths → (128 ≤ announced h.size) × (slice_index h.lengths 1 ≢ 0)) → IsShortest h
-shortest-from h valid high long = record {
-  identifier = record {
-    single =
-        single-octet (length h.identifier) h.number 31 (identifier-some h.class h.constructed h.number h.identifier valid.identifier) (λ more. (high more).0);
-    leading = λ more. (high more).1;
-  };
-  lengths = record {
-    single = single-octet (length h.lengths) (announced h.size) 128 (lengths-some h.size h.lengths valid.lengths) (λ more. (long more).0);
-    leading = λ more. (long more).1;
-  };
+pub identifier-from : (h : Heading) → IsHeading h → (1 < length h.identifier → (31 ≤ h.number) × (slice_index h.identifier 1 % 128 ≢ 0))
+    → IsShortestIdentifier h.number h.identifier
+identifier-from h valid high = record {
+  single = single-octet (length h.identifier) h.number 31 (identifier-some h.class h.constructed h.number h.identifier valid.identifier) (λ more. (high more).0);
+  leading = λ more. (high more).1;
+}
+
+pub lengths-from : (h : Heading) → IsHeading h → (1 < length h.lengths → (128 ≤ announced h.size) × (slice_index h.lengths 1 ≢ 0))
+    → IsShortestLength (announced h.size) h.lengths
+lengths-from h valid long = record {
+  single = single-octet (length h.lengths) (announced h.size) 128 (lengths-some h.size h.lengths valid.lengths) (λ more. (long more).0);
+  leading = λ more. (long more).1;
 }

@@ -1,14 +1,14 @@
 -- Each header can be spelled as short as it can be: leading digits 0 are left out.
-use Rattle.std.proofs.Common.{◌≡◌, ◌≢◌, ◌⊎◌, ℕ, zero, suc, ◌+◌, ◌^◌, ◌<◌, ◌≤◌, inl, inr, Bool, List, [], ◌∷◌, ◌++◌, length, All, refl, sym, ap, ◌∙◌, arith, zero-mul, le_refl, append-nil}
+use Rattle.std.proofs.Common.{◌≡◌, ◌≢◌, ◌⊎◌, ℕ, zero, suc, ◌+◌, ◌^◌, ◌<◌, ◌≤◌, inl, inr, Bool, List, [], ◌∷◌, ◌++◌, length, All, refl, sym, subst, ap, ◌∙◌, arith, zero-mul, le_refl, append-nil}
 use Rattle.std.proofs.lemmas.Bool.{cases_lt}
 use Rattle.std.proofs.lemmas.List.Elements.{All-tail}
 use Rattle.std.specs.Prelude.{slice_index}
 use Rattle.tlv_head.specs.declared.header.Class.{Class}
 use Rattle.tlv_head.specs.declared.header.Size.{Size}
 use Rattle.tlv_head.specs.declared.header.Size.TheVariants.{Definite, Indefinite}
-use Rattle.tlv_head.specs.Header.{IsIdentifier, IsLength, announced, flagged, leading_octet, value_of}
-use Rattle.tlv_head.specs.Shortest.{HeadersHaveAShortest, IsShortestIdentifier, IsShortestLength}
-use Rattle.tlv_head.proofs.Shortest.{high-first}
+use Rattle.tlv_head.specs.Header.{Heading, IsHeading, IsIdentifier, IsLength, announced, flagged, leading_octet, value_of}
+use Rattle.tlv_head.specs.Shortest.{HasShorter, HeadersHaveAShortest, IsShortestIdentifier, IsShortestLength}
+use Rattle.tlv_head.proofs.Shortest.{high-first, identifier-le, identifier-same, length-le, length-same, shortest-identifier, shortest-length}
 
 -- the same digits without leading zeros, before others
 record Stripped (b : ℕ) (digits tail : List ℕ) : Type 0 where
@@ -103,6 +103,14 @@ short-length (Definite n) octets (inr f) = elim (cases_lt n 128) [
   | inr large ↦ long-form n f.digits large f.each f.few f.limit f.value
 ]
 
+-- ---- headers
+
+with_identifier : (h : Heading) → IsHeading h → (i : ShortIdentifier h.class h.constructed h.number) → IsHeading (record h { identifier = i.octets })
+with_identifier h valid i = record { identifier = i.valid; lengths = valid.lengths; allowed = valid.allowed }
+
+with_lengths : (h : Heading) → IsHeading h → (l : ShortLength h.size) → IsHeading (record h { lengths = l.octets })
+with_lengths h valid l = record { identifier = valid.identifier; lengths = l.valid; allowed = valid.allowed }
+
 pub shortest-there : HeadersHaveAShortest
 shortest-there h valid nonzero =
     let i : ShortIdentifier h.class h.constructed h.number = short-identifier h.class h.constructed h.number h.identifier valid.identifier nonzero in
@@ -113,3 +121,34 @@ shortest-there h valid nonzero =
       refl,
       record { identifier = i.shortest; lengths = l.shortest },
     )
+
+-- a header that is not as short as it can be has a shorter one
+pub shorter-identifier : (h : Heading) → IsHeading h → leading_octet h.class h.constructed h.number ≢ 0
+    → (IsShortestIdentifier h.number h.identifier → ⊥) → HasShorter (λ k. k.identifier) h
+shorter-identifier h valid nonzero none =
+    let i : ShortIdentifier h.class h.constructed h.number = short-identifier h.class h.constructed h.number h.identifier valid.identifier nonzero in
+    elim (cases_lt (length i.octets) (length h.identifier)) [
+      | inl fewer ↦ record { other = record h { identifier = i.octets }; valid = with_identifier h valid i; tag = record { class = refl; constructed = refl; number = refl }; size = refl; fewer = fewer }
+      | inr le ↦
+          let ge : length i.octets ≤ length h.identifier = identifier-le h.class h.constructed h.number i.octets h.identifier i.valid valid.identifier i.shortest in
+          let same : i.octets ≡ h.identifier = identifier-same h.class h.constructed h.number i.octets h.identifier i.valid valid.identifier (omega (arith, le, ge)) in
+          absurd (none (subst (IsShortestIdentifier h.number) same i.shortest))
+    ]
+
+pub shorter-length : (h : Heading) → IsHeading h → (IsShortestLength (announced h.size) h.lengths → ⊥) → HasShorter (λ k. k.lengths) h
+shorter-length h valid none =
+    let l : ShortLength h.size = short-length h.size h.lengths valid.lengths in
+    elim (cases_lt (length l.octets) (length h.lengths)) [
+      | inl fewer ↦ record { other = record h { lengths = l.octets }; valid = with_lengths h valid l; tag = record { class = refl; constructed = refl; number = refl }; size = refl; fewer = fewer }
+      | inr le ↦
+          let ge : length l.octets ≤ length h.lengths = length-le h.size l.octets h.lengths l.valid valid.lengths l.shortest in
+          let same : l.octets ≡ h.lengths = length-same h.size l.octets h.lengths l.valid valid.lengths (omega (arith, le, ge)) in
+          absurd (none (subst (IsShortestLength (announced h.size)) same l.shortest))
+    ]
+
+-- and one that is has none
+pub no-shorter_identifier : (h : Heading) → IsHeading h → IsShortestIdentifier h.number h.identifier → HasShorter (λ k. k.identifier) h → ⊥
+no-shorter_identifier h valid s r = omega (arith, r.fewer, shortest-identifier h r.other valid r.valid r.tag s)
+
+pub no-shorter_length : (h : Heading) → IsHeading h → IsShortestLength (announced h.size) h.lengths → HasShorter (λ k. k.lengths) h → ⊥
+no-shorter_length h valid s r = omega (arith, r.fewer, shortest-length h r.other valid r.valid r.size s)

@@ -22,6 +22,14 @@ pub record HaveOneTag (h g : Heading) : Type 0 where
   pub constructed : h.constructed ≡ g.constructed
   pub number : h.number ≡ g.number
 
+-- another header of that tag and size has fewer octets in that part
+pub record HasShorter (part : Heading → List ℕ) (h : Heading) : Type 0 where
+  pub other : Heading
+  pub valid : IsHeading other
+  pub tag : HaveOneTag h other
+  pub size : h.size ≡ other.size
+  pub fewer : length (part other) < length (part h)
+
 -- two headers of one tag and one size have the same octets where both are as short as these rules say
 abbrev pub ShortestHeadersAreOne : Type 0
 ShortestHeadersAreOne = (h g : Heading) → IsHeading h → IsHeading g → HaveOneTag h g → h.size ≡ g.size → IsShortest h → IsShortest g

@@ -25,3 +25,4 @@ pub mod WholeRows
 pub mod Memory
 pub mod Spellings
 pub mod SpellingRows
+pub mod LongerHeaders

@@ -8,7 +8,8 @@ use Rattle.std.specs.Prelude.{if◌then◌else◌, slice_index}
 use Rattle.tlv_head.specs.declared.header.Size.{Size}
 use Rattle.tlv_head.specs.declared.header.Size.TheVariants.{Definite, Indefinite}
 use Rattle.tlv_head.specs.Header.{AllowsSize, Heading, IsHeading, announced, octets_of}
-use Rattle.tlv_head.proofs.Shortest.{shortest-from}
+use Rattle.tlv_head.specs.Shortest.{IsShortest}
+use Rattle.tlv_head.proofs.Shortest.{identifier-from, lengths-from}
 use Rattle.tlv_value.specs.declared.finding.Finding.{Finding}
 use Rattle.tlv_walk.specs.declared.ending.Ending.TheVariants.{Done}
 use Rattle.tlv_walk.specs.declared.framing.Framing.{Framing}
@@ -61,7 +62,7 @@ absent rules s h e =
 
 -- ---- what they say of a header
 
-high-form : (h : Heading) → (has_high_form h && nat_lt h.number 31) ≡ false → (has_high_form h && leading_bits h == 0) ≡ false
+pub high-form : (h : Heading) → (has_high_form h && nat_lt h.number 31) ≡ false → (has_high_form h && leading_bits h == 0) ≡ false
     → 1 < length h.identifier → (31 ≤ h.number) × (slice_index h.identifier 1 % 128 ≢ 0)
 high-form h a b more =
     let high : nat_lt 1 (length h.identifier) ≡ true = grind (arith, nat_tests) in
@@ -69,7 +70,7 @@ high-form h a b more =
     let nonzero : (leading_bits h == 0) ≡ false = rw high at b in
     (grind (arith, nat_tests), grind (arith, nat_tests))
 
-long-form : (h : Heading) → (has_long_form h && (nat_lt (announced h.size) 128 || first_length h == 0)) ≡ false
+pub long-form : (h : Heading) → (has_long_form h && (nat_lt (announced h.size) 128 || first_length h == 0)) ≡ false
     → 1 < length h.lengths → (128 ≤ announced h.size) × (slice_index h.lengths 1 ≢ 0)
 long-form h a more =
     let long : nat_lt 1 (length h.lengths) ≡ true = grind (arith, nat_tests) in
@@ -78,6 +79,10 @@ long-form h a more =
     let large : nat_lt (announced h.size) 128 ≡ false = both.0 in
     let nonzero : (first_length h == 0) ≡ false = both.1 in
     (grind (arith, nat_tests), grind (arith, nat_tests))
+
+shortest : (h : Heading) → IsHeading h → (has_high_form h && nat_lt h.number 31) ≡ false → (has_high_form h && leading_bits h == 0) ≡ false
+    → (has_long_form h && (nat_lt (announced h.size) 128 || first_length h == 0)) ≡ false → IsShortest h
+shortest h valid a b c = record { identifier = identifier-from h valid (high-form h a b); lengths = lengths-from h valid (long-form h c) }
 
 -- whether the length of an element of that form is indefinite: by DER never, by CER where it is constructed
 abbrev form_by : Rules → Bool → Bool
@@ -98,14 +103,14 @@ regular Der s h strict valid e =
     let none : Absent Der (header_conditions s h) = absent Der s h e in
     let of_lengths = none.1.1.1.1.1.1.1 in
     record {
-      shortest = shortest-from h valid (high-form h (none.0 refl refl) (none.1.0 refl refl)) (long-form h (of_lengths.0 refl refl));
+      shortest = shortest h valid (none.0 refl refl) (none.1.0 refl refl) (of_lengths.0 refl refl);
       by_form = of_lengths.1.0 refl refl;
     }
 regular Cer s h strict valid e =
     let none : Absent Cer (header_conditions s h) = absent Cer s h e in
     let of_lengths = none.1.1.1.1.1.1.1 in
     record {
-      shortest = shortest-from h valid (high-form h (none.0 refl refl) (none.1.0 refl refl)) (long-form h (of_lengths.0 refl refl));
+      shortest = shortest h valid (none.0 refl refl) (none.1.0 refl refl) (of_lengths.0 refl refl);
       by_form = by-form h.constructed h.size valid.allowed (of_lengths.1.1.1.0 refl refl);
     }
 

@@ -1,6 +1,8 @@
 -- Encodings by DER and by CER have one spelling: X.690 8.1.2, 9.1 and 10.1.
-use Rattle.std.specs.Prelude.{◌≡◌, ◌≢◌, Bool, true, false, List, ℕ}
+use Rattle.std.specs.Prelude.{◌≡◌, ◌≢◌, ◌↔◌, Bool, true, false, List, ℕ}
 use Rattle.std.specs.List.{list_any}
+use Rattle.tlv_head.specs.Header.{Heading, IsHeading, leading_octet}
+use Rattle.tlv_head.specs.Shortest.{HasShorter}
 use Rattle.tlv_value.specs.declared.finding.Finding.{Finding}
 use Rattle.tlv_value.specs.declared.finding.Finding.TheVariants.{B01, B02, S01, D01, C01}
 use Rattle.tlv_walk.specs.declared.ending.Ending.TheVariants.{Done}
@@ -11,8 +13,9 @@ use Rattle.tlv_walk.specs.Forest.{Forest}
 use Rattle.tlv_walk.specs.Reading.{IsReading}
 use Rattle.tlv_show.specs.declared.rules.Rules.{Rules}
 use Rattle.tlv_show.specs.declared.rules.Rules.TheVariants.{Ber}
+use Rattle.tlv_show.specs.Found.{header_findings}
 use Rattle.tlv_show.specs.Items.{Item, FindingAt, OpeningLine, ClosingLine, WholePrimitive, OpenPrimitive, PaddingLine, items}
-use Rattle.tlv_show.specs.Site.{top}
+use Rattle.tlv_show.specs.Site.{Site, top}
 
 -- a finding on how a tag number or a length is spelled
 abbrev pub is_on_spelling : Finding → Bool
@@ -45,3 +48,23 @@ pub record IsWellSpelled (rules : Rules) (framing : Framing) (b : List ℕ) (f :
 abbrev pub OneSpelling : Type 0
 OneSpelling = (rules : Rules) (framing other : Framing) (b c : List ℕ) (f g : Forest) → rules ≢ Ber
     → IsWellSpelled rules framing b f → IsWellSpelled rules other c g → AreAlike f g → b ≡ c
+
+-- a finding on the number of identifier octets, and on that of length octets
+abbrev pub is_on_identifier : Finding → Bool
+is_on_identifier B01 = true
+is_on_identifier B02 = true
+is_on_identifier finding = false
+
+abbrev pub is_on_lengths : Finding → Bool
+is_on_lengths S01 = true
+is_on_lengths finding = false
+
+-- B01 or B02 is found exactly where fewer identifier octets say the same. The universal primitive 0 alone has no low form
+abbrev pub LongerIdentifiersAreFound : Type 0
+LongerIdentifiersAreFound = (rules : Rules) (s : Site) (h : Heading) → IsHeading h → leading_octet h.class h.constructed h.number ≢ 0
+    → (list_any is_on_identifier (header_findings rules s h) ≡ true) ↔ HasShorter (λ k. k.identifier) h
+
+-- by DER and by CER, S01 is found exactly where fewer length octets say the same
+abbrev pub LongerLengthsAreFound : Type 0
+LongerLengthsAreFound = (rules : Rules) (s : Site) (h : Heading) → rules ≢ Ber → IsHeading h
+    → (list_any is_on_lengths (header_findings rules s h) ≡ true) ↔ HasShorter (λ k. k.lengths) h
