@@ -85,3 +85,14 @@ wrappers-alike =
 -- 05 00 00 00 and 05 81 00 00 00, each with two octets of padding
 padded-alike : AreAlike (reading padded (5 ∷ 0 ∷ 0 ∷ 0 ∷ [])) (reading padded (5 ∷ 129 ∷ 0 ∷ 0 ∷ 0 ∷ []))
 padded-alike = primitives _ _ [] _ _ (one_tag _ _ refl refl refl) (padding _ _ (padding _ _ nothing))
+
+-- 1f 00 00: the universal primitive 0 has no low form, and B01 all the same
+universal-0 : misspelled plain Ber (31 ∷ 0 ∷ 0 ∷ []) ≡ true
+universal-0 = refl
+
+-- 5f 00 00: the number 0 of another class, in the high form, and 40 00 in the low form
+high-0 : misspelled plain Ber (95 ∷ 0 ∷ 0 ∷ []) ≡ true
+high-0 = refl
+
+low-0 : misspelled plain Ber (64 ∷ 0 ∷ []) ≡ false
+low-0 = refl

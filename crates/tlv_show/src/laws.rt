@@ -2,7 +2,7 @@
 
 ghost use Rattle.std.specs.Prelude.{IfOk};
 ghost use Rattle.tlv_show.specs.Laws.{BasicFindingsStay, ChecksGoOn, ChecksMakeTexts, DumpsGoOn, DumpsMakeTexts, DumpsOctets, PrimitivesAreShown};
-ghost use Rattle.tlv_show.specs.Spellings.{OneSpelling};
+ghost use Rattle.tlv_show.specs.Spellings.{LongerIdentifiersAreFound, LongerLengthsAreFound, OneSpelling};
 
 use crate::{Options, Outcome, dump};
 use tlv_value::Names;
@@ -67,4 +67,16 @@ pub fn basic_findings_stay()
 /// C01 in either (X.690 8.1.2.2, 8.1.2.4.2 c), 9.1 and 10.1).
 pub fn one_spelling()
     ensures { OneSpelling }
+{}
+
+/// B01 or B02 is found with a header exactly where another header of that class, form, number and size has fewer identifier
+/// octets. Of the universal primitive 0 nothing is said: its low form would be the `00` of end-of-contents octets (8.1.5).
+pub fn longer_identifiers_are_found()
+    ensures { LongerIdentifiersAreFound }
+{}
+
+/// Under DER and under CER, S01 is found with a header exactly where another header of that class, form, number and size has
+/// fewer length octets.
+pub fn longer_lengths_are_found()
+    ensures { LongerLengthsAreFound }
 {}
