@@ -17,7 +17,8 @@ use Rattle.tlv_head.proofs.OneValue.{fewest-digits, same-digits}
 abbrev all_digits : {class : Class} {constructed : Bool} {n : ℕ} {octets : List ℕ} → IsHighForm class constructed n octets → List ℕ
 all_digits f = f.digits ++ f.last ∷ []
 
-count-high : (class : Class) (constructed : Bool) (n : ℕ) (octets : List ℕ) (f : IsHighForm class constructed n octets) → length octets ≡ 1 + length (all_digits f)
+count-high : (class : Class) (constructed : Bool) (n : ℕ) (octets : List ℕ) (f : IsHighForm class constructed n octets)
+    → length octets ≡ 1 + length (all_digits f)
 count-high class constructed n octets f =
     omega (arith, ap length f.octet, length-append (flagged f.digits) (f.last ∷ []), length-append f.digits (f.last ∷ []), length-map f.digits (λ d. 128 + d))
 
@@ -25,7 +26,8 @@ each-high : (class : Class) (constructed : Bool) (n : ℕ) (octets : List ℕ) (
 each-high class constructed n octets f = All-push (λ d. d < 128) f.digits f.last f.each f.last_digit
 
 -- the first of them, without bit 8
-pub high-first : (lead : ℕ) (ds : List ℕ) (last : ℕ) → All (λ d. d < 128) ds → last < 128 → slice_index (lead ∷ (flagged ds ++ last ∷ [])) 1 % 128 ≡ slice_index (ds ++ last ∷ []) 0
+pub high-first : (lead : ℕ) (ds : List ℕ) (last : ℕ) → All (λ d. d < 128) ds → last < 128
+    → slice_index (lead ∷ (flagged ds ++ last ∷ [])) 1 % 128 ≡ slice_index (ds ++ last ∷ []) 0
 high-first lead [] last each below = omega arith
 high-first lead (d ∷ ds) last each below = let small : d < 128 = All-head (λ d. d < 128) d ds each in omega arith
 
@@ -41,17 +43,20 @@ identifier-le class constructed n xs ys (inr f) (inl g) s = omega (arith, s.sing
 identifier-le class constructed n xs ys (inr f) (inr g) s =
     let some : 1 < length xs = omega (arith, count-high class constructed n xs f, length-append f.digits (f.last ∷ [])) in
     let nonzero : slice_index (all_digits f) 0 ≢ 0 =
-    λ z. s.leading some (ap (λ (l : List ℕ). slice_index l 1 % 128) f.octet ∙ high-first (leading_octet class constructed 31) f.digits f.last f.each f.last_digit ∙ z) in
+    λ z. s.leading some
+    (ap (λ (l : List ℕ). slice_index l 1 % 128) f.octet ∙ high-first (leading_octet class constructed 31) f.digits f.last f.each f.last_digit ∙ z) in
     let fewer : length (all_digits f) ≤ length (all_digits g) =
     fewest 128 (all_digits f) (all_digits g) (lit< tt) nonzero (each-high class constructed n ys g) (sym f.value ∙ g.value) in
     omega (arith, fewer, count-high class constructed n xs f, count-high class constructed n ys g)
 
 -- as many subsequent octets
-high-same : (class : Class) (constructed : Bool) (n : ℕ) (xs ys : List ℕ) → IsHighForm class constructed n xs → IsHighForm class constructed n ys → length xs ≡ length ys → xs ≡ ys
+high-same : (class : Class) (constructed : Bool) (n : ℕ) (xs ys : List ℕ) → IsHighForm class constructed n xs → IsHighForm class constructed n ys
+    → length xs ≡ length ys → xs ≡ ys
 high-same class constructed n xs ys f g e =
     let count : length (all_digits f) ≡ length (all_digits g) = omega (arith, e, count-high class constructed n xs f, count-high class constructed n ys g) in
     let digits : all_digits f ≡ all_digits g =
-    same-digits 128 (all_digits f) (all_digits g) (lit< tt) (each-high class constructed n xs f) (each-high class constructed n ys g) count (sym f.value ∙ g.value) in
+    same-digits 128 (all_digits f) (all_digits g) (lit< tt) (each-high class constructed n xs f) (each-high class constructed n ys g) count
+    (sym f.value ∙ g.value) in
     let parts : (f.digits ≡ g.digits) × (f.last ≡ g.last) = same_from_push f.digits g.digits f.last g.last digits in
     f.octet ∙ ap₂ (λ (ds : List ℕ) (last : ℕ). leading_octet class constructed 31 ∷ (flagged ds ++ last ∷ [])) parts.0 parts.1 ∙ sym g.octet
 
@@ -99,10 +104,12 @@ moved-lengths : (h g : Heading) → IsHeading g → h.size ≡ g.size → IsLeng
 moved-lengths h g valid size = rw size valid.lengths
 
 -- no other is shorter
-pub shortest-identifier : (h g : Heading) → IsHeading h → IsHeading g → HaveOneTag h g → IsShortestIdentifier h.number h.identifier → length h.identifier ≤ length g.identifier
+pub shortest-identifier : (h g : Heading) → IsHeading h → IsHeading g → HaveOneTag h g → IsShortestIdentifier h.number h.identifier
+    → length h.identifier ≤ length g.identifier
 shortest-identifier h g u v tag s = identifier-le h.class h.constructed h.number h.identifier g.identifier u.identifier (moved-identifier h g v tag) s
 
-pub shortest-length : (h g : Heading) → IsHeading h → IsHeading g → h.size ≡ g.size → IsShortestLength (announced h.size) h.lengths → length h.lengths ≤ length g.lengths
+pub shortest-length : (h g : Heading) → IsHeading h → IsHeading g → h.size ≡ g.size → IsShortestLength (announced h.size) h.lengths
+    → length h.lengths ≤ length g.lengths
 shortest-length h g u v size s = length-le h.size h.lengths g.lengths u.lengths (moved-lengths h g v size) s
 
 pub shortest_are_shortest : ShortestHeadersAreShortest
@@ -115,7 +122,8 @@ turned h g tag = record { class = sym tag.class; constructed = sym tag.construct
 pub shortest_are_one : ShortestHeadersAreOne
 shortest_are_one h g u v tag size s t =
     let le : (length h.identifier ≤ length g.identifier) × (length h.lengths ≤ length g.lengths) = shortest_are_shortest h g u v tag size s in
-    let ge : (length g.identifier ≤ length h.identifier) × (length g.lengths ≤ length h.lengths) = shortest_are_shortest g h v u (turned h g tag) (sym size) t in (
+    let ge : (length g.identifier ≤ length h.identifier) × (length g.lengths ≤ length h.lengths) =
+    shortest_are_shortest g h v u (turned h g tag) (sym size) t in (
       identifier-same h.class h.constructed h.number h.identifier g.identifier u.identifier (moved-identifier h g v tag) (omega (arith, le.0, ge.0)),
       length-same h.size h.lengths g.lengths u.lengths (moved-lengths h g v size) (omega (arith, le.1, ge.1)),
     )
@@ -141,7 +149,8 @@ single-octet n m least some large small = elim (cases_lt 1 n) [
 pub identifier-from : (h : Heading) → IsHeading h → (1 < length h.identifier → (31 ≤ h.number) × (slice_index h.identifier 1 % 128 ≢ 0))
     → IsShortestIdentifier h.number h.identifier
 identifier-from h valid high = record {
-  single = single-octet (length h.identifier) h.number 31 (identifier-some h.class h.constructed h.number h.identifier valid.identifier) (λ more. (high more).0);
+  single =
+      single-octet (length h.identifier) h.number 31 (identifier-some h.class h.constructed h.number h.identifier valid.identifier) (λ more. (high more).0);
   leading = λ more. (high more).1;
 }
 

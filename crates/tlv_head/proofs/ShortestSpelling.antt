@@ -22,7 +22,13 @@ strip : (b : ℕ) (digits tail : List ℕ) → All (λ d. d < b) digits → Stri
 strip b [] tail each = record { kept = []; each = each; fewer = le_refl _; value = refl; first = inl refl }
 strip b (zero ∷ digits) tail each =
     let r : Stripped b digits tail = strip b digits tail (All-tail (λ d. d < b) zero digits each) in
-    record { kept = r.kept; each = r.each; fewer = omega (arith, r.fewer); value = omega (arith, r.value, zero-mul (b ^ length (digits ++ tail))); first = r.first }
+    record {
+      kept = r.kept;
+      each = r.each;
+      fewer = omega (arith, r.fewer);
+      value = omega (arith, r.value, zero-mul (b ^ length (digits ++ tail)));
+      first = r.first;
+    }
 strip b (suc d ∷ digits) tail each = record { kept = suc d ∷ digits; each = each; fewer = le_refl _; value = refl; first = inr (λ z. omega (arith, z)) }
 
 -- ---- identifier octets
@@ -40,7 +46,8 @@ low-form class constructed n small nonzero = record {
 }
 
 -- of a number of 31 or more the first digit that is kept is not 0
-first-kept : (kept : List ℕ) (last n : ℕ) → 31 ≤ n → n ≡ value_of 128 (kept ++ last ∷ []) → (kept ≡ []) ⊎ (slice_index (kept ++ last ∷ []) 0 ≢ 0) → slice_index (kept ++ last ∷ []) 0 ≢ 0
+first-kept : (kept : List ℕ) (last n : ℕ) → 31 ≤ n → n ≡ value_of 128 (kept ++ last ∷ [])
+    → (kept ≡ []) ⊎ (slice_index (kept ++ last ∷ []) 0 ≢ 0) → slice_index (kept ++ last ∷ []) 0 ≢ 0
 first-kept kept last n large e (inl none) = λ z.
     let value : n ≡ value_of 128 (last ∷ []) = rw none at e in
     let zero_last : last ≡ 0 = rw none at z in
@@ -62,7 +69,8 @@ high-form class constructed n digits last large each below few e =
       };
     }
 
-short-identifier : (class : Class) (constructed : Bool) (n : ℕ) (octets : List ℕ) → IsIdentifier class constructed n octets → leading_octet class constructed n ≢ 0 → ShortIdentifier class constructed n
+short-identifier : (class : Class) (constructed : Bool) (n : ℕ) (octets : List ℕ) → IsIdentifier class constructed n octets
+    → leading_octet class constructed n ≢ 0 → ShortIdentifier class constructed n
 short-identifier class constructed n octets (inl f) nonzero = low-form class constructed n f.small nonzero
 short-identifier class constructed n octets (inr f) nonzero = elim (cases_lt n 31) [
   | inl small ↦ low-form class constructed n small nonzero
@@ -79,19 +87,29 @@ record ShortLength (size : Size) : Type 0 where
 one-octet : (n x : ℕ) → IsShortestLength n (x ∷ [])
 one-octet n x = record { single = λ s. refl; leading = λ more. absurd (omega (arith, more)) }
 
-first-of_length : (kept : List ℕ) (n : ℕ) → 128 ≤ n → n ≡ value_of 256 (kept ++ []) → (kept ≡ []) ⊎ (slice_index (kept ++ []) 0 ≢ 0) → (1 ≤ length kept) × (slice_index kept 0 ≢ 0)
+first-of_length : (kept : List ℕ) (n : ℕ) → 128 ≤ n → n ≡ value_of 256 (kept ++ []) → (kept ≡ []) ⊎ (slice_index (kept ++ []) 0 ≢ 0)
+    → (1 ≤ length kept) × (slice_index kept 0 ≢ 0)
 first-of_length [] n large e first = absurd (omega (arith, e, large))
 first-of_length (x ∷ kept) n large e (inl none) = absurd (omega (arith, ap length none))
 first-of_length (x ∷ kept) n large e (inr first) = (omega arith, first)
 
-long-form : (n : ℕ) (digits : List ℕ) → 128 ≤ n → All (λ d. d < 256) digits → length digits ≤ 126 → n < 2 ^ 40 → n ≡ value_of 256 digits → ShortLength (Definite n)
+long-form : (n : ℕ) (digits : List ℕ) → 128 ≤ n → All (λ d. d < 256) digits → length digits ≤ 126 → n < 2 ^ 40
+    → n ≡ value_of 256 digits → ShortLength (Definite n)
 long-form n digits large each few limit e =
     let r : Stripped 256 digits [] = strip 256 digits [] each in
     let value : n ≡ value_of 256 (r.kept ++ []) = e ∙ ap (value_of 256) (sym (append-nil digits)) ∙ sym r.value in
     let first : (1 ≤ length r.kept) × (slice_index r.kept 0 ≢ 0) = first-of_length r.kept n large value r.first in
     record {
       octets = (128 + length r.kept) ∷ r.kept;
-      valid = inr (record { digits = r.kept; each = r.each; some = first.0; few = omega (arith, r.fewer); value = value ∙ ap (value_of 256) (append-nil r.kept); limit = limit; octet = refl });
+      valid = inr (record {
+        digits = r.kept;
+        each = r.each;
+        some = first.0;
+        few = omega (arith, r.fewer);
+        value = value ∙ ap (value_of 256) (append-nil r.kept);
+        limit = limit;
+        octet = refl;
+      });
       shortest = record { single = λ small. absurd (omega (arith, small, large)); leading = λ more z. first.1 z };
     }
 
@@ -128,10 +146,18 @@ pub shorter-identifier : (h : Heading) → IsHeading h → leading_octet h.class
 shorter-identifier h valid nonzero none =
     let i : ShortIdentifier h.class h.constructed h.number = short-identifier h.class h.constructed h.number h.identifier valid.identifier nonzero in
     elim (cases_lt (length i.octets) (length h.identifier)) [
-      | inl fewer ↦ record { other = record h { identifier = i.octets }; valid = with_identifier h valid i; tag = record { class = refl; constructed = refl; number = refl }; size = refl; fewer = fewer }
+      | inl fewer ↦ record {
+        other = record h { identifier = i.octets };
+        valid = with_identifier h valid i;
+        tag = record { class = refl; constructed = refl; number = refl };
+        size = refl;
+        fewer = fewer;
+      }
       | inr le ↦
-          let ge : length i.octets ≤ length h.identifier = identifier-le h.class h.constructed h.number i.octets h.identifier i.valid valid.identifier i.shortest in
-          let same : i.octets ≡ h.identifier = identifier-same h.class h.constructed h.number i.octets h.identifier i.valid valid.identifier (omega (arith, le, ge)) in
+          let ge : length i.octets ≤ length h.identifier =
+          identifier-le h.class h.constructed h.number i.octets h.identifier i.valid valid.identifier i.shortest in
+          let same : i.octets ≡ h.identifier =
+          identifier-same h.class h.constructed h.number i.octets h.identifier i.valid valid.identifier (omega (arith, le, ge)) in
           absurd (none (subst (IsShortestIdentifier h.number) same i.shortest))
     ]
 
@@ -139,7 +165,13 @@ pub shorter-length : (h : Heading) → IsHeading h → (IsShortestLength (announ
 shorter-length h valid none =
     let l : ShortLength h.size = short-length h.size h.lengths valid.lengths in
     elim (cases_lt (length l.octets) (length h.lengths)) [
-      | inl fewer ↦ record { other = record h { lengths = l.octets }; valid = with_lengths h valid l; tag = record { class = refl; constructed = refl; number = refl }; size = refl; fewer = fewer }
+      | inl fewer ↦ record {
+        other = record h { lengths = l.octets };
+        valid = with_lengths h valid l;
+        tag = record { class = refl; constructed = refl; number = refl };
+        size = refl;
+        fewer = fewer;
+      }
       | inr le ↦
           let ge : length l.octets ≤ length h.lengths = length-le h.size l.octets h.lengths l.valid valid.lengths l.shortest in
           let same : l.octets ≡ h.lengths = length-same h.size l.octets h.lengths l.valid valid.lengths (omega (arith, le, ge)) in

@@ -50,7 +50,8 @@ all-any test rules (row ∷ rows) =
     list_any-append test (one_shown rules row) (shown rules rows)
     ∙ ap₂ (λ (a b : Bool). a || b) (one-any test row.0 (shows rules row.1) (test row.1) row.1 refl) (all-any test rules rows)
 
-found-by : (test : Finding → Bool) (rules : Rules) (s : Site) (h : Heading) → list_any test (header_findings rules s h) ≡ any_of test rules (header_conditions s h)
+found-by : (test : Finding → Bool) (rules : Rules) (s : Site) (h : Heading)
+    → list_any test (header_findings rules s h) ≡ any_of test rules (header_conditions s h)
 found-by test rules s h = ap (list_any test) (filter-held rules (header_conditions s h)) ∙ all-any test rules (header_conditions s h)
 
 -- ---- identifier octets
@@ -71,7 +72,8 @@ longer_identifier-absent h s = elim (cases_lt 1 (length h.identifier)) [
       let number : nat_lt h.number 31 ≡ false = grind (arith, nat_tests) in
       let nonzero : leading_bits h ≢ 0 = s.leading more in
       let bits : (leading_bits h == 0) ≡ false = grind (arith, nat_tests) in
-      or_from _ _ (ap (λ (b : Bool). has_high_form h && b) number ∙ and-false (has_high_form h)) (ap (λ (b : Bool). has_high_form h && b) bits ∙ and-false (has_high_form h))
+      or_from _ _ (ap (λ (b : Bool). has_high_form h && b) number ∙ and-false (has_high_form h))
+      (ap (λ (b : Bool). has_high_form h && b) bits ∙ and-false (has_high_form h))
   | inr le ↦
       let low : has_high_form h ≡ false = grind (arith, nat_tests) in
       or_from _ _ (ap (λ (b : Bool). b && nat_lt h.number 31) low) (ap (λ (b : Bool). b && leading_bits h == 0) low)

@@ -91,13 +91,15 @@ form_by Der constructed = false
 form_by Cer constructed = constructed
 
 -- 8.1.3.2 a)
-by-form : (constructed : Bool) (size : Size) → AllowsSize constructed size → (constructed && not (is_indefinite size)) ≡ false → is_indefinite size ≡ constructed
+by-form : (constructed : Bool) (size : Size) → AllowsSize constructed size → (constructed && not (is_indefinite size)) ≡ false
+    → is_indefinite size ≡ constructed
 by-form true (Definite n) a e = absurd (cc (e))
 by-form true Indefinite a e = refl
 by-form false (Definite n) a e = refl
 by-form false Indefinite a e = absurd a
 
-regular : (rules : Rules) (s : Site) (h : Heading) → rules ≢ Ber → IsHeading h → list_any tells_of_spelling (on_header rules s h) ≡ false → IsRegular (form_by rules) h
+regular : (rules : Rules) (s : Site) (h : Heading) → rules ≢ Ber → IsHeading h → list_any tells_of_spelling (on_header rules s h) ≡ false
+    → IsRegular (form_by rules) h
 regular Ber s h strict valid e = absurd (strict refl)
 regular Der s h strict valid e =
     let none : Absent Der (header_conditions s h) = absent Der s h e in
@@ -116,21 +118,24 @@ regular Cer s h strict valid e =
 
 -- ---- elements
 
-none-in : (xs ys : List Item) → list_any tells_of_spelling (xs ++ ys) ≡ false → (list_any tells_of_spelling xs ≡ false) × (list_any tells_of_spelling ys ≡ false)
+none-in : (xs ys : List Item) → list_any tells_of_spelling (xs ++ ys) ≡ false
+    → (list_any tells_of_spelling xs ≡ false) × (list_any tells_of_spelling ys ≡ false)
 none-in xs ys e = or_parts _ _ (sym (list_any-append tells_of_spelling xs ys) ∙ e)
 
 module _ (rules : Rules) (strict : rules ≢ Ber) where
   all-regular : (p : Place) (s : Site) (f : Forest) → IsSound p f → list_any tells_of_spelling (items rules s f) ≡ false → AreRegular (form_by rules) f
   all-regular p s Stop u e = tt
   all-regular p s (Fill rest) u e =
-      all-regular (after p 1) (behind_padding s) rest u.1 (none-in (if is_padding s.before then [] else PaddingLine s.level s.at ∷ []) (items rules (behind_padding s) rest) e).1
+      all-regular (after p 1) (behind_padding s) rest u.1
+      (none-in (if is_padding s.before then [] else PaddingLine s.level s.at ∷ []) (items rules (behind_padding s) rest) e).1
   all-regular p s (Whole h c rest) u e =
       let head = none-in (on_header rules s h) (WholePrimitive s.level h c ∷ (on_contents rules s h c ++ items rules (behind s h c) rest)) e in
       let others = none-in (on_contents rules s h c) (items rules (behind s h c) rest) head.1 in
       (regular rules s h strict u.0.valid head.0, all-regular (after p (length (octets_of h) + length c)) (behind s h c) rest u.2 others.1)
   all-regular p s (Closed h inside rest) u e =
       let last : List Item = on_end rules s h inside ++ items rules (behind_holder s h inside) rest in
-      let head = none-in (on_header rules s h) (OpeningLine s.level h ∷ (items rules (inside_of s h) inside ++ (ClosingLine s.level (end_place h inside) ∷ last))) e in
+      let held_and_last : List Item = items rules (inside_of s h) inside ++ ClosingLine s.level (end_place h inside) ∷ last in
+      let head = none-in (on_header rules s h) (OpeningLine s.level h ∷ held_and_last) e in
       let held = none-in (items rules (inside_of s h) inside) (ClosingLine s.level (end_place h inside) ∷ last) head.1 in
       let others = none-in (on_end rules s h inside) (items rules (behind_holder s h inside) rest) held.1 in (
         regular rules s h strict u.0.valid head.0,

@@ -52,7 +52,8 @@ module _ (form : Bool → Bool) where
   one_spelling p q f g (primitives h k c a b tag rest) u v r s =
       let size : h.size ≡ k.size = u.1 ∙ sym v.1 in
       let head : octets_of h ≡ octets_of k = same-octets h k u.0.valid v.0.valid tag size r.0.shortest s.0.shortest in
-      let others : spell a ≡ spell b = one_spelling (after p (length (octets_of h) + length c)) (after q (length (octets_of k) + length c)) a b rest u.2 v.2 r.1 s.1 in
+      let others : spell a ≡ spell b =
+      one_spelling (after p (length (octets_of h) + length c)) (after q (length (octets_of k) + length c)) a b rest u.2 v.2 r.1 s.1 in
       ap₂ (λ (x y : List ℕ). x ++ (c ++ y)) head others
   one_spelling p q f g (holders h k inside within a b tag held rest) u v r s =
       let contents : spell inside ≡ spell within = one_spelling (inside_of p h) (inside_of q k) inside within held u.3 v.3 r.1 s.1 in
