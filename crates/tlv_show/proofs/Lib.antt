@@ -23,6 +23,7 @@ pub mod StrictRows
 pub mod CanonicalRows
 pub mod WholeRows
 pub mod Memory
+pub mod ToldOfHeaders
 pub mod Spellings
 pub mod SpellingRows
 pub mod LongerHeaders

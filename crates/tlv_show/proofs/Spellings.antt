@@ -23,12 +23,12 @@ use Rattle.tlv_walk.proofs.Readings.{reading-unique}
 use Rattle.tlv_show.specs.declared.rules.Rules.{Rules}
 use Rattle.tlv_show.specs.declared.rules.Rules.TheVariants.{Ber, Der, Cer}
 use Rattle.tlv_show.specs.Conditions.{first_length, has_high_form, has_long_form, header_conditions, leading_bits}
-use Rattle.tlv_show.specs.Found.{header_findings, shows}
+use Rattle.tlv_show.specs.Found.{header_findings}
 use Rattle.tlv_show.specs.Items.{Item, OpeningLine, ClosingLine, WholePrimitive, PaddingLine, findings_at, items, on_contents, on_end, on_header}
 use Rattle.tlv_show.specs.DumpText.{end_place}
 use Rattle.tlv_show.specs.Site.{Site, behind, behind_holder, behind_padding, inside_of, is_padding, top}
 use Rattle.tlv_show.specs.Spellings.{OneSpelling, is_on_spelling, tells_of_spelling}
-use Rattle.tlv_show.proofs.HeaderNotes.{filter-held, one_shown, shown}
+use Rattle.tlv_show.proofs.ToldOfHeaders.{any_of, told-with_header}
 
 -- ---- conditions whose findings are not told
 
@@ -36,29 +36,17 @@ told-found : (level at : ℕ) (fs : List Finding) → list_any tells_of_spelling
 told-found level at [] = refl
 told-found level at (f ∷ fs) = ap (λ (b : Bool). is_on_spelling f || b) (told-found level at fs)
 
--- each condition does not hold, where its finding is shown and is one on spelling
-abbrev Absent : Rules → List (Bool × Finding) → Type 0
-Absent rules [] = Unit {0}
-Absent rules (row ∷ rows) = (shows rules row.1 ≡ true → is_on_spelling row.1 ≡ true → row.0 ≡ false) × Absent rules rows
+absent : (rules : Rules) (s : Site) (h : Heading) → list_any tells_of_spelling (on_header rules s h) ≡ false
+    → any_of is_on_spelling rules (header_conditions s h) ≡ false
+absent rules s h e = sym (told-with_header is_on_spelling rules s h) ∙ sym (told-found s.level h.offset (header_findings rules s h)) ∙ e
 
-one-absent : (there shown told : Bool) (f : Finding) → is_on_spelling f ≡ told
-    → list_any is_on_spelling (if shown then (if there then f ∷ [] else []) else []) ≡ false → shown ≡ true → told ≡ true → there ≡ false
-one-absent false shown told f t e s u = refl
-one-absent true true true f t e s u = absurd (cc (t, e))
-one-absent true true false f t e s u = absurd (cc (u))
-one-absent true false told f t e s u = absurd (cc (s))
-
-all-absent : (rules : Rules) (rows : List (Bool × Finding)) → list_any is_on_spelling (shown rules rows) ≡ false → Absent rules rows
-all-absent rules [] e = tt
-all-absent rules (row ∷ rows) e =
-    let both : (list_any is_on_spelling (one_shown rules row) ≡ false) × (list_any is_on_spelling (shown rules rows) ≡ false) =
-    or_parts _ _ (sym (list_any-append is_on_spelling (one_shown rules row) (shown rules rows)) ∙ e) in
-    (one-absent row.0 (shows rules row.1) (is_on_spelling row.1) row.1 refl both.0, all-absent rules rows both.1)
-
-absent : (rules : Rules) (s : Site) (h : Heading) → list_any tells_of_spelling (on_header rules s h) ≡ false → Absent rules (header_conditions s h)
-absent rules s h e =
-    all-absent rules (header_conditions s h)
-    (ap (list_any is_on_spelling) (sym (filter-held rules (header_conditions s h))) ∙ sym (told-found s.level h.offset (header_findings rules s h)) ∙ e)
+-- of four tests none holds
+none-of_four : (a b c d : Bool) → (a || (b || (c || (d || false)))) ≡ false → (a ≡ false) × (b ≡ false) × (c ≡ false) × (d ≡ false)
+none-of_four false false false false e = (refl, refl, refl, refl)
+none-of_four true b c d e = absurd (cc (e))
+none-of_four false true c d e = absurd (cc (e))
+none-of_four false false true d e = absurd (cc (e))
+none-of_four false false false true e = absurd (cc (e))
 
 -- ---- what they say of a header
 
@@ -102,19 +90,13 @@ regular : (rules : Rules) (s : Site) (h : Heading) → rules ≢ Ber → IsHeadi
     → IsRegular (form_by rules) h
 regular Ber s h strict valid e = absurd (strict refl)
 regular Der s h strict valid e =
-    let none : Absent Der (header_conditions s h) = absent Der s h e in
-    let of_lengths = none.1.1.1.1.1.1.1 in
-    record {
-      shortest = shortest h valid (none.0 refl refl) (none.1.0 refl refl) (of_lengths.0 refl refl);
-      by_form = of_lengths.1.0 refl refl;
-    }
+    let none = none-of_four (has_high_form h && nat_lt h.number 31) (has_high_form h && leading_bits h == 0)
+    (has_long_form h && (nat_lt (announced h.size) 128 || first_length h == 0)) (is_indefinite h.size) (absent Der s h e) in
+    record { shortest = shortest h valid none.0 none.1 none.2; by_form = none.3 }
 regular Cer s h strict valid e =
-    let none : Absent Cer (header_conditions s h) = absent Cer s h e in
-    let of_lengths = none.1.1.1.1.1.1.1 in
-    record {
-      shortest = shortest h valid (none.0 refl refl) (none.1.0 refl refl) (of_lengths.0 refl refl);
-      by_form = by-form h.constructed h.size valid.allowed (of_lengths.1.1.1.0 refl refl);
-    }
+    let none = none-of_four (has_high_form h && nat_lt h.number 31) (has_high_form h && leading_bits h == 0)
+    (has_long_form h && (nat_lt (announced h.size) 128 || first_length h == 0)) (h.constructed && not (is_indefinite h.size)) (absent Cer s h e) in
+    record { shortest = shortest h valid none.0 none.1 none.2; by_form = by-form h.constructed h.size valid.allowed none.3 }
 
 -- ---- elements
 
