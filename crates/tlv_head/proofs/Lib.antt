@@ -3,6 +3,7 @@ pub mod LeadingDigits
 pub mod OneValue
 pub mod Shortest
 pub mod ShortestSpelling
+pub mod LengthOctets
 pub mod Steps
 pub mod Unfinished
 pub mod Scan

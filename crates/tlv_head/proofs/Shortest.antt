@@ -130,11 +130,11 @@ shortest_are_one h g u v tag size s t =
 
 -- ---- what makes a header as short as it can be
 
-identifier-some : (class : Class) (constructed : Bool) (n : ℕ) (octets : List ℕ) → IsIdentifier class constructed n octets → 1 ≤ length octets
+pub identifier-some : (class : Class) (constructed : Bool) (n : ℕ) (octets : List ℕ) → IsIdentifier class constructed n octets → 1 ≤ length octets
 identifier-some class constructed n octets (inl f) = omega (arith, ap length f.octet)
 identifier-some class constructed n octets (inr f) = omega (arith, ap length f.octet)
 
-lengths-some : (size : Size) (octets : List ℕ) → IsLength size octets → 1 ≤ length octets
+pub lengths-some : (size : Size) (octets : List ℕ) → IsLength size octets → 1 ≤ length octets
 lengths-some (Definite n) octets (inl f) = omega (arith, ap length f.1)
 lengths-some (Definite n) octets (inr f) = omega (arith, ap length f.octet)
 lengths-some Indefinite octets v = omega (arith, ap length v)

@@ -33,7 +33,7 @@ strip b (suc d ∷ digits) tail each = record { kept = suc d ∷ digits; each = 
 
 -- ---- identifier octets
 
-record ShortIdentifier (class : Class) (constructed : Bool) (n : ℕ) : Type 0 where
+pub record ShortIdentifier (class : Class) (constructed : Bool) (n : ℕ) : Type 0 where
   pub octets : List ℕ
   pub valid : IsIdentifier class constructed n octets
   pub shortest : IsShortestIdentifier n octets
@@ -69,7 +69,7 @@ high-form class constructed n digits last large each below few e =
       };
     }
 
-short-identifier : (class : Class) (constructed : Bool) (n : ℕ) (octets : List ℕ) → IsIdentifier class constructed n octets
+pub short-identifier : (class : Class) (constructed : Bool) (n : ℕ) (octets : List ℕ) → IsIdentifier class constructed n octets
     → leading_octet class constructed n ≢ 0 → ShortIdentifier class constructed n
 short-identifier class constructed n octets (inl f) nonzero = low-form class constructed n f.small nonzero
 short-identifier class constructed n octets (inr f) nonzero = elim (cases_lt n 31) [
@@ -79,12 +79,12 @@ short-identifier class constructed n octets (inr f) nonzero = elim (cases_lt n 3
 
 -- ---- length octets
 
-record ShortLength (size : Size) : Type 0 where
+pub record ShortLength (size : Size) : Type 0 where
   pub octets : List ℕ
   pub valid : IsLength size octets
   pub shortest : IsShortestLength (announced size) octets
 
-one-octet : (n x : ℕ) → IsShortestLength n (x ∷ [])
+pub one-octet : (n x : ℕ) → IsShortestLength n (x ∷ [])
 one-octet n x = record { single = λ s. refl; leading = λ more. absurd (omega (arith, more)) }
 
 first-of_length : (kept : List ℕ) (n : ℕ) → 128 ≤ n → n ≡ value_of 256 (kept ++ []) → (kept ≡ []) ⊎ (slice_index (kept ++ []) 0 ≢ 0)
@@ -113,7 +113,7 @@ long-form n digits large each few limit e =
       shortest = record { single = λ small. absurd (omega (arith, small, large)); leading = λ more z. first.1 z };
     }
 
-short-length : (size : Size) (octets : List ℕ) → IsLength size octets → ShortLength size
+pub short-length : (size : Size) (octets : List ℕ) → IsLength size octets → ShortLength size
 short-length Indefinite octets v = record { octets = 128 ∷ []; valid = refl; shortest = one-octet 0 128 }
 short-length (Definite n) octets (inl f) = record { octets = n ∷ []; valid = inl (f.0, refl); shortest = one-octet n n }
 short-length (Definite n) octets (inr f) = elim (cases_lt n 128) [
