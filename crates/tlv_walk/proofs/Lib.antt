@@ -45,3 +45,4 @@ pub mod Jobs
 pub mod Inputs
 pub mod Lined
 pub mod Alike
+pub mod Respelled
