@@ -27,3 +27,4 @@ pub mod ToldOfHeaders
 pub mod Spellings
 pub mod SpellingRows
 pub mod LongerHeaders
+pub mod SomeSpelling

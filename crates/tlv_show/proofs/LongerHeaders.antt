@@ -38,7 +38,7 @@ on-identifier Der s h = ap (λ (b : Bool). (has_high_form h && nat_lt h.number 3
 on-identifier Cer s h = ap (λ (b : Bool). (has_high_form h && nat_lt h.number 31) || b) (or-false (has_high_form h && leading_bits h == 0))
 
 -- an identifier as short as it can be has none of them
-longer_identifier-absent : (h : Heading) → IsShortestIdentifier h.number h.identifier → longer_identifier h ≡ false
+pub longer_identifier-absent : (h : Heading) → IsShortestIdentifier h.number h.identifier → longer_identifier h ≡ false
 longer_identifier-absent h s = elim (cases_lt 1 (length h.identifier)) [
   | inl more ↦
       let large : 31 ≤ h.number = at-least h.number 31 (λ small. omega (arith, more, s.single small)) in
@@ -75,7 +75,7 @@ on-lengths Ber s h strict = absurd (strict refl)
 on-lengths Der s h strict = or-false (longer_lengths h)
 on-lengths Cer s h strict = or-false (longer_lengths h)
 
-longer_lengths-absent : (h : Heading) → IsShortestLength (announced h.size) h.lengths → longer_lengths h ≡ false
+pub longer_lengths-absent : (h : Heading) → IsShortestLength (announced h.size) h.lengths → longer_lengths h ≡ false
 longer_lengths-absent h s = elim (cases_lt 1 (length h.lengths)) [
   | inl more ↦
       let large : 128 ≤ announced h.size = at-least (announced h.size) 128 (λ small. omega (arith, more, s.single small)) in

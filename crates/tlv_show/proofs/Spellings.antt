@@ -32,7 +32,7 @@ use Rattle.tlv_show.proofs.ToldOfHeaders.{any_of, told-with_header}
 
 -- ---- conditions whose findings are not told
 
-told-found : (level at : ℕ) (fs : List Finding) → list_any tells_of_spelling (findings_at level at fs) ≡ list_any is_on_spelling fs
+pub told-found : (level at : ℕ) (fs : List Finding) → list_any tells_of_spelling (findings_at level at fs) ≡ list_any is_on_spelling fs
 told-found level at [] = refl
 told-found level at (f ∷ fs) = ap (λ (b : Bool). is_on_spelling f || b) (told-found level at fs)
 
@@ -73,7 +73,7 @@ shortest : (h : Heading) → IsHeading h → (has_high_form h && nat_lt h.number
 shortest h valid a b c = record { identifier = identifier-from h valid (high-form h a b); lengths = lengths-from h valid (long-form h c) }
 
 -- whether the length of an element of that form is indefinite: by DER never, by CER where it is constructed
-abbrev form_by : Rules → Bool → Bool
+abbrev pub form_by : Rules → Bool → Bool
 form_by Ber constructed = false
 form_by Der constructed = false
 form_by Cer constructed = constructed
@@ -133,11 +133,11 @@ module _ (rules : Rules) (strict : rules ≢ Ber) where
 -- ---- the law
 
 -- the reading of a sound input, whole
-record IsSoundReading (framing : Framing) (b : List ℕ) (f : Forest) : Type 0 where
+pub record IsSoundReading (framing : Framing) (b : List ℕ) (f : Forest) : Type 0 where
   pub sound : IsSound (place_top framing) f
   pub octets : spell f ≡ b
 
-sound-reading_of : (framing : Framing) (b : List ℕ) (f : Forest) → IsEnding framing b Done → IsReading framing b f → IsSoundReading framing b f
+pub sound-reading_of : (framing : Framing) (b : List ℕ) (f : Forest) → IsEnding framing b Done → IsReading framing b f → IsSoundReading framing b f
 sound-reading_of framing b f ending reading =
     let elements : IsSoundList framing b = done-sound framing b ending in
     let same : elements.forest ≡ f = reading-unique framing b elements.forest f (sound-reading framing b elements) reading in
