@@ -1,16 +1,14 @@
 -- Elements with headers as short as they can be, and lengths of one form, have no findings on their spelling; so each sound
 -- input without wrappers has a spelling without them.
 use Rattle.std.proofs.Common.{◌≡◌, ◌≢◌, ◌&&◌, ◌||◌, not, nat_lt, ◌==◌, ℕ, ◌+◌, Bool, true, false, List, [], ◌∷◌, ◌++◌, length, refl, sym, ap, ◌∙◌, arith}
-use Rattle.std.proofs.lemmas.Bool.{or_from, or_parts}
+use Rattle.std.proofs.lemmas.Bool.{or_from}
 use Rattle.std.proofs.lemmas.List.Folds.{list_any-append}
 use Rattle.std.specs.List.{list_any}
 use Rattle.std.specs.Prelude.{if◌then◌else◌}
-use Rattle.tlv_head.specs.Header.{Heading, announced, octets_of}
-use Rattle.tlv_value.specs.declared.finding.Finding.{Finding}
+use Rattle.tlv_head.specs.Header.{Heading, octets_of}
 use Rattle.tlv_value.specs.Checks.{contents_conditions}
-use Rattle.tlv_walk.specs.declared.framing.Framing.{Framing}
 use Rattle.tlv_walk.specs.Alike.{AreAlike, holders, nothing, padding, primitives}
-use Rattle.tlv_walk.specs.Forest.{Forest, Stop, Fill, Whole, Closed, Partial, Entered, Awaiting, Begun, Zero, extent, has_element, spell}
+use Rattle.tlv_walk.specs.Forest.{Forest, Stop, Fill, Whole, Closed, Partial, Entered, Awaiting, Begun, Zero, extent, has_element}
 use Rattle.tlv_walk.specs.Place.{Place, after, inside_of as place_inside, is_indefinite, top as place_top}
 use Rattle.tlv_walk.specs.Reading.{IsSound, IsSoundList}
 use Rattle.tlv_walk.proofs.Alike.{AreRegular, IsRegular}
@@ -19,13 +17,13 @@ use Rattle.tlv_walk.proofs.Readings.{reading-unique}
 use Rattle.tlv_walk.proofs.Respelled.{Spelling, SpelledAt, respelled}
 use Rattle.tlv_show.specs.declared.rules.Rules.{Rules}
 use Rattle.tlv_show.specs.declared.rules.Rules.TheVariants.{Ber, Der, Cer}
-use Rattle.tlv_show.specs.Conditions.{end_conditions, first_length, has_high_form, has_long_form, header_conditions, leading_bits}
+use Rattle.tlv_show.specs.Conditions.{end_conditions, has_high_form, header_conditions, leading_bits}
 use Rattle.tlv_show.specs.DumpText.{end_place}
 use Rattle.tlv_show.specs.Found.{contents_findings, end_findings, header_findings}
 use Rattle.tlv_show.specs.Items.{Item, OpeningLine, ClosingLine, WholePrimitive, PaddingLine, heads, items, on_contents, on_end, on_header}
 use Rattle.tlv_show.specs.Site.{Site, behind, behind_holder, behind_padding, inside_of, is_padding, top}
-use Rattle.tlv_show.specs.Spellings.{IsWellSpelled, SomeSpelling, is_on_spelling, tells_of_spelling}
-use Rattle.tlv_show.proofs.LongerHeaders.{longer_identifier, longer_identifier-absent, longer_lengths, longer_lengths-absent}
+use Rattle.tlv_show.specs.Spellings.{SomeSpelling, is_on_spelling, tells_of_spelling}
+use Rattle.tlv_show.proofs.LongerHeaders.{longer_identifier-absent, longer_lengths, longer_lengths-absent}
 use Rattle.tlv_show.proofs.Spellings.{IsSoundReading, form_by, sound-reading_of, told-found}
 use Rattle.tlv_show.proofs.ToldOfHeaders.{all-told, any_of, told-with_header}
 

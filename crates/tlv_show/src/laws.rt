@@ -2,7 +2,7 @@
 
 ghost use Rattle.std.specs.Prelude.{IfOk};
 ghost use Rattle.tlv_show.specs.Laws.{BasicFindingsStay, ChecksGoOn, ChecksMakeTexts, DumpsGoOn, DumpsMakeTexts, DumpsOctets, PrimitivesAreShown};
-ghost use Rattle.tlv_show.specs.Spellings.{LongerIdentifiersAreFound, LongerLengthsAreFound, OneSpelling};
+ghost use Rattle.tlv_show.specs.Spellings.{LongerIdentifiersAreFound, LongerLengthsAreFound, OneSpelling, SomeSpelling};
 
 use crate::{Options, Outcome, dump};
 use tlv_value::Names;
@@ -67,6 +67,12 @@ pub fn basic_findings_stay()
 /// C01 in either (X.690 8.1.2.2, 8.1.2.4.2 c), 9.1 and 10.1).
 pub fn one_spelling()
     ensures { OneSpelling }
+{}
+
+/// And they have one: the elements of a sound input agree so with those of one in which none of these is found. So it is for
+/// at most 2^38 octets, where no string is named, and no primitive is the universal 0.
+pub fn some_spelling()
+    ensures { SomeSpelling }
 {}
 
 /// B01 or B02 is found with a header exactly where another header of that class, form, number and size has fewer identifier

@@ -1,11 +1,10 @@
 -- Sound elements without wrappers can be spelled with headers as short as they can be, and lengths of one form.
 use Rattle.std.proofs.Common.{◌≡◌, ◌≢◌, ◌||◌, ℕ, ◌+◌, ◌*◌, ◌^◌, ◌<◌, ◌≤◌, Bool, true, false, List, [], ◌∷◌, ◌++◌, length, refl, sym, ap, ap₂, ◌∙◌, arith, subst, length-append}
-use Rattle.std.proofs.lemmas.Bool.{or_parts}
 use Rattle.tlv_head.specs.declared.header.Class.{Class}
 use Rattle.tlv_head.specs.declared.header.Size.{Size}
 use Rattle.tlv_head.specs.declared.header.Size.TheVariants.{Definite, Indefinite}
 use Rattle.tlv_head.specs.Header.{AllowsSize, Heading, IsHeading, IsIdentifier, announced, is_wrapper, leading_octet, octets_of}
-use Rattle.tlv_head.specs.Shortest.{HaveOneTag, IsShortest}
+use Rattle.tlv_head.specs.Shortest.{IsShortest}
 use Rattle.tlv_head.proofs.LengthOctets.{FewLengths, few-lengths}
 use Rattle.tlv_head.proofs.Shortest.{identifier-le, identifier-some, lengths-some}
 use Rattle.tlv_head.proofs.ShortestSpelling.{ShortIdentifier, ShortLength, short-identifier}
@@ -14,7 +13,7 @@ use Rattle.tlv_walk.specs.Forest.{Forest, Stop, Fill, Whole, Closed, Partial, En
 use Rattle.tlv_walk.specs.Inside.{is_among}
 use Rattle.tlv_walk.specs.Place.{HasLength, IsHeadAt, Place, after, inside_of, is_indefinite}
 use Rattle.tlv_walk.specs.Reading.{IsSound}
-use Rattle.tlv_walk.proofs.Alike.{AreRegular, IsRegular}
+use Rattle.tlv_walk.proofs.Alike.{AreRegular}
 use Rattle.tlv_walk.proofs.Pop.{header-length}
 use Rattle.tlv_walk.proofs.Spellings.{length-closed, length-opening, length-whole}
 
