@@ -39,6 +39,17 @@ few-lengths Indefinite below = record { short = record { octets = 128 ∷ []; va
 few-lengths (Definite n) below =
     let five : HasDigits 5 n = digits-of 5 n (omega (arith, below)) in
     let valid : IsLength (Definite n) ((128 + length five.digits) ∷ five.digits) =
-    inr (record { digits = five.digits; each = five.each; some = omega (arith, five.count); few = omega (arith, five.count); value = sym five.value; limit = below; octet = refl }) in
+    inr (record {
+      digits = five.digits;
+      each = five.each;
+      some = omega (arith, five.count);
+      few = omega (arith, five.count);
+      value = sym five.value;
+      limit = below;
+      octet = refl;
+    }) in
     let short : ShortLength (Definite n) = short-length (Definite n) ((128 + length five.digits) ∷ five.digits) valid in
-    record { short = short; few = omega (arith, five.count, length-le (Definite n) short.octets ((128 + length five.digits) ∷ five.digits) short.valid valid short.shortest) }
+    record {
+      short = short;
+      few = omega (arith, five.count, length-le (Definite n) short.octets ((128 + length five.digits) ∷ five.digits) short.valid valid short.shortest);
+    }

@@ -60,7 +60,8 @@ identifier-shortest h valid e =
 
 pub identifiers-found : LongerIdentifiersAreFound
 identifiers-found rules s h valid nonzero =
-    let same : list_any is_on_identifier (header_findings rules s h) ≡ longer_identifier h = told-with_header is_on_identifier rules s h ∙ on-identifier rules s h in (
+    let same : list_any is_on_identifier (header_findings rules s h) ≡ longer_identifier h =
+    told-with_header is_on_identifier rules s h ∙ on-identifier rules s h in (
       (λ e. shorter-identifier h valid nonzero (λ t. true≢false (sym e ∙ same ∙ longer_identifier-absent h t))),
       (λ r. same ∙ from-absurd (longer_identifier h) (λ e. no-shorter_identifier h valid (identifier-shortest h valid e) r)),
     )
@@ -90,7 +91,8 @@ longer_lengths-absent h s = elim (cases_lt 1 (length h.lengths)) [
 
 pub lengths-found : LongerLengthsAreFound
 lengths-found rules s h strict valid =
-    let same : list_any is_on_lengths (header_findings rules s h) ≡ longer_lengths h = told-with_header is_on_lengths rules s h ∙ on-lengths rules s h strict in (
+    let same : list_any is_on_lengths (header_findings rules s h) ≡ longer_lengths h =
+    told-with_header is_on_lengths rules s h ∙ on-lengths rules s h strict in (
       (λ e. shorter-length h valid (λ t. true≢false (sym e ∙ same ∙ longer_lengths-absent h t))),
       (λ r. same ∙ from-absurd (longer_lengths h) (λ e. no-shorter_length h valid (lengths-from h valid (long-form h e)) r)),
     )

@@ -41,14 +41,16 @@ constructed-absent true true e = refl
 constructed-absent true false e = absurd (cc (e))
 constructed-absent false indefinite e = refl
 
-header-absent : (rules : Rules) (s : Site) (h : Heading) → rules ≢ Ber → IsRegular (form_by rules) h → any_of is_on_spelling rules (header_conditions s h) ≡ false
+header-absent : (rules : Rules) (s : Site) (h : Heading) → rules ≢ Ber → IsRegular (form_by rules) h
+    → any_of is_on_spelling rules (header_conditions s h) ≡ false
 header-absent Ber s h strict r = absurd (strict refl)
 header-absent Der s h strict r =
     four-absent (has_high_form h && nat_lt h.number 31) (has_high_form h && leading_bits h == 0) (longer_lengths h) (is_indefinite h.size)
     (longer_identifier-absent h r.shortest.identifier) (longer_lengths-absent h r.shortest.lengths) r.by_form
 header-absent Cer s h strict r =
-    four-absent (has_high_form h && nat_lt h.number 31) (has_high_form h && leading_bits h == 0) (longer_lengths h) (h.constructed && not (is_indefinite h.size))
-    (longer_identifier-absent h r.shortest.identifier) (longer_lengths-absent h r.shortest.lengths) (constructed-absent h.constructed (is_indefinite h.size) r.by_form)
+    four-absent (has_high_form h && nat_lt h.number 31) (has_high_form h && leading_bits h == 0) (longer_lengths h)
+    (h.constructed && not (is_indefinite h.size)) (longer_identifier-absent h r.shortest.identifier) (longer_lengths-absent h r.shortest.lengths)
+    (constructed-absent h.constructed (is_indefinite h.size) r.by_form)
 
 contents-absent : (rules : Rules) (h : Heading) (c : List ℕ) → any_of is_on_spelling rules (contents_conditions h c) ≡ false
 contents-absent Ber h c = refl
@@ -74,11 +76,14 @@ module _ (rules : Rules) (strict : rules ≢ Ber) where
   header-none s h r = told-found s.level h.offset (header_findings rules s h) ∙ told-with_header is_on_spelling rules s h ∙ header-absent rules s h strict r
 
   contents-none : (s : Site) (h : Heading) (c : List ℕ) → list_any tells_of_spelling (on_contents rules s h c) ≡ false
-  contents-none s h c = told-found s.level h.offset (contents_findings rules h c) ∙ all-told is_on_spelling rules (contents_conditions h c) ∙ contents-absent rules h c
+  contents-none s h c =
+      told-found s.level h.offset (contents_findings rules h c) ∙ all-told is_on_spelling rules (contents_conditions h c)
+      ∙ contents-absent rules h c
 
   end-none : (s : Site) (h : Heading) (inside : Forest) → list_any tells_of_spelling (on_end rules s h inside) ≡ false
   end-none s h inside =
-      told-found s.level h.offset (end_findings rules h (heads inside)) ∙ all-told is_on_spelling rules (end_conditions h (heads inside)) ∙ end-absent rules h (heads inside)
+      told-found s.level h.offset (end_findings rules h (heads inside)) ∙ all-told is_on_spelling rules (end_conditions h (heads inside))
+      ∙ end-absent rules h (heads inside)
 
   none-told : (p : Place) (s : Site) (f : Forest) → IsSound p f → AreRegular (form_by rules) f → list_any tells_of_spelling (items rules s f) ≡ false
   none-told p s Stop u r = refl

@@ -44,13 +44,13 @@ pub record IsWellSpelled (rules : Rules) (framing : Framing) (b : List ℕ) (f :
   pub reading : IsReading framing b f
   pub none : is_misspelled rules f ≡ false
 
--- two such inputs of elements alike are one, by DER and by CER, each read with the strings that are named in it
+-- by DER and by CER, two such inputs of elements alike are one, each read with the strings that are named in it
 abbrev pub OneSpelling : Type 0
 OneSpelling = (rules : Rules) (framing other : Framing) (b c : List ℕ) (f g : Forest) → rules ≢ Ber
     → IsWellSpelled rules framing b f → IsWellSpelled rules other c g → AreAlike f g → b ≡ c
 
--- the elements of a sound input have such a spelling, where no string is named, none is the universal primitive 0, and the input
--- has at most 2^38 octets, so that lengths stay below 2^40
+-- by DER and by CER, the elements of a sound input have such a spelling, where no string is named, none is the universal
+-- primitive 0, and the input has at most 2^38 octets, so that lengths stay below 2^40
 abbrev pub SomeSpelling : Type 0
 SomeSpelling = (rules : Rules) (framing : Framing) (b : List ℕ) (f : Forest) → rules ≢ Ber → framing.inside ≡ [] → length b ≤ 2 ^ 38
     → IsEnding framing b Done → IsReading framing b f → HaveLowForms f

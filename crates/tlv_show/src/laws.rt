@@ -63,14 +63,15 @@ pub fn basic_findings_stay()
 {}
 
 /// Encodings by DER, and by CER, have one spelling. Two sound inputs are the same octets where their elements agree, one by
-/// one, in class, form, number, and contents, and where a check under DER, or under CER, finds none of B01, B02, S01, D01 and
-/// C01 in either (X.690 8.1.2.2, 8.1.2.4.2 c), 9.1 and 10.1).
+/// one, in class, form, number and contents, with as much padding between them, and where a check under DER, or under CER,
+/// finds none of B01, B02, S01, D01 and C01 in either (X.690 8.1.2.2, 8.1.2.4.2 c), 9.1 and 10.1).
 pub fn one_spelling()
     ensures { OneSpelling }
 {}
 
-/// And they have one: the elements of a sound input agree so with those of one in which none of these is found. So it is for
-/// at most 2^38 octets, where no string is named, and no primitive is the universal 0.
+/// Elements can be spelled by DER, and by CER: with those of each sound input agree, in the same way, those of one in which
+/// none of the five is found. This is said of inputs of at most 2^38 octets, where no string is named and no primitive is the
+/// universal 0.
 pub fn some_spelling()
     ensures { SomeSpelling }
 {}

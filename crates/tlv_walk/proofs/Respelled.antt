@@ -49,7 +49,8 @@ few-octets : (size : Size) (l : ShortLength size) → length l.octets ≤ 6 → 
 few-octets (Definite n) l few = omega (arith, few)
 few-octets Indefinite l few = omega (arith, ap length l.valid)
 
-octets-for : (h : Heading) (constructed : Bool) (size : Size) → IsIdentifier h.class constructed h.number h.identifier → leading_octet h.class constructed h.number ≢ 0
+octets-for : (h : Heading) (constructed : Bool) (size : Size) → IsIdentifier h.class constructed h.number h.identifier
+    → leading_octet h.class constructed h.number ≢ 0
     → AllowsSize constructed size → announced size < 2 ^ 40 → Octets h constructed size
 octets-for h constructed size valid nonzero allowed below =
     let i : ShortIdentifier h.class constructed h.number = short-identifier h.class constructed h.number h.identifier valid nonzero in
@@ -247,7 +248,8 @@ module _ (form : Bool → Bool) (definite : form false ≡ false) where
       let below : length held.octets < 2 ^ 40 = omega (arith, held.short, count, begins, some, few) in
       let size : Size = size-for (form true) (length held.octets) in
       let o : Octets h true size =
-      octets-for h true size (moved h.class h.constructed true h.number h.identifier constructed u.0.valid.identifier) (constructed-nonzero h.class h.number) (allows-any size)
+      octets-for h true size (moved h.class h.constructed true h.number h.identifier constructed u.0.valid.identifier)
+      (constructed-nonzero h.class h.number) (allows-any size)
       (size-below (form true) (length held.octets) below) in
       spelling-closed p h inside rest constructed u.0.valid u.2 held o (respelled (after p (extent h inside)) rest none (omega (arith, count, few)) u.4 low.1)
   respelled p (Partial h c) none few u low = absurd u
