@@ -14,3 +14,4 @@ pub mod Exact
 pub mod Front
 pub mod OneReading
 pub mod Rows
+pub mod ShortestRows
