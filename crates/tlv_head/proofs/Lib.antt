@@ -1,4 +1,9 @@
 pub mod Digits
+pub mod LeadingDigits
+pub mod OneValue
+pub mod Shortest
+pub mod ShortestSpelling
+pub mod LengthOctets
 pub mod Steps
 pub mod Unfinished
 pub mod Scan
@@ -9,3 +14,4 @@ pub mod Exact
 pub mod Front
 pub mod OneReading
 pub mod Rows
+pub mod ShortestRows

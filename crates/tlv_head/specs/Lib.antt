@@ -9,3 +9,4 @@ pub mod Push
 pub mod Part
 pub mod Read
 pub mod Laws
+pub mod Shortest

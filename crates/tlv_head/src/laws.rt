@@ -1,5 +1,6 @@
 //! Laws of the definitions: each is the contract of a function that does nothing.
 ghost use Rattle.tlv_head.specs.Laws.{HeadersAreNoFronts, HeadersHaveOneReading, OctetsBeginOneHeader, OctetsGoOnOrAreRefused, PushesHaveOneAnswer, RefusalsAreFinal, RefusedInputsBeginWithNone};
+ghost use Rattle.tlv_head.specs.Shortest.{HeadersHaveAShortest, ShortestHeadersAreOne, ShortestHeadersAreShortest};
 
 /// Octets begin with one header at most: two headers that stand at one offset and are both fronts of
 /// one input are the same, and the same octets follow them.
@@ -36,4 +37,21 @@ pub fn one_answer()
 /// What [`read_header`](crate::read_header) promises leaves it one header and one number of octets.
 pub fn one_reading()
     ensures { HeadersHaveOneReading }
+{}
+
+/// Two headers of one class, form, number and size have the same octets where both are as short as X.690 8.1.2 and 10.1
+/// say: a number below 31, and a length below 128, in one octet, and else no digits 0 in front.
+pub fn one_shortest_header()
+    ensures { ShortestHeadersAreOne }
+{}
+
+/// No other header of that class, form, number and size has fewer identifier octets than such a one, or fewer length octets.
+pub fn no_shorter_header()
+    ensures { ShortestHeadersAreShortest }
+{}
+
+/// Each header can be spelled as short as that, but the one of the universal primitive 0, whose identifier octet would be the
+/// `00` of end-of-contents octets (8.1.5).
+pub fn some_shortest_header()
+    ensures { HeadersHaveAShortest }
 {}

@@ -23,3 +23,8 @@ pub mod StrictRows
 pub mod CanonicalRows
 pub mod WholeRows
 pub mod Memory
+pub mod ToldOfHeaders
+pub mod Spellings
+pub mod SpellingRows
+pub mod LongerHeaders
+pub mod SomeSpelling

@@ -13,3 +13,4 @@ pub mod DumpStep
 pub mod Shows
 pub mod Laws
 pub mod Checks
+pub mod Spellings

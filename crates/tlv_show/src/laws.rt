@@ -2,6 +2,7 @@
 
 ghost use Rattle.std.specs.Prelude.{IfOk};
 ghost use Rattle.tlv_show.specs.Laws.{BasicFindingsStay, ChecksGoOn, ChecksMakeTexts, DumpsGoOn, DumpsMakeTexts, DumpsOctets, PrimitivesAreShown};
+ghost use Rattle.tlv_show.specs.Spellings.{LongerIdentifiersAreFound, LongerLengthsAreFound, OneSpelling, SomeSpelling};
 
 use crate::{Options, Outcome, dump};
 use tlv_value::Names;
@@ -59,4 +60,30 @@ pub fn primitives_are_shown()
 /// What a check lists under BER is among what it lists under DER and under CER, in the same order.
 pub fn basic_findings_stay()
     ensures { BasicFindingsStay }
+{}
+
+/// Encodings by DER, and by CER, have one spelling. Two sound inputs are the same octets where their elements agree, one by
+/// one, in class, form, number and contents, with as much padding between them, and where a check under DER, or under CER,
+/// finds none of B01, B02, S01, D01 and C01 in either (X.690 8.1.2.2, 8.1.2.4.2 c), 9.1 and 10.1).
+pub fn one_spelling()
+    ensures { OneSpelling }
+{}
+
+/// Elements can be spelled by DER, and by CER: with those of each sound input agree, in the same way, those of one in which
+/// none of the five is found. This is said of inputs of at most 2^38 octets, where no string is named and no primitive is the
+/// universal 0.
+pub fn some_spelling()
+    ensures { SomeSpelling }
+{}
+
+/// B01 or B02 is found with a header exactly where another header of that class, form, number and size has fewer identifier
+/// octets. Of the universal primitive 0 nothing is said: its low form would be the `00` of end-of-contents octets (8.1.5).
+pub fn longer_identifiers_are_found()
+    ensures { LongerIdentifiersAreFound }
+{}
+
+/// Under DER and under CER, S01 is found with a header exactly where another header of that class, form, number and size has
+/// fewer length octets.
+pub fn longer_lengths_are_found()
+    ensures { LongerLengthsAreFound }
 {}

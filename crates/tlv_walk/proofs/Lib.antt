@@ -44,3 +44,5 @@ pub mod Drives
 pub mod Jobs
 pub mod Inputs
 pub mod Lined
+pub mod Alike
+pub mod Respelled

@@ -24,3 +24,4 @@ pub mod Turns
 pub mod Job
 pub mod Drives
 pub mod Lined
+pub mod Alike

@@ -1,0 +1,5 @@
+use Rattle.tlv_head.proofs.Shortest.{shortest_are_one}
+use Rattle.tlv_head.proofs.laws.one_shortest_header.Goals as goal
+
+pub returns : goal.returns
+returns c = shortest_are_one

@@ -1,0 +1,5 @@
+use Rattle.tlv_head.proofs.ShortestSpelling.{shortest-there}
+use Rattle.tlv_head.proofs.laws.some_shortest_header.Goals as goal
+
+pub returns : goal.returns
+returns c = shortest-there

@@ -1,0 +1,146 @@
+-- Elements with headers as short as they can be, and lengths of one form, have no findings on their spelling; so each sound
+-- input without wrappers has a spelling without them.
+use Rattle.std.proofs.Common.{◌≡◌, ◌≢◌, ◌&&◌, ◌||◌, not, nat_lt, ◌==◌, ℕ, ◌+◌, Bool, true, false, List, [], ◌∷◌, ◌++◌, length, refl, sym, ap, ◌∙◌, arith}
+use Rattle.std.proofs.lemmas.Bool.{or_from}
+use Rattle.std.proofs.lemmas.List.Folds.{list_any-append}
+use Rattle.std.specs.List.{list_any}
+use Rattle.std.specs.Prelude.{if◌then◌else◌}
+use Rattle.tlv_head.specs.Header.{Heading, octets_of}
+use Rattle.tlv_value.specs.Checks.{contents_conditions}
+use Rattle.tlv_walk.specs.Alike.{AreAlike, holders, nothing, padding, primitives}
+use Rattle.tlv_walk.specs.Forest.{Forest, Stop, Fill, Whole, Closed, Partial, Entered, Awaiting, Begun, Zero, extent, has_element}
+use Rattle.tlv_walk.specs.Place.{Place, after, inside_of as place_inside, is_indefinite, top as place_top}
+use Rattle.tlv_walk.specs.Reading.{IsSound, IsSoundList}
+use Rattle.tlv_walk.proofs.Alike.{AreRegular, IsRegular}
+use Rattle.tlv_walk.proofs.Endings.{done-sound, sound-done, sound-reading}
+use Rattle.tlv_walk.proofs.Readings.{reading-unique}
+use Rattle.tlv_walk.proofs.Respelled.{Spelling, SpelledAt, respelled}
+use Rattle.tlv_show.specs.declared.rules.Rules.{Rules}
+use Rattle.tlv_show.specs.declared.rules.Rules.TheVariants.{Ber, Der, Cer}
+use Rattle.tlv_show.specs.Conditions.{end_conditions, has_high_form, header_conditions, leading_bits}
+use Rattle.tlv_show.specs.DumpText.{end_place}
+use Rattle.tlv_show.specs.Found.{contents_findings, end_findings, header_findings}
+use Rattle.tlv_show.specs.Items.{Item, OpeningLine, ClosingLine, WholePrimitive, PaddingLine, heads, items, on_contents, on_end, on_header}
+use Rattle.tlv_show.specs.Site.{Site, behind, behind_holder, behind_padding, inside_of, is_padding, top}
+use Rattle.tlv_show.specs.Spellings.{SomeSpelling, is_on_spelling, tells_of_spelling}
+use Rattle.tlv_show.proofs.LongerHeaders.{longer_identifier-absent, longer_lengths, longer_lengths-absent}
+use Rattle.tlv_show.proofs.Spellings.{IsSoundReading, form_by, sound-reading_of, told-found}
+use Rattle.tlv_show.proofs.ToldOfHeaders.{all-told, any_of, told-with_header}
+
+-- ---- what is not told
+
+four-absent : (a b c d : Bool) → (a || b) ≡ false → c ≡ false → d ≡ false → (a || (b || (c || (d || false)))) ≡ false
+four-absent false false false false e f g = refl
+four-absent true b c d e f g = absurd (cc (e))
+four-absent false true c d e f g = absurd (cc (e))
+four-absent false false true d e f g = absurd (cc (f))
+four-absent false false false true e f g = absurd (cc (g))
+
+constructed-absent : (constructed indefinite : Bool) → indefinite ≡ constructed → (constructed && not indefinite) ≡ false
+constructed-absent true true e = refl
+constructed-absent true false e = absurd (cc (e))
+constructed-absent false indefinite e = refl
+
+header-absent : (rules : Rules) (s : Site) (h : Heading) → rules ≢ Ber → IsRegular (form_by rules) h
+    → any_of is_on_spelling rules (header_conditions s h) ≡ false
+header-absent Ber s h strict r = absurd (strict refl)
+header-absent Der s h strict r =
+    four-absent (has_high_form h && nat_lt h.number 31) (has_high_form h && leading_bits h == 0) (longer_lengths h) (is_indefinite h.size)
+    (longer_identifier-absent h r.shortest.identifier) (longer_lengths-absent h r.shortest.lengths) r.by_form
+header-absent Cer s h strict r =
+    four-absent (has_high_form h && nat_lt h.number 31) (has_high_form h && leading_bits h == 0) (longer_lengths h)
+    (h.constructed && not (is_indefinite h.size)) (longer_identifier-absent h r.shortest.identifier) (longer_lengths-absent h r.shortest.lengths)
+    (constructed-absent h.constructed (is_indefinite h.size) r.by_form)
+
+contents-absent : (rules : Rules) (h : Heading) (c : List ℕ) → any_of is_on_spelling rules (contents_conditions h c) ≡ false
+contents-absent Ber h c = refl
+contents-absent Der h c = refl
+contents-absent Cer h c = refl
+
+end-absent : (rules : Rules) (h : Heading) (inside : List Heading) → any_of is_on_spelling rules (end_conditions h inside) ≡ false
+end-absent Ber h inside = refl
+end-absent Der h inside = refl
+end-absent Cer h inside = refl
+
+-- ---- items
+
+both-none : (xs ys : List Item) → list_any tells_of_spelling xs ≡ false → list_any tells_of_spelling ys ≡ false → list_any tells_of_spelling (xs ++ ys) ≡ false
+both-none xs ys e f = list_any-append tells_of_spelling xs ys ∙ or_from _ _ e f
+
+padding-none : (k : Bool) (level at : ℕ) → list_any tells_of_spelling (if k then [] else PaddingLine level at ∷ []) ≡ false
+padding-none true level at = refl
+padding-none false level at = refl
+
+module _ (rules : Rules) (strict : rules ≢ Ber) where
+  header-none : (s : Site) (h : Heading) → IsRegular (form_by rules) h → list_any tells_of_spelling (on_header rules s h) ≡ false
+  header-none s h r = told-found s.level h.offset (header_findings rules s h) ∙ told-with_header is_on_spelling rules s h ∙ header-absent rules s h strict r
+
+  contents-none : (s : Site) (h : Heading) (c : List ℕ) → list_any tells_of_spelling (on_contents rules s h c) ≡ false
+  contents-none s h c =
+      told-found s.level h.offset (contents_findings rules h c) ∙ all-told is_on_spelling rules (contents_conditions h c)
+      ∙ contents-absent rules h c
+
+  end-none : (s : Site) (h : Heading) (inside : Forest) → list_any tells_of_spelling (on_end rules s h inside) ≡ false
+  end-none s h inside =
+      told-found s.level h.offset (end_findings rules h (heads inside)) ∙ all-told is_on_spelling rules (end_conditions h (heads inside))
+      ∙ end-absent rules h (heads inside)
+
+  none-told : (p : Place) (s : Site) (f : Forest) → IsSound p f → AreRegular (form_by rules) f → list_any tells_of_spelling (items rules s f) ≡ false
+  none-told p s Stop u r = refl
+  none-told p s (Fill rest) u r =
+      both-none (if is_padding s.before then [] else PaddingLine s.level s.at ∷ []) (items rules (behind_padding s) rest)
+      (padding-none (is_padding s.before) s.level s.at) (none-told (after p 1) (behind_padding s) rest u.1 r)
+  none-told p s (Whole h c rest) u r =
+      both-none (on_header rules s h) (WholePrimitive s.level h c ∷ (on_contents rules s h c ++ items rules (behind s h c) rest)) (header-none s h r.0)
+      (both-none (on_contents rules s h c) (items rules (behind s h c) rest) (contents-none s h c)
+      (none-told (after p (length (octets_of h) + length c)) (behind s h c) rest u.2 r.1))
+  none-told p s (Closed h inside rest) u r =
+      let last : List Item = on_end rules s h inside ++ items rules (behind_holder s h inside) rest in
+      let held : List Item = items rules (inside_of s h) inside in
+      both-none (on_header rules s h) (OpeningLine s.level h ∷ (held ++ ClosingLine s.level (end_place h inside) ∷ last)) (header-none s h r.0)
+      (both-none held (ClosingLine s.level (end_place h inside) ∷ last) (none-told (place_inside p h) (inside_of s h) inside u.3 r.1)
+      (both-none (on_end rules s h inside) (items rules (behind_holder s h inside) rest) (end-none s h inside)
+      (none-told (after p (extent h inside)) (behind_holder s h inside) rest u.4 r.2)))
+  none-told p s (Partial h c) u r = absurd u
+  none-told p s (Entered h inside) u r = absurd u
+  none-told p s (Awaiting h) u r = absurd u
+  none-told p s (Begun octets) u r = absurd u
+  none-told p s Zero u r = absurd u
+
+-- ---- the law
+
+alike-element : (f g : Forest) → AreAlike f g → has_element f ≡ has_element g
+alike-element f g nothing = refl
+alike-element f g (padding a b rest) = alike-element a b rest
+alike-element f g (primitives h k c a b tag rest) = refl
+alike-element f g (holders h k inside within a b tag held rest) = refl
+
+by-definite : (rules : Rules) → form_by rules false ≡ false
+by-definite Ber = refl
+by-definite Der = refl
+by-definite Cer = refl
+
+pub some-spelling : SomeSpelling
+some-spelling rules framing b f strict unnamed few ending reading low =
+    let it : IsSoundReading framing b f = sound-reading_of framing b f ending reading in
+    let elements : IsSoundList framing b = done-sound framing b ending in
+    let same : elements.forest ≡ f = reading-unique framing b elements.forest f (sound-reading framing b elements) reading in
+    let spelling : Spelling (form_by rules) (place_top framing) f =
+    respelled (form_by rules) (by-definite rules) (place_top framing) f unnamed (omega (arith, few, ap length it.octets)) it.sound low in
+    let at_top : SpelledAt (form_by rules) (place_top framing) f spelling.octets =
+    spelling.there (place_top framing) (record { inside = unnamed; padding = refl; depth = refl }) in
+    let list : IsSoundList framing spelling.octets = record {
+      forest = at_top.forest;
+      sound = at_top.sound;
+      some = sym (alike-element f at_top.forest at_top.alike) ∙ ap has_element (sym same) ∙ elements.some;
+      octets = at_top.spelled;
+    } in (
+      spelling.octets,
+      at_top.forest,
+      record {
+        ending = sound-done framing spelling.octets list;
+        reading = sound-reading framing spelling.octets list;
+        none = none-told rules strict (place_top framing) top at_top.forest at_top.sound at_top.regular;
+      },
+      at_top.alike,
+    )

@@ -1,0 +1,5 @@
+use Rattle.tlv_show.proofs.SomeSpelling.{some-spelling}
+use Rattle.tlv_show.proofs.laws.some_spelling.Goals as goal
+
+pub returns : goal.returns
+returns c = some-spelling
