@@ -12,10 +12,9 @@ use Rattle.tlv_walk.specs.Forest.{Forest}
 use Rattle.tlv_walk.specs.Job.{Runs}
 use Rattle.tlv_walk.specs.Reading.{IsReading}
 use Rattle.tlv_walk.proofs.Jobs as jobs
-use Rattle.tlv_cut.specs.Indef.{respelled}
 use Rattle.tlv_cut.specs.IndefNext.{indef_next}
 use Rattle.tlv_cut.specs.IndefRuns.{respelling}
-use Rattle.tlv_cut.proofs.IndefFolds.{folds, follows}
+use Rattle.tlv_cut.proofs.IndefFolds.{folds, follows, respelled}
 
 module _ {S : Type 0} (framing : Framing) (s t : S) (old new : Supply) (from to : Taken) where
   -- what is put of a reading is the elements respelled
