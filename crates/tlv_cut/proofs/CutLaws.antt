@@ -9,9 +9,9 @@ use Rattle.tlv_walk.proofs.Followed.{each_octet-goes_on}
 use Rattle.tlv_walk.proofs.Spellings.{append_assoc-3}
 use Rattle.tlv_cut.specs.declared.extractor.Stand.{Stand}
 use Rattle.tlv_cut.specs.declared.extractor.Stand.TheVariants as stand
-use Rattle.tlv_cut.specs.Cut.{cut}
+use Rattle.tlv_cut.specs.Cut.{cut, unless}
 use Rattle.tlv_cut.specs.CutLaws.{CutsStandInTheInput, EnoughComesAtEnds, ExtractsMakeCuts}
-use Rattle.tlv_cut.specs.Extracted.{Extracting, around, begun, moves, one_passed}
+use Rattle.tlv_cut.specs.Extracted.{Extracting, begun, moves, one_passed}
 use Rattle.tlv_cut.proofs.Cuts.{told}
 use Rattle.tlv_cut.proofs.CutsInPlace.{find}
 
@@ -42,7 +42,7 @@ on_is_not e = absurd (cc (e))
 begun_on : (w : Stand) (s : Extracting) (h : Heading) → (begun w s h).goes ≡ go.On
 begun_on stand.Before s h = by (h.offset == s.offset)
   where
-    by : (k : Bool) → (if k then moves s (stand.Inside 0) (around s (octets_of h)) go.On else stay s).goes ≡ go.On
+    by : (k : Bool) → (if k then moves s (stand.Inside 0) (unless s.contents_only (octets_of h)) go.On else stay s).goes ≡ go.On
     by true = refl
     by false = refl
 begun_on (stand.Inside level) s h = refl

@@ -9,10 +9,10 @@ use Rattle.tlv_walk.specs.Forest.{Forest, Stop, Fill, Whole, Closed, Partial, En
 use Rattle.tlv_walk.specs.Place.{IsOpen, Place, after, inside_of}
 use Rattle.tlv_walk.proofs.Followed.{followed-enough, followed-one}
 use Rattle.tlv_cut.specs.declared.extractor.Stand.TheVariants as stand
-use Rattle.tlv_cut.specs.Cut.{cut_of, element_at, first_of, kept}
-use Rattle.tlv_cut.specs.Extracted.{Extracting, around, begun, extracted, has_begun, waiting}
+use Rattle.tlv_cut.specs.Cut.{cut_of, element_at, first_of, unless}
+use Rattle.tlv_cut.specs.Extracted.{Extracting, begun, extracted, has_begun, waiting}
 use Rattle.tlv_cut.proofs.Extracted.{puts}
-use Rattle.tlv_cut.proofs.Kept.{IsKept, all_kept, begins_told, closed_again, closes_told, held, opens_told, then_more, within}
+use Rattle.tlv_cut.proofs.Kept.{IsKept, all_kept, begins_told, closed_again, closes_told, held, kept, opens_told, then_more, within}
 
 module _ (n : ℕ) (only : Bool) where
   -- an `Extract` that has found nothing, and one that has written all
@@ -34,17 +34,10 @@ module _ (n : ℕ) (only : Bool) where
     pub found : has_begun t.state.stand ≡ has_element e
     pub misses : has_element e ≡ false → t ≡ stay before
 
-  nothing : [] ≡ cut_of only Stop
-  nothing = by only
-    where
-      by : (k : Bool) → [] ≡ cut_of k Stop
-      by true = refl
-      by false = refl
-
   -- there is none
   missed : (t : Following Extracting) → t ≡ stay before → IsCut Stop t
   missed t e = record {
-    put = ap (λ (t : Following Extracting). t.put) e ∙ nothing;
+    put = ap (λ (t : Following Extracting). t.put) e;
     goes = ap (λ (t : Following Extracting). t.goes) e;
     found = ap (λ (t : Following Extracting). has_begun t.state.stand) e;
     misses = λ _. e;
@@ -75,69 +68,51 @@ module _ (n : ℕ) (only : Bool) where
 
   -- ---- where an element begins
 
-  it_begins : (h : Heading) → (h.offset == n) ≡ true → begun stand.Before before h ≡ puts (held n only 0) (around before (octets_of h))
-  it_begins h e = ap (λ (k : Bool). if k then puts (held n only 0) (around before (octets_of h)) else stay before) e
+  it_begins : (h : Heading) → (h.offset == n) ≡ true → begun stand.Before before h ≡ puts (held n only 0) (unless only (octets_of h))
+  it_begins h e = ap (λ (k : Bool). if k then puts (held n only 0) (unless only (octets_of h)) else stay before) e
 
   another_begins : (h : Heading) → (h.offset == n) ≡ false → begun stand.Before before h ≡ stay before
-  another_begins h e = ap (λ (k : Bool). if k then puts (held n only 0) (around before (octets_of h)) else stay before) e
+  another_begins h e = ap (λ (k : Bool). if k then puts (held n only 0) (unless only (octets_of h)) else stay before) e
 
-  -- the octets around contents, where these stand between them
-  around_both : (o c e : List ℕ) → (around before o ++ c) ++ around before e ≡ (if only then c else (o ++ c) ++ e)
-  around_both o c e = by only
+  -- of no octets nothing is left out
+  unless_none : unless only [] ≡ []
+  unless_none = by only
     where
-      by : (k : Bool) → ((if k then [] else o) ++ c) ++ (if k then [] else e) ≡ (if k then c else (o ++ c) ++ e)
-      by true = append-nil c
+      by : (k : Bool) → unless k [] ≡ []
+      by true = refl
       by false = refl
 
   -- the element wanted, from its header to its end
   whole_told : (h : Heading) (c : List ℕ) → (h.offset == n) ≡ true
-      → followed extracted before (Begin h ∷ Bytes c ∷ End ∷ []) ≡ finishes ((around before (octets_of h) ++ c) ++ around before [])
+      → followed extracted before (Begin h ∷ Bytes c ∷ End ∷ []) ≡ finishes ((unless only (octets_of h) ++ c) ++ unless only [])
   whole_told h c e =
-      then_more before (held n only 0) (around before (octets_of h) ++ c) (Begin h ∷ Bytes c ∷ []) (End ∷ [])
-      (begins_told before (held n only 0) (around before (octets_of h)) h c (it_begins h e))
+      then_more before (held n only 0) (unless only (octets_of h) ++ c) (Begin h ∷ Bytes c ∷ []) (End ∷ [])
+      (begins_told before (held n only 0) (unless only (octets_of h)) h c (it_begins h e))
 
-  opens_it : (h : Heading) → (h.offset == n) ≡ true → followed extracted before (opens h) ≡ puts (held n only 0) (around before (octets_of h) ++ lead h)
-  opens_it h e = opens_told before (held n only 0) (around before (octets_of h)) h (it_begins h e)
+  opens_it : (h : Heading) → (h.offset == n) ≡ true → followed extracted before (opens h) ≡ puts (held n only 0) (unless only (octets_of h) ++ lead h)
+  opens_it h e = opens_told before (held n only 0) (unless only (octets_of h)) h (it_begins h e)
 
   opens_another : (h : Heading) (es : List Told) → (h.offset == n) ≡ false → followed extracted before (opens h ++ es) ≡ followed extracted before es
   opens_another h es e = then_more before before [] (opens h) es (opens_told before before [] h (another_begins h e))
 
   closed_told : (h : Heading) (inside : Forest) → (h.offset == n) ≡ true → AllowsSize h.constructed h.size → is_whole inside ≡ true → IsKept n only 0 inside
-      → followed extracted before (opens h ++ (events inside ++ closes h inside ∷ [])) ≡ finishes ((around before (octets_of h) ++ lead h) ++ (kept inside ++ around before (end_octets h.size)))
+      → followed extracted before (opens h ++ (events inside ++ closes h inside ∷ [])) ≡ finishes ((unless only (octets_of h) ++ lead h) ++ (kept inside ++ unless only (end_octets h.size)))
   closed_told h inside e allowed whole k =
-      then_more before (held n only 0) (around before (octets_of h) ++ lead h) (opens h) (events inside ++ closes h inside ∷ []) (opens_it h e)
-      ∙ ap (λ (t : Following Extracting). record t { put = (around before (octets_of h) ++ lead h) ++ t.put })
+      then_more before (held n only 0) (unless only (octets_of h) ++ lead h) (opens h) (events inside ++ closes h inside ∷ []) (opens_it h e)
+      ∙ ap (λ (t : Following Extracting). record t { put = (unless only (octets_of h) ++ lead h) ++ t.put })
       (then_more (held n only 0) (held n only 0) (kept inside) (events inside) (closes h inside ∷ []) (all_kept n only 0 inside whole k)
       ∙ ap (λ (t : Following Extracting). record t { put = kept inside ++ t.put }) (closes_told (held n only 0) h inside allowed))
 
   -- ---- what is put
 
-  whole_octets : (h : Heading) (c : List ℕ) → (around before (octets_of h) ++ c) ++ around before [] ≡ cut_of only (Whole h c Stop)
-  whole_octets h c = around_both (octets_of h) c [] ∙ ap (λ (l : List ℕ). if only then c else l) (append_assoc (octets_of h) c [])
+  whole_octets : (h : Heading) (c : List ℕ) → (unless only (octets_of h) ++ c) ++ unless only [] ≡ cut_of only (Whole h c Stop)
+  whole_octets h c =
+      append_assoc (unless only (octets_of h)) c (unless only []) ∙ ap (λ (l : List ℕ). unless only (octets_of h) ++ (c ++ l)) unless_none
 
-  closed_octets : (h : Heading) (inside : Forest) → (around before (octets_of h) ++ lead h) ++ (kept inside ++ around before (end_octets h.size)) ≡ cut_of only (Closed h inside Stop)
+  closed_octets : (h : Heading) (inside : Forest)
+      → (unless only (octets_of h) ++ lead h) ++ (kept inside ++ unless only (end_octets h.size)) ≡ cut_of only (Closed h inside Stop)
   closed_octets h inside =
-      let o = octets_of h in
-      let k = kept inside in
-      let e = end_octets h.size in
-      sym (append_assoc (around before o ++ lead h) k (around before e))
-      ∙ ap (λ (l : List ℕ). l ++ around before e) (append_assoc (around before o) (lead h) k)
-      ∙ around_both o (lead h ++ k) e
-      ∙ ap (λ (l : List ℕ). if only then lead h ++ k else l)
-      (ap (λ (l : List ℕ). l ++ e) (sym (append_assoc o (lead h) k)) ∙ append_assoc (opening h) k e ∙ ap (λ (l : List ℕ). opening h ++ (k ++ l)) (sym (append-nil e)))
-
-  -- contents behind the octets before them
-  open_octets : (o c : List ℕ) → around before o ++ c ≡ (if only then c else o ++ c)
-  open_octets o c = by only
-    where
-      by : (k : Bool) → (if k then [] else o) ++ c ≡ (if k then c else o ++ c)
-      by true = refl
-      by false = refl
-
-  entered_octets : (h : Heading) (inside : Forest) → (around before (octets_of h) ++ lead h) ++ kept inside ≡ cut_of only (Entered h inside)
-  entered_octets h inside =
-      append_assoc (around before (octets_of h)) (lead h) (kept inside) ∙ open_octets (octets_of h) (lead h ++ kept inside)
-      ∙ ap (λ (l : List ℕ). if only then lead h ++ kept inside else l) (sym (append_assoc (octets_of h) (lead h) (kept inside)))
+      ap (λ (l : List ℕ). (unless only (octets_of h) ++ lead h) ++ (kept inside ++ l)) (sym (append-nil (unless only (end_octets h.size))))
 
   -- ---- elements
 
@@ -206,17 +181,17 @@ module _ (n : ℕ) (only : Bool) where
       let es = Begin h ∷ Bytes c ∷ [] in
       choose (h.offset == n) (Partial h c) Stop (followed extracted before es)
       (λ e.
-      let all = begins_told before (held n only 0) (around before (octets_of h)) h c (it_begins h e) in
-      open_cut (Partial h c) _ refl refl (ap (λ (t : Following Extracting). t.put) all ∙ open_octets (octets_of h) c) (ap (λ (t : Following Extracting). t.goes) all)
+      let all = begins_told before (held n only 0) (unless only (octets_of h)) h c (it_begins h e) in
+      open_cut (Partial h c) _ refl refl (ap (λ (t : Following Extracting). t.put) all) (ap (λ (t : Following Extracting). t.goes) all)
       (ap (λ (t : Following Extracting). has_begun t.state.stand) all))
       (λ e. missed _ (begins_told before before [] h c (another_begins h e)))
   told p (Entered h inside) v deep =
       choose (h.offset == n) (Entered h inside) (element_at n inside) (followed extracted before (opens h ++ events inside))
       (λ e.
       let k = within n only (inside_of p h) 0 inside v.1 (omega arith) (omega (arith, v.0.entry.depth)) in
-      let all = then_more before (held n only 0) (around before (octets_of h) ++ lead h) (opens h) (events inside) (opens_it h e) in
+      let all = then_more before (held n only 0) (unless only (octets_of h) ++ lead h) (opens h) (events inside) (opens_it h e) in
       open_cut (Entered h inside) _ refl refl
-      (ap (λ (t : Following Extracting). t.put) all ∙ ap (λ (l : List ℕ). (around before (octets_of h) ++ lead h) ++ l) k.put ∙ entered_octets h inside)
+      (ap (λ (t : Following Extracting). t.put) all ∙ ap (λ (l : List ℕ). (unless only (octets_of h) ++ lead h) ++ l) k.put)
       (ap (λ (t : Following Extracting). t.goes) all ∙ k.goes)
       (ap (λ (t : Following Extracting). has_begun t.state.stand) all ∙ k.found))
       (λ e. subst (IsCut (element_at n inside)) (sym (opens_another h (events inside) e)) (told (inside_of p h) inside v.1 (omega (arith, v.0.entry.depth))))

@@ -5,7 +5,8 @@ use Rattle.tlv_head.specs.Header.{Heading, IsHeading, octets_of}
 use Rattle.tlv_walk.specs.Forest.{Forest, Stop, Fill, Whole, Closed, Partial, Entered, Awaiting, Begun, Zero, end_octets, extent, has_element, is_whole, lead, opening, spell}
 use Rattle.tlv_walk.specs.Place.{IsHeadAt, IsOpen, Place, after, inside_of}
 use Rattle.tlv_walk.proofs.Spellings.{append_assoc-3, append_assoc-4}
-use Rattle.tlv_cut.specs.Cut.{contents_of, element_at, first_of, kept}
+use Rattle.tlv_cut.specs.Cut.{cut_of, element_at, first_of}
+use Rattle.tlv_cut.proofs.Kept.{kept}
 
 -- ---- the octets that are kept
 
@@ -59,11 +60,11 @@ module _ (n : ℕ) where
     pub head : Heading
     pub valid : IsHeading head
     pub offset : head.offset ≡ n
-    pub parts : kept e ≡ octets_of head ++ (contents_of e ++ (if has_element e && is_whole e then end_octets head.size else []))
+    pub parts : kept e ≡ octets_of head ++ (cut_of true e ++ (if has_element e && is_whole e then end_octets head.size else []))
 
   -- it is the first of the forest
   first : (p : Place) (k : Bool) (h : Heading) (f e : Forest) (behind : List ℕ) → IsHeadAt p k h → (h.offset == n) ≡ true → spell f ≡ kept e ++ behind
-      → kept e ≡ octets_of h ++ (contents_of e ++ (if has_element e && is_whole e then end_octets h.size else [])) → IsFoundIn p f e
+      → kept e ≡ octets_of h ++ (cut_of true e ++ (if has_element e && is_whole e then end_octets h.size else [])) → IsFoundIn p f e
   first p k h f e behind at is octets parts = record {
     front = [];
     behind = behind;
@@ -103,12 +104,13 @@ module _ (n : ℕ) where
   in_rest : (p q : Place) (f rest e : Forest) (o : List ℕ) → spell f ≡ o ++ spell rest → q.at ≡ p.at + length o → IsFoundIn q rest e → IsFoundIn p f e
   in_rest p q f rest e o all at r = further p q f rest e o [] (all ∙ ap (λ (l : List ℕ). o ++ l) (sym (append-nil (spell rest)))) at r
 
-  closed_parts : (h : Heading) (inside : Forest) → kept (Closed h inside Stop) ≡ octets_of h ++ ((lead h ++ kept inside) ++ end_octets h.size)
+  closed_parts : (h : Heading) (inside : Forest) → kept (Closed h inside Stop) ≡ octets_of h ++ (cut_of true (Closed h inside Stop) ++ end_octets h.size)
   closed_parts h inside =
       let e = end_octets h.size in
       append_assoc (octets_of h) (lead h) (kept inside ++ (e ++ []))
       ∙ ap (λ (l : List ℕ). octets_of h ++ (lead h ++ (kept inside ++ l))) (append-nil e)
       ∙ ap (λ (l : List ℕ). octets_of h ++ l) (sym (append_assoc (lead h) (kept inside) e))
+      ∙ ap (λ (l : List ℕ). octets_of h ++ ((lead h ++ l) ++ e)) (sym (append-nil (kept inside)))
 
   pub find : (p : Place) (f : Forest) → IsOpen p f → has_element (element_at n f) ≡ true → IsFoundIn p f (element_at n f)
   find p Stop v some = none p Stop some
@@ -118,7 +120,7 @@ module _ (n : ℕ) where
       choose p f (h.offset == n) (Whole h c Stop) (element_at n rest)
       (λ is _.
       first p false h f (Whole h c Stop) (spell rest) v.0.header is (sym (append_assoc-3 (octets_of h) c [] (spell rest)))
-      (ap (λ (l : List ℕ). octets_of h ++ (c ++ l)) (sym (ap end_octets v.0.size))))
+      (ap (λ (l : List ℕ). octets_of h ++ l) (sym (ap (λ (l : List ℕ). (c ++ []) ++ l) (ap end_octets v.0.size) ∙ append-nil (c ++ [])))))
       (λ _ some.
       in_rest p (after p _) f rest (element_at n rest) (octets_of h ++ c) (sym (append_assoc (octets_of h) c (spell rest))) (omega (arith, length-append (octets_of h) c))
       (find (after p _) rest v.1 some))

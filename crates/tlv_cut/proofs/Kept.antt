@@ -11,9 +11,13 @@ use Rattle.tlv_walk.specs.Forest.{Forest, Stop, Fill, Whole, Closed, Partial, En
 use Rattle.tlv_walk.specs.Place.{IsOpen, Place, after, inside_of}
 use Rattle.tlv_walk.proofs.Followed.{followed-more, followed-one}
 use Rattle.tlv_cut.specs.declared.extractor.Stand.TheVariants as stand
-use Rattle.tlv_cut.specs.Cut.{kept}
+use Rattle.tlv_cut.specs.Cut.{cut_of}
 use Rattle.tlv_cut.specs.Extracted.{Extracting, begun, ended, extracted, has_begun, of_element}
 use Rattle.tlv_cut.proofs.Extracted.{all_passed, of_element-none, puts}
+
+-- the octets of elements so far
+abbrev pub kept : Forest → List ℕ
+kept f = cut_of false f
 
 -- ---- events one behind another
 

@@ -1,7 +1,7 @@
 -- What `extract` writes: an element, or its contents.
-use Rattle.std.specs.Prelude.{ℕ, Bool, ◌==◌, ◌&&◌, if◌then◌else◌, List, [], ◌++◌}
+use Rattle.std.specs.Prelude.{ℕ, Bool, false, ◌==◌, ◌&&◌, if◌then◌else◌, List, [], ◌++◌}
 use Rattle.tlv_head.specs.Header.{octets_of}
-use Rattle.tlv_walk.specs.Forest.{Forest, Stop, Fill, Whole, Closed, Partial, Entered, Awaiting, Begun, Zero, end_octets, has_element, is_whole, lead, opening}
+use Rattle.tlv_walk.specs.Forest.{Forest, Stop, Fill, Whole, Closed, Partial, Entered, Awaiting, Begun, Zero, end_octets, has_element, is_whole, lead}
 
 -- the first element, or where there is none the other
 abbrev pub first_of : Forest → Forest → Forest
@@ -19,35 +19,25 @@ element_at n (Awaiting h) = if h.offset == n then Awaiting h else Stop
 element_at n (Begun octets) = Stop
 element_at n Zero = Stop
 
+-- octets around contents, unless the contents alone are wanted
+abbrev pub unless : Bool → List ℕ → List ℕ
+unless contents_only octets = if contents_only then [] else octets
+
 -- 8.1.1.1: the octets of elements so far, without an unfinished header and without the first octet of unfinished
--- end-of-contents octets. Padding is of no element
-abbrev pub kept : Forest → List ℕ
-kept Stop = []
-kept (Fill rest) = kept rest
-kept (Whole h c rest) = octets_of h ++ (c ++ kept rest)
-kept (Closed h inside rest) = opening h ++ (kept inside ++ (end_octets h.size ++ kept rest))
-kept (Partial h c) = octets_of h ++ c
-kept (Entered h inside) = opening h ++ kept inside
-kept (Awaiting h) = octets_of h
-kept (Begun octets) = []
-kept Zero = []
-
--- 8.1.1.1 c): the contents octets of an element so far: neither its identifier and length octets nor its end-of-contents
--- octets. The first contents octet of a wrapping BIT STRING is one of them
-abbrev pub contents_of : Forest → List ℕ
-contents_of Stop = []
-contents_of (Fill rest) = []
-contents_of (Whole h c rest) = c
-contents_of (Closed h inside rest) = lead h ++ kept inside
-contents_of (Partial h c) = c
-contents_of (Entered h inside) = lead h ++ kept inside
-contents_of (Awaiting h) = []
-contents_of (Begun octets) = []
-contents_of Zero = []
-
--- an element, or its contents alone
+-- end-of-contents octets; or the contents octets of each alone: neither its identifier and length octets nor its
+-- end-of-contents octets. The first contents octet of a wrapping BIT STRING is one of them. Padding is of no element
 abbrev pub cut_of : Bool → Forest → List ℕ
-cut_of contents_only element = if contents_only then contents_of element else kept element
+cut_of contents_only Stop = []
+cut_of contents_only (Fill rest) = cut_of contents_only rest
+cut_of contents_only (Whole h c rest) = unless contents_only (octets_of h) ++ (c ++ cut_of contents_only rest)
+cut_of contents_only (Closed h inside rest) =
+    (unless contents_only (octets_of h) ++ lead h)
+    ++ (cut_of false inside ++ (unless contents_only (end_octets h.size) ++ cut_of contents_only rest))
+cut_of contents_only (Partial h c) = unless contents_only (octets_of h) ++ c
+cut_of contents_only (Entered h inside) = (unless contents_only (octets_of h) ++ lead h) ++ cut_of false inside
+cut_of contents_only (Awaiting h) = unless contents_only (octets_of h)
+cut_of contents_only (Begun octets) = []
+cut_of contents_only Zero = []
 
 -- what is written of elements: the one at this offset, or its contents alone
 abbrev pub cut : ℕ → Bool → Forest → List ℕ
