@@ -1,11 +1,13 @@
 -- What an `Extract` makes of the events of elements is the cut of them.
-use Rattle.std.proofs.Common.{◌≡◌, ℕ, ◌≤◌, Bool, true, false, ◌==◌, ◌&&◌, if◌then◌else◌, List, [], ◌∷◌, ◌++◌, refl, sym, ap, ap₂, ◌∙◌, subst, arith, append_assoc, append-nil}
+use Rattle.std.proofs.Common.{refl, sym, ap, ap₂, ◌∙◌, subst, arith, append_assoc, append-nil}
+use Rattle.std.specs.Prelude.{◌≡◌, ℕ, ◌≤◌, Bool, true, false, ◌==◌, ◌&&◌, if◌then◌else◌, List, [], ◌∷◌, ◌++◌}
 use Rattle.std.proofs.lemmas.Bool.{true≢false}
 use Rattle.tlv_head.specs.Header.{AllowsSize, Heading, octets_of}
 use Rattle.tlv_walk.specs.declared.follow.Go.TheVariants as go
 use Rattle.tlv_walk.specs.Events.{Told, Begin, Bytes, End, Enter, closes, events, opens}
 use Rattle.tlv_walk.specs.Follow.{Following, followed, goes_of, stay}
-use Rattle.tlv_walk.specs.Forest.{Forest, Stop, Fill, Whole, Closed, Partial, Entered, Awaiting, Begun, Zero, end_octets, extent, has_element, is_whole, lead, opening}
+use Rattle.tlv_walk.specs.Forest.{Forest, Stop, Fill, Whole, Closed, Partial, Entered, Awaiting, Begun, Zero}
+use Rattle.tlv_walk.specs.Forest.{end_octets, extent, has_element, is_whole, lead, opening}
 use Rattle.tlv_walk.specs.Place.{IsOpen, Place, after, inside_of}
 use Rattle.tlv_walk.proofs.Followed.{followed-enough, followed-one}
 use Rattle.tlv_cut.specs.declared.extractor.Stand.TheVariants as stand
@@ -44,7 +46,8 @@ module _ (n : ℕ) (only : Bool) where
   }
 
   -- it is open
-  open_cut : (e : Forest) (t : Following Extracting) → has_element e ≡ true → is_whole e ≡ false → t.put ≡ cut_of only e → t.goes ≡ go.On → has_begun t.state.stand ≡ true → IsCut e t
+  open_cut : (e : Forest) (t : Following Extracting) → has_element e ≡ true → is_whole e ≡ false
+      → t.put ≡ cut_of only e → t.goes ≡ go.On → has_begun t.state.stand ≡ true → IsCut e t
   open_cut e t some part octets on found = record {
     put = octets;
     goes = on ∙ sym (ap₂ (λ (j k : Bool). goes_of (j && k)) some part);
@@ -53,7 +56,8 @@ module _ (n : ℕ) (only : Bool) where
   }
 
   -- it is whole
-  whole_cut : (e : Forest) (t : Following Extracting) (octets : List ℕ) → has_element e ≡ true → is_whole e ≡ true → octets ≡ cut_of only e → t ≡ finishes octets → IsCut e t
+  whole_cut : (e : Forest) (t : Following Extracting) (octets : List ℕ) → has_element e ≡ true → is_whole e ≡ true
+      → octets ≡ cut_of only e → t ≡ finishes octets → IsCut e t
   whole_cut e t octets some whole is made = record {
     put = ap (λ (t : Following Extracting). t.put) made ∙ is;
     goes = ap (λ (t : Following Extracting). t.goes) made ∙ sym (ap₂ (λ (j k : Bool). goes_of (j && k)) some whole);
@@ -96,7 +100,8 @@ module _ (n : ℕ) (only : Bool) where
   opens_another h es e = then_more before before [] (opens h) es (opens_told before before [] h (another_begins h e))
 
   closed_told : (h : Heading) (inside : Forest) → (h.offset == n) ≡ true → AllowsSize h.constructed h.size → is_whole inside ≡ true → IsKept n only 0 inside
-      → followed extracted before (opens h ++ (events inside ++ closes h inside ∷ [])) ≡ finishes ((unless only (octets_of h) ++ lead h) ++ (kept inside ++ unless only (end_octets h.size)))
+      → followed extracted before (opens h ++ (events inside ++ closes h inside ∷ []))
+      ≡ finishes ((unless only (octets_of h) ++ lead h) ++ (kept inside ++ unless only (end_octets h.size)))
   closed_told h inside e allowed whole k =
       then_more before (held n only 0) (unless only (octets_of h) ++ lead h) (opens h) (events inside ++ closes h inside ∷ []) (opens_it h e)
       ∙ ap (λ (t : Following Extracting). record t { put = (unless only (octets_of h) ++ lead h) ++ t.put })
@@ -143,7 +148,8 @@ module _ (n : ℕ) (only : Bool) where
   -- an element that holds others and is not the one wanted
   passed_by : (p : Place) (h : Heading) (inside rest : Forest) → IsOpen p (Closed h inside rest) → (h.offset == n) ≡ false
       → IsCut (element_at n inside) (followed extracted before (events inside)) → IsCut (element_at n rest) (followed extracted before (events rest))
-      → IsCut (first_of (element_at n inside) (element_at n rest)) (followed extracted before (events (Closed h inside rest)))
+      → IsCut (first_of (element_at n inside) (element_at n rest))
+      (followed extracted before (events (Closed h inside rest)))
   passed_by p h inside rest v e i r =
       let t = followed extracted before (events (Closed h inside rest)) in
       let opened = opens_another h (events inside ++ closes h inside ∷ events rest) e in
@@ -171,7 +177,8 @@ module _ (n : ℕ) (only : Bool) where
       (told (after p _) rest v.1 deep))
   told p (Closed h inside rest) v deep =
       let es = opens h ++ (events inside ++ closes h inside ∷ []) in
-      choose (h.offset == n) (Closed h inside Stop) (first_of (element_at n inside) (element_at n rest)) (followed extracted before (events (Closed h inside rest)))
+      choose (h.offset == n) (Closed h inside Stop) (first_of (element_at n inside) (element_at n rest))
+      (followed extracted before (events (Closed h inside rest)))
       (λ e.
       let k = within n only (inside_of p h) 0 inside v.1 (omega arith) (omega (arith, v.0.depth)) in
       let all = enough es (events rest) _ (closed_told h inside e v.0.header.valid.allowed v.0.whole k) in

@@ -1,8 +1,10 @@
 -- The octets of an element that is found stand in the input, from its offset on.
-use Rattle.std.proofs.Common.{◌≡◌, ℕ, ◌+◌, Bool, true, false, ◌==◌, ◌&&◌, if◌then◌else◌, List, [], ◌∷◌, ◌++◌, length, refl, sym, ap, ◌∙◌, arith, append_assoc, append-nil, length-append}
+use Rattle.std.proofs.Common.{refl, sym, ap, ◌∙◌, arith, append_assoc, append-nil, length-append}
+use Rattle.std.specs.Prelude.{◌≡◌, ℕ, ◌+◌, Bool, true, false, ◌==◌, ◌&&◌, if◌then◌else◌, List, [], ◌∷◌, ◌++◌, length}
 use Rattle.std.proofs.lemmas.Bool.{eqb-true, true≢false}
 use Rattle.tlv_head.specs.Header.{Heading, IsHeading, octets_of}
-use Rattle.tlv_walk.specs.Forest.{Forest, Stop, Fill, Whole, Closed, Partial, Entered, Awaiting, Begun, Zero, end_octets, extent, has_element, is_whole, lead, opening, spell}
+use Rattle.tlv_walk.specs.Forest.{Forest, Stop, Fill, Whole, Closed, Partial, Entered, Awaiting, Begun, Zero}
+use Rattle.tlv_walk.specs.Forest.{end_octets, extent, has_element, is_whole, lead, opening, spell}
 use Rattle.tlv_walk.specs.Place.{IsHeadAt, IsOpen, Place, after, inside_of}
 use Rattle.tlv_walk.proofs.Spellings.{append_assoc-3, append_assoc-4}
 use Rattle.tlv_cut.specs.Cut.{cut_of, element_at, first_of}
@@ -92,7 +94,8 @@ module _ (n : ℕ) where
   }
 
   -- one of two, by a test
-  choose : (p : Place) (f : Forest) (k : Bool) (a b : Forest) → (k ≡ true → has_element a ≡ true → IsFoundIn p f a) → (k ≡ false → has_element b ≡ true → IsFoundIn p f b)
+  choose : (p : Place) (f : Forest) (k : Bool) (a b : Forest) → (k ≡ true → has_element a ≡ true → IsFoundIn p f a)
+      → (k ≡ false → has_element b ≡ true → IsFoundIn p f b)
       → has_element (if k then a else b) ≡ true → IsFoundIn p f (if k then a else b)
   choose p f true a b x y some = x refl some
   choose p f false a b x y some = y refl some
@@ -122,7 +125,8 @@ module _ (n : ℕ) where
       first p false h f (Whole h c Stop) (spell rest) v.0.header is (sym (append_assoc-3 (octets_of h) c [] (spell rest)))
       (ap (λ (l : List ℕ). octets_of h ++ l) (sym (ap (λ (l : List ℕ). (c ++ []) ++ l) (ap end_octets v.0.size) ∙ append-nil (c ++ [])))))
       (λ _ some.
-      in_rest p (after p _) f rest (element_at n rest) (octets_of h ++ c) (sym (append_assoc (octets_of h) c (spell rest))) (omega (arith, length-append (octets_of h) c))
+      in_rest p (after p _) f rest (element_at n rest) (octets_of h ++ c) (sym (append_assoc (octets_of h) c (spell rest)))
+      (omega (arith, length-append (octets_of h) c))
       (find (after p _) rest v.1 some))
       some
   find p (Closed h inside rest) v some =
@@ -138,7 +142,8 @@ module _ (n : ℕ) where
       choose p f (has_element (element_at n inside)) (element_at n inside) (element_at n rest)
       (λ _ some. further p (inside_of p h) f inside (element_at n inside) (opening h) (e ++ spell rest) refl refl (find (inside_of p h) inside v.1 some))
       (λ _ some.
-      in_rest p (after p (extent h inside)) f rest (element_at n rest) (opening h ++ (spell inside ++ e)) (sym (append_assoc-3 (opening h) (spell inside) e (spell rest)))
+      in_rest p (after p (extent h inside)) f rest (element_at n rest) (opening h ++ (spell inside ++ e))
+      (sym (append_assoc-3 (opening h) (spell inside) e (spell rest)))
       (omega (arith, length-append (opening h) (spell inside ++ e), length-append (spell inside) e))
       (find (after p (extent h inside)) rest v.2 some))
       some)
@@ -146,7 +151,8 @@ module _ (n : ℕ) where
   find p (Partial h c) v some =
       choose p (Partial h c) (h.offset == n) (Partial h c) Stop
       (λ is _.
-      first p false h (Partial h c) (Partial h c) [] v.header is (sym (append-nil (octets_of h ++ c))) (ap (λ (l : List ℕ). octets_of h ++ l) (sym (append-nil c))))
+      first p false h (Partial h c) (Partial h c) [] v.header is (sym (append-nil (octets_of h ++ c)))
+      (ap (λ (l : List ℕ). octets_of h ++ l) (sym (append-nil c))))
       (λ _ some. none p (Partial h c) some)
       some
   find p (Entered h inside) v some =

@@ -1,9 +1,11 @@
 -- The same elements with indefinite lengths keep all rules.
-use Rattle.std.proofs.Common.{◌≡◌, ℕ, ◌+◌, ◌<◌, ◌≤◌, Bool, true, false, ◌||◌, eqb, if◌then◌else◌, List, [], ◌∷◌, ◌++◌, length, Option, None, IfSome, refl, sym, ap, ◌∙◌, subst}
+use Rattle.std.proofs.Common.{refl, sym, ap, ◌∙◌, subst}
+use Rattle.std.specs.Prelude.{◌≡◌, ℕ, ◌+◌, ◌<◌, ◌≤◌, Bool, true, false, ◌||◌, eqb, if◌then◌else◌, List, [], ◌∷◌, ◌++◌, length, Option, None, IfSome}
 use Rattle.tlv_head.specs.declared.header.Size.{Size}
 use Rattle.tlv_head.specs.declared.header.Size.TheVariants.{Indefinite}
 use Rattle.tlv_head.specs.Header.{AllowsSize, Heading, is_wrapper, octets_of}
-use Rattle.tlv_walk.specs.Forest.{Forest, Stop, Fill, Whole, Closed, Partial, Entered, Awaiting, Begun, Zero, extent, has_element, is_whole, lead, opening, spell}
+use Rattle.tlv_walk.specs.Forest.{Forest, Stop, Fill, Whole, Closed, Partial, Entered, Awaiting, Begun, Zero}
+use Rattle.tlv_walk.specs.Forest.{extent, has_element, is_whole, lead, opening, spell}
 use Rattle.tlv_walk.specs.Place.{Fits, IsHeadAt, IsOpen, Place, after, bound_in, inside_of}
 use Rattle.tlv_cut.specs.Indef.{indefinite, indefinite_heading}
 use Rattle.tlv_cut.specs.IndefForest.{placed}
