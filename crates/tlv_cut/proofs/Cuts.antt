@@ -7,7 +7,7 @@ use Rattle.tlv_walk.specs.declared.follow.Go.TheVariants as go
 use Rattle.tlv_walk.specs.Events.{Told, Begin, Bytes, End, Enter, closes, events, opens}
 use Rattle.tlv_walk.specs.Follow.{Following, followed, goes_of, stay}
 use Rattle.tlv_walk.specs.Forest.{Forest, Stop, Fill, Whole, Closed, Partial, Entered, Awaiting, Begun, Zero}
-use Rattle.tlv_walk.specs.Forest.{end_octets, extent, has_element, is_whole, lead, opening}
+use Rattle.tlv_walk.specs.Forest.{end_octets, extent, has_element, is_whole, lead}
 use Rattle.tlv_walk.specs.Place.{IsOpen, Place, after, inside_of}
 use Rattle.tlv_walk.proofs.Followed.{followed-enough, followed-one}
 use Rattle.tlv_cut.specs.declared.extractor.Stand.TheVariants as stand
