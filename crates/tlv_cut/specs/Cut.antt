@@ -1,23 +1,20 @@
 -- What `extract` writes: an element, or its contents.
-use Rattle.std.specs.Prelude.{ℕ, Bool, false, ◌==◌, ◌&&◌, if◌then◌else◌, List, [], ◌++◌}
+use Rattle.std.specs.Prelude.{ℕ, Bool, false, ◌==◌, if◌then◌else◌, List, [], ◌++◌, Option, Some, None}
+use Rattle.std.specs.Option.{is_some, option_map_or, option_or}
 use Rattle.tlv_head.specs.Header.{octets_of}
-use Rattle.tlv_walk.specs.Forest.{Forest, Stop, Fill, Whole, Closed, Partial, Entered, Awaiting, Begun, Zero, end_octets, has_element, is_whole, lead}
+use Rattle.tlv_walk.specs.Forest.{Forest, Stop, Fill, Whole, Closed, Partial, Entered, Awaiting, Begun, Zero, end_octets, is_whole, lead}
 
--- the first element, or where there is none the other
-abbrev pub first_of : Forest → Forest → Forest
-first_of one other = if has_element one then one else other
-
--- the element at this offset by itself, where its header is whole; else nothing. No two stand at one offset
-abbrev pub element_at : ℕ → Forest → Forest
-element_at n Stop = Stop
+-- the element at this offset by itself, if its header is whole. No two stand at one offset
+abbrev pub element_at : ℕ → Forest → Option Forest
+element_at n Stop = None
 element_at n (Fill rest) = element_at n rest
-element_at n (Whole h c rest) = if h.offset == n then Whole h c Stop else element_at n rest
-element_at n (Closed h inside rest) = if h.offset == n then Closed h inside Stop else first_of (element_at n inside) (element_at n rest)
-element_at n (Partial h c) = if h.offset == n then Partial h c else Stop
-element_at n (Entered h inside) = if h.offset == n then Entered h inside else element_at n inside
-element_at n (Awaiting h) = if h.offset == n then Awaiting h else Stop
-element_at n (Begun octets) = Stop
-element_at n Zero = Stop
+element_at n (Whole h c rest) = if h.offset == n then Some (Whole h c Stop) else element_at n rest
+element_at n (Closed h inside rest) = if h.offset == n then Some (Closed h inside Stop) else option_or (element_at n inside) (element_at n rest)
+element_at n (Partial h c) = if h.offset == n then Some (Partial h c) else None
+element_at n (Entered h inside) = if h.offset == n then Some (Entered h inside) else element_at n inside
+element_at n (Awaiting h) = if h.offset == n then Some (Awaiting h) else None
+element_at n (Begun octets) = None
+element_at n Zero = None
 
 -- octets around contents, unless the contents alone are wanted
 abbrev pub unless : Bool → List ℕ → List ℕ
@@ -41,12 +38,12 @@ cut_of contents_only Zero = []
 
 -- what is written of elements: the one at this offset, or its contents alone
 abbrev pub cut : ℕ → Bool → Forest → List ℕ
-cut n contents_only f = cut_of contents_only (element_at n f)
+cut n contents_only f = option_map_or (cut_of contents_only) (element_at n f) []
 
 -- an element whose header is whole stands at this offset
 abbrev pub has_element_at : ℕ → Forest → Bool
-has_element_at n f = has_element (element_at n f)
+has_element_at n f = is_some (element_at n f)
 
 -- and it is whole
 abbrev pub has_whole_element_at : ℕ → Forest → Bool
-has_whole_element_at n f = has_element (element_at n f) && is_whole (element_at n f)
+has_whole_element_at n f = option_map_or is_whole (element_at n f) false
