@@ -9,8 +9,8 @@ use Rattle.tlv_walk.proofs.Endings.{done-sound, sound-reading}
 use Rattle.tlv_walk.proofs.Readings.{Going, reading-unique, run-reading}
 use Rattle.tlv_walk.proofs.Sound.{sound-whole}
 use Rattle.tlv_cut.specs.Indef.{indefinite}
-use Rattle.tlv_cut.specs.IndefForest.{placed}
 use Rattle.tlv_cut.specs.IndefRuns.{unnamed}
+use Rattle.tlv_cut.specs.Placed.{placed}
 use Rattle.tlv_cut.proofs.IndefFolds.{respelled}
 use Rattle.tlv_cut.proofs.IndefRules.{IsFree, is_open, some, whole}
 use Rattle.tlv_cut.proofs.IndefSpelled.{again, placed-spelled}

@@ -10,9 +10,9 @@ use Rattle.tlv_walk.specs.Events.{Open, Close, Enter, Unused, Leave}
 use Rattle.tlv_walk.proofs.Readings.{reading}
 use Rattle.tlv_walk.proofs.Endings.{ending}
 use Rattle.tlv_cut.specs.Indef.{indefinite}
-use Rattle.tlv_cut.specs.IndefForest.{placed}
 use Rattle.tlv_cut.specs.IndefNext.{respelled_event}
 use Rattle.tlv_cut.specs.IndefRuns.{unnamed}
+use Rattle.tlv_cut.specs.Placed.{placed}
 use Rattle.tlv_cut.proofs.IndefFolds.{respelled}
 
 -- what is written of an input

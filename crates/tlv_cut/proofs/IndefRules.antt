@@ -8,7 +8,7 @@ use Rattle.tlv_walk.specs.Forest.{Forest, Stop, Fill, Whole, Closed, Partial, En
 use Rattle.tlv_walk.specs.Forest.{extent, has_element, is_whole, lead, opening, spell}
 use Rattle.tlv_walk.specs.Place.{Fits, IsHeadAt, IsOpen, Place, after, bound_in, inside_of}
 use Rattle.tlv_cut.specs.Indef.{indefinite, indefinite_heading}
-use Rattle.tlv_cut.specs.IndefForest.{placed}
+use Rattle.tlv_cut.specs.Placed.{placed}
 use Rattle.tlv_cut.proofs.IndefFolds.{lead_by}
 use Rattle.tlv_cut.proofs.IndefSpelled.{constructed_at, is_named, placed-spelled}
 

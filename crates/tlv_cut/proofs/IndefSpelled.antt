@@ -7,7 +7,7 @@ use Rattle.tlv_walk.specs.Forest.{Forest, Stop, Fill, Whole, Closed, Partial, En
 use Rattle.tlv_walk.specs.Inside.{is_among}
 use Rattle.tlv_walk.specs.Place.{IsHeadAt, Place}
 use Rattle.tlv_cut.specs.Indef.{indefinite, indefinite_heading}
-use Rattle.tlv_cut.specs.IndefForest.{placed}
+use Rattle.tlv_cut.specs.Placed.{placed}
 use Rattle.tlv_cut.proofs.IndefFolds.{respelled}
 
 -- ---- where no string is named, what holds others is constructed

@@ -11,9 +11,9 @@ use Rattle.tlv_walk.specs.Place.{IsOpen, top}
 use Rattle.tlv_walk.specs.Reading.{IsPrefixOf, IsReading}
 use Rattle.tlv_cut.specs.declared.indefinite.Indef.{Indef}
 use Rattle.tlv_cut.specs.Indef.{indefinite}
-use Rattle.tlv_cut.specs.IndefForest.{placed}
 use Rattle.tlv_cut.specs.IndefNext.{indef_next}
 use Rattle.tlv_cut.specs.IndefRuns.{unnamed}
+use Rattle.tlv_cut.specs.Placed.{placed}
 
 -- of the events of elements `Indef` writes what spells those elements with indefinite lengths, and it wants more
 abbrev pub EventsAreRespelled : Type 0
