@@ -45,7 +45,8 @@ event_on s End b = ended_on s.stand s [] refl b
 event_on s Leave b = ended_on s.stand s [] refl b
 event_on s (Pad octets) b = b
 
-then_on : (g : Go) (t : Following Extracting) (f : Extracting → Following Extracting) → has_begun t.state.stand ≡ true → has_begun (f t.state).state.stand ≡ true → has_begun (if_on g t f).state.stand ≡ true
+then_on : (g : Go) (t : Following Extracting) (f : Extracting → Following Extracting) → has_begun t.state.stand ≡ true
+    → has_begun (f t.state).state.stand ≡ true → has_begun (if_on g t f).state.stand ≡ true
 then_on go.On t f b d = d
 then_on go.Enough t f b d = b
 
@@ -55,7 +56,8 @@ begun_stays s (e ∷ es) b =
     let t = extracted s e in
     then_on t.goes t (λ u. followed extracted u es) (event_on s e b) (begun_stays t.state es (event_on s e b))
 
-begun_more : (s : Extracting) (es fs : List Told) → has_begun (followed extracted s es).state.stand ≡ true → has_begun (followed extracted s (es ++ fs)).state.stand ≡ true
+begun_more : (s : Extracting) (es fs : List Told) → has_begun (followed extracted s es).state.stand ≡ true
+    → has_begun (followed extracted s (es ++ fs)).state.stand ≡ true
 begun_more s es fs b =
     let t = followed extracted s es in
     ap (λ (t : Following Extracting). has_begun t.state.stand) (followed-append extracted s es fs)

@@ -1,11 +1,15 @@
 -- The octets of an element that is found stand in the input, from its offset on.
-use Rattle.std.proofs.Common.{◌≡◌, ℕ, ◌+◌, Bool, true, false, ◌==◌, ◌&&◌, if◌then◌else◌, List, [], ◌∷◌, ◌++◌, length, refl, sym, ap, ◌∙◌, arith, append_assoc, append-nil, length-append}
+use Rattle.std.proofs.Common.{refl, sym, ap, ◌∙◌, subst, arith, append_assoc, append-nil, length-append}
+use Rattle.std.specs.Prelude.{◌≡◌, ℕ, ◌+◌, Bool, true, false, ◌==◌, if◌then◌else◌, List, [], ◌∷◌, ◌++◌, length, Option, Some, None}
+use Rattle.std.specs.Option.{option_or}
 use Rattle.std.proofs.lemmas.Bool.{eqb-true, true≢false}
 use Rattle.tlv_head.specs.Header.{Heading, IsHeading, octets_of}
-use Rattle.tlv_walk.specs.Forest.{Forest, Stop, Fill, Whole, Closed, Partial, Entered, Awaiting, Begun, Zero, end_octets, extent, has_element, is_whole, lead, opening, spell}
+use Rattle.tlv_walk.specs.Forest.{Forest, Stop, Fill, Whole, Closed, Partial, Entered, Awaiting, Begun, Zero}
+use Rattle.tlv_walk.specs.Forest.{end_octets, extent, is_whole, lead, opening, spell}
 use Rattle.tlv_walk.specs.Place.{IsHeadAt, IsOpen, Place, after, inside_of}
 use Rattle.tlv_walk.proofs.Spellings.{append_assoc-3, append_assoc-4}
-use Rattle.tlv_cut.specs.Cut.{contents_of, element_at, first_of, kept}
+use Rattle.tlv_cut.specs.Cut.{cut_of, element_at}
+use Rattle.tlv_cut.proofs.Kept.{kept}
 
 -- ---- the octets that are kept
 
@@ -59,11 +63,11 @@ module _ (n : ℕ) where
     pub head : Heading
     pub valid : IsHeading head
     pub offset : head.offset ≡ n
-    pub parts : kept e ≡ octets_of head ++ (contents_of e ++ (if has_element e && is_whole e then end_octets head.size else []))
+    pub parts : kept e ≡ octets_of head ++ (cut_of true e ++ (if is_whole e then end_octets head.size else []))
 
   -- it is the first of the forest
   first : (p : Place) (k : Bool) (h : Heading) (f e : Forest) (behind : List ℕ) → IsHeadAt p k h → (h.offset == n) ≡ true → spell f ≡ kept e ++ behind
-      → kept e ≡ octets_of h ++ (contents_of e ++ (if has_element e && is_whole e then end_octets h.size else [])) → IsFoundIn p f e
+      → kept e ≡ octets_of h ++ (cut_of true e ++ (if is_whole e then end_octets h.size else [])) → IsFoundIn p f e
   first p k h f e behind at is octets parts = record {
     front = [];
     behind = behind;
@@ -90,77 +94,87 @@ module _ (n : ℕ) where
     parts = r.parts;
   }
 
-  -- one of two, by a test
-  choose : (p : Place) (f : Forest) (k : Bool) (a b : Forest) → (k ≡ true → has_element a ≡ true → IsFoundIn p f a) → (k ≡ false → has_element b ≡ true → IsFoundIn p f b)
-      → has_element (if k then a else b) ≡ true → IsFoundIn p f (if k then a else b)
-  choose p f true a b x y some = x refl some
-  choose p f false a b x y some = y refl some
+  -- an element with that offset, or one of others
+  choose : (p : Place) (f : Forest) (k : Bool) (d : Forest) (b : Option Forest) (e : Forest) → (k ≡ true → IsFoundIn p f d)
+      → (k ≡ false → b ≡ Some e → IsFoundIn p f e) → (if k then Some d else b) ≡ Some e → IsFoundIn p f e
+  choose p f true d b e x y is = let same : d ≡ e = cc in subst (IsFoundIn p f) same (x refl)
+  choose p f false d b e x y is = y refl is
 
-  none : (p : Place) (f : Forest) → has_element Stop ≡ true → IsFoundIn p f Stop
-  none p f some = absurd (cc (some))
+  -- the first that is there
+  first_there : (p : Place) (f : Forest) (a b : Option Forest) (e : Forest) → (a ≡ Some e → IsFoundIn p f e) → (b ≡ Some e → IsFoundIn p f e)
+      → option_or a b ≡ Some e → IsFoundIn p f e
+  first_there p f (Some d) b e x y is = x is
+  first_there p f None b e x y is = y is
+
+  none : (p : Place) (f e : Forest) → None ≡ Some e → IsFoundIn p f e
+  none p f e is = absurd (cc (is))
 
   -- what stands behind an element
   in_rest : (p q : Place) (f rest e : Forest) (o : List ℕ) → spell f ≡ o ++ spell rest → q.at ≡ p.at + length o → IsFoundIn q rest e → IsFoundIn p f e
   in_rest p q f rest e o all at r = further p q f rest e o [] (all ∙ ap (λ (l : List ℕ). o ++ l) (sym (append-nil (spell rest)))) at r
 
-  closed_parts : (h : Heading) (inside : Forest) → kept (Closed h inside Stop) ≡ octets_of h ++ ((lead h ++ kept inside) ++ end_octets h.size)
+  closed_parts : (h : Heading) (inside : Forest) → kept (Closed h inside Stop) ≡ octets_of h ++ (cut_of true (Closed h inside Stop) ++ end_octets h.size)
   closed_parts h inside =
       let e = end_octets h.size in
       append_assoc (octets_of h) (lead h) (kept inside ++ (e ++ []))
       ∙ ap (λ (l : List ℕ). octets_of h ++ (lead h ++ (kept inside ++ l))) (append-nil e)
       ∙ ap (λ (l : List ℕ). octets_of h ++ l) (sym (append_assoc (lead h) (kept inside) e))
+      ∙ ap (λ (l : List ℕ). octets_of h ++ ((lead h ++ l) ++ e)) (sym (append-nil (kept inside)))
 
-  pub find : (p : Place) (f : Forest) → IsOpen p f → has_element (element_at n f) ≡ true → IsFoundIn p f (element_at n f)
-  find p Stop v some = none p Stop some
-  find p (Fill rest) v some = in_rest p (after p 1) (Fill rest) rest (element_at n rest) (0 ∷ []) refl refl (find (after p 1) rest v.1 some)
-  find p (Whole h c rest) v some =
+  pub find : (p : Place) (f : Forest) → IsOpen p f → (e : Forest) → element_at n f ≡ Some e → IsFoundIn p f e
+  find p Stop v d some = none p Stop d some
+  find p (Fill rest) v d some = in_rest p (after p 1) (Fill rest) rest d (0 ∷ []) refl refl (find (after p 1) rest v.1 d some)
+  find p (Whole h c rest) v d some =
       let f = Whole h c rest in
-      choose p f (h.offset == n) (Whole h c Stop) (element_at n rest)
-      (λ is _.
+      choose p f (h.offset == n) (Whole h c Stop) (element_at n rest) d
+      (λ is.
       first p false h f (Whole h c Stop) (spell rest) v.0.header is (sym (append_assoc-3 (octets_of h) c [] (spell rest)))
-      (ap (λ (l : List ℕ). octets_of h ++ (c ++ l)) (sym (ap end_octets v.0.size))))
+      (ap (λ (l : List ℕ). octets_of h ++ l) (sym (ap (λ (l : List ℕ). (c ++ []) ++ l) (ap end_octets v.0.size) ∙ append-nil (c ++ [])))))
       (λ _ some.
-      in_rest p (after p _) f rest (element_at n rest) (octets_of h ++ c) (sym (append_assoc (octets_of h) c (spell rest))) (omega (arith, length-append (octets_of h) c))
-      (find (after p _) rest v.1 some))
+      in_rest p (after p _) f rest d (octets_of h ++ c) (sym (append_assoc (octets_of h) c (spell rest)))
+      (omega (arith, length-append (octets_of h) c))
+      (find (after p _) rest v.1 d some))
       some
-  find p (Closed h inside rest) v some =
+  find p (Closed h inside rest) v d some =
       let f = Closed h inside rest in
       let e = end_octets h.size in
       let i = keeps_front (inside_of p h) inside refl v.1 in
-      choose p f (h.offset == n) (Closed h inside Stop) (first_of (element_at n inside) (element_at n rest))
-      (λ is _.
+      choose p f (h.offset == n) (Closed h inside Stop) (option_or (element_at n inside) (element_at n rest)) d
+      (λ is.
       first p true h f (Closed h inside Stop) (spell rest) v.0.header is
       (ap (λ (k : List ℕ). opening h ++ (k ++ (e ++ spell rest))) (i.all v.0.whole) ∙ sym (append_assoc-4 (opening h) (kept inside) e [] (spell rest)))
       (closed_parts h inside))
       (λ _ some.
-      choose p f (has_element (element_at n inside)) (element_at n inside) (element_at n rest)
-      (λ _ some. further p (inside_of p h) f inside (element_at n inside) (opening h) (e ++ spell rest) refl refl (find (inside_of p h) inside v.1 some))
-      (λ _ some.
-      in_rest p (after p (extent h inside)) f rest (element_at n rest) (opening h ++ (spell inside ++ e)) (sym (append_assoc-3 (opening h) (spell inside) e (spell rest)))
+      first_there p f (element_at n inside) (element_at n rest) d
+      (λ some. further p (inside_of p h) f inside d (opening h) (e ++ spell rest) refl refl (find (inside_of p h) inside v.1 d some))
+      (λ some.
+      in_rest p (after p (extent h inside)) f rest d (opening h ++ (spell inside ++ e))
+      (sym (append_assoc-3 (opening h) (spell inside) e (spell rest)))
       (omega (arith, length-append (opening h) (spell inside ++ e), length-append (spell inside) e))
-      (find (after p (extent h inside)) rest v.2 some))
+      (find (after p (extent h inside)) rest v.2 d some))
       some)
       some
-  find p (Partial h c) v some =
-      choose p (Partial h c) (h.offset == n) (Partial h c) Stop
-      (λ is _.
-      first p false h (Partial h c) (Partial h c) [] v.header is (sym (append-nil (octets_of h ++ c))) (ap (λ (l : List ℕ). octets_of h ++ l) (sym (append-nil c))))
-      (λ _ some. none p (Partial h c) some)
+  find p (Partial h c) v d some =
+      choose p (Partial h c) (h.offset == n) (Partial h c) None d
+      (λ is.
+      first p false h (Partial h c) (Partial h c) [] v.header is (sym (append-nil (octets_of h ++ c)))
+      (ap (λ (l : List ℕ). octets_of h ++ l) (sym (append-nil c))))
+      (λ _ some. none p (Partial h c) d some)
       some
-  find p (Entered h inside) v some =
+  find p (Entered h inside) v d some =
       let f = Entered h inside in
       let i = keeps_front (inside_of p h) inside refl v.1 in
-      choose p f (h.offset == n) f (element_at n inside)
-      (λ is _.
+      choose p f (h.offset == n) f (element_at n inside) d
+      (λ is.
       first p true h f f i.behind v.0.entry.header is
       (ap (λ (l : List ℕ). opening h ++ l) i.octets ∙ sym (append_assoc (opening h) (kept inside) i.behind))
       (append_assoc (octets_of h) (lead h) (kept inside) ∙ ap (λ (l : List ℕ). octets_of h ++ l) (sym (append-nil (lead h ++ kept inside)))))
-      (λ _ some. in_rest p (inside_of p h) f inside (element_at n inside) (opening h) refl refl (find (inside_of p h) inside v.1 some))
+      (λ _ some. in_rest p (inside_of p h) f inside d (opening h) refl refl (find (inside_of p h) inside v.1 d some))
       some
-  find p (Awaiting h) v some =
-      choose p (Awaiting h) (h.offset == n) (Awaiting h) Stop
-      (λ is _. first p true h (Awaiting h) (Awaiting h) [] v.entry.header is (sym (append-nil (octets_of h))) (sym (append-nil (octets_of h))))
-      (λ _ some. none p (Awaiting h) some)
+  find p (Awaiting h) v d some =
+      choose p (Awaiting h) (h.offset == n) (Awaiting h) None d
+      (λ is. first p true h (Awaiting h) (Awaiting h) [] v.entry.header is (sym (append-nil (octets_of h))) (sym (append-nil (octets_of h))))
+      (λ _ some. none p (Awaiting h) d some)
       some
-  find p (Begun octets) v some = none p (Begun octets) some
-  find p Zero v some = none p Zero some
+  find p (Begun octets) v d some = none p (Begun octets) d some
+  find p Zero v d some = none p Zero d some

@@ -38,11 +38,13 @@ module _ (s : Extracting) (w : Stand) (xs : List ℕ) (e : s.stand ≡ w) where
   passed = ap (λ (t : Following Extracting). t.put) (all_passed s xs) ∙ ap (λ (w : Stand). of_element w xs) e
 
   -- what is made of octets where the walk stands
-  pub puts_passed : {D : Type 0} (told : D → Taken) (a b : Out D) (r : Result ⊤ WriteFault) → Puts {T = ⊤} {E = WriteFault} told a b (of_element w xs) r → Puts told a b (each_octet one_passed s xs).put r
+  pub puts_passed : {D : Type 0} (told : D → Taken) (a b : Out D) (r : Result ⊤ WriteFault)
+      → Puts {T = ⊤} {E = WriteFault} told a b (of_element w xs) r → Puts told a b (each_octet one_passed s xs).put r
   puts_passed told a b r p = rw (passed) p
 
 -- outside the element wanted nothing is put
-pub none_passed : (s : Extracting) (w : Stand) (xs : List ℕ) {D : Type 0} (told : D → Taken) (a : Out D) → s.stand ≡ w → ((level : ℕ) → w ≡ Inside level → ⊥) → HasPut told a a (each_octet one_passed s xs).put
+pub none_passed : (s : Extracting) (w : Stand) (xs : List ℕ) {D : Type 0} (told : D → Taken) (a : Out D) → s.stand ≡ w
+    → ((level : ℕ) → w ≡ Inside level → ⊥) → HasPut told a a (each_octet one_passed s xs).put
 none_passed s Before xs told a e n = puts_passed s Before xs e told a a (Ok tt) (puts_nothing told a tt)
 none_passed s (Inside level) xs told a e n = absurd (n level refl)
 none_passed s Behind xs told a e n = puts_passed s Behind xs e told a a (Ok tt) (puts_nothing told a tt)

@@ -31,11 +31,13 @@ module _ (framing : Framing) (n : ℕ) (only : Bool) (t : Extracting) (old new :
   made_cut : (octets : List ℕ) (f : Forest) → IsReading framing octets f → IsCut n only (element_at n f) (followed extracted (waiting n only) (events f))
   made_cut octets f r = told n only (top framing) f r.is_open (omega arith)
 
-  text : (octets : List ℕ) (f : Forest) → length octets ≤ 2 ^ 40 → IsReading framing octets f → (followed extracted (waiting n only) (events f)).put ≡ cut n only f
+  text : (octets : List ℕ) (f : Forest) → length octets ≤ 2 ^ 40 → IsReading framing octets f
+      → (followed extracted (waiting n only) (events f)).put ≡ cut n only f
   text octets f few r = (made_cut octets f r).put
 
   -- more is wanted where the element is not whole
-  enough : (octets : List ℕ) (f : Forest) → length octets ≤ 2 ^ 40 → IsReading framing octets f → had_enough (followed extracted (waiting n only) (events f)).goes ≡ has_whole_element_at n f
+  enough : (octets : List ℕ) (f : Forest) → length octets ≤ 2 ^ 40 → IsReading framing octets f
+      → had_enough (followed extracted (waiting n only) (events f)).goes ≡ has_whole_element_at n f
   enough octets f few r = ap had_enough (made_cut octets f r).goes ∙ jobs.had-goes (has_whole_element_at n f)
 
   -- an answer with these values
@@ -46,8 +48,11 @@ module _ (framing : Framing) (n : ℕ) (only : Bool) (t : Extracting) (old new :
       → Drives extracted framing (2 ^ 40) (waiting n only) t old new from to (Ok run) → Runs (cutting framing n only) old new from to (Ok answer)
   extracts_ok run answer ending found x =
       jobs.runs_ok extracted (cutting framing n only) (waiting n only) text enough t old new from to run answer x
-      (λ octets f e few r state is. answer_is answer e (has_element_at n f) (ending ∙ ap (λ (k : Run). k.ending) is ∙ jobs.run-ending framing f (followed_events extracted (waiting n only) (events f)) (followed extracted (waiting n only) (events f)).goes e)
+      (λ octets f e few r state is. answer_is answer e (has_element_at n f)
+      (ending ∙ ap (λ (k : Run). k.ending) is
+      ∙ jobs.run-ending framing f (followed_events extracted (waiting n only) (events f)) (followed extracted (waiting n only) (events f)).goes e)
       (found ∙ ap (λ (k : Extracting). has_begun k.stand) state ∙ (made_cut octets f r).found))
 
-  pub extracts_err : (e : DeviceFault) → Drives extracted framing (2 ^ 40) (waiting n only) t old new from to (Err e) → Runs (cutting framing n only) old new from to (Err e)
+  pub extracts_err : (e : DeviceFault) → Drives extracted framing (2 ^ 40) (waiting n only) t old new from to (Err e)
+      → Runs (cutting framing n only) old new from to (Err e)
   extracts_err e x = jobs.runs_err extracted (cutting framing n only) (waiting n only) text enough t old new from to e x

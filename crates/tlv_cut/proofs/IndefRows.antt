@@ -9,10 +9,11 @@ use Rattle.tlv_walk.specs.Ending.{fault}
 use Rattle.tlv_walk.specs.Events.{Open, Close, Enter, Unused, Leave}
 use Rattle.tlv_walk.proofs.Readings.{reading}
 use Rattle.tlv_walk.proofs.Endings.{ending}
-use Rattle.tlv_cut.specs.Indef.{respelled}
-use Rattle.tlv_cut.specs.IndefForest.{indefinite}
+use Rattle.tlv_cut.specs.Indef.{indefinite}
 use Rattle.tlv_cut.specs.IndefNext.{respelled_event}
 use Rattle.tlv_cut.specs.IndefRuns.{unnamed}
+use Rattle.tlv_cut.specs.Placed.{placed}
+use Rattle.tlv_cut.proofs.IndefFolds.{respelled}
 
 -- what is written of an input
 abbrev written : Bool → List ℕ → List ℕ
@@ -25,7 +26,8 @@ nothing = refl
 a-sequence : written false (0x30 ∷ 3 ∷ 2 ∷ 1 ∷ 5 ∷ []) ≡ 0x30 ∷ 0x80 ∷ 2 ∷ 1 ∷ 5 ∷ 0 ∷ 0 ∷ []
 a-sequence = refl
 
-its-second-reading : indefinite 0 (reading (unnamed false) (0x30 ∷ 3 ∷ 2 ∷ 1 ∷ 5 ∷ [])) ≡ reading (unnamed false) (0x30 ∷ 0x80 ∷ 2 ∷ 1 ∷ 5 ∷ 0 ∷ 0 ∷ [])
+its-second-reading : placed 0 (indefinite (reading (unnamed false) (0x30 ∷ 3 ∷ 2 ∷ 1 ∷ 5 ∷ [])))
+    ≡ reading (unnamed false) (0x30 ∷ 0x80 ∷ 2 ∷ 1 ∷ 5 ∷ 0 ∷ 0 ∷ [])
 its-second-reading = refl
 
 written-again : written false (0x30 ∷ 0x80 ∷ 2 ∷ 1 ∷ 5 ∷ 0 ∷ 0 ∷ []) ≡ 0x30 ∷ 0x80 ∷ 2 ∷ 1 ∷ 5 ∷ 0 ∷ 0 ∷ []
@@ -70,6 +72,16 @@ padding-between = refl
 padding-again : written true (0x30 ∷ 0x80 ∷ 0 ∷ 0 ∷ 0 ∷ 0x30 ∷ 0x80 ∷ 5 ∷ 0 ∷ 0 ∷ 0 ∷ [])
     ≡ 0x30 ∷ 0x80 ∷ 0 ∷ 0 ∷ 0 ∷ 0x30 ∷ 0x80 ∷ 5 ∷ 0 ∷ 0 ∷ 0 ∷ []
 padding-again = refl
+
+-- 04 05 30 03 02 01 07, named: a wrapper is a primitive, whose header stays
+a-wrapper : respelled (reading (record { inside = 0 ∷ []; padding = false }) (4 ∷ 5 ∷ 0x30 ∷ 3 ∷ 2 ∷ 1 ∷ 7 ∷ []))
+    ≡ 4 ∷ 5 ∷ 0x30 ∷ 0x80 ∷ 2 ∷ 1 ∷ 7 ∷ 0 ∷ 0 ∷ []
+a-wrapper = refl
+
+-- 03 04 00 30 00, named and cut off
+an-open-wrapper : respelled (reading (record { inside = 0 ∷ []; padding = false }) (3 ∷ 4 ∷ 0 ∷ 0x30 ∷ 0 ∷ []))
+    ≡ 3 ∷ 4 ∷ 0 ∷ 0x30 ∷ 0x80 ∷ 0 ∷ 0 ∷ []
+an-open-wrapper = refl
 
 -- ---- events
 

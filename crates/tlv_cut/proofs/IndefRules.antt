@@ -1,36 +1,63 @@
 -- The same elements with indefinite lengths keep all rules.
-use Rattle.std.proofs.Common.{◌≡◌, ℕ, ◌+◌, ◌<◌, ◌≤◌, Bool, true, false, ◌||◌, eqb, [], ◌∷◌, length, Option, None, IfSome, refl, sym, ap, ◌∙◌, subst}
+use Rattle.std.proofs.Common.{refl, sym, ap, ◌∙◌, subst}
+use Rattle.std.specs.Prelude.{◌≡◌, ℕ, ◌+◌, ◌<◌, ◌≤◌, Bool, true, false, ◌||◌, eqb, if◌then◌else◌, List, [], ◌∷◌, ◌++◌, length, Option, None, IfSome}
 use Rattle.tlv_head.specs.declared.header.Size.{Size}
 use Rattle.tlv_head.specs.declared.header.Size.TheVariants.{Indefinite}
 use Rattle.tlv_head.specs.Header.{AllowsSize, Heading, is_wrapper, octets_of}
-use Rattle.tlv_walk.specs.Forest.{Forest, Stop, Fill, Whole, Closed, Partial, Entered, Awaiting, Begun, Zero, extent, has_element, is_whole, lead, opening}
+use Rattle.tlv_walk.specs.Forest.{Forest, Stop, Fill, Whole, Closed, Partial, Entered, Awaiting, Begun, Zero}
+use Rattle.tlv_walk.specs.Forest.{extent, has_element, is_whole, lead, opening, spell}
 use Rattle.tlv_walk.specs.Place.{Fits, IsHeadAt, IsOpen, Place, after, bound_in, inside_of}
-use Rattle.tlv_cut.specs.IndefForest.{indefinite, indefinite_heading}
+use Rattle.tlv_cut.specs.Indef.{indefinite, indefinite_heading}
+use Rattle.tlv_cut.specs.Placed.{placed}
 use Rattle.tlv_cut.proofs.IndefFolds.{lead_by}
-use Rattle.tlv_cut.proofs.IndefSpelled.{constructed_at, is_named}
+use Rattle.tlv_cut.proofs.IndefSpelled.{constructed_at, is_named, placed-spelled}
 
--- nothing is open
-pub whole : (at : ℕ) (f : Forest) → is_whole f ≡ true → is_whole (indefinite at f) ≡ true
-whole at Stop e = refl
-whole at (Fill rest) e = whole (at + 1) rest e
-whole at (Whole h c rest) e = whole (at + (length (octets_of h) + length c)) rest e
-whole at (Closed h inside rest) e =
-    let head = indefinite_heading at h in
-    whole (at + extent head (indefinite (at + length (opening head)) inside)) rest e
-whole at (Partial h c) e = absurd (cc)
-whole at (Entered h inside) e = absurd (cc)
-whole at (Awaiting h) e = absurd (cc)
-whole at (Begun octets) e = refl
-whole at Zero e = refl
+-- nothing is open, wherever the elements stand
+placed-whole : (at : ℕ) (f : Forest) → is_whole (placed at f) ≡ is_whole f
+placed-whole at Stop = refl
+placed-whole at (Fill rest) = placed-whole (at + 1) rest
+placed-whole at (Whole h c rest) = placed-whole (at + (length (octets_of h) + length c)) rest
+placed-whole at (Closed h inside rest) = placed-whole (at + extent h inside) rest
+placed-whole at (Partial h c) = refl
+placed-whole at (Entered h inside) = refl
+placed-whole at (Awaiting h) = refl
+placed-whole at (Begun octets) = refl
+placed-whole at Zero = refl
 
-pub some : (at : ℕ) (f : Forest) → is_whole f ≡ true → has_element f ≡ true → has_element (indefinite at f) ≡ true
+-- nor is it with indefinite lengths
+closed_whole : (constructed : Bool) (h : Heading) (c : List ℕ) (inside rest : Forest) → is_whole rest ≡ true
+    → is_whole (if constructed then Closed (indefinite_heading h) inside rest else Whole h c rest) ≡ true
+closed_whole true h c inside rest e = e
+closed_whole false h c inside rest e = e
+
+indefinite-whole : (f : Forest) → is_whole f ≡ true → is_whole (indefinite f) ≡ true
+indefinite-whole Stop e = refl
+indefinite-whole (Fill rest) e = indefinite-whole rest e
+indefinite-whole (Whole h c rest) e = indefinite-whole rest e
+indefinite-whole (Closed h inside rest) e = closed_whole h.constructed h _ (indefinite inside) (indefinite rest) (indefinite-whole rest e)
+indefinite-whole (Partial h c) e = absurd (cc)
+indefinite-whole (Entered h inside) e = absurd (cc)
+indefinite-whole (Awaiting h) e = absurd (cc)
+indefinite-whole (Begun octets) e = refl
+indefinite-whole Zero e = refl
+
+pub whole : (at : ℕ) (f : Forest) → is_whole f ≡ true → is_whole (placed at (indefinite f)) ≡ true
+whole at f e = placed-whole at (indefinite f) ∙ indefinite-whole f e
+
+-- an element is there
+closed_some : (constructed : Bool) (at : ℕ) (h : Heading) (c : List ℕ) (inside rest : Forest)
+    → has_element (placed at (if constructed then Closed (indefinite_heading h) inside rest else Whole h c rest)) ≡ true
+closed_some true at h c inside rest = refl
+closed_some false at h c inside rest = refl
+
+pub some : (at : ℕ) (f : Forest) → is_whole f ≡ true → has_element f ≡ true → has_element (placed at (indefinite f)) ≡ true
 some at Stop w e = e
 some at (Fill rest) w e = some (at + 1) rest w e
 some at (Whole h c rest) w e = refl
-some at (Closed h inside rest) w e = refl
-some at (Partial h c) w e = refl
-some at (Entered h inside) w e = refl
-some at (Awaiting h) w e = refl
+some at (Closed h inside rest) w e = closed_some h.constructed at h _ (indefinite inside) (indefinite rest)
+some at (Partial h c) w e = absurd (cc)
+some at (Entered h inside) w e = absurd (cc)
+some at (Awaiting h) w e = absurd (cc)
 some at (Begun octets) w e = absurd (cc)
 some at Zero w e = absurd (cc)
 
@@ -69,7 +96,10 @@ primitive_at p q h k v = record {
 }
 
 -- that of a constructed element
-constructed_head : (p q : Place) (h : Heading) → IsFree p q → IsHeadAt p true h → IsHeadAt q true (indefinite_heading q.at h)
+abbrev heading_at : Place → Heading → Heading
+heading_at q h = record (indefinite_heading h) { offset = q.at }
+
+constructed_head : (p q : Place) (h : Heading) → IsFree p q → IsHeadAt p true h → IsHeadAt q true (heading_at q h)
 constructed_head p q h k v =
     let constructed = constructed_at p h k.names v in
     record {
@@ -79,7 +109,28 @@ constructed_head p q h k v =
       form = ap (λ (c : Bool). c || is_wrapper h.named h.class c h.number Indefinite) constructed;
     }
 
-pub is_open : (p q : Place) (f : Forest) → IsFree p q → IsOpen p f → IsOpen q (indefinite q.at f)
+-- what follows an element does not stand elsewhere for the offsets of what the element holds
+follows : (q : Place) (h : Heading) (at : ℕ) (inside rest : Forest) → IsOpen (after q (extent (heading_at q h) inside)) rest
+    → IsOpen (after q (extent (heading_at q h) (placed at inside))) rest
+follows q h at inside rest v =
+    subst (λ (l : List ℕ). IsOpen (after q (length (opening (heading_at q h)) + (length l + 2))) rest) (sym (placed-spelled at inside)) v
+
+-- where a constructed element is open, it is with an indefinite length
+made_closed : (q : Place) (h : Heading) (inside rest : Forest) → h.constructed ≡ true
+    → IsOpen q (placed q.at (Closed (indefinite_heading h) (indefinite inside) (indefinite rest))) → IsOpen q (placed q.at (indefinite (Closed h inside rest)))
+made_closed q h inside rest e v =
+    let one = Closed (indefinite_heading h) (indefinite inside) (indefinite rest) in
+    let other = Whole h (lead h ++ spell (indefinite inside)) (indefinite rest) in
+    subst (λ (k : Bool). IsOpen q (placed q.at (if k then one else other))) (sym e) v
+
+made_entered : (q : Place) (h : Heading) (inside : Forest) → h.constructed ≡ true
+    → IsOpen q (placed q.at (Entered (indefinite_heading h) (indefinite inside))) → IsOpen q (placed q.at (indefinite (Entered h inside)))
+made_entered q h inside e v =
+    let one = Entered (indefinite_heading h) (indefinite inside) in
+    let other = Partial h (lead h ++ spell (indefinite inside)) in
+    subst (λ (k : Bool). IsOpen q (placed q.at (if k then one else other))) (sym e) v
+
+pub is_open : (p q : Place) (f : Forest) → IsFree p q → IsOpen p f → IsOpen q (placed q.at (indefinite f))
 is_open p q Stop k v = tt
 is_open p q (Fill rest) k v = (
   record { allowed = k.padding v.0.allowed; definite = k.definite v.0.allowed; fits = free_fits p q k 1 },
@@ -91,17 +142,20 @@ is_open p q (Whole h c rest) k v =
       is_open (after p n) (after q n) rest (free_after p q n n k) v.1,
     )
 is_open p q (Closed h inside rest) k v =
-    let head = indefinite_heading q.at h in
-    let held = indefinite (q.at + length (opening head)) inside in (
+    let head = heading_at q h in
+    let at = q.at + length (opening head) in
+    let n = extent head (indefinite inside) in
+    made_closed q h inside rest (constructed_at p h k.names v.0.header) (
       record {
         header = constructed_head p q h k v.0.header;
         depth = subst (λ (d : ℕ). d < 128) (sym k.depth) v.0.depth;
-        whole = whole (q.at + length (opening head)) inside v.0.whole;
+        whole = whole at inside v.0.whole;
         filled = tt;
-        fits = free_fits p q k (extent head held);
+        fits = free_fits p q k (extent head (placed at (indefinite inside)));
       },
       is_open (inside_of p h) (inside_of q head) inside (free_inside p q h head refl k) v.1,
-      is_open (after p (extent h inside)) (after q (extent head held)) rest (free_after p q (extent h inside) (extent head held) k) v.2,
+      follows q h at (indefinite inside) (placed (q.at + n) (indefinite rest))
+          (is_open (after p (extent h inside)) (after q n) rest (free_after p q (extent h inside) n k) v.2),
     )
 is_open p q (Partial h c) k v = record {
   header = primitive_at p q h k v.header;
@@ -111,9 +165,14 @@ is_open p q (Partial h c) k v = record {
   fits = free_fits p q k (length (octets_of h) + v.announces);
 }
 is_open p q (Entered h inside) k v =
-    let head = indefinite_heading q.at h in (
+    let head = heading_at q h in
+    made_entered q h inside (constructed_at p h k.names v.0.entry.header) (
       record {
-        entry = record { header = constructed_head p q h k v.0.entry.header; depth = subst (λ (d : ℕ). d < 128) (sym k.depth) v.0.entry.depth; fits = free_fits p q k (length (octets_of head) + 0) };
+        entry = record {
+          header = constructed_head p q h k v.0.entry.header;
+          depth = subst (λ (d : ℕ). d < 128) (sym k.depth) v.0.entry.depth;
+          fits = free_fits p q k (length (octets_of head) + 0);
+        };
         lacks = λ w. tt;
       },
       is_open (inside_of p h) (inside_of q head) inside (free_inside p q h head refl k) v.1,

@@ -12,10 +12,9 @@ use Rattle.tlv_walk.specs.Forest.{Forest}
 use Rattle.tlv_walk.specs.Job.{Runs}
 use Rattle.tlv_walk.specs.Reading.{IsReading}
 use Rattle.tlv_walk.proofs.Jobs as jobs
-use Rattle.tlv_cut.specs.Indef.{respelled}
 use Rattle.tlv_cut.specs.IndefNext.{indef_next}
 use Rattle.tlv_cut.specs.IndefRuns.{respelling}
-use Rattle.tlv_cut.proofs.IndefFolds.{folds, follows}
+use Rattle.tlv_cut.proofs.IndefFolds.{folds, follows, respelled}
 
 module _ {S : Type 0} (framing : Framing) (s t : S) (old new : Supply) (from to : Taken) where
   -- what is put of a reading is the elements respelled
@@ -29,7 +28,8 @@ module _ {S : Type 0} (framing : Framing) (s t : S) (old new : Supply) (from to 
   pub runs_ok : (run : Run) → Drives indef_next framing (2 ^ 40) s t old new from to (Ok run) → Runs (respelling framing) old new from to (Ok run.ending)
   runs_ok run x =
       jobs.runs_ok indef_next (respelling framing) s text goes_on t old new from to run run.ending x
-      (λ octets f e few r state is. ap (λ (k : Run). k.ending) is ∙ jobs.run-ending framing f (followed_events indef_next s (events f)) (followed indef_next s (events f)).goes e)
+      (λ octets f e few r state is. ap (λ (k : Run). k.ending) is
+      ∙ jobs.run-ending framing f (followed_events indef_next s (events f)) (followed indef_next s (events f)).goes e)
 
   pub runs_err : (e : DeviceFault) → Drives indef_next framing (2 ^ 40) s t old new from to (Err e) → Runs (respelling framing) old new from to (Err e)
   runs_err e x = jobs.runs_err indef_next (respelling framing) s text goes_on t old new from to e x

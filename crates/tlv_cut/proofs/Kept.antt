@@ -1,5 +1,6 @@
 -- What an `Extract` makes of the events of what the element wanted holds: it passes their octets on.
-use Rattle.std.proofs.Common.{◌≡◌, ℕ, suc, ◌≤◌, Bool, true, false, eqb, if◌then◌else◌, List, [], ◌∷◌, ◌++◌, map, refl, sym, ap, ap₂, ◌∙◌, arith, append_assoc, append-nil}
+use Rattle.std.proofs.Common.{refl, sym, ap, ap₂, ◌∙◌, arith, append_assoc, append-nil}
+use Rattle.std.specs.Prelude.{◌≡◌, ℕ, suc, ◌≤◌, Bool, true, false, eqb, if◌then◌else◌, List, [], ◌∷◌, ◌++◌, map}
 use Rattle.tlv_head.specs.declared.header.Size.{Size}
 use Rattle.tlv_head.specs.declared.header.Size.TheVariants.{Definite, Indefinite}
 use Rattle.tlv_head.specs.Header.{AllowsSize, Heading, octets_of}
@@ -11,9 +12,13 @@ use Rattle.tlv_walk.specs.Forest.{Forest, Stop, Fill, Whole, Closed, Partial, En
 use Rattle.tlv_walk.specs.Place.{IsOpen, Place, after, inside_of}
 use Rattle.tlv_walk.proofs.Followed.{followed-more, followed-one}
 use Rattle.tlv_cut.specs.declared.extractor.Stand.TheVariants as stand
-use Rattle.tlv_cut.specs.Cut.{kept}
+use Rattle.tlv_cut.specs.Cut.{cut_of}
 use Rattle.tlv_cut.specs.Extracted.{Extracting, begun, ended, extracted, has_begun, of_element}
 use Rattle.tlv_cut.proofs.Extracted.{all_passed, of_element-none, puts}
+
+-- the octets of elements so far
+abbrev pub kept : Forest → List ℕ
+kept f = cut_of false f
 
 -- ---- events one behind another
 
@@ -102,14 +107,16 @@ module _ (n : ℕ) (only : Bool) where
   one_more : (level : ℕ) (h : Heading) → level ≤ 128 → begun (stand.Inside level) (held level) h ≡ puts (held (suc level)) (octets_of h)
   one_more level h low = ap (λ (m : ℕ). puts (held m) (octets_of h)) (omega (arith, low))
 
-  whole_kept : (level : ℕ) (h : Heading) (c : List ℕ) → level ≤ 128 → followed extracted (held level) (Begin h ∷ Bytes c ∷ End ∷ []) ≡ puts (held level) (octets_of h ++ c)
+  whole_kept : (level : ℕ) (h : Heading) (c : List ℕ) → level ≤ 128
+      → followed extracted (held level) (Begin h ∷ Bytes c ∷ End ∷ []) ≡ puts (held level) (octets_of h ++ c)
   whole_kept level h c low =
       then_more (held level) (held (suc level)) (octets_of h ++ c) (Begin h ∷ Bytes c ∷ []) (End ∷ [])
       (begins_told (held level) (held (suc level)) (octets_of h) h c (one_more level h low))
       ∙ ap (puts (held level)) (append-nil (octets_of h ++ c))
 
   closed_kept : (level : ℕ) (h : Heading) (inside : Forest) → level ≤ 128 → AllowsSize h.constructed h.size → is_whole inside ≡ true → IsKept (suc level) inside
-      → followed extracted (held level) (opens h ++ (events inside ++ closes h inside ∷ [])) ≡ puts (held level) (opening h ++ (kept inside ++ end_octets h.size))
+      → followed extracted (held level) (opens h ++ (events inside ++ closes h inside ∷ []))
+      ≡ puts (held level) (opening h ++ (kept inside ++ end_octets h.size))
   closed_kept level h inside low allowed whole k =
       then_more (held level) (held (suc level)) (opening h) (opens h) (events inside ++ closes h inside ∷ [])
       (opens_told (held level) (held (suc level)) (octets_of h) h (one_more level h low))
@@ -129,7 +136,8 @@ module _ (n : ℕ) (only : Bool) where
       let i : IsKept (suc level) inside = within (inside_of p h) (suc level) inside v.1 (omega (arith, low)) (omega (arith, v.0.depth)) in
       kept_behind level (opens h ++ (events inside ++ closes h inside ∷ [])) (opening h ++ (kept inside ++ end_octets h.size)) (Closed h inside rest) rest
       (closed_kept level h inside (omega (arith, low, deep)) v.0.header.valid.allowed v.0.whole i) (closed_again h inside rest)
-      (append_assoc (opening h) (kept inside ++ end_octets h.size) (kept rest) ∙ ap (λ (l : List ℕ). opening h ++ l) (append_assoc (kept inside) (end_octets h.size) (kept rest))) refl
+      (append_assoc (opening h) (kept inside ++ end_octets h.size) (kept rest)
+      ∙ ap (λ (l : List ℕ). opening h ++ l) (append_assoc (kept inside) (end_octets h.size) (kept rest))) refl
       (within (after p (extent h inside)) level rest v.2 low deep)
   within p level (Partial h c) v low deep =
       let all = begins_told (held level) (held (suc level)) (octets_of h) h c (one_more level h (omega (arith, low, deep))) in

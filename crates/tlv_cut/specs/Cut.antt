@@ -1,62 +1,49 @@
 -- What `extract` writes: an element, or its contents.
-use Rattle.std.specs.Prelude.{ℕ, Bool, ◌==◌, ◌&&◌, if◌then◌else◌, List, [], ◌++◌}
+use Rattle.std.specs.Prelude.{ℕ, Bool, false, ◌==◌, if◌then◌else◌, List, [], ◌++◌, Option, Some, None}
+use Rattle.std.specs.Option.{is_some, option_map_or, option_or}
 use Rattle.tlv_head.specs.Header.{octets_of}
-use Rattle.tlv_walk.specs.Forest.{Forest, Stop, Fill, Whole, Closed, Partial, Entered, Awaiting, Begun, Zero, end_octets, has_element, is_whole, lead, opening}
+use Rattle.tlv_walk.specs.Forest.{Forest, Stop, Fill, Whole, Closed, Partial, Entered, Awaiting, Begun, Zero, end_octets, is_whole, lead}
 
--- the first element, or where there is none the other
-abbrev pub first_of : Forest → Forest → Forest
-first_of one other = if has_element one then one else other
-
--- the element at this offset by itself, where its header is whole; else nothing. No two stand at one offset
-abbrev pub element_at : ℕ → Forest → Forest
-element_at n Stop = Stop
+-- the element at this offset by itself, if its header is whole. No two stand at one offset
+abbrev pub element_at : ℕ → Forest → Option Forest
+element_at n Stop = None
 element_at n (Fill rest) = element_at n rest
-element_at n (Whole h c rest) = if h.offset == n then Whole h c Stop else element_at n rest
-element_at n (Closed h inside rest) = if h.offset == n then Closed h inside Stop else first_of (element_at n inside) (element_at n rest)
-element_at n (Partial h c) = if h.offset == n then Partial h c else Stop
-element_at n (Entered h inside) = if h.offset == n then Entered h inside else element_at n inside
-element_at n (Awaiting h) = if h.offset == n then Awaiting h else Stop
-element_at n (Begun octets) = Stop
-element_at n Zero = Stop
+element_at n (Whole h c rest) = if h.offset == n then Some (Whole h c Stop) else element_at n rest
+element_at n (Closed h inside rest) = if h.offset == n then Some (Closed h inside Stop) else option_or (element_at n inside) (element_at n rest)
+element_at n (Partial h c) = if h.offset == n then Some (Partial h c) else None
+element_at n (Entered h inside) = if h.offset == n then Some (Entered h inside) else element_at n inside
+element_at n (Awaiting h) = if h.offset == n then Some (Awaiting h) else None
+element_at n (Begun octets) = None
+element_at n Zero = None
+
+-- octets around contents, unless the contents alone are wanted
+abbrev pub unless : Bool → List ℕ → List ℕ
+unless contents_only octets = if contents_only then [] else octets
 
 -- 8.1.1.1: the octets of elements so far, without an unfinished header and without the first octet of unfinished
--- end-of-contents octets. Padding is of no element
-abbrev pub kept : Forest → List ℕ
-kept Stop = []
-kept (Fill rest) = kept rest
-kept (Whole h c rest) = octets_of h ++ (c ++ kept rest)
-kept (Closed h inside rest) = opening h ++ (kept inside ++ (end_octets h.size ++ kept rest))
-kept (Partial h c) = octets_of h ++ c
-kept (Entered h inside) = opening h ++ kept inside
-kept (Awaiting h) = octets_of h
-kept (Begun octets) = []
-kept Zero = []
-
--- 8.1.1.1 c): the contents octets of an element so far: neither its identifier and length octets nor its end-of-contents
--- octets. The first contents octet of a wrapping BIT STRING is one of them
-abbrev pub contents_of : Forest → List ℕ
-contents_of Stop = []
-contents_of (Fill rest) = []
-contents_of (Whole h c rest) = c
-contents_of (Closed h inside rest) = lead h ++ kept inside
-contents_of (Partial h c) = c
-contents_of (Entered h inside) = lead h ++ kept inside
-contents_of (Awaiting h) = []
-contents_of (Begun octets) = []
-contents_of Zero = []
-
--- an element, or its contents alone
+-- end-of-contents octets; or the contents octets of each alone: neither its identifier and length octets nor its
+-- end-of-contents octets. The first contents octet of a wrapping BIT STRING is one of them. Padding is of no element
 abbrev pub cut_of : Bool → Forest → List ℕ
-cut_of contents_only element = if contents_only then contents_of element else kept element
+cut_of contents_only Stop = []
+cut_of contents_only (Fill rest) = cut_of contents_only rest
+cut_of contents_only (Whole h c rest) = unless contents_only (octets_of h) ++ (c ++ cut_of contents_only rest)
+cut_of contents_only (Closed h inside rest) =
+    (unless contents_only (octets_of h) ++ lead h)
+    ++ (cut_of false inside ++ (unless contents_only (end_octets h.size) ++ cut_of contents_only rest))
+cut_of contents_only (Partial h c) = unless contents_only (octets_of h) ++ c
+cut_of contents_only (Entered h inside) = (unless contents_only (octets_of h) ++ lead h) ++ cut_of false inside
+cut_of contents_only (Awaiting h) = unless contents_only (octets_of h)
+cut_of contents_only (Begun octets) = []
+cut_of contents_only Zero = []
 
 -- what is written of elements: the one at this offset, or its contents alone
 abbrev pub cut : ℕ → Bool → Forest → List ℕ
-cut n contents_only f = cut_of contents_only (element_at n f)
+cut n contents_only f = option_map_or (cut_of contents_only) (element_at n f) []
 
 -- an element whose header is whole stands at this offset
 abbrev pub has_element_at : ℕ → Forest → Bool
-has_element_at n f = has_element (element_at n f)
+has_element_at n f = is_some (element_at n f)
 
 -- and it is whole
 abbrev pub has_whole_element_at : ℕ → Forest → Bool
-has_whole_element_at n f = has_element (element_at n f) && is_whole (element_at n f)
+has_whole_element_at n f = option_map_or is_whole (element_at n f) false

@@ -7,6 +7,7 @@ use Rattle.tlv_walk.specs.Events.{Told, Open, Begin, Bytes, End, Close, Enter, U
 use Rattle.tlv_walk.specs.Follow.{Following, each_octet, stay}
 use Rattle.tlv_cut.specs.declared.extractor.Stand.{Stand}
 use Rattle.tlv_cut.specs.declared.extractor.Stand.TheVariants.{Before, Inside, Behind}
+use Rattle.tlv_cut.specs.Cut.{unless}
 
 -- what contracts see of an `Extract`
 pub record Extracting : Type 0 where
@@ -31,13 +32,9 @@ has_begun Behind = true
 abbrev pub moves : Extracting → Stand → List ℕ → Go → Following Extracting
 moves s stand octets goes = record { state = record s { stand = stand }; put = octets; goes = goes }
 
--- of the octets around the contents of the element wanted
-abbrev pub around : Extracting → List ℕ → List ℕ
-around s octets = if s.contents_only then [] else octets
-
 -- an element begins: the one wanted, or one that it holds. The count of those stops at 255
 abbrev pub begun : Stand → Extracting → Heading → Following Extracting
-begun Before s h = if h.offset == s.offset then moves s (Inside 0) (around s (octets_of h)) On else stay s
+begun Before s h = if h.offset == s.offset then moves s (Inside 0) (unless s.contents_only (octets_of h)) On else stay s
 begun (Inside level) s h = moves s (Inside (min (level + 1) 255)) (octets_of h) On
 begun Behind s h = stay s
 
@@ -54,7 +51,7 @@ one_passed s x = record { state = s; put = of_element s.stand (x ∷ []); goes =
 -- an element ends, with these end-of-contents octets
 abbrev pub ended : Stand → Extracting → List ℕ → Following Extracting
 ended Before s octets = stay s
-ended (Inside zero) s octets = moves s Behind (around s octets) Enough
+ended (Inside zero) s octets = moves s Behind (unless s.contents_only octets) Enough
 ended (Inside (suc level)) s octets = moves s (Inside level) octets On
 ended Behind s octets = stay s
 

@@ -1,26 +1,25 @@
 -- What `indef` writes: elements with indefinite lengths in place of definite ones (X.690 8.1.3.6).
-use Rattle.std.specs.Prelude.{ℕ, if◌then◌else◌, List, [], ◌∷◌, ◌++◌}
-use Rattle.tlv_head.specs.Header.{Heading, indefinite_octets, octets_of}
-use Rattle.tlv_walk.specs.Forest.{Forest, Stop, Fill, Whole, Closed, Partial, Entered, Awaiting, Begun, Zero, opening}
+use Rattle.std.specs.Prelude.{if◌then◌else◌, [], ◌∷◌, ◌++◌}
+use Rattle.tlv_head.specs.declared.header.Size.TheVariants.{Indefinite}
+use Rattle.tlv_head.specs.Header.{Heading}
+use Rattle.tlv_walk.specs.Forest.{Forest, Stop, Fill, Whole, Closed, Partial, Entered, Awaiting, Begun, Zero, lead, spell}
 
--- 8.1.3.6.1: what comes before the elements that a constructed element holds: its identifier octets, and 80. A string
--- that wraps encodings is a primitive, and stays as it stands
-abbrev pub indefinite_opening : Heading → List ℕ
-indefinite_opening h = if h.constructed then indefinite_octets h else opening h
+-- 8.1.3.6.1: the header with 80 for its length octets
+abbrev pub indefinite_heading : Heading → Heading
+indefinite_heading h = record h { size = Indefinite; lengths = 128 ∷ [] }
 
--- 8.1.5: what comes behind them
-abbrev pub indefinite_end : Heading → List ℕ
-indefinite_end h = if h.constructed then 0 ∷ 0 ∷ [] else []
-
--- elements, each constructed one with an indefinite length; primitives and padding as they stand. An element that has
--- not ended has no end-of-contents octets, not even the first of them, and the front of a header is left out
-abbrev pub respelled : Forest → List ℕ
-respelled Stop = []
-respelled (Fill rest) = 0 ∷ respelled rest
-respelled (Whole h c rest) = octets_of h ++ (c ++ respelled rest)
-respelled (Closed h inside rest) = indefinite_opening h ++ (respelled inside ++ (indefinite_end h ++ respelled rest))
-respelled (Partial h c) = octets_of h ++ c
-respelled (Entered h inside) = indefinite_opening h ++ respelled inside
-respelled (Awaiting h) = octets_of h
-respelled (Begun octets) = []
-respelled Zero = []
+-- elements, each constructed one with an indefinite length; all else as it stands. An unfinished header and the first of
+-- the end-of-contents octets are left out. A wrapper is a primitive: what it holds are its contents octets
+abbrev pub indefinite : Forest → Forest
+indefinite Stop = Stop
+indefinite (Fill rest) = Fill (indefinite rest)
+indefinite (Whole h c rest) = Whole h c (indefinite rest)
+indefinite (Closed h inside rest) =
+    if h.constructed then Closed (indefinite_heading h) (indefinite inside) (indefinite rest)
+    else Whole h (lead h ++ spell (indefinite inside)) (indefinite rest)
+indefinite (Partial h c) = Partial h c
+indefinite (Entered h inside) =
+    if h.constructed then Entered (indefinite_heading h) (indefinite inside) else Partial h (lead h ++ spell (indefinite inside))
+indefinite (Awaiting h) = Awaiting h
+indefinite (Begun octets) = Stop
+indefinite Zero = Stop

@@ -2,19 +2,20 @@
 use Rattle.std.specs.Prelude.{◌^◌, Bool, false, []}
 use Rattle.tlv_walk.specs.declared.ending.Ending.{Ending}
 use Rattle.tlv_walk.specs.declared.framing.Framing.{Framing}
+use Rattle.tlv_walk.specs.Forest.{spell}
 use Rattle.tlv_walk.specs.Job.{Job}
-use Rattle.tlv_cut.specs.Indef.{respelled}
+use Rattle.tlv_cut.specs.Indef.{indefinite}
 
 -- no string is read as encodings, and padding may stand between encodings, or not
 abbrev pub unnamed : Bool → Framing
 unnamed padding = record { inside = []; padding = padding }
 
--- all elements, with the indefinite form of the length in those that are constructed
+-- the octets that spell all elements, with an indefinite length in each that is constructed
 abbrev pub respelling : Framing → Job Ending
 respelling framing = record {
   framing = framing;
   limit = 2 ^ 40;
-  text = respelled;
+  text = λ f. spell (indefinite f);
   is_enough = λ f. false;
   answer = λ f e. e;
 }

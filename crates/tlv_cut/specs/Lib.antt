@@ -1,7 +1,7 @@
 pub mod Indef
 pub mod IndefNext
 pub mod IndefRuns
-pub mod IndefForest
+pub mod Placed
 pub mod IndefLaws
 pub mod Cut
 pub mod Extracted

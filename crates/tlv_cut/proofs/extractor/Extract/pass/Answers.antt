@@ -9,4 +9,6 @@ returns-in-Inside g c =
     puts_passed _ _ _ is g.D.Drain.told _ _ _ c.put.ensures.puts
 
 pub returns-in_default : goal.returns-in_default
-returns-in_default g c = none_passed c.args.self.now c.self.inside.stand c.args.octets.now g.D.Drain.told _ (ap (λ (s : Extracting). s.stand) (sym c.self.view_is)) c.in_default.not-Inside
+returns-in_default g c =
+    none_passed c.args.self.now c.self.inside.stand c.args.octets.now g.D.Drain.told _
+    (ap (λ (s : Extracting). s.stand) (sym c.self.view_is)) c.in_default.not-Inside
