@@ -2,3 +2,4 @@ mod Answered
 mod Building
 mod Numbers
 mod Offsets
+pub mod SaidJobs

@@ -1,5 +1,7 @@
 pub mod Commands
+pub mod Laws
 pub mod Line
 pub mod Report
+pub mod Results
 pub mod Runs
 pub mod Values

@@ -1,0 +1,24 @@
+-- Laws of what commands make of inputs.
+use Rattle.std.specs.Prelude.{◌≡◌, ℕ, ◌^◌, ◌≤◌, Bool, List, ◌++◌, length, Option}
+use Rattle.tlv_value.specs.Names.{Table}
+use Rattle.tlv_walk.specs.declared.ending.Ending.TheVariants.{Done}
+use Rattle.tlv_walk.specs.Laws.{AreOctets}
+use Rattle.tlv_walk.specs.Reading.{IsPrefixOf}
+use Rattle.tlvdump.specs.Results.{IsResultOf, IsSettled, Made}
+use Rattle.tlvdump.specs.declared.command.Command.{Command}
+use Rattle.tlvdump.specs.declared.command.Command.TheVariants.{Indef}
+
+-- an input has a result, and no other
+abbrev pub InputsHaveOneResult : Type 0
+InputsHaveOneResult = (command : Command) (names : Table) (b : List ℕ) → AreOctets b
+    → (made : Made) × IsResultOf command names b made × ((other : Made) → IsResultOf command names b other → other ≡ made)
+
+-- at a fault other than F01 and F02, and where `extract` has its whole element, the result stays, whatever follows
+abbrev pub SettledResultsStay : Type 0
+SettledResultsStay = (command : Command) (names : Table) (b c : List ℕ) (made : Made) → AreOctets (b ++ c)
+    → (x : IsResultOf command names b made) → IsSettled x → IsResultOf command names (b ++ c) made
+
+-- what is written of an input, of no more octets than are read as encodings, goes on from what is written of its front
+abbrev pub OutputsGoOn : Type 0
+OutputsGoOn = (command : Command) (names : Table) (b c : List ℕ) (made more : Made) → length (b ++ c) ≤ 2 ^ 40
+    → IsResultOf command names b made → IsResultOf command names (b ++ c) more → IsPrefixOf made.output more.output
