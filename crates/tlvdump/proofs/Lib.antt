@@ -2,4 +2,5 @@ mod Answered
 mod Building
 mod Numbers
 mod Offsets
+pub mod Results
 pub mod SaidJobs

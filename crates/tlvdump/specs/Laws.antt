@@ -22,3 +22,9 @@ SettledResultsStay = (command : Command) (names : Table) (b c : List ℕ) (made 
 abbrev pub OutputsGoOn : Type 0
 OutputsGoOn = (command : Command) (names : Table) (b c : List ℕ) (made more : Made) → length (b ++ c) ≤ 2 ^ 40
     → IsResultOf command names b made → IsResultOf command names (b ++ c) more → IsPrefixOf made.output more.output
+
+-- what `indef` wrote, read again by `indef`, is written as it stands; and where it ended without a fault it does so again
+abbrev pub SecondIndefIsTheFirst : Type 0
+SecondIndefIsTheFirst = (padding : Bool) (file : Option (List ℕ)) (names : Table) (b : List ℕ) (made again : Made)
+    → IsResultOf (Indef padding file) names b made → IsResultOf (Indef padding file) names made.output again
+    → (again.output ≡ made.output) × (made.ending ≡ Done → again ≡ made)

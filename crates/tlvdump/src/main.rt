@@ -2,6 +2,7 @@
 #![tactic(auto)]
 
 mod command;
+pub mod laws;
 mod matches;
 mod message;
 mod parser;

@@ -1,0 +1,25 @@
+//! Laws of what commands make of inputs: each is the contract of a function that does nothing.
+
+ghost use Rattle.tlvdump.specs.Laws.{InputsHaveOneResult, OutputsGoOn, SecondIndefIsTheFirst, SettledResultsStay};
+
+/// Each input has a result under each command, and only one.
+pub fn one_result()
+    ensures { InputsHaveOneResult }
+{}
+
+/// Nothing counts that follows a fault other than F01 and F02, or the whole element of `extract`: with whatever the input goes
+/// on, what is written and what is said stay.
+pub fn settled_results_stay()
+    ensures { SettledResultsStay }
+{}
+
+/// What a command writes for a longer input is what it writes for the shorter, and then more.
+pub fn outputs_go_on()
+    ensures { OutputsGoOn }
+{}
+
+/// What `indef` wrote, read again by `indef`, is written as it stands. Where the input ended without a fault, so does what was
+/// written.
+pub fn second_indef_is_the_first()
+    ensures { SecondIndefIsTheFirst }
+{}
