@@ -1,4 +1,5 @@
 pub mod Commands
+pub mod Held
 pub mod Laws
 pub mod Line
 pub mod Report

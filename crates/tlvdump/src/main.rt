@@ -2,6 +2,7 @@
 #![tactic(auto)]
 
 mod command;
+mod held;
 pub mod laws;
 mod matches;
 mod message;
