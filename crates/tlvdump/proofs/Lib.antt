@@ -2,5 +2,6 @@ mod Answered
 mod Building
 mod Numbers
 mod Offsets
+pub mod InMemory
 pub mod Results
 pub mod SaidJobs

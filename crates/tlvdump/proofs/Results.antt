@@ -67,22 +67,22 @@ module _ (job : Job Said) where
   Stays = (b c : List ℕ) (f g : Forest) → IsReading job.framing b f → IsReading job.framing (b ++ c) g → job.is_enough f ≡ true
       → (job.is_enough g ≡ true) × ((e : Ending) → made_of job g e ≡ made_of job f e)
 
-  pub settled_stays : Stays → (b c : List ℕ) (made : Made) → AreOctets (b ++ c) → (x : Makes job b made) → IsSettled x → Makes job (b ++ c) made
+  pub settled_stays : Stays → (b c : List ℕ) (made : Made) → AreOctets (b ++ c) → (x : Makes job b made) → IsSettled x → (y : Makes job (b ++ c) made) × IsSettled y
   settled_stays stays b c made octets x s = elim s [
     | inl enough ↦
         let g : Forest = reading job.framing (b ++ c) in
         let r : IsReading job.framing (b ++ c) g = is-reading job.framing (b ++ c) octets in
         let both = stays b c x.reading g x.is_reading r enough in
         let done : made.ending ≡ ending.Done = subst (λ (k : Bool). EndsWith job.framing b k made.ending) enough x.ends in
-        record {
+        (record {
           reading = g;
           is_reading = r;
           ends = subst (λ (k : Bool). EndsWith job.framing (b ++ c) k made.ending) (sym both.0) done;
           is_made = x.is_made ∙ sym (both.1 made.ending);
-        }
+        }, inl both.0)
     | inr final ↦
         let both = final_stays job.framing b c x.reading (job.is_enough x.reading) made.ending final x.is_reading x.ends in
-        record { reading = x.reading; is_reading = both.0; ends = both.1; is_made = x.is_made }
+        (record { reading = x.reading; is_reading = both.0; ends = both.1; is_made = x.is_made }, inr final)
   ]
 
 -- ---- commands
@@ -93,7 +93,7 @@ one_result command names = one_made (running command names)
 abbrev made : List ℕ → Ending → Said → Made
 made t e said = record { output = t; ending = e; said = said }
 
-stays_for : (command : Command) (names : Table) → Stays (running command names)
+pub stays_for : (command : Command) (names : Table) → Stays (running command names)
 stays_for (Dump options names_file file) names b c f g r s e = absurd (true≢false (sym e))
 stays_for (Check rules framing file) names b c f g r s e = absurd (true≢false (sym e))
 stays_for (Extract offset contents framing file) names b c f g r s e =
@@ -107,9 +107,15 @@ stays_for (Extract offset contents framing file) names b c f g r s e =
 stays_for (Indef padding file) names b c f g r s e = absurd (true≢false (sym e))
 
 pub settled_results : SettledResultsStay
-settled_results command names = settled_stays (running command names) (stays_for command names)
+settled_results command names b c made octets x s = (settled_stays (running command names) (stays_for command names) b c made octets x s).0
 
-text_on : (command : Command) (names : Table) (b c : List ℕ) (f g : Forest) → length (b ++ c) ≤ 2 ^ 40 → IsReading (running command names).framing b f → IsReading (running command names).framing (b ++ c) g
+limit_is : (command : Command) (names : Table) → (running command names).limit ≡ 2 ^ 40
+limit_is (Dump options names_file file) names = refl
+limit_is (Check rules framing file) names = refl
+limit_is (Extract offset contents framing file) names = refl
+limit_is (Indef padding file) names = refl
+
+pub text_on : (command : Command) (names : Table) (b c : List ℕ) (f g : Forest) → length (b ++ c) ≤ (running command names).limit → IsReading (running command names).framing b f → IsReading (running command names).framing (b ++ c) g
     → IsPrefixOf ((running command names).text f) ((running command names).text g)
 text_on (Dump options names_file file) names b c f g few r s = dumps_on options names b c f g few r s
 text_on (Check rules framing file) names b c f g few r s = checks_on rules framing b c f g few r s
@@ -120,7 +126,7 @@ pub outputs_on : OutputsGoOn
 outputs_on command names b c made more few x y =
     let shorter : (running command names).text x.reading ≡ made.output = sym (ap (λ (m : Made). m.output) x.is_made) in
     let longer : (running command names).text y.reading ≡ more.output = sym (ap (λ (m : Made). m.output) y.is_made) in
-    let front = text_on command names b c x.reading y.reading few x.is_reading y.is_reading in
+    let front = text_on command names b c x.reading y.reading (subst (λ (n : ℕ). length (b ++ c) ≤ n) (sym (limit_is command names)) few) x.is_reading y.is_reading in
     (front.0, ap (λ (l : List ℕ). l ++ front.0) (sym shorter) ∙ front.1 ∙ longer)
 
 pub second_indef : SecondIndefIsTheFirst

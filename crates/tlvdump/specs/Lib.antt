@@ -2,6 +2,7 @@ pub mod Commands
 pub mod Held
 pub mod Laws
 pub mod Line
+pub mod Octets
 pub mod Report
 pub mod Results
 pub mod Runs

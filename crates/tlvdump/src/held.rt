@@ -1,7 +1,6 @@
 //! Devices over memory that fail in one place alone: two sources, and a drain that has room of its own.
-ghost use Rattle.std.specs.Prelude.{◌≡◌, ◌<◌, [], None, length};
+ghost use Rattle.std.specs.Prelude.{◌≡◌, ◌<◌, ◌≤◌, [], None, Some, length};
 ghost use Rattle.tlv_walk.specs.Device.{ReadsOnce, WritesOnce, unread};
-ghost use Rattle.std.specs.Prelude.{Some};
 ghost use Rattle.tlvdump.specs.Held.{told_ending, told_failing, told_room};
 
 use arrayvec::ArrayVec;
@@ -84,6 +83,16 @@ impl<const N: usize> Room<N> {
             octets: ArrayVec::new(),
             failures: 0,
         }
+    }
+
+    /// The octets taken, in order.
+    pub(crate) fn into_octets(self) -> ArrayVec<u8, N>
+        ensures octets { result ≡ self.entry.octets }
+        ensures fits { length result.items ≤ N }
+    {
+        let octets = self.octets;
+        let _fits = octets.len();
+        octets
     }
 }
 

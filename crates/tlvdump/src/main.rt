@@ -6,6 +6,7 @@ mod held;
 pub mod laws;
 mod matches;
 mod message;
+pub mod octets;
 mod parser;
 mod report;
 mod runner;
