@@ -1,5 +1,5 @@
 -- A job over octets in memory, whatever the reads give of them.
-use Rattle.std.proofs.Common.{◌≡◌, inl, inr, ℕ, zero, suc, ◌-◌, ◌+◌, ◌<◌, ◌≤◌, slice_index_or, Fits, w8, Bool, true, false, List, [], ◌∷◌, ◌++◌, length, take, refl, sym, ap, ◌∙◌, subst, arith, append_assoc, append-nil, length-append}
+use Rattle.std.proofs.Common.{◌≡◌, inl, inr, ℕ, zero, suc, ◌-◌, ◌<◌, ◌≤◌, slice_index_or, Fits, w8, Bool, true, false, List, [], ◌∷◌, ◌++◌, length, take, refl, sym, ap, ◌∙◌, subst, arith, append_assoc, append-nil, length-append}
 use Rattle.arrayvec.specs.ArrayVec.{ArrayVec}
 use Rattle.std.proofs.lemmas.Bool.{cases_lt, lt-ltb, true≢false}
 use Rattle.std.proofs.lemmas.List.Elements.{All-take}
@@ -69,6 +69,11 @@ spelled_on framing b f (ending.Fault k) r s x final =
     let y : IsRefused framing b k.code k.offset = fault-halt framing b k.code k.offset final.0 final.1 x in
     let most : length (spell f) ≤ length (spell y.forest) = halt-longest framing y.forest k.code b y.halt f r.is_open ([], append-nil (spell f) ∙ s) in
     omega (arith, most, ap length s, ap length y.halt.front, length-append (spell y.forest) (y.halt.octet ∷ y.halt.rest))
+
+-- what was sent of a text, and what is behind it in a longer one
+front_and_rest : (written sent left text rest longer : List ℕ) → written ≡ sent → sent ++ left ≡ text → text ++ rest ≡ longer → longer ≡ written ++ (left ++ rest)
+front_and_rest written sent left text rest longer w t l =
+    sym l ∙ ap (λ (xs : List ℕ). xs ++ rest) (sym t) ∙ append_assoc sent left rest ∙ ap (λ (xs : List ℕ). xs ++ (left ++ rest)) (sym w)
 
 gave_none : (l : Last) (xs : List ℕ) → l ≡ gave 0 → GaveLast l xs → xs ≡ []
 gave_none l xs e g = let z : GaveLast (gave 0) xs = rw e at g in nothing xs z where
@@ -145,9 +150,9 @@ module _ (job : Job Said) (stays : Stays job)
         let front = take_front job.limit given left.0 in
         let is : seen ≡ b ++ front.0 = ap (take job.limit) left.2 ∙ front.1 in
         let final : IsSettled y → RunsOctets job octets read_fails room written said = λ (k : IsSettled y).
-          let z = settled_stays job stays b front.0 m (subst AreOctets is (All-take (λ x. x < 256) job.limit octets all)) y k in
-          let z' : (z : Makes job seen m) × IsSettled z = subst (λ (o : List ℕ). (z : Makes job o m) × IsSettled z) (sym is) z in
-          whole m said z'.0 sent (subst (λ (s : Said). IsSaid job octets read_fails z'.0 s) same (settled z'.1)) in
+        let z = settled_stays job stays b front.0 m (subst AreOctets is (All-take (λ x. x < 256) job.limit octets all)) y k in
+        let z' : (z : Makes job seen m) × IsSettled z = subst (λ (o : List ℕ). (z : Makes job o m) × IsSettled z) (sym is) z in
+        whole m said z'.0 sent (subst (λ (s : Said). IsSaid job octets read_fails z'.0 s) same (settled z'.1)) in
         elim x.comes.3 [
           | inl enough ↦ final (inl enough)
           | inr rest ↦ elim rest [
@@ -213,9 +218,8 @@ module _ (job : Job Said) (stays : Stays job)
         let reads : IsReading job.framing (b ++ front.0) one.1.reading = subst (λ (o : List ℕ). IsReading job.framing o one.1.reading) is one.1.is_reading in
         let on = goes_on b front.0 x.reading one.1.reading few x.is_reading reads in
         let sent : written ≡ x.sends.sent = taken_of from.octets to.octets written x.sends.sent empty took x.sends.took in
-        let output : one.0.output ≡ written ++ (x.sends.left ++ on.0) =
-            ap (λ (m : Made). m.output) one.1.is_made ∙ sym on.1 ∙ ap (λ (l : List ℕ). l ++ on.0) (sym x.sends.front)
-            ∙ append_assoc x.sends.sent x.sends.left on.0 ∙ ap (λ (l : List ℕ). l ++ (x.sends.left ++ on.0)) (sym sent) in
+        let text : job.text x.reading ++ on.0 ≡ one.0.output = on.1 ∙ sym (ap (λ (m : Made). m.output) one.1.is_made) in
+        let output : one.0.output ≡ written ++ (x.sends.left ++ on.0) = front_and_rest written x.sends.sent x.sends.left (job.text x.reading) on.0 one.0.output sent x.sends.front text in
         short one.0 (x.sends.left ++ on.0) one.1 output (full (x.sends.failures ∙ ap counted unfailed ∙ one_failure))
 
     run_in : (result : Result Said DeviceFault) → Runs job old new from to result → RunsOctets job octets read_fails room written (said_at_end result)

@@ -3,5 +3,6 @@ mod Building
 mod Numbers
 mod Offsets
 pub mod InMemory
+pub mod ResultRows
 pub mod Results
 pub mod SaidJobs

@@ -23,15 +23,19 @@ use Rattle.tlv_walk.specs.Laws.{AreOctets}
 use Rattle.tlv_walk.specs.Reading.{IsPrefixOf, IsReading}
 use Rattle.tlvdump.specs.Laws.{InputsHaveOneResult, OutputsGoOn, SecondIndefIsTheFirst, SettledResultsStay}
 use Rattle.tlvdump.specs.Report.{Said, said_of_cut, said_of_indef}
-use Rattle.tlvdump.specs.Results.{IsResultOf, IsSettled, Made, Makes, made_of, running}
+use Rattle.tlvdump.specs.Results.{IsSettled, Made, Makes, made_of, running}
 use Rattle.tlvdump.specs.declared.command.Command.{Command}
 use Rattle.tlvdump.specs.declared.command.Command.TheVariants.{Check, Dump, Extract, Indef}
 
 -- ---- endings
 
-some_end : (framing : Framing) (b : List ℕ) → AreOctets b → (k : Bool) → (e : Ending) × EndsWith framing b k e
-some_end framing b octets true = (ending.Done, refl)
-some_end framing b octets false = (ending framing b, is-ending framing b octets)
+abbrev pub end_of : Framing → List ℕ → Bool → Ending
+end_of framing b true = ending.Done
+end_of framing b false = ending framing b
+
+is_end : (framing : Framing) (b : List ℕ) → AreOctets b → (k : Bool) → EndsWith framing b k (end_of framing b k)
+is_end framing b octets true = refl
+is_end framing b octets false = is-ending framing b octets
 
 end_unique : (framing : Framing) (b : List ℕ) (k : Bool) (e d : Ending) → EndsWith framing b k e → EndsWith framing b k d → e ≡ d
 end_unique framing b true e d x y = x ∙ sym y
@@ -55,12 +59,19 @@ module _ (job : Job Said) where
       let end : m.ending ≡ n.ending = end_unique job.framing b (job.is_enough y.reading) m.ending n.ending here y.ends in
       x.is_made ∙ ap (λ (f : Forest). made_of job f m.ending) same ∙ ap (made_of job y.reading) end ∙ sym y.is_made
 
+  -- the result, computed
+  abbrev pub result_of : List ℕ → Made
+  result_of b = let f = reading job.framing b in made_of job f (end_of job.framing b (job.is_enough f))
+
+  pub is_result : (b : List ℕ) → AreOctets b → Makes job b (result_of b)
+  is_result b octets =
+      let f : Forest = reading job.framing b in
+      record { reading = f; is_reading = is-reading job.framing b octets; ends = is_end job.framing b octets (job.is_enough f); is_made = refl }
+
   pub one_made : (b : List ℕ) → AreOctets b → (made : Made) × Makes job b made × ((other : Made) → Makes job b other → other ≡ made)
   one_made b octets =
-      let f : Forest = reading job.framing b in
-      let e = some_end job.framing b octets (job.is_enough f) in
-      let x : Makes job b (made_of job f e.0) = record { reading = f; is_reading = is-reading job.framing b octets; ends = e.1; is_made = refl } in
-      (made_of job f e.0, x, λ (other : Made) y. makes_unique b other (made_of job f e.0) y x)
+      let x = is_result b octets in
+      (result_of b, x, λ (other : Made) y. makes_unique b other (result_of b) y x)
 
   -- where nothing more is wanted, the same is made of every longer input
   abbrev pub Stays : Type 0
@@ -73,13 +84,15 @@ module _ (job : Job Said) where
         let g : Forest = reading job.framing (b ++ c) in
         let r : IsReading job.framing (b ++ c) g = is-reading job.framing (b ++ c) octets in
         let both = stays b c x.reading g x.is_reading r enough in
-        let done : made.ending ≡ ending.Done = subst (λ (k : Bool). EndsWith job.framing b k made.ending) enough x.ends in
-        (record {
-          reading = g;
-          is_reading = r;
-          ends = subst (λ (k : Bool). EndsWith job.framing (b ++ c) k made.ending) (sym both.0) done;
-          is_made = x.is_made ∙ sym (both.1 made.ending);
-        }, inl both.0)
+        let done : made.ending ≡ ending.Done = subst (λ (k : Bool). EndsWith job.framing b k made.ending) enough x.ends in (
+          record {
+            reading = g;
+            is_reading = r;
+            ends = subst (λ (k : Bool). EndsWith job.framing (b ++ c) k made.ending) (sym both.0) done;
+            is_made = x.is_made ∙ sym (both.1 made.ending);
+          },
+          inl both.0,
+        )
     | inr final ↦
         let both = final_stays job.framing b c x.reading (job.is_enough x.reading) made.ending final x.is_reading x.ends in
         (record { reading = x.reading; is_reading = both.0; ends = both.1; is_made = x.is_made }, inr final)
@@ -98,8 +111,7 @@ stays_for (Dump options names_file file) names b c f g r s e = absurd (true≢fa
 stays_for (Check rules framing file) names b c f g r s e = absurd (true≢false (sym e))
 stays_for (Extract offset contents framing file) names b c f g r s e =
     let text : cut offset contents g ≡ cut offset contents f = same_cut framing b c f g r s offset contents e in
-    let found : has_element_at offset g ≡ has_element_at offset f = same_found framing b c f g r s offset contents e in
-    (
+    let found : has_element_at offset g ≡ has_element_at offset f = same_found framing b c f g r s offset contents e in (
       same_whole framing b c f g r s offset contents e ∙ e,
       λ (d : Ending). ap (λ (t : List ℕ). made t d (said_of_cut offset (record { ending = d; found = has_element_at offset g }))) text
           ∙ ap (λ (k : Bool). made (cut offset contents f) d (said_of_cut offset (record { ending = d; found = k }))) found,
@@ -139,10 +151,10 @@ second_indef padding file names b m n x y =
     let output : n.output ≡ m.output = ap (λ (m : Made). m.output) y.is_made ∙ ap respelled same ∙ again.1 ∙ sym first in (
       output,
       λ (done : m.ending ≡ ending.Done).
-        let e : IsEnding (unnamed padding) b ending.Done = subst (IsEnding (unnamed padding) b) done x.ends in
-        let d : IsEnding (unnamed padding) (respelled x.reading) ending.Done = done_again padding b x.reading x.is_reading e in
-        let d' : IsEnding (unnamed padding) (respelled x.reading) n.ending = subst (λ (o : List ℕ). IsEnding (unnamed padding) o n.ending) first y.ends in
-        let end : n.ending ≡ m.ending = ending-unique (unnamed padding) (respelled x.reading) n.ending ending.Done d' d ∙ sym done in
-        y.is_made ∙ ap (λ (e : Ending). made_of job y.reading e) end
-        ∙ ap (λ (o : List ℕ). made o m.ending (said_of_indef m.ending)) (ap respelled same ∙ again.1) ∙ sym x.is_made,
+          let e : IsEnding (unnamed padding) b ending.Done = subst (IsEnding (unnamed padding) b) done x.ends in
+          let d : IsEnding (unnamed padding) (respelled x.reading) ending.Done = done_again padding b x.reading x.is_reading e in
+          let d' : IsEnding (unnamed padding) (respelled x.reading) n.ending = subst (λ (o : List ℕ). IsEnding (unnamed padding) o n.ending) first y.ends in
+          let end : n.ending ≡ m.ending = ending-unique (unnamed padding) (respelled x.reading) n.ending ending.Done d' d ∙ sym done in
+          y.is_made ∙ ap (λ (e : Ending). made_of job y.reading e) end
+          ∙ ap (λ (o : List ℕ). made o m.ending (said_of_indef m.ending)) (ap respelled same ∙ again.1) ∙ sym x.is_made,
     )
