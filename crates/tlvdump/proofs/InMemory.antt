@@ -1,5 +1,6 @@
 -- A job over octets in memory, whatever the reads give of them.
-use Rattle.std.proofs.Common.{◌≡◌, inl, inr, ℕ, zero, suc, ◌-◌, ◌<◌, ◌≤◌, slice_index_or, Fits, w8, Bool, true, false, List, [], ◌∷◌, ◌++◌, length, take, refl, sym, ap, ◌∙◌, subst, arith, append_assoc, append-nil, length-append}
+use Rattle.std.proofs.Common.{◌≡◌, inl, inr, ℕ, zero, suc, ◌-◌, ◌<◌, ◌≤◌, slice_index_or, Fits, w8, Bool, true, false, List, [], ◌∷◌, ◌++◌, length, take}
+use Rattle.std.proofs.Common.{refl, sym, ap, ◌∙◌, subst, arith, append_assoc, append-nil, length-append}
 use Rattle.arrayvec.specs.ArrayVec.{ArrayVec}
 use Rattle.std.proofs.lemmas.Bool.{cases_lt, lt-ltb, true≢false}
 use Rattle.std.proofs.lemmas.List.Elements.{All-take}
@@ -57,13 +58,15 @@ take_front : (n : ℕ) (xs ys : List ℕ) → (more : List ℕ) × (take n (xs +
 take_front n xs ys = elim (cases_lt (length xs) n) [
   | inl less ↦ (
     take (n - length xs) ys,
-    ap (λ (k : ℕ). take k (xs ++ ys)) (omega (arith, less)) ∙ take-append-add xs ys (n - length xs) ∙ ap (λ (l : List ℕ). l ++ take (n - length xs) ys) (sym (take_all n xs (omega (arith, less)))),
+    ap (λ (k : ℕ). take k (xs ++ ys)) (omega (arith, less)) ∙ take-append-add xs ys (n - length xs)
+        ∙ ap (λ (l : List ℕ). l ++ take (n - length xs) ys) (sym (take_all n xs (omega (arith, less)))),
   )
   | inr more ↦ ([], take-append-le n xs ys (omega (arith, more)) ∙ sym (append-nil (take n xs)))
 ]
 
 -- where the octets are spelled whole no octet of them is refused
-spelled_on : (framing : Framing) (b : List ℕ) (f : Forest) (e : Ending) → IsReading framing b f → spell f ≡ b → IsEnding framing b e → IsFinalEnding e → ⊥
+spelled_on : (framing : Framing) (b : List ℕ) (f : Forest) (e : Ending)
+    → IsReading framing b f → spell f ≡ b → IsEnding framing b e → IsFinalEnding e → ⊥
 spelled_on framing b f ending.Done r s x final = absurd final
 spelled_on framing b f (ending.Fault k) r s x final =
     let y : IsRefused framing b k.code k.offset = fault-halt framing b k.code k.offset final.0 final.1 x in
@@ -71,7 +74,8 @@ spelled_on framing b f (ending.Fault k) r s x final =
     omega (arith, most, ap length s, ap length y.halt.front, length-append (spell y.forest) (y.halt.octet ∷ y.halt.rest))
 
 -- what was sent of a text, and what is behind it in a longer one
-front_and_rest : (written sent left text rest longer : List ℕ) → written ≡ sent → sent ++ left ≡ text → text ++ rest ≡ longer → longer ≡ written ++ (left ++ rest)
+front_and_rest : (written sent left text rest longer : List ℕ)
+    → written ≡ sent → sent ++ left ≡ text → text ++ rest ≡ longer → longer ≡ written ++ (left ++ rest)
 front_and_rest written sent left text rest longer w t l =
     sym l ∙ ap (λ (xs : List ℕ). xs ++ rest) (sym t) ∙ append_assoc sent left rest ∙ ap (λ (xs : List ℕ). xs ++ (left ++ rest)) (sym w)
 
@@ -85,7 +89,8 @@ failed_none : (l : Last) (xs : List ℕ) → l ≡ failed → GaveLast l xs → 
 failed_none l xs e g = let z : GaveLast failed xs = rw e at g in z
 
 module _ (job : Job Said) (stays : Stays job)
-    (goes_on : (b c : List ℕ) (f g : Forest) → length (b ++ c) ≤ job.limit → IsReading job.framing b f → IsReading job.framing (b ++ c) g → IsPrefixOf (job.text f) (job.text g))
+    (goes_on : (b c : List ℕ) (f g : Forest) → length (b ++ c) ≤ job.limit
+    → IsReading job.framing b f → IsReading job.framing (b ++ c) g → IsPrefixOf (job.text f) (job.text g))
     (octets : List ℕ) (all : AreOctets octets) (read_fails : Bool) where
   abbrev seen : List ℕ
   seen = take job.limit octets
@@ -109,7 +114,8 @@ module _ (job : Job Said) (stays : Stays job)
       (empty : from.octets ≡ Some []) (unfailed : from.failures ≡ 0)
       (took : to.octets ≡ Some written) (fits : length written ≤ room) (full : to.failures ≡ 1 → length written ≡ room) where
     -- all was written
-    whole : (made : Made) (said : Said) → (x : MakesOf job octets read_fails made) → written ≡ made.output → IsSaid job octets read_fails x said → RunsOctets job octets read_fails room written said
+    whole : (made : Made) (said : Said) → (x : MakesOf job octets read_fails made)
+        → written ≡ made.output → IsSaid job octets read_fails x said → RunsOctets job octets read_fails room written said
     whole made said x e s = record {
       made = made;
       is_made = x;
@@ -120,7 +126,8 @@ module _ (job : Job Said) (stays : Stays job)
     }
 
     -- a front was written, which fills the room
-    short : (made : Made) (rest : List ℕ) → (x : MakesOf job octets read_fails made) → made.output ≡ written ++ rest → length written ≡ room → RunsOctets job octets read_fails room written (said_of_device WriteFailed)
+    short : (made : Made) (rest : List ℕ) → (x : MakesOf job octets read_fails made)
+        → made.output ≡ written ++ rest → length written ≡ room → RunsOctets job octets read_fails room written (said_of_device WriteFailed)
     short made rest x e n = record {
       made = made;
       is_made = x;
@@ -161,7 +168,8 @@ module _ (job : Job Said) (stays : Stays job)
                 let none : left.0 ≡ [] = at_end new.left left.0 left.1 end.1 in
                 let whole_given : octets ≡ given = left.2 ∙ ap (λ (l : List ℕ). given ++ l) none ∙ append-nil given in
                 let last : x.pieces.last ≡ [] = gave_none new.last x.pieces.last end.0 x.pieces.gave_last in
-                let few : length octets ≤ job.limit = omega (arith, x.within, ap length whole_given, length-append (before_in x.pieces) x.pieces.last, ap length last) in
+                let few : length octets ≤ job.limit =
+                omega (arith, x.within, ap length whole_given, length-append (before_in x.pieces) x.pieces.last, ap length last) in
                 let z : Makes job seen m = subst (λ (o : List ℕ). Makes job o m) (sym (ap (take job.limit) whole_given)) y in
                 whole m said z sent (subst (λ (s : Said). IsSaid job octets read_fails z s) same (ended (ends (x.failures ∙ quiet) end.0) few))
           ]
@@ -169,7 +177,8 @@ module _ (job : Job Said) (stays : Stays job)
 
     -- of octets that settle nothing, all of them or too many, all was written
     unsettled_all : (f : Forest) (said : Said) → IsReading job.framing seen f → AreSound job seen → written ≡ job.text f
-        → ((made : Made) → (x : MakesOf job octets read_fails made) → (IsSettled x → ⊥) → IsSaid job octets read_fails x said) → RunsOctets job octets read_fails room written said
+        → ((made : Made) → (x : MakesOf job octets read_fails made) → (IsSettled x → ⊥) → IsSaid job octets read_fails x said)
+        → RunsOctets job octets read_fails room written said
     unsettled_all f said r s sent says =
         let one = one_made job seen (All-take (λ x. x < 256) job.limit octets all) in
         let same : f ≡ one.1.reading = reading-unique job.framing seen f one.1.reading r one.1.is_reading in
@@ -219,7 +228,8 @@ module _ (job : Job Said) (stays : Stays job)
         let on = goes_on b front.0 x.reading one.1.reading few x.is_reading reads in
         let sent : written ≡ x.sends.sent = taken_of from.octets to.octets written x.sends.sent empty took x.sends.took in
         let text : job.text x.reading ++ on.0 ≡ one.0.output = on.1 ∙ sym (ap (λ (m : Made). m.output) one.1.is_made) in
-        let output : one.0.output ≡ written ++ (x.sends.left ++ on.0) = front_and_rest written x.sends.sent x.sends.left (job.text x.reading) on.0 one.0.output sent x.sends.front text in
+        let output : one.0.output ≡ written ++ (x.sends.left ++ on.0) =
+        front_and_rest written x.sends.sent x.sends.left (job.text x.reading) on.0 one.0.output sent x.sends.front text in
         short one.0 (x.sends.left ++ on.0) one.1 output (full (x.sends.failures ∙ ap counted unfailed ∙ one_failure))
 
     run_in : (result : Result Said DeviceFault) → Runs job old new from to result → RunsOctets job octets read_fails room written (said_at_end result)
@@ -252,23 +262,29 @@ gave_some (gave zero) e = cc (e)
 gave_some (gave (suc n)) e = cc (e)
 gave_some failed e = cc (e)
 
-module _ (command : Command) (names : Table) (octets : List ℕ) (fit : (i : ℕ) → Fits w8 (slice_index_or octets i 0)) (room : ℕ) (written kept : ArrayVec ℕ) (same : written ≡ kept) (fits : length written.items ≤ room) (failures : ℕ) (from : Taken) (from_is : from ≡ record { octets = Some []; failures = 0 }) (said : Said) where
+module _ (command : Command) (names : Table) (octets : List ℕ) (fit : (i : ℕ) → Fits w8 (slice_index_or octets i 0)) (room : ℕ)
+    (written kept : ArrayVec ℕ) (same : written ≡ kept) (fits : length written.items ≤ room) (failures : ℕ)
+    (from : Taken) (from_is : from ≡ record { octets = Some []; failures = 0 }) (said : Said) where
   kept_is : written.items ≡ kept.items
   kept_is = ap (λ (v : ArrayVec ℕ). v.items) same
 
   filled : (told_room room kept.items failures).failures ≡ 1 → length written.items ≡ room
   filled k = ap length kept_is ∙ full_room room kept.items failures k (omega (arith, ap length kept_is, fits))
 
-  pub to_end : (old : Supply) (new : MemSupply) → old ≡ unread (Some octets) → Ran (running command names) old (told_ending new) from (told_room room kept.items failures) said
+  pub to_end : (old : Supply) (new : MemSupply) → old ≡ unread (Some octets)
+      → Ran (running command names) old (told_ending new) from (told_room room kept.items failures) said
       → RunsOctets (running command names) octets false room written.items said
   to_end old new e x =
-      runs_octets (running command names) (stays_for command names) (text_on command names) octets (octets_of octets fit) false old (told_ending new) from (told_room room kept.items failures) room written.items
+      runs_octets (running command names) (stays_for command names) (text_on command names) octets (octets_of octets fit) false
+      old (told_ending new) from (told_room room kept.items failures) room written.items
       (ap (λ (s : Supply). s.left) e) (ap (λ (s : Supply). s.failures) e) (λ k. absurd (cc (k))) (λ _ _. refl)
       (ap (λ (t : Taken). t.octets) from_is) (ap (λ (t : Taken). t.failures) from_is) (ap Some (sym kept_is)) fits filled said x
 
-  pub until_failure : (old : Supply) (new : MemSupply) (failed_reads : ℕ) → old ≡ unread (Some octets) → Ran (running command names) old (told_failing new failed_reads) from (told_room room kept.items failures) said
+  pub until_failure : (old : Supply) (new : MemSupply) (failed_reads : ℕ) → old ≡ unread (Some octets)
+      → Ran (running command names) old (told_failing new failed_reads) from (told_room room kept.items failures) said
       → RunsOctets (running command names) octets true room written.items said
   until_failure old new failed_reads e x =
-      runs_octets (running command names) (stays_for command names) (text_on command names) octets (octets_of octets fit) true old (told_failing new failed_reads) from (told_room room kept.items failures) room written.items
+      runs_octets (running command names) (stays_for command names) (text_on command names) octets (octets_of octets fit) true
+      old (told_failing new failed_reads) from (told_room room kept.items failures) room written.items
       (ap (λ (s : Supply). s.left) e) (ap (λ (s : Supply). s.failures) e) (λ k. (refl, spent new failed_reads k)) (λ _ k. absurd (gave_some new.log.last k))
       (ap (λ (t : Taken). t.octets) from_is) (ap (λ (t : Taken). t.failures) from_is) (ap Some (sym kept_is)) fits filled said x

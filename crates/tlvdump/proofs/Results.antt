@@ -55,7 +55,8 @@ module _ (job : Job Said) where
   pub makes_unique : (b : List ℕ) (m n : Made) → Makes job b m → Makes job b n → m ≡ n
   makes_unique b m n x y =
       let same : x.reading ≡ y.reading = reading-unique job.framing b x.reading y.reading x.is_reading y.is_reading in
-      let here : EndsWith job.framing b (job.is_enough y.reading) m.ending = subst (λ (f : Forest). EndsWith job.framing b (job.is_enough f) m.ending) same x.ends in
+      let here : EndsWith job.framing b (job.is_enough y.reading) m.ending =
+      subst (λ (f : Forest). EndsWith job.framing b (job.is_enough f) m.ending) same x.ends in
       let end : m.ending ≡ n.ending = end_unique job.framing b (job.is_enough y.reading) m.ending n.ending here y.ends in
       x.is_made ∙ ap (λ (f : Forest). made_of job f m.ending) same ∙ ap (made_of job y.reading) end ∙ sym y.is_made
 
@@ -78,7 +79,8 @@ module _ (job : Job Said) where
   Stays = (b c : List ℕ) (f g : Forest) → IsReading job.framing b f → IsReading job.framing (b ++ c) g → job.is_enough f ≡ true
       → (job.is_enough g ≡ true) × ((e : Ending) → made_of job g e ≡ made_of job f e)
 
-  pub settled_stays : Stays → (b c : List ℕ) (made : Made) → AreOctets (b ++ c) → (x : Makes job b made) → IsSettled x → (y : Makes job (b ++ c) made) × IsSettled y
+  pub settled_stays : Stays → (b c : List ℕ) (made : Made) → AreOctets (b ++ c) → (x : Makes job b made)
+      → IsSettled x → (y : Makes job (b ++ c) made) × IsSettled y
   settled_stays stays b c made octets x s = elim s [
     | inl enough ↦
         let g : Forest = reading job.framing (b ++ c) in
@@ -127,7 +129,8 @@ limit_is (Check rules framing file) names = refl
 limit_is (Extract offset contents framing file) names = refl
 limit_is (Indef padding file) names = refl
 
-pub text_on : (command : Command) (names : Table) (b c : List ℕ) (f g : Forest) → length (b ++ c) ≤ (running command names).limit → IsReading (running command names).framing b f → IsReading (running command names).framing (b ++ c) g
+pub text_on : (command : Command) (names : Table) (b c : List ℕ) (f g : Forest) → length (b ++ c) ≤ (running command names).limit
+    → IsReading (running command names).framing b f → IsReading (running command names).framing (b ++ c) g
     → IsPrefixOf ((running command names).text f) ((running command names).text g)
 text_on (Dump options names_file file) names b c f g few r s = dumps_on options names b c f g few r s
 text_on (Check rules framing file) names b c f g few r s = checks_on rules framing b c f g few r s

@@ -14,7 +14,8 @@ module _ {A : Type 0} (say : A → Said) (job : Job A) where
   sound_too b x = record { forest = x.forest; is_reading = x.is_reading; spelled = x.spelled; not_enough = x.not_enough }
 
   module _ (old new : Supply) (from to : Taken) where
-    runs_too : (result : Result A DeviceFault) → Runs job old new from to result → (said : Said) → said ≡ said_of say result → Ran (said_by say job) old new from to said
+    runs_too : (result : Result A DeviceFault) → Runs job old new from to result
+        → (said : Said) → said ≡ said_of say result → Ran (said_by say job) old new from to said
     runs_too (Ok a) x said e = record {
       result = Ok (say a);
       runs = record {
