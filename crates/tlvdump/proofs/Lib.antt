@@ -6,3 +6,4 @@ pub mod InMemory
 pub mod ResultRows
 pub mod Results
 pub mod SaidJobs
+pub mod Statuses

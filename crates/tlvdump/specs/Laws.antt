@@ -1,10 +1,10 @@
 -- Laws of what commands make of inputs.
-use Rattle.std.specs.Prelude.{◌≡◌, ℕ, ◌^◌, ◌≤◌, Bool, List, ◌++◌, length, Option}
+use Rattle.std.specs.Prelude.{◌≡◌, ℕ, ◌^◌, ◌≤◌, Bool, List, ◌++◌, length, Option, ◌↔◌, false}
 use Rattle.tlv_value.specs.Names.{Table}
 use Rattle.tlv_walk.specs.declared.ending.Ending.TheVariants.{Done}
 use Rattle.tlv_walk.specs.Laws.{AreOctets}
-use Rattle.tlv_walk.specs.Reading.{IsPrefixOf}
-use Rattle.tlvdump.specs.Results.{IsResultOf, IsSettled, Made}
+use Rattle.tlv_walk.specs.Reading.{IsPrefixOf, IsSoundList}
+use Rattle.tlvdump.specs.Results.{IsResultOf, IsSettled, Made, running}
 use Rattle.tlvdump.specs.declared.command.Command.{Command}
 use Rattle.tlvdump.specs.declared.command.Command.TheVariants.{Indef}
 
@@ -28,3 +28,8 @@ abbrev pub SecondIndefIsTheFirst : Type 0
 SecondIndefIsTheFirst = (padding : Bool) (file : Option (List ℕ)) (names : Table) (b : List ℕ) (made again : Made)
     → IsResultOf (Indef padding file) names b made → IsResultOf (Indef padding file) names made.output again
     → (again.output ≡ made.output) × (made.ending ≡ Done → again ≡ made)
+
+-- where no element is asked for, or it is not whole, the status 2 says just that the input is no sound list of encodings
+abbrev pub StatusesTellOfSoundness : Type 0
+StatusesTellOfSoundness = (command : Command) (names : Table) (b : List ℕ) (made : Made) → (x : IsResultOf command names b made)
+    → let job = running command names in job.is_enough x.reading ≡ false → (made.said.status ≡ 2) ↔ (IsSoundList job.framing b → ⊥)

@@ -1,6 +1,6 @@
 //! Laws of what commands make of inputs: each is the contract of a function that does nothing.
 
-ghost use Rattle.tlvdump.specs.Laws.{InputsHaveOneResult, OutputsGoOn, SecondIndefIsTheFirst, SettledResultsStay};
+ghost use Rattle.tlvdump.specs.Laws.{InputsHaveOneResult, OutputsGoOn, SecondIndefIsTheFirst, SettledResultsStay, StatusesTellOfSoundness};
 
 /// Each input has a result under each command, and only one.
 pub fn one_result()
@@ -22,4 +22,10 @@ pub fn outputs_go_on()
 /// written.
 pub fn second_indef_is_the_first()
     ensures { SecondIndefIsTheFirst }
+{}
+
+/// The status is 2 exactly where the input is no sound list of encodings, read as the command says. Of `extract` that holds where
+/// its element is not whole; where it is, the status is 0, whatever follows.
+pub fn statuses_tell_of_soundness()
+    ensures { StatusesTellOfSoundness }
 {}
