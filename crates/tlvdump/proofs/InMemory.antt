@@ -40,12 +40,12 @@ octets_of xs fits k d less = below (slice_index_or xs k d) (rw (get_or_default x
   below x f = omega (arith, f)
 
 -- what a source has left that knows its octets
-left_of : (a b : Option (List ℕ)) (o given : List ℕ) → a ≡ Some o → Consumes a b given → (r : List ℕ) × (b ≡ Some r) × (o ≡ given ++ r)
+pub left_of : (a b : Option (List ℕ)) (o given : List ℕ) → a ≡ Some o → Consumes a b given → (r : List ℕ) × (b ≡ Some r) × (o ≡ given ++ r)
 left_of None b o given e c = absurd (cc (e))
 left_of (Some x) None o given e c = absurd c
 left_of (Some x) (Some y) o given e c = let same : x ≡ o = cc in (y, refl, sym same ∙ c)
 
-at_end : (b : Option (List ℕ)) (r : List ℕ) → b ≡ Some r → IsAtEnd b → r ≡ []
+pub at_end : (b : Option (List ℕ)) (r : List ℕ) → b ≡ Some r → IsAtEnd b → r ≡ []
 at_end None r e i = absurd (cc (e))
 at_end (Some x) r e i = let same : x ≡ r = cc in sym same ∙ i
 
@@ -79,7 +79,7 @@ front_and_rest : (written sent left text rest longer : List ℕ)
 front_and_rest written sent left text rest longer w t l =
     sym l ∙ ap (λ (xs : List ℕ). xs ++ rest) (sym t) ∙ append_assoc sent left rest ∙ ap (λ (xs : List ℕ). xs ++ (left ++ rest)) (sym w)
 
-gave_none : (l : Last) (xs : List ℕ) → l ≡ gave 0 → GaveLast l xs → xs ≡ []
+pub gave_none : (l : Last) (xs : List ℕ) → l ≡ gave 0 → GaveLast l xs → xs ≡ []
 gave_none l xs e g = let z : GaveLast (gave 0) xs = rw e at g in nothing xs z where
   nothing : (xs : List ℕ) → 0 ≡ length xs → xs ≡ []
   nothing [] e = refl

@@ -123,7 +123,7 @@ stays_for (Indef padding file) names b c f g r s e = absurd (true≢false (sym e
 pub settled_results : SettledResultsStay
 settled_results command names b c made octets x s = (settled_stays (running command names) (stays_for command names) b c made octets x s).0
 
-limit_is : (command : Command) (names : Table) → (running command names).limit ≡ 2 ^ 40
+pub limit_is : (command : Command) (names : Table) → (running command names).limit ≡ 2 ^ 40
 limit_is (Dump options names_file file) names = refl
 limit_is (Check rules framing file) names = refl
 limit_is (Extract offset contents framing file) names = refl

@@ -1,19 +1,17 @@
 -- Which status an input comes to.
-use Rattle.std.proofs.Common.{◌≡◌, ℕ, zero, suc, Bool, true, false, List, refl, sym, ap, ◌∙◌, subst}
-use Rattle.std.specs.Prelude.{Option, Some, None, ◌↔◌}
+use Rattle.std.proofs.Common.{◌≡◌, ℕ, zero, suc, Bool, true, false, refl, sym, ap, ◌∙◌, subst}
+use Rattle.std.specs.Prelude.{Option, Some, None}
 use Rattle.tlv_cut.specs.Cut.{has_element_at}
 use Rattle.tlv_value.specs.Names.{Table}
 use Rattle.tlv_walk.proofs.Endings.{done-sound, sound-done}
 use Rattle.tlv_walk.proofs.Unique.{ending-unique}
 use Rattle.tlv_walk.specs.declared.ending.Ending.{Ending}
 use Rattle.tlv_walk.specs.declared.ending.Ending.TheVariants as ending
-use Rattle.tlv_walk.specs.declared.framing.Framing.{Framing}
 use Rattle.tlv_walk.specs.Ending.{IsEnding}
 use Rattle.tlv_walk.specs.Forest.{Forest}
 use Rattle.tlv_walk.specs.Job.{EndsWith}
-use Rattle.tlv_walk.specs.Reading.{IsSoundList}
 use Rattle.tlvdump.specs.Laws.{StatusesTellOfSoundness}
-use Rattle.tlvdump.specs.Report.{Said, said_of_findings, said_of_found, said_of_unused}
+use Rattle.tlvdump.specs.Report.{said_of_findings, said_of_found, said_of_unused}
 use Rattle.tlvdump.specs.Results.{Made, running}
 use Rattle.tlvdump.specs.declared.command.Command.{Command}
 use Rattle.tlvdump.specs.declared.command.Command.TheVariants.{Check, Dump, Extract, Indef}
@@ -40,7 +38,6 @@ fault_loud (Dump options names_file file) names f (ending.Fault k) apart = refl
 fault_loud (Check rules framing file) names f (ending.Fault k) apart = refl
 fault_loud (Extract offset contents framing file) names f (ending.Fault k) apart = refl
 fault_loud (Indef padding file) names f (ending.Fault k) apart = refl
-
 
 pub statuses : StatusesTellOfSoundness
 statuses command names b made x open_ =

@@ -1,10 +1,16 @@
 //! Laws of what commands make of inputs: each is the contract of a function that does nothing.
 
-ghost use Rattle.tlvdump.specs.Laws.{InputsHaveOneResult, OutputsGoOn, SecondIndefIsTheFirst, SettledResultsStay, StatusesTellOfSoundness};
+ghost use Rattle.tlvdump.specs.Laws.{InputsHaveOneResult, OutputsGoOn, RunsAreResults, SecondIndefIsTheFirst, SettledResultsStay, StatusesTellOfSoundness};
 
 /// Each input has a result under each command, and only one.
 pub fn one_result()
     ensures { InputsHaveOneResult }
+{}
+
+/// Where a source knows its octets, and neither device fails, a run writes and says what is the result of these octets, in whatever
+/// pieces the source gives them. That is all that `run` promises of such a source: its contract is the only premise.
+pub fn runs_are_results()
+    ensures { RunsAreResults }
 {}
 
 /// Nothing counts that follows a fault other than F01 and F02, or the whole element of `extract`: with whatever the input goes
