@@ -8,7 +8,7 @@ pub fn one_result()
 {}
 
 /// Where a source knows its octets, and neither device fails, a run writes and says what is the result of these octets, in whatever
-/// pieces the source gives them. That is all that `run` promises of such a source: its contract is the only premise.
+/// pieces the source gives them. This follows from the contract of `run` alone.
 pub fn runs_are_results()
     ensures { RunsAreResults }
 {}
