@@ -1,15 +1,14 @@
 -- What `clap` says of the words of the command line.
-use Rattle.std.proofs.Common.{◌≡◌, ◌∙◌, Bool, true, false, List, [], Option, Some, Result, Ok, Err, is_some, map, ap, ap₂, refl, sym, inl, inr}
+use Rattle.std.proofs.Common.{◌≡◌, ◌∙◌, true, List, [], Option, Result, Ok, Err, refl, sym, inl, inr}
 use Rattle.clap.specs.Faults.{fault_of, is_simple_and_free}
-use Rattle.clap.specs.Kinds.{HasKind, IsAmong}
-use Rattle.clap.specs.Words.{Row, Text, app_of, is_simple, kind_of, subcommand_of, subcommand_rows_of}
+use Rattle.clap.specs.Kinds.{HasKind}
+use Rattle.clap.specs.Words.{Row, Text, is_simple, subcommand_of}
 use Rattle.clap.specs.declared.error.Error.{Error}
-use Rattle.clap.specs.declared.error.kind.ErrorKind.TheVariants.{OutOfMemory}
 use Rattle.clap.proofs.OnLiterals.{clap_on_literals}
 use Rattle.tlvdump.specs.declared.command.Command.{Command}
 use Rattle.tlvdump.specs.declared.command.UsageFault.{UsageFault}
 use Rattle.tlvdump.specs.declared.command.UsageFault.TheVariants.{Parser, Value, Memory}
-use Rattle.tlvdump.specs.Commands.{Answers, AnswersFrom, AnswersSubcommand, Explains, IsRefusal, IsUsageFaultOf, command_from}
+use Rattle.tlvdump.specs.Commands.{Answers, AnswersSubcommand, IsRefusal, IsUsageFaultOf}
 use Rattle.tlvdump.specs.Line.{line_app}
 
 pub simple : is_simple line_app ≡ true

@@ -1,7 +1,6 @@
 -- What a chain of builders has made, by one step.
-use Rattle.std.proofs.Common.{◌≡◌, ◌∙◌, ◌||◌, Bool, true, false, Result, IfOk, ap, ap₂, refl}
-use Rattle.std.proofs.lemmas.Result.{IfOk-weaker}
-use Rattle.clap.specs.Words.{App, Rule, Shape, app_of, rule_of, with_rule, with_subcommand, AddsArg, AddsSubcommand}
+use Rattle.std.proofs.Common.{◌≡◌, ◌∙◌, ◌||◌, Bool, false, ap, ap₂}
+use Rattle.clap.specs.Words.{App, Rule, rule_of, with_rule, with_subcommand, AddsArg, AddsSubcommand}
 use Rattle.tlvdump.specs.Line.{IsMade}
 use Rattle.clap.specs.declared.builder.arg.Arg.{Arg}
 use Rattle.clap.specs.declared.builder.command.Command.{Command}

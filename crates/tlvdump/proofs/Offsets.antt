@@ -1,12 +1,12 @@
 -- Offsets with commas between them.
-use Rattle.std.proofs.Common.{◌≡◌, ◌∙◌, ◌+◌, ◌-◌, ◌≤◌, ◌<◌, ◌&&◌, ◌==◌, ℕ, suc, Bool, true, false, List, [], ◌∷◌, ◌++◌, Option, Some, None, IfSome, IfNone, length, refl, ap, sym, arith, rules, nat_le, not, option_map, option_and_then, cond, drop, take}
+use Rattle.std.proofs.Common.{◌≡◌, ◌∙◌, ◌+◌, ◌-◌, ◌≤◌, ◌<◌, ◌&&◌, ◌==◌, ℕ, suc, Bool, true, false, List, [], ◌∷◌, ◌++◌, Option, Some, None, IfSome, IfNone, length, refl, ap, arith, nat_le, not, option_map, option_and_then, cond, drop, take}
 use Rattle.std.specs.Option.{option_map_or}
-use Rattle.std.specs.List.{onto_first, position_or_len, slice_split}
+use Rattle.std.specs.List.{onto_first, position_or_len}
 use Rattle.std.proofs.lemmas.Bool.{and_from, and_parts, leb-true, le-leb, lt-leb}
 use Rattle.std.proofs.lemmas.List.{append-nil, append_assoc, length-append, length-drop, take_all}
 use Rattle.std.proofs.lemmas.List.Splits.{slice_split_first}
 use Rattle.tlv_walk.specs.Inside.{AreRising, CanName}
-use Rattle.tlvdump.specs.Values.{Text, are_rising, each_offset, if_named, offset_in, offsets_in, parts_of}
+use Rattle.tlvdump.specs.Values.{Text, are_rising, each_offset, if_named, offset_in, parts_of}
 
 -- ---- parts
 

@@ -2,8 +2,11 @@
 #![tactic(auto)]
 
 mod command;
+mod held;
+pub mod laws;
 mod matches;
 mod message;
+pub mod octets;
 mod parser;
 mod report;
 mod runner;

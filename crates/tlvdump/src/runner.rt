@@ -1,5 +1,6 @@
 //! A run of a command over a source and a drain.
 ghost use Rattle.tlvdump.specs.Report.{said_in};
+ghost use Rattle.tlvdump.specs.Results.{running};
 ghost use Rattle.tlvdump.specs.Runs.{Ran};
 
 use crate::command::Command;
@@ -18,7 +19,7 @@ pub fn run<S: Source, D: Drain>(
     source: &mut S,
     drain: &mut D,
 ) -> Report
-    ensures { Ran command.now names.now (S.told source.old) (S.told source.new)
+    ensures { Ran (running command.now names.now) (S.told source.old) (S.told source.new)
         (D.told drain.old) (D.told drain.new) (said_in result) }
 {
     match command {

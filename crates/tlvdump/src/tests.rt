@@ -2,6 +2,7 @@
 mod asked;
 mod deep;
 mod messages;
+mod octets;
 mod rows;
 mod values;
 mod words;

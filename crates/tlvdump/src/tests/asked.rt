@@ -13,11 +13,11 @@ use tlv_walk::{Framing, MemDrain, MemSource};
 
 /// Words behind the program's name, an input, and what is written and reported of it: the octets, the status and the
 /// message.
-type Asked<'a> = (&'a [&'a str], &'a [u8], &'a [u8], u8, &'a str);
+pub(crate) type Asked<'a> = (&'a [&'a str], &'a [u8], &'a [u8], u8, &'a str);
 
-const STRING: &[u8] = b"\x3a\x80\x04\x03\x4a\x6f\x6e\x04\x02\x65\x73\x00\x00";
+pub(crate) const STRING: &[u8] = b"\x3a\x80\x04\x03\x4a\x6f\x6e\x04\x02\x65\x73\x00\x00";
 
-static EXTRACTS: [Asked<'static>; 14] = [
+pub(crate) static EXTRACTS: [Asked<'static>; 14] = [
     (
         &["extract", "--offset", "0"],
         b"",
@@ -118,7 +118,7 @@ static EXTRACTS: [Asked<'static>; 14] = [
     ),
 ];
 
-static INDEFS: [Asked<'static>; 7] = [
+pub(crate) static INDEFS: [Asked<'static>; 7] = [
     (&["indef"], b"", b"", 2, "fault at 0: F01 empty input"),
     (
         &["indef"],
@@ -164,7 +164,7 @@ static INDEFS: [Asked<'static>; 7] = [
     ),
 ];
 
-static DUMPS: [Asked<'static>; 7] = [
+pub(crate) static DUMPS: [Asked<'static>; 7] = [
     (&["dump"], b"", b"", 2, "fault at 0: F01 empty input"),
     (
         &["dump", "--pure", "--limit=0"],
@@ -210,7 +210,7 @@ static DUMPS: [Asked<'static>; 7] = [
     ),
 ];
 
-static CHECKS: [Asked<'static>; 7] = [
+pub(crate) static CHECKS: [Asked<'static>; 7] = [
     (&["check"], b"", b"", 2, "fault at 0: F01 empty input"),
     (&["check", "--rules", "ber"], STRING, b"", 0, ""),
     (
@@ -244,15 +244,20 @@ static CHECKS: [Asked<'static>; 7] = [
     (&["check", "--padding"], b"\x00\x05\x00\x00", b"", 0, ""),
 ];
 
-/// Runs the command that the words ask for over the input in these pieces.
-fn expect(rt: &impl Abort, alloc: Global, row: &Asked<'_>, cuts: &[u64]) -> Result<(), Fail> {
-    let (list, input, written, status, message) = *row;
+/// The command that these words ask for, behind the program's name.
+pub(crate) fn command_for(alloc: Global, list: &[&str]) -> Result<Command, Fail> {
     let mut words = Words::new(alloc);
     words.push("tlvdump")?;
     for word in list {
         words.push(word)?;
     }
-    let command = command_of(alloc, &words)?;
+    Ok(command_of(alloc, &words)?)
+}
+
+/// Runs the command that the words ask for over the input in these pieces.
+fn expect(rt: &impl Abort, alloc: Global, row: &Asked<'_>, cuts: &[u64]) -> Result<(), Fail> {
+    let (list, input, written, status, message) = *row;
+    let command = command_for(alloc, list)?;
     let mut room = [0; 1024];
     let mut source = MemSource::new(input, cuts, None);
     let mut drain = MemDrain::new(&mut room, 4096);

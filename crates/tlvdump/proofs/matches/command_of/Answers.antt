@@ -1,10 +1,7 @@
-use Rattle.std.proofs.Common.{◌≡◌, ◌∙◌, rules, [], is_some, map, true, ap, ap₂, sym}
-use Rattle.std.specs.String.{string_bytes}
+use Rattle.std.proofs.Common.{◌∙◌, rules, ap, ap₂, sym}
 use Rattle.clap.proofs.CallerLemmas.{subcommand_required}
 use Rattle.clap.specs.Faults.{fault_of, is_simple_and_free}
-use Rattle.clap.specs.Kinds.{HasKind}
-use Rattle.clap.specs.Words.{App, app_of, is_simple, subcommand_of, subcommand_rows_of}
-use Rattle.tlvdump.specs.Line.{line_app}
+use Rattle.clap.specs.Words.{App, is_simple, subcommand_of}
 use Rattle.tlvdump.proofs.Answered.{answered, refusal, simple, simple_and_free, wants_subcommand}
 use Rattle.tlvdump.proofs.matches.command_of.Goals as goal
 

@@ -1,13 +1,19 @@
+use Rattle.tlv_cut.specs.Extracts.{cutting}
+use Rattle.tlv_cut.specs.IndefRuns.{respelling, unnamed}
+use Rattle.tlv_show.specs.Checks.{checking}
+use Rattle.tlv_show.specs.Dumps.{dumping}
+use Rattle.tlvdump.specs.Report.{said_of_cut, said_of_indef, said_of_outcome}
+use Rattle.tlvdump.proofs.SaidJobs.{said_runs}
 use Rattle.tlvdump.proofs.runner.run.Goals as goal
 
 pub returns-in-Dump : goal.returns-in-Dump
-returns-in-Dump g c = rw c.in-Dump.is record { result = c.dump.result; runs = c.dump.ensures; said_is = c.shown_report.ensures }
+returns-in-Dump g c = rw c.in-Dump.is (said_runs said_of_outcome (dumping _ _) c.dump.ensures c.shown_report.ensures)
 
 pub returns-in-Check : goal.returns-in-Check
-returns-in-Check g c = rw c.in-Check.is record { result = c.check.result; runs = c.check.ensures; said_is = c.shown_report-in-Check.ensures }
+returns-in-Check g c = rw c.in-Check.is (said_runs said_of_outcome (checking _ _) c.check.ensures c.shown_report-in-Check.ensures)
 
 pub returns-in-Extract : goal.returns-in-Extract
-returns-in-Extract g c = rw c.in-Extract.is record { result = c.extract.result; runs = c.extract.ensures; said_is = c.cut_report.ensures }
+returns-in-Extract g c = rw c.in-Extract.is (said_runs (said_of_cut _) (cutting _ _ _) c.extract.ensures c.cut_report.ensures)
 
 pub returns-in-Indef : goal.returns-in-Indef
-returns-in-Indef g c = rw c.in-Indef.is record { result = c.indef.result; runs = c.indef.ensures; said_is = c.indef_report.ensures }
+returns-in-Indef g c = rw c.in-Indef.is (said_runs said_of_indef (respelling (unnamed _)) c.indef.ensures c.indef_report.ensures)

@@ -1,6 +1,4 @@
-use Rattle.std.proofs.Common.{◌≡◌, ◌+◌, ◌-◌, ◌==◌, ◌≤◌, ◌<◌, ap, drop, length, sym, take, arith, rules}
-use Rattle.std.specs.List.{position_or_len}
-use Rattle.std.proofs.lemmas.List.{take_all}
+use Rattle.std.proofs.Common.{rules}
 use Rattle.tlvdump.proofs.Offsets.{first_part, one_part}
 use Rattle.tlvdump.proofs.values.first_part.Goals as goal
 

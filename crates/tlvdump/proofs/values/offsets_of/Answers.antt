@@ -1,6 +1,6 @@
-use Rattle.std.proofs.Common.{◌≡◌, ◌∙◌, None, ap, rules}
+use Rattle.std.proofs.Common.{◌≡◌, ◌∙◌, None, rules}
 use Rattle.tlvdump.specs.Values.{each_offset, parts_of, text_in}
-use Rattle.tlvdump.proofs.Offsets.{judged, last_part, no_offset, one_offset, too_many}
+use Rattle.tlvdump.proofs.Offsets.{judged, last_part}
 use Rattle.tlvdump.proofs.values.offsets_of.Goals as goal
 
 pub returns : goal.returns

@@ -1,0 +1,79 @@
+-- A job with what is said of its answer runs as the job itself.
+use Rattle.std.proofs.Common.{◌≡◌, ℕ, List, ap}
+use Rattle.std.specs.Prelude.{Result, Ok, Err}
+use Rattle.tlv_walk.specs.declared.run.DeviceFault.{DeviceFault}
+use Rattle.tlv_walk.specs.declared.run.DeviceFault.TheVariants.{ReadFailed, WriteFailed, InputTooLong}
+use Rattle.tlv_walk.specs.Device.{Supply, Taken}
+use Rattle.tlv_walk.specs.Job.{AreSound, Job, Runs}
+use Rattle.tlvdump.specs.Report.{Said, said_of}
+use Rattle.tlvdump.specs.Results.{said_by}
+use Rattle.tlvdump.specs.Runs.{Ran}
+
+module _ {A : Type 0} (say : A → Said) (job : Job A) where
+  sound_too : (b : List ℕ) → AreSound job b → AreSound (said_by say job) b
+  sound_too b x = record { forest = x.forest; is_reading = x.is_reading; spelled = x.spelled; not_enough = x.not_enough }
+
+  module _ (old new : Supply) (from to : Taken) where
+    runs_too : (result : Result A DeviceFault) → Runs job old new from to result
+        → (said : Said) → said ≡ said_of say result → Ran (said_by say job) old new from to said
+    runs_too (Ok a) x said e = record {
+      result = Ok (say a);
+      runs = record {
+        pieces = x.pieces;
+        failures = x.failures;
+        sound = sound_too _ x.sound;
+        within = x.within;
+        reading = x.reading;
+        is_reading = x.is_reading;
+        sends = x.sends;
+        comes = (x.comes.0, ap say x.comes.1, x.comes.2, x.comes.3);
+      };
+      said_is = e;
+    }
+    runs_too (Err ReadFailed) x said e = record {
+      result = Err ReadFailed;
+      runs = record {
+        pieces = x.pieces;
+        failures = x.failures;
+        sound = sound_too _ x.sound;
+        within = x.within;
+        reading = x.reading;
+        is_reading = x.is_reading;
+        sends = x.sends;
+        comes = x.comes;
+      };
+      said_is = e;
+    }
+    runs_too (Err WriteFailed) x said e = record {
+      result = Err WriteFailed;
+      runs = record {
+        pieces = x.pieces;
+        failures = x.failures;
+        sound = sound_too _ x.sound;
+        within = x.within;
+        reading = x.reading;
+        is_reading = x.is_reading;
+        sends = x.sends;
+        comes = tt;
+      };
+      said_is = e;
+    }
+    runs_too (Err InputTooLong) x said e = record {
+      result = Err InputTooLong;
+      runs = record {
+        pieces = x.pieces;
+        failures = x.failures;
+        sound = sound_too _ x.sound;
+        within = x.within;
+        reading = x.reading;
+        is_reading = x.is_reading;
+        sends = x.sends;
+        comes = (x.comes.0, sound_too _ x.comes.1);
+      };
+      said_is = e;
+    }
+
+  -- as a run of a command tells it
+  pub said_runs : {old new : Supply} {from to : Taken} {result : Result A DeviceFault} {said : Said} → Runs job old new from to result → said ≡ said_of say result
+      → Ran (said_by say job) old new from to said
+  said_runs {old} {new} {from} {to} {result} {said} x e = runs_too old new from to result x said e

@@ -1,0 +1,112 @@
+//! Runs over octets in memory, which `run_octets` makes with devices of its own.
+use super::asked::{Asked, CHECKS, DUMPS, EXTRACTS, INDEFS, STRING, command_for};
+use super::{ONES, READ_FAILED, WRITE_FAILED};
+use crate::octets::{Shown, run_octets};
+use std::alloc::Global;
+use std::process::Abort;
+use std::test::Fail;
+use tlv_value::Names;
+
+/// Expects these octets, this status and this message.
+fn expect<const N: usize>(
+    rt: &impl Abort,
+    shown: &Shown<N>,
+    written: &[u8],
+    status: u8,
+    message: &str,
+) {
+    assert_eq!(rt; shown.written.as_slice(), written);
+    assert_eq!(rt; shown.report.message.as_slice(), message.as_bytes());
+    assert_eq!(rt; shown.report.status, status);
+}
+
+/// Runs the command of the row over its input in these pieces.
+fn expect_row(rt: &impl Abort, alloc: Global, row: &Asked<'_>, cuts: &[u64]) -> Result<(), Fail> {
+    let (list, input, written, status, message) = *row;
+    let command = command_for(alloc, list)?;
+    let shown = run_octets::<256>(&command, &Names::empty(), input, cuts, false);
+    expect(rt, &shown, written, status, message);
+    Ok(())
+}
+
+#[test]
+fn cuts_do_not_show(rt: HostRuntime) -> Result<(), Fail> {
+    for rows in [EXTRACTS.as_slice(), &INDEFS, &DUMPS, &CHECKS] {
+        for row in rows {
+            expect_row(&rt, rt.alloc(), row, &[])?;
+            expect_row(&rt, rt.alloc(), row, &ONES)?;
+            for cut in 1..row.1.len() {
+                expect_row(&rt, rt.alloc(), row, &[cut as u64])?;
+            }
+        }
+    }
+    Ok(())
+}
+
+/// Behind these inputs a read fails.
+static BROKEN: [Asked<'static>; 6] = [
+    (&["indef"], b"\x30\x03\x02", b"\x30\x80", 3, READ_FAILED),
+    (
+        &["check"],
+        STRING,
+        b"0 D01 indefinite length\n0 D02 constructed string\n",
+        3,
+        READ_FAILED,
+    ),
+    (&["extract", "--offset", "9"], b"", b"", 3, READ_FAILED),
+    (
+        &["dump"],
+        b"\x05\x00",
+        b"       0      0: NULL\n",
+        3,
+        READ_FAILED,
+    ),
+    // No read is made behind a refused octet, or behind the element.
+    (
+        &["dump"],
+        b"\x05\x00\x00",
+        b"       0      0: NULL\n",
+        2,
+        "fault at 2: F03 end-of-contents outside an indefinite element",
+    ),
+    (
+        &["extract", "--offset", "0"],
+        b"\x05\x00",
+        b"\x05\x00",
+        0,
+        "",
+    ),
+];
+
+#[test]
+fn octets_before_a_failed_read_are_shown(rt: HostRuntime) -> Result<(), Fail> {
+    for (list, input, written, status, message) in BROKEN {
+        let command = command_for(rt.alloc(), list)?;
+        for cuts in [&[], ONES.as_slice()] {
+            let shown = run_octets::<256>(&command, &Names::empty(), input, cuts, true);
+            expect(&rt, &shown, written, status, message);
+            assert_eq!(rt; shown.report.findings, 0);
+        }
+    }
+    Ok(())
+}
+
+/// There is room for the first of nine octets, for all of them, and for one more.
+#[test]
+fn octets_past_the_room_are_not_written(rt: HostRuntime) -> Result<(), Fail> {
+    let input = b"\x30\x05\x02\x03\x01\x02\x03";
+    let output = b"\x30\x80\x02\x03\x01\x02\x03\x00\x00";
+    let command = command_for(rt.alloc(), &["indef"])?;
+    let names = Names::empty();
+    for cuts in [&[], ONES.as_slice()] {
+        let none = run_octets::<0>(&command, &names, input, cuts, false);
+        expect(&rt, &none, b"", 3, WRITE_FAILED);
+        let front = run_octets::<8>(&command, &names, input, cuts, false);
+        expect(&rt, &front, &output[..8], 3, WRITE_FAILED);
+        let all = run_octets::<9>(&command, &names, input, cuts, false);
+        expect(&rt, &all, output, 0, "");
+        let more = run_octets::<10>(&command, &names, input, cuts, false);
+        expect(&rt, &more, output, 0, "");
+    }
+    Ok(())
+}
