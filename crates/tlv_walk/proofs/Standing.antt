@@ -5,8 +5,8 @@ use Rattle.tlv_walk.specs.declared.event.Step.{Step}
 use Rattle.tlv_walk.specs.declared.event.Step.TheVariants as step
 use Rattle.tlv_walk.specs.declared.framing.Framing.{Framing}
 use Rattle.tlv_walk.specs.declared.stack.Frame.{Frame}
-use Rattle.tlv_walk.specs.declared.walker.Phase.{Phase}
-use Rattle.tlv_walk.specs.declared.walker.Phase.TheVariants as phase
+use Rattle.tlv_walk.specs.Phase.{Phase}
+use Rattle.tlv_walk.specs.Phase as phase
 use Rattle.tlv_walk.specs.Events.{AreEqualJoined, End, Told, events}
 use Rattle.tlv_walk.specs.Inside.{CanName}
 use Rattle.tlv_walk.specs.Machine.{IsWaiting, IsWaitingIn, Machine, Refuses, Steps, found_in}

@@ -12,12 +12,12 @@ use std::marker::Model;
 use tlv_head::{Fault, FaultCode, HeadReader};
 
 /// What the next octet belongs to.
-#[derive(Drop)]
+#[derive(Clone, Copy)]
 enum Phase {
     /// A new element, or the end of the innermost one.
     Between,
-    /// An unfinished header.
-    InHeader(HeadReader),
+    /// An unfinished header: the walker's reader has its octets.
+    InHeader,
     /// A primitive's contents, of which so many octets are to follow.
     InContents(u64),
     /// A wrapping BIT STRING, whose first contents octet is to follow.
@@ -34,6 +34,8 @@ enum Phase {
 pub struct Walker {
     stack: Stack,
     phase: Phase,
+    /// Of use in an unfinished header alone. It is large, so it is no part of the phase, which changes with each event.
+    reader: HeadReader,
     offset: u64,
     events: u64,
     framing: Framing,
@@ -60,7 +62,7 @@ impl Walker {
     ghost use Rattle.std.specs.Prelude.{◌≢◌, ◌∷◌, ◌++◌, List, [], Some, false, slice_get, true};
     ghost use Rattle.tlv_head.specs.Fields.{Suits, heading_with};
     ghost use Rattle.tlv_head.specs.Header.{announced, holds, octets_of};
-    ghost use Rattle.tlv_walk.specs.declared.walker.Phase.TheVariants as phases;
+    ghost use Rattle.tlv_walk.specs.Phase as phases;
     ghost use Rattle.tlv_walk.specs.Machine.{CanBegin, CanEnter, CanRead, CanReadOn, Enters, HasOctets, IsWaiting, Steps, StepsAtOnce, Tells, TellsOne, fault_at, new_machine, next_wrapper, unused_in};
     ghost use Rattle.tlv_head.specs.declared.fault.Fault.{Fault as FaultOf};
     ghost use Rattle.tlv_walk.specs.Ending.{IsEnding};
@@ -82,6 +84,7 @@ impl Walker {
         Walker {
             stack: Stack::new(),
             phase: Phase::Between,
+            reader: HeadReader::new(0, false),
             offset: 0,
             events: 0,
             framing: framing.copied(),
