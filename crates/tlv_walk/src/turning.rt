@@ -127,12 +127,15 @@ fn follow<F: Follow, D: Drain>(
 {
     let mut rest = piece;
     'events: loop {
-        let go = match walker.quick_event(&mut rest) {
+        let go = match walker.usual_header(&mut rest) {
             Some(event) => follow_event(follower, &event, out)?,
-            None => match walker.step(&mut rest) {
-                Step::Event(event) => follower.on(&event, out)?,
-                Step::NeedMore => return Ok(Stop::UsedUp),
-                Step::Fault(fault) => return Ok(Stop::Fault(fault)),
+            None => match walker.quick_event(&mut rest) {
+                Some(event) => follow_event(follower, &event, out)?,
+                None => match walker.step(&mut rest) {
+                    Step::Event(event) => follower.on(&event, out)?,
+                    Step::NeedMore => return Ok(Stop::UsedUp),
+                    Step::Fault(fault) => return Ok(Stop::Fault(fault)),
+                },
             },
         };
         if go == Go::Enough {
