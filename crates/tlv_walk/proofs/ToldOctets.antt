@@ -1,5 +1,5 @@
 -- The octets that events tell of are those that a walker took.
-use Rattle.std.proofs.Common.{◌≡◌, inl, inr, ℕ, ◌+◌, Bool, true, false, if◌then◌else◌, eqb, List, [], ◌∷◌, ◌++◌, length, map, flat_map, refl, sym, ap, ◌∙◌, subst, append_assoc, append-nil}
+use Rattle.std.proofs.Common.{◌≡◌, inl, inr, ℕ, ◌+◌, Bool, true, false, if◌then◌else◌, eqb, List, [], ◌∷◌, ◌++◌, length, map, flat_map, refl, sym, ap, ◌∙◌, append-nil}
 use Rattle.std.proofs.lemmas.Bool.{cases_Bool, true≢false}
 use Rattle.std.proofs.lemmas.Grind.{flat_map-append}
 use Rattle.tlv_head.specs.declared.header.Size.{Size}
@@ -13,7 +13,7 @@ use Rattle.tlv_walk.specs.Events.{AreEqualJoined, Told, Open, Begin, Bytes, End,
 use Rattle.tlv_walk.specs.Forest.{Forest, Stop, Fill, Whole, Closed, Partial, Entered, Awaiting, Begun, Zero, end_octets, extent, is_whole, lead, opening, spell}
 use Rattle.tlv_walk.specs.Machine.{IsTold, Machine}
 use Rattle.tlv_walk.specs.Place.{IsHeadAt, IsOpen, Place, after, inside_of}
-use Rattle.tlv_walk.specs.State.{AreLayers, InContents, InHeader, HasState, IsPhaseOf, Layer, BeforeUnused, InEnd, Between, Stands, State, Tail, events_layers, events_state, events_tail, place_in, place_of, spell_layers, spell_state, spell_tail}
+use Rattle.tlv_walk.specs.State.{AreLayers, InContents, InHeader, HasState, IsPhaseOf, Layer, BeforeUnused, InEnd, Between, Stands, State, Tail, events_layers, events_state, events_tail, place_in, place_of, spell_layers, spell_tail}
 use Rattle.tlv_walk.proofs.Joined.{apart-from_joined}
 
 -- ---- however they are cut into pieces

@@ -1,4 +1,4 @@
-use Rattle.std.proofs.Common.{rules, ◌≡◌, ℕ, ◌+◌, List, length, refl, sym, ap₂, ◌∙◌, subst}
+use Rattle.std.proofs.Common.{rules, ◌≡◌, ℕ, ◌+◌, List, length, refl, ap₂, ◌∙◌, subst}
 use Rattle.std.proofs.lemmas.Result.{err_from_is_err_and}
 use Rattle.tlv_walk.specs.declared.event.Step.{Step}
 use Rattle.tlv_walk.specs.declared.event.Step.TheVariants as step
