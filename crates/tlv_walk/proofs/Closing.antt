@@ -5,7 +5,7 @@ use Rattle.tlv_head.specs.declared.header.Size.{Size}
 use Rattle.tlv_head.specs.declared.header.Size.TheVariants.{Definite, Indefinite}
 use Rattle.tlv_head.specs.Header.{AllowsSize, Heading, announced, octets_of}
 use Rattle.tlv_walk.specs.declared.stack.Frame.{Frame}
-use Rattle.tlv_walk.specs.declared.walker.Phase.TheVariants as phase
+use Rattle.tlv_walk.specs.Phase as phase
 use Rattle.tlv_walk.specs.Events.{AreEqualJoined, Told, Close, Leave, apart, closes, end_offset, events, opens}
 use Rattle.tlv_walk.specs.Forest.{Forest, Stop, Closed, contents_length, end_octets, extent, is_whole, opening, spell}
 use Rattle.tlv_walk.specs.Wrappers.{enters}

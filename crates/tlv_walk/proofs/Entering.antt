@@ -5,7 +5,7 @@ use Rattle.tlv_head.specs.Header.{Heading, IsHeading, announced, holds, octets_o
 use Rattle.tlv_head.specs.Progress.{Progress}
 use Rattle.tlv_head.specs.Refusal.{IsFront}
 use Rattle.tlv_walk.specs.declared.stack.Frame.{Frame}
-use Rattle.tlv_walk.specs.declared.walker.Phase.TheVariants as phase
+use Rattle.tlv_walk.specs.Phase as phase
 use Rattle.tlv_walk.specs.Events.{AreEqualJoined, Told, Open, Begin, Bytes, Enter, Unused, apart, events, opens}
 use Rattle.tlv_walk.specs.Forest.{Forest, Stop, lead, opening, spell}
 use Rattle.tlv_walk.specs.Inside.{is_among}

@@ -10,8 +10,8 @@ use Rattle.tlv_walk.specs.declared.framing.Framing.{Framing}
 use Rattle.tlv_walk.specs.declared.out.Out.{Out}
 use Rattle.tlv_walk.specs.declared.turning.Stop.{Stop}
 use Rattle.tlv_walk.specs.declared.turning.Stop.TheVariants as stop
-use Rattle.tlv_walk.specs.declared.walker.Phase.{Phase}
-use Rattle.tlv_walk.specs.declared.walker.Phase.TheVariants as phase
+use Rattle.tlv_walk.specs.Phase.{Phase}
+use Rattle.tlv_walk.specs.Phase as phase
 use Rattle.tlv_walk.specs.Device.{Taken}
 use Rattle.tlv_walk.specs.Events.{AreEqualJoined, Told, apart, events}
 use Rattle.tlv_walk.specs.Follow.{Following, and_then, followed, followed_events}

@@ -9,8 +9,8 @@ use Rattle.tlv_head.specs.Progress.{Progress}
 use Rattle.tlv_walk.specs.declared.event.Kind.{Kind}
 use Rattle.tlv_walk.specs.declared.event.Kind.TheVariants as kind
 use Rattle.tlv_walk.specs.declared.stack.Frame.{Frame}
-use Rattle.tlv_walk.specs.declared.walker.Phase.{Phase}
-use Rattle.tlv_walk.specs.declared.walker.Phase.TheVariants as phase
+use Rattle.tlv_walk.specs.Phase.{Phase}
+use Rattle.tlv_walk.specs.Phase as phase
 use Rattle.tlv_walk.specs.Events.{Told, Open, Begin, Enter}
 use Rattle.tlv_walk.specs.Forest.{Stop, lead}
 use Rattle.tlv_walk.specs.Machine.{CanEnter, Enters, Machine, behind_header, found_in, frame_with, next_wrapper}

@@ -11,7 +11,7 @@ use Rattle.tlv_head.specs.Progress.{Fits, Progress}
 use Rattle.tlv_head.specs.Push.{Completes, IsRefused}
 use Rattle.tlv_head.proofs.Front.{header-two}
 use Rattle.tlv_walk.specs.declared.stack.Frame.{Frame}
-use Rattle.tlv_walk.specs.declared.walker.Phase.TheVariants as phase
+use Rattle.tlv_walk.specs.Phase as phase
 use Rattle.tlv_walk.specs.Ending as open_end
 use Rattle.tlv_walk.specs.Ending.{BelowBound, Completed, IsEnding, IsFault, fault, indefinite_primitive, length_too_large, no_room, overrun, reserved_length, tag_too_long, too_deep}
 use Rattle.tlv_walk.specs.Events.{Told}

@@ -4,8 +4,8 @@ use Rattle.std.proofs.lemmas.List.{map-append}
 use Rattle.std.proofs.Math.Bool.{or-true}
 use Rattle.tlv_head.specs.declared.header.Size.TheVariants.{Definite, Indefinite}
 use Rattle.tlv_head.specs.Header.{Heading, octets_of}
-use Rattle.tlv_walk.specs.declared.walker.Phase.{Phase}
-use Rattle.tlv_walk.specs.declared.walker.Phase.TheVariants as phase
+use Rattle.tlv_walk.specs.Phase.{Phase}
+use Rattle.tlv_walk.specs.Phase as phase
 use Rattle.tlv_walk.specs.Events.{AreEqualJoined, Told, Begin, Bytes, End, apart, events}
 use Rattle.tlv_walk.specs.Forest.{Forest, Stop, Fill, Whole, Closed, Partial, Entered, Awaiting, Begun, Zero, has_element, is_whole, spell}
 use Rattle.tlv_walk.specs.declared.framing.Framing.{Framing}

@@ -5,8 +5,8 @@ use Rattle.tlv_head.specs.declared.fault.FaultCode.{FaultCode}
 use Rattle.tlv_head.specs.declared.fault.FaultCode.TheVariants.{StrayEnd, BadEnd, MissingEnd, BadInside}
 use Rattle.tlv_walk.specs.declared.ending.Ending.TheVariants as ending
 use Rattle.tlv_head.specs.declared.fault.Fault.{Fault}
-use Rattle.tlv_walk.specs.declared.walker.Phase.{Phase}
-use Rattle.tlv_walk.specs.declared.walker.Phase.TheVariants as phase
+use Rattle.tlv_walk.specs.Phase.{Phase}
+use Rattle.tlv_walk.specs.Phase as phase
 use Rattle.tlv_walk.specs.Ending.{IsEnding, IsFault, bad_end, bad_inside, fault, missing_end, no_end, stray_end}
 use Rattle.tlv_walk.specs.Events.{Told}
 use Rattle.tlv_walk.specs.Machine.{IsWaiting, IsWaitingIn, Machine, fault_at}

@@ -1,15 +1,13 @@
 -- What a step tells, of what a walker stands for.
-use Rattle.std.proofs.Common.{◌≡◌, inl, inr, ℕ, Bool, false, if◌then◌else◌, List, [], ◌∷◌, ◌++◌, length, Option, Some, None, refl, sym, ap, ◌∙◌, subst, arith, append-nil, length-append, ne_eqb}
+use Rattle.std.proofs.Common.{◌≡◌, inl, inr, ℕ, List, [], ◌∷◌, ◌++◌, length, refl, sym, ap, ◌∙◌, subst, arith, append-nil, length-append}
 use Rattle.tlv_head.specs.declared.fault.Fault.{Fault}
 use Rattle.tlv_walk.specs.declared.event.Step.{Step}
 use Rattle.tlv_walk.specs.declared.event.Step.TheVariants as step
 use Rattle.tlv_walk.specs.declared.framing.Framing.{Framing}
 use Rattle.tlv_walk.specs.declared.stack.Frame.{Frame}
-use Rattle.tlv_walk.specs.declared.walker.Phase.{Phase}
-use Rattle.tlv_walk.specs.declared.walker.Phase.TheVariants as phase
-use Rattle.tlv_walk.specs.Events.{AreEqualJoined, End, Told, events}
+use Rattle.tlv_walk.specs.Events.{AreEqualJoined, Told, events}
 use Rattle.tlv_walk.specs.Inside.{CanName}
-use Rattle.tlv_walk.specs.Machine.{IsWaiting, IsWaitingIn, Machine, Refuses, Steps, found_in}
+use Rattle.tlv_walk.specs.Machine.{Machine, Refuses, Steps, found_in}
 use Rattle.tlv_walk.specs.Wrappers.{enters}
 use Rattle.tlv_walk.proofs.Moves.{found_in-append}
 use Rattle.tlv_walk.proofs.Wrappers.{enters-append}
@@ -17,8 +15,7 @@ use Rattle.tlv_walk.specs.declared.ending.Ending.TheVariants as ending
 use Rattle.tlv_walk.specs.Ending.{IsEnding}
 use Rattle.tlv_walk.specs.Reading.{IsReading}
 use Rattle.tlv_walk.specs.Place.{IsOpen, top}
-use Rattle.tlv_walk.specs.Stack.{IsFilled}
-use Rattle.tlv_walk.specs.State.{Stands, ending_of, endings_at, is_end, waiting_in, waiting_of}
+use Rattle.tlv_walk.specs.State.{Stands, waiting_of}
 use Rattle.tlv_walk.specs.Tells.{IsRefused, IsRefusedBehind, RefusesOctet, StandsBehind, StandsRefused, StandsStep, TellsEvent, TellsFault, TellsStep, told_of}
 use Rattle.std.specs.Prelude.{slice_get}
 use Rattle.tlv_walk.proofs.Endings.{refused-reading}

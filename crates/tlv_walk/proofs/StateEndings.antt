@@ -5,8 +5,8 @@ use Rattle.tlv_head.specs.declared.fault.FaultCode.TheVariants.{Empty, Short}
 use Rattle.tlv_walk.specs.declared.ending.Ending.TheVariants.{Done}
 use Rattle.tlv_walk.specs.declared.framing.Framing.{Framing}
 use Rattle.tlv_walk.specs.declared.stack.Frame.{Frame}
-use Rattle.tlv_walk.specs.declared.walker.Phase.{Phase}
-use Rattle.tlv_walk.specs.declared.walker.Phase.TheVariants as phase
+use Rattle.tlv_walk.specs.Phase.{Phase}
+use Rattle.tlv_walk.specs.Phase as phase
 use Rattle.tlv_walk.specs.Ending.{IsEnding, IsFault, IsFaultAt, Tip, done, empty, fault, short, tip}
 use Rattle.tlv_walk.specs.Events.{Told}
 use Rattle.tlv_walk.specs.Forest.{Forest, Stop, Partial, Awaiting, Begun, Zero, has_element, is_whole, spell}

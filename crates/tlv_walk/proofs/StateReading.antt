@@ -5,8 +5,8 @@ use Rattle.tlv_head.specs.declared.header.Size.TheVariants.{Definite}
 use Rattle.tlv_head.specs.Header.{Heading, announced, octets_of}
 use Rattle.tlv_walk.specs.declared.framing.Framing.{Framing}
 use Rattle.tlv_walk.specs.declared.stack.Frame.{Frame}
-use Rattle.tlv_walk.specs.declared.walker.Phase.{Phase}
-use Rattle.tlv_walk.specs.declared.walker.Phase.TheVariants as phase
+use Rattle.tlv_walk.specs.Phase.{Phase}
+use Rattle.tlv_walk.specs.Phase as phase
 use Rattle.tlv_walk.specs.Events.{Told, AreEqualJoined, Begin, Bytes, End, apart, events}
 use Rattle.tlv_walk.specs.Forest.{Forest, Stop, Whole, Partial, Awaiting, Begun, Zero, is_whole, spell}
 use Rattle.tlv_walk.specs.Machine.{Machine, new_machine, found_in}

@@ -1,19 +1,19 @@
 -- The octets that events tell of are those that a walker took.
-use Rattle.std.proofs.Common.{◌≡◌, inl, inr, ℕ, ◌+◌, Bool, true, false, if◌then◌else◌, eqb, List, [], ◌∷◌, ◌++◌, length, map, flat_map, refl, sym, ap, ◌∙◌, subst, append_assoc, append-nil}
+use Rattle.std.proofs.Common.{◌≡◌, inl, inr, ℕ, ◌+◌, Bool, true, false, if◌then◌else◌, eqb, List, [], ◌∷◌, ◌++◌, length, map, flat_map, refl, sym, ap, ◌∙◌, append-nil}
 use Rattle.std.proofs.lemmas.Bool.{cases_Bool, true≢false}
 use Rattle.std.proofs.lemmas.Grind.{flat_map-append}
 use Rattle.tlv_head.specs.declared.header.Size.{Size}
 use Rattle.tlv_head.specs.declared.header.Size.TheVariants.{Definite, Indefinite}
 use Rattle.tlv_head.specs.Header.{AllowsSize, Heading, octets_of}
 use Rattle.tlv_walk.specs.declared.framing.Framing.{Framing}
-use Rattle.tlv_walk.specs.declared.walker.Phase.{Phase}
-use Rattle.tlv_walk.specs.declared.walker.Phase.TheVariants as phase
+use Rattle.tlv_walk.specs.Phase.{Phase}
+use Rattle.tlv_walk.specs.Phase as phase
 use Rattle.tlv_walk.specs.Drives.{octets_told}
 use Rattle.tlv_walk.specs.Events.{AreEqualJoined, Told, Open, Begin, Bytes, End, Close, Enter, Unused, Leave, Pad, apart, closes, end_offset, events, opens}
 use Rattle.tlv_walk.specs.Forest.{Forest, Stop, Fill, Whole, Closed, Partial, Entered, Awaiting, Begun, Zero, end_octets, extent, is_whole, lead, opening, spell}
 use Rattle.tlv_walk.specs.Machine.{IsTold, Machine}
 use Rattle.tlv_walk.specs.Place.{IsHeadAt, IsOpen, Place, after, inside_of}
-use Rattle.tlv_walk.specs.State.{AreLayers, InContents, InHeader, HasState, IsPhaseOf, Layer, BeforeUnused, InEnd, Between, Stands, State, Tail, events_layers, events_state, events_tail, place_in, place_of, spell_layers, spell_state, spell_tail}
+use Rattle.tlv_walk.specs.State.{AreLayers, InContents, InHeader, HasState, IsPhaseOf, Layer, BeforeUnused, InEnd, Between, Stands, State, Tail, events_layers, events_state, events_tail, place_in, place_of, spell_layers, spell_tail}
 use Rattle.tlv_walk.proofs.Joined.{apart-from_joined}
 
 -- ---- however they are cut into pieces

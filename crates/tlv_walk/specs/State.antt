@@ -4,8 +4,8 @@ use Rattle.tlv_head.specs.declared.header.Size.TheVariants.{Definite}
 use Rattle.tlv_head.specs.Header.{Heading, octets_of}
 use Rattle.tlv_walk.specs.declared.framing.Framing.{Framing}
 use Rattle.tlv_walk.specs.declared.stack.Frame.{Frame}
-use Rattle.tlv_walk.specs.declared.walker.Phase.{Phase}
-use Rattle.tlv_walk.specs.declared.walker.Phase.TheVariants as phase
+use Rattle.tlv_walk.specs.Phase.{Phase}
+use Rattle.tlv_walk.specs.Phase as phase
 use Rattle.tlv_walk.specs.Events.{Told, AreEqualJoined, Begin, Bytes, End, Enter, Close, Leave, events, opens}
 use Rattle.tlv_walk.specs.Forest.{Forest, has_element, is_whole, opening, spell}
 use Rattle.tlv_walk.specs.Inside.{CanName, is_among}

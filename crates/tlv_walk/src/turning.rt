@@ -2,15 +2,17 @@
 ghost use Rattle.std.specs.Prelude.{◌≡◌, ℕ, List, ◌+◌, ◌<◌, ◌≤◌, ◌^◌, IfOk, length};
 ghost use Rattle.tlv_walk.specs.Device.{failures_after};
 ghost use Rattle.tlv_walk.specs.Events.{Told};
+ghost use Rattle.tlv_walk.specs.Follow.{IsFollowed};
 ghost use Rattle.tlv_walk.specs.Follows.{Stops};
 ghost use Rattle.tlv_walk.specs.Laws.{AreOctets};
 ghost use Rattle.tlv_walk.specs.Machine.{IsReady, unused_in};
 ghost use Rattle.tlv_walk.specs.Out.{Puts, Sends, lender_of};
 ghost use Rattle.tlv_walk.specs.State.{Stands};
+ghost use Rattle.tlv_walk.specs.Tells.{told_of};
 ghost use Rattle.tlv_walk.specs.Turns.{Calls, Turns, given};
 
 use crate::{
-    DeviceFault, Drain, Ending, Follow, Go, Out, Run, Source, Step, Turn, Walker, WriteFault,
+    DeviceFault, Drain, Ending, Event, Follow, Go, Out, Run, Source, Step, Turn, Walker, WriteFault,
 };
 use tlv_head::Fault;
 
@@ -125,16 +127,40 @@ fn follow<F: Follow, D: Drain>(
 {
     let mut rest = piece;
     'events: loop {
-        let go = match walker.quick_event(&mut rest) {
-            Some(event) => follower.on(&event, out)?,
-            None => match walker.step(&mut rest) {
-                Step::Event(event) => follower.on(&event, out)?,
-                Step::NeedMore => return Ok(Stop::UsedUp),
-                Step::Fault(fault) => return Ok(Stop::Fault(fault)),
+        let go = match walker.usual_header(&mut rest) {
+            Some(event) => follow_event(follower, &event, out)?,
+            None => match walker.quick_event(&mut rest) {
+                Some(event) => follow_event(follower, &event, out)?,
+                None => match walker.step(&mut rest) {
+                    Step::Event(event) => follower.on(&event, out)?,
+                    Step::NeedMore => return Ok(Stop::UsedUp),
+                    Step::Fault(fault) => return Ok(Stop::Fault(fault)),
+                },
             },
         };
         if go == Go::Enough {
             return Ok(Stop::Enough);
         }
+    }
+}
+
+/// Lets the follower follow an event. The usual kinds have calls of their own: where the follower is inlined, it then
+/// need not ask of which kind the event is.
+#[inline(always)]
+fn follow_event<F: Follow, D: Drain>(
+    follower: &mut F,
+    event: &Event<'_>,
+    out: &mut Out<'_, D>,
+) -> Result<Go, WriteFault>
+    ensures puts { Puts D.told out.old out.new (F.next follower.old (told_of event.now)).put result }
+    ensures state { IsFollowed (F.next follower.old (told_of event.now)) follower.new result }
+{
+    match event {
+        Event::Begin(_) => follower.on(event, out),
+        Event::Bytes(_) => follower.on(event, out),
+        Event::End => follower.on(event, out),
+        Event::Open(_) => follower.on(event, out),
+        Event::Close(_) => follower.on(event, out),
+        _ => follower.on(event, out),
     }
 }

@@ -12,12 +12,12 @@ use std::marker::Model;
 use tlv_head::{Fault, FaultCode, HeadReader};
 
 /// What the next octet belongs to.
-#[derive(Drop)]
+#[derive(Clone, Copy)]
 enum Phase {
     /// A new element, or the end of the innermost one.
     Between,
-    /// An unfinished header.
-    InHeader(HeadReader),
+    /// An unfinished header: the walker's reader has its octets.
+    InHeader,
     /// A primitive's contents, of which so many octets are to follow.
     InContents(u64),
     /// A wrapping BIT STRING, whose first contents octet is to follow.
@@ -34,6 +34,8 @@ enum Phase {
 pub struct Walker {
     stack: Stack,
     phase: Phase,
+    /// Of use in an unfinished header alone. It is large, so it is no part of the phase, which changes with each event.
+    reader: HeadReader,
     offset: u64,
     events: u64,
     framing: Framing,
@@ -60,7 +62,7 @@ impl Walker {
     ghost use Rattle.std.specs.Prelude.{◌≢◌, ◌∷◌, ◌++◌, List, [], Some, false, slice_get, true};
     ghost use Rattle.tlv_head.specs.Fields.{Suits, heading_with};
     ghost use Rattle.tlv_head.specs.Header.{announced, holds, octets_of};
-    ghost use Rattle.tlv_walk.specs.declared.walker.Phase.TheVariants as phases;
+    ghost use Rattle.tlv_walk.specs.Phase as phases;
     ghost use Rattle.tlv_walk.specs.Machine.{CanBegin, CanEnter, CanRead, CanReadOn, Enters, HasOctets, IsWaiting, Steps, StepsAtOnce, Tells, TellsOne, fault_at, new_machine, next_wrapper, unused_in};
     ghost use Rattle.tlv_head.specs.declared.fault.Fault.{Fault as FaultOf};
     ghost use Rattle.tlv_walk.specs.Ending.{IsEnding};
@@ -82,6 +84,7 @@ impl Walker {
         Walker {
             stack: Stack::new(),
             phase: Phase::Between,
+            reader: HeadReader::new(0, false),
             offset: 0,
             events: 0,
             framing: framing.copied(),
@@ -236,6 +239,28 @@ impl Walker {
             return Step::NeedMore;
         }
         self.slow_header(piece)
+    }
+
+    /// The next event, where it is a header of the usual form that may stand here: one identifier octet, and one length
+    /// octet of a definite length. Otherwise nothing is taken. It stands apart from [`Walker::quick_event`] so that the
+    /// compiler knows as much of the fields where the event is followed.
+    #[inline(always)]
+    pub(crate) fn usual_header<'a>(&mut self, piece: &mut &'a [u8]) -> Option<Event<'a>>
+        requires { self.old.offset + length piece.old.now ≤ 2 ^ 40 }
+        ensures steps { StepsAtOnce self.old self.new piece.old.now piece.new.now result }
+        ensures tells { TellsAtOnce self.old self.new piece.old.now piece.new.now result }
+    {
+        if !matches!(self.phase, Phase::Between) {
+            return None;
+        }
+        let octets: &'a [u8] = *piece;
+        let [first, second, ..] = octets else {
+            return None;
+        };
+        if *first == 0 || *first & 0x1f == 0x1f || *second >= 0x80 {
+            return None;
+        }
+        self.short_header(piece)
     }
 
     /// The next event, where few instructions find it: an end that waits, contents, end-of-contents octets, or a header of

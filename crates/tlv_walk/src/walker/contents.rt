@@ -1,6 +1,6 @@
 //! How a walker takes the contents of primitives, and octets between encodings.
 ghost use Rattle.std.specs.Prelude.{◌≡◌, ◌≢◌, ℕ, ◌+◌, ◌^◌, ◌<◌, ◌≤◌, ◌∷◌, [], All, Some, length, slice_get, take, true};
-ghost use Rattle.tlv_walk.specs.declared.walker.Phase.TheVariants as phases;
+ghost use Rattle.tlv_walk.specs.Phase as phases;
 ghost use Rattle.tlv_walk.specs.Machine.{HasOctets, Steps, Tells, TellsOne};
 ghost use Rattle.tlv_walk.specs.Tells.{Continues, TellsEvent, TellsStep, told_of};
 

@@ -1,6 +1,6 @@
 //! How a walker takes what stands between elements, and the ends of those that hold others.
 ghost use Rattle.std.specs.Prelude.{◌≡◌, ℕ, ◌+◌, ◌^◌, ◌≤◌, ◌∷◌, [], length};
-ghost use Rattle.tlv_walk.specs.declared.walker.Phase.TheVariants as phases;
+ghost use Rattle.tlv_walk.specs.Phase as phases;
 ghost use Rattle.tlv_walk.specs.Machine.{HasOctets, Steps, StepsAtOnce, Tells};
 ghost use Rattle.tlv_walk.specs.Stack.{IsFilled};
 ghost use Rattle.tlv_walk.specs.Tells.{Continues, TellsAtOnce, TellsStep, told_of};

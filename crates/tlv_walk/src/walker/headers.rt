@@ -3,7 +3,7 @@ ghost use Rattle.std.specs.Prelude.{◌≡◌, ◌≢◌, ℕ, ◌+◌, ◌^◌,
 ghost use Rattle.tlv_head.specs.Fields.{Suits, heading_with};
 ghost use Rattle.tlv_head.specs.Header.{announced, holds, octets_of};
 ghost use Rattle.tlv_head.specs.Read.{BeginsWithFields};
-ghost use Rattle.tlv_walk.specs.declared.walker.Phase.TheVariants as phases;
+ghost use Rattle.tlv_walk.specs.Phase as phases;
 ghost use Rattle.tlv_walk.specs.Inside.{is_among};
 ghost use Rattle.tlv_walk.specs.Machine.{CanBegin, CanEnter, CanRead, CanReadOn, Enters, HasOctets, Steps, StepsAtOnce, Tells, next_wrapper};
 ghost use Rattle.tlv_walk.specs.ReadsOn.{TellsFrom, TellsHeader};
@@ -82,10 +82,9 @@ impl Walker {
         ensures steps { Steps self.old self.new piece.old.now piece.new.now result }
         ensures tells { TellsStep self.old self.new piece.old.now piece.new.now result }
     {
-        if matches!(self.phase, Phase::InHeader(_)) {
-            let Phase::InHeader(reader) = replace(&mut self.phase, Phase::Between) else {
-                unreachable!();
-            };
+        if matches!(self.phase, Phase::InHeader) {
+            let reader = replace(&mut self.reader, HeadReader::new(0, false));
+            self.phase = Phase::Between;
             return self.read_on(reader, piece);
         }
         let named = self.framing.inside.contains(self.offset);
@@ -124,7 +123,8 @@ impl Walker {
             }
         }
         self.offset = offset;
-        self.phase = Phase::InHeader(reader);
+        self.reader = reader;
+        self.phase = Phase::InHeader;
         Step::NeedMore
     }
 
