@@ -113,7 +113,8 @@ impl Header {
         }
     }
 
-    /// The header with these fields and octets.
+    /// The header with these fields and octets, which are moved. ([`Header::new`] reads what it keeps of them from the slice
+    /// that it is given, so that nothing need be written where nobody asks for the octets.)
     pub(crate) fn with_raw(fields: &HeaderFields, raw: ArrayVec<u8, 137>) -> Header
         requires { Suits fields.now raw.items }
         ensures { result ≡ heading_with fields.now raw.items }

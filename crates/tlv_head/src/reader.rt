@@ -139,34 +139,11 @@ impl HeadReader {
                 if !fits(size, room) {
                     return refused(FaultCode::Overrun, offset);
                 }
-                let fields = self.fields(identifier, size);
+                let fields = fields_of(self.offset, self.named, identifier, size);
                 self.raw.push(octet);
                 self.part = Part::Done;
                 Head::Whole(Header::with_raw(&fields, self.raw.take()))
             }
-        }
-    }
-
-    /// The fields of the header with this identifier and size.
-    fn fields(&self, identifier: Identifier, size: Size) -> HeaderFields
-        ensures { result ≡ record {
-          offset = self.now.offset;
-          named = self.now.named;
-          class = identifier.class;
-          constructed = identifier.constructed;
-          number = identifier.number;
-          size = size;
-          id_len = identifier.octets;
-        } }
-    {
-        HeaderFields {
-            offset: self.offset,
-            named: self.named,
-            class: identifier.class,
-            constructed: identifier.constructed,
-            number: identifier.number,
-            size,
-            id_len: identifier.octets,
         }
     }
 }
@@ -260,7 +237,15 @@ fn short_length(constructed: bool, octets: &[u8]) -> Option<(Size, usize)>
 
 #[inline(always)]
 fn fields_of(offset: u64, named: bool, identifier: Identifier, size: Size) -> HeaderFields
-    ensures { result ≡ record { offset = offset; named = named; class = identifier.class; constructed = identifier.constructed; number = identifier.number; size = size; id_len = identifier.octets } }
+    ensures { result ≡ record {
+      offset = offset;
+      named = named;
+      class = identifier.class;
+      constructed = identifier.constructed;
+      number = identifier.number;
+      size = size;
+      id_len = identifier.octets;
+    } }
 {
     HeaderFields {
         offset,

@@ -22,7 +22,6 @@ pub mod BasicTextRows
 pub mod StrictRows
 pub mod CanonicalRows
 pub mod WholeRows
-pub mod Memory
 pub mod ToldOfHeaders
 pub mod Spellings
 pub mod SpellingRows

@@ -180,7 +180,9 @@ find_end s = ended_by s s.value
 -- an element that holds others ends
 abbrev pub closed_by : FinderState → List Frame → Finds
 closed_by s [] = finds_nothing s
-closed_by s (w ∷ outer) = finds (record s { frame = noted w s.frame.is_primitive s.frame.size false; outer = outer }) (length outer) s.frame.at (end_notes s.rules s.frame)
+closed_by s (w ∷ outer) =
+    finds (record s { frame = noted w s.frame.is_primitive s.frame.size false; outer = outer }) (length outer) s.frame.at
+    (end_notes s.rules s.frame)
 
 abbrev pub find_close : FinderState → Finds
 find_close s = closed_by s s.outer

@@ -55,7 +55,8 @@ PrimitivesAreShown = (s : Showing) (h : Heading) (c : List ℕ) → announced h.
       state = shown;
       put =
           found_lines s (find_begin s.finder h)
-          ++ (whole_lines (finite.get s.lines.names) h s.lines.layout c ++ all_written (Dump s.lines.layout.pure) (length s.finder.outer) h.offset (contents_findings s.finder.rules h c));
+          ++ (whole_lines (finite.get s.lines.names) h s.lines.layout c
+          ++ all_written (Dump s.lines.layout.pure) (length s.finder.outer) h.offset (contents_findings s.finder.rules h c));
       goes = On;
     })
 
@@ -70,15 +71,6 @@ abbrev pub ChecksMakeTexts : Type 0
 ChecksMakeTexts = (rules : Rules) (framing : Framing) (b : List ℕ) (f : Forest) → length b ≤ 2 ^ 40 → IsReading framing b f
     → let made = followed check_step (no_findings rules) (events f) in
     (made.put ≡ check_text rules f) × (made.state.count ≡ found_count rules f) × (made.goes ≡ On)
-
--- of the octets, or of the first 2^40 of them, the text was written and the outcome is returned
-pub record DumpsOctets (options : Options) (names : Table) (octets : List ℕ) (from to : Taken) (outcome : Outcome) : Type 0 where
-  pub reading : Forest
-  pub is_reading : IsReading options.framing (take (2 ^ 40) octets) reading
-  pub text : Appends from.octets to.octets (dumped_text options names reading)
-  pub ending : IsEnding options.framing (take (2 ^ 40) octets) outcome.ending
-  pub findings : outcome.findings ≡ found_count options.rules reading
-  pub unused : outcome.unused ≡ unused_of options.framing.inside reading
 
 -- a finding of BER
 abbrev pub is_basic : Item → Bool

@@ -1,12 +1,7 @@
-//! Laws of a dump and of a check: each is the contract of a function that does nothing, or no more than to call `dump`.
+//! Laws of a dump and of a check: each is the contract of a function that does nothing.
 
-ghost use Rattle.std.specs.Prelude.{IfOk};
-ghost use Rattle.tlv_show.specs.Laws.{BasicFindingsStay, ChecksGoOn, ChecksMakeTexts, DumpsGoOn, DumpsMakeTexts, DumpsOctets, PrimitivesAreShown};
+ghost use Rattle.tlv_show.specs.Laws.{BasicFindingsStay, ChecksGoOn, ChecksMakeTexts, DumpsGoOn, DumpsMakeTexts, PrimitivesAreShown};
 ghost use Rattle.tlv_show.specs.Spellings.{LongerIdentifiersAreFound, LongerLengthsAreFound, OneSpelling, SomeSpelling};
-
-use crate::{Options, Outcome, dump};
-use tlv_value::Names;
-use tlv_walk::{DeviceFault, Drain, MemSource};
 
 /// What a `Dump` makes of the events of a reading is the text of that reading and the number of its findings. It always
 /// wants more.
@@ -18,28 +13,6 @@ pub fn dumps_make_texts()
 pub fn checks_make_texts()
     ensures { ChecksMakeTexts }
 {}
-
-/// A dump of octets in memory is the dump of these octets, into whatever pieces the reads cut them.
-///
-/// # Errors
-///
-/// As for [`dump`].
-pub fn octets_are_dumped<D: Drain>(
-    octets: &[u8],
-    cuts: &[u64],
-    drain: &mut D,
-    options: &Options,
-    names: &Names,
-) -> Result<Outcome, DeviceFault>
-    ensures { IfOk result (DumpsOctets options.now names.now octets.now (D.told drain.old) (D.told drain.new)) }
-{
-    dump(
-        &mut MemSource::new(octets, cuts, None),
-        drain,
-        options,
-        names,
-    )
-}
 
 /// What is written of a longer input is what is written of the shorter, and then more.
 pub fn dumps_go_on()

@@ -19,7 +19,8 @@ LinesBegin = (h : Heading) (layout : Layout) → open_lines h layout [] ≡ begu
 
 -- with more octets, what is new in the lines of the primitive, which is still open
 abbrev pub LinesGoOn : Type 0
-LinesGoOn = (h : Heading) (layout : Layout) (octets x : List ℕ) → open_lines h layout (octets ++ x) ≡ open_lines h layout octets ++ told (state_for h layout octets) x
+LinesGoOn = (h : Heading) (layout : Layout) (octets x : List ℕ)
+    → open_lines h layout (octets ++ x) ≡ open_lines h layout octets ++ told (state_for h layout octets) x
 
 -- with the end, the rest of the lines of the whole primitive
 abbrev pub LinesEnd : Type 0

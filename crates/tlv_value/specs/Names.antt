@@ -123,7 +123,8 @@ is_among dotted entries = list_any (λ e. bytes_eq dotted e.0) entries
 abbrev pub refusal : List Line → Line → Option NamesFault
 refusal above nothing = None
 refusal above (named dotted name) =
-    if is_among dotted (entries_of above) then Some (Repeated (length above + 1)) else (if nat_le 65536 (length (entries_of above)) then Some TooLarge else None)
+    if is_among dotted (entries_of above) then Some (Repeated (length above + 1))
+    else (if nat_le 65536 (length (entries_of above)) then Some TooLarge else None)
 refusal above no_oid = Some (BadOid (length above + 1))
 refusal above no_name = Some (BadName (length above + 1))
 refusal above too_long = Some TooLarge

@@ -37,7 +37,8 @@ abbrev pub open_lines : Heading → Layout → List ℕ → List ℕ
 open_lines h layout octets =
     if is_long (kind_of h.class h.number) (announced h.size)
     then (if has_line (kind_of h.class h.number) octets
-    then value_lines h layout (long_text (kind_of h.class h.number) (announced h.size) octets) (full_rows (kind_of h.class h.number) [] (in_rows (kind_of h.class h.number) octets))
+    then value_lines h layout (long_text (kind_of h.class h.number) (announced h.size) octets)
+    (full_rows (kind_of h.class h.number) [] (in_rows (kind_of h.class h.number) octets))
     else [])
     else []
 

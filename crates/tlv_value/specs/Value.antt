@@ -119,7 +119,9 @@ in_rows kind octets = octets
 -- contents that are whole
 abbrev pub whole_value : NameOf → Kind → List ℕ → Value
 whole_value name_of kind octets =
-    if is_long kind (length octets) then record { text = long_text kind (length octets) octets; rows = rows_of kind (in_rows kind octets) } else held_value name_of kind octets
+    if is_long kind (length octets)
+    then record { text = long_text kind (length octets) octets; rows = rows_of kind (in_rows kind octets) }
+    else held_value name_of kind octets
 
 -- the text of a row: pairs of digits, or characters
 abbrev pub joined_pairs : List ℕ → List ℕ

@@ -130,14 +130,14 @@ module _ (form : Bool → Bool) (definite : form false ≡ false) where
     octets = 0 ∷ r.octets;
     short = omega (arith, r.short);
     there = λ q like.
-    let t : SpelledAt form (after q 1) rest r.octets = r.there (after q 1) (record { inside = like.inside; padding = like.padding; depth = like.depth }) in
-    record {
-      forest = Fill t.forest;
-      alike = padding rest t.forest t.alike;
-      sound = (like.padding ∙ allowed, t.sound);
-      regular = t.regular;
-      spelled = ap (λ (l : List ℕ). 0 ∷ l) t.spelled;
-    };
+        let t : SpelledAt form (after q 1) rest r.octets = r.there (after q 1) (record { inside = like.inside; padding = like.padding; depth = like.depth }) in
+        record {
+          forest = Fill t.forest;
+          alike = padding rest t.forest t.alike;
+          sound = (like.padding ∙ allowed, t.sound);
+          regular = t.regular;
+          spelled = ap (λ (l : List ℕ). 0 ∷ l) t.spelled;
+        };
   }
 
   spelling-whole : (p : Place) (h : Heading) (c : List ℕ) (rest : Forest) → h.constructed ≡ false → IsHeading h → (o : Octets h false (Definite (length c)))
@@ -161,20 +161,20 @@ module _ (form : Bool → Bool) (definite : form false ≡ false) where
           length-append c r.octets,
         );
     there = λ q like.
-    let k : Heading = head_of h false (Definite (length c)) o q.at in
-    let t : SpelledAt form (after q (length (octets_of k) + length c)) rest r.octets =
-    r.there (after q (length (octets_of k) + length c)) (record { inside = like.inside; padding = like.padding; depth = like.depth }) in
-    record {
-      forest = Whole k c t.forest;
-      alike = primitives h k c rest t.forest (record { class = refl; constructed = primitive; number = refl }) t.alike;
-      sound = (
-        record { valid = head-valid h false (Definite (length c)) o q.at; offset = refl; named = unnamed q.at q.inside like.inside; form = refl },
-        refl,
-        t.sound,
-      );
-      regular = (record { shortest = head-shortest h false (Definite (length c)) o q.at; by_form = sym definite }, t.regular);
-      spelled = ap (λ (l : List ℕ). (o.identifier.octets ++ o.lengths.octets) ++ (c ++ l)) t.spelled;
-    };
+        let k : Heading = head_of h false (Definite (length c)) o q.at in
+        let t : SpelledAt form (after q (length (octets_of k) + length c)) rest r.octets =
+        r.there (after q (length (octets_of k) + length c)) (record { inside = like.inside; padding = like.padding; depth = like.depth }) in
+        record {
+          forest = Whole k c t.forest;
+          alike = primitives h k c rest t.forest (record { class = refl; constructed = primitive; number = refl }) t.alike;
+          sound = (
+            record { valid = head-valid h false (Definite (length c)) o q.at; offset = refl; named = unnamed q.at q.inside like.inside; form = refl },
+            refl,
+            t.sound,
+          );
+          regular = (record { shortest = head-shortest h false (Definite (length c)) o q.at; by_form = sym definite }, t.regular);
+          spelled = ap (λ (l : List ℕ). (o.identifier.octets ++ o.lengths.octets) ++ (c ++ l)) t.spelled;
+        };
   }
 
   spelling-closed : (p : Place) (h : Heading) (inside rest : Forest) → h.constructed ≡ true → IsHeading h → p.depth < 128
@@ -205,24 +205,24 @@ module _ (form : Bool → Bool) (definite : form false ≡ false) where
               length-append (end_octets size) r.octets,
             );
         there = λ q like.
-        let k : Heading = head_of h true size o q.at in
-        let i : SpelledAt form (inside_of q k) inside held.octets =
-        held.there (inside_of q k) (record { inside = like.inside; padding = refl; depth = ap (λ (d : ℕ). d + 1) like.depth }) in
-        let t : SpelledAt form (after q (extent k i.forest)) rest r.octets =
-        r.there (after q (extent k i.forest)) (record { inside = like.inside; padding = like.padding; depth = like.depth }) in
-        record {
-          forest = Closed k i.forest t.forest;
-          alike = holders h k inside i.forest rest t.forest (record { class = refl; constructed = constructed; number = refl }) i.alike t.alike;
-          sound = (
-            record { valid = head-valid h true size o q.at; offset = refl; named = unnamed q.at q.inside like.inside; form = refl },
-            size-length (form true) (length held.octets) (0 + length (spell i.forest)) (omega (arith, ap length i.spelled)),
-            omega (arith, like.depth, few),
-            i.sound,
-            t.sound,
-          );
-          regular = (record { shortest = head-shortest h true size o q.at; by_form = size-form (form true) (length held.octets) }, i.regular, t.regular);
-          spelled = ap₂ (λ (x y : List ℕ). ((o.identifier.octets ++ o.lengths.octets) ++ []) ++ (x ++ (end_octets size ++ y))) i.spelled t.spelled;
-        };
+            let k : Heading = head_of h true size o q.at in
+            let i : SpelledAt form (inside_of q k) inside held.octets =
+            held.there (inside_of q k) (record { inside = like.inside; padding = refl; depth = ap (λ (d : ℕ). d + 1) like.depth }) in
+            let t : SpelledAt form (after q (extent k i.forest)) rest r.octets =
+            r.there (after q (extent k i.forest)) (record { inside = like.inside; padding = like.padding; depth = like.depth }) in
+            record {
+              forest = Closed k i.forest t.forest;
+              alike = holders h k inside i.forest rest t.forest (record { class = refl; constructed = constructed; number = refl }) i.alike t.alike;
+              sound = (
+                record { valid = head-valid h true size o q.at; offset = refl; named = unnamed q.at q.inside like.inside; form = refl },
+                size-length (form true) (length held.octets) (0 + length (spell i.forest)) (omega (arith, ap length i.spelled)),
+                omega (arith, like.depth, few),
+                i.sound,
+                t.sound,
+              );
+              regular = (record { shortest = head-shortest h true size o q.at; by_form = size-form (form true) (length held.octets) }, i.regular, t.regular);
+              spelled = ap₂ (λ (x y : List ℕ). ((o.identifier.octets ++ o.lengths.octets) ++ []) ++ (x ++ (end_octets size ++ y))) i.spelled t.spelled;
+            };
       }
 
   pub respelled : (p : Place) (f : Forest) → p.inside ≡ [] → length (spell f) ≤ 2 ^ 38 → IsSound p f → HaveLowForms f → Spelling form p f

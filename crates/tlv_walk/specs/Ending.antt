@@ -84,9 +84,11 @@ pub data IsFault (p : Place) (x : ℕ) : OpenEnd → FaultCode → Type 0 where
   -- 8.1.3.5: a length octet after the first, other than 00, that five or more are to follow
   length_too_large : {o : List ℕ} → BelowBound p (length o) → IsLengthTooLarge o x → IsFault p x (InHeader o) LengthTooLarge
   -- 8.1.4: the header of an element that holds others, inside 128 of them
-  too_deep : {o : List ℕ} → BelowBound p (length o) → (h : Heading) → Completed p (o ++ x ∷ []) h → holds h ≡ true → 128 ≤ p.depth → IsFault p x (InHeader o) TooDeep
+  too_deep : {o : List ℕ} → BelowBound p (length o) → (h : Heading) → Completed p (o ++ x ∷ []) h → holds h ≡ true → 128 ≤ p.depth
+      → IsFault p x (InHeader o) TooDeep
   -- 8.1.3.3: the header of contents that end past the bound
-  overrun : {o : List ℕ} → BelowBound p (length o) → (h : Heading) → Completed p (o ++ x ∷ []) h → (holds h ≡ true → p.depth < 128) → IsPastBound p h → IsFault p x (InHeader o) Overrun
+  overrun : {o : List ℕ} → BelowBound p (length o) → (h : Heading) → Completed p (o ++ x ∷ []) h → (holds h ≡ true → p.depth < 128) → IsPastBound p h
+      → IsFault p x (InHeader o) Overrun
   -- 8.1.5: no end-of-contents octets before the bound
   no_end : p.indefinite ≡ true → AtBound p 0 → IsFault p x Between MissingEnd
   -- 8.1.5: 00 where no end-of-contents octets can stand, and no padding

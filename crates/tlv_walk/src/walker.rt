@@ -98,8 +98,10 @@ impl Walker {
     pub fn depth(&self) -> u8
         ensures value { result ≡ length self.now.stack }
         ensures within { result ≤ 128 }
-        ensures open_elements { (b : List ℕ) (told : List Told) → NothingWaits self.now → (stands : Stands self.now b told) → result ≡ open_count stands.reading }
-        ensures refused { (b : List ℕ) (x : ℕ) (told : List Told) (f : FaultOf) → (stands : StandsRefused self.now b x told f) → result ≡ open_count stands.behind.reading }
+        ensures open_elements { (b : List ℕ) (told : List Told) → NothingWaits self.now → (stands : Stands self.now b told)
+            → result ≡ open_count stands.reading }
+        ensures refused { (b : List ℕ) (x : ℕ) (told : List Told) (f : FaultOf) → (stands : StandsRefused self.now b x told f)
+            → result ≡ open_count stands.behind.reading }
     {
         self.stack.len()
     }
@@ -294,7 +296,8 @@ impl Walker {
 
     /// Refuses the next octet.
     fn fail<'a>(&mut self, code: FaultCode) -> Step<'a>
-        ensures { (result ≡ Step.Fault (fault_at code self.old.offset)) × (self.new ≡ record self.old { phase = phases.Failed (fault_at code self.old.offset) }) }
+        ensures { (result ≡ Step.Fault (fault_at code self.old.offset))
+            × (self.new ≡ record self.old { phase = phases.Failed (fault_at code self.old.offset) }) }
     {
         let fault = Fault {
             code,

@@ -39,7 +39,8 @@ helped name = with_rule (new_app name) help_rule
 abbrev pub dump_app : App
 dump_app =
     with_rule (with_rule (with_rule (with_rule (with_rule (with_rule (with_rule (helped (codes "dump"))
-    (option_rule (codes "rules"))) (option_rule (codes "limit"))) (flag_rule (codes "pure"))) (option_rule (codes "names"))) (option_rule (codes "inside"))) (flag_rule (codes "padding")))
+    (option_rule (codes "rules"))) (option_rule (codes "limit"))) (flag_rule (codes "pure"))) (option_rule (codes "names")))
+    (option_rule (codes "inside"))) (flag_rule (codes "padding")))
     file_rule
 
 abbrev pub check_app : App

@@ -60,8 +60,8 @@ returns-in-Refused c =
 -- the header that is answered
 completes : (c : goal.After-with_raw) → Completes c.args.self.now c.args.octet c.with_raw.result
 completes c =
-    rw (c.with_raw.ensures, c.fields-fields.ensures, c.take.ensures.value, c.push-in-Finished.ensures.items)
-    (made_whole _ _ _ _ _ (c.in-Finished.ensures c.self.inside.raw.items c.self.invariant) (ap (λ (p : Progress). p.octets) c.self.view_is))
+    rw (← c.self.view_is, c.with_raw.ensures, c.fields_of-fields.ensures, c.take.ensures.value, c.push-in-Finished.ensures.items)
+    (made_whole _ _ _ _ _ (c.in-Finished.ensures c.self.inside.raw.items c.self.invariant) refl)
 
 pub returns-else-not-fits-clause-answer : goal.returns-else-not-fits-clause-answer
 returns-else-not-fits-clause-answer c = (completes c, search rules, refl)
