@@ -5,9 +5,9 @@ use Rattle.tlv_cut.proofs.CutsGrow.{cut_grows, same_cut, same_found, same_whole}
 use Rattle.tlv_cut.proofs.IndefPrefixes.{respelled_on}
 use Rattle.tlv_cut.proofs.IndefReadings.{done_again, read_again}
 use Rattle.tlv_cut.specs.Cut.{cut, has_element_at}
-use Rattle.tlv_cut.specs.Indef.{respelled}
-use Rattle.tlv_cut.specs.IndefForest.{indefinite}
+use Rattle.tlv_cut.specs.Indef.{indefinite}
 use Rattle.tlv_cut.specs.IndefRuns.{unnamed}
+use Rattle.tlv_cut.specs.Placed.{placed}
 use Rattle.tlv_show.proofs.Longer.{checks_on, dumps_on}
 use Rattle.tlv_value.specs.Names.{Table}
 use Rattle.tlv_walk.proofs.Endings.{ending, is-ending}
@@ -17,7 +17,7 @@ use Rattle.tlv_walk.specs.declared.ending.Ending.{Ending}
 use Rattle.tlv_walk.specs.declared.ending.Ending.TheVariants as ending
 use Rattle.tlv_walk.specs.declared.framing.Framing.{Framing}
 use Rattle.tlv_walk.specs.Ending.{IsEnding}
-use Rattle.tlv_walk.specs.Forest.{Forest}
+use Rattle.tlv_walk.specs.Forest.{Forest, spell}
 use Rattle.tlv_walk.specs.Job.{EndsWith, IsFinalEnding, Job}
 use Rattle.tlv_walk.specs.Laws.{AreOctets}
 use Rattle.tlv_walk.specs.Reading.{IsPrefixOf, IsReading}
@@ -144,13 +144,16 @@ outputs_on command names b c made more few x y =
     let front = text_on command names b c x.reading y.reading (subst (λ (n : ℕ). length (b ++ c) ≤ n) (sym (limit_is command names)) few) x.is_reading y.is_reading in
     (front.0, ap (λ (l : List ℕ). l ++ front.0) (sym shorter) ∙ front.1 ∙ longer)
 
+abbrev respelled : Forest → List ℕ
+respelled f = spell (indefinite f)
+
 pub second_indef : SecondIndefIsTheFirst
 second_indef padding file names b m n x y =
     let job : Job Said = running (Indef padding file) names in
     let first : m.output ≡ respelled x.reading = ap (λ (m : Made). m.output) x.is_made in
     let again = read_again padding b x.reading x.is_reading in
     let z : IsReading (unnamed padding) (respelled x.reading) y.reading = subst (λ (o : List ℕ). IsReading (unnamed padding) o y.reading) first y.is_reading in
-    let same : y.reading ≡ indefinite 0 x.reading = reading-unique (unnamed padding) (respelled x.reading) y.reading (indefinite 0 x.reading) z again.0 in
+    let same : y.reading ≡ placed 0 (indefinite x.reading) = reading-unique (unnamed padding) (respelled x.reading) y.reading (placed 0 (indefinite x.reading)) z again.0 in
     let output : n.output ≡ m.output = ap (λ (m : Made). m.output) y.is_made ∙ ap respelled same ∙ again.1 ∙ sym first in (
       output,
       λ (done : m.ending ≡ ending.Done).
