@@ -158,7 +158,6 @@ impl ValueCheck {
     }
 
     /// What is found on the contents by what was noted of them.
-    #[inline(always)]
     fn found(&self) -> ArrayVec<Finding, 16>
         ensures { result.items ≡ found_in self.now }
     {
@@ -365,6 +364,7 @@ fn is_padded_number(front: &[u8]) -> bool
 }
 
 /// Whether the type with this universal number has all of the octets.
+#[inline(never)]
 fn are_allowed(number: u64, octets: &[u8]) -> bool
     ensures { result ≡ every (allows_octet_of number) octets.now }
 {

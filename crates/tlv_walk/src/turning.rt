@@ -128,9 +128,9 @@ fn follow<F: Follow, D: Drain>(
     let mut rest = piece;
     'events: loop {
         let go = match walker.usual_header(&mut rest) {
-            Some(event) => follow_event(follower, &event, out)?,
+            Some(event) => follower.on(&event, out)?,
             None => match walker.quick_event(&mut rest) {
-                Some(event) => follow_event(follower, &event, out)?,
+                Some(event) => follower.on(&event, out)?,
                 None => match walker.step(&mut rest) {
                     Step::Event(event) => follower.on(&event, out)?,
                     Step::NeedMore => return Ok(Stop::UsedUp),
@@ -141,26 +141,5 @@ fn follow<F: Follow, D: Drain>(
         if go == Go::Enough {
             return Ok(Stop::Enough);
         }
-    }
-}
-
-/// Lets the follower follow an event. The usual kinds have calls of their own: where the follower is inlined, it then
-/// need not ask of which kind the event is.
-#[inline(always)]
-fn follow_event<F: Follow, D: Drain>(
-    follower: &mut F,
-    event: &Event<'_>,
-    out: &mut Out<'_, D>,
-) -> Result<Go, WriteFault>
-    ensures puts { Puts D.told out.old out.new (F.next follower.old (told_of event.now)).put result }
-    ensures state { IsFollowed (F.next follower.old (told_of event.now)) follower.new result }
-{
-    match event {
-        Event::Begin(_) => follower.on(event, out),
-        Event::Bytes(_) => follower.on(event, out),
-        Event::End => follower.on(event, out),
-        Event::Open(_) => follower.on(event, out),
-        Event::Close(_) => follower.on(event, out),
-        _ => follower.on(event, out),
     }
 }
