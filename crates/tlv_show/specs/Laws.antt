@@ -1,15 +1,10 @@
 -- Laws of the texts of a dump and of a check.
-use Rattle.std.specs.Prelude.{◌≡◌, ℕ, ◌^◌, ◌≤◌, List, [], ◌∷◌, ◌++◌, length, None, take, Bool, false, flat_map}
+use Rattle.std.specs.Prelude.{◌≡◌, ℕ, ◌^◌, ◌≤◌, List, [], ◌∷◌, ◌++◌, length, None, Bool, false, flat_map}
 use Rattle.std.specs.FinMap as finite
 use Rattle.std.specs.List.{filter}
 use Rattle.tlv_show.specs.Items.{Item, FindingAt, OpeningLine, ClosingLine, WholePrimitive, OpenPrimitive, PaddingLine, items}
 use Rattle.tlv_show.specs.Site.{top}
 use Rattle.tlv_show.specs.declared.rules.Rules.TheVariants.{Ber}
-use Rattle.std.specs.Io.KnownBytes.{Appends}
-use Rattle.tlv_walk.specs.Device.{Taken}
-use Rattle.tlv_walk.specs.Ending.{IsEnding}
-use Rattle.tlv_walk.specs.Wrappers.{unused_of}
-use Rattle.tlv_show.specs.declared.outcome.Outcome.{Outcome}
 use Rattle.tlv_show.specs.Dumps.{top_layout}
 use Rattle.tlv_show.specs.FinderState.{no_findings}
 use Rattle.tlv_show.specs.Texts.{check_line, check_text, found_count}

@@ -8,7 +8,7 @@ ghost use Rattle.tlv_show.specs.Dumps.{top_layout};
 use crate::Options;
 use crate::finder::Finder;
 use crate::line_follower::Lines;
-use crate::style::{Style, put_findings};
+use crate::style::{Style, put_where};
 use std::marker::Model;
 use tlv_value::{Layout, Line, Names};
 use tlv_walk::{Drain, Event, Follow, Go, Out, WriteFault};
@@ -78,14 +78,11 @@ impl Follow for Dump<'_> {
     #[inline(always)]
     fn on<D: Drain>(&mut self, event: &Event<'_>, out: &mut Out<'_, D>) -> Result<Go, WriteFault> {
         let style = Style::Dump(self.lines.layout().pure);
+        let first = is_header(event);
         self.finder.find(event);
-        if is_header(event) {
-            put_findings(&mut self.line, style, &self.finder, out)?;
-            self.lines.show(event, out)?;
-        } else {
-            self.lines.show(event, out)?;
-            put_findings(&mut self.line, style, &self.finder, out)?;
-        }
+        put_where(first, &mut self.line, style, &self.finder, out)?;
+        self.lines.show(event, out)?;
+        put_where(!first, &mut self.line, style, &self.finder, out)?;
         Ok(Go::On)
     }
 }
