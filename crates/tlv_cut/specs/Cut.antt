@@ -6,15 +6,13 @@ use Rattle.tlv_walk.specs.Forest.{Forest, Stop, Fill, Whole, Closed, Partial, En
 
 -- the element at this offset by itself, if its header is whole. No two stand at one offset
 abbrev pub element_at : ℕ → Forest → Option Forest
-element_at n Stop = None
 element_at n (Fill rest) = element_at n rest
 element_at n (Whole h c rest) = if h.offset == n then Some (Whole h c Stop) else element_at n rest
 element_at n (Closed h inside rest) = if h.offset == n then Some (Closed h inside Stop) else option_or (element_at n inside) (element_at n rest)
 element_at n (Partial h c) = if h.offset == n then Some (Partial h c) else None
 element_at n (Entered h inside) = if h.offset == n then Some (Entered h inside) else element_at n inside
 element_at n (Awaiting h) = if h.offset == n then Some (Awaiting h) else None
-element_at n (Begun octets) = None
-element_at n Zero = None
+element_at n _ = None
 
 -- octets around contents, unless the contents alone are wanted
 abbrev pub unless : Bool → List ℕ → List ℕ
@@ -24,7 +22,6 @@ unless contents_only octets = if contents_only then [] else octets
 -- end-of-contents octets; or the contents octets of each alone: neither its identifier and length octets nor its
 -- end-of-contents octets. The first contents octet of a wrapping BIT STRING is one of them. Padding is of no element
 abbrev pub cut_of : Bool → Forest → List ℕ
-cut_of contents_only Stop = []
 cut_of contents_only (Fill rest) = cut_of contents_only rest
 cut_of contents_only (Whole h c rest) = unless contents_only (octets_of h) ++ (c ++ cut_of contents_only rest)
 cut_of contents_only (Closed h inside rest) =
@@ -33,8 +30,7 @@ cut_of contents_only (Closed h inside rest) =
 cut_of contents_only (Partial h c) = unless contents_only (octets_of h) ++ c
 cut_of contents_only (Entered h inside) = (unless contents_only (octets_of h) ++ lead h) ++ cut_of false inside
 cut_of contents_only (Awaiting h) = unless contents_only (octets_of h)
-cut_of contents_only (Begun octets) = []
-cut_of contents_only Zero = []
+cut_of contents_only _ = []
 
 -- what is written of elements: the one at this offset, or its contents alone
 abbrev pub cut : ℕ → Bool → Forest → List ℕ

@@ -52,15 +52,10 @@ ExtractsMakeCuts = (framing : Framing) (b : List ℕ) (f : Forest) → IsReading
 
 -- an element ends
 abbrev pub is_end : Told → Bool
-is_end (Open h) = false
-is_end (Begin h) = false
-is_end (Bytes octets) = false
 is_end End = true
 is_end (Close at) = true
-is_end (Enter h) = false
-is_end Unused = false
 is_end Leave = true
-is_end (Pad octets) = false
+is_end _ = false
 
 -- an `Extract` has enough at an end alone, whatever it met before
 abbrev pub EnoughComesAtEnds : Type 0

@@ -11,7 +11,6 @@ indefinite_heading h = record h { size = Indefinite; lengths = 128 ∷ [] }
 -- elements, each constructed one with an indefinite length; all else as it stands. An unfinished header and the first of
 -- the end-of-contents octets are left out. A wrapper is a primitive: what it holds are its contents octets
 abbrev pub indefinite : Forest → Forest
-indefinite Stop = Stop
 indefinite (Fill rest) = Fill (indefinite rest)
 indefinite (Whole h c rest) = Whole h c (indefinite rest)
 indefinite (Closed h inside rest) =
@@ -21,5 +20,4 @@ indefinite (Partial h c) = Partial h c
 indefinite (Entered h inside) =
     if h.constructed then Entered (indefinite_heading h) (indefinite inside) else Partial h (lead h ++ spell (indefinite inside))
 indefinite (Awaiting h) = Awaiting h
-indefinite (Begun octets) = Stop
-indefinite Zero = Stop
+indefinite _ = Stop

@@ -32,16 +32,13 @@ segment_type s = if in_bit_string s then bit_string else octet_string
 
 -- 8.6.2.2: a primitive BIT STRING with unused bits
 abbrev pub has_unused_bits : Before → Bool
-has_unused_bits Start = false
-has_unused_bits Padding = false
-has_unused_bits (Sibling h None) = false
 has_unused_bits (Sibling h (Some x)) = is_primitive h && is_a bit_string h && not (x == 0)
+has_unused_bits _ = false
 
 -- 9.2: an element, but no primitive of 1000 contents octets
 abbrev pub is_not_full : Before → Bool
-is_not_full Start = false
-is_not_full Padding = false
 is_not_full (Sibling h first) = h.constructed || not (announced h.size == 1000)
+is_not_full _ = false
 
 abbrev pub header_conditions : Site → Heading → List (Bool × Finding)
 header_conditions s h =

@@ -28,15 +28,13 @@ findings_at level at findings = map (FindingAt level at) findings
 
 -- the headers of elements one after another
 abbrev pub heads : Forest → List Heading
-heads Stop = []
 heads (Fill rest) = heads rest
 heads (Whole h c rest) = h ∷ heads rest
 heads (Closed h inside rest) = h ∷ heads rest
 heads (Partial h c) = h ∷ []
 heads (Entered h inside) = h ∷ []
 heads (Awaiting h) = h ∷ []
-heads (Begun octets) = []
-heads Zero = []
+heads _ = []
 
 infixr 20 ◌then◌
 abbrev pub ◌then◌ : List Item → List Item → List Item
@@ -55,7 +53,6 @@ module _ (rules : Rules) where
 
   -- of elements from there on
   abbrev pub items : Site → Forest → List Item
-  items s Stop = []
   -- a run of padding has one line
   items s (Fill rest) = (if is_padding s.before then [] else PaddingLine s.level s.at ∷ []) then items (behind_padding s) rest
   items s (Whole h c rest) =
@@ -73,5 +70,4 @@ module _ (rules : Rules) where
   items s (Partial h c) = on_header s h then OpenPrimitive s.level h c ∷ []
   items s (Entered h inside) = on_header s h then OpeningLine s.level h ∷ [] then items (inside_of s h) inside
   items s (Awaiting h) = on_header s h then OpeningLine s.level h ∷ []
-  items s (Begun octets) = []
-  items s Zero = []
+  items s _ = []

@@ -46,9 +46,8 @@ abbrev pub behind_padding : Site → Site
 behind_padding s = record s { at = s.at + 1; before = Padding }
 
 abbrev pub is_padding : Before → Bool
-is_padding Start = false
 is_padding Padding = true
-is_padding (Sibling h first) = false
+is_padding _ = false
 
 abbrev pub is_held_by : (Heading → Bool) → Option Heading → Bool
 is_held_by test None = false

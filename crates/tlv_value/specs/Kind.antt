@@ -9,30 +9,13 @@ use Rattle.tlv_value.specs.declared.kind.Kind.TheVariants.{Octets, Boolean, Inte
 abbrev pub universal_kinds : List (ℕ × Kind)
 universal_kinds =
     -- BOOLEAN, INTEGER, BIT STRING, OBJECT IDENTIFIER, ObjectDescriptor, ENUMERATED, UTF8String, RELATIVE-OID
-    (1, Boolean)
-    ∷ (2, Integer)
-    ∷ (3, Bits)
-    ∷ (6, Object)
-    ∷ (7, Text)
-    ∷ (10, Integer)
-    ∷ (12, Utf8)
-    ∷ (13, Relative)
+    (1, Boolean) ∷ (2, Integer) ∷ (3, Bits) ∷ (6, Object) ∷ (7, Text) ∷ (10, Integer) ∷ (12, Utf8) ∷ (13, Relative)
     -- NumericString, PrintableString, TeletexString, VideotexString, IA5String
-    ∷ (18, Text)
-    ∷ (19, Text)
-    ∷ (20, Text)
-    ∷ (21, Text)
-    ∷ (22, Text)
+    ∷ (18, Text) ∷ (19, Text) ∷ (20, Text) ∷ (21, Text) ∷ (22, Text)
     -- UTCTime, GeneralizedTime, GraphicString, VisibleString, GeneralString
-    ∷ (23, Text)
-    ∷ (24, Text)
-    ∷ (25, Text)
-    ∷ (26, Text)
-    ∷ (27, Text)
+    ∷ (23, Text) ∷ (24, Text) ∷ (25, Text) ∷ (26, Text) ∷ (27, Text)
     -- UniversalString, BMPString
-    ∷ (28, Ucs4)
-    ∷ (30, Ucs2)
-    ∷ []
+    ∷ (28, Ucs4) ∷ (30, Ucs2) ∷ []
 
 abbrev pub kind_in : List (ℕ × Kind) → ℕ → Kind
 kind_in [] number = Octets
@@ -40,6 +23,4 @@ kind_in (row ∷ rows) number = if eqb number row.0 then row.1 else kind_in rows
 
 abbrev pub kind_of : Class → ℕ → Kind
 kind_of Universal number = kind_in universal_kinds number
-kind_of Application number = Octets
-kind_of Context number = Octets
-kind_of Private number = Octets
+kind_of _ number = Octets

@@ -5,16 +5,11 @@ use Rattle.tlv_value.specs.declared.kind.Kind.TheVariants.{Octets, Boolean, Inte
 
 -- how many octets a full row has
 abbrev pub row_size : Kind → ℕ
-row_size Octets = 16
-row_size Boolean = 16
-row_size Integer = 16
-row_size Bits = 16
-row_size Object = 16
-row_size Relative = 16
 row_size Text = 64
 row_size Utf8 = 64
 row_size Ucs2 = 64
 row_size Ucs4 = 64
+row_size _ = 16
 
 -- RFC 3629, 4: of how many octets a character is that begins with this one
 abbrev pub utf8_length : ℕ → ℕ
@@ -26,16 +21,8 @@ utf8_length x =
 
 -- how many octets want to stand in one row, from this one on
 abbrev pub announced : Kind → ℕ → ℕ
-announced Octets x = 1
-announced Boolean x = 1
-announced Integer x = 1
-announced Bits x = 1
-announced Object x = 1
-announced Relative x = 1
-announced Text x = 1
 announced Utf8 x = utf8_length x
-announced Ucs2 x = 1
-announced Ucs4 x = 1
+announced _ x = 1
 
 -- the octet has room in a row of so many octets
 abbrev pub has_room : Kind → ℕ → ℕ → Bool

@@ -88,12 +88,7 @@ most_held Octets = 16
 most_held Boolean = 16
 most_held Integer = 16
 most_held Bits = 9
-most_held Object = 64
-most_held Relative = 64
-most_held Text = 64
-most_held Utf8 = 64
-most_held Ucs2 = 64
-most_held Ucs4 = 64
+most_held _ = 64
 
 abbrev pub is_long : Kind → ℕ → Bool
 is_long kind n = nat_lt (most_held kind) n
