@@ -1,6 +1,6 @@
 -- Contents in pieces.
 use Rattle.std.proofs.Common.{◌≡◌, ℕ, ◌+◌, ◌-◌, ◌≤◌, Bool, true, false, List, [], ◌∷◌, ◌++◌, length, refl, sym, ap, ◌∙◌, arith, append_assoc, append-nil, length-append}
-use Rattle.std.specs.Prelude.{eqb, nat_le, if◌then◌else◌}
+use Rattle.std.specs.Prelude.{◌&&◌, eqb, nat_le, if◌then◌else◌}
 use Rattle.tlv_head.specs.Header.{Heading, announced as size_of}
 use Rattle.tlv_value.specs.declared.kind.Kind.{Kind}
 use Rattle.tlv_value.specs.declared.kind.Kind.TheVariants.{Octets, Boolean, Integer, Bits, Object, Relative, Text, Utf8, Ucs2, Ucs4}
@@ -112,7 +112,7 @@ module _ (layout : Layout) (line : List ℕ → List ℕ) (size : ℕ) where
   begun_at kind long = if long then (if has_line kind [] then line [] else []) else []
 
   abbrev open_at : Kind → Bool → List ℕ → List ℕ
-  open_at kind long octets = if long then (if has_line kind octets then line (long_text kind size octets) ++ row_lines kind layout 0 (full_rows kind [] (in_rows kind octets)) else []) else []
+  open_at kind long octets = if long && has_line kind octets then line (long_text kind size octets) ++ row_lines kind layout 0 (full_rows kind [] (in_rows kind octets)) else []
 
   abbrev OpenIsTold : Kind → Bool → List ℕ → Type 0
   OpenIsTold kind long octets = open_at kind long octets ≡ begun_at kind long ++ told_by kind layout line size long (has_line kind []) (begin_kept kind) octets

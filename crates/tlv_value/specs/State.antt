@@ -1,5 +1,5 @@
 -- The lines of a primitive, and what is to be kept of its contents between their pieces.
-use Rattle.std.specs.Prelude.{ℕ, ◌+◌, ◌-◌, Bool, true, false, if◌then◌else◌, List, [], ◌∷◌, ◌++◌, length, decimal}
+use Rattle.std.specs.Prelude.{ℕ, ◌+◌, ◌-◌, ◌&&◌, Bool, true, false, if◌then◌else◌, List, [], ◌∷◌, ◌++◌, length, decimal}
 use Rattle.tlv_head.specs.declared.header.Class.{Class}
 use Rattle.tlv_head.specs.Header.{Heading, announced}
 use Rattle.tlv_head.specs.Tag.{tag_text_of}
@@ -9,7 +9,7 @@ use Rattle.tlv_value.specs.declared.layout.Layout.{Layout}
 use Rattle.tlv_value.specs.Kind.{kind_of}
 use Rattle.tlv_value.specs.Layout.{columns, line, row_line}
 use Rattle.tlv_value.specs.Rows.{full_rows, last_rows, open_row}
-use Rattle.tlv_value.specs.Value.{NameOf, held_value, in_rows, is_long, long_text, row_text, whole_value}
+use Rattle.tlv_value.specs.Value.{NameOf, Value, held_value, in_rows, is_long, long_text, row_text, whole_value}
 
 abbrev pub element_line : Layout → ℕ → Class → ℕ → ℕ → List ℕ → List ℕ
 element_line layout offset class number n text = line layout.pure (columns offset (decimal n)) layout.level (tag_text_of class number ++ text)
@@ -19,27 +19,31 @@ abbrev pub row_lines : Kind → Layout → ℕ → List (List ℕ) → List ℕ
 row_lines kind layout i [] = []
 row_lines kind layout i (row ∷ rows) = row_line layout i (row_text kind row) ++ row_lines kind layout (i + 1) rows
 
-abbrev pub value_lines : Heading → Layout → List ℕ → List (List ℕ) → List ℕ
-value_lines h layout text rows = element_line layout h.offset h.class h.number (announced h.size) text ++ row_lines (kind_of h.class h.number) layout 0 rows
+-- the kind of the element's type
+abbrev pub kind_by : Heading → Kind
+kind_by h = kind_of h.class h.number
+
+abbrev pub value_lines : Heading → Layout → Value → List ℕ
+value_lines h layout value = element_line layout h.offset h.class h.number (announced h.size) value.text ++ row_lines (kind_by h) layout 0 value.rows
 
 -- the lines of a primitive that is whole
 abbrev pub whole_lines : NameOf → Heading → Layout → List ℕ → List ℕ
-whole_lines name_of h layout octets =
-    value_lines h layout (whole_value name_of (kind_of h.class h.number) octets).text (whole_value name_of (kind_of h.class h.number) octets).rows
+whole_lines name_of h layout octets = value_lines h layout (whole_value name_of (kind_by h) octets)
 
 -- the line of a long value is known from its header; that of a BIT STRING from its first contents octet
 abbrev pub has_line : Kind → List ℕ → Bool
 has_line Bits [] = false
 has_line kind octets = true
 
+-- of n octets of a long value, of which these have come: what stands on the line, and the rows that are full
+abbrev pub value_so_far : Kind → ℕ → List ℕ → Value
+value_so_far kind n octets = record { text = long_text kind n octets; rows = full_rows kind [] (in_rows kind octets) }
+
 -- the lines of a primitive of whose contents these octets have come, and others are still to come: of a long value those that are known
 abbrev pub open_lines : Heading → Layout → List ℕ → List ℕ
 open_lines h layout octets =
-    if is_long (kind_of h.class h.number) (announced h.size)
-    then (if has_line (kind_of h.class h.number) octets
-    then value_lines h layout (long_text (kind_of h.class h.number) (announced h.size) octets)
-    (full_rows (kind_of h.class h.number) [] (in_rows (kind_of h.class h.number) octets))
-    else [])
+    if is_long (kind_by h) (announced h.size) && has_line (kind_by h) octets
+    then value_lines h layout (value_so_far (kind_by h) (announced h.size) octets)
     else []
 
 -- what is kept: of a long value whether its line was written, how many rows were full, and the octets of the row that has
