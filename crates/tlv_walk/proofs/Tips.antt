@@ -6,7 +6,7 @@ use Rattle.tlv_head.specs.declared.fault.FaultCode.TheVariants.{BadInside}
 use Rattle.tlv_head.specs.Header.{Heading, octets_of}
 use Rattle.tlv_walk.specs.Forest.{Forest, Stop, Fill, Whole, Closed, Partial, Entered, Awaiting, Begun, Zero, contents_length, extent, is_whole, spell}
 use Rattle.tlv_walk.specs.Place.{Fits, IsBegun, IsEntered, IsOpen, Place, after, inside_of}
-use Rattle.tlv_walk.specs.Ending.{OpenEnd, Between, InContents, BeforeUnused, InHeader, InEnd, tip}
+use Rattle.tlv_walk.specs.Ending.{tip}
 use Rattle.tlv_walk.proofs.Bounds.{fits-inside, lacks-within, within-le}
 use Rattle.tlv_walk.proofs.Spellings.{length-closed, length-opening, length-whole}
 use Rattle.tlv_walk.proofs.Push.{Step, Grown, Ended, Refused, follow, push, settle}
@@ -16,14 +16,6 @@ abbrev pub refusal : Step → Option FaultCode
 refusal (Grown g) = None
 refusal (Ended g) = None
 refusal (Refused code) = Some code
-
--- the refusal of the octet x at an open end that begins there
-abbrev pub refusal_at : Place → OpenEnd → ℕ → Option FaultCode
-refusal_at p Between x = refusal (push p Stop x)
-refusal_at p InContents x = None
-refusal_at p BeforeUnused x = cond (eqb x 0) None (Some BadInside)
-refusal_at p (InHeader o) x = refusal (push p (Begun o) x)
-refusal_at p InEnd x = refusal (push p Zero x)
 
 -- a step of what follows an element is refused where that of both is
 refusal-follow : (f : Forest → Forest) (s : Step) → refusal (follow f s) ≡ refusal s
@@ -38,17 +30,14 @@ refusal-settle h (Ended g) = refl
 refusal-settle h (Refused code) = refl
 
 -- a refusal behind a forest is that at its tip
-pub push-tip : (p : Place) (f : Forest) (x : ℕ) → refusal (push p f x) ≡ refusal_at (tip p f).place (tip p f).open_end x
+pub push-tip : (p : Place) (f : Forest) (x : ℕ) → refusal (push p f x) ≡ refusal (push (tip p f).0 (tip p f).1 x)
 push-tip p Stop x = refl
 push-tip p (Fill rest) x = refusal-follow Fill (push (after p 1) rest x) ∙ push-tip (after p 1) rest x
 push-tip p (Whole h c rest) x = refusal-follow (Whole h c) (push (after p (length (octets_of h) + length c)) rest x) ∙ push-tip (after p (length (octets_of h) + length c)) rest x
 push-tip p (Closed h inside rest) x = refusal-follow (Closed h inside) (push (after p (extent h inside)) rest x) ∙ push-tip (after p (extent h inside)) rest x
 push-tip p (Partial h c) x = refl
 push-tip p (Entered h inside) x = refusal-settle h (push (inside_of p h) inside x) ∙ push-tip (inside_of p h) inside x
-push-tip p (Awaiting h) x = elim (cases_Bool (eqb x 0)) [
-  | inl e ↦ rw e
-  | inr e ↦ rw e
-]
+push-tip p (Awaiting h) x = refl
 push-tip p (Begun o) x = refl
 push-tip p Zero x = refl
 
@@ -57,12 +46,13 @@ abbrev pub HasRoom : Place → Forest → Type 0
 HasRoom p f = p.indefinite ≡ false → is_whole f ≡ true → Fits p (length (spell f) + 1)
 
 -- what holds of an open end that begins there
-abbrev pub IsTip : Place → OpenEnd → Type 0
-IsTip p Between = Fits p 0 × (p.indefinite ≡ false → Fits p 1)
-IsTip p InContents = Unit {0}
-IsTip p BeforeUnused = Unit {0}
-IsTip p (InHeader o) = IsBegun p o
-IsTip p InEnd = Fits p 1
+abbrev pub IsTip : Place → Forest → Type 0
+IsTip p Stop = Fits p 0 × (p.indefinite ≡ false → Fits p 1)
+IsTip p (Partial h c) = Unit {0}
+IsTip p (Awaiting h) = Unit {0}
+IsTip p (Begun o) = IsBegun p o
+IsTip p Zero = Fits p 1
+IsTip p f = ⊥
 
 -- what has room has room at its end
 room-after : (p : Place) (n : ℕ) (f g : Forest) → length (spell g) ≡ n + length (spell f) → (is_whole f ≡ true → is_whole g ≡ true) → HasRoom p g → HasRoom (after p n) f
@@ -75,7 +65,7 @@ room-inside p h inside e i w =
     (lacks-within h.size (p.at + length (octets_of h)) p.bound (contents_length h inside) i (e.lacks w))
 
 -- it holds of the tip of an open forest with room
-pub tip-fact : (p : Place) (f : Forest) → Fits p 0 → HasRoom p f → IsOpen p f → IsTip (tip p f).place (tip p f).open_end
+pub tip-fact : (p : Place) (f : Forest) → Fits p 0 → HasRoom p f → IsOpen p f → IsTip (tip p f).0 (tip p f).1
 tip-fact p Stop z r w = (z, λ i. r i refl)
 tip-fact p (Fill rest) z r w =
     tip-fact (after p 1) rest (within-le p.bound _ _ (omega arith) w.0.fits) (room-after p 1 rest (Fill rest) (omega arith) (λ t. t) r) w.1
