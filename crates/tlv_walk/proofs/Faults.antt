@@ -11,7 +11,7 @@ use Rattle.tlv_head.proofs.Headers.{IsHeadRefusal, Explains, explains}
 use Rattle.tlv_head.proofs.Refused.{refused-stuck}
 use Rattle.tlv_walk.specs.declared.framing.Framing.{Framing}
 use Rattle.tlv_walk.specs.Forest.{Forest, Stop, Fill, Whole, Closed, Partial, Entered, Awaiting, Begun, Zero}
-use Rattle.tlv_walk.specs.Place.{Fits, IsBegun, IsHeadAt, IsOpen, Place, top}
+use Rattle.tlv_walk.specs.Place.{Fits, IsHeadAt, IsOpen, Place, top}
 use Rattle.tlv_walk.specs.Ending.{IsFault, bad_inside, missing_end, bad_end, no_room, refused_octet, too_deep, overrun, no_end, stray_end, tip}
 use Rattle.tlv_walk.proofs.Bounds.{fits, fits-within, within-fits}
 use Rattle.tlv_walk.proofs.Push.{Step, Grown, Ended, Refused, begin, complete, origin, push, zero_between}
@@ -109,14 +109,14 @@ begin-blames p o x (Stuck code) some below w r = octet-blames p o x code some be
 begin-blames p o x Over some below w r = absurd w
 
 -- inside a header
-header-blames : (p : Place) (o : List ℕ) (x : ℕ) → x < 256 → IsBegun p o → Blames p (Begun o) x (refusal (push p (Begun o) x))
+header-blames : (p : Place) (o : List ℕ) (x : ℕ) → x < 256 → IsOpen p (Begun o) → Blames p (Begun o) x (refusal (push p (Begun o) x))
 header-blames p o x h w =
     let at : Origin = origin p in
-    let now : Reads at (scan at o) o = reads-scan at o (front-bytes o w.front) in
+    let now : Reads at (scan at o) o = reads-scan at o (front-bytes o w.1) in
     elim (cases_Bool (fits p (length o + 1))) [
       | inl f ↦ rw f
-          (begin-blames p o x (step at (scan at o) x) w.some (within-fits p.bound _ f)
-          (explains at x (scan at o) o (more-from_front at o w.front) now) (reads-step at x (scan at o) o h now))
+          (begin-blames p o x (step at (scan at o) x) w.0 (within-fits p.bound _ f)
+          (explains at x (scan at o) o (more-from_front at o w.1) now) (reads-step at x (scan at o) o h now))
       | inr f ↦ rw f (no_room (too-long p (length o + 1) f))
     ]
 
@@ -130,8 +130,8 @@ blames p Zero x h t = end-blames p x
 blames p f x h t = absurd t
 
 -- an octet that is refused for the octets of a header alone is refused there
-stuck-refusal : (p : Place) (o : List ℕ) (x : ℕ) (code : FaultCode) → IsBegun p o → Fits p (length o + 1) → IsRefusedOctet o x code → refusal (push p (Begun o) x) ≡ Some code
-stuck-refusal p o x code t room r = ap refusal (push-scan p o x (Stuck code) room (refused-stuck (origin p) code o x t.front r))
+stuck-refusal : (p : Place) (o : List ℕ) (x : ℕ) (code : FaultCode) → IsOpen p (Begun o) → Fits p (length o + 1) → IsRefusedOctet o x code → refusal (push p (Begun o) x) ≡ Some code
+stuck-refusal p o x code t room r = ap refusal (push-scan p o x (Stuck code) room (refused-stuck (origin p) code o x t.1 r))
 
 -- the header as it is read there
 read-there : (p : Place) (o : List ℕ) (x : ℕ) (h : Heading) (t : Bool) → Fits p (length o + 1) → IsHeadAt p t h → octets_of h ≡ o ++ x ∷ [] → push p (Begun o) x ≡ complete p (moved (origin p) h)

@@ -112,7 +112,7 @@ reader_there w b told s q depth e has d =
       named = at.2;
       depths = d ∙ ap length has.stack ∙ sym (place-depth w.framing s.layers);
       left = ap (λ (o : Option ℕ). left_to o (q.offset + length q.octets)) bound ∙ ap (λ (n : ℕ). left_to p.bound (n + length q.octets)) at.1;
-      within = at.3.fits;
+      within = at.3.2;
     }
 
 -- the octet that its reader refuses

@@ -5,7 +5,7 @@ use Rattle.tlv_head.specs.declared.fault.FaultCode.{FaultCode}
 use Rattle.tlv_head.specs.declared.fault.FaultCode.TheVariants.{BadInside}
 use Rattle.tlv_head.specs.Header.{Heading, octets_of}
 use Rattle.tlv_walk.specs.Forest.{Forest, Stop, Fill, Whole, Closed, Partial, Entered, Awaiting, Begun, Zero, contents_length, extent, is_whole, spell}
-use Rattle.tlv_walk.specs.Place.{Fits, IsBegun, IsEntered, IsOpen, Place, after, inside_of}
+use Rattle.tlv_walk.specs.Place.{Fits, IsOpen, Place, after, inside_of}
 use Rattle.tlv_walk.specs.Ending.{tip}
 use Rattle.tlv_walk.proofs.Bounds.{fits-inside, lacks-within, within-le}
 use Rattle.tlv_walk.proofs.Spellings.{length-closed, length-opening, length-whole}
@@ -50,7 +50,7 @@ abbrev pub IsTip : Place → Forest → Type 0
 IsTip p Stop = Fits p 0 × (p.indefinite ≡ false → Fits p 1)
 IsTip p (Partial h c) = Unit {0}
 IsTip p (Awaiting h) = Unit {0}
-IsTip p (Begun o) = IsBegun p o
+IsTip p (Begun o) = IsOpen p (Begun o)
 IsTip p Zero = Fits p 1
 IsTip p f = ⊥
 
@@ -59,23 +59,23 @@ room-after : (p : Place) (n : ℕ) (f g : Forest) → length (spell g) ≡ n + l
 room-after p n f g size whole r i w = within-le p.bound _ _ (omega arith) (r i (whole w))
 
 -- what an element holds has room, where octets are lacking
-room-inside : (p : Place) (h : Heading) (inside : Forest) → IsEntered p h inside → HasRoom (inside_of p h) inside
+room-inside : (p : Place) (h : Heading) (inside : Forest) → IsOpen p (Entered h inside) → HasRoom (inside_of p h) inside
 room-inside p h inside e i w =
     within-le (inside_of p h).bound _ _ (omega (arith, length-opening h))
-    (lacks-within h.size (p.at + length (octets_of h)) p.bound (contents_length h inside) i (e.lacks w))
+    (lacks-within h.size (p.at + length (octets_of h)) p.bound (contents_length h inside) i (e.0.1 w))
 
 -- it holds of the tip of an open forest with room
 pub tip-fact : (p : Place) (f : Forest) → Fits p 0 → HasRoom p f → IsOpen p f → IsTip (tip p f).0 (tip p f).1
 tip-fact p Stop z r w = (z, λ i. r i refl)
 tip-fact p (Fill rest) z r w =
-    tip-fact (after p 1) rest (within-le p.bound _ _ (omega arith) w.0.fits) (room-after p 1 rest (Fill rest) (omega arith) (λ t. t) r) w.1
+    tip-fact (after p 1) rest (within-le p.bound _ _ (omega arith) w.0.2) (room-after p 1 rest (Fill rest) (omega arith) (λ t. t) r) w.1
 tip-fact p (Whole h c rest) z r w =
     tip-fact (after p (length (octets_of h) + length c)) rest (within-le p.bound _ _ (omega arith) w.0.fits) (room-after p _ rest (Whole h c rest) (length-whole h c rest) (λ t. t) r) w.1
 tip-fact p (Closed h inside rest) z r w =
     tip-fact (after p (extent h inside)) rest (within-le p.bound _ _ (omega arith) w.0.fits) (room-after p _ rest (Closed h inside rest) (length-closed h inside rest) (λ t. t) r) w.2
 tip-fact p (Partial h c) z r w = tt
 tip-fact p (Entered h inside) z r w =
-    tip-fact (inside_of p h) inside (fits-inside p h w.0.entry.header.form w.0.entry.fits) (room-inside p h inside w.0) w.1
+    tip-fact (inside_of p h) inside (fits-inside p h w.0.0.header.form w.0.0.fits) (room-inside p h inside w) w.1
 tip-fact p (Awaiting h) z r w = tt
 tip-fact p (Begun o) z r w = w
-tip-fact p Zero z r w = w.fits
+tip-fact p Zero z r w = w.1

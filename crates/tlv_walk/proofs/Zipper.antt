@@ -232,7 +232,7 @@ pub open-within : (w : Framing) (ls : List Layer) (f : Forest) → AreLayers w l
 open-within w [] f a v r = v
 open-within w (l ∷ ls) f a v r =
     open-within w ls (behind l.before (Entered l.head f)) a.0
-    (open-behind (place_in w ls) l.before (Entered l.head f) a.1 (record { entry = a.2; lacks = r }, v))
+    (open-behind (place_in w ls) l.before (Entered l.head f) a.1 ((a.2, r), v))
     (room-if_open ls _ (whole-behind l.before (Entered l.head f) a.1.whole))
 
 -- the open end is theirs
