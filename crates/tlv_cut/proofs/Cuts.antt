@@ -211,13 +211,13 @@ module _ (n : ℕ) (only : Bool) where
   told p (Entered h inside) v deep =
       choose (h.offset == n) (Some (Entered h inside)) (element_at n inside) (followed extracted before (opens h ++ events inside))
       (λ e.
-      let k = within n only (inside_of p h) 0 inside v.1 (omega arith) (omega (arith, v.0.entry.depth)) in
+      let k = within n only (inside_of p h) 0 inside v.1 (omega arith) (omega (arith, v.0.0.depth)) in
       let all = then_more before (held n only 0) (unless only (octets_of h) ++ lead h) (opens h) (events inside) (opens_it h e) in
       open_cut (Entered h inside) _ refl
       (ap (λ (t : Following Extracting). t.put) all ∙ ap (λ (l : List ℕ). (unless only (octets_of h) ++ lead h) ++ l) k.put)
       (ap (λ (t : Following Extracting). t.goes) all ∙ k.goes)
       (ap (λ (t : Following Extracting). has_begun t.state.stand) all ∙ k.found))
-      (λ e. subst (IsCut (element_at n inside)) (sym (opens_another h (events inside) e)) (told (inside_of p h) inside v.1 (omega (arith, v.0.entry.depth))))
+      (λ e. subst (IsCut (element_at n inside)) (sym (opens_another h (events inside) e)) (told (inside_of p h) inside v.1 (omega (arith, v.0.0.depth))))
   told p (Awaiting h) v deep =
       choose (h.offset == n) (Some (Awaiting h)) None (followed extracted before (Enter h ∷ []))
       (λ e.

@@ -29,7 +29,7 @@ behind_kept f rest o all keeps whole r = record {
 
 keeps_front : (p : Place) (f : Forest) → p.padding ≡ false → IsOpen p f → IsKeptOf f
 keeps_front p Stop plain v = record { behind = []; octets = refl; all = λ w. refl }
-keeps_front p (Fill rest) plain v = absurd (true≢false (sym v.0.allowed ∙ plain))
+keeps_front p (Fill rest) plain v = absurd (true≢false (sym v.0.0 ∙ plain))
 keeps_front p (Whole h c rest) plain v =
     behind_kept (Whole h c rest) rest (octets_of h ++ c) (sym (append_assoc (octets_of h) c (spell rest))) (sym (append_assoc (octets_of h) c (kept rest))) refl
     (keeps_front (after p _) rest plain v.1)
@@ -166,14 +166,14 @@ module _ (n : ℕ) where
       let i = keeps_front (inside_of p h) inside refl v.1 in
       choose p f (h.offset == n) f (element_at n inside) d
       (λ is.
-      first p true h f f i.behind v.0.entry.header is
+      first p true h f f i.behind v.0.0.header is
       (ap (λ (l : List ℕ). opening h ++ l) i.octets ∙ sym (append_assoc (opening h) (kept inside) i.behind))
       (append_assoc (octets_of h) (lead h) (kept inside) ∙ ap (λ (l : List ℕ). octets_of h ++ l) (sym (append-nil (lead h ++ kept inside)))))
       (λ _ some. in_rest p (inside_of p h) f inside d (opening h) refl refl (find (inside_of p h) inside v.1 d some))
       some
   find p (Awaiting h) v d some =
       choose p (Awaiting h) (h.offset == n) (Awaiting h) None d
-      (λ is. first p true h (Awaiting h) (Awaiting h) [] v.entry.header is (sym (append-nil (octets_of h))) (sym (append-nil (octets_of h))))
+      (λ is. first p true h (Awaiting h) (Awaiting h) [] v.0.header is (sym (append-nil (octets_of h))) (sym (append-nil (octets_of h))))
       (λ _ some. none p (Awaiting h) d some)
       some
   find p (Begun octets) v d some = none p (Begun octets) d some

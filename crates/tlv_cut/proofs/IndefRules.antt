@@ -133,7 +133,7 @@ made_entered q h inside e v =
 pub is_open : (p q : Place) (f : Forest) → IsFree p q → IsOpen p f → IsOpen q (placed q.at (indefinite f))
 is_open p q Stop k v = tt
 is_open p q (Fill rest) k v = (
-  record { allowed = k.padding v.0.allowed; definite = k.definite v.0.allowed; fits = free_fits p q k 1 },
+  (k.padding v.0.0, k.definite v.0.0, free_fits p q k 1),
   is_open (after p 1) (after q 1) rest (free_after p q 1 1 k) v.1,
 )
 is_open p q (Whole h c rest) k v =
@@ -166,18 +166,18 @@ is_open p q (Partial h c) k v = record {
 }
 is_open p q (Entered h inside) k v =
     let head = heading_at q h in
-    made_entered q h inside (constructed_at p h k.names v.0.entry.header) (
-      record {
-        entry = record {
-          header = constructed_head p q h k v.0.entry.header;
-          depth = subst (λ (d : ℕ). d < 128) (sym k.depth) v.0.entry.depth;
+    made_entered q h inside (constructed_at p h k.names v.0.0.header) (
+      (
+        record {
+          header = constructed_head p q h k v.0.0.header;
+          depth = subst (λ (d : ℕ). d < 128) (sym k.depth) v.0.0.depth;
           fits = free_fits p q k (length (octets_of head) + 0);
-        };
-        lacks = λ w. tt;
-      },
+        },
+        λ w. tt,
+      ),
       is_open (inside_of p h) (inside_of q head) inside (free_inside p q h head refl k) v.1,
     )
-is_open p q (Awaiting h) k v = absurd (awaits h (constructed_at p h k.names v.entry.header) v.lead)
+is_open p q (Awaiting h) k v = absurd (awaits h (constructed_at p h k.names v.0.header) v.1)
   where
     awaits : (h : Heading) → h.constructed ≡ true → lead h ≡ 0 ∷ [] → ⊥
     awaits h e l = cc (ap (λ (k : Bool). lead_by k (eqb h.number 3)) e, l)

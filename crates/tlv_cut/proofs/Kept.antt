@@ -148,7 +148,7 @@ module _ (n : ℕ) (only : Bool) where
         stays = λ w. absurd (cc (w));
       }
   within p level (Entered h inside) v low deep =
-      let i : IsKept (suc level) inside = within (inside_of p h) (suc level) inside v.1 (omega (arith, low)) (omega (arith, v.0.entry.depth)) in
+      let i : IsKept (suc level) inside = within (inside_of p h) (suc level) inside v.1 (omega (arith, low)) (omega (arith, v.0.0.depth)) in
       let all = then_more (held level) (held (suc level)) (opening h) (opens h) (events inside)
       (opens_told (held level) (held (suc level)) (octets_of h) h (one_more level h (omega (arith, low, deep)))) in
       record {

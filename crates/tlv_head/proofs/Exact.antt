@@ -24,7 +24,7 @@ pub front_not_whole : (r : Progress) (x : ℕ) (h : Heading) → IsFront (r.octe
 front_not_whole r x h f c = front-no_header _ h f c.valid c.octets
 
 -- what is refused for the octets alone completes no header
-refused_completes_none : (code : FaultCode) (r : Progress) (x : ℕ) (h : Heading) → IsRefusedOctet code r.octets x → Completes r x h → ⊥
+refused_completes_none : (code : FaultCode) (r : Progress) (x : ℕ) (h : Heading) → IsRefusedOctet r.octets x code → Completes r x h → ⊥
 refused_completes_none code r x h p c = refused-none code r.octets x p h [] c.valid (append-nil (r.octets ++ x ∷ []) ∙ sym c.octets)
 
 refused_not_whole : (code : FaultCode) (r : Progress) (x : ℕ) (room : Option ℕ) (depth : ℕ) (h : Heading) → IsRefused code r x room depth
@@ -50,7 +50,7 @@ data Cause (code : FaultCode) (r : Progress) (x : ℕ) (room : Option ℕ) (dept
   bound : room ≡ Some 0 → code ≡ Overrun → Cause code r x room depth
   past : room ≢ Some 0 → EndsPast r x room depth → code ≡ Overrun → Cause code r x room depth
   deep : room ≢ Some 0 → IsTooDeep r x depth → code ≡ TooDeep → Cause code r x room depth
-  said : room ≢ Some 0 → IsRefusedOctet code r.octets x → Cause code r x room depth
+  said : room ≢ Some 0 → IsRefusedOctet r.octets x code → Cause code r x room depth
 
 cause : (code : FaultCode) (r : Progress) (x : ℕ) (room : Option ℕ) (depth : ℕ) → IsRefused code r x room depth → Cause code r x room depth
 cause Overrun r x room depth (inl z) = bound z refl
@@ -107,7 +107,7 @@ one-answer old new other x room depth (Refused f) (Refused g) a b =
     let same : f ≡ g = λ i. record { code = code i; offset = offset i } in
     ap (λ k. Refused k) same
 
-pub refused_in : (code : FaultCode) (r : Progress) (x : ℕ) (room : Option ℕ) (depth : ℕ) → room ≢ Some 0 → IsRefusedOctet code r.octets x → IsRefused code r x room depth
-refused_in Overrun r x room depth n h = absurd h
-refused_in TooDeep r x room depth n h = absurd h
+pub refused_in : (code : FaultCode) (r : Progress) (x : ℕ) (room : Option ℕ) (depth : ℕ) → room ≢ Some 0 → IsRefusedOctet r.octets x code → IsRefused code r x room depth
+refused_in Overrun r x room depth n h = elim h [ ]
+refused_in TooDeep r x room depth n h = elim h [ ]
 refused_in code r x room depth n h = (n, h)

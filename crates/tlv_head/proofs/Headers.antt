@@ -1,10 +1,10 @@
 -- Headers by their octets: one way to read them, and what one more octet does to the front of one.
-use Rattle.std.proofs.Common.{◌≡◌, ◌≢◌, ◌⊎◌, inl, inr, ℕ, ◌+◌, ◌-◌, ◌%◌, ◌/◌, ◌<◌, ◌≤◌, Bool, true, false, cond, ◌&&◌, not, eqb, ltb, List, [], ◌∷◌, ◌++◌, length, refl, sym, ap, ◌∙◌, arith, append-nil, length-append, lt-ltb, le-ltb, eq-eqb, ne_eqb, ltb-true, ⊎_elim}
+use Rattle.std.proofs.Common.{◌≡◌, ◌≢◌, ◌⊎◌, inl, inr, ℕ, ◌+◌, ◌-◌, ◌%◌, ◌/◌, ◌<◌, ◌≤◌, Bool, true, false, cond, ◌&&◌, not, eqb, ltb, List, [], ◌∷◌, ◌++◌, length, refl, sym, ap, ◌∙◌, arith, append-nil, length-append, lt-ltb, le-ltb, eq-eqb, ne_eqb, ltb-true, subst, ⊎_elim}
 use Rattle.std.proofs.lemmas.Bool.{cases_lt, cases_eq, cases_Bool, and_parts, not-true, eqb-false}
 use Rattle.tlv_head.specs.declared.header.Class.{Class}
 use Rattle.tlv_head.specs.Header.{IsIdentifier, Heading, octets_of, IsHeading}
 use Rattle.tlv_head.specs.Laws.{IsRefusable, IsWhole}
-use Rattle.tlv_head.specs.Refusal.{BeginsNone, IsFront, IsRefusedOctet}
+use Rattle.tlv_head.specs.Refusal.{BeginsNone, IsFront, IsRefusedOctet, tag_too_long, reserved_length, indefinite_primitive, length_too_large}
 use Rattle.tlv_head.specs.declared.fault.FaultCode.{FaultCode}
 use Rattle.tlv_head.specs.declared.fault.FaultCode.TheVariants.{StrayEnd, IndefinitePrimitive}
 use Rattle.tlv_head.proofs.Scan.{Scan, Origin, origin_of, start, Fresh, High, Named, Long, Ready, Stuck, Over, leads, class_of, step, scan, scan_from-append, scan_from-past, scan-moved, moved, is_more, more-from_front, no-front, same-header}
@@ -36,7 +36,7 @@ one-header h g x y vh vg o e = ⊎_elim
 -- why an octet does not continue the front of a header, or begin one
 abbrev pub IsHeadRefusal : FaultCode → List ℕ → ℕ → Type 0
 IsHeadRefusal StrayEnd o x = (o ≡ []) × (x ≡ 0)
-IsHeadRefusal code o x = IsRefusedOctet code o x
+IsHeadRefusal code o x = IsRefusedOctet o x code
 
 -- what a state that is stuck says
 abbrev pub Explains : Scan → List ℕ → ℕ → Type 0
@@ -66,19 +66,19 @@ explains-high at x c k ds o s = ⊎_elim
     (λ (large : 128 ≤ x). ⊎_elim
     (λ (room : length ds < 8). rw (le-ltb x 128 large, lt-ltb (length ds) 8 room) tt)
     (λ (full : 8 ≤ length ds). rw (le-ltb x 128 large, le-ltb (length ds) 8 full)
-    (record { class = c; constructed = k; digits = ds; front = record { each = s.each; octet = s.octets }; eight = omega (arith, s.few); flag = large }))
+    (tag_too_long c k ds s.each (omega (arith, s.few)) s.octets large))
     (cases_lt (length ds) 8))
     (cases_lt x 128)
 
 explains-mark : (at : Origin) (x : ℕ) (c : Class) (k : Bool) (n : ℕ) (i o : List ℕ) (h : Heading) → IsIdentifier c k n i → o ≡ i → x ≡ 128 → Explains (cond k (Ready h) (Stuck IndefinitePrimitive)) o x
 explains-mark at x c true n i o h id e m = tt
-explains-mark at x c false n i o h id e m = record { front = record { class = c; number = n; identifier = rw e id }; indefinite = m }
+explains-mark at x c false n i o h id e m = indefinite_primitive c n (subst (IsIdentifier c false n) (sym e) id) m
 
 explains-named : (at : Origin) (x : ℕ) (c : Class) (k : Bool) (n : ℕ) (i o : List ℕ) → IsIdentifier c k n i → o ≡ i → Explains (step at (Named c k n i) x) o x
 explains-named at x c k n i o id e = ⊎_elim
     (λ (small : x < 128). rw (lt-ltb x 128 small) tt)
     (λ (large : 128 ≤ x). ⊎_elim
-    (λ (all : x ≡ 255). rw (le-ltb x 128 large, eq-eqb x 255 all) (record { constructed = k; front = record { class = c; number = n; identifier = rw e id }; all_ones = all }))
+    (λ (all : x ≡ 255). rw (le-ltb x 128 large, eq-eqb x 255 all) (reserved_length c k n (subst (IsIdentifier c k n) (sym e) id) all))
     (λ (below : x ≡ 255 → ⊥). ⊎_elim
     (λ (mark : x ≡ 128). rw (le-ltb x 128 large, ne_eqb x 255 below, eq-eqb x 128 mark) (explains-mark at x c k n i o _ id e mark))
     (λ (above : x ≡ 128 → ⊥). rw (le-ltb x 128 large, ne_eqb x 255 below, ne_eqb x 128 above) tt)
@@ -92,17 +92,7 @@ explains-long at x c k n i m ds o s = ⊎_elim
     let parts : (not (eqb x 0) ≡ true) × (ltb (length ds + 5) m ≡ true) = and_parts _ _ bad in
     let many : length ds + 5 < m = ltb-true _ _ parts.1 in
     let total : length ds + (m - length ds) ≡ m = omega arith in
-    rw bad (record {
-      class = c;
-      constructed = k;
-      number = n;
-      identifier = i;
-      digits = ds;
-      left = m - length ds;
-      front = record { identified = s.identifier; each = s.each; some = omega arith; few = omega (arith, s.few); octet = rw total s.octets };
-      many = omega arith;
-      nonzero = eqb-false x 0 (not-true _ parts.0);
-    }))
+    rw bad (length_too_large c k n i ds (m - length ds) s.identifier s.each (rw total s.octets) (omega (arith, s.few)) (omega arith) (eqb-false x 0 (not-true _ parts.0))))
     (λ (good : (not (eqb x 0) && ltb (length ds + 5) m) ≡ false). ⊎_elim
     (λ (more : ltb (length ds + 1) m ≡ true). rw (good, more) tt)
     (λ (last : ltb (length ds + 1) m ≡ false). rw (good, last) tt)
@@ -149,7 +139,7 @@ pub next : (o : List ℕ) (x : ℕ) → x < 256 → (o ≡ []) ⊎ IsFront o →
 next o x h (inl e) = rw e (next-more [] x h refl refl)
 next o x h (inr f) = next-more o x h (more-from_front start o f) (reads-scan start o (front-bytes o f))
 
-refused-octet : (code : FaultCode) (o : List ℕ) (x : ℕ) → (o ≡ [] → x ≢ 0) → IsHeadRefusal code o x → IsRefusedOctet code o x
+refused-octet : (code : FaultCode) (o : List ℕ) (x : ℕ) → (o ≡ [] → x ≢ 0) → IsHeadRefusal code o x → IsRefusedOctet o x code
 refused-octet StrayEnd o x first r = absurd (first r.0 r.1)
 refused-octet code o x first r = r
 

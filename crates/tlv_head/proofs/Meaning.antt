@@ -1,5 +1,5 @@
 -- What the octets read so far are, by the state that they lead to: nothing, a header, the front of one, or refused.
-use Rattle.std.proofs.Common.{◌≡◌, ◌≢◌, ◌⊎◌, inl, inr, ℕ, zero, suc, ◌+◌, ◌-◌, ◌*◌, ◌/◌, ◌%◌, ◌^◌, ◌<◌, ◌≤◌, Bool, true, false, cond, ◌&&◌, not, eqb, ltb, List, [], ◌∷◌, ◌++◌, length, map, replicate, All, refl, ap, ◌∙◌, arith, append_assoc, append-nil, lt-ltb, le-ltb, eq-eqb, ne_eqb, ltb-true, ltb-false, eqb-true, ⊎_elim, pow-suc, zero-mul, length-append}
+use Rattle.std.proofs.Common.{◌≡◌, ◌≢◌, ◌⊎◌, inl, inr, ℕ, zero, suc, if◌then◌else◌, ◌+◌, ◌-◌, ◌*◌, ◌/◌, ◌%◌, ◌^◌, ◌<◌, ◌≤◌, Bool, true, false, cond, ◌&&◌, not, eqb, ltb, List, [], ◌∷◌, ◌++◌, length, map, replicate, All, refl, ap, ◌∙◌, arith, append_assoc, append-nil, lt-ltb, le-ltb, eq-eqb, ne_eqb, ltb-true, ltb-false, eqb-true, ⊎_elim, pow-suc, zero-mul, length-append}
 use Rattle.std.proofs.lemmas.Bool.{cases_lt, cases_eq, cases_Bool, and_cases, not-false}
 use Rattle.std.proofs.lemmas.List.Elements.{All-head, All-tail, All-push, All-append, All-replicate, All-nil, All-cons, All-map, All-weaker}
 use Rattle.std.proofs.lemmas.List.{map_push, length-replicate, get_or_append_left}
@@ -7,7 +7,7 @@ use Rattle.tlv_head.specs.declared.header.Class.{Class}
 use Rattle.tlv_head.specs.declared.header.Class.TheVariants.{Universal, Application, Context, Private}
 use Rattle.tlv_head.specs.declared.header.Size.{Size}
 use Rattle.tlv_head.specs.declared.header.Size.TheVariants.{Definite, Indefinite}
-use Rattle.tlv_head.specs.Header.{class_bits, form_bit, leading_octet, value_of, IsIdentifier, IsLength, Heading, octets_of, AllowsSize, IsHeading}
+use Rattle.tlv_head.specs.Header.{class_bits, leading_octet, value_of, IsIdentifier, IsLength, Heading, octets_of, AllowsSize, IsHeading}
 use Rattle.tlv_head.specs.Refusal.{IsFront}
 use Rattle.tlv_head.specs.declared.fault.FaultCode.TheVariants.{IndefinitePrimitive}
 use Rattle.tlv_head.proofs.Digits.{value_of-snoc, value_of-zeros}
@@ -46,7 +46,7 @@ bits-class_of (suc (suc zero)) h = refl
 bits-class_of (suc (suc (suc zero))) h = refl
 bits-class_of (suc (suc (suc (suc x)))) h = absurd (omega arith)
 
-leading-parts : (x a : ℕ) (k : Bool) → a ≡ x / 64 → ltb 31 (x % 64) ≡ k → 64 * a + form_bit k + x % 32 ≡ x
+leading-parts : (x a : ℕ) (k : Bool) → a ≡ x / 64 → ltb 31 (x % 64) ≡ k → 64 * a + (if k then 32 else 0) + x % 32 ≡ x
 leading-parts x a true e t = omega (arith, ltb-true 31 (x % 64) t)
 leading-parts x a false e t = omega (arith, ltb-false 31 (x % 64) t)
 

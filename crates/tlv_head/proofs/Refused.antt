@@ -1,12 +1,12 @@
 -- What is refused for the octets alone: no header begins with it, and it begins with none.
-use Rattle.std.proofs.Common.{◌≡◌, ◌⊎◌, inl, inr, ℕ, ◌+◌, ◌-◌, ◌<◌, ◌≤◌, Bool, true, false, not, ◌&&◌, eqb, ltb, List, [], ◌∷◌, ◌++◌, length, All, refl, sym, ap, ◌∙◌, arith, append_assoc, append-nil, length-append, lt-ltb, le-ltb, ne_eqb, ⊎_elim}
+use Rattle.std.proofs.Common.{◌≡◌, ◌≢◌, ◌⊎◌, inl, inr, ℕ, ◌+◌, ◌-◌, ◌<◌, ◌≤◌, Bool, true, false, not, ◌&&◌, eqb, ltb, List, [], ◌∷◌, ◌++◌, length, All, refl, sym, ap, ◌∙◌, arith, append_assoc, append-nil, length-append, lt-ltb, le-ltb, ne_eqb, ⊎_elim}
 use Rattle.std.proofs.lemmas.Bool.{cases_Bool}
 use Rattle.std.proofs.lemmas.List.Elements.{All-head, All-tail}
 use Rattle.tlv_head.specs.declared.header.Class.{Class}
 use Rattle.tlv_head.specs.declared.fault.FaultCode.{FaultCode}
-use Rattle.tlv_head.specs.declared.fault.FaultCode.TheVariants.{Empty, Short, StrayEnd, BadEnd, MissingEnd, TagTooLong, ReservedLength, IndefinitePrimitive, LengthTooLarge, TooDeep, Overrun, BadInside}
-use Rattle.tlv_head.specs.Header.{Heading, IsHeading, flagged, leading_octet, octets_of}
-use Rattle.tlv_head.specs.Refusal.{BeginsNone, BeginsWithNone, IsFront, IsRefusedOctet, IsTagTooLong, IsReservedLength, IsIndefinitePrimitive, IsLengthTooLarge}
+use Rattle.tlv_head.specs.declared.fault.FaultCode.TheVariants.{TagTooLong, ReservedLength, IndefinitePrimitive, LengthTooLarge}
+use Rattle.tlv_head.specs.Header.{Heading, IsHeading, IsIdentifier, flagged, leading_octet, octets_of}
+use Rattle.tlv_head.specs.Refusal.{BeginsNone, BeginsWithNone, IsFront, IsRefusedOctet, tag_too_long, reserved_length, indefinite_primitive, length_too_large}
 use Rattle.tlv_head.proofs.Scan.{Scan, Origin, start, Fresh, High, Named, Long, Ready, Stuck, Over, step, scan_from, scan, scan_from-append, scan_from-over, scan-identifier, scan-moved, moved, step-leading, is_more, more-from_front}
 use Rattle.tlv_head.proofs.Headers.{fronts, stuck-none}
 
@@ -75,27 +75,24 @@ scan-flagged at c k ds (e ∷ es) each few =
     ∙ rw (append_assoc ds (e ∷ []) es) at (scan-flagged at c k (ds ++ e ∷ []) es (All-tail (λ d. d < 128) e es each) fewer)
 
 -- a ninth such octet
-too_long-stuck : (at : Origin) (o : List ℕ) (x : ℕ) → IsTagTooLong o x → scan at (o ++ x ∷ []) ≡ Stuck TagTooLong
-too_long-stuck at o x r =
-    let nonzero : leading_octet r.class r.constructed 31 ≡ 0 → ⊥ = omega arith in
+too_long-stuck : (at : Origin) (c : Class) (k : Bool) (ds o : List ℕ) (x : ℕ) → All (λ d. d < 128) ds → length ds ≡ 8
+    → o ≡ leading_octet c k 31 ∷ flagged ds → 128 ≤ x → scan at (o ++ x ∷ []) ≡ Stuck TagTooLong
+too_long-stuck at c k ds o x each eight octets flag =
+    let nonzero : leading_octet c k 31 ≡ 0 → ⊥ = omega arith in
     let below : 31 < 32 = omega arith in
-    let front : scan at o ≡ High r.class r.constructed r.digits =
-    rw r.front.octet (ap (λ (s : Scan). scan_from at s (flagged r.digits)) (step-leading at r.class r.constructed 31 below nonzero)
-    ∙ scan-flagged at r.class r.constructed [] r.digits r.front.each (omega (arith, r.eight))) in
-    scan-step at o x (High r.class r.constructed r.digits) TagTooLong front
-    (rw (le-ltb x 128 r.flag, le-ltb (length r.digits) 8 (omega (arith, r.eight))))
+    let front : scan at o ≡ High c k ds =
+    rw octets (ap (λ (s : Scan). scan_from at s (flagged ds)) (step-leading at c k 31 below nonzero)
+    ∙ scan-flagged at c k [] ds each (omega (arith, eight))) in
+    scan-step at o x (High c k ds) TagTooLong front
+    (rw (le-ltb x 128 flag, le-ltb (length ds) 8 (omega (arith, eight))))
 
 -- a first length octet ff
-reserved-stuck : (at : Origin) (o : List ℕ) (x : ℕ) → IsReservedLength o x → scan at (o ++ x ∷ []) ≡ Stuck ReservedLength
-reserved-stuck at o x r =
-    scan-step at o x (Named r.front.class r.constructed r.front.number o) ReservedLength
-    (scan-identifier at r.front.class r.constructed r.front.number o r.front.identifier) (rw r.all_ones refl)
+reserved-stuck : (at : Origin) (c : Class) (k : Bool) (n : ℕ) (o : List ℕ) (x : ℕ) → IsIdentifier c k n o → x ≡ 255 → scan at (o ++ x ∷ []) ≡ Stuck ReservedLength
+reserved-stuck at c k n o x i e = scan-step at o x (Named c k n o) ReservedLength (scan-identifier at c k n o i) (rw e refl)
 
 -- a first length octet 80 of a primitive
-primitive-stuck : (at : Origin) (o : List ℕ) (x : ℕ) → IsIndefinitePrimitive o x → scan at (o ++ x ∷ []) ≡ Stuck IndefinitePrimitive
-primitive-stuck at o x r =
-    scan-step at o x (Named r.front.class false r.front.number o) IndefinitePrimitive
-    (scan-identifier at r.front.class false r.front.number o r.front.identifier) (rw r.indefinite refl)
+primitive-stuck : (at : Origin) (c : Class) (n : ℕ) (o : List ℕ) (x : ℕ) → IsIdentifier c false n o → x ≡ 128 → scan at (o ++ x ∷ []) ≡ Stuck IndefinitePrimitive
+primitive-stuck at c n o x i e = scan-step at o x (Named c false n o) IndefinitePrimitive (scan-identifier at c false n o i) (rw e refl)
 
 -- digits of a length that is not whole lead on, unless one is refused
 long-or-stuck : (at : Origin) (c : Class) (k : Bool) (n : ℕ) (i : List ℕ) (m : ℕ) (ds es : List ℕ) → length ds + length es < m
@@ -116,58 +113,58 @@ long-or-stuck at c k n i m ds (e ∷ es) h = ⊎_elim
     (cases_Bool (not (eqb e 0) && ltb (length ds + 5) m))
 
 -- a length octet that makes the length too large, unless one before it does
-too_large-stuck : (at : Origin) (o : List ℕ) (x : ℕ) → IsLengthTooLarge o x → (scan at (o ++ x ∷ []) ≡ Stuck LengthTooLarge) ⊎ IsStuckFrom at Fresh o
-too_large-stuck at o x r =
-    let m : ℕ = length r.digits + r.left in
-    let i : List ℕ = r.identifier in
+too_large-stuck : (at : Origin) (c : Class) (k : Bool) (n : ℕ) (x left : ℕ) (i ds o : List ℕ) → IsIdentifier c k n i → 6 ≤ left → length ds + left ≤ 126
+    → o ≡ i ++ (128 + (length ds + left)) ∷ ds → x ≢ 0 → (scan at (o ++ x ∷ []) ≡ Stuck LengthTooLarge) ⊎ IsStuckFrom at Fresh o
+too_large-stuck at c k n x left i ds o id many few octets nonzero =
+    let m : ℕ = length ds + left in
     let above : 128 ≤ 128 + m = omega arith in
-    let apart : 128 + m ≡ 255 → ⊥ = omega (arith, r.front.few) in
-    let other : 128 + m ≡ 128 → ⊥ = omega (arith, r.many) in
+    let apart : 128 + m ≡ 255 → ⊥ = omega (arith, few) in
+    let other : 128 + m ≡ 128 → ⊥ = omega (arith, many) in
     let back : 128 + m - 128 ≡ m = omega arith in
-    let one : step at (Named r.class r.constructed r.number i) (128 + m) ≡ Long r.class r.constructed r.number i m [] =
+    let one : step at (Named c k n i) (128 + m) ≡ Long c k n i m [] =
     rw (le-ltb (128 + m) 128 above, ne_eqb (128 + m) 255 apart, ne_eqb (128 + m) 128 other, back) in
-    let lead : (ds : List ℕ) → scan at (i ++ (128 + m) ∷ ds) ≡ scan_from at (Long r.class r.constructed r.number i m []) ds =
-    λ ds. scan_from-append at Fresh i ((128 + m) ∷ ds)
-    ∙ (ap (λ (s : Scan). scan_from at s ((128 + m) ∷ ds)) (scan-identifier at r.class r.constructed r.number i r.front.identified)
-    ∙ ap (λ (s : Scan). scan_from at s ds) one) in
-    let many : length r.digits + 5 < m = omega (arith, r.many) in
+    let lead : (es : List ℕ) → scan at (i ++ (128 + m) ∷ es) ≡ scan_from at (Long c k n i m []) es =
+    λ es. scan_from-append at Fresh i ((128 + m) ∷ es)
+    ∙ (ap (λ (s : Scan). scan_from at s ((128 + m) ∷ es)) (scan-identifier at c k n i id)
+    ∙ ap (λ (s : Scan). scan_from at s es) one) in
+    let more : length ds + 5 < m = omega (arith, many) in
     ⊎_elim
-    (λ (on : scan_from at (Long r.class r.constructed r.number i m []) r.digits ≡ Long r.class r.constructed r.number i m r.digits).
-    inl (scan-step at o x (Long r.class r.constructed r.number i m r.digits) LengthTooLarge (ap (scan at) r.front.octet ∙ (lead r.digits ∙ on))
-    (rw (ne_eqb x 0 r.nonzero, lt-ltb (length r.digits + 5) m many))))
-    (λ (s : IsStuckFrom at (Long r.class r.constructed r.number i m []) r.digits).
+    (λ (on : scan_from at (Long c k n i m []) ds ≡ Long c k n i m ds).
+    inl (scan-step at o x (Long c k n i m ds) LengthTooLarge (ap (scan at) octets ∙ (lead ds ∙ on))
+    (rw (ne_eqb x 0 nonzero, lt-ltb (length ds + 5) m more))))
+    (λ (s : IsStuckFrom at (Long c k n i m []) ds).
     inr (record {
       front = i ++ (128 + m) ∷ s.front;
       rest = s.rest;
       code = s.code;
       stuck = lead s.front ∙ s.stuck;
-      octets = r.front.octet ∙ (ap (λ z. i ++ (128 + m) ∷ z) s.octets ∙ sym (append_assoc i ((128 + m) ∷ s.front) s.rest));
+      octets = octets ∙ (ap (λ z. i ++ (128 + m) ∷ z) s.octets ∙ sym (append_assoc i ((128 + m) ∷ s.front) s.rest));
     }))
-    (long-or-stuck at r.class r.constructed r.number i m [] r.digits (omega (arith, r.many)))
+    (long-or-stuck at c k n i m [] ds (omega (arith, many)))
 
-refused-stuck_from : (code : FaultCode) (o : List ℕ) (x : ℕ) → IsRefusedOctet code o x → IsStuckFrom start Fresh (o ++ x ∷ [])
-refused-stuck_from TagTooLong o x r = stuck-last start (o ++ x ∷ []) TagTooLong (too_long-stuck start o x r)
-refused-stuck_from ReservedLength o x r = stuck-last start (o ++ x ∷ []) ReservedLength (reserved-stuck start o x r)
-refused-stuck_from IndefinitePrimitive o x r = stuck-last start (o ++ x ∷ []) IndefinitePrimitive (primitive-stuck start o x r)
-refused-stuck_from LengthTooLarge o x r = ⊎_elim
-    (λ (e : scan start (o ++ x ∷ []) ≡ Stuck LengthTooLarge). stuck-last start (o ++ x ∷ []) LengthTooLarge e)
-    (λ (s : IsStuckFrom start Fresh o). stuck-longer start Fresh o (x ∷ []) s)
-    (too_large-stuck start o x r)
-refused-stuck_from Empty o x r = absurd r
-refused-stuck_from Short o x r = absurd r
-refused-stuck_from StrayEnd o x r = absurd r
-refused-stuck_from BadEnd o x r = absurd r
-refused-stuck_from MissingEnd o x r = absurd r
-refused-stuck_from TooDeep o x r = absurd r
-refused-stuck_from Overrun o x r = absurd r
-refused-stuck_from BadInside o x r = absurd r
+-- the code is that of the state, unless an octet before is refused
+refused-last : (at : Origin) (code : FaultCode) (o : List ℕ) (x : ℕ) → IsRefusedOctet o x code
+    → (scan at (o ++ x ∷ []) ≡ Stuck code) ⊎ ((code ≡ LengthTooLarge) × IsStuckFrom at Fresh o)
+refused-last at code o x (tag_too_long c k ds each eight octets flag) = inl (too_long-stuck at c k ds o x each eight octets flag)
+refused-last at code o x (reserved_length c k n i e) = inl (reserved-stuck at c k n o x i e)
+refused-last at code o x (indefinite_primitive c n i e) = inl (primitive-stuck at c n o x i e)
+refused-last at code o x (length_too_large c k n i ds left id each octets few many nonzero) = ⊎_elim
+    (λ (e : scan at (o ++ x ∷ []) ≡ Stuck LengthTooLarge). inl e)
+    (λ (s : IsStuckFrom at Fresh o). inr (refl, s))
+    (too_large-stuck at c k n x left i ds o id many few octets nonzero)
+
+refused-stuck_from : (code : FaultCode) (o : List ℕ) (x : ℕ) → IsRefusedOctet o x code → IsStuckFrom start Fresh (o ++ x ∷ [])
+refused-stuck_from code o x r = ⊎_elim
+    (λ (e : scan start (o ++ x ∷ []) ≡ Stuck code). stuck-last start (o ++ x ∷ []) code e)
+    (λ (s : (code ≡ LengthTooLarge) × IsStuckFrom start Fresh o). stuck-longer start Fresh o (x ∷ []) s.1)
+    (refused-last start code o x r)
 
 -- what is refused for the octets alone begins no header
-pub refused-none : (code : FaultCode) (o : List ℕ) (x : ℕ) → IsRefusedOctet code o x → BeginsNone (o ++ x ∷ [])
+pub refused-none : (code : FaultCode) (o : List ℕ) (x : ℕ) → IsRefusedOctet o x code → BeginsNone (o ++ x ∷ [])
 refused-none code o x r = stuck-begins-none (o ++ x ∷ []) (refused-stuck_from code o x r)
 
 -- nor does it begin with one, whatever follows
-pub refused-with_none : (code : FaultCode) (o : List ℕ) (x : ℕ) (more : List ℕ) → IsRefusedOctet code o x → BeginsWithNone ((o ++ x ∷ []) ++ more)
+pub refused-with_none : (code : FaultCode) (o : List ℕ) (x : ℕ) (more : List ℕ) → IsRefusedOctet o x code → BeginsWithNone ((o ++ x ∷ []) ++ more)
 refused-with_none code o x more r =
     stuck-begins_with-none ((o ++ x ∷ []) ++ more) (stuck-longer start Fresh (o ++ x ∷ []) more (refused-stuck_from code o x r))
 
@@ -182,22 +179,12 @@ stuck-no_more at o r =
     ap is_more split ∙ past-stuck at r.code r.rest
 
 -- behind the front of a header it is refused with that code
-pub refused-stuck : (at : Origin) (code : FaultCode) (o : List ℕ) (x : ℕ) → IsFront o → IsRefusedOctet code o x → scan at (o ++ x ∷ []) ≡ Stuck code
-refused-stuck at TagTooLong o x front r = too_long-stuck at o x r
-refused-stuck at ReservedLength o x front r = reserved-stuck at o x r
-refused-stuck at IndefinitePrimitive o x front r = primitive-stuck at o x r
-refused-stuck at LengthTooLarge o x front r = ⊎_elim
-    (λ (e : scan at (o ++ x ∷ []) ≡ Stuck LengthTooLarge). e)
-    (λ (s : IsStuckFrom at Fresh o). absurd (let both : true ≡ false = sym (more-from_front at o front) ∙ stuck-no_more at o s in cc))
-    (too_large-stuck at o x r)
-refused-stuck at Empty o x front r = absurd r
-refused-stuck at Short o x front r = absurd r
-refused-stuck at StrayEnd o x front r = absurd r
-refused-stuck at BadEnd o x front r = absurd r
-refused-stuck at MissingEnd o x front r = absurd r
-refused-stuck at TooDeep o x front r = absurd r
-refused-stuck at Overrun o x front r = absurd r
-refused-stuck at BadInside o x front r = absurd r
+pub refused-stuck : (at : Origin) (code : FaultCode) (o : List ℕ) (x : ℕ) → IsFront o → IsRefusedOctet o x code → scan at (o ++ x ∷ []) ≡ Stuck code
+refused-stuck at code o x front r = ⊎_elim
+    (λ (e : scan at (o ++ x ∷ []) ≡ Stuck code). e)
+    (λ (s : (code ≡ LengthTooLarge) × IsStuckFrom at Fresh o).
+    absurd (let both : true ≡ false = sym (more-from_front at o front) ∙ stuck-no_more at o s.1 in cc))
+    (refused-last at code o x r)
 
 stuck-or_over : (at : Origin) (s : Scan) (o : List ℕ) (x : ℕ) → IsStuckFrom at s o → scan_from at s (o ++ x ∷ []) ≡ Over
 stuck-or_over at s o x r =
@@ -209,27 +196,16 @@ stuck-or_over at s o x r =
     over [] = refl
     over (y ∷ z) = scan_from-over at (z ++ x ∷ [])
 
--- the code is that of the state, unless an octet before is refused
-refused-state : (code : FaultCode) (o : List ℕ) (x : ℕ) → IsRefusedOctet code o x
+-- the code is that of the state, or the state is past a refusal
+refused-state : (code : FaultCode) (o : List ℕ) (x : ℕ) → IsRefusedOctet o x code
     → (scan start (o ++ x ∷ []) ≡ Stuck code) ⊎ ((code ≡ LengthTooLarge) × (scan start (o ++ x ∷ []) ≡ Over))
-refused-state TagTooLong o x r = inl (too_long-stuck start o x r)
-refused-state ReservedLength o x r = inl (reserved-stuck start o x r)
-refused-state IndefinitePrimitive o x r = inl (primitive-stuck start o x r)
-refused-state LengthTooLarge o x r = ⊎_elim
-    (λ (e : scan start (o ++ x ∷ []) ≡ Stuck LengthTooLarge). inl e)
-    (λ (s : IsStuckFrom start Fresh o). inr (refl, stuck-or_over start Fresh o x s))
-    (too_large-stuck start o x r)
-refused-state Empty o x r = absurd r
-refused-state Short o x r = absurd r
-refused-state StrayEnd o x r = absurd r
-refused-state BadEnd o x r = absurd r
-refused-state MissingEnd o x r = absurd r
-refused-state TooDeep o x r = absurd r
-refused-state Overrun o x r = absurd r
-refused-state BadInside o x r = absurd r
+refused-state code o x r = ⊎_elim
+    (λ (e : scan start (o ++ x ∷ []) ≡ Stuck code). inl e)
+    (λ (s : (code ≡ LengthTooLarge) × IsStuckFrom start Fresh o). inr (s.0, stuck-or_over start Fresh o x s.1))
+    (refused-last start code o x r)
 
 -- an octet is refused with one code
-pub one-refusal : (c d : FaultCode) (o : List ℕ) (x : ℕ) → IsRefusedOctet c o x → IsRefusedOctet d o x → c ≡ d
+pub one-refusal : (c d : FaultCode) (o : List ℕ) (x : ℕ) → IsRefusedOctet o x c → IsRefusedOctet o x d → c ≡ d
 one-refusal c d o x p q = both (refused-state c o x p) (refused-state d o x q)
   where
     both : (scan start (o ++ x ∷ []) ≡ Stuck c) ⊎ ((c ≡ LengthTooLarge) × (scan start (o ++ x ∷ []) ≡ Over))

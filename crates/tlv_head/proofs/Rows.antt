@@ -10,7 +10,7 @@ use Rattle.tlv_head.specs.declared.header.Class.TheVariants.{Universal, Applicat
 use Rattle.tlv_head.specs.declared.header.Size.{Size}
 use Rattle.tlv_head.specs.declared.header.Size.TheVariants.{Definite, Indefinite}
 use Rattle.tlv_head.specs.Header.{Heading, flagged, IsHeading, IsIdentifier, IsLength, indefinite_octets, is_wrapper, octets_of}
-use Rattle.tlv_head.specs.Refusal.{BeginsWith, IsFront, IsRefusedOctet}
+use Rattle.tlv_head.specs.Refusal.{BeginsWith, IsFront, IsRefusedOctet, tag_too_long, reserved_length, indefinite_primitive, length_too_large}
 use Rattle.tlv_head.specs.Tag.{tag_text_of}
 
 -- digits below a base, by a test
@@ -146,51 +146,26 @@ longest-137 : length (octets_of longest) ≡ 137
 longest-137 = refl
 
 -- 9f 81 and seven 80, then 80: a ninth subsequent octet that is not the last
-refused-number : IsRefusedOctet TagTooLong (0x9f ∷ 0x81 ∷ 0x80 ∷ 0x80 ∷ 0x80 ∷ 0x80 ∷ 0x80 ∷ 0x80 ∷ 0x80 ∷ []) 0x80
-refused-number = record {
-  class = Context;
-  constructed = false;
-  digits = 1 ∷ 0 ∷ 0 ∷ 0 ∷ 0 ∷ 0 ∷ 0 ∷ 0 ∷ [];
-  front = record { each = below 128 (1 ∷ 0 ∷ 0 ∷ 0 ∷ 0 ∷ 0 ∷ 0 ∷ 0 ∷ []) refl; octet = refl };
-  eight = refl;
-  flag = lit≤ tt;
-}
+refused-number : IsRefusedOctet (0x9f ∷ 0x81 ∷ 0x80 ∷ 0x80 ∷ 0x80 ∷ 0x80 ∷ 0x80 ∷ 0x80 ∷ 0x80 ∷ []) 0x80 TagTooLong
+refused-number =
+    tag_too_long Context false (1 ∷ 0 ∷ 0 ∷ 0 ∷ 0 ∷ 0 ∷ 0 ∷ 0 ∷ []) (below 128 (1 ∷ 0 ∷ 0 ∷ 0 ∷ 0 ∷ 0 ∷ 0 ∷ 0 ∷ []) refl) refl refl (lit≤ tt)
 
 -- 04, then ff
-refused-reserved : IsRefusedOctet ReservedLength (0x04 ∷ []) 0xff
-refused-reserved = record { constructed = false; front = record { class = Universal; number = 4; identifier = octet-string }; all_ones = refl }
+refused-reserved : IsRefusedOctet (0x04 ∷ []) 0xff ReservedLength
+refused-reserved = reserved_length Universal false 4 octet-string refl
 
 -- 04, then 80
-refused-indefinite : IsRefusedOctet IndefinitePrimitive (0x04 ∷ []) 0x80
-refused-indefinite = record { front = record { class = Universal; number = 4; identifier = octet-string }; indefinite = refl }
+refused-indefinite : IsRefusedOctet (0x04 ∷ []) 0x80 IndefinitePrimitive
+refused-indefinite = indefinite_primitive Universal 4 octet-string refl
 
 -- 04 86, then 01, which five octets are to follow
-refused-length : IsRefusedOctet LengthTooLarge (0x04 ∷ 0x86 ∷ []) 0x01
-refused-length = record {
-  class = Universal;
-  constructed = false;
-  number = 4;
-  identifier = 0x04 ∷ [];
-  digits = [];
-  left = 6;
-  front = record { identified = octet-string; each = below 256 [] refl; some = lit≤ tt; few = lit≤ tt; octet = refl };
-  many = lit≤ tt;
-  nonzero = omega arith;
-}
+refused-length : IsRefusedOctet (0x04 ∷ 0x86 ∷ []) 0x01 LengthTooLarge
+refused-length = length_too_large Universal false 4 (0x04 ∷ []) [] 6 octet-string (below 256 [] refl) refl (lit≤ tt) (lit≤ tt) (omega arith)
 
 -- 04 fe and 120 octets 00, then 01, which five octets are to follow
-refused-padded_length : IsRefusedOctet LengthTooLarge (0x04 ∷ 0xfe ∷ replicate 120 0x00) 0x01
-refused-padded_length = record {
-  class = Universal;
-  constructed = false;
-  number = 4;
-  identifier = 0x04 ∷ [];
-  digits = replicate 120 0;
-  left = 6;
-  front = record { identified = octet-string; each = below 256 (replicate 120 0) refl; some = lit≤ tt; few = lit≤ tt; octet = refl };
-  many = lit≤ tt;
-  nonzero = omega arith;
-}
+refused-padded_length : IsRefusedOctet (0x04 ∷ 0xfe ∷ replicate 120 0x00) 0x01 LengthTooLarge
+refused-padded_length =
+    length_too_large Universal false 4 (0x04 ∷ []) (replicate 120 0) 6 octet-string (below 256 (replicate 120 0) refl) refl (lit≤ tt) (lit≤ tt) (omega arith)
 
 -- 04 85 01: the same octet where four are to follow: with 00 they make a length of 2^32
 front-length : IsFront (0x04 ∷ 0x85 ∷ 0x01 ∷ [])

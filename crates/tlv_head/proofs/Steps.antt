@@ -1,10 +1,12 @@
 -- What each octet makes of what a reader carries.
-use Rattle.std.proofs.Common.{◌≡◌, ◌≢◌, ℕ, suc, ◌+◌, ◌*◌, ◌^◌, ◌-◌, ◌<◌, ◌≤◌, ◌⊎◌, inl, inr, List, [], ◌∷◌, ◌++◌, length, refl, sym, arith, length-append, append_assoc, subst, lit<}
+use Rattle.std.proofs.Common.{◌≡◌, ◌≢◌, ℕ, suc, Bool, false, ◌+◌, ◌*◌, ◌^◌, ◌-◌, ◌<◌, ◌≤◌, ◌⊎◌, inl, inr, List, [], ◌∷◌, ◌++◌, length, refl, sym, arith, length-append, append_assoc, subst, lit<}
 use Rattle.std.proofs.lemmas.Bool.{cases_lt}
 use Rattle.std.proofs.lemmas.List.{length-map, map_push}
 use Rattle.std.proofs.lemmas.List.Elements.{All-nil, All-push}
 use Rattle.std.proofs.Math.Nat.{pow-suc, pow-le-pow_right, one-le-pow}
-use Rattle.tlv_head.specs.Header.{value_of}
+use Rattle.tlv_head.specs.Header.{IsIdentifier, value_of}
+use Rattle.tlv_head.specs.Refusal.{IsRefusedOctet, tag_too_long, reserved_length, indefinite_primitive, length_too_large}
+use Rattle.tlv_head.specs.declared.fault.FaultCode.TheVariants.{TagTooLong, ReservedLength, IndefinitePrimitive, LengthTooLarge}
 use Rattle.tlv_head.specs.Part.{CarriesNumber, CarriesIdentifier, CarriesLength, MakesHeader}
 use Rattle.tlv_head.specs.declared.header.Size.TheVariants.{Definite}
 use Rattle.tlv_head.specs.declared.reader.Identifier.{Identifier}
@@ -143,3 +145,20 @@ ends_number id x r octets h e below =
       count = omega (arith, length-append octets (x ∷ []));
       few = omega (arith, length-append octets (x ∷ []));
     }
+
+-- a ninth subsequent identifier octet that is not the last
+pub ninth_number : (id : Identifier) (octets : List ℕ) (x : ℕ) → CarriesNumber id octets → 9 ≤ id.octets → 128 ≤ x → IsRefusedOctet octets x TagTooLong
+ninth_number id octets x h many flag = tag_too_long id.class id.constructed h.digits h.front.each (omega (arith, h.few, h.count)) h.front.octet flag
+
+-- a first length octet ff
+pub all_ones : (id : Identifier) (octets : List ℕ) (x : ℕ) → CarriesIdentifier id octets → x ≡ 255 → IsRefusedOctet octets x ReservedLength
+all_ones id octets x h e = reserved_length id.class id.constructed id.number h.identified e
+
+-- a first length octet 80 of a primitive
+pub unallowed : (id : Identifier) (octets : List ℕ) (x : ℕ) → CarriesIdentifier id octets → id.constructed ≡ false → x ≡ 128 → IsRefusedOctet octets x IndefinitePrimitive
+unallowed id octets x h form e = indefinite_primitive id.class id.number (subst (λ (k : Bool). IsIdentifier id.class k id.number octets) form h.identified) e
+
+-- a length octet that makes the length too large
+pub too_large : (id : Identifier) (n left : ℕ) (octets : List ℕ) (x : ℕ) → CarriesLength id n left octets → 6 ≤ left → x ≢ 0 → IsRefusedOctet octets x LengthTooLarge
+too_large id n left octets x h many nonzero =
+    length_too_large id.class id.constructed id.number h.identifier h.digits left h.front.identified h.front.each h.front.octet h.front.few many nonzero

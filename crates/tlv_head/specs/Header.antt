@@ -1,5 +1,5 @@
 -- Identifier and length octets of an element: X.690 8.1.2 and 8.1.3.
-use Rattle.std.specs.Prelude.{◌≡◌, ◌≢◌, ◌⊎◌, ℕ, ◌+◌, ◌*◌, ◌^◌, ◌<◌, ◌≤◌, Bool, true, false, not, ◌&&◌, ◌||◌, eqb, List, [], ◌∷◌, ◌++◌, length, map, All}
+use Rattle.std.specs.Prelude.{◌≡◌, ◌≢◌, ◌⊎◌, ℕ, ◌+◌, ◌*◌, ◌^◌, ◌<◌, ◌≤◌, Bool, true, false, not, ◌&&◌, ◌||◌, eqb, if◌then◌else◌, List, [], ◌∷◌, ◌++◌, length, map, All}
 use Rattle.tlv_head.specs.declared.header.Class.{Class}
 use Rattle.tlv_head.specs.declared.header.Class.TheVariants.{Universal, Application, Context, Private}
 use Rattle.tlv_head.specs.declared.header.Size.{Size}
@@ -12,14 +12,9 @@ class_bits Application = 1
 class_bits Context = 2
 class_bits Private = 3
 
--- 8.1.2.5: bit 6 of the first identifier octet, with its weight
-abbrev pub form_bit : Bool → ℕ
-form_bit true = 32
-form_bit false = 0
-
--- 8.1.2.2, 8.1.2.4.1: the first identifier octet is the class, the form in bit 6, and bits 5 to 1
+-- 8.1.2.2, 8.1.2.4.1, 8.1.2.5: the first identifier octet is the class, the form in bit 6, and bits 5 to 1
 abbrev pub leading_octet : Class → Bool → ℕ → ℕ
-leading_octet class constructed low = 64 * class_bits class + form_bit constructed + low
+leading_octet class constructed low = 64 * class_bits class + (if constructed then 32 else 0) + low
 
 -- 8.1.2.4.2 b), 8.1.3.5 b): the number that digits make, the most significant first
 abbrev pub value_of : ℕ → List ℕ → ℕ
@@ -51,10 +46,6 @@ abbrev pub IsIdentifier : Class → Bool → ℕ → List ℕ → Type 0
 IsIdentifier class constructed number octets =
     IsLowForm class constructed number octets ⊎ IsHighForm class constructed number octets
 
--- 8.1.3.4: one octet below 80
-abbrev pub IsShortForm : ℕ → List ℕ → Type 0
-IsShortForm n octets = (n < 128) × (octets ≡ n ∷ [])
-
 -- 8.1.3.5: the number of octets that follow, 1 to 126, and the length in base 256, here below 2^40
 pub record IsLongForm (n : ℕ) (octets : List ℕ) : Type 0 where
   pub digits : List ℕ
@@ -65,9 +56,9 @@ pub record IsLongForm (n : ℕ) (octets : List ℕ) : Type 0 where
   pub limit : n < 2 ^ 40
   pub octet : octets ≡ (128 + length digits) ∷ digits
 
--- 8.1.3.3, 8.1.3.6.1: length octets
+-- 8.1.3.3, 8.1.3.6.1: length octets: by 8.1.3.4 one octet below 80, or the long form
 abbrev pub IsLength : Size → List ℕ → Type 0
-IsLength (Definite n) octets = IsShortForm n octets ⊎ IsLongForm n octets
+IsLength (Definite n) octets = ((n < 128) × (octets ≡ n ∷ [])) ⊎ IsLongForm n octets
 IsLength Indefinite octets = octets ≡ 128 ∷ []
 
 -- what contracts see of a `Header`: what its octets say, where its first octet stands, and whether the
@@ -88,9 +79,8 @@ octets_of h = h.identifier ++ h.lengths
 
 -- 8.1.3.2 a): a primitive has a definite length
 abbrev pub AllowsSize : Bool → Size → Type 0
-AllowsSize true size = Unit {0}
-AllowsSize false (Definite n) = Unit {0}
 AllowsSize false Indefinite = ⊥
+AllowsSize constructed size = Unit {0}
 
 -- 8.1.2, 8.1.3: the fields are those that the octets say
 pub record IsHeading (h : Heading) : Type 0 where
@@ -105,10 +95,7 @@ announced Indefinite = 0
 
 -- 8.1.2.2 a): the class is universal
 abbrev pub is_universal : Class → Bool
-is_universal Universal = true
-is_universal Application = false
-is_universal Context = false
-is_universal Private = false
+is_universal class = eqb (class_bits class) 0
 
 -- 8.6.2, 8.7.2: a named primitive that is an OCTET STRING, or a BIT STRING of one or more contents octets:
 -- its contents are to be read as encodings

@@ -20,12 +20,12 @@ HeadersAreNoFronts = (h : Heading) → IsHeading h → IsFront (octets_of h) →
 
 -- where an octet is refused with F06 to F09, no header begins with the octets up to it, that one included
 abbrev pub RefusalsAreFinal : Type 0
-RefusalsAreFinal = (code : FaultCode) (octets : List ℕ) (x : ℕ) → IsRefusedOctet code octets x
+RefusalsAreFinal = (code : FaultCode) (octets : List ℕ) (x : ℕ) → IsRefusedOctet octets x code
     → BeginsNone (octets ++ x ∷ [])
 
 -- and no input that goes on behind them begins with a header
 abbrev pub RefusedInputsBeginWithNone : Type 0
-RefusedInputsBeginWithNone = (code : FaultCode) (octets : List ℕ) (x : ℕ) (more : List ℕ) → IsRefusedOctet code octets x
+RefusedInputsBeginWithNone = (code : FaultCode) (octets : List ℕ) (x : ℕ) (more : List ℕ) → IsRefusedOctet octets x code
     → BeginsWithNone ((octets ++ x ∷ []) ++ more)
 
 -- the octets are a header
@@ -34,7 +34,7 @@ IsWhole octets = (h : Heading) × IsHeading h × (octets_of h ≡ octets)
 
 -- the octet is refused with one of F06 to F09
 abbrev pub IsRefusable : List ℕ → ℕ → Type 0
-IsRefusable octets x = (code : FaultCode) × IsRefusedOctet code octets x
+IsRefusable octets x = (code : FaultCode) × IsRefusedOctet octets x code
 
 -- behind the front of a header an octet makes a longer front or a header, or is refused; so does a first octet other than 00
 abbrev pub OctetsGoOnOrAreRefused : Type 0

@@ -1,15 +1,29 @@
 -- What a `HeadReader` carries of the octets so far.
-use Rattle.std.specs.Prelude.{◌≡◌, ℕ, ◌+◌, ◌^◌, ◌-◌, ◌<◌, ◌≤◌, Bool, true, false, List, [], ◌∷◌, ◌++◌, length, take}
+use Rattle.std.specs.Prelude.{◌≡◌, ℕ, ◌+◌, ◌^◌, ◌-◌, ◌<◌, ◌≤◌, Bool, true, false, List, [], ◌∷◌, ◌++◌, length, take, All}
+use Rattle.tlv_head.specs.declared.header.Class.{Class}
 use Rattle.tlv_head.specs.declared.header.Size.{Size}
-use Rattle.tlv_head.specs.Header.{value_of, IsIdentifier, IsLength, AllowsSize}
+use Rattle.tlv_head.specs.Header.{AllowsSize, IsIdentifier, IsLength, flagged, leading_octet, value_of}
 use Rattle.tlv_head.specs.Progress.{Progress}
-use Rattle.tlv_head.specs.Refusal.{IsNumberFront, IsLengthFront, IsRefusedOctet}
+use Rattle.tlv_head.specs.Refusal.{IsRefusedOctet}
 use Rattle.tlv_head.specs.declared.reader.Identifier.{Identifier}
 use Rattle.tlv_head.specs.declared.reader.Part.{Part}
 use Rattle.tlv_head.specs.declared.reader.Part.TheVariants.{Start, Number, Length, Digits, Done}
 use Rattle.tlv_head.specs.declared.reader.Next.{Next}
 use Rattle.tlv_head.specs.declared.reader.Next.TheVariants.{Unfinished, Finished, Refused}
 use Rattle.tlv_head.specs.declared.reader.HeadReader.TheInside.{Inside}
+
+-- 8.1.2.4.2: the high form so far: digits, each with bit 8 set, behind the first octet
+pub record IsNumberFront (class : Class) (constructed : Bool) (digits octets : List ℕ) : Type 0 where
+  pub each : All (λ d. d < 128) digits
+  pub octet : octets ≡ leading_octet class constructed 31 ∷ flagged digits
+
+-- 8.1.3.5: identifier octets, the first length octet, and digits, of which so many are still to come
+pub record IsLengthFront (class : Class) (constructed : Bool) (number : ℕ) (identifier digits : List ℕ) (left : ℕ) (octets : List ℕ) : Type 0 where
+  pub identified : IsIdentifier class constructed number identifier
+  pub each : All (λ d. d < 256) digits
+  pub some : 1 ≤ left
+  pub few : length digits + left ≤ 126
+  pub octet : octets ≡ identifier ++ (128 + (length digits + left)) ∷ digits
 
 -- the identifier octets so far are in the high form
 pub record CarriesNumber (id : Identifier) (octets : List ℕ) : Type 0 where
@@ -71,7 +85,7 @@ pub record BeginsWithLength (octets : List ℕ) (constructed : Bool) (size : Siz
 abbrev pub Follows : List ℕ → ℕ → Next → Type 0
 Follows octets x (Unfinished part) = Carries part (octets ++ x ∷ [])
 Follows octets x (Finished id size) = MakesHeader id size (octets ++ x ∷ [])
-Follows octets x (Refused code) = IsRefusedOctet code octets x
+Follows octets x (Refused code) = IsRefusedOctet octets x code
 
 abbrev pub is_done : Part → Bool
 is_done Start = false

@@ -40,7 +40,7 @@ pub record EndsPast (r : Progress) (x : ℕ) (room : Option ℕ) (depth : ℕ) :
 abbrev pub IsRefused : FaultCode → Progress → ℕ → Option ℕ → ℕ → Type 0
 IsRefused Overrun r x room depth = (room ≡ Some 0) ⊎ ((room ≢ Some 0) × EndsPast r x room depth)
 IsRefused TooDeep r x room depth = (room ≢ Some 0) × IsTooDeep r x depth
-IsRefused code r x room depth = (room ≢ Some 0) × IsRefusedOctet code r.octets x
+IsRefused code r x room depth = (room ≢ Some 0) × IsRefusedOctet r.octets x code
 
 -- what `push` answers, and the reader that it leaves
 abbrev pub Answers : Progress → ℕ → Option ℕ → ℕ → Progress → Head → Type 0

@@ -171,10 +171,10 @@ module _ (rules : Rules) where
   few p s (Entered h inside) v =
       let i = few (place_inside p h) (inside_of s h) inside v.1 in
       let a = few-at s.level h.offset (header_findings rules s h) (OpeningLine s.level h ∷ items rules (inside_of s h) inside) 14 _ (few-header s h) i in
-      omega (arith, a, header-length h v.0.entry.header.valid, length-append (opening h) (spell inside), length-opening h)
+      omega (arith, a, header-length h v.0.0.header.valid, length-append (opening h) (spell inside), length-opening h)
   few p s (Awaiting h) v =
       let a = few-at s.level h.offset (header_findings rules s h) (OpeningLine s.level h ∷ []) 14 0 (few-header s h) (omega arith) in
-      omega (arith, a, header-length h v.entry.header.valid)
+      omega (arith, a, header-length h v.0.header.valid)
   few p s (Begun octets) v = omega arith
   few p s Zero v = omega arith
 

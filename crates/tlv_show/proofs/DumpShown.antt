@@ -217,7 +217,7 @@ module _ (style : Layout) (names : Table) (rules : Rules) where
   }
   told p holder before w outer (Fill rest) v b k =
       let s : Site = site p holder before in
-      let t = told (after p 1) holder Padding w outer rest v.1 (omega (arith, b)) (knows-padding w s k.0 (k.2 v.0.allowed), k.1, k.2) in
+      let t = told (after p 1) holder Padding w outer rest v.1 (omega (arith, b)) (knows-padding w s k.0 (k.2 v.0.0), k.1, k.2) in
       let one : (n : ℕ) → followed dump_step (start p (is_padding before) w outer n) (Pad (0 ∷ []) ∷ []) ≡ shows (start (after p 1) true w outer n) (if is_padding before then [] else padding_line (at_level style names p.depth) p.at) =
       λ n. ap (λ (d : Following Dumping). shows (pair d.state (standing rules w outer n)) d.put) (fill_told style names p.depth p.at (is_padding before) (omega (arith, b))) in
       let all = λ (n : ℕ). behind-shown p (after p 1) (is_padding before) w outer n n w holder Padding (Pad (0 ∷ []) ∷ []) (if is_padding before then [] else padding_line (at_level style names p.depth) p.at) rest refl (one n) t in
@@ -349,7 +349,7 @@ module _ (style : Layout) (names : Table) (rules : Rules) where
         text = λ n.
             ap (λ (x : Following Showing). x.put)
             (then_shown (start p (is_padding before) w outer n) (start (place_inside p h) false (frame_of h) (w ∷ outer) (behind_header rules w h n)) (first ++ line) (opens h) (events inside)
-            (opened-shown p holder before w outer n h k v.0.entry.header.offset v.0.entry.depth (omega (arith, b, size))))
+            (opened-shown p holder before w outer n h k v.0.0.header.offset v.0.0.depth (omega (arith, b, size))))
             ∙ ap (λ (l : List ℕ). (first ++ line) ++ l) (i.text (behind_header rules w h n))
             ∙ append_assoc first line (texts_of (items rules (inside_of s h) inside))
             ∙ found-first (length outer) p.depth h.offset (header_notes rules w h) (header_findings rules s h) _ (OpeningLine p.depth h ∷ items rules (inside_of s h) inside) k.1 (header-same rules w s h k.0) refl;
@@ -359,7 +359,7 @@ module _ (style : Layout) (names : Table) (rules : Rules) where
     text = λ n.
         append_assoc (all_written (Dump style.pure) (length outer) h.offset (header_notes rules w h)) (wrapper_line (at_level style names p.depth) h) []
         ∙ found-first (length outer) p.depth h.offset (header_notes rules w h) (header_findings rules (site p holder before) h) _ (OpeningLine p.depth h ∷ []) k.1 (header-same rules w (site p holder before) h k.0)
-        (ap (λ (l : List ℕ). l ++ []) (sym (awaiting p.depth h h.constructed v.lead)));
+        (ap (λ (l : List ℕ). l ++ []) (sym (awaiting p.depth h h.constructed v.1)));
     stands = λ n e. absurd (cc (e));
   }
     where

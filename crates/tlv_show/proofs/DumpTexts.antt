@@ -167,7 +167,7 @@ module _ (style : Layout) (names : Table) where
   -- inside an element there is none
   pub no_padding : (p : Place) (f : Forest) → p.padding ≡ false → IsOpen p f → padded_behind false f ≡ false
   no_padding p Stop e v = refl
-  no_padding p (Fill rest) e v = absurd (true≢false (sym v.0.allowed ∙ e))
+  no_padding p (Fill rest) e v = absurd (true≢false (sym v.0.0 ∙ e))
   no_padding p (Whole h c rest) e v = no_padding (after p (length (octets_of h) + length c)) rest e v.1
   no_padding p (Closed h inside rest) e v = no_padding (after p (extent h inside)) rest e v.2
   no_padding p (Partial h c) e v = refl

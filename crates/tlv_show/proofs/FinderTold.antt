@@ -205,7 +205,7 @@ module _ (rules : Rules) where
       → IsTold s w outer f
   told p s w outer Stop v k l d free = record { put = λ n. refl; stands = λ n e. (n, refl) }
   told p s w outer (Fill rest) v k l d free =
-      let r = told (after p 1) (behind_padding s) w outer rest v.1 (knows-padding w s k (free v.0.allowed)) l d free in
+      let r = told (after p 1) (behind_padding s) w outer rest v.1 (knows-padding w s k (free v.0.0)) l d free in
       record { put = λ n. r.put n ∙ sym (only-pads (is_padding s.before) s.level s.at (items rules (behind_padding s) rest)); stands = r.stands }
   told p s w outer (Whole h c rest) v k l d free =
       let size : length c ≡ announced h.size = sym (ap announced v.0.size) in
@@ -263,7 +263,7 @@ module _ (rules : Rules) where
   }
   told p s w outer (Entered h inside) v k l d free =
       let i = told (place_inside p h) (inside_of s h) (frame_of h) (w ∷ outer) inside v.1 (knows-inside s h) (omega (arith, l)) (omega (arith, d)) (λ e. absurd (cc (e))) in
-      let few : length outer < 128 = omega (arith, l, d, v.0.entry.depth) in
+      let few : length outer < 128 = omega (arith, l, d, v.0.0.depth) in
       record {
         put = λ n.
             ap (λ (t : Step). t.put) (opened w outer n h (events inside) few)

@@ -4,7 +4,8 @@ use Rattle.std.specs.Prelude.{Option, Some, None, Vec, Result, Ok, Err}
 use Rattle.std.specs.Io.KnownBytes.{Consumes, Keeps}
 use Rattle.std.proofs.lemmas.List.{length-take-le}
 use Rattle.tlv_walk.specs.declared.source.ReadFault.{ReadFault}
-use Rattle.tlv_walk.specs.Device.{GaveLast, Last, Pieces, ReadsOnce, Supply, counted, gave, given_in, put_together}
+use Rattle.std.specs.List.{concat}
+use Rattle.tlv_walk.specs.Device.{GaveLast, Last, Pieces, ReadsOnce, Supply, counted, gave, given_in}
 use Rattle.tlv_walk.proofs.Pieces.{Gathered, gathered_more, pieces_all, together_more}
 use Rattle.tlv_value.specs.declared.names.fault.NamesFault.{NamesFault}
 use Rattle.tlv_value.specs.declared.names.fault.NamesFault.TheVariants.{BadOid, BadName, Repeated, TooLarge, ReadFailed, Memory}
@@ -16,14 +17,14 @@ use Rattle.tlv_value.specs.NamesSteps.{ComesTo, Gives, GivesAll, result_in, tabl
 -- the octets that the reads so far gave
 pub record Given (old new : Supply) (octets : List ℕ) : Type 0 where
   pub gathered : Gathered old new
-  pub are : put_together gathered.pieces ≡ octets
+  pub are : concat gathered.pieces ≡ octets
 
 module _ (old mid new : Supply) (octets : List ℕ) (x : Given old mid octets) (most : length octets ≤ 1048576) (failures : mid.failures ≡ old.failures) (piece : List ℕ) (room : length piece ≡ 4096) where
   -- a read that failed
   pub gives_failed : {Z : Type 0} → (e : ReadFault) → ReadsOnce mid new (Err e) piece → Gives {Z = Z} old new (Err ReadFailed)
   gives_failed e r = record {
     pieces = pieces_all old mid new x.gathered [] (consumes_kept mid.left new.left r.octets) r.reads (subst (λ (l : Last). GaveLast l []) (sym r.last) refl) (omega arith);
-    gives = (r.last, subst (λ (l : List ℕ). length l ≤ 1048576) (sym (append-nil (put_together x.gathered.pieces) ∙ x.are)) most);
+    gives = (r.last, subst (λ (l : List ℕ). length l ≤ 1048576) (sym (append-nil (concat x.gathered.pieces) ∙ x.are)) most);
     failures = r.failures ∙ ap counted failures;
   }
     where
@@ -36,7 +37,7 @@ module _ (old mid new : Supply) (octets : List ℕ) (x : Given old mid octets) (
     pub r_length : length (take n piece) ≡ n
     r_length = length-take-le n piece r.bound.0
 
-    pub all_are : put_together x.gathered.pieces ++ take n piece ≡ octets ++ take n piece
+    pub all_are : concat x.gathered.pieces ++ take n piece ≡ octets ++ take n piece
     all_are = ap (λ (l : List ℕ). l ++ take n piece) x.are
 
     pub few : length (take n piece) ≤ 4096
@@ -46,7 +47,7 @@ module _ (old mid new : Supply) (octets : List ℕ) (x : Given old mid octets) (
     abbrev pub pieces_so : Pieces old new
     pieces_so = pieces_all old mid new x.gathered (take n piece) r.octets.0 r.reads (subst (λ (l : Last). GaveLast l (take n piece)) (sym r.last) (sym r_length)) few
 
-    length_all : length (put_together x.gathered.pieces ++ take n piece) ≡ length octets + n
+    length_all : length (concat x.gathered.pieces ++ take n piece) ≡ length octets + n
     length_all = ap length all_are ∙ length-append octets (take n piece) ∙ ap (λ (k : ℕ). length octets + k) r_length
 
     same_failures : new.failures ≡ old.failures

@@ -7,11 +7,11 @@ use Rattle.tlv_head.specs.Header.{AllowsSize, Heading, announced, octets_of}
 use Rattle.tlv_walk.specs.declared.stack.Frame.{Frame}
 use Rattle.tlv_walk.specs.Phase as phase
 use Rattle.tlv_walk.specs.Events.{AreEqualJoined, Told, Close, Leave, apart, closes, end_offset, events, opens}
-use Rattle.tlv_walk.specs.Forest.{Forest, Stop, Closed, contents_length, end_octets, extent, is_whole, opening, spell}
+use Rattle.tlv_walk.specs.Forest.{Forest, Stop, Closed, Zero, contents_length, end_octets, extent, is_whole, opening, spell}
 use Rattle.tlv_walk.specs.Wrappers.{enters}
 use Rattle.std.proofs.lemmas.Bool.{cases_Bool}
 use Rattle.tlv_walk.specs.Machine.{found_in, Machine}
-use Rattle.tlv_walk.specs.Place.{Fits, HasLength, IsEntry, IsZero, Place, after, bound_in, is_indefinite}
+use Rattle.tlv_walk.specs.Place.{Fits, HasLength, IsEntry, IsOpen, Place, after, bound_in, is_indefinite}
 use Rattle.tlv_walk.specs.Stack.{IsFilled, IsInIndefinite, Within, bound_of, innermost_of}
 use Rattle.tlv_walk.specs.Tells.{Continues}
 use Rattle.tlv_walk.specs.State.{AreWhole, HasState, Layer, Tail, Between, InEnd, State, ending_of, events_layers, events_tail, frame_of, frames_of, place_in, place_of, spell_layers, spell_tail}
@@ -89,13 +89,13 @@ closes_indefinite h here n k s e =
     ap (λ (c : Bool). if c then Close (end_offset h.size (h.offset + length (opening h) + length (spell here))) else Leave) k
     ∙ ap (λ (t : Size). Close (end_offset t (h.offset + length (opening h) + length (spell here)))) s ∙ ap (λ (m : ℕ). Close (Some m)) e
 
-second_from : (w : Machine) (b : List ℕ) (told : List Told) (s : State) (ls : List Layer) → HasState w b told (with_layers s ls InEnd) → IsZero (place_of w.framing (with_layers s ls InEnd))
+second_from : (w : Machine) (b : List ℕ) (told : List Told) (s : State) (ls : List Layer) → HasState w b told (with_layers s ls InEnd) → IsOpen (place_of w.framing (with_layers s ls InEnd)) Zero
     → Within (bound_of w.stack) (w.offset + 1)
     → (t : State) × HasState (record w { stack = drop 1 w.stack; phase = phase.Between; offset = w.offset + 1; events = w.events + 1 }) (b ++ 0 ∷ []) (told ++ Close (Some (w.offset - 1)) ∷ []) t
-second_from w b told s [] has zero room = absurd (true≢false (sym zero.indefinite))
+second_from w b told s [] has zero room = absurd (true≢false (sym zero.0))
 second_from w b told s (l ∷ ls) has zero room =
     let p : Place = after (place_in w.framing ls) (length (spell l.before)) in
-    let size : l.head.size ≡ Indefinite = size_indefinite l.head.size zero.indefinite in
+    let size : l.head.size ≡ Indefinite = size_indefinite l.head.size zero.0 in
     let at : w.offset ≡ (place_of w.framing (with_layers s (l ∷ ls) InEnd)).at + 1 = place-offset w b told _ has in
     let head : l.head.offset ≡ p.at = has.layers.2.header.offset in
     let k : l.head.constructed ≡ true = constructed_indefinite l.head.constructed l.head.size size has.layers.2.header.valid.allowed in

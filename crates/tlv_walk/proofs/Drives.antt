@@ -15,7 +15,8 @@ use Rattle.tlv_walk.specs.declared.run.DeviceFault.TheVariants.{ReadFailed, Writ
 use Rattle.tlv_walk.specs.declared.run.Run.{Run}
 use Rattle.tlv_walk.specs.declared.run.Turn.{Turn}
 use Rattle.tlv_walk.specs.declared.run.Turn.TheVariants.{Again, Ended}
-use Rattle.tlv_walk.specs.Device.{GaveLast, Last, Supply, Taken, failed, failures_after, gave, never, put_together}
+use Rattle.std.specs.List.{concat}
+use Rattle.tlv_walk.specs.Device.{GaveLast, Last, Supply, Taken, failed, failures_after, gave, never}
 use Rattle.tlv_walk.specs.Drives.{Drives, had_enough, octets_told, run_of, walk}
 use Rattle.tlv_walk.specs.Events.{AreEqualJoined, Told, Open, Begin, Bytes, End, Close, Enter, Unused, Leave, Pad, events}
 use Rattle.tlv_walk.specs.Follow.{Following, GoesOn, Joins, Rests, followed, followed_events}
@@ -89,13 +90,13 @@ module _ {S : Type 0} (next : S → Told → Following S) where
   -- the walk so far: the octets given, the events told of them, and what was made of these
   pub record Walking (framing : Framing) (w : Machine) (s t : S) (old new : Supply) (from to : Taken) : Type 0 where
     pub gathered : Gathered old new
-    pub octets : AreOctets (put_together gathered.pieces)
+    pub octets : AreOctets (concat gathered.pieces)
     pub failures : new.failures ≡ old.failures
     pub told : List Told
     pub made : Made next s t told go.On
     pub sends : Sends {T = ⊤} {E = DeviceFault} from to (followed next s told).put (Ok tt)
     pub same : w.framing ≡ framing
-    pub stands : Stands w (put_together gathered.pieces) told
+    pub stands : Stands w (concat gathered.pieces) told
     pub quiet : waiting_of w ≡ []
 
   pub walking_none : (framing : Framing) (s : S) (old : Supply) (from : Taken) → Stands (new_machine framing) [] [] → Walking framing (new_machine framing) s s old old from from
@@ -162,7 +163,7 @@ module _ {S : Type 0} (next : S → Told → Following S)
 
   module _ (framing : Framing) (limit : ℕ) (w : Machine) (s t : S) (old mid : Supply) (from at : Taken) (x : Walking next framing w s t old mid from at) where
     abbrev before : List ℕ
-    before = put_together x.gathered.pieces
+    before = concat x.gathered.pieces
 
     first_reading : IsReading framing before x.stands.reading
     first_reading = subst (λ (g : Framing). IsReading g before x.stands.reading) x.same x.stands.is_reading

@@ -11,7 +11,7 @@ use Rattle.tlv_walk.specs.declared.framing.Framing.{Framing}
 use Rattle.tlv_walk.specs.Forest.{Forest, has_element, is_whole, spell}
 use Rattle.tlv_walk.specs.Place.{top}
 use Rattle.tlv_walk.specs.Reading.{IsReading, IsSoundList}
-use Rattle.tlv_walk.specs.Ending.{IsEnding, IsFaultAt, done, empty, fault, refused, short, tip}
+use Rattle.tlv_walk.specs.Ending.{IsEnding, IsFault, done, empty, fault, refused, short, tip}
 use Rattle.tlv_walk.proofs.Push.{Spells}
 use Rattle.tlv_walk.proofs.Readings.{Run, Going, Halted, IsHalt, IsRun, halt-longer, halt-longest, is-run, run, run-reading, unique}
 use Rattle.tlv_walk.proofs.Spellings.{front-same}
@@ -46,7 +46,7 @@ going-ending w f b r =
     ]
 
 -- an octet that is refused gives an ending, whatever follows
-pub halt-ending : (w : Framing) (f : Forest) (code : FaultCode) (b : List ℕ) → (r : IsHalt w f code b) → IsFaultAt (tip (top w) f) r.octet code → IsEnding w b (fault code (length (spell f)))
+pub halt-ending : (w : Framing) (f : Forest) (code : FaultCode) (b : List ℕ) → (r : IsHalt w f code b) → IsFault (tip (top w) f).0 r.octet (tip (top w) f).1 code → IsEnding w b (fault code (length (spell f)))
 halt-ending w f code b r k = refused f r.octet r.rest code (run-reading w (Halted f code) b r) r.front k
 
 -- a right run has the ending that it gives
@@ -74,7 +74,7 @@ IsEarly code = (code ≡ Empty) ⊎ (code ≡ Short)
 pub record IsRefused (w : Framing) (b : List ℕ) (code : FaultCode) (offset : ℕ) : Type 0 where
   pub forest : Forest
   pub halt : IsHalt w forest code b
-  pub fault : IsFaultAt (tip (top w) forest) halt.octet code
+  pub fault : IsFault (tip (top w) forest).0 halt.octet (tip (top w) forest).1 code
   pub there : offset ≡ length (spell forest)
 
 -- what an ending says

@@ -7,10 +7,10 @@ use Rattle.tlv_head.specs.Refusal.{IsFront}
 use Rattle.tlv_walk.specs.declared.stack.Frame.{Frame}
 use Rattle.tlv_walk.specs.Phase as phase
 use Rattle.tlv_walk.specs.Events.{AreEqualJoined, Told, Open, Begin, Bytes, Enter, Unused, apart, events, opens}
-use Rattle.tlv_walk.specs.Forest.{Forest, Stop, lead, opening, spell}
+use Rattle.tlv_walk.specs.Forest.{Forest, Stop, Awaiting, lead, opening, spell}
 use Rattle.tlv_walk.specs.Inside.{is_among}
 use Rattle.tlv_walk.specs.Machine.{Machine, behind_header}
-use Rattle.tlv_walk.specs.Place.{Fits, IsAwaiting, IsEntry, IsHeadAt, Place}
+use Rattle.tlv_walk.specs.Place.{Fits, IsEntry, IsHeadAt, IsOpen, Place}
 use Rattle.tlv_walk.specs.Stack.{Within, bound_of}
 use Rattle.tlv_walk.specs.State.{HasState, IsPhaseOf, Layer, Tail, Between, InContents, BeforeUnused, InHeader, InEnd, State, events_layers, events_tail, frame_of, frames_of, place_in, place_of, spell_layers, spell_tail}
 use Rattle.tlv_walk.specs.Tells.{Continues}
@@ -171,7 +171,7 @@ lead_state w b told s r t h k at c e one = record {
   stack = ap (λ (fs : List Frame). frame_of (place_of w.framing s) h ∷ fs) at.stack;
   layers = at.has.layers;
   here = at.has.here;
-  phase = record { entry = entry_at w b told s r t h at c e; lead = one };
+  phase = (entry_at w b told s r t h at c e, one);
   told_of = told_behind told s.layers s.here [] (Enter h ∷ []) (Enter h ∷ []) (quiet_told w b told s r at) refl;
   element = refl;
 }
@@ -191,20 +191,20 @@ lead_primitive : (k n : Bool) → lead_by k n ≡ 0 ∷ [] → k ≡ false
 lead_primitive true n e = absurd (cc)
 lead_primitive false n e = refl
 
-unused_state : (w : Machine) (b : List ℕ) (told : List Told) (s : State) (h : Heading) → HasState w b told (with_tail s (BeforeUnused h)) → IsAwaiting (place_of w.framing s) h
+unused_state : (w : Machine) (b : List ℕ) (told : List Told) (s : State) (h : Heading) → HasState w b told (with_tail s (BeforeUnused h)) → IsOpen (place_of w.framing s) (Awaiting h)
     → HasState (record w { phase = phase.Between; offset = w.offset + 1; events = w.events + 1 }) (b ++ 0 ∷ []) (told ++ Unused ∷ [])
     (record { layers = record { before = s.here; head = h } ∷ s.layers; here = Stop; tail = Between })
 unused_state w b told s h has a =
-    let k : h.constructed ≡ false = lead_primitive h.constructed (eqb h.number 3) a.lead in
+    let k : h.constructed ≡ false = lead_primitive h.constructed (eqb h.number 3) a.1 in
     record {
-      spelled = layer_spelled s.layers s.here h (octets_of h) (0 ∷ []) b (ap (λ (l : List ℕ). octets_of h ++ l) (sym a.lead)) has.spelled;
+      spelled = layer_spelled s.layers s.here h (octets_of h) (0 ∷ []) b (ap (λ (l : List ℕ). octets_of h ++ l) (sym a.1)) has.spelled;
       offset = omega (arith, has.offset, length-append b (0 ∷ []));
       stack = has.stack;
-      layers = (has.layers, has.here, a.entry);
+      layers = (has.layers, has.here, a.0);
       here = record { is_open = tt; whole = refl };
       phase = tt;
       told_of = layer_told told s.layers s.here h (Enter h ∷ []) (Unused ∷ [])
-          (ap (λ (c : Bool). (if c then Open h else Enter h) ∷ map (λ z. Unused) (lead h)) k ∙ ap (λ (l : List ℕ). Enter h ∷ map (λ z. Unused) l) a.lead) has.told_of;
+          (ap (λ (c : Bool). (if c then Open h else Enter h) ∷ map (λ z. Unused) (lead h)) k ∙ ap (λ (l : List ℕ). Enter h ∷ map (λ z. Unused) l) a.1) has.told_of;
       element = has.element;
     }
 
@@ -236,11 +236,11 @@ front_state w b told s r q t at o f n some front fits =
         refl,
         place,
         n ∙ at.named ∙ ap (λ (m : ℕ). is_among m w.framing.inside) at.offset ∙ ap (λ (ns : List ℕ). is_among (place_of w.framing s).at ns) (sym (place-inside w.framing s.layers)),
-        record {
-          some = some;
-          front = front;
-          fits = subst (λ (m : ℕ). Within (place_in w.framing s.layers).bound (m + length q.octets)) place (subst (λ (x : Option ℕ). Within x (q.offset + length q.octets)) bound fits);
-        },
+        (
+          some,
+          front,
+          subst (λ (m : ℕ). Within (place_in w.framing s.layers).bound (m + length q.octets)) place (subst (λ (x : Option ℕ). Within x (q.offset + length q.octets)) bound fits),
+        ),
       );
       told_of = told_behind told s.layers s.here [] [] [] (quiet_told w b told s r at) refl;
       element = refl;

@@ -3,26 +3,32 @@ use Rattle.std.proofs.Common.{◌≡◌, ◌≢◌, ℕ, List, ◌∷◌, ◌++�
 use Rattle.tlv_head.specs.declared.fault.Fault.{Fault as FaultOf}
 use Rattle.tlv_head.specs.declared.fault.FaultCode.{FaultCode}
 use Rattle.tlv_head.specs.declared.fault.FaultCode.TheVariants.{Empty}
+use Rattle.tlv_head.specs.Refusal.{IsRefusedOctet, tag_too_long, reserved_length, indefinite_primitive, length_too_large}
 use Rattle.tlv_walk.specs.declared.ending.Ending.{Ending}
 use Rattle.tlv_walk.specs.declared.ending.Ending.TheVariants.{Done, Fault}
 use Rattle.tlv_walk.specs.declared.framing.Framing.{Framing}
-use Rattle.tlv_walk.specs.Ending.{IsEnding, IsFault, OpenEnd, bad_inside, missing_end, bad_end, no_room, tag_too_long, reserved_length, indefinite_primitive, length_too_large, too_deep, overrun, no_end, stray_end, done, empty, refused, short}
+use Rattle.tlv_walk.specs.Ending.{IsEnding, IsFault, bad_inside, missing_end, bad_end, no_room, refused_octet, too_deep, overrun, no_end, stray_end, done, empty, refused, short}
+use Rattle.tlv_walk.specs.Forest.{Forest}
 use Rattle.tlv_walk.specs.Laws.{IsFinal}
 use Rattle.tlv_walk.specs.Place.{Place}
 use Rattle.tlv_walk.proofs.Endings.{offset_in}
 
+-- no cause in the octets of a header is that the input ends too early
+octet-final : (o : List ℕ) (x : ℕ) (code : FaultCode) → IsRefusedOctet o x code → IsFinal code
+octet-final o x code (tag_too_long c k ds a b d e) = (λ z. cc, λ z. cc)
+octet-final o x code (reserved_length c k n i e) = (λ z. cc, λ z. cc)
+octet-final o x code (indefinite_primitive c n i e) = (λ z. cc, λ z. cc)
+octet-final o x code (length_too_large c k n i ds l a b d e f g) = (λ z. cc, λ z. cc)
+
 -- none of the causes is that the input ends too early
-cause-final : (p : Place) (x : ℕ) (e : OpenEnd) (code : FaultCode) → IsFault p x e code → IsFinal code
+cause-final : (p : Place) (x : ℕ) (e : Forest) (code : FaultCode) → IsFault p x e code → IsFinal code
 cause-final p x e code (bad_inside n) = (λ z. cc, λ z. cc)
 cause-final p x e code (missing_end a) = (λ z. cc, λ z. cc)
 cause-final p x e code (bad_end a n) = (λ z. cc, λ z. cc)
 cause-final p x e code (no_room a) = (λ z. cc, λ z. cc)
-cause-final p x e code (tag_too_long a r) = (λ z. cc, λ z. cc)
-cause-final p x e code (reserved_length a r) = (λ z. cc, λ z. cc)
-cause-final p x e code (indefinite_primitive a r) = (λ z. cc, λ z. cc)
-cause-final p x e code (length_too_large a r) = (λ z. cc, λ z. cc)
-cause-final p x e code (too_deep a h c k d) = (λ z. cc, λ z. cc)
-cause-final p x e code (overrun a h c k d) = (λ z. cc, λ z. cc)
+cause-final p x e code (refused_octet a r) = octet-final _ x code r
+cause-final p x e code (too_deep a h c o d) = (λ z. cc, λ z. cc)
+cause-final p x e code (overrun a h c o k d) = (λ z. cc, λ z. cc)
 cause-final p x e code (no_end i a) = (λ z. cc, λ z. cc)
 cause-final p x e code (stray_end i a z) = (λ z. cc, λ z. cc)
 

@@ -117,6 +117,6 @@ push-brings p (Closed h inside rest) x w =
     subst (λ (es : List Told). Brings (es ++ gained p (Closed h inside rest) x) (push p (Closed h inside rest) x)) (sym (split rest)) brings
 push-brings p (Partial h c) x w = partial-brings h c x
 push-brings p (Entered h inside) x w = settle-brings h (events inside) _ _ (push-brings (inside_of p h) inside x w.1)
-push-brings p (Awaiting h) x w = awaiting-brings h x w.lead
+push-brings p (Awaiting h) x w = awaiting-brings h x w.1
 push-brings p (Begun o) x w = step-brings (push p (Begun o) x)
 push-brings p Zero x w = zero-brings (fits p 2) (eqb x 0)

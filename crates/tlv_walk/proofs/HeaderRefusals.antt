@@ -1,23 +1,24 @@
 -- What is refused behind octets of a header is a fault, whatever follows.
-use Rattle.std.proofs.Common.{◌≡◌, ◌≢◌, inl, inr, ℕ, ◌+◌, ◌<◌, ◌≤◌, Bool, false, List, [], ◌∷◌, ◌++◌, length, Option, Some, None, refl, sym, ap, ◌∙◌, subst, arith, append-nil, length-append}
+use Rattle.std.proofs.Common.{◌≡◌, ◌≢◌, inl, inr, ℕ, ◌+◌, ◌<◌, ◌≤◌, Bool, true, false, List, [], ◌∷◌, ◌++◌, length, Option, Some, None, refl, sym, ap, ◌∙◌, subst, arith, append-nil, length-append}
 use Rattle.tlv_head.specs.declared.fault.Fault.{Fault}
 use Rattle.tlv_head.specs.declared.fault.FaultCode.{FaultCode}
 use Rattle.tlv_head.specs.declared.fault.FaultCode.TheVariants.{Empty, Short, StrayEnd, BadEnd, MissingEnd, TagTooLong, ReservedLength, IndefinitePrimitive, LengthTooLarge, TooDeep, Overrun, BadInside}
 use Rattle.tlv_head.specs.declared.header.Class.{Class}
 use Rattle.tlv_head.specs.declared.header.Size.{Size}
 use Rattle.tlv_head.specs.declared.header.Size.TheVariants.{Definite, Indefinite}
-use Rattle.tlv_head.specs.Header.{Heading, IsIdentifier, announced, octets_of}
+use Rattle.tlv_head.specs.Header.{Heading, IsIdentifier, announced, holds, octets_of}
+use Rattle.tlv_head.specs.Refusal.{IsRefusedOctet, tag_too_long, reserved_length, indefinite_primitive, length_too_large}
 use Rattle.tlv_head.specs.Progress.{Fits, Progress}
 use Rattle.tlv_head.specs.Push.{Completes, IsRefused}
 use Rattle.tlv_head.proofs.Front.{header-two}
 use Rattle.tlv_walk.specs.declared.stack.Frame.{Frame}
 use Rattle.tlv_walk.specs.Phase as phase
-use Rattle.tlv_walk.specs.Ending as open_end
-use Rattle.tlv_walk.specs.Ending.{BelowBound, Completed, IsEnding, IsFault, fault, indefinite_primitive, length_too_large, no_room, overrun, reserved_length, tag_too_long, too_deep}
+use Rattle.tlv_walk.specs.Ending.{IsEnding, IsFault, fault, no_room, overrun, refused_octet, too_deep}
+use Rattle.tlv_walk.specs.Forest.{Begun}
 use Rattle.tlv_walk.specs.Events.{Told}
 use Rattle.tlv_walk.specs.Inside.{is_among}
 use Rattle.tlv_walk.specs.Machine.{Machine}
-use Rattle.tlv_walk.specs.Place.{Place}
+use Rattle.tlv_walk.specs.Place.{Fits as FitsAt, IsHeadAt, Place}
 use Rattle.tlv_walk.specs.ReadsOn.{HandsOver}
 use Rattle.tlv_walk.specs.Stack.{Within, bound_of, left_to}
 use Rattle.tlv_walk.specs.State.{HasState, InHeader, State, place_of}
@@ -25,7 +26,7 @@ use Rattle.tlv_walk.specs.Tells.{RefusesOctet}
 use Rattle.tlv_walk.proofs.HeaderSteps.{HasTaken, TakenState, in_header, taken_state}
 use Rattle.tlv_walk.proofs.Moves.{phase_at, with_tail}
 use Rattle.tlv_walk.proofs.Places.{place-bound, place-depth}
-use Rattle.tlv_walk.proofs.Refusals.{at_bound, below_bound}
+use Rattle.tlv_walk.proofs.Refusals.{left_none, left_some}
 use Rattle.tlv_walk.proofs.StateEndings.{state-fault}
 
 -- ---- where there is room, a reader without octets refuses none
@@ -42,31 +43,29 @@ completes-two r x h c e =
     let one : octets_of h ≡ x ∷ [] = c.octets ∙ ap (λ (o : List ℕ). o ++ x ∷ []) e in
     omega (arith, ap length one)
 
+-- what is refused for the octets of a header has octets before it
+refused-behind : (o : List ℕ) (x : ℕ) (code : FaultCode) → IsRefusedOctet o x code → o ≡ [] → ⊥
+refused-behind o x code (tag_too_long c k ds each eight octets flag) e = let z : [] ≡ _ ∷ _ = sym e ∙ octets in absurd (cc)
+refused-behind o x code (reserved_length c k n i ones) e = identifier-nil c k n o i e
+refused-behind o x code (indefinite_primitive c n i mark) e = identifier-nil c false n o i e
+refused-behind o x code (length_too_large c k n i ds left id each octets few many nonzero) e =
+    omega (arith, ap length (sym e ∙ octets), length-append i ((128 + (length ds + left)) ∷ ds))
+
 -- so a refusal has octets before it, or no room
 pub refused-some : (code : FaultCode) (r : Progress) (x : ℕ) (room : Option ℕ) (depth : ℕ) → IsRefused code r x room depth → room ≢ Some 0 → r.octets ≡ [] → ⊥
 refused-some Overrun r x room depth (inl none) some e = some none
 refused-some Overrun r x room depth (inr past) some e = completes-two r x past.1.head past.1.completes e
 refused-some TooDeep r x room depth k some e = completes-two r x k.1.head k.1.completes e
-refused-some TagTooLong r x room depth k some e = let z : [] ≡ _ ∷ _ = sym e ∙ k.1.front.octet in absurd (cc)
-refused-some ReservedLength r x room depth k some e = identifier-nil k.1.front.class k.1.constructed k.1.front.number r.octets k.1.front.identifier e
-refused-some IndefinitePrimitive r x room depth k some e = identifier-nil k.1.front.class false k.1.front.number r.octets k.1.front.identifier e
-refused-some LengthTooLarge r x room depth k some e =
-    omega (arith, ap length (sym e ∙ k.1.front.octet), length-append k.1.identifier ((128 + (length k.1.digits + k.1.left)) ∷ k.1.digits))
-refused-some Empty r x room depth k some e = k.1
-refused-some Short r x room depth k some e = k.1
-refused-some StrayEnd r x room depth k some e = k.1
-refused-some BadEnd r x room depth k some e = k.1
-refused-some MissingEnd r x room depth k some e = k.1
-refused-some BadInside r x room depth k some e = k.1
+refused-some code r x room depth k some e = refused-behind r.octets x code k.1 e
 
 -- ---- what a reader refuses is a fault there
 
 -- the contents end past the bound
-past_bound : (size : Size) (b : Option ℕ) (n : ℕ) → left_to b n ≢ Some 0 → (Fits size (left_to b n) → ⊥) → (m : ℕ) × (b ≡ Some m) × (m < n + 1 + announced size)
-past_bound (Definite k) None n some past = absurd (past tt)
-past_bound Indefinite None n some past = absurd (past tt)
-past_bound (Definite k) (Some m) n some past = (m, refl, omega (arith, past))
-past_bound Indefinite (Some m) n some past = (m, refl, omega (arith, past))
+past_bound : (size : Size) (b : Option ℕ) (n m : ℕ) → (Fits size (left_to b n) → ⊥) → n + 1 + announced size ≤ m → Within b m → ⊥
+past_bound (Definite k) None n m past h f = past tt
+past_bound Indefinite None n m past h f = past tt
+past_bound (Definite k) (Some b) n m past h f = past (omega arith)
+past_bound Indefinite (Some b) n m past h f = past (omega arith)
 
 -- where a reader stands
 pub record IsReader (p : Place) (q : Progress) (room : Option ℕ) (depth : ℕ) : Type 0 where
@@ -77,34 +76,27 @@ pub record IsReader (p : Place) (q : Progress) (room : Option ℕ) (depth : ℕ)
   pub within : Within p.bound (p.at + length q.octets)
 
 -- a header that its octets make
-completed_there : (p : Place) (q : Progress) (room : Option ℕ) (depth x : ℕ) (h : Heading) → IsReader p q room depth → Completes q x h → Completed p (q.octets ++ x ∷ []) h
-completed_there p q room depth x h k c = record { spelled = record { valid = c.valid; octets = c.octets }; named = c.named ∙ k.named }
+header_there : (p : Place) (q : Progress) (room : Option ℕ) (depth x : ℕ) (h : Heading) (t : Bool) → holds h ≡ t → IsReader p q room depth → Completes q x h → IsHeadAt p t h
+header_there p q room depth x h t e k c = record { valid = c.valid; offset = c.offset ∙ k.offset; named = c.named ∙ k.named; form = e }
 
 -- there is room
-below_there : (p : Place) (q : Progress) (room : Option ℕ) (depth : ℕ) → IsReader p q room depth → room ≢ Some 0 → BelowBound p (length q.octets)
-below_there p q room depth k some = below_bound p.bound (p.at + length q.octets) (λ e. some (k.left ∙ e))
+room_there : (p : Place) (q : Progress) (room : Option ℕ) (depth : ℕ) → IsReader p q room depth → room ≢ Some 0 → FitsAt p (length q.octets + 1)
+room_there p q room depth k some = left_some p.bound (p.at + length q.octets) (p.at + (length q.octets + 1)) (λ e. some (k.left ∙ e)) (omega arith)
 
 -- each cause of a reader is a line of the faults
-pub refused_fault : (p : Place) (q : Progress) (room : Option ℕ) (depth x : ℕ) (code : FaultCode) → IsReader p q room depth → IsRefused code q x room depth → IsFault p x (open_end.InHeader q.octets) code
-refused_fault p q room depth x Overrun k (inl none) = no_room (at_bound p.bound (p.at + length q.octets) k.within (sym k.left ∙ none))
+pub refused_fault : (p : Place) (q : Progress) (room : Option ℕ) (depth x : ℕ) (code : FaultCode) → IsReader p q room depth → IsRefused code q x room depth → IsFault p x (Begun q.octets) code
+refused_fault p q room depth x Overrun k (inl none) =
+    no_room (left_none p.bound (p.at + length q.octets) (p.at + (length q.octets + 1)) (sym k.left ∙ none) (omega arith))
 refused_fault p q room depth x Overrun k (inr past) =
     let h : Heading = past.1.head in
-    let some : left_to p.bound (p.at + length q.octets) ≢ Some 0 = λ e. past.0 (k.left ∙ e) in
-    let m = past_bound h.size p.bound (p.at + length q.octets) some (λ f. past.1.past (subst (Fits h.size) (sym k.left) f)) in
-    overrun (below_there p q room depth k past.0) h (completed_there p q room depth x h k past.1.completes) (λ e. subst (λ (n : ℕ). n < 128) k.depths (past.1.shallow e))
-    (record { bound = m.0; is_bound = m.1; past = omega (arith, m.2, ap length past.1.completes.octets, length-append q.octets (x ∷ [])) })
+    overrun (room_there p q room depth k past.0) h (header_there p q room depth x h (holds h) refl k past.1.completes) past.1.completes.octets
+    (λ e. subst (λ (n : ℕ). n < 128) k.depths (past.1.shallow e))
+    (past_bound h.size p.bound (p.at + length q.octets) _ (λ f. past.1.past (subst (Fits h.size) (sym k.left) f))
+    (omega (arith, ap length past.1.completes.octets, length-append q.octets (x ∷ []))))
 refused_fault p q room depth x TooDeep k f =
-    too_deep (below_there p q room depth k f.0) f.1.head (completed_there p q room depth x f.1.head k f.1.completes) f.1.holding (subst (λ (n : ℕ). 128 ≤ n) k.depths f.1.deep)
-refused_fault p q room depth x TagTooLong k f = tag_too_long (below_there p q room depth k f.0) f.1
-refused_fault p q room depth x ReservedLength k f = reserved_length (below_there p q room depth k f.0) f.1
-refused_fault p q room depth x IndefinitePrimitive k f = indefinite_primitive (below_there p q room depth k f.0) f.1
-refused_fault p q room depth x LengthTooLarge k f = length_too_large (below_there p q room depth k f.0) f.1
-refused_fault p q room depth x Empty k f = absurd f.1
-refused_fault p q room depth x Short k f = absurd f.1
-refused_fault p q room depth x StrayEnd k f = absurd f.1
-refused_fault p q room depth x BadEnd k f = absurd f.1
-refused_fault p q room depth x MissingEnd k f = absurd f.1
-refused_fault p q room depth x BadInside k f = absurd f.1
+    too_deep (room_there p q room depth k f.0) f.1.head (header_there p q room depth x f.1.head true f.1.holding k f.1.completes) f.1.completes.octets
+    (subst (λ (n : ℕ). 128 ≤ n) k.depths f.1.deep)
+refused_fault p q room depth x code k f = refused_octet (room_there p q room depth k f.0) f.1
 
 -- ---- a walker refuses it
 
@@ -120,7 +112,7 @@ reader_there w b told s q depth e has d =
       named = at.2;
       depths = d ∙ ap length has.stack ∙ sym (place-depth w.framing s.layers);
       left = ap (λ (o : Option ℕ). left_to o (q.offset + length q.octets)) bound ∙ ap (λ (n : ℕ). left_to p.bound (n + length q.octets)) at.1;
-      within = at.3.fits;
+      within = at.3.2;
     }
 
 -- the octet that its reader refuses
@@ -142,7 +134,7 @@ refuses_header w u r q before after rest x depth at f over k e within place deep
           let same : u.stack ≡ w.stack = ap (λ (m : Machine). m.stack) t.same in
           let left : left_to (bound_of u.stack) at ≡ left_to (bound_of w.stack) (q.offset + length q.octets) =
           ap (λ (fs : List Frame). left_to (bound_of fs) at) same ∙ ap (left_to (bound_of w.stack)) (sym place) in
-          let faulty : IsFault (place_of w.framing t.state) x (open_end.InHeader q.octets) f.code =
+          let faulty : IsFault (place_of w.framing t.state) x (Begun q.octets) f.code =
           refused_fault _ q _ depth x f.code (reader_there (in_header w q) (b ++ k.taken) told t.state q depth refl has' (deep ∙ ap length same))
           (subst (λ (o : Option ℕ). IsRefused f.code q x o depth) left refused) in (
             in_header w q,

@@ -45,7 +45,7 @@ handed_front : (w u : Machine) (r : Progress) → HandsOver w u r → (b : List 
 handed_front w u r (inl h) b told s has some =
     let a = at_front w b told s r has h.0 in
     let at : IsPhaseOf (phase.InHeader r) (InHeader a.0) (place_of w.framing s) = phase_at w b told _ _ h.0 a.1.has in
-    subst IsFront (sym at.0) at.3.front
+    subst IsFront (sym at.0) at.3.1
 handed_front w u r (inr h) b told s has some = absurd (some h.0.none)
 
 -- ---- octets that a reader takes

@@ -10,7 +10,8 @@ use Rattle.tlv_walk.specs.declared.framing.Framing.{Framing}
 use Rattle.tlv_walk.specs.declared.run.DeviceFault.{DeviceFault}
 use Rattle.tlv_walk.specs.declared.run.DeviceFault.TheVariants.{ReadFailed, WriteFailed, InputTooLong}
 use Rattle.tlv_walk.specs.declared.run.Run.{Run}
-use Rattle.tlv_walk.specs.Device.{Supply, Taken, before_in, gave, given_in}
+use Rattle.std.specs.List.{concat}
+use Rattle.tlv_walk.specs.Device.{Supply, Taken, gave, given_in}
 use Rattle.tlv_walk.specs.Drives.{Drives, had_enough, run_of, walk}
 use Rattle.tlv_walk.specs.Events.{Told, events}
 use Rattle.tlv_walk.specs.Follow.{Following, followed, goes_of}
@@ -56,7 +57,7 @@ module _ {S A : Type 0} (next : S → Told → Following S) (job : Job A) (s : S
       let same = enough (take job.limit given) w.reading (within_limit given) w.is_reading in record {
         pieces = w.pieces;
         failures = w.failures;
-        sound = sound_as (before_in w.pieces) w.within w.sound;
+        sound = sound_as (concat w.pieces.pieces) w.within w.sound;
         within = w.within;
         reading = w.reading;
         is_reading = w.is_reading;
@@ -74,7 +75,7 @@ module _ {S A : Type 0} (next : S → Told → Following S) (job : Job A) (s : S
       let w = x.runs in record {
         pieces = w.pieces;
         failures = w.failures;
-        sound = sound_as (before_in w.pieces) w.within w.sound;
+        sound = sound_as (concat w.pieces.pieces) w.within w.sound;
         within = w.within;
         reading = w.reading;
         is_reading = w.is_reading;
@@ -85,7 +86,7 @@ module _ {S A : Type 0} (next : S → Told → Following S) (job : Job A) (s : S
       let w = x.runs in record {
         pieces = w.pieces;
         failures = w.failures;
-        sound = sound_as (before_in w.pieces) w.within w.sound;
+        sound = sound_as (concat w.pieces.pieces) w.within w.sound;
         within = w.within;
         reading = w.reading;
         is_reading = w.is_reading;
@@ -96,7 +97,7 @@ module _ {S A : Type 0} (next : S → Told → Following S) (job : Job A) (s : S
       let w = x.runs in record {
         pieces = w.pieces;
         failures = w.failures;
-        sound = sound_as (before_in w.pieces) w.within w.sound;
+        sound = sound_as (concat w.pieces.pieces) w.within w.sound;
         within = w.within;
         reading = w.reading;
         is_reading = w.is_reading;

@@ -212,7 +212,7 @@ zero_state w b told s l ls has e f = record {
   stack = has.stack;
   layers = has.layers;
   here = has.here;
-  phase = record { indefinite = ap is_indefinite e; fits = f };
+  phase = (ap is_indefinite e, f);
   told_of = told_behind told (l ∷ ls) s.here [] [] [] has.told_of refl;
   element = has.element;
 }

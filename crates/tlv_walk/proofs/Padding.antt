@@ -38,7 +38,7 @@ element-fills (x ∷ t) = element-fills t
 
 open-fills : (p : Place) (t : List ℕ) → p.padding ≡ true → p.indefinite ≡ false → p.bound ≡ None → IsOpen p (fills t)
 open-fills p [] a d n = tt
-open-fills p (x ∷ t) a d n = (record { allowed = a; definite = d; fits = rw n tt }, open-fills (after p 1) t a d n)
+open-fills p (x ∷ t) a d n = ((a, d, rw n tt), open-fills (after p 1) t a d n)
 
 or-false : (k : Bool) → (k || false) ≡ k
 or-false true = refl

@@ -4,7 +4,8 @@ use Rattle.std.proofs.lemmas.List.Elements.{All-nil, All-push}
 use Rattle.std.proofs.KnownBytes.{Consumes-nil, Consumes-trans}
 use Rattle.std.specs.Prelude.{All}
 use Rattle.std.specs.Io.KnownBytes.{Consumes}
-use Rattle.tlv_walk.specs.Device.{GaveLast, IsPiece, Pieces, Supply, counted, put_together}
+use Rattle.std.specs.List.{concat}
+use Rattle.tlv_walk.specs.Device.{GaveLast, IsPiece, Pieces, Supply, counted}
 
 -- a count after so many more
 abbrev pub counted_by : ℕ → ℕ → ℕ
@@ -16,9 +17,9 @@ counted-all zero r = refl
 counted-all (suc n) r = ap counted (counted-all n r) ∙ omega arith
 
 -- pieces, and one more
-pub together_more : (pieces : List (List ℕ)) (r : List ℕ) → put_together (pieces ++ r ∷ []) ≡ put_together pieces ++ r
+pub together_more : (pieces : List (List ℕ)) (r : List ℕ) → concat (pieces ++ r ∷ []) ≡ concat pieces ++ r
 together_more [] r = append-nil r
-together_more (p ∷ pieces) r = ap (λ (l : List ℕ). p ++ l) (together_more pieces r) ∙ sym (append_assoc p (put_together pieces) r)
+together_more (p ∷ pieces) r = ap (λ (l : List ℕ). p ++ l) (together_more pieces r) ∙ sym (append_assoc p (concat pieces) r)
 
 pub count_more : (pieces : List (List ℕ)) (r : List ℕ) → length (pieces ++ r ∷ []) ≡ suc (length pieces)
 count_more [] r = refl
@@ -29,14 +30,14 @@ pub record Gathered (old new : Supply) : Type 0 where
   pub pieces : List (List ℕ)
   pub each : All IsPiece pieces
   pub reads : new.reads ≡ counted_by (length pieces) old.reads
-  pub consumed : Consumes old.left new.left (put_together pieces)
+  pub consumed : Consumes old.left new.left (concat pieces)
 
 abbrev pub gathered_none : (old : Supply) → Gathered old old
 gathered_none old = record { pieces = []; each = All-nil IsPiece; reads = refl; consumed = Consumes-nil old.left }
 
 module _ (old mid new : Supply) (x : Gathered old mid) (r : List ℕ) (consumed : Consumes mid.left new.left r) (read : new.reads ≡ counted mid.reads) where
-  pub all_consumed : Consumes old.left new.left (put_together x.pieces ++ r)
-  all_consumed = Consumes-trans old.left mid.left new.left (put_together x.pieces) r x.consumed consumed
+  pub all_consumed : Consumes old.left new.left (concat x.pieces ++ r)
+  all_consumed = Consumes-trans old.left mid.left new.left (concat x.pieces) r x.consumed consumed
 
   -- one read more
   abbrev pub gathered_more : IsPiece r → Gathered old new

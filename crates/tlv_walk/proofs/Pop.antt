@@ -8,7 +8,7 @@ use Rattle.tlv_head.specs.Header.{Heading, IsHeading, IsIdentifier, IsLength, an
 use Rattle.tlv_head.specs.Refusal.{IsFront}
 use Rattle.tlv_head.proofs.Scan.{Origin, Scan, Fresh, High, Named, Long, Ready, Stuck, Over, origin_of, scan, scan_from-append, scan-header, is_more, more-from_front}
 use Rattle.tlv_walk.specs.Forest.{Forest, Stop, Fill, Whole, Closed, Partial, Entered, Awaiting, Begun, Zero, contents_length, end_octets, extent, is_whole, lead, opening, spell}
-use Rattle.tlv_walk.specs.Place.{Fits, IsClosed, IsEntry, IsFill, IsHeadAt, IsOpen, IsPartial, IsWhole, LacksOctets, Place, after, inside_of, is_indefinite}
+use Rattle.tlv_walk.specs.Place.{Fits, IsClosed, IsEntry, IsHeadAt, IsOpen, IsPartial, IsWhole, LacksOctets, Place, after, inside_of, is_indefinite}
 use Rattle.tlv_walk.proofs.Bounds.{IsEndless, IsFull, definite-length, fits-inside, fits-within, has_length, indefinite-endless, lacks-length, lead-zero, length-full, within-lacks, within-le}
 use Rattle.tlv_walk.proofs.Spellings.{append_assoc-3, append_assoc-4, length-closed, length-opening, length-whole}
 use Rattle.tlv_walk.proofs.Push.{Grown, Ended, begin, begun, begun-sound, complete, entered, entered-sound, follow, is_filled, opened, origin, partial, push, reaches, settle}
@@ -95,11 +95,11 @@ header-popped p h k header d f = elim (back (octets_of h)) [
       record {
         from = Begun o;
         last = x;
-        is_open = record {
-          some = λ z. omega (arith, ap length z);
-          front = record { head = h; more = x ∷ []; valid = header.valid; proper = λ z. omega (arith, ap length z); front = sym e };
-          fits = within-le p.bound _ _ (omega arith) f;
-        };
+        is_open = (
+          λ z. omega (arith, ap length z),
+          record { head = h; more = x ∷ []; valid = header.valid; proper = λ z. omega (arith, ap length z); front = sym e },
+          within-le p.bound _ _ (omega arith) f,
+        );
         spelled = (begun-sound p h k header d f).spelled ∙ e;
         pushed = push-header p h o x header.valid (header-origin p k h header) e (within-le p.bound _ _ (omega arith) f)
             ∙ complete-begun p h k header.form d f;
@@ -120,7 +120,7 @@ lead-popped p h (x ∷ xs) e entry =
     record {
       from = Awaiting h;
       last = 0;
-      is_open = record { entry = entry; lead = one };
+      is_open = (entry, one);
       spelled = (entered-sound p h Stop entry tt).spelled ∙ append-nil (opening h) ∙ ap (λ (t : List ℕ). octets_of h ++ t) one;
       pushed = refl;
     }
@@ -193,7 +193,7 @@ settled p h inside g entry w (inl stop) same spelled =
 settled p h inside g entry w (inr q) same spelled = record {
   from = Entered h q.from;
   last = q.last;
-  is_open = (record { entry = entry; lacks = λ _. lacks-before p h q.from inside q.last entry w q.spelled }, q.is_open);
+  is_open = ((entry, λ _. lacks-before p h q.from inside q.last entry w q.spelled), q.is_open);
   spelled = spelled ∙ ap (λ (t : List ℕ). opening h ++ t) q.spelled ∙ sym (append_assoc (opening h) (spell q.from) (q.last ∷ []));
   pushed = ap (settle h) q.pushed ∙ ap Grown same;
 }
@@ -219,8 +219,8 @@ record IsZeroed (p : Place) (f g : Forest) : Type 0 where
 -- whole elements in an element of indefinite length are so
 is-zeroed : (p : Place) (f : Forest) → IsOpen p f → is_whole f ≡ true → p.indefinite ≡ true → Fits p (length (spell f) + 2) → IsZeroed p f (zeroed f)
 is-zeroed p Stop w whole i f =
-    record { is_open = record { indefinite = i; fits = within-le p.bound _ _ (omega arith) f }; spelled = refl; pushed = rw (fits-within p.bound (p.at + 2) f) }
-is-zeroed p (Fill rest) w whole i f = absurd (true≢false (sym i ∙ w.0.definite))
+    record { is_open = (i, within-le p.bound _ _ (omega arith) f); spelled = refl; pushed = rw (fits-within p.bound (p.at + 2) f) }
+is-zeroed p (Fill rest) w whole i f = absurd (true≢false (sym i ∙ w.0.1))
 is-zeroed p (Whole h c rest) w whole i f =
     let r : IsZeroed (after p (length (octets_of h) + length c)) rest (zeroed rest) =
     is-zeroed (after p (length (octets_of h) + length c)) rest w.1 whole i
@@ -256,10 +256,7 @@ endless-popped p h inside i w v =
       from = Entered h (zeroed inside);
       last = 0;
       is_open = (
-        record {
-          entry = record { header = w.header; depth = w.depth; fits = within-le p.bound _ _ (omega (arith, e.none, length-opening h)) w.fits };
-          lacks = λ _. e.lacks _;
-        },
+        (record { header = w.header; depth = w.depth; fits = within-le p.bound _ _ (omega (arith, e.none, length-opening h)) w.fits }, λ _. e.lacks _),
         r.is_open,
       );
       spelled = ap (λ (t : List ℕ). opening h ++ (spell inside ++ (t ++ []))) e.ends
@@ -299,24 +296,24 @@ front-popped p [] x front f =
 front-popped p (y ∷ o) x front f = record {
   from = Begun (y ∷ o);
   last = x;
-  is_open = record {
-    some = λ z. omega (arith, ap length z);
-    front = record {
+  is_open = (
+    λ z. omega (arith, ap length z),
+    record {
       head = front.head;
       more = x ∷ front.more;
       valid = front.valid;
       proper = λ z. omega (arith, ap length z);
       front = sym (append_assoc (y ∷ o) (x ∷ []) front.more) ∙ front.front;
-    };
-    fits = within-le p.bound _ _ (omega (arith, length-append (y ∷ o) (x ∷ []))) f;
-  };
+    },
+    within-le p.bound _ _ (omega (arith, length-append (y ∷ o) (x ∷ []))) f,
+  );
   spelled = refl;
   pushed = push-front p (y ∷ o) x front (within-le p.bound _ _ (omega (arith, length-append (y ∷ o) (x ∷ []))) f);
 }
 
 -- padding is popped
-fill-popped : (p : Place) → IsFill p → Popped p (Fill Stop)
-fill-popped p w = record { from = Stop; last = 0; is_open = tt; spelled = refl; pushed = rw (fits-within p.bound (p.at + 1) w.fits, w.definite, w.allowed) }
+fill-popped : (p : Place) → IsOpen p (Fill Stop) → Popped p (Fill Stop)
+fill-popped p w = record { from = Stop; last = 0; is_open = tt; spelled = refl; pushed = rw (fits-within p.bound (p.at + 1) w.0.2, w.0.1, w.0.0) }
 
 -- what follows an element is popped: so are both
 followed : (p q : Place) (f : Forest → Forest) (o : List ℕ) (rest : Forest) → (r : Popped q rest) → IsOpen p (f r.from) → ((g : Forest) → spell (f g) ≡ o ++ spell g)
@@ -333,7 +330,7 @@ followed p q f o rest r w spelled pushed = record {
 pub pop : (p : Place) (g : Forest) → IsOpen p g → (g ≡ Stop) ⊎ Popped p g
 pop p Stop w = inl refl
 pop p (Fill rest) w = inr (elim (pop (after p 1) rest w.1) [
-  | inl e ↦ rw e (fill-popped p w.0)
+  | inl e ↦ rw e (fill-popped p (w.0, tt))
   | inr r ↦ followed p (after p 1) Fill (0 ∷ []) rest r (w.0, r.is_open) (λ g. refl) (λ x. refl)
 ])
 pop p (Whole h c rest) w = inr (elim (pop (after p (length (octets_of h) + length c)) rest w.1) [
@@ -346,10 +343,10 @@ pop p (Closed h inside rest) w = inr (elim (pop (after p (extent h inside)) rest
       (λ g. sym (append_assoc-3 (opening h) (spell inside) (end_octets h.size) (spell g))) (λ x. refl)
 ])
 pop p (Partial h c) w = inr (partial-popped p h c w)
-pop p (Entered h inside) w = inr (settled p h inside (Entered h inside) w.0.entry w.1 (pop (inside_of p h) inside w.1) (lacking-entered h inside w.0.lacks) refl)
-pop p (Awaiting h) w = inr (opened-popped p h (0 ∷ []) w.lead w.entry)
+pop p (Entered h inside) w = inr (settled p h inside (Entered h inside) w.0.0 w.1 (pop (inside_of p h) inside w.1) (lacking-entered h inside w.0.1) refl)
+pop p (Awaiting h) w = inr (opened-popped p h (0 ∷ []) w.1 w.0)
 pop p (Begun o) w = inr (elim (back o) [
-  | is_nil e ↦ absurd (w.some e)
-  | is_push ys y e ↦ rw e (front-popped p ys y (rw e at w.front) (rw e at w.fits))
+  | is_nil e ↦ absurd (w.0 e)
+  | is_push ys y e ↦ rw e (front-popped p ys y (rw e at w.1) (rw e at w.2))
 ])
-pop p Zero w = inr (record { from = Stop; last = 0; is_open = tt; spelled = refl; pushed = rw (fits-within p.bound (p.at + 1) w.fits, w.indefinite) })
+pop p Zero w = inr (record { from = Stop; last = 0; is_open = tt; spelled = refl; pushed = rw (fits-within p.bound (p.at + 1) w.1, w.0) })

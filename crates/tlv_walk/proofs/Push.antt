@@ -11,7 +11,7 @@ use Rattle.tlv_head.proofs.Scan.{Origin, Scan, Fresh, High, Named, Long, Ready, 
 use Rattle.tlv_head.proofs.Meaning.{Reads, reads-step, reads-scan, front-from_more, front-bytes}
 use Rattle.tlv_walk.specs.Forest.{Forest, Stop, Fill, Whole, Closed, Partial, Entered, Awaiting, Begun, Zero, contents_length, end_octets, extent, is_whole, lead, opening, spell}
 use Rattle.tlv_walk.specs.Inside.{is_among}
-use Rattle.tlv_walk.specs.Place.{Fits, IsAwaiting, IsClosed, IsEntry, IsFill, IsHeadAt, IsOpen, IsPartial, IsWhole, LacksOctets, Place, after, inside_of}
+use Rattle.tlv_walk.specs.Place.{Fits, IsClosed, IsEntry, IsHeadAt, IsOpen, IsPartial, IsWhole, LacksOctets, Place, after, inside_of}
 use Rattle.tlv_walk.proofs.Bounds.{IsEndless, IsFull, fits, fits-inside, has_length, indefinite-endless, lead-zero, length-full, length-lacks, within-fits, within-le, within-outside}
 use Rattle.tlv_walk.proofs.Spellings.{append_assoc-3, append_assoc-4, length-closed, length-opening, length-whole}
 
@@ -125,7 +125,7 @@ reaches-entered p h inside f g =
 -- an open forest ends within the bound
 pub reaches : (p : Place) (f : Forest) → Fits p 0 → IsOpen p f → Fits p (length (spell f))
 reaches p Stop z w = z
-reaches p (Fill rest) z w = within-le p.bound _ _ (omega arith) (reaches (after p 1) rest (within-le p.bound _ _ (omega arith) w.0.fits) w.1)
+reaches p (Fill rest) z w = within-le p.bound _ _ (omega arith) (reaches (after p 1) rest (within-le p.bound _ _ (omega arith) w.0.2) w.1)
 reaches p (Whole h c rest) z w =
     within-le p.bound _ _ (omega (arith, length-whole h c rest))
     (reaches (after p (length (octets_of h) + length c)) rest (within-le p.bound _ _ (omega arith) w.0.fits) w.1)
@@ -134,10 +134,10 @@ reaches p (Closed h inside rest) z w =
     (reaches (after p (extent h inside)) rest (within-le p.bound _ _ (omega arith) w.0.fits) w.2)
 reaches p (Partial h c) z w = within-le p.bound _ _ (omega (arith, length-append (octets_of h) c, w.fewer)) w.fits
 reaches p (Entered h inside) z w =
-    reaches-entered p h inside w.0.entry.fits (reaches (inside_of p h) inside (fits-inside p h w.0.entry.header.form w.0.entry.fits) w.1)
-reaches p (Awaiting h) z w = within-le p.bound _ _ (omega arith) w.entry.fits
-reaches p (Begun o) z w = w.fits
-reaches p Zero z w = w.fits
+    reaches-entered p h inside w.0.0.fits (reaches (inside_of p h) inside (fits-inside p h w.0.0.header.form w.0.0.fits) w.1)
+reaches p (Awaiting h) z w = within-le p.bound _ _ (omega arith) w.0.fits
+reaches p (Begun o) z w = w.2
+reaches p Zero z w = w.1
 
 -- 8.1.3.2 a): the length of a primitive is definite
 definite-primitive : (constructed : Bool) (s : Size) → constructed ≡ false → AllowsSize constructed s → (n : ℕ) × (s ≡ Definite n)
@@ -204,7 +204,7 @@ entered-sound p h g entry w = elim (cases_Bool (is_filled h g)) [
       rw e (closed-sound p h g entry w parts.0 (length-full h.size _ parts.1))
   | inr e ↦
       let there : Fits (inside_of p h) (length (spell g)) = reaches (inside_of p h) g (fits-inside p h entry.header.form entry.fits) w in
-      rw e (record { is_open = (record { entry = entry; lacks = λ whole. unfilled-lacks p h g e whole there }, w); spelled = refl })
+      rw e (record { is_open = ((entry, λ whole. unfilled-lacks p h g e whole there), w); spelled = refl })
 ]
 
 -- an element that holds none yet
@@ -213,7 +213,7 @@ opened-sound p h [] e entry =
     let r : Spells p (opening h ++ []) (entered h Stop) = entered-sound p h Stop entry tt in
     let none : opening h ++ [] ≡ octets_of h = append-nil (opening h) ∙ ap (λ (t : List ℕ). octets_of h ++ t) e ∙ append-nil (octets_of h) in
     record { is_open = r.is_open; spelled = r.spelled ∙ none }
-opened-sound p h (x ∷ xs) e entry = record { is_open = record { entry = entry; lead = lead-zero h x xs e }; spelled = refl }
+opened-sound p h (x ∷ xs) e entry = record { is_open = (entry, lead-zero h x xs e); spelled = refl }
 
 -- a header where one may stand is an open forest
 pub begun-sound : (p : Place) (h : Heading) (k : Bool) → IsHeadAt p k h → (k && leb 128 p.depth) ≡ false → Fits p (length (octets_of h) + announced h.size)
@@ -238,7 +238,7 @@ complete-sound p h valid at =
 
 -- the front of a header
 front-sound : (p : Place) (o : List ℕ) → o ≢ [] → IsFront o → Fits p (length o) → Spells p o (Begun o)
-front-sound p o some front f = record { is_open = record { some = some; front = front; fits = f }; spelled = refl }
+front-sound p o some front f = record { is_open = (some, front, f); spelled = refl }
 
 -- octets of a header, by what they say
 begin-sound : (p : Place) (o : List ℕ) (s : Scan) → Reads (origin p) s o → o ≢ [] → Fits p (length o) → IsStep p o (begin p o s)
@@ -265,8 +265,8 @@ front-step p o x h front = elim (cases_Bool (fits p (length o + 1))) [
 
 -- an octet 00 between encodings
 zero-sound : (p : Place) (i a : Bool) → p.indefinite ≡ i → p.padding ≡ a → Fits p 1 → IsStep p (0 ∷ []) (zero_between i a)
-zero-sound p true a e d f = record { is_open = record { indefinite = e; fits = f }; spelled = refl }
-zero-sound p false true e d f = record { is_open = (record { allowed = d; definite = e; fits = f }, tt); spelled = refl }
+zero-sound p true a e d f = record { is_open = (e, f); spelled = refl }
+zero-sound p false true e d f = record { is_open = ((d, e, f), tt); spelled = refl }
 zero-sound p false false e d f = tt
 
 -- between encodings
@@ -299,18 +299,18 @@ partial-step p h c x w =
     (partial-sound p h (c ++ x ∷ []) w.announces w.header w.size (omega (arith, length-append c (x ∷ []), w.fewer)) w.fits)
 
 -- before the first contents octet of a wrapping BIT STRING
-awaiting-step : (p : Place) (h : Heading) (x : ℕ) → IsAwaiting p h → IsStep p (octets_of h ++ x ∷ []) (push p (Awaiting h) x)
+awaiting-step : (p : Place) (h : Heading) (x : ℕ) → IsOpen p (Awaiting h) → IsStep p (octets_of h ++ x ∷ []) (push p (Awaiting h) x)
 awaiting-step p h x w = elim (cases_eq x 0) [
   | inl z ↦
-      let r : Spells p (opening h ++ []) (entered h Stop) = entered-sound p h Stop w.entry tt in
-      rw (eq-eqb x 0 z, z) (record { is_open = r.is_open; spelled = r.spelled ∙ append-nil (opening h) ∙ ap (λ (t : List ℕ). octets_of h ++ t) w.lead })
+      let r : Spells p (opening h ++ []) (entered h Stop) = entered-sound p h Stop w.0 tt in
+      rw (eq-eqb x 0 z, z) (record { is_open = r.is_open; spelled = r.spelled ∙ append-nil (opening h) ∙ ap (λ (t : List ℕ). octets_of h ++ t) w.1 })
   | inr nz ↦ rw (ne_eqb x 0 nz) tt
 ]
 
 -- a step of what follows padding
-fill-step : (p : Place) (o : List ℕ) (s : Step) → IsFill p → IsStep (after p 1) o s → IsStep p (0 ∷ o) (follow Fill s)
+fill-step : (p : Place) (o : List ℕ) (s : Step) → (p.padding ≡ true) × (p.indefinite ≡ false) × Fits p 1 → IsStep (after p 1) o s → IsStep p (0 ∷ o) (follow Fill s)
 fill-step p o (Grown g) w r = record { is_open = (w, r.is_open); spelled = ap (λ (t : List ℕ). 0 ∷ t) r.spelled }
-fill-step p o (Ended g) w r = absurd (true≢false (sym r.indefinite ∙ w.definite))
+fill-step p o (Ended g) w r = absurd (true≢false (sym r.indefinite ∙ w.1))
 fill-step p o (Refused code) w r = tt
 
 -- a step of what follows a primitive
@@ -376,7 +376,7 @@ push-sound p (Closed head inside rest) x h w =
 push-sound p (Partial head c) x h w = partial-step p head c x w
 push-sound p (Entered head inside) x h w =
     rw (append_assoc (opening head) (spell inside) (x ∷ []))
-    (entered-step p head _ _ w.0.entry (push-sound (inside_of p head) inside x h w.1))
+    (entered-step p head _ _ w.0.0 (push-sound (inside_of p head) inside x h w.1))
 push-sound p (Awaiting head) x h w = awaiting-step p head x w
-push-sound p (Begun o) x h w = front-step p o x h w.front
-push-sound p Zero x h w = zero-step p x w.indefinite
+push-sound p (Begun o) x h w = front-step p o x h w.1
+push-sound p Zero x h w = zero-step p x w.0

@@ -1,5 +1,5 @@
 -- What a walker refuses is a fault, whatever follows.
-use Rattle.std.proofs.Common.{◌≡◌, ◌≢◌, inl, inr, ℕ, ◌+◌, ◌-◌, ◌≤◌, get_or, drop, Bool, true, false, List, [], ◌∷◌, ◌++◌, length, Option, Some, None, refl, sym, ap, ◌∙◌, subst, arith, append-nil}
+use Rattle.std.proofs.Common.{◌≡◌, ◌≢◌, inl, inr, ℕ, ◌+◌, ◌-◌, ◌<◌, ◌≤◌, get_or, drop, Bool, true, false, List, [], ◌∷◌, ◌++◌, length, Option, Some, None, refl, sym, ap, ◌∙◌, subst, arith, append-nil}
 use Rattle.std.proofs.lemmas.Bool.{cases_Bool}
 use Rattle.tlv_head.specs.declared.fault.FaultCode.{FaultCode}
 use Rattle.tlv_head.specs.declared.fault.FaultCode.TheVariants.{StrayEnd, BadEnd, MissingEnd, BadInside}
@@ -16,16 +16,18 @@ use Rattle.tlv_walk.specs.Tells.{RefusesOctet}
 use Rattle.tlv_walk.proofs.Entering.{lead_tail}
 use Rattle.tlv_walk.proofs.Moves.{between_tail, lone_tail, phase_at, tail_state, with_tail}
 use Rattle.tlv_walk.proofs.Places.{place-bound, place-offset}
-use Rattle.tlv_walk.proofs.StateEndings.{state-fault}
-use Rattle.tlv_walk.proofs.Zipper.{open_end_of, place-indefinite}
+use Rattle.tlv_walk.proofs.StateEndings.{forest_of, state-fault}
+use Rattle.tlv_walk.proofs.Zipper.{place-indefinite}
 
--- no octets are left to the bound, which is reached
-pub at_bound : (b : Option ℕ) (n : ℕ) → Within b n → left_to b n ≡ Some 0 → b ≡ Some n
-at_bound None n w e = absurd (cc)
-at_bound (Some m) n w e = let z : m - n ≡ 0 = cc in ap Some (omega arith)
+-- where no octet is left to the bound, an octet more passes it
+pub left_none : (b : Option ℕ) (n m : ℕ) → left_to b n ≡ Some 0 → n < m → Within b m → ⊥
+left_none None n m e h f = absurd (cc)
+left_none (Some k) n m e h f = let z : k - n ≡ 0 = cc in omega arith
 
-pub below_bound : (b : Option ℕ) (n : ℕ) → (left_to b n ≡ Some 0 → ⊥) → b ≡ Some n → ⊥
-below_bound b n f e = f (ap (λ (x : Option ℕ). left_to x n) e ∙ ap Some (omega arith))
+-- where room is left an octet more does not
+pub left_some : (b : Option ℕ) (n m : ℕ) → (left_to b n ≡ Some 0 → ⊥) → m ≤ n + 1 → Within b m
+left_some None n m f h = tt
+left_some (Some k) n m f h = let apart : k - n ≡ 0 → ⊥ = λ z. f (ap Some z) in omega arith
 
 -- no event waits in that phase
 pub idle_at : (w : Machine) (f : Phase) → w.phase ≡ f → (IsWaitingIn f w.stack w.offset → ⊥) → IsWaiting w → ⊥
@@ -41,7 +43,7 @@ refuses_front w piece f h r = subst (λ (o : List ℕ). RefusesOctet w o o f) (s
 
 -- an octet that has a fault in each state of a walker is refused
 pub refuses_here : (w : Machine) (x : ℕ) (rest : List ℕ) (code : FaultCode) → (IsWaiting w → ⊥)
-    → ((b : List ℕ) (told : List Told) (s : State) → HasState w b told s → (t : State) × HasState w b told t × IsFault (place_of w.framing t) x (open_end_of t.tail) code)
+    → ((b : List ℕ) (told : List Told) (s : State) → HasState w b told s → (t : State) × HasState w b told t × IsFault (place_of w.framing t) x (forest_of t.tail) code)
     → RefusesOctet w (x ∷ rest) (x ∷ rest) (fault_at code w.offset)
 refuses_here w x rest code idle faulty = (
   [],
@@ -73,10 +75,10 @@ refuses_missing w x rest e unfilled inside within room = refuses_here w x rest M
     let t = between_tail s.tail _ (phase_at w b told s _ e has) in
     let has' : HasState w b told (with_tail s Between) = tail_state w b told s _ t has in
     let place : w.offset ≡ (place_of w.framing (with_tail s Between)).at + 0 = place-offset w b told _ has' in
-    let bound : (place_of w.framing (with_tail s Between)).bound ≡ Some w.offset = sym (bound_there w b told _ has' has'.stack) ∙ at_bound (bound_of w.stack) w.offset within room in (
+    let none : left_to (place_of w.framing (with_tail s Between)).bound w.offset ≡ Some 0 = subst (λ (o : Option ℕ). left_to o w.offset ≡ Some 0) (bound_there w b told _ has' has'.stack) room in (
       with_tail s Between,
       has',
-      no_end ((place-indefinite w.framing s.layers).1 (subst IsInIndefinite has'.stack inside)) (bound ∙ ap Some place),
+      no_end ((place-indefinite w.framing s.layers).1 (subst IsInIndefinite has'.stack inside)) (left_none _ w.offset _ none (omega (arith, place))),
     ))
 
 -- 00 where no end-of-contents octets can stand, and no padding
@@ -114,7 +116,8 @@ refuses_second_missing w x rest e within room = refuses_here w x rest MissingEnd
     let t = lone_tail s.tail _ (phase_at w b told s _ e has) in
     let has' : HasState w b told (with_tail s InEnd) = tail_state w b told s _ t has in
     let place : w.offset ≡ (place_of w.framing (with_tail s InEnd)).at + 1 = place-offset w b told _ has' in
-    (with_tail s InEnd, has', missing_end (sym (bound_there w b told _ has' has'.stack) ∙ at_bound (bound_of w.stack) w.offset within room ∙ ap Some place)))
+    let none : left_to (place_of w.framing (with_tail s InEnd)).bound w.offset ≡ Some 0 = subst (λ (o : Option ℕ). left_to o w.offset ≡ Some 0) (bound_there w b told _ has' has'.stack) room in
+    (with_tail s InEnd, has', missing_end (left_none _ w.offset _ none (omega (arith, place)))))
 
 pub refuses_second : (w : Machine) (x : ℕ) (rest : List ℕ) → w.phase ≡ phase.InEnd → (room_of w.stack w.offset ≡ Some 0 → ⊥) → x ≢ 0
     → RefusesOctet w (x ∷ rest) (x ∷ rest) (fault_at BadEnd w.offset)
@@ -124,7 +127,7 @@ refuses_second w x rest e room nonzero = refuses_here w x rest BadEnd (idle_at w
     let place : w.offset ≡ (place_of w.framing (with_tail s InEnd)).at + 1 = place-offset w b told _ has' in (
       with_tail s InEnd,
       has',
-      bad_end (λ at. below_bound (bound_of w.stack) w.offset room (bound_there w b told _ has' has'.stack ∙ at ∙ ap Some (sym place))) nonzero,
+      bad_end (left_some _ w.offset _ (λ none. room (subst (λ (o : Option ℕ). left_to o w.offset ≡ Some 0) (sym (bound_there w b told _ has' has'.stack)) none)) (omega (arith, place))) nonzero,
     ))
 
 -- the first contents octet of a wrapping BIT STRING

@@ -31,7 +31,7 @@ fits-contents p h inside same f =
 pub sound-open : (p : Place) (f : Forest) → (p.padding ≡ true → p.indefinite ≡ false) → Fits p (length (spell f)) → IsSound p f → IsOpen p f
 sound-open p Stop d z s = tt
 sound-open p (Fill rest) d z s = (
-  record { allowed = s.0; definite = d s.0; fits = within-le p.bound _ _ (omega arith) z },
+  (s.0, d s.0, within-le p.bound _ _ (omega arith) z),
   sound-open (after p 1) rest d (within-le p.bound _ _ (omega arith) z) s.1,
 )
 sound-open p (Whole h c rest) d z s = (
@@ -53,7 +53,7 @@ sound-open p Zero d z s = absurd s
 -- an open forest in which nothing is open is sound
 pub open-sound : (p : Place) (f : Forest) → IsOpen p f → is_whole f ≡ true → IsSound p f
 open-sound p Stop w t = tt
-open-sound p (Fill rest) w t = (w.0.allowed, open-sound (after p 1) rest w.1 t)
+open-sound p (Fill rest) w t = (w.0.0, open-sound (after p 1) rest w.1 t)
 open-sound p (Whole h c rest) w t = (w.0.header, w.0.size, open-sound (after p (length (octets_of h) + length c)) rest w.1 t)
 open-sound p (Closed h inside rest) w t =
     (w.0.header, w.0.filled, w.0.depth, open-sound (inside_of p h) inside w.1 w.0.whole, open-sound (after p (extent h inside)) rest w.2 t)

@@ -7,7 +7,7 @@ use Rattle.tlv_walk.specs.declared.framing.Framing.{Framing}
 use Rattle.tlv_walk.specs.declared.stack.Frame.{Frame}
 use Rattle.tlv_walk.specs.Phase.{Phase}
 use Rattle.tlv_walk.specs.Phase as phase
-use Rattle.tlv_walk.specs.Ending.{IsEnding, IsFault, IsFaultAt, Tip, done, empty, fault, short, tip}
+use Rattle.tlv_walk.specs.Ending.{IsEnding, IsFault, done, empty, fault, short, tip}
 use Rattle.tlv_walk.specs.Events.{Told}
 use Rattle.tlv_walk.specs.Forest.{Forest, Stop, Partial, Awaiting, Begun, Zero, has_element, is_whole, spell}
 use Rattle.tlv_walk.specs.Machine.{IsReady, IsReadyIn, IsWaiting, IsWaitingIn, Machine}
@@ -19,7 +19,7 @@ use Rattle.tlv_walk.proofs.Push.{Spells}
 use Rattle.tlv_walk.proofs.Readings.{IsHalt}
 use Rattle.tlv_walk.proofs.Settled.{end_in, settled-within}
 use Rattle.tlv_walk.proofs.StateReading.{contents-less, place_behind, state-offset, state-reading, state-spells}
-use Rattle.tlv_walk.proofs.Zipper.{behind, behind-none, open_end_of, reading_in, reading_of, tip-behind, tip-within, whole-behind, whole-within, within}
+use Rattle.tlv_walk.proofs.Zipper.{behind, behind-none, reading_in, reading_of, tip-behind, tip-within, whole-behind, whole-within, within}
 
 -- what is open behind the whole elements, as a forest: of a primitive, one that lacks contents octets
 abbrev pub forest_of : Tail → Forest
@@ -65,7 +65,7 @@ ready-waits w = ready-waits-in w.phase w.stack w.offset where
 -- ---- the open end
 
 -- what is open behind the whole elements is the open end
-tip-tail : (p : Place) (t : Tail) → tip p (forest_of t) ≡ record { place = p; open_end = open_end_of t }
+tip-tail : (p : Place) (t : Tail) → tip p (forest_of t) ≡ (p, forest_of t)
 tip-tail p Between = refl
 tip-tail p (InContents h c) = refl
 tip-tail p (BeforeUnused h) = refl
@@ -74,7 +74,7 @@ tip-tail p InEnd = refl
 
 -- the open end of the reading is that of the state
 pub state-tip : (w : Machine) (b : List ℕ) (told : List Told) (s : State) → HasState w b told s → (IsWaiting w → ⊥)
-    → tip (top w.framing) (reading_of s) ≡ record { place = place_of w.framing s; open_end = open_end_of s.tail }
+    → tip (top w.framing) (reading_of s) ≡ (place_of w.framing s, forest_of s.tail)
 state-tip w b told s h n =
     ap (λ (f : Forest). tip (top w.framing) f) (state-within w b told s h n)
     ∙ tip-within w.framing s.layers (behind s.here (forest_of s.tail)) h.layers
@@ -83,10 +83,10 @@ state-tip w b told s h n =
 
 -- an octet with a fault of the list at the open end gives the ending, whatever follows
 pub state-fault : (w : Machine) (b : List ℕ) (told : List Told) (s : State) (x : ℕ) (rest : List ℕ) (code : FaultCode) → HasState w b told s → (IsWaiting w → ⊥)
-    → IsFault (place_of w.framing s) x (open_end_of s.tail) code → IsEnding w.framing (b ++ x ∷ rest) (fault code (length b))
+    → IsFault (place_of w.framing s) x (forest_of s.tail) code → IsEnding w.framing (b ++ x ∷ rest) (fault code (length b))
 state-fault w b told s x rest code h n k =
     let r : Spells (top w.framing) b (reading_of s) = state-spells w b told s h in
-    let there : IsFaultAt (tip (top w.framing) (reading_of s)) x code = subst (λ (t : Tip). IsFaultAt t x code) (sym (state-tip w b told s h n)) k in
+    let there : IsFault (tip (top w.framing) (reading_of s)).0 x (tip (top w.framing) (reading_of s)).1 code = subst (λ (t : Place × Forest). IsFault t.0 x t.1 code) (sym (state-tip w b told s h n)) k in
     let halt : IsHalt w.framing (reading_of s) code (b ++ x ∷ rest) =
     record { is_open = r.is_open; octet = x; rest = rest; front = ap (λ (o : List ℕ). o ++ x ∷ rest) r.spelled; refused = fault-refused w.framing (reading_of s) x code r.is_open there } in
     subst (λ (o : List ℕ). IsEnding w.framing (b ++ x ∷ rest) (fault code (length o))) r.spelled (halt-ending w.framing (reading_of s) code (b ++ x ∷ rest) halt there)

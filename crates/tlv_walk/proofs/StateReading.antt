@@ -10,7 +10,7 @@ use Rattle.tlv_walk.specs.Phase as phase
 use Rattle.tlv_walk.specs.Events.{Told, AreEqualJoined, Begin, Bytes, End, apart, events}
 use Rattle.tlv_walk.specs.Forest.{Forest, Stop, Whole, Partial, Awaiting, Begun, Zero, is_whole, spell}
 use Rattle.tlv_walk.specs.Machine.{Machine, new_machine, found_in}
-use Rattle.tlv_walk.specs.Place.{IsAwaiting, IsBegun, IsOpen, IsPartial, IsZero, Place, after, top}
+use Rattle.tlv_walk.specs.Place.{IsOpen, IsPartial, Place, after, top}
 use Rattle.tlv_walk.specs.Reading.{IsReading}
 use Rattle.tlv_walk.specs.State.{AreLayers, AreWhole, HasState, IsContents, IsPhaseOf, Layer, Tail, Between, InContents, BeforeUnused, InHeader, InEnd, Stands, State, endings_at, events_layers, events_state, events_tail, frames_of, place_in, place_of, spell_layers, spell_state, spell_tail, stack_of, waiting_in, waiting_of, wrappers_layers, wrappers_state, wrappers_tail}
 use Rattle.tlv_walk.specs.Inside.{CanName}
@@ -106,9 +106,9 @@ contents-less p h c left i n =
 abbrev pub IsTailAt : Place → Tail → Type 0
 IsTailAt p Between = Unit {0}
 IsTailAt p (InContents h c) = (left : ℕ) × IsContents p h c left
-IsTailAt p (BeforeUnused h) = IsAwaiting p h
-IsTailAt p (InHeader octets) = IsBegun p octets
-IsTailAt p InEnd = IsZero p
+IsTailAt p (BeforeUnused h) = IsOpen p (Awaiting h)
+IsTailAt p (InHeader octets) = IsOpen p (Begun octets)
+IsTailAt p InEnd = IsOpen p Zero
 
 -- the phase says so
 pub phase-tail : (f : Phase) (t : Tail) (p : Place) → IsPhaseOf f t p → IsTailAt p t

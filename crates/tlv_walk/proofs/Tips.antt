@@ -5,8 +5,8 @@ use Rattle.tlv_head.specs.declared.fault.FaultCode.{FaultCode}
 use Rattle.tlv_head.specs.declared.fault.FaultCode.TheVariants.{BadInside}
 use Rattle.tlv_head.specs.Header.{Heading, octets_of}
 use Rattle.tlv_walk.specs.Forest.{Forest, Stop, Fill, Whole, Closed, Partial, Entered, Awaiting, Begun, Zero, contents_length, extent, is_whole, spell}
-use Rattle.tlv_walk.specs.Place.{Fits, IsBegun, IsEntered, IsOpen, Place, after, inside_of}
-use Rattle.tlv_walk.specs.Ending.{OpenEnd, Between, InContents, BeforeUnused, InHeader, InEnd, tip}
+use Rattle.tlv_walk.specs.Place.{Fits, IsOpen, Place, after, inside_of}
+use Rattle.tlv_walk.specs.Ending.{tip}
 use Rattle.tlv_walk.proofs.Bounds.{fits-inside, lacks-within, within-le}
 use Rattle.tlv_walk.proofs.Spellings.{length-closed, length-opening, length-whole}
 use Rattle.tlv_walk.proofs.Push.{Step, Grown, Ended, Refused, follow, push, settle}
@@ -16,14 +16,6 @@ abbrev pub refusal : Step → Option FaultCode
 refusal (Grown g) = None
 refusal (Ended g) = None
 refusal (Refused code) = Some code
-
--- the refusal of the octet x at an open end that begins there
-abbrev pub refusal_at : Place → OpenEnd → ℕ → Option FaultCode
-refusal_at p Between x = refusal (push p Stop x)
-refusal_at p InContents x = None
-refusal_at p BeforeUnused x = cond (eqb x 0) None (Some BadInside)
-refusal_at p (InHeader o) x = refusal (push p (Begun o) x)
-refusal_at p InEnd x = refusal (push p Zero x)
 
 -- a step of what follows an element is refused where that of both is
 refusal-follow : (f : Forest → Forest) (s : Step) → refusal (follow f s) ≡ refusal s
@@ -38,17 +30,14 @@ refusal-settle h (Ended g) = refl
 refusal-settle h (Refused code) = refl
 
 -- a refusal behind a forest is that at its tip
-pub push-tip : (p : Place) (f : Forest) (x : ℕ) → refusal (push p f x) ≡ refusal_at (tip p f).place (tip p f).open_end x
+pub push-tip : (p : Place) (f : Forest) (x : ℕ) → refusal (push p f x) ≡ refusal (push (tip p f).0 (tip p f).1 x)
 push-tip p Stop x = refl
 push-tip p (Fill rest) x = refusal-follow Fill (push (after p 1) rest x) ∙ push-tip (after p 1) rest x
 push-tip p (Whole h c rest) x = refusal-follow (Whole h c) (push (after p (length (octets_of h) + length c)) rest x) ∙ push-tip (after p (length (octets_of h) + length c)) rest x
 push-tip p (Closed h inside rest) x = refusal-follow (Closed h inside) (push (after p (extent h inside)) rest x) ∙ push-tip (after p (extent h inside)) rest x
 push-tip p (Partial h c) x = refl
 push-tip p (Entered h inside) x = refusal-settle h (push (inside_of p h) inside x) ∙ push-tip (inside_of p h) inside x
-push-tip p (Awaiting h) x = elim (cases_Bool (eqb x 0)) [
-  | inl e ↦ rw e
-  | inr e ↦ rw e
-]
+push-tip p (Awaiting h) x = refl
 push-tip p (Begun o) x = refl
 push-tip p Zero x = refl
 
@@ -57,35 +46,36 @@ abbrev pub HasRoom : Place → Forest → Type 0
 HasRoom p f = p.indefinite ≡ false → is_whole f ≡ true → Fits p (length (spell f) + 1)
 
 -- what holds of an open end that begins there
-abbrev pub IsTip : Place → OpenEnd → Type 0
-IsTip p Between = Fits p 0 × (p.indefinite ≡ false → Fits p 1)
-IsTip p InContents = Unit {0}
-IsTip p BeforeUnused = Unit {0}
-IsTip p (InHeader o) = IsBegun p o
-IsTip p InEnd = Fits p 1
+abbrev pub IsTip : Place → Forest → Type 0
+IsTip p Stop = Fits p 0 × (p.indefinite ≡ false → Fits p 1)
+IsTip p (Partial h c) = Unit {0}
+IsTip p (Awaiting h) = Unit {0}
+IsTip p (Begun o) = IsOpen p (Begun o)
+IsTip p Zero = Fits p 1
+IsTip p f = ⊥
 
 -- what has room has room at its end
 room-after : (p : Place) (n : ℕ) (f g : Forest) → length (spell g) ≡ n + length (spell f) → (is_whole f ≡ true → is_whole g ≡ true) → HasRoom p g → HasRoom (after p n) f
 room-after p n f g size whole r i w = within-le p.bound _ _ (omega arith) (r i (whole w))
 
 -- what an element holds has room, where octets are lacking
-room-inside : (p : Place) (h : Heading) (inside : Forest) → IsEntered p h inside → HasRoom (inside_of p h) inside
+room-inside : (p : Place) (h : Heading) (inside : Forest) → IsOpen p (Entered h inside) → HasRoom (inside_of p h) inside
 room-inside p h inside e i w =
     within-le (inside_of p h).bound _ _ (omega (arith, length-opening h))
-    (lacks-within h.size (p.at + length (octets_of h)) p.bound (contents_length h inside) i (e.lacks w))
+    (lacks-within h.size (p.at + length (octets_of h)) p.bound (contents_length h inside) i (e.0.1 w))
 
 -- it holds of the tip of an open forest with room
-pub tip-fact : (p : Place) (f : Forest) → Fits p 0 → HasRoom p f → IsOpen p f → IsTip (tip p f).place (tip p f).open_end
+pub tip-fact : (p : Place) (f : Forest) → Fits p 0 → HasRoom p f → IsOpen p f → IsTip (tip p f).0 (tip p f).1
 tip-fact p Stop z r w = (z, λ i. r i refl)
 tip-fact p (Fill rest) z r w =
-    tip-fact (after p 1) rest (within-le p.bound _ _ (omega arith) w.0.fits) (room-after p 1 rest (Fill rest) (omega arith) (λ t. t) r) w.1
+    tip-fact (after p 1) rest (within-le p.bound _ _ (omega arith) w.0.2) (room-after p 1 rest (Fill rest) (omega arith) (λ t. t) r) w.1
 tip-fact p (Whole h c rest) z r w =
     tip-fact (after p (length (octets_of h) + length c)) rest (within-le p.bound _ _ (omega arith) w.0.fits) (room-after p _ rest (Whole h c rest) (length-whole h c rest) (λ t. t) r) w.1
 tip-fact p (Closed h inside rest) z r w =
     tip-fact (after p (extent h inside)) rest (within-le p.bound _ _ (omega arith) w.0.fits) (room-after p _ rest (Closed h inside rest) (length-closed h inside rest) (λ t. t) r) w.2
 tip-fact p (Partial h c) z r w = tt
 tip-fact p (Entered h inside) z r w =
-    tip-fact (inside_of p h) inside (fits-inside p h w.0.entry.header.form w.0.entry.fits) (room-inside p h inside w.0) w.1
+    tip-fact (inside_of p h) inside (fits-inside p h w.0.0.header.form w.0.0.fits) (room-inside p h inside w) w.1
 tip-fact p (Awaiting h) z r w = tt
 tip-fact p (Begun o) z r w = w
-tip-fact p Zero z r w = w.fits
+tip-fact p Zero z r w = w.1

@@ -9,7 +9,7 @@ use Rattle.tlv_walk.specs.declared.framing.Framing.{Framing}
 use Rattle.tlv_walk.specs.Forest.{Forest, Stop, Fill, Whole, Closed, Partial, Entered, Awaiting, Begun, Zero, has_element, is_whole, spell}
 use Rattle.tlv_walk.specs.Place.{top}
 use Rattle.tlv_walk.specs.Reading.{IsReading}
-use Rattle.tlv_walk.specs.Ending.{IsEnding, IsFaultAt, done, empty, fault, refused, short, tip}
+use Rattle.tlv_walk.specs.Ending.{IsEnding, IsFault, done, empty, fault, refused, short, tip}
 use Rattle.tlv_walk.proofs.Readings.{Halted, IsHalt, halt-longer, reading-unique, run-reading}
 use Rattle.tlv_walk.proofs.Faults.{fault-unique}
 use Rattle.tlv_walk.proofs.Endings.{IsRefused, fault-halt, halt-ending}
@@ -38,12 +38,12 @@ read-apart w b f g x rest r s e d =
 
 -- an octet that is refused is one octet, with one code
 refused-same : (w : Framing) (b : List ℕ) (f g : Forest) (x y : ℕ) (r s : List ℕ) (c d : FaultCode) → IsReading w b f → IsReading w b g → spell f ++ x ∷ r ≡ b → spell g ++ y ∷ s ≡ b
-    → IsFaultAt (tip (top w) f) x c → IsFaultAt (tip (top w) g) y d → fault c (length (spell f)) ≡ fault d (length (spell g))
+    → IsFault (tip (top w) f).0 x (tip (top w) f).1 c → IsFault (tip (top w) g).0 y (tip (top w) g).1 d → fault c (length (spell f)) ≡ fault d (length (spell g))
 refused-same w b f g x y r s c d u v e e' k l =
     let same : f ≡ g = reading-unique w b f g u v in
     let tails : x ∷ r ≡ y ∷ s = append_cancel_left (spell g) (x ∷ r) (y ∷ s) (rw same at (e ∙ sym e')) in
     let octet : x ≡ y = cc in
-    let k' : IsFaultAt (tip (top w) g) y c = rw (same, octet) at k in
+    let k' : IsFault (tip (top w) g).0 y (tip (top w) g).1 c = rw (same, octet) at k in
     let code : c ≡ d = fault-unique w g y c d v.is_open k' l in
     ap (λ (c : FaultCode). fault c (length (spell f))) code ∙ ap (λ (f : Forest). fault d (length (spell f))) same
 

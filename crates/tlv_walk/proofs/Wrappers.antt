@@ -94,7 +94,7 @@ wrappers-entered p (Closed h inside rest) w = sym
     ∙ ap (λ (t : List ℕ). wrappers inside ++ t) (enters-closes h inside (events rest) ∙ sym (wrappers-entered (after p (extent h inside)) rest w.2)))))
 wrappers-entered p (Partial h c) w = refl
 wrappers-entered p (Entered h inside) w = sym (enters-opens h (events inside) ∙ ap (λ (t : List ℕ). wrapper_at h ++ t) (sym (wrappers-entered (inside_of p h) inside w.1)))
-wrappers-entered p (Awaiting h) w = waiting-wraps h w.lead
+wrappers-entered p (Awaiting h) w = waiting-wraps h w.1
 wrappers-entered p (Begun octets) w = refl
 wrappers-entered p Zero w = refl
 
@@ -249,11 +249,11 @@ wrappers-rise p (Closed h inside rest) w =
     (rise-within _ _ _ _ (wrappers rest) (omega arith) (omega arith) (wrappers-rise (after p (extent h inside)) rest w.2)))
 wrappers-rise p (Partial h c) w = omega arith
 wrappers-rise p (Entered h inside) w =
-    let two : 2 ≤ length (octets_of h) = header-length h w.0.entry.header.valid in
+    let two : 2 ≤ length (octets_of h) = header-length h w.0.0.header.valid in
     rise-append p.at (p.at + length (opening h)) _ (wrapper_at h) (wrappers inside)
-    (wrapper-rises p.at (p.at + length (opening h)) h w.0.entry.header.offset (omega (arith, length-opening h)))
+    (wrapper-rises p.at (p.at + length (opening h)) h w.0.0.header.offset (omega (arith, length-opening h)))
     (rise-within _ _ _ _ (wrappers inside) (omega arith) (omega (arith, length-append (opening h) (spell inside))) (wrappers-rise (inside_of p h) inside w.1))
-wrappers-rise p (Awaiting h) w = wrapper-rises p.at _ h w.entry.header.offset (omega (arith, header-length h w.entry.header.valid))
+wrappers-rise p (Awaiting h) w = wrapper-rises p.at _ h w.0.header.offset (omega (arith, header-length h w.0.header.valid))
 wrappers-rise p (Begun octets) w = omega arith
 wrappers-rise p Zero w = omega arith
 
@@ -293,7 +293,7 @@ wrappers-named p (Closed h inside rest) w =
     (named-append p.inside (wrappers inside) (wrappers rest) (wrappers-named (inside_of p h) inside w.1) (wrappers-named (after p (extent h inside)) rest w.2))
 wrappers-named p (Partial h c) w = tt
 wrappers-named p (Entered h inside) w =
-    named-append p.inside (wrapper_at h) (wrappers inside) (wrapper-named p h w.0.entry.header) (wrappers-named (inside_of p h) inside w.1)
-wrappers-named p (Awaiting h) w = wrapper-named p h w.entry.header
+    named-append p.inside (wrapper_at h) (wrappers inside) (wrapper-named p h w.0.0.header) (wrappers-named (inside_of p h) inside w.1)
+wrappers-named p (Awaiting h) w = wrapper-named p h w.0.header
 wrappers-named p (Begun octets) w = tt
 wrappers-named p Zero w = tt

@@ -5,8 +5,7 @@ use Rattle.tlv_head.specs.declared.header.Size.{Size}
 use Rattle.tlv_head.specs.declared.header.Size.TheVariants.{Definite, Indefinite}
 use Rattle.tlv_head.specs.Header.{Heading, announced, octets_of}
 use Rattle.tlv_walk.specs.declared.framing.Framing.{Framing}
-use Rattle.tlv_walk.specs.Ending.{OpenEnd, tip}
-use Rattle.tlv_walk.specs.Ending as open_end
+use Rattle.tlv_walk.specs.Ending.{tip}
 use Rattle.tlv_walk.specs.Forest.{Forest, Stop, Fill, Whole, Closed, Partial, Entered, Awaiting, Begun, Zero, contents_length, end_octets, extent, has_element, is_whole, opening, spell}
 use Rattle.tlv_walk.specs.Place.{Fits, IsOpen, LacksOctets, Place, after, bound_in, is_indefinite, top}
 use Rattle.tlv_walk.specs.Stack.{IsInIndefinite, bound_of}
@@ -51,13 +50,6 @@ reading_in ls here InEnd = within ls (behind here Zero)
 
 abbrev pub reading_of : State → Forest
 reading_of s = reading_in s.layers s.here s.tail
-
-abbrev pub open_end_of : Tail → OpenEnd
-open_end_of Between = open_end.Between
-open_end_of (InContents h c) = open_end.InContents
-open_end_of (BeforeUnused h) = open_end.BeforeUnused
-open_end_of (InHeader octets) = open_end.InHeader octets
-open_end_of InEnd = open_end.InEnd
 
 -- ---- places
 
@@ -167,7 +159,7 @@ behind-none (Begun octets) = refl
 behind-none Zero = refl
 
 -- behind whole elements the open end is between them and the next
-pub tip-whole : (p : Place) (f : Forest) → is_whole f ≡ true → tip p f ≡ record { place = after p (length (spell f)); open_end = open_end.Between }
+pub tip-whole : (p : Place) (f : Forest) → is_whole f ≡ true → tip p f ≡ (after p (length (spell f)), Stop)
 tip-whole p f e = ap (λ (g : Forest). tip p g) (sym (behind-none f)) ∙ tip-behind p f Stop e
 
 -- ---- where the elements in the innermost open element begin
@@ -240,7 +232,7 @@ pub open-within : (w : Framing) (ls : List Layer) (f : Forest) → AreLayers w l
 open-within w [] f a v r = v
 open-within w (l ∷ ls) f a v r =
     open-within w ls (behind l.before (Entered l.head f)) a.0
-    (open-behind (place_in w ls) l.before (Entered l.head f) a.1 (record { entry = a.2; lacks = r }, v))
+    (open-behind (place_in w ls) l.before (Entered l.head f) a.1 ((a.2, r), v))
     (room-if_open ls _ (whole-behind l.before (Entered l.head f) a.1.whole))
 
 -- the open end is theirs

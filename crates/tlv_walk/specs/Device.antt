@@ -1,5 +1,6 @@
 -- What sources and drains tell of themselves, and what one call makes of that.
 use Rattle.std.specs.Prelude.{◌≡◌, ◌+◌, ◌-◌, ◌^◌, ◌<◌, ◌≤◌, ℕ, List, [], ◌∷◌, ◌++◌, All, Option, Result, Ok, Err, min, IfOk, length}
+use Rattle.std.specs.List.{concat}
 use Rattle.std.specs.Io.{ReadsAtMost}
 use Rattle.std.specs.Io.KnownBytes.{Consumes, ReadConsumes, WriteAppends}
 
@@ -76,10 +77,6 @@ GaveLast failed octets = octets ≡ []
 abbrev pub IsPiece : List ℕ → Type 0
 IsPiece octets = (0 < length octets) × (length octets ≤ 4096)
 
-abbrev pub put_together : List (List ℕ) → List ℕ
-put_together [] = []
-put_together (piece ∷ pieces) = piece ++ put_together pieces
-
 -- reads of a source, one or more: the octets that each gave, and the last
 pub record Pieces (old new : Supply) : Type 0 where
   pub pieces : List (List ℕ)
@@ -88,11 +85,8 @@ pub record Pieces (old new : Supply) : Type 0 where
   pub short : length last ≤ 4096
   pub gave_last : GaveLast new.last last
   pub reads : new.reads ≡ min (old.reads + (length pieces + 1)) (2 ^ 64 - 1)
-  pub consumed : Consumes old.left new.left (put_together pieces ++ last)
+  pub consumed : Consumes old.left new.left (concat pieces ++ last)
 
--- the octets that the reads gave before the last, and with it
-abbrev pub before_in : {old new : Supply} → Pieces old new → List ℕ
-before_in p = put_together p.pieces
-
+-- the octets that the reads gave
 abbrev pub given_in : {old new : Supply} → Pieces old new → List ℕ
-given_in p = put_together p.pieces ++ p.last
+given_in p = concat p.pieces ++ p.last

@@ -1,5 +1,5 @@
 -- What a walk over all that a source gives comes to.
-use Rattle.std.specs.Prelude.{◌≡◌, ℕ, Bool, true, false, List, [], ◌∷◌, flat_map, length, Some, None, Result, OnOk}
+use Rattle.std.specs.Prelude.{◌≡◌, ℕ, Bool, true, false, List, [], ◌∷◌, flat_map, length, Some, Result, OnOk}
 use Rattle.tlv_head.specs.Header.{octets_of}
 use Rattle.tlv_walk.specs.declared.ending.Ending.{Ending}
 use Rattle.tlv_walk.specs.declared.follow.Go.{Go}
@@ -8,11 +8,11 @@ use Rattle.tlv_walk.specs.declared.framing.Framing.{Framing}
 use Rattle.tlv_walk.specs.declared.run.DeviceFault.{DeviceFault}
 use Rattle.tlv_walk.specs.declared.run.Run.{Run}
 use Rattle.tlv_walk.specs.Device.{Supply, Taken}
-use Rattle.tlv_walk.specs.Events.{Told, Open, Begin, Bytes, End, Close, Enter, Unused, Leave, Pad, events}
+use Rattle.tlv_walk.specs.Events.{Told, Open, Begin, Bytes, Close, Enter, Unused, Pad, events}
 use Rattle.tlv_walk.specs.Follow.{Following, followed, followed_events}
 use Rattle.tlv_walk.specs.Forest.{Forest, spell}
 use Rattle.tlv_walk.specs.Job.{Job, Runs, of_drain}
-use Rattle.tlv_walk.specs.Wrappers.{enters, first_other, unused_of}
+use Rattle.tlv_walk.specs.Wrappers.{enters, first_other, wrappers}
 
 -- whether a follower had enough
 abbrev pub had_enough : Go → Bool
@@ -23,19 +23,17 @@ had_enough go.Enough = true
 abbrev pub octets_told : Told → List ℕ
 octets_told (Open h) = octets_of h
 octets_told (Begin h) = octets_of h
-octets_told (Bytes octets) = octets
-octets_told End = []
-octets_told (Close None) = []
-octets_told (Close (Some at)) = 0 ∷ 0 ∷ []
 octets_told (Enter h) = octets_of h
-octets_told Unused = 0 ∷ []
-octets_told Leave = []
+octets_told (Bytes octets) = octets
 octets_told (Pad octets) = octets
+octets_told Unused = 0 ∷ []
+octets_told (Close (Some at)) = 0 ∷ 0 ∷ []
+octets_told e = []
 
 -- the run over a forest of which a follower followed these events: where it had enough, it ends behind the last of them
 abbrev pub run_of : Framing → Forest → List Told → Go → Ending → Run
 run_of framing f es go.On e =
-    record { ending = e; octets = length (spell f); enough = false; unused = unused_of framing.inside f }
+    record { ending = e; octets = length (spell f); enough = false; unused = first_other framing.inside (wrappers f) }
 run_of framing f es go.Enough e =
     record { ending = e; octets = length (flat_map octets_told es); enough = true; unused = first_other framing.inside (enters es) }
 

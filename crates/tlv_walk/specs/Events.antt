@@ -50,56 +50,28 @@ events Zero = []
 -- each octet by itself
 abbrev pub apart : List Told → List Told
 apart [] = []
-apart (Open h ∷ es) = Open h ∷ apart es
-apart (Begin h ∷ es) = Begin h ∷ apart es
 apart (Bytes c ∷ es) = map (λ x. Bytes (x ∷ [])) c ++ apart es
-apart (End ∷ es) = End ∷ apart es
-apart (Close o ∷ es) = Close o ∷ apart es
-apart (Enter h ∷ es) = Enter h ∷ apart es
-apart (Unused ∷ es) = Unused ∷ apart es
-apart (Leave ∷ es) = Leave ∷ apart es
 apart (Pad c ∷ es) = map (λ x. Pad (x ∷ [])) c ++ apart es
+apart (e ∷ es) = e ∷ apart es
 
 -- contents octets, and then these events: put together with contents octets that come first
 abbrev pub with_bytes : List ℕ → List Told → List Told
 with_bytes [] es = es
-with_bytes (x ∷ b) [] = Bytes (x ∷ b) ∷ []
 with_bytes (x ∷ b) (Bytes c ∷ es) = Bytes (x ∷ b ++ c) ∷ es
-with_bytes (x ∷ b) (Open h ∷ es) = Bytes (x ∷ b) ∷ Open h ∷ es
-with_bytes (x ∷ b) (Begin h ∷ es) = Bytes (x ∷ b) ∷ Begin h ∷ es
-with_bytes (x ∷ b) (End ∷ es) = Bytes (x ∷ b) ∷ End ∷ es
-with_bytes (x ∷ b) (Close o ∷ es) = Bytes (x ∷ b) ∷ Close o ∷ es
-with_bytes (x ∷ b) (Enter h ∷ es) = Bytes (x ∷ b) ∷ Enter h ∷ es
-with_bytes (x ∷ b) (Unused ∷ es) = Bytes (x ∷ b) ∷ Unused ∷ es
-with_bytes (x ∷ b) (Leave ∷ es) = Bytes (x ∷ b) ∷ Leave ∷ es
-with_bytes (x ∷ b) (Pad c ∷ es) = Bytes (x ∷ b) ∷ Pad c ∷ es
+with_bytes (x ∷ b) es = Bytes (x ∷ b) ∷ es
 
 -- padding, and then these events: put together with padding that comes first
 abbrev pub with_pad : List ℕ → List Told → List Told
 with_pad [] es = es
-with_pad (x ∷ b) [] = Pad (x ∷ b) ∷ []
 with_pad (x ∷ b) (Pad c ∷ es) = Pad (x ∷ b ++ c) ∷ es
-with_pad (x ∷ b) (Open h ∷ es) = Pad (x ∷ b) ∷ Open h ∷ es
-with_pad (x ∷ b) (Begin h ∷ es) = Pad (x ∷ b) ∷ Begin h ∷ es
-with_pad (x ∷ b) (Bytes c ∷ es) = Pad (x ∷ b) ∷ Bytes c ∷ es
-with_pad (x ∷ b) (End ∷ es) = Pad (x ∷ b) ∷ End ∷ es
-with_pad (x ∷ b) (Close o ∷ es) = Pad (x ∷ b) ∷ Close o ∷ es
-with_pad (x ∷ b) (Enter h ∷ es) = Pad (x ∷ b) ∷ Enter h ∷ es
-with_pad (x ∷ b) (Unused ∷ es) = Pad (x ∷ b) ∷ Unused ∷ es
-with_pad (x ∷ b) (Leave ∷ es) = Pad (x ∷ b) ∷ Leave ∷ es
+with_pad (x ∷ b) es = Pad (x ∷ b) ∷ es
 
 -- adjacent `Bytes`, and adjacent `Pad`s, put together, and empty ones dropped
 abbrev pub joined : List Told → List Told
 joined [] = []
 joined (Bytes b ∷ es) = with_bytes b (joined es)
 joined (Pad b ∷ es) = with_pad b (joined es)
-joined (Open h ∷ es) = Open h ∷ joined es
-joined (Begin h ∷ es) = Begin h ∷ joined es
-joined (End ∷ es) = End ∷ joined es
-joined (Close o ∷ es) = Close o ∷ joined es
-joined (Enter h ∷ es) = Enter h ∷ joined es
-joined (Unused ∷ es) = Unused ∷ joined es
-joined (Leave ∷ es) = Leave ∷ joined es
+joined (e ∷ es) = e ∷ joined es
 
 -- the same events, however contents and padding are cut into pieces
 abbrev pub AreEqualJoined : List Told → List Told → Type 0

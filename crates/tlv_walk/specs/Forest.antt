@@ -64,20 +64,10 @@ is_whole Stop = true
 is_whole (Fill rest) = is_whole rest
 is_whole (Whole h c rest) = is_whole rest
 is_whole (Closed h inside rest) = is_whole rest
-is_whole (Partial h c) = false
-is_whole (Entered h inside) = false
-is_whole (Awaiting h) = false
-is_whole (Begun octets) = false
-is_whole Zero = false
+is_whole end = false
 
 -- an octet of an element is there
 abbrev pub has_element : Forest → Bool
 has_element Stop = false
 has_element (Fill rest) = has_element rest
-has_element (Whole h c rest) = true
-has_element (Closed h inside rest) = true
-has_element (Partial h c) = true
-has_element (Entered h inside) = true
-has_element (Awaiting h) = true
-has_element (Begun octets) = true
-has_element Zero = true
+has_element f = true

@@ -1,12 +1,13 @@
 -- What a job over all that a source gives comes to.
 use Rattle.std.specs.Prelude.{◌≡◌, ◌⊎◌, ℕ, ◌<◌, ◌≤◌, Bool, true, false, List, length, take, Result, Ok, Err, ⊤}
+use Rattle.std.specs.List.{concat}
 use Rattle.std.specs.Io.KnownBytes.{IsAtEnd}
 use Rattle.tlv_walk.specs.declared.ending.Ending.{Ending}
 use Rattle.tlv_walk.specs.declared.ending.Ending.TheVariants as ending
 use Rattle.tlv_walk.specs.declared.framing.Framing.{Framing}
 use Rattle.tlv_walk.specs.declared.run.DeviceFault.{DeviceFault}
 use Rattle.tlv_walk.specs.declared.run.DeviceFault.TheVariants.{ReadFailed, WriteFailed, InputTooLong}
-use Rattle.tlv_walk.specs.Device.{Pieces, Supply, Taken, before_in, gave, given_in, failed, failures_after}
+use Rattle.tlv_walk.specs.Device.{Pieces, Supply, Taken, gave, given_in, failed, failures_after}
 use Rattle.tlv_walk.specs.Ending.{IsEnding}
 use Rattle.tlv_walk.specs.Forest.{Forest, spell}
 use Rattle.tlv_walk.specs.Laws.{IsFinal}
@@ -28,16 +29,12 @@ pub record Job (A : Type 0) : Type 0 where
 module _ {A : Type 0} where
   -- what a result says of the source alone, and of the drain alone
   abbrev pub of_source : Result A DeviceFault → Result ⊤ DeviceFault
-  of_source (Ok a) = Ok tt
   of_source (Err ReadFailed) = Err ReadFailed
-  of_source (Err WriteFailed) = Ok tt
-  of_source (Err InputTooLong) = Ok tt
+  of_source result = Ok tt
 
   abbrev pub of_drain : Result A DeviceFault → Result ⊤ DeviceFault
-  of_drain (Ok a) = Ok tt
-  of_drain (Err ReadFailed) = Ok tt
   of_drain (Err WriteFailed) = Err WriteFailed
-  of_drain (Err InputTooLong) = Ok tt
+  of_drain result = Ok tt
 
 -- a fault that is the ending whatever follows
 abbrev pub IsFinalEnding : Ending → Type 0
@@ -71,8 +68,8 @@ module _ {A : Type 0} (job : Job A) where
     pub pieces : Pieces old new
     pub failures : new.failures ≡ failures_after (of_source result) old.failures
     -- before the last read there was no reason to stop
-    pub sound : AreSound (before_in pieces)
-    pub within : length (before_in pieces) ≤ job.limit
+    pub sound : AreSound (concat pieces.pieces)
+    pub within : length (concat pieces.pieces) ≤ job.limit
     -- no more octets are read as encodings than the limit
     pub reading : Forest
     pub is_reading : IsReading job.framing (take job.limit (given_in pieces)) reading

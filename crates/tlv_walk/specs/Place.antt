@@ -1,5 +1,5 @@
 -- Where elements may stand, and what may be open there: X.690 8.1.3, 8.1.4 and 8.1.5.
-use Rattle.std.specs.Prelude.{◌≡◌, ℕ, ◌+◌, ◌<◌, ◌≤◌, Bool, true, false, List, [], ◌∷◌, length, Option, Some, None, IfSome}
+use Rattle.std.specs.Prelude.{◌≡◌, ◌≢◌, ℕ, ◌+◌, ◌<◌, ◌≤◌, Bool, true, false, List, [], ◌∷◌, length, Option, Some, None, IfSome}
 use Rattle.tlv_head.specs.declared.header.Size.{Size}
 use Rattle.tlv_head.specs.declared.header.Size.TheVariants.{Definite, Indefinite}
 use Rattle.tlv_head.specs.Header.{Heading, IsHeading, announced, holds, octets_of}
@@ -101,40 +101,18 @@ pub record IsEntry (p : Place) (h : Heading) : Type 0 where
   pub depth : p.depth < 128
   pub fits : Fits p (length (octets_of h) + announced h.size)
 
--- 8.1.4: such an element that has not ended: where what it holds is whole, contents octets are lacking
-pub record IsEntered (p : Place) (h : Heading) (inside : Forest) : Type 0 where
-  pub entry : IsEntry p h
-  pub lacks : is_whole inside ≡ true → LacksOctets h.size (contents_length h inside)
-
--- 8.6.2.2: a wrapping BIT STRING of which the header alone is there
-pub record IsAwaiting (p : Place) (h : Heading) : Type 0 where
-  pub entry : IsEntry p h
-  pub lead : lead h ≡ 0 ∷ []
-
--- an octet 00 between encodings
-pub record IsFill (p : Place) : Type 0 where
-  pub allowed : p.padding ≡ true
-  pub definite : p.indefinite ≡ false
-  pub fits : Fits p 1
-
--- the front of a header, or the first of the end-of-contents octets, inside the bound
-pub record IsBegun (p : Place) (octets : List ℕ) : Type 0 where
-  pub some : octets ≡ [] → ⊥
-  pub front : IsFront octets
-  pub fits : Fits p (length octets)
-
-pub record IsZero (p : Place) : Type 0 where
-  pub indefinite : p.indefinite ≡ true
-  pub fits : Fits p 1
-
 -- an open forest: each element in it stands by the rules, and no octet and no announced end lies past the bound
 abbrev pub IsOpen : Place → Forest → Type 0
 IsOpen p Stop = Unit {0}
-IsOpen p (Fill rest) = IsFill p × IsOpen (after p 1) rest
+-- an octet 00 between encodings
+IsOpen p (Fill rest) = ((p.padding ≡ true) × (p.indefinite ≡ false) × Fits p 1) × IsOpen (after p 1) rest
 IsOpen p (Whole h c rest) = IsWhole p h c × IsOpen (after p (length (octets_of h) + length c)) rest
 IsOpen p (Closed h inside rest) = IsClosed p h inside × IsOpen (inside_of p h) inside × IsOpen (after p (extent h inside)) rest
 IsOpen p (Partial h c) = IsPartial p h c
-IsOpen p (Entered h inside) = IsEntered p h inside × IsOpen (inside_of p h) inside
-IsOpen p (Awaiting h) = IsAwaiting p h
-IsOpen p (Begun octets) = IsBegun p octets
-IsOpen p Zero = IsZero p
+-- 8.1.4: an element that holds others and has not ended: where what it holds is whole, contents octets are lacking
+IsOpen p (Entered h inside) = (IsEntry p h × (is_whole inside ≡ true → LacksOctets h.size (contents_length h inside))) × IsOpen (inside_of p h) inside
+-- 8.6.2.2: a wrapping BIT STRING of which the header alone is there
+IsOpen p (Awaiting h) = IsEntry p h × (lead h ≡ 0 ∷ [])
+-- the front of a header, or the first of the end-of-contents octets, inside the bound
+IsOpen p (Begun octets) = (octets ≢ []) × IsFront octets × Fits p (length octets)
+IsOpen p Zero = (p.indefinite ≡ true) × Fits p 1

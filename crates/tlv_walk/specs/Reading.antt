@@ -3,7 +3,7 @@ use Rattle.std.specs.Prelude.{◌≡◌, ℕ, ◌+◌, ◌<◌, ◌≤◌, true,
 use Rattle.tlv_head.specs.declared.header.Size.TheVariants.{Definite}
 use Rattle.tlv_head.specs.Header.{octets_of}
 use Rattle.tlv_walk.specs.declared.framing.Framing.{Framing}
-use Rattle.tlv_walk.specs.Forest.{Forest, Stop, Fill, Whole, Closed, Partial, Entered, Awaiting, Begun, Zero, contents_length, extent, has_element, spell}
+use Rattle.tlv_walk.specs.Forest.{Forest, Stop, Fill, Whole, Closed, contents_length, extent, has_element, spell}
 use Rattle.tlv_walk.specs.Place.{HasLength, IsHeadAt, IsOpen, Place, after, inside_of, top}
 
 -- p is a front of b
@@ -26,11 +26,7 @@ IsSound p (Whole h c rest) =
 IsSound p (Closed h inside rest) =
     IsHeadAt p true h × HasLength h.size (contents_length h inside) × (p.depth < 128)
     × IsSound (inside_of p h) inside × IsSound (after p (extent h inside)) rest
-IsSound p (Partial h c) = ⊥
-IsSound p (Entered h inside) = ⊥
-IsSound p (Awaiting h) = ⊥
-IsSound p (Begun octets) = ⊥
-IsSound p Zero = ⊥
+IsSound p end = ⊥
 
 -- the octets of one or more sound elements, with padding where the framing has it
 pub record IsSoundList (framing : Framing) (b : List ℕ) : Type 0 where

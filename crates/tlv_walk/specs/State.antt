@@ -7,10 +7,10 @@ use Rattle.tlv_walk.specs.declared.stack.Frame.{Frame}
 use Rattle.tlv_walk.specs.Phase.{Phase}
 use Rattle.tlv_walk.specs.Phase as phase
 use Rattle.tlv_walk.specs.Events.{Told, AreEqualJoined, Begin, Bytes, End, Enter, Close, Leave, events, opens}
-use Rattle.tlv_walk.specs.Forest.{Forest, has_element, is_whole, opening, spell}
+use Rattle.tlv_walk.specs.Forest.{Forest, Awaiting, Begun, Zero, has_element, is_whole, opening, spell}
 use Rattle.tlv_walk.specs.Inside.{CanName, is_among}
 use Rattle.tlv_walk.specs.Machine.{Machine, found_in, frame_with}
-use Rattle.tlv_walk.specs.Place.{Fits, IsAwaiting, IsBegun, IsEntry, IsHeadAt, IsOpen, IsZero, Place, after, inside_of, top}
+use Rattle.tlv_walk.specs.Place.{Fits, IsEntry, IsHeadAt, IsOpen, Place, after, inside_of, top}
 use Rattle.tlv_walk.specs.Reading.{IsReading}
 use Rattle.tlv_walk.specs.Wrappers.{enters, wrapper_at, wrappers}
 
@@ -84,10 +84,10 @@ stack_of w ls p InEnd = frames_of w ls
 abbrev pub IsPhaseOf : Phase → Tail → Place → Type 0
 IsPhaseOf phase.Between Between p = Unit {0}
 IsPhaseOf (phase.InHeader r) (InHeader octets) p =
-    (r.octets ≡ octets) × (r.offset ≡ p.at) × (r.named ≡ is_among p.at p.inside) × IsBegun p octets
+    (r.octets ≡ octets) × (r.offset ≡ p.at) × (r.named ≡ is_among p.at p.inside) × IsOpen p (Begun octets)
 IsPhaseOf (phase.InContents left) (InContents h c) p = IsContents p h c left
-IsPhaseOf phase.BeforeUnused (BeforeUnused h) p = IsAwaiting p h
-IsPhaseOf phase.InEnd InEnd p = IsZero p
+IsPhaseOf phase.BeforeUnused (BeforeUnused h) p = IsOpen p (Awaiting h)
+IsPhaseOf phase.InEnd InEnd p = IsOpen p Zero
 IsPhaseOf f t p = ⊥
 
 -- the octets

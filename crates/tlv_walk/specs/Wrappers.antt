@@ -1,8 +1,8 @@
 -- Which of the named offsets are those of strings that hold encodings.
 use Rattle.std.specs.Prelude.{ℕ, if◌then◌else◌, List, [], ◌∷◌, ◌++◌, Option, Some, None}
 use Rattle.tlv_head.specs.Header.{Heading}
-use Rattle.tlv_walk.specs.Events.{Told, Open, Begin, Bytes, End, Close, Enter, Unused, Leave, Pad}
-use Rattle.tlv_walk.specs.Forest.{Forest, Stop, Fill, Whole, Closed, Partial, Entered, Awaiting, Begun, Zero}
+use Rattle.tlv_walk.specs.Events.{Told, Enter}
+use Rattle.tlv_walk.specs.Forest.{Forest, Fill, Whole, Closed, Entered, Awaiting}
 use Rattle.tlv_walk.specs.Inside.{is_among}
 
 -- of an element that holds others: the offset, where it is a wrapper
@@ -11,15 +11,12 @@ wrapper_at h = if h.constructed then [] else h.offset ∷ []
 
 -- the offsets of the wrappers
 abbrev pub wrappers : Forest → List ℕ
-wrappers Stop = []
 wrappers (Fill rest) = wrappers rest
 wrappers (Whole h c rest) = wrappers rest
 wrappers (Closed h inside rest) = wrapper_at h ++ (wrappers inside ++ wrappers rest)
-wrappers (Partial h c) = []
 wrappers (Entered h inside) = wrapper_at h ++ wrappers inside
 wrappers (Awaiting h) = wrapper_at h
-wrappers (Begun octets) = []
-wrappers Zero = []
+wrappers end = []
 
 -- the first offset of the list that is not among the others
 abbrev pub first_other : List ℕ → List ℕ → Option ℕ
@@ -34,11 +31,4 @@ unused_of inside f = first_other inside (wrappers f)
 abbrev pub enters : List Told → List ℕ
 enters [] = []
 enters (Enter h ∷ es) = h.offset ∷ enters es
-enters (Open h ∷ es) = enters es
-enters (Begin h ∷ es) = enters es
-enters (Bytes c ∷ es) = enters es
-enters (End ∷ es) = enters es
-enters (Close o ∷ es) = enters es
-enters (Unused ∷ es) = enters es
-enters (Leave ∷ es) = enters es
-enters (Pad c ∷ es) = enters es
+enters (e ∷ es) = enters es

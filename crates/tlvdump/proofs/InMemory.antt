@@ -17,7 +17,8 @@ use Rattle.tlv_walk.specs.declared.ending.Ending.TheVariants as ending
 use Rattle.tlv_walk.specs.declared.framing.Framing.{Framing}
 use Rattle.tlv_walk.specs.declared.run.DeviceFault.{DeviceFault}
 use Rattle.tlv_walk.specs.declared.run.DeviceFault.TheVariants.{ReadFailed, WriteFailed, InputTooLong}
-use Rattle.tlv_walk.specs.Device.{GaveLast, Last, Supply, Taken, before_in, counted, failed, gave, given_in, never, unread}
+use Rattle.std.specs.List.{concat}
+use Rattle.tlv_walk.specs.Device.{GaveLast, Last, Supply, Taken, counted, failed, gave, given_in, never, unread}
 use Rattle.tlv_walk.specs.Ending.{IsEnding}
 use Rattle.tlv_walk.specs.Forest.{Forest, spell}
 use Rattle.tlv_walk.specs.Job.{AreSound, EndsWith, IsFinalEnding, Job, Runs}
@@ -169,7 +170,7 @@ module _ (job : Job Said) (stays : Stays job)
                 let whole_given : octets ≡ given = left.2 ∙ ap (λ (l : List ℕ). given ++ l) none ∙ append-nil given in
                 let last : x.pieces.last ≡ [] = gave_none new.last x.pieces.last end.0 x.pieces.gave_last in
                 let few : length octets ≤ job.limit =
-                omega (arith, x.within, ap length whole_given, length-append (before_in x.pieces) x.pieces.last, ap length last) in
+                omega (arith, x.within, ap length whole_given, length-append (concat x.pieces.pieces) x.pieces.last, ap length last) in
                 let z : Makes job seen m = subst (λ (o : List ℕ). Makes job o m) (sym (ap (take job.limit) whole_given)) y in
                 whole m said z sent (subst (λ (s : Said). IsSaid job octets read_fails z s) same (ended (ends (x.failures ∙ quiet) end.0) few))
           ]
@@ -187,7 +188,7 @@ module _ (job : Job Said) (stays : Stays job)
     run_broken : Runs job old new from to (Err ReadFailed) → RunsOctets job octets read_fails room written (said_of_device ReadFailed)
     run_broken x =
         let given : List ℕ = given_in x.pieces in
-        let before : List ℕ = before_in x.pieces in
+        let before : List ℕ = concat x.pieces.pieces in
         let left = left_of old.left new.left octets given known x.pieces.consumed in
         let behind = fails (x.failures ∙ ap counted quiet ∙ one_failure) in
         let none : left.0 ≡ [] = at_end new.left left.0 left.1 behind.1 in

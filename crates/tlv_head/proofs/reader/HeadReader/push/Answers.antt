@@ -52,7 +52,7 @@ pub returns-in-Refused : goal.returns-in-Refused
 returns-in-Refused c =
     let q : IsRefused c.in-Refused.code c.args.self.now c.args.octet c.args.room c.args.depth =
     refused_in _ _ _ _ _ (search rules)
-    (subst (λ (p : Progress). IsRefusedOctet c.in-Refused.code p.octets c.args.octet) c.self.view_is (c.in-Refused.ensures c.self.inside.raw.items c.self.invariant)) in
+    (subst (λ (p : Progress). IsRefusedOctet p.octets c.args.octet c.in-Refused.code) c.self.view_is (c.in-Refused.ensures c.self.inside.raw.items c.self.invariant)) in
     let a : Answers c.args.self.now c.args.octet c.args.room c.args.depth c.args.self.now c.refused-in-Refused.result =
     rw c.refused-in-Refused.ensures (q, search rules, refl) in
     record { answer = a; whole = exact _ _ _ _ _ _ a }
