@@ -34,7 +34,7 @@ some_left : (i : ℕ) (xs : List ℕ) → i < length xs → drop i xs ≢ []
 some_left i xs less none = omega (arith, less, length-drop i xs, ap length none)
 
 -- and behind them others
-more_left : (xs ys : List ℕ) → xs ≢ [] → xs ++ ys ≢ []
+pub more_left : (xs ys : List ℕ) → xs ≢ [] → xs ++ ys ≢ []
 more_left [] ys some none = some refl
 more_left (x ∷ xs) ys some none = cc (none)
 
