@@ -1,13 +1,13 @@
 -- Puts to an `Out`, and octets sent to a drain, one behind another.
-use Rattle.std.proofs.Common.{◌≡◌, ◌+◌, ◌<◌, ◌++◌, ◌∷◌, ℕ, List, [], length, take, drop, get_or, flat_map, refl, sym, ap, ◌∙◌, subst, append_assoc, append-nil, take-append-drop}
-use Rattle.std.specs.Prelude.{Option, Some, None, Result, Ok, Err, IsErr, OnOk, ⊤}
+use Rattle.std.proofs.Common.{◌≡◌, ◌≢◌, ◌+◌, ◌<◌, ◌++◌, ◌∷◌, ℕ, List, [], length, take, drop, get_or, flat_map, refl, sym, ap, ◌∙◌, subst, append_assoc, append-nil, arith, take-append-drop}
+use Rattle.std.specs.Prelude.{Option, Some, None, Result, Ok, Err, IsErr, OnErr, OnOk, ⊤}
 use mathlib.Core.Bool.{true≢false}
 use Rattle.std.specs.Io.KnownBytes.{Appends, Keeps}
 use Rattle.std.proofs.KnownBytes.{Appends-nil, Appends-trans}
 use Rattle.std.proofs.Math.Seq.{take-add}
 use Rattle.std.proofs.lemmas.Grind.{flat_map-append}
-use Rattle.std.proofs.lemmas.List.{take_more}
-use Rattle.std.proofs.lemmas.Result.{on_ok_weaker}
+use Rattle.std.proofs.lemmas.List.{length-drop, take_more}
+use Rattle.std.proofs.lemmas.Result.{on_err_weaker, on_ok_weaker}
 use Rattle.tlv_walk.specs.declared.out.Out.{Out}
 use Rattle.tlv_walk.specs.declared.drain.WriteFault.{WriteFault}
 use Rattle.tlv_walk.specs.Device.{Taken, failures_after}
@@ -29,16 +29,27 @@ appends_more (Some x) (Some y) None xs rest i n e p q = absurd q
 appends_more (Some x) (Some y) (Some z) xs rest i n e p q =
     q ∙ ap (λ l. l ++ take n rest) p ∙ append_assoc x _ _ ∙ ap (λ l. x ++ (take i xs ++ take n l)) e ∙ ap (λ l. x ++ l) (sym (take-add i n xs))
 
+-- octets are left behind the first i of more
+some_left : (i : ℕ) (xs : List ℕ) → i < length xs → drop i xs ≢ []
+some_left i xs less none = omega (arith, less, length-drop i xs, ap length none)
+
+-- and behind them others
+pub more_left : (xs ys : List ℕ) → xs ≢ [] → xs ++ ys ≢ []
+more_left [] ys some none = some refl
+more_left (x ∷ xs) ys some none = cc (none)
+
 module _ {T E : Type 0} (result : Result T E) where
   -- the first i octets were sent, and then no more
   pub sends_part : (old mid new : Taken) (octets : List ℕ) (i : ℕ) → Appends old.octets mid.octets (take i octets) → mid.failures ≡ old.failures
-      → Keeps mid.octets new.octets → new.failures ≡ failures_after result mid.failures → OnOk result (drop i octets ≡ []) → Sends old new octets result
-  sends_part old mid new octets i took failures kept failed all = record {
+      → Keeps mid.octets new.octets → new.failures ≡ failures_after result mid.failures → OnOk result (drop i octets ≡ []) → OnErr result (i < length octets)
+      → Sends old new octets result
+  sends_part old mid new octets i took failures kept failed all some = record {
     sent = take i octets;
     left = drop i octets;
     front = take-append-drop i octets;
     took = appends_kept old.octets mid.octets new.octets (take i octets) took kept;
     all = all;
+    not_all = on_err_weaker result (some_left i octets) some;
     failures = failed ∙ ap (failures_after result) failures;
   }
 
@@ -85,6 +96,7 @@ module _ {D : Type 0} (told : D → Taken) where
           ∙ ap (λ (l : List ℕ). held_in a ++ l) e;
       took = Appends-trans (told (lender_of a).now).octets (told (lender_of b).now).octets (told (lender_of c).now).octets p.sent q.sent p.took q.took;
       held = q.held;
+      lost = q.lost;
       failures = q.failures ∙ ap (failures_after r) p.failures;
     }
 
@@ -101,6 +113,7 @@ module _ {D : Type 0} (told : D → Taken) where
       front = sym (append_assoc p.sent p.left z.rest) ∙ ap (λ (l : List ℕ). l ++ z.rest) p.front ∙ append_assoc (held_in a) xs z.rest ∙ ap (λ (l : List ℕ). held_in a ++ l) z.is;
       took = p.took;
       held = tt;
+      lost = more_left p.left z.rest p.lost;
       failures = p.failures;
     }
 
@@ -119,6 +132,7 @@ module _ {D : Type 0} (told : D → Taken) where
       front = p.front ∙ ap (λ (l : List ℕ). held_in a ++ l) z;
       took = p.took;
       held = p.held;
+      lost = tt;
       failures = p.failures;
     }
 
@@ -136,6 +150,7 @@ module _ {D : Type 0} (told : D → Taken) where
       front = sym (append-nil (held_in a));
       took = Appends-nil (told (lender_of a).now).octets;
       held = refl;
+      lost = tt;
       failures = refl;
     }
 
@@ -149,6 +164,7 @@ module _ {D : Type 0} (told : D → Taken) where
       front = q.front ∙ ap (λ (l : List ℕ). l ++ xs) (sym e);
       took = q.took;
       held = on_ok_weaker r (λ (z : q.left ≡ []). f ∙ sym z) q.all;
+      lost = q.not_all;
       failures = q.failures;
     }
 
@@ -169,13 +185,14 @@ module _ {T U E : Type 0} where
         ∙ ap (λ (l : List ℕ). l ++ ys) (sym (append-nil p.sent) ∙ ap (λ (l : List ℕ). p.sent ++ l) (sym p.all) ∙ p.front);
     took = Appends-trans a.octets b.octets c.octets p.sent q.sent p.took q.took;
     all = q.all;
+    not_all = q.not_all;
     failures = q.failures ∙ ap (failures_after r) p.failures;
   }
 
 module _ {T U E F : Type 0} where
   -- the same, with another result of the same kind
   pub sends_ok : (a b : Taken) (xs ys : List ℕ) (x : T) (y : U) → Sends {T = T} {E = E} a b xs (Ok x) → xs ≡ ys → Sends {T = U} {E = F} a b ys (Ok y)
-  sends_ok a b xs ys x y p z = record { sent = p.sent; left = p.left; front = p.front ∙ z; took = p.took; all = p.all; failures = p.failures }
+  sends_ok a b xs ys x y p z = record { sent = p.sent; left = p.left; front = p.front ∙ z; took = p.took; all = p.all; not_all = tt; failures = p.failures }
 
   -- a front of the octets is one of more octets
   pub sends_err : (a b : Taken) (xs ys : List ℕ) (e : E) (f : F) → Sends {T = T} {E = E} a b xs (Err e) → IsFront xs ys → Sends {T = U} {E = F} a b ys (Err f)
@@ -185,6 +202,7 @@ module _ {T U E F : Type 0} where
     front = sym (append_assoc p.sent p.left z.rest) ∙ ap (λ (l : List ℕ). l ++ z.rest) p.front ∙ z.is;
     took = p.took;
     all = tt;
+    not_all = more_left p.left z.rest p.not_all;
     failures = p.failures;
   }
 
@@ -195,7 +213,7 @@ module _ {T E : Type 0} where
 
   -- nothing is sent
   pub sends_nothing : (a : Taken) (x : T) → Sends {T = T} {E = E} a a [] (Ok x)
-  sends_nothing a x = record { sent = []; left = []; front = refl; took = Appends-nil a.octets; all = refl; failures = refl }
+  sends_nothing a x = record { sent = []; left = []; front = refl; took = Appends-nil a.octets; all = refl; not_all = tt; failures = refl }
 
 -- ---- octet by octet
 
@@ -235,6 +253,7 @@ module _ {D : Type 0} (told : D → Taken) where
           front = p.front ∙ ap (λ (l : List ℕ). l ++ xs) none;
           took = p.took;
           all = both r p.held empty;
+          not_all = p.lost;
           failures = p.failures;
         })
       where

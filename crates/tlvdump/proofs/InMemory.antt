@@ -1,16 +1,16 @@
 -- A job over octets in memory, whatever the reads give of them.
-use Rattle.std.proofs.Common.{◌≡◌, inl, inr, ℕ, zero, suc, ◌-◌, ◌<◌, ◌≤◌, slice_index_or, Fits, w8, Bool, true, false, List, [], ◌∷◌, ◌++◌, length, take}
+use Rattle.std.proofs.Common.{◌≡◌, ◌≢◌, inl, inr, ℕ, zero, suc, ◌-◌, ◌<◌, ◌≤◌, slice_index_or, Fits, w8, Bool, true, false, List, [], ◌∷◌, ◌++◌, length, take}
 use Rattle.std.proofs.Common.{refl, sym, ap, ◌∙◌, subst, arith, append_assoc, append-nil, length-append}
 use Rattle.arrayvec.specs.ArrayVec.{ArrayVec}
 use Rattle.std.proofs.lemmas.Bool.{cases_lt, lt-ltb, true≢false}
 use Rattle.std.proofs.lemmas.List.Elements.{All-take}
-use Rattle.std.proofs.lemmas.List.{get_or_default, length-take, take-append-le, take_all}
+use Rattle.std.proofs.lemmas.List.{get_or_default, length-take, nil_from_length, take-append-le, take_all}
 use Rattle.std.proofs.Math.Seq.{take-append-add, take-append_seam}
 use Rattle.std.specs.Prelude.{if◌then◌else◌, Option, Some, None, Result, Ok, Err, ⊤}
 use Rattle.std.specs.Io.KnownBytes.{Appends, Consumes, IsAtEnd}
 use Rattle.tlv_value.specs.Names.{Table}
 use Rattle.tlv_walk.proofs.Endings.{IsRefused, fault-halt}
-use Rattle.tlv_walk.proofs.Puts.{sends_appends}
+use Rattle.tlv_walk.proofs.Puts.{more_left, sends_appends}
 use Rattle.tlv_walk.proofs.Readings.{halt-longest, reading-unique}
 use Rattle.tlv_walk.specs.declared.ending.Ending.{Ending}
 use Rattle.tlv_walk.specs.declared.ending.Ending.TheVariants as ending
@@ -123,19 +123,17 @@ module _ (job : Job Said) (stays : Stays job)
       output = e ∙ sym (take_all room made.output (omega (arith, fits, ap length e)));
       with_room = λ _. s;
       without_room = λ less. absurd (omega (arith, fits, ap length e, less));
-      either = inl s;
     }
 
-    -- a front was written, which fills the room
+    -- a front was written, which fills the room, and there is more
     short : (made : Made) (rest : List ℕ) → (x : MakesOf job octets read_fails made)
-        → made.output ≡ written ++ rest → length written ≡ room → RunsOctets job octets read_fails room written (said_of_device WriteFailed)
-    short made rest x e n = record {
+        → made.output ≡ written ++ rest → rest ≢ [] → length written ≡ room → RunsOctets job octets read_fails room written (said_of_device WriteFailed)
+    short made rest x e more n = record {
       made = made;
       is_made = x;
       output = sym (take-append_seam written rest) ∙ ap (λ (k : ℕ). take k (written ++ rest)) n ∙ ap (take room) (sym e);
-      with_room = λ less. absurd (omega (arith, ap length e, length-append written rest, n, less));
+      with_room = λ fits. absurd (more (nil_from_length rest (omega (arith, ap length e, length-append written rest, n, fits))));
       without_room = λ _. refl;
-      either = inr refl;
     }
 
     -- what an empty drain took of a text, all of it
@@ -231,7 +229,7 @@ module _ (job : Job Said) (stays : Stays job)
         let text : job.text x.reading ++ on.0 ≡ one.0.output = on.1 ∙ sym (ap (λ (m : Made). m.output) one.1.is_made) in
         let output : one.0.output ≡ written ++ (x.sends.left ++ on.0) =
         front_and_rest written x.sends.sent x.sends.left (job.text x.reading) on.0 one.0.output sent x.sends.front text in
-        short one.0 (x.sends.left ++ on.0) one.1 output (full (x.sends.failures ∙ ap counted unfailed ∙ one_failure))
+        short one.0 (x.sends.left ++ on.0) one.1 output (more_left x.sends.left on.0 x.sends.not_all) (full (x.sends.failures ∙ ap counted unfailed ∙ one_failure))
 
     run_in : (result : Result Said DeviceFault) → Runs job old new from to result → RunsOctets job octets read_fails room written (said_at_end result)
     run_in (Ok said) x = run_ok said x

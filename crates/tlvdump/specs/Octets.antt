@@ -1,5 +1,5 @@
 -- What a run over octets in memory comes to.
-use Rattle.std.specs.Prelude.{◌≡◌, ◌⊎◌, ℕ, ◌<◌, ◌≤◌, Bool, true, false, List, length, take}
+use Rattle.std.specs.Prelude.{◌≡◌, ℕ, ◌<◌, ◌≤◌, Bool, true, false, List, length, take}
 use Rattle.tlv_walk.specs.declared.run.DeviceFault.TheVariants.{ReadFailed, WriteFailed, InputTooLong}
 use Rattle.tlv_walk.specs.Job.{Job}
 use Rattle.tlvdump.specs.Report.{Said, said_of_device}
@@ -27,7 +27,5 @@ module _ (job : Job Said) (octets : List ℕ) (read_fails : Bool) where
     pub made : Made
     pub is_made : MakesOf made
     pub output : written ≡ take room made.output
-    pub with_room : length made.output < room → IsSaid is_made said
+    pub with_room : length made.output ≤ room → IsSaid is_made said
     pub without_room : room < length made.output → said ≡ said_of_device WriteFailed
-    -- also where it is the very room that the output needs
-    pub either : IsSaid is_made said ⊎ (said ≡ said_of_device WriteFailed)

@@ -21,8 +21,8 @@ pub struct Shown<const N: usize> {
 /// Runs the command over `octets`, with room for `N` octets of output.
 ///
 /// Read `i`, counted from 0, gives at most `cuts[i]` octets, where 0 counts as 1, and past the end of `cuts` as many as there
-/// is room for. Behind the octets the input ends, or a read fails. Where there is more room than the output needs, all of it
-/// is written, whatever the cuts; else the first `N` octets of it.
+/// is room for. Behind the octets the input ends, or a read fails. Where there is room for all of the output, it is written,
+/// whatever the cuts; else the first `N` octets of it, and the report tells of a failed write.
 pub fn run_octets<const N: usize>(
     command: &Command,
     names: &Names,

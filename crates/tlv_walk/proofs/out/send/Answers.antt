@@ -16,4 +16,4 @@ loop-sent-preserved g c = record {
 pub returns-in_err-sent : goal.returns-in_err-sent
 returns-in_err-sent g c =
     let p = err_from_is_err_and c.from_residual.result c.from_residual.ensures.1 in rw p.1
-    (sends_part (Err p.0) _ _ _ c.args.octets.now c.loop-sent.sent c.loop-sent.invariant.took c.loop-sent.invariant.failures c.in_err-sent.ensures.octets c.in_err-sent.ensures.failures tt)
+    (sends_part (Err p.0) _ _ _ c.args.octets.now c.loop-sent.sent c.loop-sent.invariant.took c.loop-sent.invariant.failures c.in_err-sent.ensures.octets c.in_err-sent.ensures.failures tt c.loop-sent-test.true)
