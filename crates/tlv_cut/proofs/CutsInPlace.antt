@@ -157,7 +157,7 @@ module _ (n : ℕ) where
   find p (Partial h c) v d some =
       choose p (Partial h c) (h.offset == n) (Partial h c) None d
       (λ is.
-      first p false h (Partial h c) (Partial h c) [] v.header is (sym (append-nil (octets_of h ++ c)))
+      first p false h (Partial h c) (Partial h c) [] v.0 is (sym (append-nil (octets_of h ++ c)))
       (ap (λ (l : List ℕ). octets_of h ++ l) (sym (append-nil c))))
       (λ _ some. none p (Partial h c) d some)
       some

@@ -3,7 +3,7 @@ use Rattle.std.proofs.Common.{refl, sym, ap, ◌∙◌, subst}
 use Rattle.std.specs.Prelude.{◌≡◌, ℕ, ◌+◌, ◌<◌, ◌≤◌, Bool, true, false, ◌||◌, eqb, if◌then◌else◌, List, [], ◌∷◌, ◌++◌, length, Option, None, IfSome}
 use Rattle.tlv_head.specs.declared.header.Size.{Size}
 use Rattle.tlv_head.specs.declared.header.Size.TheVariants.{Indefinite}
-use Rattle.tlv_head.specs.Header.{AllowsSize, Heading, is_wrapper, octets_of}
+use Rattle.tlv_head.specs.Header.{AllowsSize, Heading, announced, is_wrapper, octets_of}
 use Rattle.tlv_walk.specs.Forest.{Forest, Stop, Fill, Whole, Closed, Partial, Entered, Awaiting, Begun, Zero}
 use Rattle.tlv_walk.specs.Forest.{extent, has_element, is_whole, lead, opening, spell}
 use Rattle.tlv_walk.specs.Place.{Fits, IsHeadAt, IsOpen, Place, after, bound_in, inside_of}
@@ -157,13 +157,7 @@ is_open p q (Closed h inside rest) k v =
       follows q h at (indefinite inside) (placed (q.at + n) (indefinite rest))
           (is_open (after p (extent h inside)) (after q n) rest (free_after p q (extent h inside) n k) v.2),
     )
-is_open p q (Partial h c) k v = record {
-  header = primitive_at p q h k v.header;
-  announces = v.announces;
-  size = v.size;
-  fewer = v.fewer;
-  fits = free_fits p q k (length (octets_of h) + v.announces);
-}
+is_open p q (Partial h c) k v = (primitive_at p q h k v.0, v.1, free_fits p q k (length (octets_of h) + announced h.size))
 is_open p q (Entered h inside) k v =
     let head = heading_at q h in
     made_entered q h inside (constructed_at p h k.names v.0.0.header) (

@@ -35,10 +35,11 @@ pub data IsRefusedOctet (octets : List ℕ) (x : ℕ) : FaultCode → Type 0 whe
   tag_too_long : (class : Class) (constructed : Bool) (digits : List ℕ) → All (λ d. d < 128) digits → length digits ≡ 8
       → octets ≡ leading_octet class constructed 31 ∷ flagged digits → 128 ≤ x → IsRefusedOctet octets x TagTooLong
   -- F07, 8.1.3.5 c): a first length octet ff
-  reserved_length : (class : Class) (constructed : Bool) (number : ℕ) → IsIdentifier class constructed number octets → x ≡ 255 → IsRefusedOctet octets x ReservedLength
+  reserved_length : (class : Class) (constructed : Bool) (number : ℕ) → IsIdentifier class constructed number octets → x ≡ 255
+      → IsRefusedOctet octets x ReservedLength
   -- F08, 8.1.3.2 a): a first length octet 80 of a primitive
   indefinite_primitive : (class : Class) (number : ℕ) → IsIdentifier class false number octets → x ≡ 128 → IsRefusedOctet octets x IndefinitePrimitive
   -- F09, 8.1.3.5: a length octet after the first, other than 00, that five or more are to follow
-  length_too_large : (class : Class) (constructed : Bool) (number : ℕ) (identifier digits : List ℕ) (left : ℕ) → IsIdentifier class constructed number identifier
-      → All (λ d. d < 256) digits → octets ≡ identifier ++ (128 + (length digits + left)) ∷ digits → length digits + left ≤ 126 → 6 ≤ left → x ≢ 0
-      → IsRefusedOctet octets x LengthTooLarge
+  length_too_large : (class : Class) (constructed : Bool) (number : ℕ) (identifier digits : List ℕ) (left : ℕ)
+      → IsIdentifier class constructed number identifier → All (λ d. d < 256) digits → octets ≡ identifier ++ (128 + (length digits + left)) ∷ digits
+      → length digits + left ≤ 126 → 6 ≤ left → x ≢ 0 → IsRefusedOctet octets x LengthTooLarge

@@ -167,7 +167,7 @@ module _ (rules : Rules) where
       few-both xs ys n m e f = omega (arith, e, f, ap length (filter-append is_finding xs ys), length-append (only xs) (only ys))
   few p s (Partial h c) v =
       let a = few-at s.level h.offset (header_findings rules s h) (OpenPrimitive s.level h c ∷ []) 14 0 (few-header s h) (omega arith) in
-      omega (arith, a, header-length h v.header.valid, length-append (octets_of h) c)
+      omega (arith, a, header-length h v.0.valid, length-append (octets_of h) c)
   few p s (Entered h inside) v =
       let i = few (place_inside p h) (inside_of s h) inside v.1 in
       let a = few-at s.level h.offset (header_findings rules s h) (OpeningLine s.level h ∷ items rules (inside_of s h) inside) 14 _ (few-header s h) i in

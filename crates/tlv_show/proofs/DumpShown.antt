@@ -336,7 +336,7 @@ module _ (style : Layout) (names : Table) (rules : Rules) where
     text = λ n.
         part-by (lines_at style names p.depth p.at (is_padding before)) (standing rules w outer n) h c
         ∙ found-first (length outer) p.depth h.offset (header_notes rules w h) (header_findings rules (site p holder before) h) _ (OpenPrimitive p.depth h c ∷ []) k.1 (header-same rules w (site p holder before) h k.0)
-        (part_told style names p.depth p.at (is_padding before) h c (omega (arith, ap announced v.size, v.fewer)) ∙ sym (append-nil (open_lines h (at_level style names p.depth) c)));
+        (part_told style names p.depth p.at (is_padding before) h c (omega (arith, v.1)) ∙ sym (append-nil (open_lines h (at_level style names p.depth) c)));
     stands = λ n e. absurd (cc (e));
   }
   told p holder before w outer (Entered h inside) v b k =

@@ -8,10 +8,10 @@ use Rattle.tlv_head.specs.Header.{Heading, IsHeading, IsIdentifier, IsLength, an
 use Rattle.tlv_head.specs.Refusal.{IsFront}
 use Rattle.tlv_head.proofs.Scan.{Origin, Scan, Fresh, High, Named, Long, Ready, Stuck, Over, origin_of, scan, scan_from-append, scan-header, is_more, more-from_front}
 use Rattle.tlv_walk.specs.Forest.{Forest, Stop, Fill, Whole, Closed, Partial, Entered, Awaiting, Begun, Zero, contents_length, end_octets, extent, is_whole, lead, opening, spell}
-use Rattle.tlv_walk.specs.Place.{Fits, IsClosed, IsEntry, IsHeadAt, IsOpen, IsPartial, IsWhole, LacksOctets, Place, after, inside_of, is_indefinite}
+use Rattle.tlv_walk.specs.Place.{Fits, IsClosed, IsEntry, IsHeadAt, IsOpen, IsWhole, LacksOctets, Place, after, inside_of, is_indefinite}
 use Rattle.tlv_walk.proofs.Bounds.{IsEndless, IsFull, definite-length, fits-inside, fits-within, has_length, indefinite-endless, lacks-length, lead-zero, length-full, within-lacks, within-le}
 use Rattle.tlv_walk.proofs.Spellings.{append_assoc-3, append_assoc-4, length-closed, length-opening, length-whole}
-use Rattle.tlv_walk.proofs.Push.{Grown, Ended, begin, begun, begun-sound, complete, entered, entered-sound, follow, is_filled, opened, origin, partial, push, reaches, settle}
+use Rattle.tlv_walk.proofs.Push.{Grown, Ended, begin, begun, begun-sound, complete, entered, entered-sound, follow, is_filled, opened, origin, partial, push, reaches, settle, size-definite}
 
 -- a list is empty, or has a last element
 pub data Back (o : List ℕ) : Type 0 where
@@ -141,7 +141,7 @@ contents-popped : (p : Place) (h : Heading) (c : List ℕ) (x n : ℕ) (g : Fore
 contents-popped p h c x n g header e less f same spelled = record {
   from = Partial h c;
   last = x;
-  is_open = record { header = header; announces = n; size = e; fewer = less; fits = f };
+  is_open = (header, omega (arith, less, ap announced e), rw (ap announced e) f);
   spelled = spelled ∙ sym (append_assoc (octets_of h) c (x ∷ []));
   pushed = ap Grown same;
 }
@@ -166,9 +166,11 @@ whole-popped p h c w =
     primitive-popped p h c (length c) (Whole h c Stop) w.header w.size (omega arith) w.fits (partial-whole h c w.size) (ap (λ (t : List ℕ). octets_of h ++ t) (append-nil c))
 
 -- a primitive that lacks contents octets is popped
-partial-popped : (p : Place) (h : Heading) (c : List ℕ) → IsPartial p h c → Popped p (Partial h c)
+partial-popped : (p : Place) (h : Heading) (c : List ℕ) → IsOpen p (Partial h c) → Popped p (Partial h c)
 partial-popped p h c w =
-    primitive-popped p h c w.announces (Partial h c) w.header w.size (omega (arith, w.fewer)) w.fits (partial-partial h c w.announces w.size w.fewer) refl
+    let n : (n : ℕ) × (h.size ≡ Definite n) = size-definite h w.0.valid w.0.form in
+    let all : announced h.size ≡ n.0 = ap announced n.1 in
+    primitive-popped p h c n.0 (Partial h c) w.0 n.1 (omega (arith, w.1)) (within-le p.bound _ _ (omega arith) w.2) (partial-partial h c n.0 n.1 (omega (arith, w.1))) refl
 
 -- an element that lacks contents octets is entered
 lacking-entered : (h : Heading) (f : Forest) → (is_whole f ≡ true → LacksOctets h.size (contents_length h f)) → entered h f ≡ Entered h f

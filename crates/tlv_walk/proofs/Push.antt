@@ -11,7 +11,7 @@ use Rattle.tlv_head.proofs.Scan.{Origin, Scan, Fresh, High, Named, Long, Ready, 
 use Rattle.tlv_head.proofs.Meaning.{Reads, reads-step, reads-scan, front-from_more, front-bytes}
 use Rattle.tlv_walk.specs.Forest.{Forest, Stop, Fill, Whole, Closed, Partial, Entered, Awaiting, Begun, Zero, contents_length, end_octets, extent, is_whole, lead, opening, spell}
 use Rattle.tlv_walk.specs.Inside.{is_among}
-use Rattle.tlv_walk.specs.Place.{Fits, IsClosed, IsEntry, IsHeadAt, IsOpen, IsPartial, IsWhole, LacksOctets, Place, after, inside_of}
+use Rattle.tlv_walk.specs.Place.{Fits, IsClosed, IsEntry, IsHeadAt, IsOpen, IsWhole, LacksOctets, Place, after, inside_of}
 use Rattle.tlv_walk.proofs.Bounds.{IsEndless, IsFull, fits, fits-inside, has_length, indefinite-endless, lead-zero, length-full, length-lacks, within-fits, within-le, within-outside}
 use Rattle.tlv_walk.proofs.Spellings.{append_assoc-3, append_assoc-4, length-closed, length-opening, length-whole}
 
@@ -132,7 +132,7 @@ reaches p (Whole h c rest) z w =
 reaches p (Closed h inside rest) z w =
     within-le p.bound _ _ (omega (arith, length-closed h inside rest))
     (reaches (after p (extent h inside)) rest (within-le p.bound _ _ (omega arith) w.0.fits) w.2)
-reaches p (Partial h c) z w = within-le p.bound _ _ (omega (arith, length-append (octets_of h) c, w.fewer)) w.fits
+reaches p (Partial h c) z w = within-le p.bound _ _ (omega (arith, length-append (octets_of h) c, w.1)) w.2
 reaches p (Entered h inside) z w =
     reaches-entered p h inside w.0.0.fits (reaches (inside_of p h) inside (fits-inside p h w.0.0.header.form w.0.0.fits) w.1)
 reaches p (Awaiting h) z w = within-le p.bound _ _ (omega arith) w.0.fits
@@ -165,7 +165,7 @@ partial-sound p h c n header e most f =
         spelled = ap (λ (t : List ℕ). octets_of h ++ t) (append-nil c);
       })
       | inr less ↦ rw (ne_eqb (length c) (announced h.size) (λ z. less (z ∙ all))) (record {
-        is_open = record { header = header; announces = n; size = e; fewer = omega arith; fits = f };
+        is_open = (header, omega arith, within-le p.bound _ _ (omega arith) f);
         spelled = refl;
       })
     ]
@@ -293,10 +293,12 @@ zero-step p x i = elim (cases_Bool (fits p 2)) [
 ]
 
 -- inside the contents of a primitive
-partial-step : (p : Place) (h : Heading) (c : List ℕ) (x : ℕ) → IsPartial p h c → IsStep p ((octets_of h ++ c) ++ x ∷ []) (push p (Partial h c) x)
+partial-step : (p : Place) (h : Heading) (c : List ℕ) (x : ℕ) → IsOpen p (Partial h c) → IsStep p ((octets_of h ++ c) ++ x ∷ []) (push p (Partial h c) x)
 partial-step p h c x w =
+    let n : (n : ℕ) × (h.size ≡ Definite n) = size-definite h w.0.valid w.0.form in
+    let all : announced h.size ≡ n.0 = ap announced n.1 in
     rw (append_assoc (octets_of h) c (x ∷ []))
-    (partial-sound p h (c ++ x ∷ []) w.announces w.header w.size (omega (arith, length-append c (x ∷ []), w.fewer)) w.fits)
+    (partial-sound p h (c ++ x ∷ []) n.0 w.0 n.1 (omega (arith, length-append c (x ∷ []), w.1)) (within-le p.bound _ _ (omega arith) w.2))
 
 -- before the first contents octet of a wrapping BIT STRING
 awaiting-step : (p : Place) (h : Heading) (x : ℕ) → IsOpen p (Awaiting h) → IsStep p (octets_of h ++ x ∷ []) (push p (Awaiting h) x)

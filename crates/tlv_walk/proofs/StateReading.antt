@@ -10,12 +10,13 @@ use Rattle.tlv_walk.specs.Phase as phase
 use Rattle.tlv_walk.specs.Events.{Told, AreEqualJoined, Begin, Bytes, End, apart, events}
 use Rattle.tlv_walk.specs.Forest.{Forest, Stop, Whole, Partial, Awaiting, Begun, Zero, is_whole, spell}
 use Rattle.tlv_walk.specs.Machine.{Machine, new_machine, found_in}
-use Rattle.tlv_walk.specs.Place.{IsOpen, IsPartial, Place, after, top}
+use Rattle.tlv_walk.specs.Place.{IsOpen, Place, after, top}
 use Rattle.tlv_walk.specs.Reading.{IsReading}
 use Rattle.tlv_walk.specs.State.{AreLayers, AreWhole, HasState, IsContents, IsPhaseOf, Layer, Tail, Between, InContents, BeforeUnused, InHeader, InEnd, Stands, State, endings_at, events_layers, events_state, events_tail, frames_of, place_in, place_of, spell_layers, spell_state, spell_tail, stack_of, waiting_in, waiting_of, wrappers_layers, wrappers_state, wrappers_tail}
 use Rattle.tlv_walk.specs.Inside.{CanName}
 use Rattle.tlv_walk.specs.Wrappers.{enters, wrappers}
 use Rattle.tlv_walk.proofs.Joined.{apart-before, apart-from_joined, joined-from_apart}
+use Rattle.tlv_walk.proofs.Bounds.{within-le}
 use Rattle.tlv_walk.proofs.Push.{Spells}
 use Rattle.tlv_walk.proofs.Readings.{Going, run-reading}
 use Rattle.tlv_walk.proofs.Settled.{end_in, settled-spells}
@@ -88,8 +89,8 @@ contents-whole p h c left i e =
     record { is_open = (record { header = i.header; size = i.size ∙ ap Definite size; fits = rw size at i.fits }, tt); whole = refl }
 
 -- else it lacks contents octets
-contents-partial : (p : Place) (h : Heading) (c : List ℕ) (left : ℕ) → IsContents p h c left → (left ≡ 0 → ⊥) → IsPartial p h c
-contents-partial p h c left i n = record { header = i.header; announces = length c + left; size = i.size; fewer = omega arith; fits = i.fits }
+contents-partial : (p : Place) (h : Heading) (c : List ℕ) (left : ℕ) → IsContents p h c left → (left ≡ 0 → ⊥) → IsOpen p (Partial h c)
+contents-partial p h c left i n = (i.header, omega (arith, ap announced i.size), within-le p.bound _ _ (omega (arith, ap announced i.size)) i.fits)
 
 -- the test of its length says which
 contents-all : (p : Place) (h : Heading) (c : List ℕ) (left : ℕ) → IsContents p h c left → left ≡ 0 → eqb (length c) (announced h.size) ≡ true

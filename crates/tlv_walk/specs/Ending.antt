@@ -11,8 +11,8 @@ use Rattle.tlv_walk.specs.Forest.{Forest, Stop, Fill, Whole, Closed, Entered, Aw
 use Rattle.tlv_walk.specs.Place.{Fits, IsHeadAt, Place, after, inside_of, top}
 use Rattle.tlv_walk.specs.Reading.{IsReading}
 
--- the innermost open end of a forest that begins there, and where that begins: nothing (`Stop`) between encodings, a primitive
--- that lacks octets, the front of a header, or the first of the end-of-contents octets
+-- where the innermost open end of a forest that begins there begins, and what stands there: nothing between encodings (`Stop`),
+-- or a primitive, a wrapping BIT STRING, a header or end-of-contents octets that lack octets
 abbrev pub tip : Place → Forest → Place × Forest
 tip p (Fill rest) = tip (after p 1) rest
 tip p (Whole h c rest) = tip (after p (length (octets_of h) + length c)) rest

@@ -79,14 +79,6 @@ pub record IsWhole (p : Place) (h : Heading) (c : List ℕ) : Type 0 where
   pub size : h.size ≡ Definite (length c)
   pub fits : Fits p (length (octets_of h) + length c)
 
--- 8.1.4: a primitive that lacks contents octets
-pub record IsPartial (p : Place) (h : Heading) (c : List ℕ) : Type 0 where
-  pub header : IsHeadAt p false h
-  pub announces : ℕ
-  pub size : h.size ≡ Definite announces
-  pub fewer : length c < announces
-  pub fits : Fits p (length (octets_of h) + announces)
-
 -- 8.1.4, 8.1.5: an element that holds others and has ended
 pub record IsClosed (p : Place) (h : Heading) (inside : Forest) : Type 0 where
   pub header : IsHeadAt p true h
@@ -108,7 +100,8 @@ IsOpen p Stop = Unit {0}
 IsOpen p (Fill rest) = ((p.padding ≡ true) × (p.indefinite ≡ false) × Fits p 1) × IsOpen (after p 1) rest
 IsOpen p (Whole h c rest) = IsWhole p h c × IsOpen (after p (length (octets_of h) + length c)) rest
 IsOpen p (Closed h inside rest) = IsClosed p h inside × IsOpen (inside_of p h) inside × IsOpen (after p (extent h inside)) rest
-IsOpen p (Partial h c) = IsPartial p h c
+-- 8.1.4: a primitive that lacks contents octets
+IsOpen p (Partial h c) = IsHeadAt p false h × (length c < announced h.size) × Fits p (length (octets_of h) + announced h.size)
 -- 8.1.4: an element that holds others and has not ended: where what it holds is whole, contents octets are lacking
 IsOpen p (Entered h inside) = (IsEntry p h × (is_whole inside ≡ true → LacksOctets h.size (contents_length h inside))) × IsOpen (inside_of p h) inside
 -- 8.6.2.2: a wrapping BIT STRING of which the header alone is there
