@@ -2,6 +2,7 @@
 -- named where they then stand. Such elements have no findings on their spelling; so each sound input has a spelling without them.
 use Rattle.std.proofs.Common.{◌≡◌, ◌≢◌, ◌⊎◌, inl, inr, ◌&&◌, ◌||◌, not, nat_lt, ◌==◌, eqb, ℕ, ◌+◌, ◌*◌, ◌^◌, ◌<◌, ◌≤◌, Bool, true, false, List, [], ◌∷◌, ◌++◌, length, refl, sym, ap, ap₂, ◌∙◌, arith, subst, length-append, eq-eqb, eqb-true, ne_eqb}
 use Rattle.std.proofs.lemmas.Bool.{and_parts, or_from, true≢false}
+use Rattle.std.proofs.lemmas.Bool.Decides.{eqb_tells}
 use Rattle.std.proofs.lemmas.List.Folds.{list_any-append}
 use Rattle.std.specs.List.{list_any}
 use Rattle.std.specs.Prelude.{if◌then◌else◌}
@@ -17,15 +18,16 @@ use Rattle.tlv_value.specs.Checks.{contents_conditions}
 use Rattle.tlv_walk.specs.declared.framing.Framing.{Framing}
 use Rattle.tlv_walk.specs.Alike.{AreAlike, HaveLowForms, holders, nothing, padding, primitives}
 use Rattle.tlv_walk.specs.Forest.{Forest, Stop, Fill, Whole, Closed, Partial, Entered, Awaiting, Begun, Zero, end_octets, extent, has_element, lead, opening, spell}
-use Rattle.tlv_walk.specs.Inside.{is_among}
-use Rattle.tlv_walk.specs.Place.{HasLength, Place, after, inside_of as place_inside, is_indefinite, top as place_top}
-use Rattle.tlv_walk.specs.Reading.{IsSound, IsSoundList}
-use Rattle.tlv_walk.specs.Wrappers.{wrappers}
+use Rattle.tlv_walk.specs.Inside.{AreRising, CanName, is_among}
+use Rattle.tlv_walk.specs.Place.{HasLength, IsOpen, Place, after, inside_of as place_inside, is_indefinite, top as place_top}
+use Rattle.tlv_walk.specs.Reading.{IsReading, IsSound, IsSoundList}
+use Rattle.tlv_walk.specs.Wrappers.{wrapper_at, wrappers}
 use Rattle.tlv_walk.proofs.Alike.{AreRegular, IsRegular}
 use Rattle.tlv_walk.proofs.Endings.{done-sound, sound-done, sound-reading}
 use Rattle.tlv_walk.proofs.Pop.{header-length}
 use Rattle.tlv_walk.proofs.Readings.{reading-unique}
 use Rattle.tlv_walk.proofs.Spellings.{length-closed, length-opening, length-whole}
+use Rattle.tlv_walk.proofs.Wrappers.{AreNamed, Rise, wrappers-named, wrappers-rise}
 use Rattle.tlv_show.specs.declared.rules.Rules.{Rules}
 use Rattle.tlv_show.specs.declared.rules.Rules.TheVariants.{Ber, Der, Cer}
 use Rattle.tlv_show.specs.Conditions.{end_conditions, has_high_form, header_conditions, leading_bits}
@@ -553,6 +555,83 @@ module _ (rules : Rules) (strict : rules ≢ Ber) where
   none-told p s (Begun octets) u r = absurd u
   none-told p s Zero u r = absurd u
 
+-- ---- what may be named
+
+rise-le : (least end : ℕ) (ns : List ℕ) → Rise least end ns → least ≤ end
+rise-le least end [] r = r
+rise-le least end (n ∷ ns) r = omega (arith, r.0, rise-le (n + 1) end ns r.1)
+
+rising-of : (least end : ℕ) (ns : List ℕ) → end ≤ 2 ^ 40 → Rise least end ns → AreRising least ns
+rising-of least end [] few r = tt
+rising-of least end (n ∷ ns) few r = (r.0, omega (arith, few, rise-le (n + 1) end ns r.1), rising-of (n + 1) end ns few r.1)
+
+-- an offset that is not the first is among the others
+among-others : (n x : ℕ) (ns : List ℕ) → eqb n x ≡ false → is_among x (n ∷ ns) ≡ true → is_among x ns ≡ true
+among-others n x ns apart e = sym (ap (λ (k : Bool). k || is_among x ns) apart) ∙ e
+
+-- what stands behind the first offset is among the others
+among-later : (n least end : ℕ) (ns xs : List ℕ) → n < least → Rise least end xs → AreNamed (n ∷ ns) xs → AreNamed ns xs
+among-later n least end ns [] below r named = tt
+among-later n least end ns (x ∷ xs) below r named = (
+  among-others n x ns (ne_eqb n x (λ e. omega (arith, below, r.0, e))) named.0,
+  among-later n (x + 1) end ns xs (omega (arith, below, r.0)) r.1 named.1,
+)
+
+among-least : (least x : ℕ) (ns : List ℕ) → AreRising least ns → is_among x ns ≡ true → least ≤ x
+among-least least x [] rising e = absurd (true≢false (sym e))
+among-least least x (n ∷ ns) rising e = elim (eqb_tells n x) [
+  | inl same ↦ omega (arith, same.1, rising.0)
+  | inr apart ↦ omega (arith, rising.0, among-least (n + 1) x ns rising.2 (among-others n x ns apart.0 e))
+]
+
+-- offsets that rise, each among others that rise, are no more than those
+fewer : (inside xs : List ℕ) (low least end : ℕ) → AreRising low inside → Rise least end xs → AreNamed inside xs → length xs ≤ length inside
+fewer [] [] low least end rising r named = omega arith
+fewer (n ∷ ns) [] low least end rising r named = omega arith
+fewer [] (x ∷ xs) low least end rising r named = absurd (true≢false (sym named.0))
+fewer (n ∷ ns) (x ∷ xs) low least end rising r named = elim (eqb_tells n x) [
+  | inl same ↦
+      omega (arith, fewer ns xs (n + 1) (x + 1) end rising.2 r.1 (among-later n (x + 1) end ns xs (omega (arith, same.1)) r.1 named.1))
+  | inr apart ↦
+      let here : is_among x ns ≡ true = among-others n x ns apart.0 named.0 in
+      let above : n + 1 ≤ x = among-least (n + 1) x ns rising.2 here in
+      omega (arith, fewer ns (x ∷ xs) (n + 1) least end rising.2 r (here, among-later n (x + 1) end ns xs (omega (arith, above)) r.1 named.1))
+]
+
+one-name : (a b : Bool) (m n : ℕ) → a ≡ b → length {A = ℕ} (if a then [] else m ∷ []) ≡ length {A = ℕ} (if b then [] else n ∷ [])
+one-name true true m n e = refl
+one-name false false m n e = refl
+one-name true false m n e = absurd (cc (e))
+one-name false true m n e = absurd (cc (e))
+
+as-many : (f g : Forest) → AreAlike f g → length (wrappers f) ≡ length (wrappers g)
+as-many f g nothing = refl
+as-many f g (padding a b rest) = as-many a b rest
+as-many f g (primitives h k c a b tag rest) = as-many a b rest
+as-many f g (holders h k inside within a b tag held rest) =
+    omega (
+      arith,
+      one-name h.constructed k.constructed h.offset k.offset tag.constructed,
+      as-many inside within held,
+      as-many a b rest,
+      length-append (wrapper_at h) (wrappers inside ++ wrappers a),
+      length-append (wrappers inside) (wrappers a),
+      length-append (wrapper_at k) (wrappers within ++ wrappers b),
+      length-append (wrappers within) (wrappers b),
+    )
+
+can-name : (framing other : Framing) (f g : Forest) → IsOpen (place_top framing) f → IsOpen (place_top other) g → AreAlike f g
+    → length (spell g) ≤ 2 ^ 40 → CanName framing.inside → CanName (wrappers g)
+can-name framing other f g u v alike few can = (
+  omega (
+    arith,
+    can.0,
+    as-many f g alike,
+    fewer framing.inside (wrappers f) 0 0 (0 + length (spell f)) can.1 (wrappers-rise (place_top framing) f u) (wrappers-named (place_top framing) f u),
+  ),
+  rising-of 0 (0 + length (spell g)) (wrappers g) (omega (arith, few)) (wrappers-rise (place_top other) g v),
+)
+
 -- ---- the law
 
 alike-element : (f g : Forest) → AreAlike f g → has_element f ≡ has_element g
@@ -584,13 +663,16 @@ some-spelling rules framing b f strict few ending reading low =
       sound = sound;
       some = sym (alike-element f at_top.forest at_top.alike) ∙ ap has_element (sym same) ∙ elements.some;
       octets = at_top.spelled;
-    } in (
+    } in
+    let there : IsReading other spelling.octets at_top.forest = sound-reading other spelling.octets list in
+    let small : length (spell at_top.forest) ≤ 2 ^ 40 = omega (arith, ap length at_top.spelled, spelling.short, few, ap length it.octets) in (
       spelling.octets,
       at_top.forest,
       record {
         ending = sound-done other spelling.octets list;
-        reading = sound-reading other spelling.octets list;
+        reading = there;
         none = none-told rules strict (place_top other) top at_top.forest sound at_top.regular;
       },
       at_top.alike,
+      can-name framing other f at_top.forest reading.is_open there.is_open at_top.alike small,
     )

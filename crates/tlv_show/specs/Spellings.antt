@@ -10,6 +10,7 @@ use Rattle.tlv_walk.specs.declared.framing.Framing.{Framing}
 use Rattle.tlv_walk.specs.Alike.{AreAlike, HaveLowForms}
 use Rattle.tlv_walk.specs.Ending.{IsEnding}
 use Rattle.tlv_walk.specs.Forest.{Forest}
+use Rattle.tlv_walk.specs.Inside.{CanName}
 use Rattle.tlv_walk.specs.Reading.{IsReading}
 use Rattle.tlv_walk.specs.Wrappers.{wrappers}
 use Rattle.tlv_show.specs.declared.rules.Rules.{Rules}
@@ -51,11 +52,13 @@ OneSpelling = (rules : Rules) (framing other : Framing) (b c : List ℕ) (f g : 
     → IsWellSpelled rules framing b f → IsWellSpelled rules other c g → AreAlike f g → b ≡ c
 
 -- by DER and by CER, the elements of a sound input have such a spelling, where none is the universal primitive 0, and the input
--- has at most 2^38 octets, so that lengths stay below 2^40. In it the strings that hold elements are named, and no others
+-- has at most 2^38 octets, so that lengths stay below 2^40. In it the strings that hold elements are named, and no others; a
+-- user may name those offsets if those of the input may be named
 abbrev pub SomeSpelling : Type 0
 SomeSpelling = (rules : Rules) (framing : Framing) (b : List ℕ) (f : Forest) → rules ≢ Ber → length b ≤ 2 ^ 38
     → IsEnding framing b Done → IsReading framing b f → HaveLowForms f
     → (c : List ℕ) × (g : Forest) × IsWellSpelled rules (record { inside = wrappers g; padding = framing.padding }) c g × AreAlike f g
+    × (CanName framing.inside → CanName (wrappers g))
 
 -- a finding on the number of identifier octets, and on that of length octets
 abbrev pub is_on_identifier : Finding → Bool
