@@ -1,5 +1,5 @@
 -- Encodings by DER and by CER have one spelling: X.690 8.1.2, 9.1 and 10.1.
-use Rattle.std.specs.Prelude.{◌≡◌, ◌≢◌, ◌↔◌, ℕ, ◌^◌, ◌≤◌, Bool, true, false, List, [], length}
+use Rattle.std.specs.Prelude.{◌≡◌, ◌≢◌, ◌↔◌, ℕ, ◌^◌, ◌≤◌, Bool, true, false, List, length}
 use Rattle.std.specs.List.{list_any}
 use Rattle.tlv_head.specs.Header.{Heading, IsHeading, leading_octet}
 use Rattle.tlv_head.specs.Shortest.{HasShorter}
@@ -10,7 +10,9 @@ use Rattle.tlv_walk.specs.declared.framing.Framing.{Framing}
 use Rattle.tlv_walk.specs.Alike.{AreAlike, HaveLowForms}
 use Rattle.tlv_walk.specs.Ending.{IsEnding}
 use Rattle.tlv_walk.specs.Forest.{Forest}
+use Rattle.tlv_walk.specs.Inside.{CanName}
 use Rattle.tlv_walk.specs.Reading.{IsReading}
+use Rattle.tlv_walk.specs.Wrappers.{wrappers}
 use Rattle.tlv_show.specs.declared.rules.Rules.{Rules}
 use Rattle.tlv_show.specs.declared.rules.Rules.TheVariants.{Ber}
 use Rattle.tlv_show.specs.Found.{header_findings}
@@ -49,12 +51,14 @@ abbrev pub OneSpelling : Type 0
 OneSpelling = (rules : Rules) (framing other : Framing) (b c : List ℕ) (f g : Forest) → rules ≢ Ber
     → IsWellSpelled rules framing b f → IsWellSpelled rules other c g → AreAlike f g → b ≡ c
 
--- by DER and by CER, the elements of a sound input have such a spelling, where no string is named, none is the universal
--- primitive 0, and the input has at most 2^38 octets, so that lengths stay below 2^40
+-- by DER and by CER, the elements of a sound input have such a spelling, where none is the universal primitive 0, and the input
+-- has at most 2^38 octets, so that lengths stay below 2^40. In it the strings that hold elements are named, and no others; a
+-- user may name those offsets if those of the input may be named
 abbrev pub SomeSpelling : Type 0
-SomeSpelling = (rules : Rules) (framing : Framing) (b : List ℕ) (f : Forest) → rules ≢ Ber → framing.inside ≡ [] → length b ≤ 2 ^ 38
+SomeSpelling = (rules : Rules) (framing : Framing) (b : List ℕ) (f : Forest) → rules ≢ Ber → length b ≤ 2 ^ 38
     → IsEnding framing b Done → IsReading framing b f → HaveLowForms f
-    → (c : List ℕ) × (g : Forest) × IsWellSpelled rules framing c g × AreAlike f g
+    → (c : List ℕ) × (g : Forest) × IsWellSpelled rules (record { inside = wrappers g; padding = framing.padding }) c g × AreAlike f g
+    × (CanName framing.inside → CanName (wrappers g))
 
 -- a finding on the number of identifier octets, and on that of length octets
 abbrev pub is_on_identifier : Finding → Bool

@@ -43,8 +43,9 @@ pub fn one_spelling()
 {}
 
 /// Elements can be spelled by DER, and by CER: with those of each sound input agree, in the same way, those of one in which
-/// none of the five is found. This is said of inputs of at most 2^38 octets, where no string is named and no primitive is the
-/// universal 0.
+/// none of the five is found. In it the strings that hold elements are named, where they then stand, and no others; a user may
+/// name those offsets if those of the input may be named. This is said of inputs of at most 2^38 octets, where no primitive is
+/// the universal 0.
 pub fn some_spelling()
     ensures { SomeSpelling }
 {}

@@ -53,6 +53,19 @@ nested-short : result dump (0x30 ∷ 0x05 ∷ 0x30 ∷ 0x80 ∷ 0x02 ∷ 0x01 �
 unfolding digits
 nested-short = refl
 
+-- 30 02 04 81: an unfinished length at the end of what holds it
+length-short : result dump (0x30 ∷ 0x02 ∷ 0x04 ∷ 0x81 ∷ [])
+    ≡ faulty Short 4 "fault at 4: F02 input ends inside an encoding" (lines ("       0      2: SEQUENCE {" ∷ []))
+unfolding digits
+length-short = refl
+
+-- 30 02 30 80: an open element at the end of what holds it
+element-short : result dump (0x30 ∷ 0x02 ∷ 0x30 ∷ 0x80 ∷ []) ≡ faulty Short 4 "fault at 4: F02 input ends inside an encoding" (lines (
+    "       0      2: SEQUENCE {" ∷
+    "       2  indef:   SEQUENCE {" ∷ []))
+unfolding digits
+element-short = refl
+
 -- ---- end-of-contents octets
 
 -- 30 05 30 80 02 01 05 00: no end-of-contents octets within the outer length

@@ -3,6 +3,7 @@ mod Building
 mod Numbers
 mod Offsets
 pub mod CutResultRows
+pub mod DepthResultRows
 pub mod FaultResultRows
 pub mod FindingResultRows
 pub mod InMemory

@@ -69,6 +69,13 @@ padding-in-string : result (dump_in (padded_naming (0 ∷ []))) (0x04 ∷ 0x02 �
 unfolding digits
 padding-in-string = refl
 
+-- 00 04 00: an offset within it is that of no string
+padding-named : result (dump_in (padded_naming (0 ∷ []))) (0x00 ∷ 0x04 ∷ 0x00 ∷ []) ≡ noted 0 "E7 no string to read at offset 0" (lines (
+    "       0    pad: padding" ∷
+    "       1      0: OCTET STRING" ∷ []))
+unfolding digits
+padding-named = refl
+
 -- ---- cuts
 
 -- 30 80 00 00 00 30 02 05 00: it is copied

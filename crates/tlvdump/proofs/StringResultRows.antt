@@ -1,8 +1,8 @@
 -- What commands make of strings whose contents are read as encodings. Shown by computing.
 use Rattle.std.proofs.Common.{◌≡◌, [], ◌∷◌, refl}
 use Rattle.std.specs.Fmt.{digits}
-use Rattle.tlv_head.specs.declared.fault.FaultCode.TheVariants.{StrayEnd, Overrun, BadInside}
-use Rattle.tlv_show.specs.declared.rules.Rules.TheVariants.{Der}
+use Rattle.tlv_head.specs.declared.fault.FaultCode.TheVariants.{Short, StrayEnd, Overrun, BadInside}
+use Rattle.tlv_show.specs.declared.rules.Rules.TheVariants.{Der, Cer}
 use Rattle.tlvdump.proofs.ResultRows.{check_in, clean_with, contents_in, dump_in, extract_at, extract_in, faulty, lines, naming, noted, result}
 
 -- ---- OCTET STRING
@@ -88,3 +88,43 @@ offset-in-header : result (dump_in (naming (0 ∷ 1 ∷ []))) (0x04 ∷ 0x02 ∷
     "                 }" ∷ []))
 unfolding digits
 offset-in-header = refl
+
+-- 84 00: the number 4 of another class
+no-string : result (dump_in (naming (0 ∷ []))) (0x84 ∷ 0x00 ∷ []) ≡ noted 0 "E7 no string to read at offset 0" (lines ("       0      0: [4]" ∷ []))
+unfolding digits
+no-string = refl
+
+-- 05 00: an offset behind the input
+offset-past-all : result (dump_in (naming (1099511627776 ∷ []))) (0x05 ∷ 0x00 ∷ [])
+    ≡ noted 0 "E7 no string to read at offset 1099511627776" (lines ("       0      0: NULL" ∷ []))
+unfolding digits
+offset-past-all = refl
+
+-- 03 00: a check
+bits-empty-checked : result (check_in Der (naming (0 ∷ []))) (0x03 ∷ 0x00 ∷ [])
+    ≡ noted 1 "E7 no string to read at offset 0" (lines ("0 B13 no first octet of a bit string" ∷ []))
+unfolding digits
+bits-empty-checked = refl
+
+-- 30 01 02: a fault passes before it
+fault-before-offset : result (dump_in (naming (7 ∷ []))) (0x30 ∷ 0x01 ∷ 0x02 ∷ [])
+    ≡ faulty Short 3 "fault at 3: F02 input ends inside an encoding" (lines ("       0      1: SEQUENCE {" ∷ []))
+unfolding digits
+fault-before-offset = refl
+
+-- ---- findings
+
+-- 1f 04 02 05 00: the finding on its header stands before its line
+high-form-wraps : result (dump_in (naming (0 ∷ []))) (0x1f ∷ 0x04 ∷ 0x02 ∷ 0x05 ∷ 0x00 ∷ []) ≡ noted 1 "findings: 1" (lines (
+    "       0    B01: high form for a number below 31" ∷
+    "       0      2: OCTET STRING wraps {" ∷
+    "       3      0:   NULL" ∷
+    "                 }" ∷ []))
+unfolding digits
+high-form-wraps = refl
+
+-- 24 80 04 02 05 00 00 00: it is a segment as before, and what it holds is none
+segment-wraps : result (check_in Cer (naming (2 ∷ []))) (0x24 ∷ 0x80 ∷ 0x04 ∷ 0x02 ∷ 0x05 ∷ 0x00 ∷ 0x00 ∷ 0x00 ∷ [])
+    ≡ noted 1 "findings: 1" (lines ("0 C05 constructed string fits in 1000 octets" ∷ []))
+unfolding digits
+segment-wraps = refl

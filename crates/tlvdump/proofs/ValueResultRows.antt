@@ -1,7 +1,10 @@
 -- What a dump makes of values and tags, shown by computing.
-use Rattle.std.proofs.Common.{◌≡◌, [], ◌∷◌, ◌++◌, codes, refl}
+use Rattle.std.proofs.Common.{◌≡◌, true, [], ◌∷◌, ◌++◌, codes, refl}
 use Rattle.std.specs.Fmt.{digits}
-use Rattle.tlvdump.proofs.ResultRows.{clean_with, dump, lines, noted, result}
+use Rattle.std.specs.Str.{chars, is_utf8}
+use lib.Utf8.{encode}
+use Rattle.tlv_show.specs.declared.rules.Rules.TheVariants.{Der}
+use Rattle.tlvdump.proofs.ResultRows.{clean_with, dump, dump_with, lines, noted, result, usual}
 
 -- ---- elements
 
@@ -81,4 +84,18 @@ time : result dump ((0x17 ∷ 0x0b ∷ []) ++ codes "9105062345Z") ≡ clean_wit
 unfolding digits
 time = refl
 
+-- 0c 00: no character
+characters-none : result dump (0x0c ∷ 0x00 ∷ []) ≡ clean_with (lines ("       0      0: UTF8String \"\"" ∷ []))
+unfolding digits is_utf8 chars encode
+characters-none = refl
+
 -- ---- lines without columns
+
+-- 30 80 05 00 00 00: findings are counted, and have no line
+sequence-pure : result (dump_with (record usual { rules = Der; pure = true })) (0x30 ∷ 0x80 ∷ 0x05 ∷ 0x00 ∷ 0x00 ∷ 0x00 ∷ [])
+    ≡ noted 1 "findings: 1" (lines (
+        "SEQUENCE {" ∷
+        "  NULL" ∷
+        "}" ∷ []))
+unfolding digits
+sequence-pure = refl
