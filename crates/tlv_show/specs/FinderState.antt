@@ -52,15 +52,19 @@ frame_of h = record {
   is_empty = false;
 }
 
--- behind an element more: whether it is primitive, how many contents octets it announces, and whether bits of it are unused
-abbrev pub noted : Frame → Bool → ℕ → Bool → Frame
-noted w primitive size unused = record w {
-  is_unused = w.has_segments && unused;
-  is_not_full = w.has_segments && not (primitive && size == 1000);
+-- behind a segment more: whether it is primitive, how many contents octets it announces, and whether bits of it are unused
+abbrev pub segment_noted : Frame → Bool → ℕ → Bool → Frame
+segment_noted w primitive size unused = record w {
+  is_unused = unused;
+  is_not_full = not (primitive && size == 1000);
   all_primitive = w.all_primitive && primitive;
   octets = min (w.octets + (size - (if w.has_bits then 1 else 0))) 1001;
   is_empty = primitive && size == 0;
 }
+
+-- behind an element more: outside of strings nothing is asked of it
+abbrev pub noted : Frame → Bool → ℕ → Bool → Frame
+noted w primitive size unused = if w.has_segments then segment_noted w primitive size unused else w
 
 -- ---- Findings, by a frame
 

@@ -1,6 +1,7 @@
 //! What is found in elements, event by event.
 ghost use Rattle.std.specs.Prelude.{◌≡◌, ℕ, Some, [], length};
-ghost use Rattle.tlv_value.specs.CheckState.{unchecked};
+ghost use Rattle.std.specs.List.{filter};
+ghost use Rattle.tlv_value.specs.CheckState.{found_in, unchecked};
 ghost use Rattle.tlv_walk.specs.Tells.{told_of};
 ghost use Rattle.tlv_show.specs.FinderState.{
   begun_at,
@@ -269,15 +270,18 @@ fn frame_of(header: &Header) -> Frame
     }
 }
 
-/// Keeps what must be known of an element: whether it is primitive, how many contents octets it announces, and whether
-/// bits of it are unused.
+/// Keeps what must be known of an element in a string: whether it is primitive, how many contents octets it announces,
+/// and whether bits of it are unused. Nothing is asked of the others.
 #[inline(always)]
 fn note_element(frame: &mut Frame, is_primitive: bool, size: u64, is_unused: bool)
     ensures { frame.new ≡ noted frame.old is_primitive size is_unused }
 {
+    if !frame.has_segments {
+        return;
+    }
     let octets = size.saturating_sub(u64::from(frame.has_bits));
-    frame.is_unused = frame.has_segments && is_unused;
-    frame.is_not_full = frame.has_segments && !(is_primitive && size == 1000);
+    frame.is_unused = is_unused;
+    frame.is_not_full = !(is_primitive && size == 1000);
     frame.all_primitive = frame.all_primitive && is_primitive;
     frame.octets = frame.octets.saturating_add(octets).min(1001);
     frame.is_empty = is_primitive && size == 0;
@@ -311,9 +315,19 @@ fn note_contents(rules: Rules, check: &ValueCheck, found: &mut ArrayVec<Finding,
     requires { found.old.items ≡ [] }
     ensures { found.new.items ≡ contents_notes rules check.now }
 {
-    if check.left() != 0 {
+    if check.left() != 0 || check.is_clear() {
         return;
     }
+    note_found(rules, check, found);
+}
+
+/// Notes what is found on the contents of a primitive, of which all have come.
+#[inline(never)]
+fn note_found(rules: Rules, check: &ValueCheck, found: &mut ArrayVec<Finding, 16>)
+    requires left { check.now.left ≡ 0 }
+    requires none { found.old.items ≡ [] }
+    ensures { found.new.items ≡ filter (shows rules) (found_in check.now) }
+{
     for finding in check.end().as_slice() {
         if is_shown(rules, *finding) {
             found.push(*finding);

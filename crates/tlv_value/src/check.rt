@@ -1,5 +1,5 @@
 //! What is found on the contents of a primitive.
-ghost use Rattle.std.specs.Prelude.{◌≡◌, ◌+◌, ◌<◌, ◌≤◌, ◌%◌, ◌^◌, ◌++◌, ◌&&◌, ◌||◌, ℕ, List, [], eqb, false, if◌then◌else◌, length, not, take, true};
+ghost use Rattle.std.specs.Prelude.{IsTrue, ◌≡◌, ◌+◌, ◌<◌, ◌≤◌, ◌%◌, ◌^◌, ◌++◌, ◌&&◌, ◌||◌, ℕ, List, [], eqb, false, if◌then◌else◌, length, not, take, true};
 ghost use Rattle.std.specs.Str.{is_utf8};
 ghost use Rattle.tlv_head.specs.Header.{Heading, announced};
 ghost use Rattle.tlv_value.specs.CheckNotes.{is_object, time_findings, where_it};
@@ -155,6 +155,25 @@ impl ValueCheck {
         ensures whole { (h : Heading) (c : List ℕ) → self.now ≡ checked (unchecked h) c → length c ≡ announced h.size → result.items ≡ contents_findings h c }
     {
         self.found()
+    }
+
+    /// Whether nothing is found on the contents, as far as a short look tells.
+    #[inline(always)]
+    pub fn is_clear(&self) -> bool
+        ensures { IsTrue result → found_in self.now ≡ [] }
+    {
+        if !matches!(self.class, Class::Universal) {
+            return true;
+        }
+        match self.number {
+            1 => self.size == 1 && matches!(self.front.as_slice(), [0 | 255, ..]),
+            2 | 10 => self.size != 0 && !is_padded_number(self.front.as_slice()),
+            3 => self.size != 0 && matches!(self.front.as_slice(), [0, ..]),
+            5 => self.size == 0,
+            6 | 13 => self.size != 0 && !self.padded && self.last < 128,
+            12 | 23 | 24 | 28 | 30 => false,
+            _ => self.allowed,
+        }
     }
 
     /// What is found on the contents by what was noted of them.
