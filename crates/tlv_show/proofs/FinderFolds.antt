@@ -1,21 +1,23 @@
 -- A finder tells the findings of the items, event by event.
-use Rattle.std.proofs.Common.{◌≡◌, ℕ, ◌+◌, ◌-◌, ◌&&◌, ◌||◌, ◌==◌, not, Bool, true, false, min, if◌then◌else◌, List, [], ◌∷◌, length, refl, sym, ap, ap₂, ◌∙◌, arith}
+use Rattle.std.proofs.Common.{◌≡◌, ℕ, ◌+◌, ◌-◌, ◌&&◌, ◌||◌, ◌==◌, not, Bool, true, false, min, if◌then◌else◌, List, [], ◌∷◌, length, refl, sym, subst, ap, ap₂, ◌∙◌, arith}
 use Rattle.std.proofs.Math.Bool.{and_assoc}
-use Rattle.std.proofs.lemmas.Bool.{true≢false}
+use Rattle.std.proofs.lemmas.Bool.{eqb-true, true≢false}
 use Rattle.std.specs.List.{fold, list_all}
-use Rattle.std.specs.Prelude.{Option, None}
+use Rattle.std.specs.Prelude.{Option, None, eqb}
 use Rattle.tlv_head.specs.Header.{Heading, announced, is_universal, octets_of, wraps}
-use Rattle.tlv_value.specs.CheckState.{checked, has_unused, unchecked}
-use Rattle.tlv_value.specs.Types.{bit_string, has_segments, is_a, is_primitive}
+use Rattle.tlv_value.specs.CheckState.{checked, has_unused, is_not_zero, type_noted, unchecked, unchecked_of}
+use Rattle.tlv_value.specs.Types.{bit_string, has_segments, is_a, is_primitive, octet_string}
+use Rattle.tlv_value.proofs.CheckPieces.{checked-none}
 use Rattle.tlv_walk.specs.Forest.{Forest, Stop, Fill, Whole, Closed, Partial, Entered, Awaiting, Begun, Zero, extent, is_whole}
 use Rattle.tlv_walk.specs.Place.{IsOpen, Place, after}
 use Rattle.tlv_show.specs.declared.frames.Frame.{Frame}
 use Rattle.tlv_show.specs.declared.rules.Rules.{Rules}
+use Rattle.tlv_show.specs.declared.rules.Rules.TheVariants.{Ber, Der, Cer}
 use Rattle.tlv_show.specs.Conditions.{end_conditions, ends_empty, has_unused_bits, is_not_full}
-use Rattle.tlv_show.specs.FinderState.{end_notes, frame_of, noted}
+use Rattle.tlv_show.specs.FinderState.{end_notes, frame_of, noted, segment_noted}
 use Rattle.tlv_show.specs.Found.{end_findings}
 use Rattle.tlv_show.specs.Items.{heads}
-use Rattle.tlv_show.specs.Site.{Sibling, Site, behind_padding, first_octet, in_string, inside_of, is_held_by}
+use Rattle.tlv_show.specs.Site.{Sibling, Site, behind_padding, first_octet, in_bit_string, in_string, inside_of, is_held_by}
 use Rattle.tlv_show.proofs.HeaderNotes.{Knows, end-by, ends-are, ends_by, filter-held}
 
 -- ---- what frames know
@@ -32,28 +34,50 @@ full-or-not : (k e : Bool) → not (not k && e) ≡ (k || not e)
 full-or-not true e = refl
 full-or-not false e = refl
 
-pub unused-of : (h : Heading) (c : List ℕ) → h.constructed ≡ false → has_unused (checked (unchecked h) c) ≡ has_unused_bits (Sibling h (first_octet c))
-unused-of h [] e = by-none (is_universal h.class) (h.number == bit_string)
-  where
-    by-none : (a b : Bool) → (a && b && false) ≡ false
-    by-none true true = refl
-    by-none true false = refl
-    by-none false b = refl
-unused-of h (x ∷ c) e = rw e refl
+unused-at : (k : Bool) (n size x : ℕ) (c : List ℕ) → eqb n bit_string ≡ k → has_unused (checked (unchecked_of n size) (x ∷ c)) ≡ (k && not (x == 0))
+unused-at true n size x c e = subst (λ (m : ℕ). has_unused (checked (unchecked_of m size) (x ∷ c)) ≡ not (x == 0)) (sym (eqb-true n bit_string e)) refl
+unused-at false n size x c e = ap (λ (k : Bool). k && is_not_zero (checked (unchecked_of n size) (x ∷ c)).front) e
 
-primitive-in : (w : Frame) (size : ℕ) (unused k : Bool) (h : Heading) → is_primitive h ≡ k → noted w (is_primitive h) size unused ≡ noted w k size unused
-primitive-in w size unused k h e = ap (λ (b : Bool). noted w b size unused) e
+type-is : (universal : Bool) (n : ℕ) → eqb (if universal then n else octet_string) bit_string ≡ (universal && n == bit_string)
+type-is true n = refl
+type-is false n = refl
+
+pub unused-of : (h : Heading) (c : List ℕ) → h.constructed ≡ false → has_unused (checked (unchecked h) c) ≡ has_unused_bits (Sibling h (first_octet c))
+unused-of h [] e = ap has_unused (checked-none h) ∙ by-none (eqb (type_noted h) bit_string)
+  where
+    by-none : (a : Bool) → (a && false) ≡ false
+    by-none true = refl
+    by-none false = refl
+unused-of h (x ∷ c) e =
+    let t : eqb (type_noted h) bit_string ≡ is_a bit_string h = type-is (is_universal h.class) h.number in
+    unused-at (is_a bit_string h) (type_noted h) (announced h.size) x c t ∙ ap (λ (k : Bool). not k && is_a bit_string h && not (x == 0)) (sym e)
 
 pub knows-behind : (w : Frame) (s t : Site) (h : Heading) (first : Option ℕ) (unused : Bool) → Knows w s → t.holder ≡ s.holder → t.before ≡ Sibling h first
     → unused ≡ has_unused_bits (Sibling h first) → Knows (noted w (is_primitive h) (announced h.size) unused) t
 knows-behind w s t h first unused k e b u =
     let same : in_string s ≡ in_string t = ap (is_held_by has_segments) (sym e) in
-    record {
-      segments = k.segments ∙ same;
-      bits = k.bits ∙ ap (is_held_by (λ h. has_segments h && is_a bit_string h)) (sym e);
-      unused = ap₂ (λ (x y : Bool). x && y) (k.segments ∙ same) (u ∙ ap has_unused_bits (sym b));
-      not_full = ap₂ (λ (x y : Bool). x && y) (k.segments ∙ same) (full-or-not h.constructed (announced h.size == 1000) ∙ ap is_not_full (sym b));
-    }
+    let bits : w.has_bits ≡ in_bit_string t = k.bits ∙ ap (is_held_by (λ h. has_segments h && is_a bit_string h)) (sym e) in
+    by-segments same bits w.has_segments refl
+  where
+    by-segments : in_string s ≡ in_string t → w.has_bits ≡ in_bit_string t → (b : Bool) → w.has_segments ≡ b
+        → Knows (if b then segment_noted w (is_primitive h) (announced h.size) unused else w) t
+    by-segments same bits true c =
+        let inside : true ≡ in_string t = sym c ∙ k.segments ∙ same in
+        record {
+          segments = k.segments ∙ same;
+          bits = bits;
+          unused = u ∙ ap has_unused_bits (sym b) ∙ ap (λ (x : Bool). x && has_unused_bits t.before) inside;
+          not_full = full-or-not h.constructed (announced h.size == 1000) ∙ ap is_not_full (sym b) ∙ ap (λ (x : Bool). x && is_not_full t.before) inside;
+        }
+    by-segments same bits false c =
+        let outside : in_string s ≡ false = sym k.segments ∙ c in
+        let still : false ≡ in_string t = sym outside ∙ same in
+        record {
+          segments = k.segments ∙ same;
+          bits = bits;
+          unused = k.unused ∙ ap (λ (x : Bool). x && has_unused_bits s.before) outside ∙ ap (λ (x : Bool). x && has_unused_bits t.before) still;
+          not_full = k.not_full ∙ ap (λ (x : Bool). x && is_not_full s.before) outside ∙ ap (λ (x : Bool). x && is_not_full t.before) still;
+        }
 
 pub knows-padding : (w : Frame) (s : Site) → Knows w s → s.holder ≡ None → Knows w (behind_padding s)
 knows-padding w s k e =
@@ -77,6 +101,76 @@ noted_all w (Awaiting h) = w
 noted_all w (Begun octets) = w
 noted_all w Zero = w
 
+-- the same of the segments of a string
+abbrev segments_noted : Frame → Forest → Frame
+segments_noted w Stop = w
+segments_noted w (Fill rest) = segments_noted w rest
+segments_noted w (Whole h c rest) = segments_noted (segment_noted w true (announced h.size) (has_unused (checked (unchecked h) c))) rest
+segments_noted w (Closed h inside rest) = segments_noted (segment_noted w (is_primitive h) (announced h.size) false) rest
+segments_noted w (Partial h c) = w
+segments_noted w (Entered h inside) = w
+segments_noted w (Awaiting h) = w
+segments_noted w (Begun octets) = w
+segments_noted w Zero = w
+
+in-string : (w : Frame) (primitive : Bool) (size : ℕ) (unused : Bool) → w.has_segments ≡ true → noted w primitive size unused ≡ segment_noted w primitive size unused
+in-string w primitive size unused e = ap (λ (k : Bool). if k then segment_noted w primitive size unused else w) e
+
+outside : (w : Frame) (primitive : Bool) (size : ℕ) (unused : Bool) → w.has_segments ≡ false → noted w primitive size unused ≡ w
+outside w primitive size unused e = ap (λ (k : Bool). if k then segment_noted w primitive size unused else w) e
+
+all-in-string : (w : Frame) (f : Forest) → w.has_segments ≡ true → noted_all w f ≡ segments_noted w f
+all-in-string w Stop e = refl
+all-in-string w (Fill rest) e = all-in-string w rest e
+all-in-string w (Whole h c rest) e =
+    let u : Bool = has_unused (checked (unchecked h) c) in
+    ap (λ (t : Frame). noted_all t rest) (in-string w true (announced h.size) u e) ∙ all-in-string (segment_noted w true (announced h.size) u) rest e
+all-in-string w (Closed h inside rest) e =
+    ap (λ (t : Frame). noted_all t rest) (in-string w (is_primitive h) (announced h.size) false e) ∙ all-in-string (segment_noted w (is_primitive h) (announced h.size) false) rest e
+all-in-string w (Partial h c) e = refl
+all-in-string w (Entered h inside) e = refl
+all-in-string w (Awaiting h) e = refl
+all-in-string w (Begun octets) e = refl
+all-in-string w Zero e = refl
+
+all-outside : (w : Frame) (f : Forest) → w.has_segments ≡ false → noted_all w f ≡ w
+all-outside w Stop e = refl
+all-outside w (Fill rest) e = all-outside w rest e
+all-outside w (Whole h c rest) e = ap (λ (t : Frame). noted_all t rest) (outside w true (announced h.size) (has_unused (checked (unchecked h) c)) e) ∙ all-outside w rest e
+all-outside w (Closed h inside rest) e = ap (λ (t : Frame). noted_all t rest) (outside w (is_primitive h) (announced h.size) false e) ∙ all-outside w rest e
+all-outside w (Partial h c) e = refl
+all-outside w (Entered h inside) e = refl
+all-outside w (Awaiting h) e = refl
+all-outside w (Begun octets) e = refl
+all-outside w Zero e = refl
+
+-- what a frame says of the holder
+pub record Stays (w t : Frame) : Type 0 where
+  pub at : t.at ≡ w.at
+  pub size : t.size ≡ w.size
+  pub primitive : t.is_primitive ≡ w.is_primitive
+
+stays-noted : (w : Frame) (primitive : Bool) (size : ℕ) (unused : Bool) → Stays w (noted w primitive size unused)
+stays-noted w primitive size unused = by w.has_segments
+  where
+    by : (k : Bool) → Stays w (if k then segment_noted w primitive size unused else w)
+    by true = record { at = refl; size = refl; primitive = refl }
+    by false = record { at = refl; size = refl; primitive = refl }
+
+stays-then : {u w t : Frame} → Stays u w → Stays w t → Stays u t
+stays-then a b = record { at = b.at ∙ a.at; size = b.size ∙ a.size; primitive = b.primitive ∙ a.primitive }
+
+pub stays : (w : Frame) (f : Forest) → Stays w (noted_all w f)
+stays w Stop = record { at = refl; size = refl; primitive = refl }
+stays w (Fill rest) = stays w rest
+stays w (Whole h c rest) = stays-then (stays-noted w true (announced h.size) (has_unused (checked (unchecked h) c))) (stays (noted w true (announced h.size) (has_unused (checked (unchecked h) c))) rest)
+stays w (Closed h inside rest) = stays-then (stays-noted w (is_primitive h) (announced h.size) false) (stays (noted w (is_primitive h) (announced h.size) false) rest)
+stays w (Partial h c) = record { at = refl; size = refl; primitive = refl }
+stays w (Entered h inside) = record { at = refl; size = refl; primitive = refl }
+stays w (Awaiting h) = record { at = refl; size = refl; primitive = refl }
+stays w (Begun octets) = record { at = refl; size = refl; primitive = refl }
+stays w Zero = record { at = refl; size = refl; primitive = refl }
+
 -- a primitive that holds nothing is not constructed
 pub not-constructed : (k wraps : Bool) → (k || wraps) ≡ false → k ≡ false
 not-constructed true wraps e = absurd (true≢false e)
@@ -88,15 +182,12 @@ added bits n hs = fold (λ (m : ℕ) (g : Heading). m + (announced g.size - bits
 abbrev bit_of : Bool → ℕ
 bit_of b = if b then 1 else 0
 
-pub record SumsUp (w : Frame) (n : ℕ) (f : Forest) : Type 0 where
-  pub at : (noted_all w f).at ≡ w.at
-  pub size : (noted_all w f).size ≡ w.size
-  pub primitive : (noted_all w f).is_primitive ≡ w.is_primitive
-  pub segments : (noted_all w f).has_segments ≡ w.has_segments
-  pub bits : (noted_all w f).has_bits ≡ w.has_bits
-  pub all : (noted_all w f).all_primitive ≡ (w.all_primitive && list_all is_primitive (heads f))
-  pub octets : (noted_all w f).octets ≡ min (added (bit_of w.has_bits) n (heads f)) 1001
-  pub empty : (noted_all w f).is_empty ≡ ends_empty w.is_empty (heads f)
+record SumsUp (w : Frame) (n : ℕ) (f : Forest) : Type 0 where
+  pub segments : (segments_noted w f).has_segments ≡ w.has_segments
+  pub bits : (segments_noted w f).has_bits ≡ w.has_bits
+  pub all : (segments_noted w f).all_primitive ≡ (w.all_primitive && list_all is_primitive (heads f))
+  pub octets : (segments_noted w f).octets ≡ min (added (bit_of w.has_bits) n (heads f)) 1001
+  pub empty : (segments_noted w f).is_empty ≡ ends_empty w.is_empty (heads f)
 
 and-true : (a : Bool) → a ≡ (a && true)
 and-true true = refl
@@ -105,21 +196,18 @@ and-true false = refl
 more-octets : (w n d : ℕ) → w ≡ min n 1001 → min (w + d) 1001 ≡ min (n + d) 1001
 more-octets w n d e = omega (arith, e)
 
-pub sums-up : (p : Place) (w : Frame) (n : ℕ) (f : Forest) → IsOpen p f → is_whole f ≡ true → w.octets ≡ min n 1001 → SumsUp w n f
+sums-up : (p : Place) (w : Frame) (n : ℕ) (f : Forest) → IsOpen p f → is_whole f ≡ true → w.octets ≡ min n 1001 → SumsUp w n f
 sums-up p w n Stop v e o =
-    record { at = refl; size = refl; primitive = refl; segments = refl; bits = refl; all = and-true w.all_primitive; octets = o; empty = refl }
+    record { segments = refl; bits = refl; all = and-true w.all_primitive; octets = o; empty = refl }
 sums-up p w n (Fill rest) v e o =
     let r = sums-up (after p 1) w n rest v.1 e o in
-    record { at = r.at; size = r.size; primitive = r.primitive; segments = r.segments; bits = r.bits; all = r.all; octets = r.octets; empty = r.empty }
+    record { segments = r.segments; bits = r.bits; all = r.all; octets = r.octets; empty = r.empty }
 sums-up p w n (Whole h c rest) v e o =
     let d : ℕ = announced h.size - bit_of w.has_bits in
     let k : is_primitive h ≡ true = ap not (not-constructed h.constructed (wraps h) v.0.header.form) in
     let u : Bool = has_unused (checked (unchecked h) c) in
-    let r = sums-up (after p (length (octets_of h) + length c)) (noted w true (announced h.size) u) (n + d) rest v.1 e (more-octets w.octets n d o) in
+    let r = sums-up (after p (length (octets_of h) + length c)) (segment_noted w true (announced h.size) u) (n + d) rest v.1 e (more-octets w.octets n d o) in
     record {
-      at = r.at;
-      size = r.size;
-      primitive = r.primitive;
       segments = r.segments;
       bits = r.bits;
       all = r.all ∙ and_assoc w.all_primitive true (list_all is_primitive (heads rest)) ∙ ap (λ (b : Bool). w.all_primitive && (b && list_all is_primitive (heads rest))) (sym k);
@@ -128,11 +216,8 @@ sums-up p w n (Whole h c rest) v e o =
     }
 sums-up p w n (Closed h inside rest) v e o =
     let d : ℕ = announced h.size - bit_of w.has_bits in
-    let r = sums-up (after p (extent h inside)) (noted w (is_primitive h) (announced h.size) false) (n + d) rest v.2 e (more-octets w.octets n d o) in
+    let r = sums-up (after p (extent h inside)) (segment_noted w (is_primitive h) (announced h.size) false) (n + d) rest v.2 e (more-octets w.octets n d o) in
     record {
-      at = r.at;
-      size = r.size;
-      primitive = r.primitive;
       segments = r.segments;
       bits = r.bits;
       all = r.all ∙ and_assoc w.all_primitive (is_primitive h) (list_all is_primitive (heads rest));
@@ -145,11 +230,10 @@ sums-up p w n (Awaiting h) v e o = absurd (cc (e))
 sums-up p w n (Begun octets) v e o = absurd (cc (e))
 sums-up p w n Zero v e o = absurd (cc (e))
 
--- what is found with an end, by the frame of what was held
-pub summed : (rules : Rules) (p : Place) (h : Heading) (inside : Forest) → IsOpen p inside → is_whole inside ≡ true → end_notes rules (noted_all (frame_of h) inside) ≡ end_findings rules h (heads inside)
-summed rules p h inside v e =
+segments-summed : (rules : Rules) (p : Place) (h : Heading) (inside : Forest) → IsOpen p inside → is_whole inside ≡ true → end_notes rules (segments_noted (frame_of h) inside) ≡ end_findings rules h (heads inside)
+segments-summed rules p h inside v e =
     let r = sums-up p (frame_of h) 0 inside v e refl in
-    let w : Frame = noted_all (frame_of h) inside in
+    let w : Frame = segments_noted (frame_of h) inside in
     let k : Bool = has_segments h in
     let b : Bool = is_a bit_string h in
     ends-are rules w
@@ -158,3 +242,20 @@ summed rules p h inside v e =
     ∙ ap (λ (n : ℕ). ends_by rules k (k && b) (list_all is_primitive (heads inside)) n (ends_empty false (heads inside))) r.octets
     ∙ end-by rules k b (list_all is_primitive (heads inside)) (ends_empty false (heads inside)) (λ (n : ℕ). added n 0 (heads inside))
     ∙ sym (filter-held rules (end_conditions h (heads inside)))
+
+-- outside of strings nothing is found with an end
+no-ends : (rules : Rules) (w : Frame) → w.has_segments ≡ false → end_notes rules w ≡ []
+no-ends Ber w e = refl
+no-ends Der w e = refl
+no-ends Cer w e = rw e refl
+
+-- what is found with an end, by the frame of what was held
+pub summed : (rules : Rules) (p : Place) (h : Heading) (inside : Forest) → IsOpen p inside → is_whole inside ≡ true → end_notes rules (noted_all (frame_of h) inside) ≡ end_findings rules h (heads inside)
+summed rules p h inside v e = by-segments (has_segments h) refl
+  where
+    by-segments : (k : Bool) → has_segments h ≡ k → end_notes rules (noted_all (frame_of h) inside) ≡ end_findings rules h (heads inside)
+    by-segments true c = ap (end_notes rules) (all-in-string (frame_of h) inside c) ∙ segments-summed rules p h inside v e
+    by-segments false c =
+        let r = sums-up p (frame_of h) 0 inside v e refl in
+        ap (end_notes rules) (all-outside (frame_of h) inside c) ∙ no-ends rules (frame_of h) c
+        ∙ sym (no-ends rules (segments_noted (frame_of h) inside) (r.segments ∙ c)) ∙ segments-summed rules p h inside v e

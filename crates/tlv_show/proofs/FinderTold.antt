@@ -22,7 +22,7 @@ use Rattle.tlv_show.specs.Items.{Item, FindingAt, OpeningLine, ClosingLine, Whol
 use Rattle.tlv_show.specs.Site.{Site, behind, behind_holder, behind_padding, first_octet, inside_of, is_padding}
 use Rattle.tlv_show.specs.Texts.{is_finding}
 use Rattle.tlv_show.proofs.CheckLaws.{one-or-more}
-use Rattle.tlv_show.proofs.FinderFolds.{knows-behind, knows-inside, knows-padding, not-constructed, noted_all, summed, sums-up, unused-of}
+use Rattle.tlv_show.proofs.FinderFolds.{knows-behind, knows-inside, knows-padding, not-constructed, noted_all, stays, summed, unused-of}
 use Rattle.tlv_show.proofs.HeaderNotes.{Knows, header-same}
 
 -- what becomes of a finder, and the items that it told
@@ -136,7 +136,7 @@ module _ (rules : Rules) where
       ≡ then_told (findings_at (length outer) h.offset (end_findings rules h (heads inside))) (run (standing (noted w (is_primitive h) (announced h.size) false) outer (behind_end h inside n)) es)
   closed p w outer n h inside es v whole =
       let f : Frame = noted_all (frame_of h) inside in
-      let r = sums-up p (frame_of h) 0 inside v whole refl in
+      let r = stays (frame_of h) inside in
       closed-by (standing f (w ∷ outer) n) (end_offset h.size (h.offset + length (opening h) + length (spell inside))) h.constructed es
       ∙ ap (λ (fs : List Finding). then_told (findings_at (length outer) f.at fs) (run (standing (noted w f.is_primitive f.size false) outer (count_up n (length fs))) es)) (summed rules p h inside v whole)
       ∙ ap (λ (at : ℕ). then_told (findings_at (length outer) at (end_findings rules h (heads inside))) (run (standing (noted w f.is_primitive f.size false) outer (behind_end h inside n)) es)) r.at
@@ -167,7 +167,7 @@ module _ (rules : Rules) where
       ≡ record { state = standing (noted w (is_primitive h) (announced h.size) false) outer (behind_end h inside n); level = length outer; at = h.offset; found = end_findings rules h (heads inside) }
   closed-find p w outer n h inside v whole =
       let f : Frame = noted_all (frame_of h) inside in
-      let r = sums-up p (frame_of h) 0 inside v whole refl in
+      let r = stays (frame_of h) inside in
       let fs : List Finding = end_findings rules h (heads inside) in
       ap (λ (gs : List Finding). record { state = standing (noted w f.is_primitive f.size false) outer (count_up n (length gs)); level = length outer; at = f.at; found = gs }) (summed rules p h inside v whole)
       ∙ ap (λ (at : ℕ). record { state = standing (noted w f.is_primitive f.size false) outer (behind_end h inside n); level = length outer; at = at; found = fs }) r.at
