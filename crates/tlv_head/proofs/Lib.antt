@@ -12,6 +12,7 @@ pub mod Headers
 pub mod Refused
 pub mod Exact
 pub mod Front
+pub mod ShortFronts
 pub mod OneReading
 pub mod Rows
 pub mod ShortestRows

@@ -1,5 +1,5 @@
 -- What a `HeadReader` carries of the octets so far.
-use Rattle.std.specs.Prelude.{◌≡◌, ℕ, ◌+◌, ◌^◌, ◌-◌, ◌<◌, ◌≤◌, Bool, true, false, List, [], ◌∷◌, ◌++◌, length, take, All}
+use Rattle.std.specs.Prelude.{◌≡◌, ◌≢◌, ℕ, ◌+◌, ◌^◌, ◌-◌, ◌<◌, ◌≤◌, Bool, true, false, List, [], ◌∷◌, ◌++◌, length, take, All}
 use Rattle.tlv_head.specs.declared.header.Class.{Class}
 use Rattle.tlv_head.specs.declared.header.Size.{Size}
 use Rattle.tlv_head.specs.Header.{AllowsSize, IsIdentifier, IsLength, flagged, leading_octet, value_of}
@@ -80,6 +80,17 @@ pub record BeginsWithLength (octets : List ℕ) (constructed : Bool) (size : Siz
   pub few : count ≤ 127
   pub sized : IsLength size (take count octets)
   pub allowed : AllowsSize constructed size
+
+-- octets begin with no identifier of at most three octets that has another octet behind it
+abbrev pub BeginsWithNoIdentifier : List ℕ → Type 0
+BeginsWithNoIdentifier octets =
+    (class : Class) (constructed : Bool) (number : ℕ) (identifier rest : List ℕ) → IsIdentifier class constructed number identifier
+    → length identifier ≤ 3 → rest ≢ [] → octets ≡ identifier ++ rest → ⊥
+
+-- octets begin with no length of at most three octets that an element of that form may have
+abbrev pub BeginsWithNoLength : List ℕ → Bool → Type 0
+BeginsWithNoLength octets constructed =
+    (size : Size) (lengths rest : List ℕ) → IsLength size lengths → AllowsSize constructed size → length lengths ≤ 3 → octets ≡ lengths ++ rest → ⊥
 
 -- what an octet makes of the octets before
 abbrev pub Follows : List ℕ → ℕ → Next → Type 0

@@ -1,7 +1,8 @@
--- What `read_header` answers.
-use Rattle.std.specs.Prelude.{ℕ, ◌≤◌, Bool, List, length, take}
+-- What `read_header` and `read_short` answer.
+use Rattle.std.specs.Prelude.{◌≡◌, ℕ, ◌+◌, ◌≤◌, Bool, List, ◌++◌, length, take}
 use Rattle.tlv_head.specs.declared.header.HeaderFields.{HeaderFields}
 use Rattle.tlv_head.specs.Fields.{heading_with, Suits}
+use Rattle.tlv_head.specs.Header.{Heading, IsHeading, octets_of}
 use Rattle.tlv_head.specs.Refusal.{BeginsWith}
 
 -- the octets begin with the header that has these fields and so many of the octets
@@ -9,3 +10,13 @@ pub record BeginsWithFields (octets : List ℕ) (at : ℕ) (is_named : Bool) (f 
   pub within : count ≤ length octets
   pub suits : Suits f (take count octets)
   pub begins : BeginsWith octets at is_named (heading_with f (take count octets))
+
+-- the header with these fields and so many octets has at most three identifier octets and three length octets
+pub record IsShort (f : HeaderFields) (count : ℕ) : Type 0 where
+  pub identifier : f.id_len ≤ 3
+  pub lengths : count ≤ f.id_len + 3
+
+-- no header with at most three identifier octets and three length octets is a front of the octets
+abbrev pub BeginsWithNoShort : List ℕ → Type 0
+BeginsWithNoShort octets =
+    (h : Heading) (rest : List ℕ) → IsHeading h → octets ≡ octets_of h ++ rest → length h.identifier ≤ 3 → length h.lengths ≤ 3 → ⊥

@@ -3,8 +3,8 @@ ghost use Rattle.std.specs.Prelude.{◌≡◌, ◌≢◌, ℕ, ◌+◌, ◌/◌,
 ghost use Rattle.tlv_head.specs.Header.{class_bits, is_wrapper as is_wrapper_of};
 ghost use Rattle.tlv_head.specs.Progress.{Fits};
 ghost use Rattle.tlv_head.specs.Refusal.{BeginsWithNone};
-ghost use Rattle.tlv_head.specs.Read.{BeginsWithFields};
-ghost use Rattle.tlv_head.specs.Part.{BeginsWithIdentifier, BeginsWithLength};
+ghost use Rattle.tlv_head.specs.Read.{BeginsWithFields, BeginsWithNoShort, IsShort};
+ghost use Rattle.tlv_head.specs.Part.{BeginsWithIdentifier, BeginsWithLength, BeginsWithNoIdentifier, BeginsWithNoLength};
 ghost use Rattle.tlv_head.specs.Part.{Carries, CarriesNumber, CarriesIdentifier, CarriesLength, Follows, is_done};
 
 use crate::header::is_wrapper;
@@ -173,11 +173,12 @@ pub fn read_header(offset: u64, named: bool, octets: &[u8]) -> Option<(HeaderFie
 }
 
 /// The header with which the octets begin, and how many octets it has, where one to three of them are the identifier and
-/// one to three the length. `None` says nothing: [`read_header`] finds each header. It stands apart because most headers are
-/// so short, and few instructions read them.
+/// one to three the length. `None` where the octets begin with no such header; [`read_header`] finds a longer one. It stands
+/// apart because most headers are so short, and few instructions read them.
 #[inline(always)]
 pub fn read_short(offset: u64, named: bool, octets: &[u8]) -> Option<(HeaderFields, usize)>
-    ensures { IfSome result (λ found. BeginsWithFields octets.now offset named found.0 found.1) }
+    ensures begins { MatchOption result (BeginsWithNoShort octets.now) (λ found. BeginsWithFields octets.now offset named found.0 found.1) }
+    ensures short { IfSome result (λ found. IsShort found.0 found.1) }
 {
     let identifier = short_identifier(octets)?;
     let before = usize::from(identifier.octets);
@@ -185,10 +186,11 @@ pub fn read_short(offset: u64, named: bool, octets: &[u8]) -> Option<(HeaderFiel
     Some((fields_of(offset, named, identifier, size), before + count))
 }
 
-/// The identifier with which the octets begin, if it has at most three.
+/// The identifier with which the octets begin, if it has at most three. `None` where they begin with no such identifier that
+/// has an octet behind it.
 #[inline(always)]
 fn short_identifier(octets: &[u8]) -> Option<Identifier>
-    ensures { IfSome result (λ id. BeginsWithIdentifier octets.now id) }
+    ensures { MatchOption result (BeginsWithNoIdentifier octets.now) (λ id. BeginsWithIdentifier octets.now id × (id.octets ≤ 3)) }
 {
     if octets.is_empty() || octets[0] == 0 {
         return None;
@@ -212,9 +214,11 @@ fn short_identifier(octets: &[u8]) -> Option<Identifier>
 }
 
 /// The length with which the octets begin behind the identifier, and how many octets it has, if they are at most three.
+/// `None` where they begin with no such length that an element of that form may have.
 #[inline(always)]
 fn short_length(constructed: bool, octets: &[u8]) -> Option<(Size, usize)>
-    ensures { IfSome result (λ found. BeginsWithLength octets.now constructed found.0 found.1) }
+    ensures { MatchOption result (BeginsWithNoLength octets.now constructed)
+        (λ found. BeginsWithLength octets.now constructed found.0 found.1 × (found.1 ≤ 3)) }
 {
     if octets.is_empty() {
         return None;
