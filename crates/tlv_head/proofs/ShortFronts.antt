@@ -6,7 +6,6 @@ use Rattle.tlv_head.specs.declared.header.Class.{Class}
 use Rattle.tlv_head.specs.declared.header.Size.{Size}
 use Rattle.tlv_head.specs.declared.header.Size.TheVariants.{Definite, Indefinite}
 use Rattle.tlv_head.specs.declared.fault.FaultCode.{FaultCode}
-use Rattle.tlv_head.specs.declared.fault.FaultCode.TheVariants.{Empty, Short, StrayEnd, BadEnd, MissingEnd, TagTooLong, ReservedLength, IndefinitePrimitive, LengthTooLarge, TooDeep, Overrun, BadInside}
 use Rattle.tlv_head.specs.declared.reader.Identifier.{Identifier}
 use Rattle.tlv_head.specs.declared.reader.Part.{Part}
 use Rattle.tlv_head.specs.declared.reader.Part.TheVariants.{Start, Number, Length, Digits, Done}
@@ -15,7 +14,7 @@ use Rattle.tlv_head.specs.declared.reader.Next.TheVariants.{Unfinished, Finished
 use Rattle.tlv_head.specs.Header.{AllowsSize, IsIdentifier, IsLength, flagged, leading_octet}
 use Rattle.tlv_head.specs.Part.{BeginsWithIdentifier, BeginsWithNoIdentifier, BeginsWithNoLength, Carries, CarriesIdentifier, CarriesNumber, Follows}
 use Rattle.tlv_head.specs.Read.{BeginsWithNoShort}
-use Rattle.tlv_head.specs.Refusal.{IsRefusedOctet}
+use Rattle.tlv_head.specs.Refusal.{IsRefusedOctet, indefinite_primitive, length_too_large, reserved_length, tag_too_long}
 use Rattle.tlv_head.proofs.Scan.{Named, scan, scan-identifier, start}
 use Rattle.tlv_head.proofs.Steps.{ends_number}
 
@@ -111,21 +110,13 @@ number-length id o h =
     let count : id.octets ≡ length h.digits + 1 = h.count in
     rw h.front.octet (omega (arith, length-map h.digits (λ d. 128 + d)))
 
-unrefused : (code : FaultCode) (id : Identifier) (o : List ℕ) (x : ℕ) → CarriesNumber id o → length o ≤ 8 → IsRefusedOctet code o x → ⊥
-unrefused TagTooLong id o x h few r =
-    let size : length o ≡ length r.digits + 1 = rw r.front.octet (omega (arith, length-map r.digits (λ d. 128 + d))) in
-    omega (arith, r.eight)
-unrefused ReservedLength id o x h few r = unended id o r.front.class r.constructed r.front.number o [] h r.front.identifier (sym (append-nil o))
-unrefused IndefinitePrimitive id o x h few r = unended id o r.front.class false r.front.number o [] h r.front.identifier (sym (append-nil o))
-unrefused LengthTooLarge id o x h few r = unended id o r.class r.constructed r.number r.identifier _ h r.front.identified r.front.octet
-unrefused Empty id o x h few r = r
-unrefused Short id o x h few r = r
-unrefused StrayEnd id o x h few r = r
-unrefused BadEnd id o x h few r = r
-unrefused MissingEnd id o x h few r = r
-unrefused TooDeep id o x h few r = r
-unrefused Overrun id o x h few r = r
-unrefused BadInside id o x h few r = r
+unrefused : (code : FaultCode) (id : Identifier) (o : List ℕ) (x : ℕ) → CarriesNumber id o → length o ≤ 8 → IsRefusedOctet o x code → ⊥
+unrefused code id o x h few (tag_too_long c k digits each eight octet flag) =
+    let size : length o ≡ length digits + 1 = rw octet (omega (arith, length-map digits (λ d. 128 + d))) in
+    omega (arith, eight)
+unrefused code id o x h few (reserved_length c k n i all) = unended id o c k n o [] h i (sym (append-nil o))
+unrefused code id o x h few (indefinite_primitive c n i mark) = unended id o c false n o [] h i (sym (append-nil o))
+unrefused code id o x h few (length_too_large c k n i digits left p each octet most many nonzero) = unended id o c k n i _ h p octet
 
 -- an octet behind the high form is taken
 pub always-unfinished : (r : Next) (id : Identifier) (o : List ℕ) (x : ℕ) → CarriesNumber id o → length o ≤ 8 → Follows o x r
