@@ -34,16 +34,6 @@ pub within-le : (b : Option ℕ) (m n : ℕ) → n ≤ m → IfSome b (λ b. m �
 within-le None m n h f = tt
 within-le (Some b) m n h f = omega arith
 
--- the bound is at the last offset that is not past it
-pub within-last : (b : Option ℕ) (n m : ℕ) → m ≡ n + 1 → IfSome b (λ b. n ≤ b) → within b m ≡ false → b ≡ Some n
-within-last None n m s f e = absurd (true≢false e)
-within-last (Some b) n m s f e = let same : b ≡ n = omega (arith, leb-false m b e) in ap Some same
-
--- an offset that is not within the bound is past it
-pub within-past : (b : Option ℕ) (n : ℕ) → within b n ≡ false → (c : ℕ) × (b ≡ Some c) × (c < n)
-within-past None n e = absurd (true≢false e)
-within-past (Some b) n e = (b, refl, leb-false n b e)
-
 -- a definite length is that of the contents, as a test
 abbrev pub has_length : Size → ℕ → Bool
 has_length (Definite n) m = eqb m n

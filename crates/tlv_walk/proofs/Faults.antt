@@ -1,5 +1,5 @@
 -- An octet is refused where it has a fault of the list, with that code.
-use Rattle.std.proofs.Common.{◌≡◌, inl, inr, ℕ, ◌+◌, ◌<◌, Bool, true, false, cond, ◌&&◌, ◌||◌, eqb, leb, List, [], ◌∷◌, ◌++◌, length, Option, Some, None, refl, sym, ap, ◌∙◌, arith, eq-eqb, ne_eqb, le-leb, leb-true, leb-false}
+use Rattle.std.proofs.Common.{◌≡◌, inl, inr, ℕ, ◌+◌, ◌<◌, Bool, true, false, ◌&&◌, ◌||◌, leb, List, [], ◌∷◌, ◌++◌, length, Option, Some, None, refl, sym, ap, ◌∙◌, eq-eqb, ne_eqb, le-leb, leb-true, leb-false}
 use Rattle.std.proofs.lemmas.Bool.{cases_Bool, cases_eq, and_parts, and_cases, and_from, lt-leb, true≢false}
 use Rattle.tlv_head.specs.declared.fault.FaultCode.{FaultCode}
 use Rattle.tlv_head.specs.declared.fault.FaultCode.TheVariants.{StrayEnd}
@@ -10,7 +10,7 @@ use Rattle.tlv_head.proofs.Meaning.{Reads, reads-step, reads-scan, front-bytes}
 use Rattle.tlv_head.proofs.Headers.{IsHeadRefusal, Explains, explains}
 use Rattle.tlv_head.proofs.Refused.{refused-stuck}
 use Rattle.tlv_walk.specs.declared.framing.Framing.{Framing}
-use Rattle.tlv_walk.specs.Forest.{Forest, Stop, Fill, Whole, Closed, Partial, Entered, Awaiting, Begun, Zero}
+use Rattle.tlv_walk.specs.Forest.{Forest, Stop, Partial, Awaiting, Begun, Zero}
 use Rattle.tlv_walk.specs.Place.{Fits, IsHeadAt, IsOpen, Place, top}
 use Rattle.tlv_walk.specs.Ending.{IsFault, bad_inside, missing_end, bad_end, no_room, refused_octet, too_deep, overrun, no_end, stray_end, tip}
 use Rattle.tlv_walk.proofs.Bounds.{fits, fits-within, within-fits}
