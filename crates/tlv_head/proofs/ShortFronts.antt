@@ -58,7 +58,7 @@ one-identifier c d k j n m i o x y (inr p) (inr q) e =
     let digits : flagged p.digits ++ p.last ∷ [] ≡ flagged q.digits ++ q.last ∷ [] = flagged-end p.digits q.digits p.last q.last x y p.last_digit q.last_digit rest in
     p.octet ∙ (ap (λ (u : ℕ). u ∷ (flagged p.digits ++ p.last ∷ [])) same ∙ (ap (λ (t : List ℕ). leading_octet d j 31 ∷ t) digits ∙ sym q.octet))
 
--- and they say one form
+-- and it says one form
 one-form : (c d : Class) (k j : Bool) (n m : ℕ) (i o : List ℕ) → IsIdentifier c k n i → IsIdentifier d j m o → i ≡ o → k ≡ j
 one-form c d k j n m i o p q e =
     let left : scan start i ≡ Named c k n i = scan-identifier start c k n i p in
@@ -66,7 +66,7 @@ one-form c d k j n m i o p q e =
     let both : Named c k n i ≡ Named d j m o = sym left ∙ (ap (scan start) e ∙ right) in
     cc
 
--- the front of a list that goes on
+-- a front that is no longer than another is a front of that one
 within-front : (o i x y : List ℕ) → length i ≤ length o → o ++ x ≡ i ++ y → (z : List ℕ) × (o ≡ i ++ z)
 within-front o [] x y h e = (o, refl)
 within-front [] (b ∷ i) x y h e = absurd (omega arith)
@@ -76,6 +76,7 @@ within-front (a ∷ o) (b ∷ i) x y h e =
     let r = within-front o i x y (omega arith) rest in
     (r.0, ap (λ (t : List ℕ). a ∷ t) r.1 ∙ ap (λ (u : ℕ). u ∷ (i ++ r.0)) same)
 
+-- there are length octets, and identifier octets
 some-length : (s : Size) (l : List ℕ) → IsLength s l → l ≢ []
 some-length (Definite n) l (inl short) e = omega (arith, ap length (sym short.1 ∙ e))
 some-length (Definite n) l (inr long) e = omega (arith, ap length (sym long.octet ∙ e))
@@ -98,18 +99,14 @@ unended id o c k n i z h p e =
     let same : o ++ 0 ∷ [] ≡ i = one-identifier _ c _ k _ n (o ++ 0 ∷ []) i [] (z ++ 0 ∷ []) ended.identified p whole in
     omega (arith, ap length same, length-append o (0 ∷ []), ap length e, length-append i z)
 
--- nor is one behind it, with octets that are its length
+-- nor is one a front of it and another octet, with octets left for a length
 unended-length : (id : Identifier) (o : List ℕ) (x : ℕ) (c : Class) (k : Bool) (n : ℕ) (i l : List ℕ) → CarriesNumber id o → IsIdentifier c k n i → 1 ≤ length l
     → o ++ x ∷ [] ≡ i ++ l → ⊥
 unended-length id o x c k n i l h p some e =
     let r = within-front o i (x ∷ []) l (omega (arith, ap length e, length-append o (x ∷ []), length-append i l)) e in
     unended id o c k n i r.0 h p r.1
 
-number-length : (id : Identifier) (o : List ℕ) → CarriesNumber id o → length o ≡ id.octets
-number-length id o h =
-    let count : id.octets ≡ length h.digits + 1 = h.count in
-    rw h.front.octet (omega (arith, length-map h.digits (λ d. 128 + d)))
-
+-- no octet is refused behind the high form so far, where it has at most seven digits
 unrefused : (code : FaultCode) (id : Identifier) (o : List ℕ) (x : ℕ) → CarriesNumber id o → length o ≤ 8 → IsRefusedOctet o x code → ⊥
 unrefused code id o x h few (tag_too_long c k digits each eight octet flag) =
     let size : length o ≡ length digits + 1 = rw octet (omega (arith, length-map digits (λ d. 128 + d))) in
@@ -118,7 +115,7 @@ unrefused code id o x h few (reserved_length c k n i all) = unended id o c k n o
 unrefused code id o x h few (indefinite_primitive c n i mark) = unended id o c false n o [] h i (sym (append-nil o))
 unrefused code id o x h few (length_too_large c k n i digits left p each octet most many nonzero) = unended id o c k n i _ h p octet
 
--- an octet behind the high form is taken
+-- so an octet is taken, and makes no header
 pub always-unfinished : (r : Next) (id : Identifier) (o : List ℕ) (x : ℕ) → CarriesNumber id o → length o ≤ 8 → Follows o x r
     → ((p : Part) → r ≡ Unfinished p → ⊥) → ⊥
 always-unfinished (Unfinished p) id o x h few f not = not p refl
@@ -126,17 +123,19 @@ always-unfinished (Finished d size) id o x h few f not =
     unended-length id o x d.class d.constructed d.number f.identifier f.lengths h f.identified.identified f.some f.octet
 always-unfinished (Refused code) id o x h few f not = unrefused code id o x h few f
 
--- what an octet makes of the high form
+-- what is answered is carried
 followed : (r : Next) (p : Part) (o : List ℕ) (x : ℕ) → Follows o x r → r ≡ Unfinished p → Carries p (o ++ x ∷ [])
 followed r p o x f e = subst (Follows o x) e f
 
+-- the high form, which goes on
 pub still-high : (r : Next) (p : Part) (d : Identifier) (o : List ℕ) (x : ℕ) → Follows o x r → r ≡ Unfinished p → p ≡ Number d → CarriesNumber d (o ++ x ∷ [])
 still-high r p d o x f e g = followed r (Number d) o x f (e ∙ ap (λ (q : Part). Unfinished q) g)
 
--- the high form so far, with some fields
+-- the high form so far, whatever it says
 abbrev pub IsUnended : List ℕ → Type 0
 IsUnended o = (d : Identifier) × CarriesNumber d o
 
+-- an octet ends the high form or goes on with it
 carried-on : (p : Part) (id : Identifier) (o : List ℕ) (x : ℕ) → CarriesNumber id o → Carries p (o ++ x ∷ [])
     → ((d : Identifier) → p ≡ Length d → ⊥) → (d : Identifier) × (p ≡ Number d) × CarriesNumber d (o ++ x ∷ [])
 carried-on Start id o x h f not = absurd (snoc≢nil o x f)
@@ -146,7 +145,6 @@ carried-on (Digits d n left) id o x h f not =
     absurd (unended-length id o x d.class d.constructed d.number f.identifier _ h f.front.identified (omega arith) f.front.octet)
 carried-on Done id o x h f not = absurd (snoc≢nil o x f)
 
--- it ends the high form or goes on with it
 pub goes-on : (r : Next) (p : Part) (id : Identifier) (o : List ℕ) (x : ℕ) → CarriesNumber id o → Follows o x r → r ≡ Unfinished p
     → ((d : Identifier) → p ≡ Length d → ⊥) → IsUnended (o ++ x ∷ [])
 goes-on r p id o x h f e not = let on = carried-on p id o x h (followed r p o x f e) not in (on.0, on.2)
@@ -155,7 +153,7 @@ pub no-other : (r : Next) (p : Part) (id : Identifier) (o : List ℕ) (x : ℕ) 
     → ((d : Identifier) → p ≡ Length d → ⊥) → ((d : Identifier) → p ≡ Number d → ⊥) → ⊥
 no-other r p id o x h f e not nor = let on = carried-on p id o x h (followed r p o x f e) not in nor on.0 on.1
 
--- so it does with the first octet
+-- the first octet is an identifier, or begins the high form
 pub leads-on : (p : Part) (x : ℕ) → Carries p (x ∷ []) → ((d : Identifier) → p ≡ Length d → ⊥) → ((d : Identifier) → p ≡ Number d → ⊥) → ⊥
 leads-on Start x h not nor = let none : x ∷ [] ≡ [] = h in cc
 leads-on (Number d) x h not nor = nor d refl
@@ -168,19 +166,19 @@ leads-on (Digits d n left) x h not nor =
     short_front (a ∷ i) y l x e = absurd (omega (arith, ap length e, length-append i (y ∷ l)))
 leads-on Done x h not nor = let none : x ∷ [] ≡ [] = h in cc
 
--- no identifier that is no longer is a front of what begins with the high form so far
+-- octets that begin with the high form so far begin with no identifier of as few octets
 none-behind : (id : Identifier) (o more : List ℕ) (c : Class) (k : Bool) (n : ℕ) (i rest : List ℕ) → CarriesNumber id o → IsIdentifier c k n i
     → length i ≤ length o → o ++ more ≡ i ++ rest → ⊥
 none-behind id o more c k n i rest h p few e = let r = within-front o i more rest few e in unended id o c k n i r.0 h p r.1
 
--- three octets of the high form
+-- three octets of the high form that have not ended it
 pub no-third : (xs : List ℕ) (id : Identifier) → CarriesNumber id (get_or xs 0 0 ∷ get_or xs 1 0 ∷ get_or xs 2 0 ∷ []) → 3 ≤ length xs → BeginsWithNoIdentifier xs
 no-third [] id h some = absurd (omega arith)
 no-third (x ∷ []) id h some = absurd (omega arith)
 no-third (x ∷ y ∷ []) id h some = absurd (omega arith)
 no-third (x ∷ y ∷ z ∷ xs) id h some = λ c k n i rest p few more e. none-behind id (x ∷ y ∷ z ∷ []) xs c k n i rest h p few e
 
--- a header begins with an identifier that a length follows
+-- a header is an identifier, which has an octet behind it
 pub no-short_identifier : (os : List ℕ) → BeginsWithNoIdentifier os → BeginsWithNoShort os
 no-short_identifier os none = λ h rest v e few less.
     none h.class h.constructed h.number h.identifier (h.lengths ++ rest) v.identifier few
@@ -190,7 +188,7 @@ no-short_identifier os none = λ h rest v e few less.
     front-nil [] b e = refl
     front-nil (x ∷ a) b e = absurd (cc)
 
--- and behind that identifier with that length
+-- and a length that its form may have
 pub no-short_length : (os : List ℕ) (id : Identifier) (before : ℕ) → BeginsWithIdentifier os id → before ≡ id.octets
     → BeginsWithNoLength (take (length os - before) (drop before os)) id.constructed → BeginsWithNoShort os
 no-short_length os id before b at none = λ h rest v e few less.
