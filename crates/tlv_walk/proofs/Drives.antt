@@ -34,7 +34,6 @@ use Rattle.tlv_walk.proofs.Followed.{events_enough, followed-alike, followed-eno
 use Rattle.tlv_walk.proofs.Following.{made_both, made_none, made_put}
 use Rattle.tlv_walk.proofs.Pieces.{Gathered, gathered_more, gathered_none, pieces_all, together_more}
 use Rattle.tlv_walk.proofs.Puts.{sends_nothing, sends_ok, sends_then}
-use Rattle.tlv_walk.proofs.Readings.{is-reading, reading}
 use Rattle.tlv_walk.proofs.Turns.{stands_spelled, stands_told}
 
 -- ---- reads
@@ -203,9 +202,6 @@ module _ {S : Type 0} (next : S → Told → Following S)
       walked_is : walked ≡ take limit (before ++ r)
       walked_is = limit_behind limit before r within
 
-      walked_octets : AreOctets walked
-      walked_octets = subst AreOctets (sym walked_is) (All-take (λ x. x < 256) limit (before ++ r) all_octets)
-
       -- what was sent before and in this turn
       sent : (more : List Told) (result : Result ⊤ DeviceFault) → Sends at to (followed next t more).put result → Sends from to (followed next s (x.told ++ more)).put result
       sent more result k =
@@ -280,9 +276,9 @@ module _ {S : Type 0} (next : S → Told → Following S)
       unfolding runs_by
       ends_with run is g yes' y =
           let es : List Told = x.told ++ y.more in
-          let f : Forest = reading framing walked in
-          let read : IsReading framing walked f = is-reading framing walked walked_octets in
-          let others : (others : List Told) × AreEqualJoined (es ++ others) (events f) = y.tells f (subst (λ (k : Framing). IsReading k walked f) (sym x.same) read) in
+          let f : Forest = y.reading in
+          let read : IsReading framing walked f = subst (λ (k : Framing). IsReading k walked f) x.same y.is_reading in
+          let others : (others : List Told) × AreEqualJoined (es ++ others) (events f) = (y.others, y.tells) in
           let made : Made next s u es go.Enough = made_both next s t u x.told y.more go.Enough x.made y.made in
           let k : MadeAll s u f go.Enough (followed next s es).put = made_enough s u es others.0 f made others.1 in
           let answer : run ≡ run_of framing f (followed_events next s (events f)) (followed next s (events f)).goes run.ending =
@@ -327,11 +323,10 @@ module _ {S : Type 0} (next : S → Told → Following S)
       drives_write_failed : result ≡ Err WriteFailed → Turns next limit w v t u before x.told r at to (Err WriteFailed) → Drives next framing limit s u old new from to (Err WriteFailed)
       drives_write_failed is y =
           let g : GaveUpTo (length piece) new.last = subst (λ (n : ℕ). GaveUpTo n new.last) (sym room) (subst (λ (k : Result Turn DeviceFault). Gave 4096 k new.last) is calls.last) in
-          let f : Forest = reading framing walked in
-          let read : IsReading framing walked f = is-reading framing walked walked_octets in
-          let z = y f (subst (λ (k : Framing). IsReading k walked f) (sym x.same) read) in
-          let es : List Told = x.told ++ z.0 in
-          let same : followed next s es ≡ followed next s (events f) = alike s es (events f) z.1 in record {
+          let f : Forest = y.reading in
+          let read : IsReading framing walked f = subst (λ (k : Framing). IsReading k walked f) x.same y.is_reading in
+          let es : List Told = x.told ++ y.more in
+          let same : followed next s es ≡ followed next s (events f) = alike s es (events f) y.tells in record {
             runs = record {
               pieces = pieces_all old mid new x.gathered r calls.octets calls.reads (gave_last new.last piece g) few;
               failures = calls.failed_reads ∙ ap (λ (k : Result Turn DeviceFault). failures_after (of_source k) mid.failures) is ∙ x.failures;
@@ -339,7 +334,7 @@ module _ {S : Type 0} (next : S → Told → Following S)
               within = within;
               reading = f;
               is_reading = subst (λ (o : List ℕ). IsReading framing o f) walked_is read;
-              sends = subst (λ (l : List ℕ). Sends {T = ⊤} {E = DeviceFault} from to l (Err WriteFailed)) (ap (λ (k : Following S). k.put) same) (sent z.0 (Err WriteFailed) z.2);
+              sends = subst (λ (l : List ℕ). Sends {T = ⊤} {E = DeviceFault} from to l (Err WriteFailed)) (ap (λ (k : Following S). k.put) same) (sent y.more (Err WriteFailed) y.put);
               comes = tt;
             };
             state = tt;

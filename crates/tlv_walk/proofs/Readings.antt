@@ -184,6 +184,12 @@ run-reading w (Halted f code) b r = record { is_open = r.is_open; front = (r.oct
 pub is-reading : (w : Framing) (b : List ℕ) → All (λ x. x < 256) b → IsReading w b (reading w b)
 is-reading w b each = run-reading w (run w b) b (is-run w b each)
 
+-- behind octets that are all read others can be read too
+pub reading-longer : (w : Framing) (f : Forest) (b xs : List ℕ) → All (λ x. x < 256) xs → IsReading w b f → spell f ≡ b → (g : Forest) × IsReading w (b ++ xs) g
+reading-longer w f b xs each r e =
+    let k : Run = run_from w (Going f) xs in
+    (forest_of k, run-reading w k (b ++ xs) (run_from-run w (Going f) b xs each (record { is_open = r.is_open; spelled = e })))
+
 -- an input has one reading
 pub reading-unique : (w : Framing) (b : List ℕ) (f g : Forest) → IsReading w b f → IsReading w b g → f ≡ g
 reading-unique w b f g r s =

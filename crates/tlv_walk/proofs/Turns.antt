@@ -27,6 +27,7 @@ use Rattle.tlv_walk.specs.Follow.{Following, followed}
 use Rattle.tlv_walk.specs.Follows.{Fails, Follows, FollowsTo, GoesOnIn, Stops, WalkedTo}
 use Rattle.tlv_walk.specs.Forest.{Forest, spell}
 use Rattle.tlv_walk.specs.Job.{IsFinalEnding}
+use Rattle.tlv_walk.specs.Laws.{AreOctets}
 use Rattle.tlv_walk.specs.Machine.{Machine, unused_in}
 use Rattle.tlv_walk.specs.Out.{Puts, Sends, held_in, lender_of}
 use Rattle.tlv_walk.specs.Place.{top}
@@ -39,7 +40,7 @@ use Rattle.tlv_walk.proofs.Followed.{followed-front}
 use Rattle.tlv_walk.proofs.Following.{walked_goes_on}
 use Rattle.tlv_walk.proofs.Puts.{puts_failed_last, puts_then_as, sends_err, sends_flushed, sends_ok, sends_puts}
 use Rattle.tlv_walk.proofs.Push.{Spells}
-use Rattle.tlv_walk.proofs.Readings.{reading-unique}
+use Rattle.tlv_walk.proofs.Readings.{reading-longer, reading-unique}
 use Rattle.tlv_walk.proofs.StateReading.{state-reading, state-spells}
 use Rattle.tlv_walk.proofs.ToldOctets.{stands-told_octets}
 use Rattle.tlv_walk.proofs.Unused.{stands-entered, stands_unused}
@@ -161,15 +162,19 @@ module _ {S : Type 0} (next : S → Told → Following S) where
   -- ---- the follower had enough
 
   pub enough_stops : (w v : Machine) (s t : S) (b piece : List ℕ) (told : List Told) (P Q : List ℕ → Type 0) → ((x : List ℕ) → P x → Q x) → Stops next w v s t piece P (Ok stop.Enough) → Stands w b told
-      → (run : Run) → IsRun run ending.Done true v → StopsIn next w v s t (b ++ piece) told Q run
-  enough_stops w v s t b piece told P Q h x st run is =
+      → (f : Forest) → IsReading w.framing (b ++ piece) f → (run : Run) → IsRun run ending.Done true v → StopsIn next w v s t (b ++ piece) told Q run
+  enough_stops w v s t b piece told P Q h x st f read run is =
       let k = x.1 in
+      let further = walked_goes_on w v piece x.0 k.more k.walked b told st f read in
       let there : Stands v (b ++ k.walked.taken) (told ++ k.more) = k.walked.stands b told st in
       let front : flat_map octets_told (told ++ k.more) ≡ b ++ k.walked.taken = stands-told_octets v (b ++ k.walked.taken) (told ++ k.more) there x.2 in record {
         more = k.more;
         made = k.made;
         put = h (followed next s k.more).put k.put;
-        tells = walked_goes_on w v piece x.0 k.more k.walked b told st;
+        reading = f;
+        is_reading = read;
+        others = further.0;
+        tells = further.1;
         ending = is.ending;
         framing = k.walked.framing;
         is_front = (x.0, ap (λ (o : List ℕ). o ++ x.0) front ∙ append_assoc b k.walked.taken x.0 ∙ ap (λ (o : List ℕ). b ++ o) (sym k.walked.piece));
@@ -206,7 +211,8 @@ taken_within limit at n p = elim (cases_lt (limit - at) n) [
 ]
 
 module _ {S : Type 0} (next : S → Told → Following S) (w v : Machine) (s t : S) (from to : Taken) (b : List ℕ) (told : List Told) (p piece r : List ℕ) (n m limit : ℕ)
-    (st : Stands w b told) (some : n ≤ length p) (below : w.offset ≤ limit) (is_m : m ≡ min (limit - w.offset) n) (is_piece : piece ≡ take m p) (is_r : r ≡ take n p) where
+    (st : Stands w b told) (some : n ≤ length p) (below : w.offset ≤ limit) (is_m : m ≡ min (limit - w.offset) n) (is_piece : piece ≡ take m p) (is_r : r ≡ take n p)
+    (octets : AreOctets piece) where
   -- octets were sent, and a stop was answered
   abbrev Sent : Result Stop WriteFault → List ℕ → Type 0
   Sent result text = Sends from to text result
@@ -222,6 +228,11 @@ module _ {S : Type 0} (next : S → Told → Following S) (w v : Machine) (s t :
 
   many : length r ≡ n
   many = ap length is_r ∙ length-take n p ∙ omega (arith, some)
+
+  -- the reading of the octets that are followed
+  read : (f : Forest) × IsReading w.framing (b ++ piece) f
+  read =
+      reading-longer w.framing st.reading b piece octets st.is_reading (stands_spelled w b told st.reading st st.is_reading)
 
   -- all octets are within the limit
   all_within : (m < n → ⊥) → piece ≡ r
@@ -273,15 +284,17 @@ module _ {S : Type 0} (next : S → Told → Following S) (w v : Machine) (s t :
   turns_enough run why x is =
       let P : List ℕ → Type 0 = λ text. Sends {T = ⊤} {E = DeviceFault} from to text (Ok tt) in (
         subst (λ (k : Bool). EndsBy next k w v s t (b ++ take (limit - length b) r) told P run) (sym is.enough)
-            (subst (λ (o : List ℕ). StopsIn next w v s t o told P run) reached (enough_stops next w v s t b piece told _ P (sent why (Ok Again)) x st run is)),
+            (subst (λ (o : List ℕ). StopsIn next w v s t o told P run) reached (enough_stops next w v s t b piece told _ P (sent why (Ok Again)) x st read.0 read.1 run is)),
         inl is.enough,
       )
 
   pub turns_failed : (e : WriteFault) → Fails next w s piece (Sent (Err e)) → Turns next limit w v s t b told r from to (Err WriteFailed)
-  turns_failed e x f read =
-      let o = x.tells b told st f (subst (λ (o : List ℕ). IsReading w.framing o f) (sym reached) read) in
-      let front = followed-front next s x.more o.0 in (
-        x.more ++ o.0,
-        subst (λ (es : List Told). AreEqualJoined es (events f)) (append_assoc told x.more o.0) o.1,
-        sends_err from to (followed next s x.more).put (followed next s (x.more ++ o.0)).put e WriteFailed x.put (record { rest = front.0; is = sym front.1 }),
-      )
+  turns_failed e x =
+      let o = x.tells b told st read.0 read.1 in
+      let front = followed-front next s x.more o.0 in record {
+        more = x.more ++ o.0;
+        put = sends_err from to (followed next s x.more).put (followed next s (x.more ++ o.0)).put e WriteFailed x.put (record { rest = front.0; is = sym front.1 });
+        reading = read.0;
+        is_reading = subst (λ (o : List ℕ). IsReading w.framing o read.0) reached read.1;
+        tells = subst (λ (es : List Told). AreEqualJoined es (events read.0)) (append_assoc told x.more o.0) o.1;
+      }

@@ -13,7 +13,7 @@ use Rattle.tlv_walk.specs.Drives.{octets_told}
 use Rattle.tlv_walk.specs.Ending.{IsEnding}
 use Rattle.tlv_walk.specs.Events.{AreEqualJoined, Told, events}
 use Rattle.tlv_walk.specs.Follow.{Following, followed}
-use Rattle.tlv_walk.specs.Follows.{GoesOnIn, Made}
+use Rattle.tlv_walk.specs.Follows.{Made}
 use Rattle.tlv_walk.specs.Forest.{Forest, spell}
 use Rattle.tlv_walk.specs.Job.{IsFinalEnding, of_drain, of_source}
 use Rattle.tlv_walk.specs.Machine.{Machine}
@@ -79,7 +79,10 @@ module _ {S : Type 0} (next : S → Told → Following S) where
     pub more : List Told
     pub made : Made next s t more go.Enough
     pub put : puts (followed next s more).put
-    pub tells : GoesOnIn w.framing octets (told ++ more)
+    pub reading : Forest
+    pub is_reading : IsReading w.framing octets reading
+    pub others : List Told
+    pub tells : AreEqualJoined ((told ++ more) ++ others) (events reading)
     pub ending : run.ending ≡ ending.Done
     pub framing : v.framing ≡ w.framing
     pub is_front : IsPrefixOf (flat_map octets_told (told ++ more)) octets
@@ -92,9 +95,12 @@ module _ {S : Type 0} (next : S → Told → Following S) where
   EndsBy true w v s t octets told puts run = StopsIn w v s t octets told puts run
 
   -- the drain failed at a front of what is made of all that the octets tell
-  abbrev pub FailsIn : Machine → S → List ℕ → List Told → (List ℕ → Type 0) → Type 0
-  FailsIn w s octets told puts = (f : Forest) → IsReading w.framing octets f
-      → (more : List Told) × AreEqualJoined (told ++ more) (events f) × puts (followed next s more).put
+  pub record FailsIn (w : Machine) (s : S) (octets : List ℕ) (told : List Told) (puts : List ℕ → Type 0) : Type 0 where
+    pub more : List Told
+    pub put : puts (followed next s more).put
+    pub reading : Forest
+    pub is_reading : IsReading w.framing octets reading
+    pub tells : AreEqualJoined (told ++ more) (events reading)
 
   -- what a turn came to whose read gave r behind b. Of r only as many octets are followed as the limit leaves
   abbrev pub TurnsTo : ℕ → Machine → Machine → S → S → List ℕ → List Told → List ℕ → (List ℕ → Type 0)

@@ -102,6 +102,7 @@ fn follow_and_flush<F: Follow, D: Drain>(
     ensures failed { (D.told drain.new).failures ≡ failures_after result (D.told drain.old).failures }
     ensures used_up { IfOk result (λ s. s ≡ Stop.UsedUp
         → (walker.new.offset ≡ walker.old.offset + length piece.now) × IsReady walker.new) }
+    ensures octets { AreOctets piece.now }
 {
     let mut out = Out::new(drain);
     let stop = follow(walker, follower, piece, &mut out)?;
