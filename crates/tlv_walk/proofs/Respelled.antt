@@ -1,21 +1,32 @@
--- Sound elements without wrappers can be spelled with headers as short as they can be, and lengths of one form.
-use Rattle.std.proofs.Common.{◌≡◌, ◌≢◌, ◌||◌, ℕ, ◌+◌, ◌*◌, ◌^◌, ◌<◌, ◌≤◌, Bool, true, false, List, [], ◌∷◌, ◌++◌, length, refl, sym, ap, ap₂, ◌∙◌, arith, subst, length-append}
+-- Sound elements can be spelled with headers as short as they can be, and lengths of one form; the strings that hold elements are
+-- named where they then stand.
+use Rattle.std.proofs.Common.{◌≡◌, ◌≢◌, ◌⊎◌, inl, inr, ◌&&◌, ◌||◌, not, nat_lt, ◌==◌, eqb, ℕ, ◌+◌, ◌*◌, ◌^◌, ◌<◌, ◌≤◌, Bool, true, false, List, [], ◌∷◌, ◌++◌, length, refl, sym, ap, ap₂, ◌∙◌, arith, subst, length-append, eq-eqb, eqb-true, ne_eqb}
+use Rattle.std.proofs.lemmas.Bool.{and_parts, or_from, true≢false}
+use Rattle.std.proofs.lemmas.Bool.Decides.{eqb_tells}
+use Rattle.std.proofs.lemmas.List.Folds.{list_any-append}
+use Rattle.std.specs.List.{list_any}
+use Rattle.std.specs.Prelude.{if◌then◌else◌}
 use Rattle.tlv_head.specs.declared.header.Class.{Class}
 use Rattle.tlv_head.specs.declared.header.Size.{Size}
 use Rattle.tlv_head.specs.declared.header.Size.TheVariants.{Definite, Indefinite}
-use Rattle.tlv_head.specs.Header.{AllowsSize, Heading, IsHeading, IsIdentifier, announced, is_wrapper, leading_octet, octets_of}
+use Rattle.tlv_head.specs.Header.{AllowsSize, Heading, IsHeading, IsIdentifier, announced, is_universal, is_wrapper, leading_octet, octets_of}
 use Rattle.tlv_head.specs.Shortest.{IsShortest}
 use Rattle.tlv_head.proofs.LengthOctets.{FewLengths, few-lengths}
 use Rattle.tlv_head.proofs.Shortest.{identifier-le, identifier-some, lengths-some}
 use Rattle.tlv_head.proofs.ShortestSpelling.{ShortIdentifier, ShortLength, short-identifier}
+use Rattle.tlv_walk.specs.declared.framing.Framing.{Framing}
 use Rattle.tlv_walk.specs.Alike.{AreAlike, HaveLowForms, holders, nothing, padding, primitives}
-use Rattle.tlv_walk.specs.Forest.{Forest, Stop, Fill, Whole, Closed, Partial, Entered, Awaiting, Begun, Zero, end_octets, extent, lead, opening, spell}
-use Rattle.tlv_walk.specs.Inside.{is_among}
-use Rattle.tlv_walk.specs.Place.{HasLength, IsHeadAt, Place, after, inside_of, is_indefinite}
-use Rattle.tlv_walk.specs.Reading.{IsSound}
-use Rattle.tlv_walk.proofs.Alike.{AreRegular}
+use Rattle.tlv_walk.specs.Forest.{Forest, Stop, Fill, Whole, Closed, Partial, Entered, Awaiting, Begun, Zero, end_octets, extent, has_element, lead, opening, spell}
+use Rattle.tlv_walk.specs.Inside.{AreRising, CanName, is_among}
+use Rattle.tlv_walk.specs.Place.{HasLength, IsOpen, Place, after, inside_of as place_inside, is_indefinite, top as place_top}
+use Rattle.tlv_walk.specs.Reading.{IsReading, IsSound, IsSoundList}
+use Rattle.tlv_walk.specs.Wrappers.{wrapper_at, wrappers}
+use Rattle.tlv_walk.proofs.Alike.{AreRegular, IsRegular}
+use Rattle.tlv_walk.proofs.Endings.{done-sound, sound-done, sound-reading}
 use Rattle.tlv_walk.proofs.Pop.{header-length}
+use Rattle.tlv_walk.proofs.Readings.{reading-unique}
 use Rattle.tlv_walk.proofs.Spellings.{length-closed, length-opening, length-whole}
+use Rattle.tlv_walk.proofs.Wrappers.{AreNamed, Rise, wrappers-named, wrappers-rise}
 
 -- ---- headers
 
@@ -27,10 +38,11 @@ record Octets (h : Heading) (constructed : Bool) (size : Size) : Type 0 where
   pub few : length identifier.octets ≤ length h.identifier
   pub few_lengths : length lengths.octets + length (end_octets size) ≤ 6
 
-abbrev head_of : (h : Heading) (constructed : Bool) (size : Size) → Octets h constructed size → ℕ → Heading
-head_of h constructed size o at = record {
+-- the header, named where it is to be that of a wrapper
+abbrev head_of : (h : Heading) (named constructed : Bool) (size : Size) → Octets h constructed size → ℕ → Heading
+head_of h named constructed size o at = record {
   offset = at;
-  named = false;
+  named = named;
   class = h.class;
   constructed = constructed;
   number = h.number;
@@ -39,11 +51,14 @@ head_of h constructed size o at = record {
   lengths = o.lengths.octets;
 }
 
-head-valid : (h : Heading) (constructed : Bool) (size : Size) (o : Octets h constructed size) (at : ℕ) → IsHeading (head_of h constructed size o at)
-head-valid h constructed size o at = record { identifier = o.identifier.valid; lengths = o.lengths.valid; allowed = o.allowed }
+abbrev octets-in : (h : Heading) (constructed : Bool) (size : Size) → Octets h constructed size → List ℕ
+octets-in h constructed size o = o.identifier.octets ++ o.lengths.octets
 
-head-shortest : (h : Heading) (constructed : Bool) (size : Size) (o : Octets h constructed size) (at : ℕ) → IsShortest (head_of h constructed size o at)
-head-shortest h constructed size o at = record { identifier = o.identifier.shortest; lengths = o.lengths.shortest }
+head-valid : (h : Heading) (named constructed : Bool) (size : Size) (o : Octets h constructed size) (at : ℕ) → IsHeading (head_of h named constructed size o at)
+head-valid h named constructed size o at = record { identifier = o.identifier.valid; lengths = o.lengths.valid; allowed = o.allowed }
+
+head-shortest : (h : Heading) (named constructed : Bool) (size : Size) (o : Octets h constructed size) (at : ℕ) → IsShortest (head_of h named constructed size o at)
+head-shortest h named constructed size o at = record { identifier = o.identifier.shortest; lengths = o.lengths.shortest }
 
 few-octets : (size : Size) (l : ShortLength size) → length l.octets ≤ 6 → length l.octets + length (end_octets size) ≤ 6
 few-octets (Definite n) l few = omega (arith, few)
@@ -63,43 +78,20 @@ octets-for h constructed size valid nonzero allowed below =
       few_lengths = few-octets size l.short l.few;
     }
 
+head-some : (h : Heading) (constructed : Bool) (size : Size) (o : Octets h constructed size) → 1 ≤ length (octets-in h constructed size o)
+head-some h constructed size o =
+    omega (
+      arith,
+      length-append o.identifier.octets o.lengths.octets,
+      identifier-some h.class constructed h.number o.identifier.octets o.identifier.valid,
+    )
+
 -- ---- elements
 
--- a place of the same rules, without named strings
+-- a place of the same rules, whatever is named
 pub record IsLike (p q : Place) : Type 0 where
-  pub inside : q.inside ≡ []
   pub padding : q.padding ≡ p.padding
   pub depth : q.depth ≡ p.depth
-
--- elements alike, at a place, with that spelling
-pub record SpelledAt (form : Bool → Bool) (q : Place) (f : Forest) (octets : List ℕ) : Type 0 where
-  pub forest : Forest
-  pub alike : AreAlike f forest
-  pub sound : IsSound q forest
-  pub regular : AreRegular form forest
-  pub spelled : spell forest ≡ octets
-
--- one spelling, wherever it stands
-pub record Spelling (form : Bool → Bool) (p : Place) (f : Forest) : Type 0 where
-  pub octets : List ℕ
-  pub short : length octets ≤ 4 * length (spell f)
-  pub there : (q : Place) → IsLike p q → SpelledAt form q f octets
-
-unnamed : (at : ℕ) (names : List ℕ) → names ≡ [] → false ≡ is_among at names
-unnamed at names e = sym (ap (is_among at) e)
-
--- without named strings what holds others is constructed
-form-of : (named : Bool) (class : Class) (constructed : Bool) (number : ℕ) (size : Size) (holding : Bool) → named ≡ false
-    → (constructed || is_wrapper named class constructed number size) ≡ holding → constructed ≡ holding
-form-of false class true number size holding n e = e
-form-of false class false number size holding n e = e
-form-of true class constructed number size holding n e = absurd (cc (n))
-
-form-at : (p : Place) (holding : Bool) (h : Heading) → p.inside ≡ [] → IsHeadAt p holding h → h.constructed ≡ holding
-form-at p holding h none u = form-of h.named h.class h.constructed h.number h.size holding (u.named ∙ ap (is_among p.at) none) u.form
-
-constructed-nonzero : (class : Class) (n : ℕ) → leading_octet class true n ≢ 0
-constructed-nonzero class n z = omega (arith, z)
 
 -- the length of an element that holds others, where its length is to be indefinite, and where not
 abbrev size-for : Bool → ℕ → Size
@@ -118,8 +110,173 @@ size-length : (t : Bool) (m n : ℕ) → n ≡ m → HasLength (size-for t m) n
 size-length true m n e = tt
 size-length false m n e = e
 
-allows-any : (size : Size) → AllowsSize true size
-allows-any size = tt
+-- a primitive has a definite length
+allows-size : (constructed t : Bool) (m : ℕ) → (constructed ≡ false → t ≡ false) → AllowsSize constructed (size-for t m)
+allows-size true t m e = tt
+allows-size false false m e = tt
+allows-size false true m e = absurd (true≢false (e refl))
+
+-- the contents octets of a wrapper before what it holds
+abbrev lead-for : Bool → ℕ → List ℕ
+lead-for constructed number = if constructed then [] else (if eqb number 3 then 0 ∷ [] else [])
+
+lead-short : (constructed : Bool) (number : ℕ) → length (lead-for constructed number) ≤ 1
+lead-short true number = omega arith
+lead-short false number = one (eqb number 3) where
+  one : (k : Bool) → length {A = ℕ} (if k then 0 ∷ [] else []) ≤ 1
+  one true = omega arith
+  one false = omega arith
+
+-- what is named of an element that holds others
+abbrev own : Bool → ℕ → List ℕ
+own constructed at = if constructed then [] else at ∷ []
+
+own-there : (constructed : Bool) (at : ℕ) → is_among at (own constructed at) ≡ not constructed
+own-there true at = refl
+own-there false at = ap (λ k. k || false) (eq-eqb at at refl)
+
+own-apart : (constructed : Bool) (at i : ℕ) → i ≢ at → is_among i (own constructed at) ≡ false
+own-apart true at i apart = refl
+own-apart false at i apart = ap (λ k. k || false) (ne_eqb at i (λ e. apart (sym e)))
+
+is_among-append : (i : ℕ) (xs ys : List ℕ) → is_among i (xs ++ ys) ≡ (is_among i xs || is_among i ys)
+is_among-append i xs ys = list_any-append (λ offset. eqb offset i) xs ys
+
+or-false : (k : Bool) → (k || false) ≡ k
+or-false true = refl
+or-false false = refl
+
+-- an offset that is in none but one of three lists
+in-first : (i : ℕ) (a b c : List ℕ) → is_among i b ≡ false → is_among i c ≡ false → is_among i (a ++ (b ++ c)) ≡ is_among i a
+in-first i a b c e f =
+    is_among-append i a (b ++ c) ∙ ap (λ k. is_among i a || k) (is_among-append i b c ∙ or_from (is_among i b) (is_among i c) e f) ∙ or-false (is_among i a)
+
+in-second : (i : ℕ) (a b c : List ℕ) → is_among i a ≡ false → is_among i c ≡ false → is_among i (a ++ (b ++ c)) ≡ is_among i b
+in-second i a b c e f =
+    is_among-append i a (b ++ c) ∙ ap₂ (λ k l. k || l) e (is_among-append i b c ∙ ap (λ k. is_among i b || k) f) ∙ or-false (is_among i b)
+
+in-third : (i : ℕ) (a b c : List ℕ) → is_among i a ≡ false → is_among i b ≡ false → is_among i (a ++ (b ++ c)) ≡ is_among i c
+in-third i a b c e f = is_among-append i a (b ++ c) ∙ ap₂ (λ k l. k || l) e (is_among-append i b c ∙ ap (λ k. k || is_among i c) f)
+
+-- no offset in the lists is below where they stand
+abbrev pub AreBehind : (ℕ → List ℕ) → Type 0
+AreBehind names = (at i : ℕ) → i < at → is_among i (names at) ≡ false
+
+-- nor past so many octets from there
+abbrev pub AreWithin : (ℕ → List ℕ) → ℕ → Type 0
+AreWithin names n = (at i : ℕ) → at + n ≤ i → is_among i (names at) ≡ false
+
+-- of the next octets there, these offsets are named and no others
+abbrev pub Agrees : Place → List ℕ → ℕ → Type 0
+Agrees q names n = (i : ℕ) → q.at ≤ i → i < q.at + n → is_among i q.inside ≡ is_among i names
+
+-- elements alike, at a place, with that spelling, and wrappers at these offsets
+pub record SpelledAt (form : Bool → Bool) (q : Place) (f : Forest) (octets names : List ℕ) : Type 0 where
+  pub forest : Forest
+  pub alike : AreAlike f forest
+  pub sound : IsSound q forest
+  pub regular : AreRegular form forest
+  pub spelled : spell forest ≡ octets
+  pub names_are : wrappers forest ≡ names
+
+-- one spelling, wherever it stands, and the offsets of its wrappers, by that of its first octet
+pub record Spelling (form : Bool → Bool) (p : Place) (f : Forest) : Type 0 where
+  pub octets : List ℕ
+  pub names : ℕ → List ℕ
+  pub short : length octets ≤ 4 * length (spell f)
+  pub names_behind : AreBehind names
+  pub names_within : AreWithin names (length octets)
+  pub there : (q : Place) → IsLike p q → Agrees q (names q.at) (length octets) → SpelledAt form q f octets (names q.at)
+
+-- what is named of an element that holds others and of those behind it, by where it stands: what it holds stands `begins` octets
+-- on, and what is behind it `far` octets on
+abbrev joined : (constructed : Bool) (inner others : ℕ → List ℕ) (begins far : ℕ) → ℕ → List ℕ
+joined constructed inner others begins far at = own constructed at ++ (inner (at + begins) ++ others (at + far))
+
+-- where it holds `count` octets, and `rest` octets are behind it
+record Joins (constructed : Bool) (inner others : ℕ → List ℕ) (begins count far rest : ℕ) : Type 0 where
+  pub behind : AreBehind (joined constructed inner others begins far)
+  pub within : AreWithin (joined constructed inner others begins far) (far + rest)
+  pub of_own : (at : ℕ) → is_among at (joined constructed inner others begins far at) ≡ not constructed
+  pub of_inner : (at i : ℕ) → at + begins ≤ i → i < at + begins + count
+      → is_among i (joined constructed inner others begins far at) ≡ is_among i (inner (at + begins))
+  pub of_others : (at i : ℕ) → at + far ≤ i → is_among i (joined constructed inner others begins far at) ≡ is_among i (others (at + far))
+
+joins : (constructed : Bool) (inner others : ℕ → List ℕ) (begins count far rest : ℕ) → 1 ≤ begins → begins + count ≤ far
+    → AreBehind inner → AreWithin inner count → AreBehind others → AreWithin others rest → Joins constructed inner others begins count far rest
+joins constructed inner others begins count far rest some on inner_behind inner_within others_behind others_within = record {
+  behind = λ at i less.
+      in-third i (own constructed at) (inner (at + begins)) (others (at + far)) (own-apart constructed at i (λ e. omega (arith, less, e)))
+      (inner_behind (at + begins) i (omega (arith, less)))
+      ∙ others_behind (at + far) i (omega (arith, less));
+  within = λ at i more.
+      in-third i (own constructed at) (inner (at + begins)) (others (at + far)) (own-apart constructed at i (λ e. omega (arith, more, e, some, on)))
+      (inner_within (at + begins) i (omega (arith, more, on)))
+      ∙ others_within (at + far) i (omega (arith, more));
+  of_own = λ at.
+      in-first at (own constructed at) (inner (at + begins)) (others (at + far)) (inner_behind (at + begins) at (omega (arith, some)))
+      (others_behind (at + far) at (omega (arith, some, on)))
+      ∙ own-there constructed at;
+  of_inner = λ at i least most.
+      in-second i (own constructed at) (inner (at + begins)) (others (at + far)) (own-apart constructed at i (λ e. omega (arith, least, some, e)))
+      (others_behind (at + far) i (omega (arith, most, on)));
+  of_others = λ at i least.
+      in-third i (own constructed at) (inner (at + begins)) (others (at + far)) (own-apart constructed at i (λ e. omega (arith, least, some, on, e)))
+      (inner_within (at + begins) i (omega (arith, least, on)));
+}
+
+-- ---- what holds others
+
+not-holding : (constructed wraps : Bool) → (constructed || wraps) ≡ false → constructed ≡ false
+not-holding true wraps e = e
+not-holding false wraps e = refl
+
+-- a wrapper is an OCTET STRING or a BIT STRING
+record IsString (class : Class) (number : ℕ) : Type 0 where
+  pub universal : is_universal class ≡ true
+  pub kind : (number ≡ 4) ⊎ (number ≡ 3)
+
+number-of : (number : ℕ) (some : Bool) → (eqb number 4 || (eqb number 3 && some)) ≡ true → (number ≡ 4) ⊎ (number ≡ 3)
+number-of number some e = elim (cases (eqb number 4) (eqb number 3 && some) e) [
+  | inl four ↦ inl (eqb-true number 4 four)
+  | inr three ↦ inr (eqb-true number 3 (and_parts (eqb number 3) some three).0)
+] where
+  cases : (x y : Bool) → (x || y) ≡ true → (x ≡ true) ⊎ (y ≡ true)
+  cases true y e = inl refl
+  cases false y e = inr e
+
+string-of : (named : Bool) (class : Class) (number : ℕ) (size : Size) → is_wrapper named class false number size ≡ true → IsString class number
+string-of true class number size e =
+    let parts = and_parts (is_universal class) (eqb number 4 || (eqb number 3 && not (eqb (announced size) 0))) e in
+    record { universal = parts.0; kind = number-of number (not (eqb (announced size) 0)) parts.1 }
+string-of false class number size e = absurd (true≢false (sym e))
+
+string-nonzero : (class : Class) (number : ℕ) → IsString class number → leading_octet class false number ≢ 0
+string-nonzero class number s z = elim s.kind [ inl four ↦ omega (arith, z, four) | inr three ↦ omega (arith, z, three) ]
+
+-- with as many contents octets as it has before what it holds, and more
+string-wraps : (class : Class) (number : ℕ) (t : Bool) (n : ℕ) → IsString class number → t ≡ false
+    → is_wrapper true class false number (size-for t (length (lead-for false number) + n)) ≡ true
+string-wraps class number true n s e = absurd (true≢false e)
+string-wraps class number false n s e = elim s.kind [
+  | inl four ↦ rw (s.universal, four) refl
+  | inr three ↦ rw (s.universal, three) (ap not (ne_eqb (1 + n) 0 (λ e. omega (arith, e))))
+]
+
+constructed-nonzero : (class : Class) (n : ℕ) → leading_octet class true n ≢ 0
+constructed-nonzero class n z = omega (arith, z)
+
+-- what was held is so again
+record Holds (h : Heading) (constructed : Bool) (t : Bool) (n : ℕ) : Type 0 where
+  pub nonzero : leading_octet h.class constructed h.number ≢ 0
+  pub again : (constructed || is_wrapper (not constructed) h.class constructed h.number (size-for t (length (lead-for constructed h.number) + n))) ≡ true
+
+holds-again : (h : Heading) (constructed t : Bool) (n : ℕ) → (constructed ≡ false → t ≡ false)
+    → (constructed || is_wrapper h.named h.class constructed h.number h.size) ≡ true → Holds h constructed t n
+holds-again h true t n e holding = record { nonzero = constructed-nonzero h.class h.number; again = refl }
+holds-again h false t n e holding =
+    let s : IsString h.class h.number = string-of h.named h.class h.number h.size holding in
+    record { nonzero = string-nonzero h.class h.number s; again = string-wraps h.class h.number t n s (e refl) }
 
 moved : (class : Class) (a b : Bool) (n : ℕ) (octets : List ℕ) → a ≡ b → IsIdentifier class a n octets → IsIdentifier class b n octets
 moved class a b n octets e v = subst (λ (k : Bool). IsIdentifier class k n octets) e v
@@ -128,62 +285,94 @@ module _ (form : Bool → Bool) (definite : form false ≡ false) where
   spelling-fill : (p : Place) (rest : Forest) → p.padding ≡ true → Spelling form (after p 1) rest → Spelling form p (Fill rest)
   spelling-fill p rest allowed r = record {
     octets = 0 ∷ r.octets;
+    names = λ at. r.names (at + 1);
     short = omega (arith, r.short);
-    there = λ q like.
-        let t : SpelledAt form (after q 1) rest r.octets = r.there (after q 1) (record { inside = like.inside; padding = like.padding; depth = like.depth }) in
+    names_behind = λ at i less. r.names_behind (at + 1) i (omega (arith, less));
+    names_within = λ at i more. r.names_within (at + 1) i (omega (arith, more));
+    there = λ q like agrees.
+        let t : SpelledAt form (after q 1) rest r.octets (r.names (q.at + 1)) =
+        r.there (after q 1) (record { padding = like.padding; depth = like.depth }) (λ i least most. agrees i (omega (arith, least)) (omega (arith, most))) in
         record {
           forest = Fill t.forest;
           alike = padding rest t.forest t.alike;
           sound = (like.padding ∙ allowed, t.sound);
           regular = t.regular;
           spelled = ap (λ (l : List ℕ). 0 ∷ l) t.spelled;
+          names_are = t.names_are;
         };
   }
 
   spelling-whole : (p : Place) (h : Heading) (c : List ℕ) (rest : Forest) → h.constructed ≡ false → IsHeading h → (o : Octets h false (Definite (length c)))
       → Spelling form (after p (length (octets_of h) + length c)) rest → Spelling form p (Whole h c rest)
-  spelling-whole p h c rest primitive valid o r = record {
-    octets = (o.identifier.octets ++ o.lengths.octets) ++ (c ++ r.octets);
-    short =
-        let id : 1 ≤ length h.identifier = identifier-some h.class h.constructed h.number h.identifier valid.identifier in
-        let len : 1 ≤ length h.lengths = lengths-some h.size h.lengths valid.lengths in
-        omega (
-          arith,
-          id,
-          len,
-          o.few,
-          o.few_lengths,
-          r.short,
-          length-whole h c rest,
-          length-append h.identifier h.lengths,
-          length-append (o.identifier.octets ++ o.lengths.octets) (c ++ r.octets),
-          length-append o.identifier.octets o.lengths.octets,
-          length-append c r.octets,
-        );
-    there = λ q like.
-        let k : Heading = head_of h false (Definite (length c)) o q.at in
-        let t : SpelledAt form (after q (length (octets_of k) + length c)) rest r.octets =
-        r.there (after q (length (octets_of k) + length c)) (record { inside = like.inside; padding = like.padding; depth = like.depth }) in
-        record {
-          forest = Whole k c t.forest;
-          alike = primitives h k c rest t.forest (record { class = refl; constructed = primitive; number = refl }) t.alike;
-          sound = (
-            record { valid = head-valid h false (Definite (length c)) o q.at; offset = refl; named = unnamed q.at q.inside like.inside; form = refl },
-            refl,
-            t.sound,
-          );
-          regular = (record { shortest = head-shortest h false (Definite (length c)) o q.at; by_form = sym definite }, t.regular);
-          spelled = ap (λ (l : List ℕ). (o.identifier.octets ++ o.lengths.octets) ++ (c ++ l)) t.spelled;
-        };
-  }
-
-  spelling-closed : (p : Place) (h : Heading) (inside rest : Forest) → h.constructed ≡ true → IsHeading h → p.depth < 128
-      → (held : Spelling form (inside_of p h) inside) → (o : Octets h true (size-for (form true) (length held.octets)))
-      → Spelling form (after p (extent h inside)) rest → Spelling form p (Closed h inside rest)
-  spelling-closed p h inside rest constructed valid few held o r =
-      let size : Size = size-for (form true) (length held.octets) in
+  spelling-whole p h c rest primitive valid o r =
+      let head : List ℕ = octets-in h false (Definite (length c)) o in
+      let total : length (head ++ (c ++ r.octets)) ≡ length head + (length c + length r.octets) =
+      omega (arith, length-append head (c ++ r.octets), length-append c r.octets) in
+      let some : 1 ≤ length head = head-some h false (Definite (length c)) o in
       record {
-        octets = ((o.identifier.octets ++ o.lengths.octets) ++ []) ++ (held.octets ++ (end_octets size ++ r.octets));
+        octets = head ++ (c ++ r.octets);
+        names = λ at. r.names (at + (length head + length c));
+        short =
+            let id : 1 ≤ length h.identifier = identifier-some h.class h.constructed h.number h.identifier valid.identifier in
+            let len : 1 ≤ length h.lengths = lengths-some h.size h.lengths valid.lengths in
+            omega (
+              arith,
+              id,
+              len,
+              o.few,
+              o.few_lengths,
+              r.short,
+              total,
+              length-whole h c rest,
+              length-append h.identifier h.lengths,
+              length-append o.identifier.octets o.lengths.octets,
+            );
+        names_behind = λ at i less. r.names_behind (at + (length head + length c)) i (omega (arith, less));
+        names_within = λ at i more. r.names_within (at + (length head + length c)) i (omega (arith, more, total));
+        there = λ q like agrees.
+            let k : Heading = head_of h false false (Definite (length c)) o q.at in
+            let next : ℕ = q.at + (length head + length c) in
+            let t : SpelledAt form (after q (length head + length c)) rest r.octets (r.names next) =
+            r.there (after q (length head + length c)) (record { padding = like.padding; depth = like.depth })
+            (λ i least most. agrees i (omega (arith, least)) (omega (arith, most, total))) in
+            let unnamed : is_among q.at q.inside ≡ false =
+            agrees q.at (omega arith) (omega (arith, total, some)) ∙ r.names_behind next q.at (omega (arith, some)) in
+            record {
+              forest = Whole k c t.forest;
+              alike = primitives h k c rest t.forest (record { class = refl; constructed = primitive; number = refl }) t.alike;
+              sound = (
+                record { valid = head-valid h false false (Definite (length c)) o q.at; offset = refl; named = sym unnamed; form = refl },
+                refl,
+                t.sound,
+              );
+              regular = (record { shortest = head-shortest h false false (Definite (length c)) o q.at; by_form = sym definite }, t.regular);
+              spelled = ap (λ (l : List ℕ). head ++ (c ++ l)) t.spelled;
+              names_are = t.names_are;
+            };
+      }
+
+  spelling-closed : (p : Place) (h : Heading) (inside rest : Forest) (constructed : Bool) → h.constructed ≡ constructed → IsHeading h → p.depth < 128
+      → (held : Spelling form (place_inside p h) inside)
+      → Holds h constructed (form constructed) (length held.octets)
+      → (o : Octets h constructed (size-for (form constructed) (length (lead-for constructed h.number) + length held.octets)))
+      → Spelling form (after p (extent h inside)) rest → Spelling form p (Closed h inside rest)
+  spelling-closed p h inside rest constructed is valid few held holding o r =
+      let first : List ℕ = lead-for constructed h.number in
+      let m : ℕ = length first + length held.octets in
+      let size : Size = size-for (form constructed) m in
+      let begins : List ℕ = octets-in h constructed size o ++ first in
+      let ends : List ℕ = end_octets size in
+      let some : 1 ≤ length begins = omega (arith, head-some h constructed size o, length-append (octets-in h constructed size o) first) in
+      let total : length (begins ++ (held.octets ++ (ends ++ r.octets))) ≡ length begins + (length held.octets + (length ends + length r.octets)) =
+      omega (arith, length-append begins (held.octets ++ (ends ++ r.octets)), length-append held.octets (ends ++ r.octets), length-append ends r.octets) in
+      let far : ℕ = length begins + (length held.octets + length ends) in
+      let joint : Joins constructed held.names r.names (length begins) (length held.octets) far (length r.octets) =
+      joins constructed held.names r.names (length begins) (length held.octets) far (length r.octets) some (omega arith)
+      held.names_behind held.names_within r.names_behind r.names_within in
+      let lead_is : length first ≡ length (lead h) = ap (λ (k : Bool). length (lead-for k h.number)) (sym is) in
+      record {
+        octets = begins ++ (held.octets ++ (ends ++ r.octets));
+        names = joined constructed held.names r.names (length begins) far;
         short =
             let id : 1 ≤ length h.identifier = identifier-some h.class h.constructed h.number h.identifier valid.identifier in
             let len : 1 ≤ length h.lengths = lengths-some h.size h.lengths valid.lengths in
@@ -195,65 +384,81 @@ module _ (form : Bool → Bool) (definite : form false ≡ false) where
               o.few_lengths,
               held.short,
               r.short,
+              total,
+              lead_is,
               length-closed h inside rest,
               length-opening h,
               length-append h.identifier h.lengths,
-              length-append ((o.identifier.octets ++ o.lengths.octets) ++ []) (held.octets ++ (end_octets size ++ r.octets)),
-              length-append (o.identifier.octets ++ o.lengths.octets) [],
+              length-append (octets-in h constructed size o) first,
               length-append o.identifier.octets o.lengths.octets,
-              length-append held.octets (end_octets size ++ r.octets),
-              length-append (end_octets size) r.octets,
             );
-        there = λ q like.
-            let k : Heading = head_of h true size o q.at in
-            let i : SpelledAt form (inside_of q k) inside held.octets =
-            held.there (inside_of q k) (record { inside = like.inside; padding = refl; depth = ap (λ (d : ℕ). d + 1) like.depth }) in
-            let t : SpelledAt form (after q (extent k i.forest)) rest r.octets =
-            r.there (after q (extent k i.forest)) (record { inside = like.inside; padding = like.padding; depth = like.depth }) in
+        names_behind = joint.behind;
+        names_within = λ at i more. joint.within at i (omega (arith, more, total));
+        there = λ q like agrees.
+            let k : Heading = head_of h (not constructed) constructed size o q.at in
+            let named : is_among q.at q.inside ≡ not constructed =
+            agrees q.at (omega arith) (omega (arith, total, some)) ∙ joint.of_own q.at in
+            let i : SpelledAt form (place_inside q k) inside held.octets (held.names (q.at + length begins)) =
+            held.there (place_inside q k) (record { padding = refl; depth = ap (λ (d : ℕ). d + 1) like.depth })
+            (λ j least most. agrees j (omega (arith, least)) (omega (arith, most, total)) ∙ joint.of_inner q.at j least most) in
+            let next_is : extent k i.forest ≡ far = ap (λ (l : List ℕ). length begins + (length l + length ends)) i.spelled in
+            let t : SpelledAt form (after q (extent k i.forest)) rest r.octets (r.names (q.at + extent k i.forest)) =
+            r.there (after q (extent k i.forest)) (record { padding = like.padding; depth = like.depth })
+            (λ j least most.
+            agrees j (omega (arith, least)) (omega (arith, most, next_is, total))
+            ∙ joint.of_others q.at j (omega (arith, least, next_is))
+            ∙ ap (λ (n : ℕ). is_among j (r.names (q.at + n))) (sym next_is)) in
+            let others_are : wrappers t.forest ≡ r.names (q.at + far) = t.names_are ∙ ap (λ (n : ℕ). r.names (q.at + n)) next_is in
             record {
               forest = Closed k i.forest t.forest;
-              alike = holders h k inside i.forest rest t.forest (record { class = refl; constructed = constructed; number = refl }) i.alike t.alike;
+              alike = holders h k inside i.forest rest t.forest (record { class = refl; constructed = is; number = refl }) i.alike t.alike;
               sound = (
-                record { valid = head-valid h true size o q.at; offset = refl; named = unnamed q.at q.inside like.inside; form = refl },
-                size-length (form true) (length held.octets) (0 + length (spell i.forest)) (omega (arith, ap length i.spelled)),
+                record { valid = head-valid h (not constructed) constructed size o q.at; offset = refl; named = sym named; form = holding.again },
+                size-length (form constructed) m (length first + length (spell i.forest)) (omega (arith, ap length i.spelled)),
                 omega (arith, like.depth, few),
                 i.sound,
                 t.sound,
               );
-              regular = (record { shortest = head-shortest h true size o q.at; by_form = size-form (form true) (length held.octets) }, i.regular, t.regular);
-              spelled = ap₂ (λ (x y : List ℕ). ((o.identifier.octets ++ o.lengths.octets) ++ []) ++ (x ++ (end_octets size ++ y))) i.spelled t.spelled;
+              regular = (record { shortest = head-shortest h (not constructed) constructed size o q.at; by_form = size-form (form constructed) m }, i.regular, t.regular);
+              spelled = ap₂ (λ (x y : List ℕ). begins ++ (x ++ (ends ++ y))) i.spelled t.spelled;
+              names_are = ap₂ (λ (x y : List ℕ). own constructed q.at ++ (x ++ y)) i.names_are others_are;
             };
       }
 
-  pub respelled : (p : Place) (f : Forest) → p.inside ≡ [] → length (spell f) ≤ 2 ^ 38 → IsSound p f → HaveLowForms f → Spelling form p f
-  respelled p Stop none few u low = record {
+  pub respelled : (p : Place) (f : Forest) → length (spell f) ≤ 2 ^ 38 → IsSound p f → HaveLowForms f → Spelling form p f
+  respelled p Stop few u low = record {
     octets = [];
+    names = λ at. [];
     short = omega arith;
-    there = λ q like. record { forest = Stop; alike = nothing; sound = tt; regular = tt; spelled = refl };
+    names_behind = λ at i less. refl;
+    names_within = λ at i more. refl;
+    there = λ q like agrees. record { forest = Stop; alike = nothing; sound = tt; regular = tt; spelled = refl; names_are = refl };
   }
-  respelled p (Fill rest) none few u low = spelling-fill p rest u.0 (respelled (after p 1) rest none (omega (arith, few)) u.1 low)
-  respelled p (Whole h c rest) none few u low =
+  respelled p (Fill rest) few u low = spelling-fill p rest u.0 (respelled (after p 1) rest (omega (arith, few)) u.1 low)
+  respelled p (Whole h c rest) few u low =
       let count : length (spell (Whole h c rest)) ≡ length (octets_of h) + length c + length (spell rest) = length-whole h c rest in
-      let primitive : h.constructed ≡ false = form-at p false h none u.0 in
+      let primitive : h.constructed ≡ false = not-holding h.constructed (is_wrapper h.named h.class h.constructed h.number h.size) u.0.form in
       let o : Octets h false (Definite (length c)) =
       octets-for h false (Definite (length c)) (moved h.class h.constructed false h.number h.identifier primitive u.0.valid.identifier)
       (subst (λ (k : Bool). leading_octet h.class k h.number ≢ 0) primitive low.0) tt (omega (arith, count, few)) in
-      spelling-whole p h c rest primitive u.0.valid o (respelled (after p (length (octets_of h) + length c)) rest none (omega (arith, count, few)) u.2 low.1)
-  respelled p (Closed h inside rest) none few u low =
+      spelling-whole p h c rest primitive u.0.valid o (respelled (after p (length (octets_of h) + length c)) rest (omega (arith, count, few)) u.2 low.1)
+  respelled p (Closed h inside rest) few u low =
       let count : length (spell (Closed h inside rest)) ≡ extent h inside + length (spell rest) = length-closed h inside rest in
       let begins : length (opening h) ≡ length (octets_of h) + length (lead h) = length-opening h in
       let some : 2 ≤ length (octets_of h) = header-length h u.0.valid in
-      let constructed : h.constructed ≡ true = form-at p true h none u.0 in
-      let held : Spelling form (inside_of p h) inside = respelled (inside_of p h) inside none (omega (arith, count, few)) u.3 low.0 in
-      let below : length held.octets < 2 ^ 40 = omega (arith, held.short, count, begins, some, few) in
-      let size : Size = size-for (form true) (length held.octets) in
-      let o : Octets h true size =
-      octets-for h true size (moved h.class h.constructed true h.number h.identifier constructed u.0.valid.identifier)
-      (constructed-nonzero h.class h.number) (allows-any size)
-      (size-below (form true) (length held.octets) below) in
-      spelling-closed p h inside rest constructed u.0.valid u.2 held o (respelled (after p (extent h inside)) rest none (omega (arith, count, few)) u.4 low.1)
-  respelled p (Partial h c) none few u low = absurd u
-  respelled p (Entered h inside) none few u low = absurd u
-  respelled p (Awaiting h) none few u low = absurd u
-  respelled p (Begun octets) none few u low = absurd u
-  respelled p Zero none few u low = absurd u
+      let held : Spelling form (place_inside p h) inside = respelled (place_inside p h) inside (omega (arith, count, few)) u.3 low.0 in
+      let m : ℕ = length (lead h) + length held.octets in
+      let below : m < 2 ^ 40 = omega (arith, held.short, count, begins, some, few, lead-short h.constructed h.number) in
+      let primitive : h.constructed ≡ false → form h.constructed ≡ false = λ e. ap form e ∙ definite in
+      let holding : Holds h h.constructed (form h.constructed) (length held.octets) =
+      holds-again h h.constructed (form h.constructed) (length held.octets) primitive u.0.form in
+      let o : Octets h h.constructed (size-for (form h.constructed) m) =
+      octets-for h h.constructed (size-for (form h.constructed) m) u.0.valid.identifier holding.nonzero
+      (allows-size h.constructed (form h.constructed) m primitive)
+      (size-below (form h.constructed) m below) in
+      spelling-closed p h inside rest h.constructed refl u.0.valid u.2 held holding o (respelled (after p (extent h inside)) rest (omega (arith, count, few)) u.4 low.1)
+  respelled p (Partial h c) few u low = absurd u
+  respelled p (Entered h inside) few u low = absurd u
+  respelled p (Awaiting h) few u low = absurd u
+  respelled p (Begun octets) few u low = absurd u
+  respelled p Zero few u low = absurd u

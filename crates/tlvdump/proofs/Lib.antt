@@ -4,6 +4,7 @@ mod Numbers
 mod Offsets
 pub mod CutResultRows
 pub mod DepthResultRows
+pub mod DigitResultRows
 pub mod FaultResultRows
 pub mod FindingResultRows
 pub mod InMemory
