@@ -81,7 +81,8 @@ fn headers_are_read(rt: HostRuntime) {
     }
 }
 
-/// A header of at most three identifier and three length octets is read at once, no longer one is, and no front of one.
+/// A header of at most three identifier and three length octets is read at once, no longer one is, no front of one, and
+/// nothing that is refused.
 #[test]
 fn short_headers_are_read_at_once(rt: HostRuntime) {
     for shape in &SHAPES {
@@ -102,6 +103,20 @@ fn short_headers_are_read_at_once(rt: HostRuntime) {
             assert!(rt; read_short(OFFSET, false, &shape.octets[..i]).is_none());
         }
     }
+    // Four identifier octets, and four length octets.
+    for octets in [b"\x1f\x81\x80\x01\x00".as_slice(), b"\x04\x83\x00\x00\x01"] {
+        assert!(rt; read_header(OFFSET, false, octets).is_some());
+        assert!(rt; read_short(OFFSET, false, octets).is_none(), "{octets:?}");
+    }
+    for refusal in &REFUSALS {
+        let found = read_short(OFFSET, false, refusal.octets);
+        assert!(rt;
+            refusal.is_header || found.is_none(),
+            "{:?}",
+            refusal.octets
+        );
+    }
+    assert!(rt; read_short(OFFSET, false, b"\x00\x00").is_none());
 }
 
 /// The octets behind the first of the identifier and of the length.
