@@ -16,7 +16,7 @@ use Rattle.tlv_walk.specs.Wrappers.{wrappers}
 use Rattle.tlv_show.specs.declared.rules.Rules.{Rules}
 use Rattle.tlv_show.specs.declared.rules.Rules.TheVariants.{Ber}
 use Rattle.tlv_show.specs.Found.{header_findings}
-use Rattle.tlv_show.specs.Items.{Item, FindingAt, OpeningLine, ClosingLine, WholePrimitive, OpenPrimitive, PaddingLine, items}
+use Rattle.tlv_show.specs.Items.{Item, FindingAt, items}
 use Rattle.tlv_show.specs.Site.{Site, top}
 
 -- a finding on how a tag number or a length is spelled
@@ -30,11 +30,7 @@ is_on_spelling finding = false
 
 abbrev pub tells_of_spelling : Item → Bool
 tells_of_spelling (FindingAt level at finding) = is_on_spelling finding
-tells_of_spelling (OpeningLine level h) = false
-tells_of_spelling (ClosingLine level offset) = false
-tells_of_spelling (WholePrimitive level h c) = false
-tells_of_spelling (OpenPrimitive level h c) = false
-tells_of_spelling (PaddingLine level offset) = false
+tells_of_spelling _ = false
 
 -- such a finding is among those of the elements
 abbrev pub is_misspelled : Rules → Forest → Bool
