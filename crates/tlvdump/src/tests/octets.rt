@@ -110,3 +110,30 @@ fn octets_past_the_room_are_not_written(rt: HostRuntime) -> Result<(), Fail> {
     }
     Ok(())
 }
+
+/// There is room for a line without its line feed, and for all of it. Then a write fails, or none.
+#[test]
+fn room_for_the_output_is_enough(rt: HostRuntime) -> Result<(), Fail> {
+    let input = b"\x05\x00";
+    let output = b"       0      0: NULL\n";
+    let command = command_for(rt.alloc(), &["dump"])?;
+    let names = Names::empty();
+    for cuts in [&[], ONES.as_slice()] {
+        for (read_fails, status, message) in [(false, 0, ""), (true, 3, READ_FAILED)] {
+            let front = run_octets::<21>(&command, &names, input, cuts, read_fails);
+            expect(&rt, &front, &output[..21], 3, WRITE_FAILED);
+            let all = run_octets::<22>(&command, &names, input, cuts, read_fails);
+            expect(&rt, &all, output, status, message);
+        }
+    }
+    Ok(())
+}
+
+/// What writes nothing needs no room.
+#[test]
+fn no_output_needs_no_room(rt: HostRuntime) -> Result<(), Fail> {
+    let command = command_for(rt.alloc(), &["check"])?;
+    let shown = run_octets::<0>(&command, &Names::empty(), b"\x05\x00", &[], false);
+    expect(&rt, &shown, b"", 0, "");
+    Ok(())
+}
