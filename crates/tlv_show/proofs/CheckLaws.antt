@@ -1,5 +1,5 @@
 -- Contents in pieces are checked as contents at once.
-use Rattle.std.proofs.Common.{◌≡◌, ◌-◌, ◌==◌, false, ℕ, List, [], ◌∷◌, ◌++◌, length, take, refl, sym, ap, ◌∙◌, arith, append-nil}
+use Rattle.std.proofs.Common.{◌≡◌, ◌-◌, ◌==◌, Bool, true, false, ℕ, List, [], ◌∷◌, ◌++◌, length, take, refl, sym, ap, ◌∙◌, arith, append-nil}
 use Rattle.std.proofs.lemmas.Bool.Decides.{nat_tests}
 use Rattle.std.specs.Prelude.{Option, Some, None}
 use Rattle.tlv_value.specs.CheckState.{CheckState, checked}
@@ -7,9 +7,10 @@ use Rattle.tlv_value.proofs.CheckPieces.{checks-join}
 use Rattle.tlv_walk.specs.declared.follow.Go.TheVariants as go
 use Rattle.tlv_walk.specs.Events.{Told, Open, Begin, Bytes, End, Close, Enter, Unused, Leave, Pad}
 use Rattle.tlv_walk.specs.Follow.{Following, each_octet, stay}
+use Rattle.tlv_show.specs.declared.style.Style.{Style}
 use Rattle.tlv_show.specs.declared.style.Style.TheVariants.{Check}
-use Rattle.tlv_show.specs.CheckStep.{all_written, check_step, lists, one_checked}
-use Rattle.tlv_show.specs.FinderState.{FinderState, Finds, OpenValue, checked_by, find, find_bytes}
+use Rattle.tlv_show.specs.CheckStep.{all_told, all_written, check_step, lists, one_checked}
+use Rattle.tlv_show.specs.FinderState.{FinderState, Finds, OpenValue, Tells, checked_by, find, find_bytes, heard}
 use Rattle.tlv_show.proofs.Dumped.{take-both}
 
 value-join : (v : Option OpenValue) (x y : List ℕ) → checked_by (checked_by v x) y ≡ checked_by v (x ++ y)
@@ -45,10 +46,19 @@ step-is s Unused = refl
 step-is s Leave = refl
 step-is s (Pad octets) = refl
 
--- what was told and put is what the step says
-module _ (s t : FinderState) (u : Finds) (e : Told) where
-  pub step-text : s ≡ t → u ≡ find t e → all_written Check u.level u.at u.found ≡ (check_step s e).put
-  step-text i f = rw (i, f) (ap (λ (k : Following FinderState). k.put) (sym (step-is t e)))
+-- what was told, if anything was, is all that there is
+pub told-same : (style : Style) (f v : Finds) (tells : Bool) → Tells f v tells → all_told style (heard tells v) ≡ all_told style f
+told-same style f v true e = ap (all_told style) e
+told-same style f v false e = sym (ap (all_written style f.level f.at) e.1)
 
-  pub step-state : s ≡ t → u ≡ find t e → (u.state ≡ (check_step s e).state) × (go.On ≡ (check_step s e).goes)
-  step-state i f = rw (i, f) (rw (step-is t e) (refl, refl))
+pub told-state : (f v : Finds) (tells : Bool) → Tells f v tells → v.state ≡ f.state
+told-state f v true e = ap (λ (u : Finds). u.state) e
+told-state f v false e = e.0
+
+-- what was told and put is what the step says
+module _ (s t : FinderState) (v : Finds) (tells : Bool) (e : Told) where
+  pub step-text : s ≡ t → Tells (find t e) v tells → all_told Check (heard tells v) ≡ (check_step s e).put
+  step-text i f = rw i (told-same Check (find t e) v tells f ∙ ap (λ (k : Following FinderState). k.put) (sym (step-is t e)))
+
+  pub step-state : s ≡ t → Tells (find t e) v tells → (v.state ≡ (check_step s e).state) × (go.On ≡ (check_step s e).goes)
+  step-state i f = rw i (rw (step-is t e) (told-state (find t e) v tells f, refl))

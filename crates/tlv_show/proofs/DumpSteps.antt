@@ -6,9 +6,9 @@ use Rattle.tlv_walk.specs.Events.{Told, Open, Begin, Bytes, End, Close, Enter, U
 use Rattle.tlv_walk.specs.Follow.{Following, each_octet, followed, if_on}
 use Rattle.tlv_show.specs.Dumped.{Dumping, dumped, one_dumped, one_padded}
 use Rattle.tlv_show.specs.DumpStep.{Showing, dump_step, findings_first, findings_last, found_lines, is_header, one_filled, one_shown}
-use Rattle.tlv_show.specs.FinderState.{FinderState, Finds, find, find_bytes, finds_nothing}
+use Rattle.tlv_show.specs.FinderState.{FinderState, Finds, Tells, find, find_bytes, finds_nothing, heard}
 use Rattle.tlv_show.proofs.CheckLaws.{found-join}
-use Rattle.tlv_show.specs.CheckStep.{written_where}
+use Rattle.tlv_show.specs.CheckStep.{all_written, written_where}
 use Rattle.tlv_show.specs.declared.style.Style.TheVariants.{Dump}
 
 -- octet by octet, and at once
@@ -72,15 +72,33 @@ all_on s (e ∷ es) = ap (λ (g : Go). (if_on g (dump_step s e) (λ u. followed 
 
 -- ---- what was told and put is what the step says
 
-module _ (s : Showing) (u : Finds) (e : Told) (told : u ≡ find s.finder e) where
+module _ (s : Showing) (told : Finds) (tells : Bool) (e : Told) (says : Tells (find s.finder e) told tells) where
   abbrev d : Following Dumping
   d = dumped s.lines e
 
+  abbrev u : Finds
+  u = heard tells told
+
+  -- of what was not told there is nothing
+  first-heard : (f v : Finds) (k : Bool) → Tells f v k → findings_first s f d ≡ findings_first s (heard k v) d
+  first-heard f v true t = ap (λ (g : Finds). findings_first s g d) (sym t)
+  first-heard f v false t =
+      ap₂ (λ (x : FinderState) (l : List ℕ). record { state = record { lines = d.state; finder = x }; put = l ++ d.put; goes = go.On }) (sym t.0) (ap (all_written (Dump s.lines.layout.pure) f.level f.at) t.1)
+
+  last-heard : (f v : Finds) (k : Bool) → Tells f v k → findings_last s f d ≡ findings_last s (heard k v) d
+  last-heard f v true t = ap (λ (g : Finds). findings_last s g d) (sym t)
+  last-heard f v false t =
+      ap₂ (λ (x : FinderState) (l : List ℕ). record { state = record { lines = d.state; finder = x }; put = d.put ++ l; goes = go.On }) (sym t.0) (ap (all_written (Dump s.lines.layout.pure) f.level f.at) t.1)
+
+  heard-state : (v : Finds) (k : Bool) → v.state ≡ (heard k v).state
+  heard-state v true = refl
+  heard-state v false = refl
+
   header-step : is_header e ≡ true → dump_step s e ≡ findings_first s u d
-  header-step h = step-is s e ∙ ap₂ (λ (k : Bool) (f : Finds). by_order k s f d) h (sym told)
+  header-step h = step-is s e ∙ ap (λ (k : Bool). by_order k s (find s.finder e) d) h ∙ first-heard (find s.finder e) told tells says
 
   other-step : is_header e ≡ false → dump_step s e ≡ findings_last s u d
-  other-step h = step-is s e ∙ ap₂ (λ (k : Bool) (f : Finds). by_order k s f d) h (sym told)
+  other-step h = step-is s e ∙ ap (λ (k : Bool). by_order k s (find s.finder e) d) h ∙ last-heard (find s.finder e) told tells says
 
   -- the findings before the lines, the lines, and the findings behind them
   in_order : (k : Bool) → is_header e ≡ k
@@ -100,5 +118,7 @@ module _ (s : Showing) (u : Finds) (e : Told) (told : u ≡ find s.finder e) whe
   in_state true h v w = rw (header-step h) (ap (λ (x : Dumping). record { lines = x; finder = u.state }) w, refl)
   in_state false h v w = rw (other-step h) (ap (λ (x : Dumping). record { lines = x; finder = u.state }) w, refl)
 
-  pub step-state : (v : Dumping) → v ≡ d.state → (record { lines = v; finder = u.state } ≡ (dump_step s e).state) × (go.On ≡ (dump_step s e).goes)
-  step-state = in_state (is_header e) refl
+  pub step-state : (v : Dumping) → v ≡ d.state → (record { lines = v; finder = told.state } ≡ (dump_step s e).state) × (go.On ≡ (dump_step s e).goes)
+  step-state v w =
+      let r = in_state (is_header e) refl v w in
+      (ap (λ (x : FinderState). record { lines = v; finder = x }) (heard-state told tells) ∙ r.0, r.1)

@@ -1,12 +1,13 @@
 -- A finder tells the findings of the items, event by event.
-use Rattle.std.proofs.Common.{◌≡◌, ℕ, ◌+◌, ◌-◌, ◌&&◌, ◌||◌, ◌==◌, not, Bool, true, false, min, if◌then◌else◌, List, [], ◌∷◌, length, refl, sym, ap, ap₂, ◌∙◌, arith}
+use Rattle.std.proofs.Common.{◌≡◌, ℕ, ◌+◌, ◌-◌, ◌&&◌, ◌||◌, ◌==◌, not, Bool, true, false, min, if◌then◌else◌, List, [], ◌∷◌, length, refl, sym, subst, ap, ap₂, ◌∙◌, arith}
 use Rattle.std.proofs.Math.Bool.{and_assoc}
-use Rattle.std.proofs.lemmas.Bool.{true≢false}
+use Rattle.std.proofs.lemmas.Bool.{eqb-true, true≢false}
 use Rattle.std.specs.List.{fold, list_all}
-use Rattle.std.specs.Prelude.{Option, None}
+use Rattle.std.specs.Prelude.{Option, None, eqb}
 use Rattle.tlv_head.specs.Header.{Heading, announced, is_universal, octets_of, wraps}
-use Rattle.tlv_value.specs.CheckState.{checked, has_unused, unchecked}
-use Rattle.tlv_value.specs.Types.{bit_string, has_segments, is_a, is_primitive}
+use Rattle.tlv_value.specs.CheckState.{checked, has_unused, is_not_zero, type_noted, unchecked, unchecked_of}
+use Rattle.tlv_value.specs.Types.{bit_string, has_segments, is_a, is_primitive, octet_string}
+use Rattle.tlv_value.proofs.CheckPieces.{checked-none}
 use Rattle.tlv_walk.specs.Forest.{Forest, Stop, Fill, Whole, Closed, Partial, Entered, Awaiting, Begun, Zero, extent, is_whole}
 use Rattle.tlv_walk.specs.Place.{IsOpen, Place, after}
 use Rattle.tlv_show.specs.declared.frames.Frame.{Frame}
@@ -33,14 +34,23 @@ full-or-not : (k e : Bool) → not (not k && e) ≡ (k || not e)
 full-or-not true e = refl
 full-or-not false e = refl
 
+unused-at : (k : Bool) (n size x : ℕ) (c : List ℕ) → eqb n bit_string ≡ k → has_unused (checked (unchecked_of n size) (x ∷ c)) ≡ (k && not (x == 0))
+unused-at true n size x c e = subst (λ (m : ℕ). has_unused (checked (unchecked_of m size) (x ∷ c)) ≡ not (x == 0)) (sym (eqb-true n bit_string e)) refl
+unused-at false n size x c e = ap (λ (k : Bool). k && is_not_zero (checked (unchecked_of n size) (x ∷ c)).front) e
+
+type-is : (universal : Bool) (n : ℕ) → eqb (if universal then n else octet_string) bit_string ≡ (universal && n == bit_string)
+type-is true n = refl
+type-is false n = refl
+
 pub unused-of : (h : Heading) (c : List ℕ) → h.constructed ≡ false → has_unused (checked (unchecked h) c) ≡ has_unused_bits (Sibling h (first_octet c))
-unused-of h [] e = by-none (is_universal h.class) (h.number == bit_string)
+unused-of h [] e = ap has_unused (checked-none h) ∙ by-none (eqb (type_noted h) bit_string)
   where
-    by-none : (a b : Bool) → (a && b && false) ≡ false
-    by-none true true = refl
-    by-none true false = refl
-    by-none false b = refl
-unused-of h (x ∷ c) e = rw e refl
+    by-none : (a : Bool) → (a && false) ≡ false
+    by-none true = refl
+    by-none false = refl
+unused-of h (x ∷ c) e =
+    let t : eqb (type_noted h) bit_string ≡ is_a bit_string h = type-is (is_universal h.class) h.number in
+    unused-at (is_a bit_string h) (type_noted h) (announced h.size) x c t ∙ ap (λ (k : Bool). not k && is_a bit_string h && not (x == 0)) (sym e)
 
 pub knows-behind : (w : Frame) (s t : Site) (h : Heading) (first : Option ℕ) (unused : Bool) → Knows w s → t.holder ≡ s.holder → t.before ≡ Sibling h first
     → unused ≡ has_unused_bits (Sibling h first) → Knows (noted w (is_primitive h) (announced h.size) unused) t

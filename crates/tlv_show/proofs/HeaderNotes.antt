@@ -53,7 +53,7 @@ filter-held rules (row ∷ rows) = filter-one rules row.0 row.1 (held rows) ∙ 
 
 -- ---- with a header
 
-in-its-string : (k b u : Bool) → (k && b) && u ≡ ((k && b) && (k && u))
+in-its-string : (k b u : Bool) → ((k && (k && b)) && (k && u)) ≡ ((k && b) && u)
 in-its-string true b u = refl
 in-its-string false b u = refl
 
@@ -87,7 +87,7 @@ rows_by unused other inner short h =
     ∷ []
 
 noted-by : (rules : Rules) (w : Frame) (h : Heading)
-    → shown rules (rows_by (w.has_bits && w.is_unused) (w.has_segments && not (is_a (if w.has_bits then bit_string else octet_string) h)) (h.constructed && w.has_segments) w.is_not_full h) ≡ header_notes rules w h
+    → shown rules (rows_by (w.has_segments && w.has_bits && w.is_unused) (w.has_segments && not (is_a (if w.has_bits then bit_string else octet_string) h)) (h.constructed && w.has_segments) (w.has_segments && w.is_not_full) h) ≡ header_notes rules w h
 noted-by Ber w h =
     seven
     (where_it (has_high_form h && nat_lt h.number 31) B01)
@@ -95,7 +95,7 @@ noted-by Ber w h =
     (where_it (is_unassigned h) B03)
     (where_it (h.constructed && is_one_of primitive_types h) B04)
     (where_it (is_primitive h && is_one_of constructed_types h) B05)
-    (where_it (w.has_bits && w.is_unused) B16)
+    (where_it (w.has_segments && w.has_bits && w.is_unused) B16)
     (where_it (w.has_segments && not (is_a (if w.has_bits then bit_string else octet_string) h)) B17)
 noted-by Der w h =
     ten
@@ -104,7 +104,7 @@ noted-by Der w h =
     (where_it (is_unassigned h) B03)
     (where_it (h.constructed && is_one_of primitive_types h) B04)
     (where_it (is_primitive h && is_one_of constructed_types h) B05)
-    (where_it (w.has_bits && w.is_unused) B16)
+    (where_it (w.has_segments && w.has_bits && w.is_unused) B16)
     (where_it (w.has_segments && not (is_a (if w.has_bits then bit_string else octet_string) h)) B17)
     (where_it (has_long_form h && (nat_lt (announced h.size) 128 || first_length h == 0)) S01)
     (where_it (is_indefinite h.size) D01)
@@ -116,28 +116,35 @@ noted-by Cer w h =
     (where_it (is_unassigned h) B03)
     (where_it (h.constructed && is_one_of primitive_types h) B04)
     (where_it (is_primitive h && is_one_of constructed_types h) B05)
-    (where_it (w.has_bits && w.is_unused) B16)
+    (where_it (w.has_segments && w.has_bits && w.is_unused) B16)
     (where_it (w.has_segments && not (is_a (if w.has_bits then bit_string else octet_string) h)) B17)
     (where_it (has_long_form h && (nat_lt (announced h.size) 128 || first_length h == 0)) S01)
     (where_it (h.constructed && not (is_indefinite h.size)) C01)
     (where_it (is_primitive h && is_string h && nat_lt 1000 (announced h.size)) C02)
     (where_it (h.constructed && w.has_segments) C03)
-    (where_it (w.is_not_full) C04)
+    (where_it (w.has_segments && w.is_not_full) C04)
 
 in-bits : (holder : Option Heading) (u : Bool)
-    → (is_held_by (λ h. has_segments h && is_a bit_string h) holder && u) ≡ (is_held_by (λ h. has_segments h && is_a bit_string h) holder && (is_held_by has_segments holder && u))
+    → ((is_held_by has_segments holder && is_held_by (λ h. has_segments h && is_a bit_string h) holder) && (is_held_by has_segments holder && u))
+    ≡ (is_held_by (λ h. has_segments h && is_a bit_string h) holder && u)
 in-bits None u = refl
 in-bits (Some h) u = in-its-string (has_segments h) (is_a bit_string h) u
 
+both-once : (a b : Bool) → (a && (a && b)) ≡ (a && b)
+both-once true b = refl
+both-once false b = refl
+
 pub header-same : (rules : Rules) (w : Frame) (s : Site) (h : Heading) → Knows w s → header_notes rules w h ≡ header_findings rules s h
 header-same rules w s h k =
-    let unused : (w.has_bits && w.is_unused) ≡ (in_bit_string s && has_unused_bits s.before) =
-    ap₂ (λ (a b : Bool). a && b) k.bits k.unused ∙ sym (in-bits s.holder (has_unused_bits s.before)) in
+    let unused : ((w.has_segments && w.has_bits) && w.is_unused) ≡ (in_bit_string s && has_unused_bits s.before) =
+    ap₂ (λ (a b : Bool). (a && b) && w.is_unused) k.segments k.bits ∙ ap (λ (a : Bool). (in_string s && in_bit_string s) && a) k.unused ∙ in-bits s.holder (has_unused_bits s.before) in
+    let short : (w.has_segments && w.is_not_full) ≡ (in_string s && is_not_full s.before) =
+    ap₂ (λ (a b : Bool). a && b) k.segments k.not_full ∙ both-once (in_string s) (is_not_full s.before) in
     let other : (w.has_segments && not (is_a (if w.has_bits then bit_string else octet_string) h)) ≡ (in_string s && not (is_a (segment_type s) h)) =
     ap₂ (λ (a b : Bool). a && not (is_a (if b then bit_string else octet_string) h)) k.segments k.bits in
     sym (noted-by rules w h)
-    ∙ ap₂ (λ (a b : Bool). shown rules (rows_by a b (h.constructed && w.has_segments) w.is_not_full h)) unused other
-    ∙ ap₂ (λ (a b : Bool). shown rules (rows_by (in_bit_string s && has_unused_bits s.before) (in_string s && not (is_a (segment_type s) h)) (h.constructed && a) b h)) k.segments k.not_full
+    ∙ ap₂ (λ (a b : Bool). shown rules (rows_by a b (h.constructed && w.has_segments) (w.has_segments && w.is_not_full) h)) unused other
+    ∙ ap₂ (λ (a b : Bool). shown rules (rows_by (in_bit_string s && has_unused_bits s.before) (in_string s && not (is_a (segment_type s) h)) (h.constructed && a) b h)) k.segments short
     ∙ sym (filter-held rules (header_conditions s h))
 
 -- ---- with an end

@@ -1,6 +1,6 @@
 -- What is kept of elements so that what is found in them can be told event by event, and what is told. Nothing here is to be
 -- believed: `Items` has what is told, and a law has that it is the same.
-use Rattle.std.specs.Prelude.{ℕ, ◌+◌, ◌-◌, ◌^◌, Bool, true, false, ◌&&◌, ◌||◌, not, ◌==◌, nat_le, nat_lt, if◌then◌else◌, List, [], ◌∷◌, ◌++◌, length, max, min, take, Option, Some, None}
+use Rattle.std.specs.Prelude.{ℕ, ◌≡◌, ◌+◌, ◌-◌, ◌^◌, Bool, true, false, ◌&&◌, ◌||◌, not, ◌==◌, nat_le, nat_lt, if◌then◌else◌, List, [], ◌∷◌, ◌++◌, length, max, min, take, Option, Some, None}
 use Rattle.std.specs.List.{filter}
 use Rattle.tlv_head.specs.Header.{Heading, announced}
 use Rattle.tlv_value.specs.declared.finding.Finding.{Finding}
@@ -75,7 +75,7 @@ basic_notes w h =
     ++ where_it (is_unassigned h) B03
     ++ where_it (h.constructed && is_one_of primitive_types h) B04
     ++ where_it (is_primitive h && is_one_of constructed_types h) B05
-    ++ where_it (w.has_bits && w.is_unused) B16
+    ++ where_it (w.has_segments && w.has_bits && w.is_unused) B16
     ++ where_it (w.has_segments && not (is_a (if w.has_bits then bit_string else octet_string) h)) B17
 
 abbrev pub length_notes : Heading → List Finding
@@ -89,7 +89,7 @@ cer_notes w h =
     where_it (h.constructed && not (is_indefinite h.size)) C01
     ++ where_it (is_primitive h && is_string h && nat_lt 1000 (announced h.size)) C02
     ++ where_it (h.constructed && w.has_segments) C03
-    ++ where_it w.is_not_full C04
+    ++ where_it (w.has_segments && w.is_not_full) C04
 
 abbrev pub header_notes : Rules → Frame → Heading → List Finding
 header_notes Ber w h = basic_notes w h
@@ -148,6 +148,19 @@ finds s level at found = record { state = record s { count = count_up s.count (l
 abbrev pub finds_nothing : FinderState → Finds
 finds_nothing s = record { state = s; level = 0; at = 0; found = [] }
 
+-- the state alone changes
+abbrev pub stands : FinderState → Finds → Finds
+stands s f = record f { state = s }
+
+-- a finder answers whether there may be findings: where so, it says what they are; where not, there are none
+abbrev pub Tells : Finds → Finds → Bool → Type 0
+Tells f new true = new ≡ f
+Tells f new false = (new.state ≡ f.state) × (f.found ≡ [])
+
+-- what was told, if anything was
+abbrev pub heard : Bool → Finds → Finds
+heard tells f = if tells then f else finds_nothing f.state
+
 -- ---- What it makes of an event
 
 -- an element that holds others begins. Past 128 of them no frame is kept
@@ -158,8 +171,11 @@ abbrev pub find_open : FinderState → Heading → Finds
 find_open s h = finds (entered_in s h) (length s.outer) h.offset (header_notes s.rules s.frame h)
 
 -- a primitive begins
+abbrev pub begun_in : FinderState → Heading → FinderState
+begun_in s h = record s { value = Some (record { at = h.offset; check = unchecked h }) }
+
 abbrev pub find_begin : FinderState → Heading → Finds
-find_begin s h = finds (record s { value = Some (record { at = h.offset; check = unchecked h }) }) (length s.outer) h.offset (header_notes s.rules s.frame h)
+find_begin s h = finds (begun_in s h) (length s.outer) h.offset (header_notes s.rules s.frame h)
 
 -- contents octets: no more count than were announced
 abbrev pub checked_by : Option OpenValue → List ℕ → Option OpenValue

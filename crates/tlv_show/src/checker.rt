@@ -64,8 +64,8 @@ impl Follow for Check {
 
     #[inline(always)]
     fn on<D: Drain>(&mut self, event: &Event<'_>, out: &mut Out<'_, D>) -> Result<Go, WriteFault> {
-        self.finder.find(event);
-        put_findings(&mut self.line, Style::Check, &self.finder, out)?;
+        let tells = self.finder.find(event);
+        put_findings(tells, &mut self.line, Style::Check, &self.finder, out)?;
         Ok(Go::On)
     }
 }

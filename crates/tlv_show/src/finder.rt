@@ -4,9 +4,11 @@ ghost use Rattle.std.specs.List.{filter};
 ghost use Rattle.tlv_value.specs.CheckState.{found_in, unchecked};
 ghost use Rattle.tlv_walk.specs.Tells.{told_of};
 ghost use Rattle.tlv_show.specs.FinderState.{
+  Tells,
   begun_at,
+  begun_in,
   checked_by,
-  contents_notes,
+  entered_in,
   find as find_in,
   find_begin,
   find_bytes,
@@ -19,13 +21,14 @@ ghost use Rattle.tlv_show.specs.FinderState.{
   header_notes,
   no_findings,
   noted,
+  stands,
   top_frame,
 };
 ghost use Rattle.tlv_show.specs.Found.{shows};
 
 use crate::Rules;
 use crate::frames::{Frame, Frames};
-use crate::header_findings::{is_bit_string, is_string, note_end, note_header, size_of};
+use crate::header_findings::{is_bit_string, is_plain, is_string, note_end, note_header, size_of};
 use arrayvec::ArrayVec;
 use std::marker::Model;
 use tlv_head::Header;
@@ -142,10 +145,11 @@ impl Finder {
         self.told.at
     }
 
-    /// Takes an event.
+    /// Takes an event. Answers whether there may be findings; where not, it told none, and what the events before it told
+    /// is left as it is.
     #[inline(always)]
-    pub fn find(&mut self, event: &Event<'_>)
-        ensures { self.new ≡ find_in self.old.state (told_of event.now) }
+    pub fn find(&mut self, event: &Event<'_>) -> bool
+        ensures { Tells (find_in self.old.state (told_of event.now)) self.new result }
     {
         match event {
             Event::Open(header) | Event::Enter(header) => self.open(header),
@@ -153,7 +157,7 @@ impl Finder {
             Event::Bytes(octets) => self.bytes(octets),
             Event::End => self.end(),
             Event::Close(_) | Event::Leave => self.close(),
-            Event::Unused | Event::Pad(_) => self.told.restart(0, 0),
+            Event::Unused | Event::Pad(_) => false,
         }
     }
 
@@ -169,77 +173,108 @@ impl Finder {
         self.count = self.count.saturating_add(self.told.findings.len() as u64);
     }
 
-    /// An element that holds others begins.
+    /// Keeps the frame of an element that holds others and begins.
     #[inline(always)]
-    fn open(&mut self, header: &Header)
-        ensures { self.new ≡ find_open self.old.state header.now }
+    fn enter(&mut self, header: &Header)
+        ensures { self.new ≡ stands (entered_in self.old.state header.now) self.old }
     {
-        self.header(header);
         if self.outer.len() < 128 {
             self.outer.push(self.frame);
             self.frame = frame_of(header);
         }
     }
 
-    /// A primitive begins.
+    /// An element that holds others begins.
     #[inline(always)]
-    fn begin(&mut self, header: &Header)
-        ensures { self.new ≡ find_begin self.old.state header.now }
+    fn open(&mut self, header: &Header) -> bool
+        ensures { Tells (find_open self.old.state header.now) self.new result }
     {
+        if is_plain(self.rules, &self.frame, header) {
+            self.enter(header);
+            return false;
+        }
         self.header(header);
+        self.enter(header);
+        true
+    }
+
+    /// Keeps where a primitive begins, and that nothing of its contents has come.
+    #[inline(always)]
+    fn enter_value(&mut self, header: &Header)
+        ensures { self.new ≡ stands (begun_in self.old.state header.now) self.old }
+    {
         self.at = header.offset;
         self.is_open = true;
         restart(&mut self.check, header);
     }
 
+    /// A primitive begins.
+    #[inline(always)]
+    fn begin(&mut self, header: &Header) -> bool
+        ensures { Tells (find_begin self.old.state header.now) self.new result }
+    {
+        if is_plain(self.rules, &self.frame, header) {
+            self.enter_value(header);
+            return false;
+        }
+        self.header(header);
+        self.enter_value(header);
+        true
+    }
+
     /// Contents of a primitive go on.
     #[inline(always)]
-    fn bytes(&mut self, octets: &[u8])
-        ensures { self.new ≡ finds_nothing (find_bytes self.old.state octets.now) }
+    fn bytes(&mut self, octets: &[u8]) -> bool
+        ensures { Tells (finds_nothing (find_bytes self.old.state octets.now)) self.new result }
     {
-        self.told.restart(0, 0);
         if self.is_open && !octets.is_empty() {
             take_octets(&mut self.check, octets);
         }
+        false
     }
 
     /// A primitive ends.
     #[inline(always)]
-    fn end(&mut self)
-        ensures { self.new ≡ find_end self.old.state }
+    fn end(&mut self) -> bool
+        ensures { Tells (find_end self.old.state) self.new result }
     {
         let Some(check) = &self.check else {
-            self.told.restart(0, 0);
-            return;
+            return false;
         };
         if !self.is_open {
-            self.told.restart(0, 0);
-            return;
+            return false;
+        }
+        self.is_open = false;
+        note_element(&mut self.frame, true, check.size(), check.has_unused_bits());
+        if check.left() != 0 || check.is_clear() {
+            return false;
         }
         let level = self.outer.len();
         self.told.restart(level, self.at);
-        note_contents(self.rules, check, &mut self.told.findings);
+        note_found(self.rules, check, &mut self.told.findings);
         self.count = self.count.saturating_add(self.told.findings.len() as u64);
-        note_element(&mut self.frame, true, check.size(), check.has_unused_bits());
-        self.is_open = false;
+        true
     }
 
     /// An element that holds others ends.
     #[inline(always)]
-    fn close(&mut self)
-        ensures { self.new ≡ find_close self.old.state }
+    fn close(&mut self) -> bool
+        ensures { Tells (find_close self.old.state) self.new result }
     {
         let Some(outer) = self.outer.pop() else {
-            self.told.restart(0, 0);
-            return;
+            return false;
         };
         let closed = self.frame;
+        self.frame = outer;
+        note_element(&mut self.frame, closed.is_primitive, closed.size, false);
+        if !closed.has_segments {
+            return false;
+        }
         let level = self.outer.len();
         self.told.restart(level, closed.at);
         note_end(self.rules, &closed, &mut self.told.findings);
         self.count = self.count.saturating_add(self.told.findings.len() as u64);
-        self.frame = outer;
-        note_element(&mut self.frame, closed.is_primitive, closed.size, false);
+        true
     }
 }
 
@@ -307,18 +342,6 @@ fn take_octets(check: &mut Option<ValueCheck>, octets: &[u8])
         let count = check.left().min(octets.len() as u64) as usize;
         check.bytes(&octets[..count]);
     }
-}
-
-/// Notes what is found on the contents of a primitive, if all of them have come.
-#[inline(always)]
-fn note_contents(rules: Rules, check: &ValueCheck, found: &mut ArrayVec<Finding, 16>)
-    requires { found.old.items ≡ [] }
-    ensures { found.new.items ≡ contents_notes rules check.now }
-{
-    if check.left() != 0 || check.is_clear() {
-        return;
-    }
-    note_found(rules, check, found);
 }
 
 /// Notes what is found on the contents of a primitive, of which all have come.

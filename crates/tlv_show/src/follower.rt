@@ -79,10 +79,10 @@ impl Follow for Dump<'_> {
     fn on<D: Drain>(&mut self, event: &Event<'_>, out: &mut Out<'_, D>) -> Result<Go, WriteFault> {
         let style = Style::Dump(self.lines.layout().pure);
         let first = is_header(event);
-        self.finder.find(event);
-        put_where(first, &mut self.line, style, &self.finder, out)?;
+        let tells = self.finder.find(event);
+        put_where(first, tells, &mut self.line, style, &self.finder, out)?;
         self.lines.show(event, out)?;
-        put_where(!first, &mut self.line, style, &self.finder, out)?;
+        put_where(!first, tells, &mut self.line, style, &self.finder, out)?;
         Ok(Go::On)
     }
 }

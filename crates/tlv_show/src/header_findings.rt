@@ -1,12 +1,14 @@
 //! What is found with a header, and with the end of an element that holds others.
-ghost use Rattle.std.specs.Prelude.{◌≡◌, ◌<◌, ◌≤◌, ◌+◌, ◌++◌, ◌&&◌, ◌||◌, ◌==◌, if◌then◌else◌, nat_le, nat_lt, length, []};
+ghost use Rattle.std.specs.Prelude.{IsTrue, false, ◌≡◌, ◌<◌, ◌≤◌, ◌+◌, ◌++◌, ◌&&◌, ◌||◌, ◌==◌, if◌then◌else◌, nat_le, nat_lt, length, []};
 ghost use Rattle.tlv_head.specs.Header.{announced, is_universal as is_universal_class};
 ghost use Rattle.tlv_value.specs.CheckNotes.{where_it};
 ghost use Rattle.tlv_value.specs.Types.{
   bit_string,
   constructed_types,
+  has_segments,
   is_a,
   is_one_of,
+  is_primitive as is_primitive_of,
   is_string as is_string_of,
   is_unassigned as is_unassigned_of,
   octet_string,
@@ -44,6 +46,43 @@ pub(crate) fn note_header(
             note_length(header, found);
             note_cer(frame, header, found);
         }
+    }
+}
+
+/// Whether nothing is found with a header, as far as a short look tells.
+#[inline(always)]
+pub(crate) fn is_plain(rules: Rules, frame: &Frame, header: &Header) -> bool
+    ensures { IsTrue result → header_notes rules frame.now header.now ≡ [] }
+{
+    if frame.has_segments || has_high_form(header) || !is_usual(header) {
+        return false;
+    }
+    match rules {
+        Rules::Ber => true,
+        Rules::Der => !is_indefinite(header) && !is_length_padded(header),
+        Rules::Cer => {
+            header.constructed == is_indefinite(header)
+                && size_of(header) <= 1000
+                && !is_length_padded(header)
+        }
+    }
+}
+
+/// Whether the element is of a type that can have its form, and no constructed string; or of another class.
+#[inline(always)]
+fn is_usual(header: &Header) -> bool
+    ensures assigned { IsTrue result → is_unassigned_of header.now ≡ false }
+    ensures primitive { IsTrue result → (header.now.constructed && is_one_of primitive_types header.now) ≡ false }
+    ensures constructed { IsTrue result → (is_primitive_of header.now && is_one_of constructed_types header.now) ≡ false }
+    ensures segments { IsTrue result → has_segments header.now ≡ false }
+{
+    if !is_universal(header) {
+        return true;
+    }
+    if header.constructed {
+        matches!(header.number, 8 | 11 | 16 | 17 | 29)
+    } else {
+        matches!(header.number, 1..=7 | 9 | 10 | 12..=14 | 18..=28 | 30..=36)
     }
 }
 
@@ -108,7 +147,11 @@ fn note_basic(frame: &Frame, header: &Header, found: &mut ArrayVec<Finding, 16>)
         Finding::B05,
         found,
     );
-    note(frame.has_bits && frame.is_unused, Finding::B16, found);
+    note(
+        frame.has_segments && frame.has_bits && frame.is_unused,
+        Finding::B16,
+        found,
+    );
     note(
         frame.has_segments && !is_segment(frame.has_bits, header),
         Finding::B17,
@@ -157,7 +200,7 @@ fn note_cer(frame: &Frame, header: &Header, found: &mut ArrayVec<Finding, 16>)
         Finding::C03,
         found,
     );
-    note(frame.is_not_full, Finding::C04, found);
+    note(frame.has_segments && frame.is_not_full, Finding::C04, found);
 }
 
 /// Whether the tag is in the high form (8.1.2.4).

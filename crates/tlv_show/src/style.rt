@@ -1,7 +1,8 @@
 //! How findings are written.
 ghost use Rattle.std.specs.Prelude.{◌≡◌};
 ghost use Rattle.tlv_walk.specs.Out.{Puts};
-ghost use Rattle.tlv_show.specs.CheckStep.{all_written, written, written_where};
+ghost use Rattle.tlv_show.specs.CheckStep.{all_told, all_written, written, written_where};
+ghost use Rattle.tlv_show.specs.FinderState.{heard};
 ghost use Rattle.tlv_show.specs.Texts.{finding_line, listed};
 
 use crate::finder::Finder;
@@ -25,38 +26,45 @@ const BARE: Layout = Layout {
     pure: true,
 };
 
-/// Puts a line for each finding that the last event told, in order.
+/// Puts a line for each finding that the last event told, in order, if it told any.
 #[inline(always)]
 pub(crate) fn put_findings<D: Drain>(
+    tells: bool,
     line: &mut Line,
     style: Style,
     finder: &Finder,
     out: &mut Out<'_, D>,
 ) -> Result<(), WriteFault>
-    ensures { Puts D.told out.old out.new (all_written style finder.now.level finder.now.at finder.now.found) result }
+    ensures { Puts D.told out.old out.new (all_told style (heard tells finder.now)) result }
 {
-    let findings = finder.findings();
-    if findings.is_empty() {
+    if !tells {
         return Ok(());
     }
-    put_each(line, style, (finder.level(), finder.at()), findings, out)
+    put_each(
+        line,
+        style,
+        (finder.level(), finder.at()),
+        finder.findings(),
+        out,
+    )
 }
 
 /// [`put_findings`], where findings are to be put here.
 #[inline(always)]
 pub(crate) fn put_where<D: Drain>(
     here: bool,
+    tells: bool,
     line: &mut Line,
     style: Style,
     finder: &Finder,
     out: &mut Out<'_, D>,
 ) -> Result<(), WriteFault>
-    ensures { Puts D.told out.old out.new (written_where here style finder.now) result }
+    ensures { Puts D.told out.old out.new (written_where here style (heard tells finder.now)) result }
 {
     if !here {
         return Ok(());
     }
-    put_findings(line, style, finder, out)
+    put_findings(tells, line, style, finder, out)
 }
 
 /// Puts a line for each of these findings in the element at this level and offset.

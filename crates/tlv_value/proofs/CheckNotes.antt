@@ -10,7 +10,13 @@ use Rattle.tlv_head.specs.Header.{Heading}
 use Rattle.tlv_value.specs.declared.finding.Finding.{Finding}
 use Rattle.tlv_value.specs.declared.finding.Finding.TheVariants.{B06, B07, B08, B09, B10, B11, B12, B13, B14, B15, B18, B19, S02, S03, S04}
 use Rattle.tlv_value.specs.Checks.{allows, allows_octet, contents_conditions, contents_findings, every, first, held, is_padded_integer, is_padded_object, last_of}
-use Rattle.tlv_value.specs.CheckNotes.{noted, noted_findings, time_findings, universal_findings, where_it}
+use Rattle.tlv_value.specs.CheckNotes.{Noted, time_findings, universal_findings, where_it}
+use Rattle.tlv_value.specs.CheckState.{all_utf8, allowed_in, each_noted, more_noted, noted_in, notes_each, type_noted, unchecked_of}
+use Rattle.tlv_value.specs.Rows.{full_rows, open_row}
+use Rattle.tlv_value.specs.declared.kind.Kind.TheVariants.{Utf8}
+use Rattle.std.specs.Str.{is_utf8}
+use Rattle.tlv_value.proofs.EachNoted.{nothing-noted}
+use Rattle.tlv_value.proofs.Formed.{rows-formed_at}
 use Rattle.tlv_value.specs.Times.{Form, canonical_general_time, canonical_utc_time, general_time, has_form, utc_time}
 
 -- a primitive with this tag
@@ -21,12 +27,15 @@ with_tag class number = record { offset = 0; named = false; class = class; const
 abbrev on : ℕ → List ℕ → List Finding
 on number c = held (contents_conditions (with_tag Universal number) c)
 
--- what is noted
-first-noted : (c : List ℕ) → slice_index c 0 ≡ slice_index (take 64 c) 0
+-- what is noted of all contents of the type with this number
+abbrev pub noted : ℕ → List ℕ → Noted
+noted number c = noted_in (more_noted (unchecked_of number (length c)) c)
+
+first-noted : (c : List ℕ) → slice_index c 0 ≡ slice_index (take 2 c) 0
 first-noted [] = refl
 first-noted (x ∷ c) = refl
 
-padded-noted : (c : List ℕ) → is_padded_integer c ≡ is_padded_integer (take 64 c)
+padded-noted : (c : List ℕ) → is_padded_integer c ≡ is_padded_integer (take 2 c)
 padded-noted [] = refl
 padded-noted (x ∷ []) = refl
 padded-noted (x ∷ y ∷ c) = refl
@@ -54,7 +63,7 @@ boolean-same c =
     ∙ ap (λ (l : List Finding). a ++ l) (append-nil (odd (first c)))
     ∙ ap (λ (x : ℕ). a ++ odd x) (first-noted c)
 
-integer-by : (c : List ℕ) → where_it (length c == 0) B07 ++ (where_it (is_padded_integer c) B08 ++ []) ≡ where_it (length c == 0) B07 ++ where_it (is_padded_integer (take 64 c)) B08
+integer-by : (c : List ℕ) → where_it (length c == 0) B07 ++ (where_it (is_padded_integer c) B08 ++ []) ≡ where_it (length c == 0) B07 ++ where_it (is_padded_integer (take 2 c)) B08
 integer-by c =
     let a : List Finding = where_it (length c == 0) B07 in
     ap (λ (l : List Finding). a ++ l) (append-nil (where_it (is_padded_integer c) B08)) ∙ ap (λ (k : Bool). a ++ where_it k B08) (padded-noted c)
@@ -123,9 +132,42 @@ general-same c =
     ∙ time-by (nat_le (length c) 64) general_time canonical_general_time c (take 64 c) (λ e. take-all 64 c (leb-true (length c) 64 e))
 
 -- of any other type
+allowed-each : (n : ℕ) (c : List ℕ) (text : Bool)
+    → ((if text then (if text then true && all_utf8 (full_rows Utf8 [] c) else true) && is_utf8 (if text then open_row Utf8 [] c else [])
+    else if eqb n 30 then eqb (length c % 2) 0
+    else if eqb n 28 then eqb (length c % 4) 0
+    else true)
+    && (true && every (allows_octet n) c))
+    ≡ ((if text then is_utf8 c
+    else if eqb n 30 then eqb (length c % 2) 0
+    else if eqb n 28 then eqb (length c % 4) 0
+    else true)
+    && every (allows_octet n) c)
+allowed-each n c true = ap (λ (f : Bool). f && every (allows_octet n) c) (rows-formed_at c)
+allowed-each n c false = refl
+
+other-allowed : (n : ℕ) (c : List ℕ) → eqb n 1 ≡ false → eqb n 2 ≡ false → eqb n 3 ≡ false → eqb n 10 ≡ false → eqb n 23 ≡ false → eqb n 24 ≡ false
+    → allowed_in (more_noted (unchecked_of n (length c)) c) ≡ allows n c
+other-allowed n c e1 e2 e3 e10 e23 e24 = rw (e1, e2, e3, e10, e23, e24) (by (notes_each n) refl)
+  where
+    by : (k : Bool) → notes_each n ≡ k → allowed_in (if k then each_noted (unchecked_of n (length c)) c else unchecked_of n (length c)) ≡ allows n c
+    by true e = allowed-each n c (eqb n 12)
+    by false e = ap allowed_in (sym (nothing-noted (unchecked_of n (length c)) c e)) ∙ allowed-each n c (eqb n 12)
+
+text-of : (n : ℕ) (m : Noted) → eqb n 1 ≡ false → eqb n 2 ≡ false → eqb n 3 ≡ false → eqb n 5 ≡ false → eqb n 6 ≡ false → eqb n 10 ≡ false → eqb n 13 ≡ false → eqb n 23 ≡ false → eqb n 24 ≡ false
+    → universal_findings n m ≡ where_it (not m.allowed) B18
+text-of n m e1 e2 e3 e5 e6 e10 e13 e23 e24 = rw (e1, e2, e3, e5, e6, e10, e13, e23, e24) refl
+
+text-on : (n : ℕ) (c : List ℕ) → eqb n 1 ≡ false → eqb n 2 ≡ false → eqb n 3 ≡ false → eqb n 5 ≡ false → eqb n 6 ≡ false → eqb n 10 ≡ false → eqb n 13 ≡ false → eqb n 23 ≡ false → eqb n 24 ≡ false
+    → on n c ≡ where_it (not (allows n c)) B18
+text-on n c e1 e2 e3 e5 e6 e10 e13 e23 e24 = rw (e1, e2, e3, e5, e6, e10, e13, e23, e24) (append-nil (where_it (not (allows n c)) B18))
+
 other-same : (n : ℕ) (c : List ℕ) → eqb n 1 ≡ false → eqb n 2 ≡ false → eqb n 3 ≡ false → eqb n 5 ≡ false → eqb n 6 ≡ false → eqb n 10 ≡ false → eqb n 13 ≡ false → eqb n 23 ≡ false → eqb n 24 ≡ false
     → on n c ≡ universal_findings n (noted n c)
-other-same n c e1 e2 e3 e5 e6 e10 e13 e23 e24 = rw (e1, e2, e3, e5, e6, e10, e13, e23, e24) (append-nil (where_it (not (allows n c)) B18))
+other-same n c e1 e2 e3 e5 e6 e10 e13 e23 e24 =
+    text-on n c e1 e2 e3 e5 e6 e10 e13 e23 e24
+    ∙ ap (λ (b : Bool). where_it (not b) B18) (sym (other-allowed n c e1 e2 e3 e10 e23 e24))
+    ∙ sym (text-of n (noted n c) e1 e2 e3 e5 e6 e10 e13 e23 e24)
 
 -- ---- all types
 
@@ -171,12 +213,13 @@ from-1 : (n : ℕ) (c : List ℕ) (test : Bool) → eqb n 1 ≡ test → Same n 
 from-1 n c true e = by-number n 1 c (boolean-same c) e
 from-1 n c false e = from-2 n c (eqb n 2) refl e
 
-of-class : (class : Class) (n : ℕ) (c : List ℕ) → held (contents_conditions (with_tag class n) c) ≡ noted_findings class n c
+of-class : (class : Class) (n : ℕ) (c : List ℕ)
+    → held (contents_conditions (with_tag class n) c) ≡ universal_findings (type_noted (with_tag class n)) (noted (type_noted (with_tag class n)) c)
 of-class Universal n c = from-1 n c (eqb n 1) refl
 of-class Application n c = refl
 of-class Context n c = refl
 of-class Private n c = refl
 
 -- of a primitive with this header
-pub noted-same : (h : Heading) (c : List ℕ) → contents_findings h c ≡ noted_findings h.class h.number c
+pub noted-same : (h : Heading) (c : List ℕ) → contents_findings h c ≡ universal_findings (type_noted h) (noted (type_noted h) c)
 noted-same h c = of-class h.class h.number c

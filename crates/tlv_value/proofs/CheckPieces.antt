@@ -1,16 +1,15 @@
 -- What is found on contents in pieces.
 use Rattle.std.proofs.Common.{◌≡◌, ℕ, zero, suc, ◌-◌, Bool, true, false, List, [], ◌∷◌, ◌++◌, length, take, refl, sym, ap, ◌∙◌, arith, append_assoc, length-append}
-use Rattle.std.specs.Prelude.{◌%◌, ◌&&◌, ◌||◌, eqb, nat_lt, if◌then◌else◌}
+use Rattle.std.specs.Prelude.{◌&&◌, ◌||◌, eqb, nat_lt, if◌then◌else◌}
 use Rattle.std.specs.Str.{is_utf8}
 use Rattle.tlv_head.specs.Header.{Heading, announced}
 use Rattle.tlv_value.specs.declared.kind.Kind.TheVariants.{Utf8}
 use Rattle.tlv_value.specs.CheckLaws.{ChecksJoin, FindingsEnd}
-use Rattle.tlv_value.specs.CheckState.{CheckState, all_utf8, allowed_in, checked, unchecked}
-use Rattle.tlv_value.specs.Checks.{allows, allows_octet, every, is_padded_behind, last_of}
-use Rattle.tlv_value.specs.CheckNotes.{Noted, findings_on, is_object, noted}
+use Rattle.tlv_value.specs.CheckState.{CheckState, all_utf8, checked, each_noted, front_noted, more_noted, noted_in, notes_each, notes_front, notes_time, time_noted, type_noted, unchecked, unchecked_of}
+use Rattle.tlv_value.specs.Checks.{allows_octet, every, is_padded_behind, last_of}
+use Rattle.tlv_value.specs.CheckNotes.{is_object, universal_findings}
 use Rattle.tlv_value.specs.Rows.{full_rows, open_row}
 use Rattle.tlv_value.proofs.CheckNotes.{noted-same}
-use Rattle.tlv_value.proofs.Formed.{rows-formed_at}
 use Rattle.tlv_value.proofs.Pieces.{rows-join}
 
 last-join : (before : ℕ) (x y : List ℕ) → last_of (last_of before x) y ≡ last_of before (x ++ y)
@@ -43,8 +42,8 @@ take-twice zero xs ys = refl
 take-twice (suc n) [] ys = refl
 take-twice (suc n) (x ∷ xs) ys = ap (λ (t : List ℕ). x ∷ t) (take-twice n xs ys)
 
-take-join : (front x y : List ℕ) → take 64 (take 64 (front ++ x) ++ y) ≡ take 64 (front ++ (x ++ y))
-take-join front x y = take-twice 64 (front ++ x) y ∙ ap (take 64) (append_assoc front x y)
+take-join : (n : ℕ) (front x y : List ℕ) → take n (take n (front ++ x) ++ y) ≡ take n (front ++ (x ++ y))
+take-join n front x y = take-twice n (front ++ x) y ∙ ap (take n) (append_assoc front x y)
 
 padded-at : (b padded : Bool) (before : ℕ) (x y : List ℕ)
     → (if b then (if b then padded || is_padded_behind before x else padded) || is_padded_behind (last_of before x) y else (if b then padded || is_padded_behind before x else padded))
@@ -65,9 +64,8 @@ row-at : (b : Bool) (row x y : List ℕ) → (if b then open_row Utf8 (if b then
 row-at true row x y = sym (rows-join Utf8 row x y).1
 row-at false row x y = refl
 
-abbrev built : CheckState → ℕ → List ℕ → ℕ → Bool → Bool → Bool → List ℕ → CheckState
-built s left front last allowed padded formed row = record {
-  class = s.class;
+abbrev built : CheckState → ℕ → List ℕ → ℕ → Bool → Bool → Bool → List ℕ → List ℕ → CheckState
+built s left front last allowed padded formed row time = record {
   number = s.number;
   size = s.size;
   left = left;
@@ -77,53 +75,63 @@ built s left front last allowed padded formed row = record {
   padded = padded;
   formed = formed;
   row = row;
+  time = time;
 }
 
-built-eq : (s : CheckState) (l l' : ℕ) (f f' : List ℕ) (t t' : ℕ) (a a' p p' m m' : Bool) (r r' : List ℕ) → l ≡ l' → f ≡ f' → t ≡ t' → a ≡ a' → p ≡ p' → m ≡ m' → r ≡ r' → built s l f t a p m r ≡ built s l' f' t' a' p' m' r'
-built-eq s l l' f f' t t' a a' p p' m m' r r' e1 e2 e3 e4 e5 e6 e7 = rw (e1, e2, e3, e4, e5, e6, e7) refl
+built-eq : (s : CheckState) (l l' : ℕ) (f f' : List ℕ) (t t' : ℕ) (a a' p p' m m' : Bool) (r r' i i' : List ℕ) → l ≡ l' → f ≡ f' → t ≡ t' → a ≡ a' → p ≡ p' → m ≡ m' → r ≡ r' → i ≡ i' → built s l f t a p m r i ≡ built s l' f' t' a' p' m' r' i'
+built-eq s l l' f f' t t' a a' p p' m m' r r' i i' e1 e2 e3 e4 e5 e6 e7 e8 = rw (e1, e2, e3, e4, e5, e6, e7, e8) refl
+
+-- what is noted of a type, by what it asks for
+abbrev noted_by : Bool → Bool → Bool → CheckState → List ℕ → CheckState
+noted_by front each time s octets =
+    if front then front_noted s octets
+    else if each then each_noted s octets
+    else if time then time_noted s octets
+    else s
+
+abbrev by_kind : Bool → Bool → Bool → CheckState → List ℕ → CheckState
+by_kind f e t s octets = record (noted_by f e t s octets) { number = s.number; size = s.size; left = s.left - length octets }
+
+join-by : (f e t : Bool) (s : CheckState) (x y : List ℕ) → by_kind f e t (by_kind f e t s x) y ≡ by_kind f e t s (x ++ y)
+join-by true e t s x y =
+    let l : s.left - length x - length y ≡ s.left - length (x ++ y) = omega (arith, length-append x y) in
+    built-eq s (s.left - length x - length y) (s.left - length (x ++ y)) (take 2 (take 2 (s.front ++ x) ++ y)) (take 2 (s.front ++ (x ++ y))) (last_of (last_of s.last x) y) (last_of s.last (x ++ y))
+    s.allowed s.allowed s.padded s.padded s.formed s.formed s.row s.row s.time s.time
+    l (take-join 2 s.front x y) (last-join s.last x y) refl refl refl refl refl
+join-by false true t s x y =
+    let l : s.left - length x - length y ≡ s.left - length (x ++ y) = omega (arith, length-append x y) in
+    built-eq s (s.left - length x - length y) (s.left - length (x ++ y)) s.front s.front (last_of (last_of s.last x) y) (last_of s.last (x ++ y))
+    (each_noted (each_noted s x) y).allowed (each_noted s (x ++ y)).allowed (each_noted (each_noted s x) y).padded (each_noted s (x ++ y)).padded (each_noted (each_noted s x) y).formed (each_noted s (x ++ y)).formed
+    (each_noted (each_noted s x) y).row (each_noted s (x ++ y)).row s.time s.time
+    l refl (last-join s.last x y)
+    (and-assoc s.allowed (every (allows_octet s.number) x) (every (allows_octet s.number) y) ∙ ap (λ (b : Bool). s.allowed && b) (every-join (allows_octet s.number) x y))
+    (padded-at (is_object s.number) s.padded s.last x y) (formed-at (eqb s.number 12) s.formed s.row x y) (row-at (eqb s.number 12) s.row x y) refl
+join-by false false true s x y =
+    let l : s.left - length x - length y ≡ s.left - length (x ++ y) = omega (arith, length-append x y) in
+    built-eq s (s.left - length x - length y) (s.left - length (x ++ y)) s.front s.front s.last s.last
+    s.allowed s.allowed s.padded s.padded s.formed s.formed s.row s.row (take 64 (take 64 (s.time ++ x) ++ y)) (take 64 (s.time ++ (x ++ y)))
+    l refl refl refl refl refl refl (take-join 64 s.time x y)
+join-by false false false s x y =
+    let l : s.left - length x - length y ≡ s.left - length (x ++ y) = omega (arith, length-append x y) in
+    ap (λ (n : ℕ). record s { left = n }) l
 
 pub checks-join : ChecksJoin
-checks-join s x y =
-    let l : s.left - length x - length y ≡ s.left - length (x ++ y) = omega (arith, length-append x y) in
-    built-eq s (s.left - length x - length y) (s.left - length (x ++ y)) (take 64 (take 64 (s.front ++ x) ++ y)) (take 64 (s.front ++ (x ++ y))) (last_of (last_of s.last x) y) (last_of s.last (x ++ y))
-    (checked (checked s x) y).allowed (checked s (x ++ y)).allowed (checked (checked s x) y).padded (checked s (x ++ y)).padded (checked (checked s x) y).formed (checked s (x ++ y)).formed
-    (checked (checked s x) y).row (checked s (x ++ y)).row
-    l (take-join s.front x y) (last-join s.last x y)
-    (and-assoc s.allowed (every (allows_octet s.number) x) (every (allows_octet s.number) y) ∙ ap (λ (b : Bool). s.allowed && b) (every-join (allows_octet s.number) x y))
-    (padded-at (is_object s.number) s.padded s.last x y) (formed-at (eqb s.number 12) s.formed s.row x y) (row-at (eqb s.number 12) s.row x y)
+checks-join s x y = join-by (notes_front s.number) (notes_each s.number) (notes_time s.number) s x y
 
 -- what is noted at the end
 
-padded-end : (b : Bool) (c : List ℕ) → (if b then false || is_padded_behind 0 c else false) ≡ (b && is_padded_behind 0 c)
-padded-end true c = refl
-padded-end false c = refl
-
-allowed-end : (number size : ℕ) (c : List ℕ) (b : Bool) (e : Bool) → length c ≡ size
-    → ((if b then (if b then true && all_utf8 (full_rows Utf8 [] c) else true) && is_utf8 (if b then open_row Utf8 [] c else [])
-    else if eqb number 30 then eqb (size % 2) 0
-    else if eqb number 28 then eqb (size % 4) 0
-    else true)
-    && (true && e))
-    ≡ ((if b then is_utf8 c
-    else if eqb number 30 then eqb (length c % 2) 0
-    else if eqb number 28 then eqb (length c % 4) 0
-    else true)
-    && e)
-allowed-end number size c true e h = ap (λ (f : Bool). f && e) (rows-formed_at c)
-allowed-end number size c false e h = rw h refl
-
-abbrev note_of : ℕ → List ℕ → ℕ → Bool → Bool → Noted
-note_of size front last padded allowed = record { size = size; front = front; last = last; padded = padded; allowed = allowed }
-
-note-eq : (n n' : ℕ) (f : List ℕ) (t : ℕ) (p p' a a' : Bool) → n ≡ n' → p ≡ p' → a ≡ a' → note_of n f t p a ≡ note_of n' f t p' a'
-note-eq n n' f t p p' a a' e g h = rw (e, g, h) refl
+noted-left : (f e t : Bool) (s : CheckState) (c : List ℕ) → noted_in (by_kind f e t s c) ≡ noted_in (noted_by f e t s c)
+noted-left true e t s c = refl
+noted-left false true t s c = refl
+noted-left false false true s c = refl
+noted-left false false false s c = refl
 
 pub findings-end : FindingsEnd
 findings-end h octets e =
-    let s = checked (unchecked h) octets in
-    ap (findings_on h.class h.number)
-    (note-eq (announced h.size) (length octets) (take 64 octets) (last_of 0 octets) s.padded (noted h.number octets).padded (allowed_in s) (allows h.number octets)
-    (sym e) (padded-end (is_object h.number) octets) (allowed-end h.number (announced h.size) octets (eqb h.number 12) (every (allows_octet h.number) octets) e))
+    let n = type_noted h in
+    ap (universal_findings n)
+    (noted-left (notes_front n) (notes_each n) (notes_time n) (unchecked h) octets
+    ∙ ap (λ (z : ℕ). noted_in (more_noted (unchecked_of n z) octets)) (sym e))
     ∙ sym (noted-same h octets)
 
 -- no octets
@@ -131,8 +139,15 @@ same-in-both : {A : Type 0} (b : Bool) (x : A) → (if b then x else x) ≡ x
 same-in-both true x = refl
 same-in-both false x = refl
 
+none-by : (f e t : Bool) (n size : ℕ) → by_kind f e t (unchecked_of n size) [] ≡ unchecked_of n size
+none-by true e t n size = ap (λ (l : ℕ). record (unchecked_of n size) { left = l }) (omega arith)
+none-by false true t n size =
+    built-eq (unchecked_of n size) (size - 0) size [] [] 0 0 true true (if is_object n then false else false) false (if eqb n 12 then true else true) true (if eqb n 12 then [] else []) [] [] []
+    (omega arith) refl refl refl (same-in-both (is_object n) false) (same-in-both (eqb n 12) true) (same-in-both (eqb n 12) []) refl
+none-by false false true n size = ap (λ (l : ℕ). record (unchecked_of n size) { left = l }) (omega arith)
+none-by false false false n size = ap (λ (l : ℕ). record (unchecked_of n size) { left = l }) (omega arith)
+
 pub checked-none : (h : Heading) → checked (unchecked h) [] ≡ unchecked h
 checked-none h =
-    let n = announced h.size in
-    built-eq (unchecked h) (n - 0) n [] [] 0 0 true true (if is_object h.number then false else false) false (if eqb h.number 12 then true else true) true (if eqb h.number 12 then [] else []) []
-    (omega arith) refl refl refl (same-in-both (is_object h.number) false) (same-in-both (eqb h.number 12) true) (same-in-both (eqb h.number 12) [])
+    let n = type_noted h in
+    none-by (notes_front n) (notes_each n) (notes_time n) n (announced h.size)

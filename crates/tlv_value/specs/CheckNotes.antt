@@ -1,10 +1,8 @@
 -- The findings on contents again, by what is noted of the contents while they come. `Checks` has their conditions.
-use Rattle.std.specs.Prelude.{ℕ, ◌%◌, ◌^◌, Bool, ◌&&◌, ◌||◌, not, eqb, nat_le, nat_lt, if◌then◌else◌, List, [], ◌∷◌, ◌++◌, length, slice_index, take}
-use Rattle.tlv_head.specs.declared.header.Class.{Class}
-use Rattle.tlv_head.specs.Header.{is_universal}
+use Rattle.std.specs.Prelude.{ℕ, ◌%◌, ◌^◌, Bool, ◌&&◌, ◌||◌, not, eqb, nat_le, nat_lt, if◌then◌else◌, List, [], ◌∷◌, ◌++◌, slice_index}
 use Rattle.tlv_value.specs.declared.finding.Finding.{Finding}
 use Rattle.tlv_value.specs.declared.finding.Finding.TheVariants.{B06, B07, B08, B09, B10, B11, B12, B13, B14, B15, B18, B19, S02, S03, S04}
-use Rattle.tlv_value.specs.Checks.{allows, is_padded_integer, is_padded_object, last_of}
+use Rattle.tlv_value.specs.Checks.{is_padded_integer}
 use Rattle.tlv_value.specs.Times.{canonical_general_time, canonical_utc_time, general_time, has_form, utc_time}
 
 -- a finding, where it is there
@@ -15,11 +13,12 @@ where_it there finding = if there then finding ∷ [] else []
 abbrev pub is_object : ℕ → Bool
 is_object number = eqb number 6 || eqb number 13
 
--- what the findings go by: the number of octets, the first 64 of them, the last, whether a subidentifier is padded, and
--- whether the characters are those of the type
+-- what the findings go by: the number of octets, the first two, those of a time, the last, whether a subidentifier is
+-- padded, and whether the characters are those of the type
 pub record Noted : Type 0 where
   pub size : ℕ
   pub front : List ℕ
+  pub time : List ℕ
   pub last : ℕ
   pub padded : Bool
   pub allowed : Bool
@@ -61,10 +60,10 @@ time_findings of_grammar is_canonical = if of_grammar then where_it (not is_cano
 
 -- of a time of at most 64 octets
 abbrev pub utc_findings : Noted → List Finding
-utc_findings n = if nat_le n.size 64 then time_findings (has_form utc_time n.front) (has_form canonical_utc_time n.front) else []
+utc_findings n = if nat_le n.size 64 then time_findings (has_form utc_time n.time) (has_form canonical_utc_time n.time) else []
 
 abbrev pub general_findings : Noted → List Finding
-general_findings n = if nat_le n.size 64 then time_findings (has_form general_time n.front) (has_form canonical_general_time n.front) else []
+general_findings n = if nat_le n.size 64 then time_findings (has_form general_time n.time) (has_form canonical_general_time n.time) else []
 
 abbrev pub text_findings : Noted → List Finding
 text_findings n = where_it (not n.allowed) B18
@@ -82,19 +81,3 @@ universal_findings number n =
     else if eqb number 23 then utc_findings n
     else if eqb number 24 then general_findings n
     else text_findings n
-
-abbrev pub findings_on : Class → ℕ → Noted → List Finding
-findings_on class number n = if is_universal class then universal_findings number n else []
-
-abbrev pub noted : ℕ → List ℕ → Noted
-noted number octets = record {
-  size = length octets;
-  front = take 64 octets;
-  last = last_of 0 octets;
-  padded = is_object number && is_padded_object octets;
-  allowed = allows number octets;
-}
-
--- what is found by what is noted of all contents
-abbrev pub noted_findings : Class → ℕ → List ℕ → List Finding
-noted_findings class number octets = findings_on class number (noted number octets)

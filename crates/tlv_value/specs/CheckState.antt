@@ -1,14 +1,13 @@
 -- What is to be kept of the contents of a primitive, so that what is found on them can be told at their end.
 use Rattle.std.specs.Prelude.{ℕ, ◌-◌, ◌%◌, Bool, true, false, ◌&&◌, ◌||◌, not, eqb, if◌then◌else◌, List, [], ◌∷◌, ◌++◌, length, take}
 use Rattle.std.specs.Str.{is_utf8}
-use Rattle.tlv_head.specs.declared.header.Class.{Class}
 use Rattle.tlv_head.specs.Header.{Heading, announced, is_universal}
 use Rattle.tlv_value.specs.declared.kind.Kind.TheVariants.{Utf8}
 use Rattle.tlv_value.specs.declared.finding.Finding.{Finding}
 use Rattle.tlv_value.specs.Checks.{allows_octet, every, is_padded_behind, last_of}
-use Rattle.tlv_value.specs.CheckNotes.{Noted, findings_on, is_object}
+use Rattle.tlv_value.specs.CheckNotes.{Noted, is_object, universal_findings}
 use Rattle.tlv_value.specs.Rows.{full_rows, open_row}
-use Rattle.tlv_value.specs.Types.{bit_string}
+use Rattle.tlv_value.specs.Types.{bit_string, octet_string}
 
 abbrev pub all_utf8 : List (List ℕ) → Bool
 all_utf8 [] = true
@@ -16,12 +15,12 @@ all_utf8 (row ∷ rows) = is_utf8 row && all_utf8 rows
 
 -- what contracts see of a `ValueCheck`
 pub record CheckState : Type 0 where
-  pub class : Class
+  -- the universal number of the type
   pub number : ℕ
   pub size : ℕ
   -- how many octets are still to come
   pub left : ℕ
-  -- the first 64 octets, and the last one
+  -- the first two octets, and the last one, where the type asks for them
   pub front : List ℕ
   pub last : ℕ
   -- whether each octet is one of its type, and whether a subidentifier is padded
@@ -30,49 +29,70 @@ pub record CheckState : Type 0 where
   -- of a UTF8String whether the rows that were full are well-formed, and the row that has begun
   pub formed : Bool
   pub row : List ℕ
+  -- the first 64 octets of a time
+  pub time : List ℕ
 
-abbrev pub unchecked : Heading → CheckState
-unchecked h = record {
-  class = h.class;
-  number = h.number;
-  size = announced h.size;
-  left = announced h.size;
+-- the universal number of the type; of another class that of OCTET STRING, on whose contents nothing is found
+abbrev pub type_noted : Heading → ℕ
+type_noted h = if is_universal h.class then h.number else octet_string
+
+-- of so many octets
+abbrev pub unchecked_of : ℕ → ℕ → CheckState
+unchecked_of number size = record {
+  number = number;
+  size = size;
+  left = size;
   front = [];
   last = 0;
   allowed = true;
   padded = false;
   formed = true;
   row = [];
+  time = [];
 }
 
--- the state after more octets
-abbrev pub checked : CheckState → List ℕ → CheckState
-checked s octets = record {
-  class = s.class;
-  number = s.number;
-  size = s.size;
-  left = s.left - length octets;
-  front = take 64 (s.front ++ octets);
-  last = last_of s.last octets;
-  allowed = s.allowed && every (allows_octet s.number) octets;
-  padded = if is_object s.number then s.padded || is_padded_behind s.last octets else s.padded;
-  formed = if eqb s.number 12 then s.formed && all_utf8 (full_rows Utf8 s.row octets) else s.formed;
-  row = if eqb s.number 12 then open_row Utf8 s.row octets else s.row;
-}
+abbrev pub unchecked : Heading → CheckState
+unchecked h = unchecked_of (type_noted h) (announced h.size)
 
--- with what must be known of each of the octets
-abbrev pub noted_each : CheckState → List ℕ → CheckState
-noted_each s octets = record s {
-  allowed = s.allowed && every (allows_octet s.number) octets;
-  padded = if is_object s.number then s.padded || is_padded_behind s.last octets else s.padded;
-  formed = if eqb s.number 12 then s.formed && all_utf8 (full_rows Utf8 s.row octets) else s.formed;
-  row = if eqb s.number 12 then open_row Utf8 s.row octets else s.row;
-}
+-- the first octets are looked at, and the last one: BOOLEAN, INTEGER, BIT STRING, ENUMERATED
+abbrev pub notes_front : ℕ → Bool
+notes_front number = eqb number 1 || eqb number 2 || eqb number 3 || eqb number 10
 
 -- each octet of the type with this number is looked at: object identifiers, UTF8String, and the strings of some characters
 abbrev pub notes_each : ℕ → Bool
 notes_each number =
     eqb number 6 || eqb number 12 || eqb number 13 || eqb number 18 || eqb number 19 || eqb number 22 || eqb number 26
+
+-- the two times
+abbrev pub notes_time : ℕ → Bool
+notes_time number = eqb number 23 || eqb number 24
+
+abbrev pub front_noted : CheckState → List ℕ → CheckState
+front_noted s octets = record s { front = take 2 (s.front ++ octets); last = last_of s.last octets }
+
+abbrev pub each_noted : CheckState → List ℕ → CheckState
+each_noted s octets = record s {
+  allowed = s.allowed && every (allows_octet s.number) octets;
+  padded = if is_object s.number then s.padded || is_padded_behind s.last octets else s.padded;
+  formed = if eqb s.number 12 then s.formed && all_utf8 (full_rows Utf8 s.row octets) else s.formed;
+  row = if eqb s.number 12 then open_row Utf8 s.row octets else s.row;
+  last = last_of s.last octets;
+}
+
+abbrev pub time_noted : CheckState → List ℕ → CheckState
+time_noted s octets = record s { time = take 64 (s.time ++ octets) }
+
+-- what is noted of more octets
+abbrev pub more_noted : CheckState → List ℕ → CheckState
+more_noted s octets =
+    if notes_front s.number then front_noted s octets
+    else if notes_each s.number then each_noted s octets
+    else if notes_time s.number then time_noted s octets
+    else s
+
+-- the state after more octets
+abbrev pub checked : CheckState → List ℕ → CheckState
+checked s octets = record (more_noted s octets) { number = s.number; size = s.size; left = s.left - length octets }
 
 -- 8.6.2.2: it is a BIT STRING whose first contents octet is not 0
 abbrev pub is_not_zero : List ℕ → Bool
@@ -80,7 +100,7 @@ is_not_zero [] = false
 is_not_zero (x ∷ octets) = not (eqb x 0)
 
 abbrev pub has_unused : CheckState → Bool
-has_unused s = is_universal s.class && eqb s.number bit_string && is_not_zero s.front
+has_unused s = eqb s.number bit_string && is_not_zero s.front
 
 -- the characters are those of the type
 abbrev pub allowed_in : CheckState → Bool
@@ -92,8 +112,8 @@ allowed_in s =
     && s.allowed
 
 abbrev pub noted_in : CheckState → Noted
-noted_in s = record { size = s.size; front = s.front; last = s.last; padded = s.padded; allowed = allowed_in s }
+noted_in s = record { size = s.size; front = s.front; time = s.time; last = s.last; padded = s.padded; allowed = allowed_in s }
 
 -- what is found at the end
 abbrev pub found_in : CheckState → List Finding
-found_in s = findings_on s.class s.number (noted_in s)
+found_in s = universal_findings s.number (noted_in s)

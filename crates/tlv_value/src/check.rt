@@ -1,9 +1,9 @@
 //! What is found on the contents of a primitive.
-ghost use Rattle.std.specs.Prelude.{IsTrue, ◌≡◌, ◌+◌, ◌<◌, ◌≤◌, ◌%◌, ◌^◌, ◌++◌, ◌&&◌, ◌||◌, ℕ, List, [], eqb, false, if◌then◌else◌, length, not, take, true};
+ghost use Rattle.std.specs.Prelude.{IsTrue, ◌≡◌, ◌+◌, ◌<◌, ◌≤◌, ◌%◌, ◌^◌, ◌++◌, ◌&&◌, ◌||◌, ℕ, List, [], eqb, false, if◌then◌else◌, length, not, slice_index, take, true};
 ghost use Rattle.std.specs.Str.{is_utf8};
 ghost use Rattle.tlv_head.specs.Header.{Heading, announced};
 ghost use Rattle.tlv_value.specs.CheckNotes.{is_object, time_findings, where_it};
-ghost use Rattle.tlv_value.specs.CheckState.{all_utf8, allowed_in, checked, found_in, has_unused, noted_each, notes_each, unchecked};
+ghost use Rattle.tlv_value.specs.CheckState.{all_utf8, allowed_in, checked, each_noted, found_in, front_noted, has_unused, notes_each, notes_front, notes_time, type_noted, unchecked};
 ghost use Rattle.tlv_value.specs.Checks.{
   allows_octet as allows_octet_of,
   contents_findings,
@@ -26,14 +26,16 @@ use tlv_head::{Class, Header, Size};
 /// Finds what is wrong with the contents of a primitive, in whatever pieces they come.
 #[derive(Drop)]
 pub struct ValueCheck {
-    class: Class,
+    /// The universal number of its type.
     number: u64,
     size: u64,
     /// How many octets are still to come.
     left: u64,
-    /// The first octets.
-    front: ArrayVec<u8, 64>,
-    /// The last octet; 0 before the first.
+    /// The first two octets, where the type asks for them, and how many of them have come.
+    first: u8,
+    second: u8,
+    known: u8,
+    /// The last octet, where the type asks for it; 0 before the first.
     last: u8,
     /// Whether each octet is one that the type has.
     allowed: bool,
@@ -43,6 +45,8 @@ pub struct ValueCheck {
     formed: bool,
     /// The octets of its row that has begun.
     row: ArrayVec<u8, 64>,
+    /// The first octets of a time.
+    time: ArrayVec<u8, 64>,
 }
 
 impl Model for ValueCheck {
@@ -64,16 +68,18 @@ impl ValueCheck {
     {
         let size = size_of(header);
         ValueCheck {
-            class: header.class,
-            number: header.number,
+            number: type_of(header),
             size,
             left: size,
-            front: ArrayVec::new(),
+            first: 0,
+            second: 0,
+            known: 0,
             last: 0,
             allowed: true,
             padded: false,
             formed: true,
             row: ArrayVec::new(),
+            time: ArrayVec::new(),
         }
     }
 
@@ -83,16 +89,16 @@ impl ValueCheck {
         ensures { self.new ≡ unchecked header.now }
     {
         let size = size_of(header);
-        self.class = header.class;
-        self.number = header.number;
+        self.number = type_of(header);
         self.size = size;
         self.left = size;
-        self.front = ArrayVec::new();
+        self.known = 0;
         self.last = 0;
         self.allowed = true;
         self.padded = false;
         self.formed = true;
         self.row.clear();
+        self.time.clear();
     }
 
     /// How many contents octets are still to come.
@@ -113,12 +119,7 @@ impl ValueCheck {
     pub fn has_unused_bits(&self) -> bool
         ensures { result ≡ has_unused self.now }
     {
-        match self.front.as_slice() {
-            [first, ..] => {
-                matches!(self.class, Class::Universal) && self.number == 3 && *first != 0
-            }
-            [] => false,
-        }
+        self.number == 3 && self.known != 0 && self.first != 0
     }
 
     /// Takes more contents octets.
@@ -129,22 +130,48 @@ impl ValueCheck {
         ensures left { self.new.left + length octets.now ≡ self.old.left }
     {
         self.left -= octets.len() as u64;
-        extend_front(&mut self.front, octets);
-        self.note_each(octets);
+        if is_front_noted(self.number) {
+            self.note_front(octets);
+        } else if is_each_noted(self.number) {
+            self.note_each(octets);
+        } else if is_time(self.number) {
+            extend_time(&mut self.time, octets);
+        }
+    }
+
+    /// Notes the first two of the octets, and the last one.
+    #[inline(always)]
+    fn note_front(&mut self, octets: &[u8])
+        ensures { self.new ≡ front_noted self.old octets.now }
+    {
+        match octets {
+            [] => {}
+            [first, rest @ ..] => {
+                if self.known == 0 {
+                    self.known = 1;
+                    self.first = *first;
+                    if let [second, ..] = rest {
+                        self.known = 2;
+                        self.second = *second;
+                    }
+                } else if self.known == 1 {
+                    self.known = 2;
+                    self.second = *first;
+                }
+            }
+        }
         self.last = last_octet(self.last, octets);
     }
 
     /// Notes what must be known of each of the octets.
     #[inline(always)]
     fn note_each(&mut self, octets: &[u8])
-        ensures { self.new ≡ noted_each self.old octets.now }
+        ensures { self.new ≡ each_noted self.old octets.now }
     {
-        if !is_each_noted(self.number) {
-            return;
-        }
         self.allowed = both(self.allowed, are_allowed(self.number, octets));
         self.padded = padded_after(self.number, self.padded, self.last, octets);
         self.formed = formed_after(self.number, self.formed, &mut self.row, octets);
+        self.last = last_octet(self.last, octets);
     }
 
     /// What is found on the contents, in order, by the rules of BER, CER or DER.
@@ -162,13 +189,10 @@ impl ValueCheck {
     pub fn is_clear(&self) -> bool
         ensures { IsTrue result → found_in self.now ≡ [] }
     {
-        if !matches!(self.class, Class::Universal) {
-            return true;
-        }
         match self.number {
-            1 => self.size == 1 && matches!(self.front.as_slice(), [0 | 255, ..]),
-            2 | 10 => self.size != 0 && !is_padded_number(self.front.as_slice()),
-            3 => self.size != 0 && matches!(self.front.as_slice(), [0, ..]),
+            1 => self.size == 1 && (self.first() == 0 || self.first() == 255),
+            2 | 10 => self.size != 0 && !self.is_number_padded(),
+            3 => self.size != 0 && self.first() == 0,
             5 => self.size == 0,
             6 | 13 => self.size != 0 && !self.padded && self.last < 128,
             12 | 23 | 24 | 28 | 30 => false,
@@ -181,13 +205,7 @@ impl ValueCheck {
         ensures { result.items ≡ found_in self.now }
     {
         let mut found = ArrayVec::new();
-        if !matches!(self.class, Class::Universal) {
-            return found;
-        }
-        let first = match self.front.as_slice() {
-            [first, ..] => *first,
-            [] => 0,
-        };
+        let first = self.first();
         match self.number {
             1 => {
                 note(self.size != 1, Finding::B06, &mut found);
@@ -199,11 +217,7 @@ impl ValueCheck {
             }
             2 | 10 => {
                 note(self.size == 0, Finding::B07, &mut found);
-                note(
-                    is_padded_number(self.front.as_slice()),
-                    Finding::B08,
-                    &mut found,
-                );
+                note(self.is_number_padded(), Finding::B08, &mut found);
             }
             3 => {
                 note(self.size == 0, Finding::B13, &mut found);
@@ -231,19 +245,42 @@ impl ValueCheck {
             }
             23 => {
                 if self.size <= 64 {
-                    let time = self.front.as_slice();
+                    let time = self.time.as_slice();
                     note_time(utc_ok(time), utc_canonical(time), &mut found);
                 }
             }
             24 => {
                 if self.size <= 64 {
-                    let time = self.front.as_slice();
+                    let time = self.time.as_slice();
                     note_time(general_ok(time), general_canonical(time), &mut found);
                 }
             }
             _ => note(!self.is_allowed(), Finding::B18, &mut found),
         }
         found
+    }
+
+    /// The first octet, where the type asks for it; 0 before the first.
+    #[inline(always)]
+    fn first(&self) -> u8
+        ensures { result ≡ slice_index self.now.front 0 }
+    {
+        if self.known == 0 { 0 } else { self.first }
+    }
+
+    /// Whether the first nine bits of a number are all equal (8.3.2).
+    #[inline(always)]
+    fn is_number_padded(&self) -> bool
+        ensures { result ≡ is_padded_integer self.now.front }
+    {
+        if self.known < 2 {
+            return false;
+        }
+        match self.first {
+            0 => self.second < 128,
+            255 => self.second >= 128,
+            _ => false,
+        }
     }
 
     /// Whether the contents have the characters of their type.
@@ -257,6 +294,18 @@ impl ValueCheck {
             _ => true,
         };
         both(all, self.allowed)
+    }
+}
+
+/// The universal number of the type. Of another class it is that of OCTET STRING, on whose contents nothing is found.
+#[inline(always)]
+fn type_of(header: &Header) -> u64
+    ensures { result ≡ type_noted header.now }
+{
+    if matches!(header.class, Class::Universal) {
+        header.number
+    } else {
+        4
     }
 }
 
@@ -283,8 +332,7 @@ fn is_well_formed(octets: &[u8]) -> bool
     simdutf8::is_utf8(octets)
 }
 
-/// Whether each contents octet of the type with this universal number is looked at. Of the others the first octets and
-/// the last say all.
+/// Whether each contents octet of the type with this universal number is looked at.
 #[inline(always)]
 fn is_each_noted(number: u64) -> bool
     ensures { result ≡ notes_each number }
@@ -298,13 +346,30 @@ fn is_each_noted(number: u64) -> bool
         || number == 26
 }
 
-/// Keeps the first octets.
+/// Whether the first octets of the type with this universal number are looked at, and the last one: BOOLEAN, INTEGER,
+/// BIT STRING, ENUMERATED.
 #[inline(always)]
-fn extend_front(front: &mut ArrayVec<u8, 64>, octets: &[u8])
-    ensures { front.new.items ≡ take 64 (front.old.items ++ octets.now) }
+fn is_front_noted(number: u64) -> bool
+    ensures { result ≡ notes_front number }
 {
-    let room = octets.len().min(front.remaining_capacity());
-    let _ = front.try_extend_from_slice(&octets[..room]);
+    number == 1 || number == 2 || number == 3 || number == 10
+}
+
+/// Whether the type with this universal number is one of the two times.
+#[inline(always)]
+fn is_time(number: u64) -> bool
+    ensures { result ≡ notes_time number }
+{
+    number == 23 || number == 24
+}
+
+/// Keeps the first octets of a time.
+#[inline(never)]
+fn extend_time(time: &mut ArrayVec<u8, 64>, octets: &[u8])
+    ensures { time.new.items ≡ take 64 (time.old.items ++ octets.now) }
+{
+    let room = octets.len().min(time.remaining_capacity());
+    let _ = time.try_extend_from_slice(&octets[..room]);
 }
 
 /// Whether a subidentifier begins with `80`, with these octets too.
@@ -369,17 +434,6 @@ fn are_set(bits: u8, octet: u8) -> bool
         _ => 128,
     };
     octet % bits_above != 0
-}
-
-/// Whether the first nine bits of a number are all equal (8.3.2).
-fn is_padded_number(front: &[u8]) -> bool
-    ensures { result ≡ is_padded_integer front.now }
-{
-    match front {
-        [0, second, ..] => *second < 128,
-        [255, second, ..] => *second >= 128,
-        _ => false,
-    }
 }
 
 /// Whether the type with this universal number has all of the octets.
