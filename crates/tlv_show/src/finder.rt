@@ -161,16 +161,20 @@ impl Finder {
         }
     }
 
-    /// Tells what is found with a header.
+    /// Tells what is found with a header. Answers whether there may be findings.
     #[inline(always)]
-    fn header(&mut self, header: &Header)
-        ensures { self.new ≡ finds self.old.state (length self.old.state.outer) header.now.offset
-            (header_notes self.old.state.rules self.old.state.frame header.now) }
+    fn header(&mut self, header: &Header) -> bool
+        ensures { Tells (finds self.old.state (length self.old.state.outer) header.now.offset
+            (header_notes self.old.state.rules self.old.state.frame header.now)) self.new result }
     {
+        if is_plain(self.rules, &self.frame, header) {
+            return false;
+        }
         let level = self.outer.len();
         self.told.restart(level, header.offset);
         note_header(self.rules, &self.frame, header, &mut self.told.findings);
         self.count = self.count.saturating_add(self.told.findings.len() as u64);
+        true
     }
 
     /// Keeps the frame of an element that holds others and begins.
@@ -189,13 +193,9 @@ impl Finder {
     fn open(&mut self, header: &Header) -> bool
         ensures { Tells (find_open self.old.state header.now) self.new result }
     {
-        if is_plain(self.rules, &self.frame, header) {
-            self.enter(header);
-            return false;
-        }
-        self.header(header);
+        let tells = self.header(header);
         self.enter(header);
-        true
+        tells
     }
 
     /// Keeps where a primitive begins, and that nothing of its contents has come.
@@ -213,13 +213,9 @@ impl Finder {
     fn begin(&mut self, header: &Header) -> bool
         ensures { Tells (find_begin self.old.state header.now) self.new result }
     {
-        if is_plain(self.rules, &self.frame, header) {
-            self.enter_value(header);
-            return false;
-        }
-        self.header(header);
+        let tells = self.header(header);
         self.enter_value(header);
-        true
+        tells
     }
 
     /// Contents of a primitive go on.
