@@ -1,5 +1,5 @@
 //! What is found in elements, event by event.
-ghost use Rattle.std.specs.Prelude.{◌≡◌, ℕ, Some, [], length};
+ghost use Rattle.std.specs.Prelude.{◌≡◌, ℕ, Some, [], if◌then◌else◌, length};
 ghost use Rattle.std.specs.List.{filter};
 ghost use Rattle.tlv_value.specs.CheckState.{found_in, unchecked};
 ghost use Rattle.tlv_walk.specs.Tells.{told_of};
@@ -152,8 +152,9 @@ impl Finder {
         ensures { Tells (find_in self.old.state (told_of event.now)) self.new result }
     {
         match event {
-            Event::Open(header) | Event::Enter(header) => self.open(header),
-            Event::Begin(header) => self.begin(header),
+            Event::Open(header) | Event::Enter(header) | Event::Begin(header) => {
+                self.begin(header, matches!(event, Event::Begin(_)))
+            }
             Event::Bytes(octets) => self.bytes(octets),
             Event::End => self.end(),
             Event::Close(_) | Event::Leave => self.close(),
@@ -188,16 +189,6 @@ impl Finder {
         }
     }
 
-    /// An element that holds others begins.
-    #[inline(always)]
-    fn open(&mut self, header: &Header) -> bool
-        ensures { Tells (find_open self.old.state header.now) self.new result }
-    {
-        let tells = self.header(header);
-        self.enter(header);
-        tells
-    }
-
     /// Keeps where a primitive begins, and that nothing of its contents has come.
     #[inline(always)]
     fn enter_value(&mut self, header: &Header)
@@ -208,13 +199,18 @@ impl Finder {
         restart(&mut self.check, header);
     }
 
-    /// A primitive begins.
+    /// An element begins: a primitive, or one that holds others.
     #[inline(always)]
-    fn begin(&mut self, header: &Header) -> bool
-        ensures { Tells (find_begin self.old.state header.now) self.new result }
+    fn begin(&mut self, header: &Header, is_value: bool) -> bool
+        ensures { Tells (if is_value then find_begin self.old.state header.now else find_open self.old.state header.now)
+            self.new result }
     {
         let tells = self.header(header);
-        self.enter_value(header);
+        if is_value {
+            self.enter_value(header);
+        } else {
+            self.enter(header);
+        }
         tells
     }
 
