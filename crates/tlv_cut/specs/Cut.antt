@@ -2,7 +2,7 @@
 use Rattle.std.specs.Prelude.{ℕ, Bool, false, ◌==◌, if◌then◌else◌, List, [], ◌++◌, Option, Some, None}
 use Rattle.std.specs.Option.{is_some, option_map_or, option_or}
 use Rattle.tlv_head.specs.Header.{octets_of}
-use Rattle.tlv_walk.specs.Forest.{Forest, Stop, Fill, Whole, Closed, Partial, Entered, Awaiting, Begun, Zero, end_octets, is_whole, lead}
+use Rattle.tlv_walk.specs.Forest.{Forest, Stop, Fill, Whole, Closed, Partial, Entered, Awaiting, end_octets, is_whole, lead}
 
 -- the element at this offset by itself, if its header is whole. No two stand at one offset
 abbrev pub element_at : ℕ → Forest → Option Forest

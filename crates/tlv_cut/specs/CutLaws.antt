@@ -3,7 +3,7 @@ use Rattle.std.specs.Prelude.{◌≡◌, ℕ, Bool, true, false, if◌then◌els
 use Rattle.tlv_head.specs.Header.{Heading, IsHeading, octets_of}
 use Rattle.tlv_walk.specs.declared.follow.Go.TheVariants.{Enough}
 use Rattle.tlv_walk.specs.declared.framing.Framing.{Framing}
-use Rattle.tlv_walk.specs.Events.{Told, Open, Begin, Bytes, End, Close, Enter, Unused, Leave, Pad, events}
+use Rattle.tlv_walk.specs.Events.{Told, End, Close, Leave, events}
 use Rattle.tlv_walk.specs.Follow.{followed, goes_of}
 use Rattle.tlv_walk.specs.Forest.{Forest, end_octets}
 use Rattle.tlv_walk.specs.Reading.{IsPrefixOf, IsReading}

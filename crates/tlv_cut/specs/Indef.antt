@@ -2,7 +2,7 @@
 use Rattle.std.specs.Prelude.{if◌then◌else◌, [], ◌∷◌, ◌++◌}
 use Rattle.tlv_head.specs.declared.header.Size.TheVariants.{Indefinite}
 use Rattle.tlv_head.specs.Header.{Heading}
-use Rattle.tlv_walk.specs.Forest.{Forest, Stop, Fill, Whole, Closed, Partial, Entered, Awaiting, Begun, Zero, lead, spell}
+use Rattle.tlv_walk.specs.Forest.{Forest, Stop, Fill, Whole, Closed, Partial, Entered, Awaiting, lead, spell}
 
 -- 8.1.3.6.1: the header with 80 for its length octets
 abbrev pub indefinite_heading : Heading → Heading

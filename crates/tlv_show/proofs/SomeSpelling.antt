@@ -1,33 +1,24 @@
 -- Sound elements with headers as short as they can be, and lengths of one form, have no findings on their spelling; so each sound
 -- input has a spelling without them.
-use Rattle.std.proofs.Common.{◌≡◌, ◌≢◌, ◌⊎◌, inl, inr, ◌&&◌, ◌||◌, not, nat_lt, ◌==◌, eqb, ℕ, ◌+◌, ◌*◌, ◌^◌, ◌<◌, ◌≤◌, Bool, true, false, List, [], ◌∷◌, ◌++◌, length, refl, sym, ap, ap₂, ◌∙◌, arith, subst, length-append, eq-eqb, eqb-true, ne_eqb}
-use Rattle.std.proofs.lemmas.Bool.{and_parts, or_from, true≢false}
+use Rattle.std.proofs.Common.{◌≡◌, ◌≢◌, inl, inr, ◌&&◌, ◌||◌, not, nat_lt, ◌==◌, eqb, ℕ, ◌+◌, ◌^◌, ◌<◌, ◌≤◌, Bool, true, false, List, [], ◌∷◌, ◌++◌, length, refl, sym, ap, ◌∙◌, arith, subst, length-append, ne_eqb}
+use Rattle.std.proofs.lemmas.Bool.{or_from, true≢false}
 use Rattle.std.proofs.lemmas.Bool.Decides.{eqb_tells}
 use Rattle.std.proofs.lemmas.List.Folds.{list_any-append}
 use Rattle.std.specs.List.{list_any}
 use Rattle.std.specs.Prelude.{if◌then◌else◌}
-use Rattle.tlv_head.specs.declared.header.Class.{Class}
-use Rattle.tlv_head.specs.declared.header.Size.{Size}
-use Rattle.tlv_head.specs.declared.header.Size.TheVariants.{Definite, Indefinite}
-use Rattle.tlv_head.specs.Header.{AllowsSize, Heading, IsHeading, IsIdentifier, announced, is_universal, is_wrapper, leading_octet, octets_of}
-use Rattle.tlv_head.specs.Shortest.{IsShortest}
-use Rattle.tlv_head.proofs.LengthOctets.{FewLengths, few-lengths}
-use Rattle.tlv_head.proofs.Shortest.{identifier-le, identifier-some, lengths-some}
-use Rattle.tlv_head.proofs.ShortestSpelling.{ShortIdentifier, ShortLength, short-identifier}
+use Rattle.tlv_head.specs.Header.{Heading, octets_of}
 use Rattle.tlv_value.specs.Checks.{contents_conditions}
 use Rattle.tlv_walk.specs.declared.framing.Framing.{Framing}
-use Rattle.tlv_walk.specs.Alike.{AreAlike, HaveLowForms, holders, nothing, padding, primitives}
-use Rattle.tlv_walk.specs.Forest.{Forest, Stop, Fill, Whole, Closed, Partial, Entered, Awaiting, Begun, Zero, end_octets, extent, has_element, lead, opening, spell}
+use Rattle.tlv_walk.specs.Alike.{AreAlike, holders, nothing, padding, primitives}
+use Rattle.tlv_walk.specs.Forest.{Forest, Stop, Fill, Whole, Closed, Partial, Entered, Awaiting, Begun, Zero, extent, has_element, spell}
 use Rattle.tlv_walk.specs.Inside.{AreRising, CanName, is_among}
-use Rattle.tlv_walk.specs.Place.{HasLength, IsOpen, Place, after, inside_of as place_inside, is_indefinite, top as place_top}
+use Rattle.tlv_walk.specs.Place.{IsOpen, Place, after, inside_of as place_inside, is_indefinite, top as place_top}
 use Rattle.tlv_walk.specs.Reading.{IsReading, IsSound, IsSoundList}
 use Rattle.tlv_walk.specs.Wrappers.{wrapper_at, wrappers}
 use Rattle.tlv_walk.proofs.Alike.{AreRegular, IsRegular}
 use Rattle.tlv_walk.proofs.Endings.{done-sound, sound-done, sound-reading}
-use Rattle.tlv_walk.proofs.Pop.{header-length}
 use Rattle.tlv_walk.proofs.Readings.{reading-unique}
-use Rattle.tlv_walk.proofs.Respelled.{Agrees, AreBehind, AreWithin, IsLike, SpelledAt, Spelling, respelled}
-use Rattle.tlv_walk.proofs.Spellings.{length-closed, length-opening, length-whole}
+use Rattle.tlv_walk.proofs.Respelled.{SpelledAt, Spelling, respelled}
 use Rattle.tlv_walk.proofs.Wrappers.{AreNamed, Rise, wrappers-named, wrappers-rise}
 use Rattle.tlv_show.specs.declared.rules.Rules.{Rules}
 use Rattle.tlv_show.specs.declared.rules.Rules.TheVariants.{Ber, Der, Cer}

@@ -1,7 +1,7 @@
 -- How the contents of a primitive are read, by its tag: X.680, table 1.
 use Rattle.std.specs.Prelude.{ℕ, eqb, if◌then◌else◌, List, [], ◌∷◌}
 use Rattle.tlv_head.specs.declared.header.Class.{Class}
-use Rattle.tlv_head.specs.declared.header.Class.TheVariants.{Universal, Application, Context, Private}
+use Rattle.tlv_head.specs.declared.header.Class.TheVariants.{Universal}
 use Rattle.tlv_value.specs.declared.kind.Kind.{Kind}
 use Rattle.tlv_value.specs.declared.kind.Kind.TheVariants.{Octets, Boolean, Integer, Bits, Object, Relative, Text, Utf8, Ucs2, Ucs4}
 

@@ -1,7 +1,7 @@
 -- How long contents are cut into rows.
 use Rattle.std.specs.Prelude.{ℕ, ◌+◌, ◌&&◌, Bool, eqb, nat_le, if◌then◌else◌, List, [], ◌∷◌, ◌++◌, length}
 use Rattle.tlv_value.specs.declared.kind.Kind.{Kind}
-use Rattle.tlv_value.specs.declared.kind.Kind.TheVariants.{Octets, Boolean, Integer, Bits, Object, Relative, Text, Utf8, Ucs2, Ucs4}
+use Rattle.tlv_value.specs.declared.kind.Kind.TheVariants.{Text, Utf8, Ucs2, Ucs4}
 
 -- how many octets a full row has
 abbrev pub row_size : Kind → ℕ

@@ -1,10 +1,8 @@
 -- Sound elements can be spelled with headers as short as they can be, and lengths of one form; the strings that hold elements are
 -- named where they then stand.
-use Rattle.std.proofs.Common.{◌≡◌, ◌≢◌, ◌⊎◌, inl, inr, ◌&&◌, ◌||◌, not, nat_lt, ◌==◌, eqb, ℕ, ◌+◌, ◌*◌, ◌^◌, ◌<◌, ◌≤◌, Bool, true, false, List, [], ◌∷◌, ◌++◌, length, refl, sym, ap, ap₂, ◌∙◌, arith, subst, length-append, eq-eqb, eqb-true, ne_eqb}
+use Rattle.std.proofs.Common.{◌≡◌, ◌≢◌, ◌⊎◌, inl, inr, ◌&&◌, ◌||◌, not, eqb, ℕ, ◌+◌, ◌*◌, ◌^◌, ◌<◌, ◌≤◌, Bool, true, false, List, [], ◌∷◌, ◌++◌, length, refl, sym, ap, ap₂, ◌∙◌, arith, subst, length-append, eq-eqb, eqb-true, ne_eqb}
 use Rattle.std.proofs.lemmas.Bool.{and_parts, or_from, true≢false}
-use Rattle.std.proofs.lemmas.Bool.Decides.{eqb_tells}
 use Rattle.std.proofs.lemmas.List.Folds.{list_any-append}
-use Rattle.std.specs.List.{list_any}
 use Rattle.std.specs.Prelude.{if◌then◌else◌}
 use Rattle.tlv_head.specs.declared.header.Class.{Class}
 use Rattle.tlv_head.specs.declared.header.Size.{Size}
@@ -14,19 +12,15 @@ use Rattle.tlv_head.specs.Shortest.{IsShortest}
 use Rattle.tlv_head.proofs.LengthOctets.{FewLengths, few-lengths}
 use Rattle.tlv_head.proofs.Shortest.{identifier-le, identifier-some, lengths-some}
 use Rattle.tlv_head.proofs.ShortestSpelling.{ShortIdentifier, ShortLength, short-identifier}
-use Rattle.tlv_walk.specs.declared.framing.Framing.{Framing}
 use Rattle.tlv_walk.specs.Alike.{AreAlike, HaveLowForms, holders, nothing, padding, primitives}
-use Rattle.tlv_walk.specs.Forest.{Forest, Stop, Fill, Whole, Closed, Partial, Entered, Awaiting, Begun, Zero, end_octets, extent, has_element, lead, opening, spell}
-use Rattle.tlv_walk.specs.Inside.{AreRising, CanName, is_among}
-use Rattle.tlv_walk.specs.Place.{HasLength, IsOpen, Place, after, inside_of as place_inside, is_indefinite, top as place_top}
-use Rattle.tlv_walk.specs.Reading.{IsReading, IsSound, IsSoundList}
-use Rattle.tlv_walk.specs.Wrappers.{wrapper_at, wrappers}
-use Rattle.tlv_walk.proofs.Alike.{AreRegular, IsRegular}
-use Rattle.tlv_walk.proofs.Endings.{done-sound, sound-done, sound-reading}
+use Rattle.tlv_walk.specs.Forest.{Forest, Stop, Fill, Whole, Closed, Partial, Entered, Awaiting, Begun, Zero, end_octets, extent, lead, opening, spell}
+use Rattle.tlv_walk.specs.Inside.{is_among}
+use Rattle.tlv_walk.specs.Place.{HasLength, Place, after, inside_of as place_inside, is_indefinite}
+use Rattle.tlv_walk.specs.Reading.{IsSound}
+use Rattle.tlv_walk.specs.Wrappers.{wrappers}
+use Rattle.tlv_walk.proofs.Alike.{AreRegular}
 use Rattle.tlv_walk.proofs.Pop.{header-length}
-use Rattle.tlv_walk.proofs.Readings.{reading-unique}
 use Rattle.tlv_walk.proofs.Spellings.{length-closed, length-opening, length-whole}
-use Rattle.tlv_walk.proofs.Wrappers.{AreNamed, Rise, wrappers-named, wrappers-rise}
 
 -- ---- headers
 

@@ -32,12 +32,12 @@ string-pure = refl
 -- 3a 80 04 03 4a 6f 6e 04 02 65 73 00 00: the same of indefinite length
 string-der : result (dump_by Der) (0x3a ∷ 0x80 ∷ 0x04 ∷ 0x03 ∷ 0x4a ∷ 0x6f ∷ 0x6e ∷ 0x04 ∷ 0x02 ∷ 0x65 ∷ 0x73 ∷ 0x00 ∷ 0x00 ∷ [])
     ≡ noted 2 "findings: 2" (lines (
-        "       0    D01: indefinite length" ∷
-        "       0    D02: constructed string" ∷
-        "       0  indef: VisibleString {" ∷
-        "       2      3:   OCTET STRING 4a 6f 6e" ∷
-        "       7      2:   OCTET STRING 65 73" ∷
-        "      11    end: }" ∷ []))
+    "       0    D01: indefinite length" ∷
+    "       0    D02: constructed string" ∷
+    "       0  indef: VisibleString {" ∷
+    "       2      3:   OCTET STRING 4a 6f 6e" ∷
+    "       7      2:   OCTET STRING 65 73" ∷
+    "      11    end: }" ∷ []))
 unfolding digits encode_with
 string-der = refl
 
@@ -63,9 +63,9 @@ header-of-137 = refl
 integer-in-rows : result dump (0x02 ∷ 0x11 ∷ 0x00 ∷ 0x80 ∷ 0x00 ∷ 0x00 ∷ 0x00 ∷ 0x00 ∷ 0x00 ∷ 0x00 ∷ 0x00 ∷ 0x00 ∷ 0x00 ∷ 0x00 ∷ 0x00 ∷ 0x00 ∷ 0x00 ∷
     0x00 ∷ 0x00 ∷ [])
     ≡ clean_with (lines (
-        "       0     17: INTEGER" ∷
-        "                   00 80 00 00 00 00 00 00 00 00 00 00 00 00 00 00" ∷
-        "                   00" ∷ []))
+    "       0     17: INTEGER" ∷
+    "                   00 80 00 00 00 00 00 00 00 00 00 00 00 00 00 00" ∷
+    "                   00" ∷ []))
 unfolding digits encode_with
 integer-in-rows = refl
 
@@ -73,9 +73,9 @@ integer-in-rows = refl
 one-row : result (dump_at_most 1) (0x02 ∷ 0x11 ∷ 0x00 ∷ 0x80 ∷ 0x00 ∷ 0x00 ∷ 0x00 ∷ 0x00 ∷ 0x00 ∷ 0x00 ∷ 0x00 ∷ 0x00 ∷ 0x00 ∷ 0x00 ∷ 0x00 ∷ 0x00 ∷ 0x00 ∷
     0x00 ∷ 0x00 ∷ [])
     ≡ clean_with (lines (
-        "       0     17: INTEGER" ∷
-        "                   00 80 00 00 00 00 00 00 00 00 00 00 00 00 00 00" ∷
-        "                   ..." ∷ []))
+    "       0     17: INTEGER" ∷
+    "                   00 80 00 00 00 00 00 00 00 00 00 00 00 00 00 00" ∷
+    "                   ..." ∷ []))
 unfolding digits encode_with
 one-row = refl
 
@@ -83,25 +83,25 @@ one-row = refl
 no-row : result (dump_at_most 0) (0x02 ∷ 0x11 ∷ 0x00 ∷ 0x80 ∷ 0x00 ∷ 0x00 ∷ 0x00 ∷ 0x00 ∷ 0x00 ∷ 0x00 ∷ 0x00 ∷ 0x00 ∷ 0x00 ∷ 0x00 ∷ 0x00 ∷ 0x00 ∷ 0x00 ∷
     0x00 ∷ 0x00 ∷ [])
     ≡ clean_with (lines (
-        "       0     17: INTEGER" ∷
-        "                   ..." ∷ []))
+    "       0     17: INTEGER" ∷
+    "                   ..." ∷ []))
 unfolding digits
 no-row = refl
 
 -- 04 31 (11)*32: the row behind the last one is full
 next-row-full : result (dump_at_most 1) ((0x04 ∷ 0x31 ∷ []) ++ replicate 32 0x11)
     ≡ faulty Short 34 "fault at 34: F02 input ends inside an encoding" (lines (
-        "       0     49: OCTET STRING" ∷
-        "                   11 11 11 11 11 11 11 11 11 11 11 11 11 11 11 11" ∷
-        "                   ..." ∷ []))
+    "       0     49: OCTET STRING" ∷
+    "                   11 11 11 11 11 11 11 11 11 11 11 11 11 11 11 11" ∷
+    "                   ..." ∷ []))
 unfolding digits encode_with
 next-row-full = refl
 
 -- 04 31 (11)*31: it is not full, and nothing is said of it
 next-row-open : result (dump_at_most 1) ((0x04 ∷ 0x31 ∷ []) ++ replicate 31 0x11)
     ≡ faulty Short 33 "fault at 33: F02 input ends inside an encoding" (lines (
-        "       0     49: OCTET STRING" ∷
-        "                   11 11 11 11 11 11 11 11 11 11 11 11 11 11 11 11" ∷ []))
+    "       0     49: OCTET STRING" ∷
+    "                   11 11 11 11 11 11 11 11 11 11 11 11 11 11 11 11" ∷ []))
 unfolding digits encode_with
 next-row-open = refl
 

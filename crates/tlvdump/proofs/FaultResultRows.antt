@@ -47,9 +47,9 @@ large-sequence-short = refl
 -- 30 05 30 80 02 01 05: the end comes before the octet that would be refused
 nested-short : result dump (0x30 ∷ 0x05 ∷ 0x30 ∷ 0x80 ∷ 0x02 ∷ 0x01 ∷ 0x05 ∷ [])
     ≡ faulty Short 7 "fault at 7: F02 input ends inside an encoding" (lines (
-        "       0      5: SEQUENCE {" ∷
-        "       2  indef:   SEQUENCE {" ∷
-        "       4      1:     INTEGER 5" ∷ []))
+    "       0      5: SEQUENCE {" ∷
+    "       2  indef:   SEQUENCE {" ∷
+    "       4      1:     INTEGER 5" ∷ []))
 unfolding digits
 nested-short = refl
 
@@ -71,26 +71,26 @@ element-short = refl
 -- 30 05 30 80 02 01 05 00: no end-of-contents octets within the outer length
 end-missing : result dump (0x30 ∷ 0x05 ∷ 0x30 ∷ 0x80 ∷ 0x02 ∷ 0x01 ∷ 0x05 ∷ 0x00 ∷ [])
     ≡ faulty MissingEnd 7 "fault at 7: F05 no end-of-contents inside the enclosing length" (lines (
-        "       0      5: SEQUENCE {" ∷
-        "       2  indef:   SEQUENCE {" ∷
-        "       4      1:     INTEGER 5" ∷ []))
+    "       0      5: SEQUENCE {" ∷
+    "       2  indef:   SEQUENCE {" ∷
+    "       4      1:     INTEGER 5" ∷ []))
 unfolding digits
 end-missing = refl
 
 -- 30 05 30 80 02 01 05 02: another octet is refused in the same way
 end-missing-for-another : result dump (0x30 ∷ 0x05 ∷ 0x30 ∷ 0x80 ∷ 0x02 ∷ 0x01 ∷ 0x05 ∷ 0x02 ∷ [])
     ≡ faulty MissingEnd 7 "fault at 7: F05 no end-of-contents inside the enclosing length" (lines (
-        "       0      5: SEQUENCE {" ∷
-        "       2  indef:   SEQUENCE {" ∷
-        "       4      1:     INTEGER 5" ∷ []))
+    "       0      5: SEQUENCE {" ∷
+    "       2  indef:   SEQUENCE {" ∷
+    "       4      1:     INTEGER 5" ∷ []))
 unfolding digits
 end-missing-for-another = refl
 
 -- 30 03 30 80 00 00: the second of them stands past the outer length
 end-across-bound : result dump (0x30 ∷ 0x03 ∷ 0x30 ∷ 0x80 ∷ 0x00 ∷ 0x00 ∷ [])
     ≡ faulty MissingEnd 5 "fault at 5: F05 no end-of-contents inside the enclosing length" (lines (
-        "       0      3: SEQUENCE {" ∷
-        "       2  indef:   SEQUENCE {" ∷ []))
+    "       0      3: SEQUENCE {" ∷
+    "       2  indef:   SEQUENCE {" ∷ []))
 unfolding digits
 end-across-bound = refl
 

@@ -73,8 +73,8 @@ string-cer = refl
 -- 23 80 03 02 01 00 04 01 00 00 00: bits are unused before the last segment, and that is no BIT STRING
 bit-segments : result (check_by Ber) (0x23 ∷ 0x80 ∷ 0x03 ∷ 0x02 ∷ 0x01 ∷ 0x00 ∷ 0x04 ∷ 0x01 ∷ 0x00 ∷ 0x00 ∷ 0x00 ∷ [])
     ≡ noted 2 "findings: 2" (lines (
-        "6 B16 segment follows unused bits" ∷
-        "6 B17 segment has another tag" ∷ []))
+    "6 B16 segment follows unused bits" ∷
+    "6 B17 segment has another tag" ∷ []))
 unfolding digits
 bit-segments = refl
 
@@ -88,8 +88,8 @@ segments = refl
 -- 24 80 04 82 03 e8 (00)*1000 04 00 00 00: 1000 octets, and none
 segment-empty : result (check_by Cer) ((0x24 ∷ 0x80 ∷ 0x04 ∷ 0x82 ∷ 0x03 ∷ 0xe8 ∷ []) ++ replicate 1000 0x00 ++ (0x04 ∷ 0x00 ∷ 0x00 ∷ 0x00 ∷ []))
     ≡ noted 2 "findings: 2" (lines (
-        "0 C05 constructed string fits in 1000 octets" ∷
-        "0 C06 last segment is empty" ∷ []))
+    "0 C05 constructed string fits in 1000 octets" ∷
+    "0 C06 last segment is empty" ∷ []))
 unfolding digits
 segment-empty = refl
 

@@ -24,11 +24,11 @@ padding-not-taken = refl
 -- 00 00 05 00 00 00 05 00 00: without columns
 padding-pure : result (dump_with (record usual { pure = true; framing = padded })) (0x00 ∷ 0x00 ∷ 0x05 ∷ 0x00 ∷ 0x00 ∷ 0x00 ∷ 0x05 ∷ 0x00 ∷ 0x00 ∷ [])
     ≡ clean_with (lines (
-        "padding" ∷
-        "NULL" ∷
-        "padding" ∷
-        "NULL" ∷
-        "padding" ∷ []))
+    "padding" ∷
+    "NULL" ∷
+    "padding" ∷
+    "NULL" ∷
+    "padding" ∷ []))
 unfolding digits
 padding-pure = refl
 

@@ -94,8 +94,8 @@ characters-none = refl
 -- 30 80 05 00 00 00: findings are counted, and have no line
 sequence-pure : result (dump_with (record usual { rules = Der; pure = true })) (0x30 ∷ 0x80 ∷ 0x05 ∷ 0x00 ∷ 0x00 ∷ 0x00 ∷ [])
     ≡ noted 1 "findings: 1" (lines (
-        "SEQUENCE {" ∷
-        "  NULL" ∷
-        "}" ∷ []))
+    "SEQUENCE {" ∷
+    "  NULL" ∷
+    "}" ∷ []))
 unfolding digits
 sequence-pure = refl
