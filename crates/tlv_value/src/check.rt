@@ -184,20 +184,29 @@ impl ValueCheck {
         self.found()
     }
 
-    /// Whether nothing is found on the contents, as far as a short look tells.
+    /// Whether nothing is found on the contents. For most types a short look tells.
     #[inline(always)]
     pub fn is_clear(&self) -> bool
-        ensures { IsTrue result → found_in self.now ≡ [] }
+        ensures { result ≡ eqb (length (found_in self.now)) 0 }
     {
         match self.number {
             1 => self.size == 1 && (self.first() == 0 || self.first() == 255),
             2 | 10 => self.size != 0 && !self.is_number_padded(),
-            3 => self.size != 0 && self.first() == 0,
+            3 if self.size != 0 && self.first() == 0 => true,
             5 => self.size == 0,
-            6 | 13 => self.size != 0 && !self.padded && self.last < 128,
-            12 | 23 | 24 | 28 | 30 => false,
-            _ => self.allowed,
+            6 => self.size != 0 && !self.padded && self.last < 128,
+            13 => !self.padded && self.last < 128,
+            3 | 23 | 24 => self.has_none(),
+            _ => self.is_allowed(),
         }
+    }
+
+    /// Whether nothing is found on the contents.
+    #[inline(never)]
+    fn has_none(&self) -> bool
+        ensures { result ≡ eqb (length (found_in self.now)) 0 }
+    {
+        self.found().is_empty()
     }
 
     /// What is found on the contents by what was noted of them.
@@ -284,6 +293,7 @@ impl ValueCheck {
     }
 
     /// Whether the contents have the characters of their type.
+    #[inline(always)]
     fn is_allowed(&self) -> bool
         ensures { result ≡ allowed_in self.now }
     {
