@@ -417,7 +417,8 @@ fn times(rt: HostRuntime) {
     }
 }
 
-/// What is found on the contents of an element, which come in two pieces, cut at `cut`, or behind the last octet.
+/// What is found on the contents of an element, which come in two pieces, cut at `cut`, or behind the last octet, if
+/// `is_clear` says whether that is nothing.
 fn check(element: &[u8], cut: usize) -> Option<ArrayVec<Finding, 16>> {
     let (fields, count) = read_header(0, false, element)?;
     let header = Header::new(&fields, &element[..count]);
@@ -432,7 +433,11 @@ fn check(element: &[u8], cut: usize) -> Option<ArrayVec<Finding, 16>> {
     let mut check = ValueCheck::new(&header);
     check.bytes(front);
     check.bytes(back);
-    Some(check.end())
+    let found = check.end();
+    if check.is_clear() != found.is_empty() {
+        return None;
+    }
+    Some(found)
 }
 
 /// The same with contents that come octet by octet.
@@ -447,7 +452,11 @@ fn check_octets(element: &[u8]) -> Option<ArrayVec<Finding, 16>> {
     for i in 0..contents.len() {
         check.bytes(&contents[i..=i]);
     }
-    Some(check.end())
+    let found = check.end();
+    if check.is_clear() != found.is_empty() {
+        return None;
+    }
+    Some(found)
 }
 
 /// Expects these findings in every cut into two pieces, and octet by octet.

@@ -3,7 +3,7 @@ use Rattle.tlv_head.specs.Header.{Heading, announced}
 use Rattle.tlv_value.specs.CheckState.{CheckState}
 use Rattle.tlv_value.proofs.tests.check.Goals as goal
 
-pub end-requires : goal.end-requires
-end-requires c =
+pub end-found-requires : goal.end-found-requires
+end-found-requires c =
     let n = ap (λ (s : CheckState). s.left) c.new-check.ensures in
     omega (arith, n, c.bytes.ensures.left, c.bytes-2.ensures.left, ap announced c.in-Definite.is, ap (λ (h : Heading). announced h.size) c.header.view_is)
