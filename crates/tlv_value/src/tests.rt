@@ -7,7 +7,7 @@ mod texts;
 mod types;
 mod unused;
 
-ghost use Rattle.std.specs.Prelude.{◌≡◌, ◌≤◌, ◌==◌, IfSome, List, None, Option, Some, bytes_eq, codes, if◌then◌else◌, option_copied, ℕ};
+ghost use Rattle.std.specs.Prelude.{◌≡◌, ◌+◌, ◌≤◌, ◌==◌, IfSome, List, None, Option, Some, bytes_eq, codes, if◌then◌else◌, option_copied, length, ℕ};
 
 use self::findings::{FOUND, FOUND_ON_TEXTS, Found};
 use self::rows::{BITS, NUMBERS, OBJECTS, Row};
@@ -21,7 +21,7 @@ use arrayvec::ArrayVec;
 use std::process::Abort;
 use std::test::Fail;
 use tlv_head::{Class, Header, Size, read_header};
-use tlv_walk::{MemDrain, MemSource, Out};
+use tlv_walk::{Drain, MemDrain, MemSource, Out};
 
 /// A table of one name.
 struct OneName;
@@ -66,13 +66,26 @@ fn show<N: NameTable>(
     {
         let mut out = Out::new(&mut drain);
         let mut text = ValueText::new(&header, layout);
-        text.begin(&mut out).ok()?;
-        text.bytes(front, &mut out).ok()?;
-        text.bytes(back, &mut out).ok()?;
-        text.end(names, &mut out).ok()?;
+        put_two(&mut text, front, back, names, &mut out)?;
         out.flush().ok()?;
     }
     Some(drain.written().len())
+}
+
+/// Puts the lines of a primitive whose contents come in two pieces.
+fn put_two<N: NameTable, D: Drain>(
+    text: &mut ValueText,
+    front: &[u8],
+    back: &[u8],
+    names: &N,
+    out: &mut Out<'_, D>,
+) -> Option<()>
+    requires { text.old.left ≡ length front.now + length back.now }
+{
+    text.begin(out).ok()?;
+    text.bytes(front, out).ok()?;
+    text.bytes(back, out).ok()?;
+    text.end(names, out).ok()
 }
 
 /// The same with contents that come in pieces of `size` octets, but for the first, which has at most `first`.
@@ -96,18 +109,34 @@ fn show_pieces<N: NameTable>(
     {
         let mut out = Out::new(&mut drain);
         let mut text = ValueText::new(&header, layout);
-        text.begin(&mut out).ok()?;
-        let (piece, mut rest) = contents.split_at(first.min(contents.len()));
-        text.bytes(piece, &mut out).ok()?;
-        while !rest.is_empty() {
-            let (piece, more) = rest.split_at(size.min(rest.len()));
-            rest = more;
-            text.bytes(piece, &mut out).ok()?;
-        }
-        text.end(names, &mut out).ok()?;
+        let (front, back) = contents.split_at(first.min(contents.len()));
+        put_pieces(&mut text, front, back, size, names, &mut out)?;
         out.flush().ok()?;
     }
     Some(drain.written().len())
+}
+
+/// Puts the lines of a primitive whose contents come in pieces of `size` octets behind the first.
+fn put_pieces<N: NameTable, D: Drain>(
+    text: &mut ValueText,
+    front: &[u8],
+    back: &[u8],
+    size: usize,
+    names: &N,
+    out: &mut Out<'_, D>,
+) -> Option<()>
+    requires some { 1 ≤ size }
+    requires left { text.old.left ≡ length front.now + length back.now }
+{
+    text.begin(out).ok()?;
+    text.bytes(front, out).ok()?;
+    let mut rest = back;
+    while !rest.is_empty() {
+        let (piece, more) = rest.split_at(size.min(rest.len()));
+        rest = more;
+        text.bytes(piece, out).ok()?;
+    }
+    text.end(names, out).ok()
 }
 
 /// Whether the octets are these lines.
