@@ -14,21 +14,9 @@ use Rattle.tlv_show.specs.Site.{Before, Sibling, Site, in_bit_string, in_string}
 abbrev pub has_high_form : Heading → Bool
 has_high_form h = nat_lt 1 (length h.identifier)
 
--- 8.1.2.4.2 c): bits 7 to 1 of the first of them
-abbrev pub leading_bits : Heading → ℕ
-leading_bits h = slice_index h.identifier 1 % 128
-
 -- 8.1.3.5: there are subsequent length octets
 abbrev pub has_long_form : Heading → Bool
 has_long_form h = nat_lt 1 (length h.lengths)
-
--- the first of them
-abbrev pub first_length : Heading → ℕ
-first_length h = slice_index h.lengths 1
-
--- 8.6.4, 8.7.3: the type of the segments of a string
-abbrev pub segment_type : Site → ℕ
-segment_type s = if in_bit_string s then bit_string else octet_string
 
 -- 8.6.2.2: a primitive BIT STRING with unused bits
 abbrev pub has_unused_bits : Before → Bool
@@ -44,8 +32,8 @@ abbrev pub header_conditions : Site → Heading → List (Bool × Finding)
 header_conditions s h =
     -- 8.1.2.2: a number below 31 is in the single identifier octet
     (has_high_form h && nat_lt h.number 31, B01)
-    -- 8.1.2.4.2 c): the subsequent octets do not begin with seven bits 0
-    ∷ (has_high_form h && leading_bits h == 0, B02)
+    -- 8.1.2.4.2 c): bits 7 to 1 of the first subsequent octet are not all 0
+    ∷ (has_high_form h && slice_index h.identifier 1 % 128 == 0, B02)
     -- X.680, table 1: the universal number is that of a type
     ∷ (is_unassigned h, B03)
     -- 8.2.1, 8.3.1, 8.4, 8.5.1, 8.8.1, 8.19.1, 8.20.1: the encodings of these types are primitive
@@ -55,9 +43,9 @@ header_conditions s h =
     -- 8.6.4: each segment of a BIT STRING but the last has a multiple of eight bits
     ∷ (in_bit_string s && has_unused_bits s.before, B16)
     -- 8.6.4, 8.7.3: a segment has the tag of BIT STRING in a BIT STRING, and of OCTET STRING in any other string
-    ∷ (in_string s && not (is_a (segment_type s) h), B17)
-    -- 9.1, 10.1: a definite length has the fewest octets
-    ∷ (has_long_form h && (nat_lt (announced h.size) 128 || first_length h == 0), S01)
+    ∷ (in_string s && not (is_a (if in_bit_string s then bit_string else octet_string) h), B17)
+    -- 9.1, 10.1: a definite length has the fewest octets: those of the long form are for 128 and more, and do not begin with 00
+    ∷ (has_long_form h && (nat_lt (announced h.size) 128 || slice_index h.lengths 1 == 0), S01)
     -- 10.1: lengths are definite
     ∷ (is_indefinite h.size, D01)
     -- 10.2: strings are primitive
@@ -95,3 +83,14 @@ end_conditions h inside =
     -- 9.2: the last segment has one contents octet or more
     ∷ (has_segments h && ends_empty false inside, C06)
     ∷ []
+
+-- ---- Words of proofs and of private functions alone
+
+abbrev pub leading_bits : Heading → ℕ
+leading_bits h = slice_index h.identifier 1 % 128
+
+abbrev pub first_length : Heading → ℕ
+first_length h = slice_index h.lengths 1
+
+abbrev pub segment_type : Site → ℕ
+segment_type s = if in_bit_string s then bit_string else octet_string

@@ -20,6 +20,8 @@ letters Cer = codes "BSC"
 abbrev pub shows : Rules → Finding → Bool
 shows rules finding = is_among (slice_index (code_of finding) 0) (letters rules)
 
+-- ---- Words of laws, proofs and private functions alone
+
 -- with the header; with the last octet of a primitive; with the end of an element that holds others, by the headers of these
 abbrev pub header_findings : Rules → Site → Heading → List Finding
 header_findings rules s h = filter (shows rules) (held (header_conditions s h))

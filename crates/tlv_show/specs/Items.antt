@@ -1,12 +1,14 @@
 -- What is told of elements, item by item. The lines of a dump and of a check and the number of findings are those of the
 -- items, so their order is this one.
-use Rattle.std.specs.Prelude.{ℕ, if◌then◌else◌, List, [], ◌∷◌, ◌++◌, map, Option}
+use Rattle.std.specs.Prelude.{ℕ, Bool, if◌then◌else◌, List, [], ◌∷◌, ◌++◌, filter, map, Option}
 use Rattle.tlv_head.specs.Header.{Heading}
 use Rattle.tlv_value.specs.declared.finding.Finding.{Finding}
+use Rattle.tlv_value.specs.Checks.{contents_conditions, held}
 use Rattle.tlv_walk.specs.Forest.{Forest, Fill, Whole, Closed, Partial, Entered, Awaiting}
 use Rattle.tlv_show.specs.declared.rules.Rules.{Rules}
+use Rattle.tlv_show.specs.Conditions.{end_conditions, header_conditions}
 use Rattle.tlv_show.specs.DumpText.{end_place}
-use Rattle.tlv_show.specs.Found.{contents_findings, end_findings, header_findings}
+use Rattle.tlv_show.specs.Found.{contents_findings, end_findings, header_findings, shows}
 use Rattle.tlv_show.specs.Site.{Site, behind, behind_holder, behind_padding, inside_of, is_padding}
 
 -- an item, with its level: how many elements hold what it is about
@@ -22,26 +24,38 @@ pub data Item : Type 0 where
   -- padding begins at this offset
   PaddingLine : (level offset : ℕ) → Item
 
--- what is found in an element, in order
-abbrev pub findings_at : ℕ → ℕ → List Finding → List Item
-findings_at level at findings = map (FindingAt level at) findings
-
--- the headers of elements one after another
+-- the headers of whole elements one after another
 abbrev pub heads : Forest → List Heading
 heads (Fill rest) = heads rest
 heads (Whole h c rest) = h ∷ heads rest
 heads (Closed h inside rest) = h ∷ heads rest
-heads (Partial h c) = h ∷ []
-heads (Entered h inside) = h ∷ []
-heads (Awaiting h) = h ∷ []
 heads _ = []
 
-infixr 20 ◌then◌
-abbrev pub ◌then◌ : List Item → List Item → List Item
-first then second = first ++ second
+module _ (rules : Rules) where
+  -- what is found in an element, in order: of these conditions, what the rules show
+  abbrev pub told : Site → Heading → List (Bool × Finding) → List Item
+  told s h conditions = map (FindingAt s.level h.offset) (filter (shows rules) (held conditions))
+
+  -- of elements from there on. What is found with the header comes before the element's first line, all else behind its last
+  abbrev pub items : Site → Forest → List Item
+  -- a run of padding has one line
+  items s (Fill rest) = (if is_padding s.before then [] else PaddingLine s.level s.at ∷ []) ++ items (behind_padding s) rest
+  items s (Whole h c rest) =
+      told s h (header_conditions s h) ++ (WholePrimitive s.level h c ∷ told s h (contents_conditions h c) ++ items (behind s h c) rest)
+  items s (Closed h inside rest) =
+      told s h (header_conditions s h) ++ (OpeningLine s.level h ∷ items (inside_of s h) inside
+      ++ (ClosingLine s.level (end_place h inside) ∷ told s h (end_conditions h (heads inside)) ++ items (behind_holder s h inside) rest))
+  items s (Partial h c) = told s h (header_conditions s h) ++ OpenPrimitive s.level h c ∷ []
+  items s (Entered h inside) = told s h (header_conditions s h) ++ OpeningLine s.level h ∷ items (inside_of s h) inside
+  items s (Awaiting h) = told s h (header_conditions s h) ++ OpeningLine s.level h ∷ []
+  items s _ = []
+
+-- ---- Words of proofs alone
+
+abbrev pub findings_at : ℕ → ℕ → List Finding → List Item
+findings_at level at findings = map (FindingAt level at) findings
 
 module _ (rules : Rules) where
-  -- what is found with the header comes before the element's first line, all else behind its last line
   abbrev pub on_header : Site → Heading → List Item
   on_header s h = findings_at s.level h.offset (header_findings rules s h)
 
@@ -50,24 +64,3 @@ module _ (rules : Rules) where
 
   abbrev pub on_end : Site → Heading → Forest → List Item
   on_end s h inside = findings_at s.level h.offset (end_findings rules h (heads inside))
-
-  -- of elements from there on
-  abbrev pub items : Site → Forest → List Item
-  -- a run of padding has one line
-  items s (Fill rest) = (if is_padding s.before then [] else PaddingLine s.level s.at ∷ []) then items (behind_padding s) rest
-  items s (Whole h c rest) =
-      on_header s h
-      then WholePrimitive s.level h c ∷ []
-      then on_contents s h c
-      then items (behind s h c) rest
-  items s (Closed h inside rest) =
-      on_header s h
-      then OpeningLine s.level h ∷ []
-      then items (inside_of s h) inside
-      then ClosingLine s.level (end_place h inside) ∷ []
-      then on_end s h inside
-      then items (behind_holder s h inside) rest
-  items s (Partial h c) = on_header s h then OpenPrimitive s.level h c ∷ []
-  items s (Entered h inside) = on_header s h then OpeningLine s.level h ∷ [] then items (inside_of s h) inside
-  items s (Awaiting h) = on_header s h then OpeningLine s.level h ∷ []
-  items s _ = []

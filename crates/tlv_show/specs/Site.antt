@@ -1,5 +1,6 @@
 -- Where an element stands among others: X.690 8.1.1, 8.1.4.
-use Rattle.std.specs.Prelude.{ℕ, ◌+◌, Bool, true, false, ◌&&◌, List, [], ◌∷◌, length, Option, Some, None}
+use Rattle.std.specs.Prelude.{ℕ, ◌+◌, Bool, true, false, ◌&&◌, List, length, Option, Some, None, slice_get}
+use Rattle.std.specs.Option.{option_map_or}
 use Rattle.tlv_head.specs.Header.{Heading, octets_of}
 use Rattle.tlv_value.specs.Types.{bit_string, has_segments, is_a}
 use Rattle.tlv_walk.specs.Forest.{Forest, extent, opening}
@@ -26,13 +27,9 @@ pub record Site : Type 0 where
 abbrev pub top : Site
 top = record { at = 0; level = 0; holder = None; before = Start }
 
-abbrev pub first_octet : List ℕ → Option ℕ
-first_octet [] = None
-first_octet (x ∷ octets) = Some x
-
 -- behind a primitive
 abbrev pub behind : Site → Heading → List ℕ → Site
-behind s h c = record s { at = s.at + (length (octets_of h) + length c); before = Sibling h (first_octet c) }
+behind s h c = record s { at = s.at + (length (octets_of h) + length c); before = Sibling h (slice_get c 0) }
 
 -- inside an element that holds others, and behind it
 abbrev pub inside_of : Site → Heading → Site
@@ -49,13 +46,17 @@ abbrev pub is_padding : Before → Bool
 is_padding Padding = true
 is_padding _ = false
 
-abbrev pub is_held_by : (Heading → Bool) → Option Heading → Bool
-is_held_by test None = false
-is_held_by test (Some h) = test h
-
 -- 8.6.4, 8.7.3: in a constructed string: the element is a segment of it
 abbrev pub in_string : Site → Bool
-in_string s = is_held_by has_segments s.holder
+in_string s = option_map_or has_segments s.holder false
 
 abbrev pub in_bit_string : Site → Bool
-in_bit_string s = is_held_by (λ h. has_segments h && is_a bit_string h) s.holder
+in_bit_string s = option_map_or (λ h. has_segments h && is_a bit_string h) s.holder false
+
+-- ---- Words of proofs alone
+
+abbrev pub first_octet : List ℕ → Option ℕ
+first_octet c = slice_get c 0
+
+abbrev pub is_held_by : (Heading → Bool) → Option Heading → Bool
+is_held_by test holder = option_map_or test holder false
