@@ -24,12 +24,12 @@ use Rattle.tlv_show.specs.declared.style.Style.TheVariants.{Dump}
 use Rattle.tlv_show.specs.CheckStep.{all_written}
 use Rattle.tlv_show.specs.Dumped.{Dumping, dumped, entered, one_dumped}
 use Rattle.tlv_show.specs.DumpStep.{Showing, dump_step}
-use Rattle.tlv_show.specs.DumpText.{end_place, holder_line, wrapper_line}
+use Rattle.tlv_show.specs.DumpText.{end_place}
 use Rattle.tlv_show.specs.FinderState.{FinderState, Finds, find_begin, find_bytes, find_close, find_end, find_open, frame_of, header_notes, noted}
 use Rattle.tlv_show.specs.Found.{contents_findings, end_findings, header_findings}
 use Rattle.tlv_show.specs.Laws.{PrimitivesAreShown}
 use Rattle.tlv_show.specs.Items.{Item, FindingAt, OpeningLine, ClosingLine, WholePrimitive, OpenPrimitive, PaddingLine, findings_at, heads, items}
-use Rattle.tlv_show.specs.Lines.{close_line, opening_line, padding_line}
+use Rattle.tlv_show.specs.Lines.{close_line, holder_line, opening_line, padding_line}
 use Rattle.tlv_show.specs.Site.{Before, Padding, Sibling, Site, Start, behind, behind_holder, behind_padding, first_octet, inside_of, is_padding}
 use Rattle.tlv_show.specs.Texts.{item_text}
 use Rattle.tlv_show.specs.Dumped.{further, value_after, value_told}
@@ -357,14 +357,14 @@ module _ (style : Layout) (names : Table) (rules : Rules) where
       }
   told p holder before w outer (Awaiting h) v b k = record {
     text = λ n.
-        append_assoc (all_written (Dump style.pure) (length outer) h.offset (header_notes rules w h)) (wrapper_line (at_level style names p.depth) h) []
+        append_assoc (all_written (Dump style.pure) (length outer) h.offset (header_notes rules w h)) (opening_line (at_level style names p.depth) h (codes " wraps {")) []
         ∙ found-first (length outer) p.depth h.offset (header_notes rules w h) (header_findings rules (site p holder before) h) _ (OpeningLine p.depth h ∷ []) k.1 (header-same rules w (site p holder before) h k.0)
         (ap (λ (l : List ℕ). l ++ []) (sym (awaiting p.depth h h.constructed v.1)));
     stands = λ n e. absurd (cc (e));
   }
     where
       awaiting : (level : ℕ) (h : Heading) (k : Bool) → (if k then [] else lead (record h { constructed = false })) ≡ 0 ∷ []
-          → (if k then opening_line (at_level style names level) h (codes " {") else wrapper_line (at_level style names level) h) ≡ wrapper_line (at_level style names level) h
+          → opening_line (at_level style names level) h (if k then codes " {" else codes " wraps {") ≡ opening_line (at_level style names level) h (codes " wraps {")
       awaiting level h true e = absurd (cc (e))
       awaiting level h false e = refl
   told p holder before w outer (Begun octets) v b k = record { text = λ n. refl; stands = λ n e. absurd (cc (e)) }

@@ -1,5 +1,5 @@
 -- What the lines of a dump come to, element by element.
-use Rattle.std.proofs.Common.{◌≡◌, ℕ, ◌+◌, ◌-◌, ◌^◌, ◌≤◌, min, Bool, true, false, eqb, if◌then◌else◌, List, [], ◌∷◌, ◌++◌, length, take, map, refl, sym, ap, ap₂, ◌∙◌, subst, arith, append_assoc, append-nil}
+use Rattle.std.proofs.Common.{◌≡◌, ℕ, ◌+◌, ◌-◌, ◌^◌, ◌≤◌, ◌&&◌, min, Bool, true, false, eqb, if◌then◌else◌, List, [], ◌∷◌, ◌++◌, length, take, map, refl, sym, ap, ap₂, ◌∙◌, subst, arith, append_assoc, append-nil}
 use Rattle.std.proofs.lemmas.Bool.{true≢false}
 use Rattle.std.proofs.lemmas.Grind.{common_steps}
 use Rattle.std.specs.FinMap as finite
@@ -15,12 +15,12 @@ use Rattle.tlv_value.proofs.Pieces.{lines-end, open-lines}
 use Rattle.tlv_walk.specs.Events.{Told, Open, Begin, Bytes, End, Close, Enter, Unused, Leave, Pad, closes, end_offset, opens}
 use Rattle.tlv_walk.specs.Follow.{Following, and_then, followed, if_on}
 use Rattle.tlv_walk.specs.Forest.{Forest, Stop, Fill, Whole, Closed, Partial, Entered, Awaiting, Begun, Zero, end_octets, extent, lead, opening, spell}
-use Rattle.tlv_walk.specs.Place.{IsOpen, Place, after}
+use Rattle.tlv_walk.specs.Place.{IsOpen, Place, after, is_indefinite}
 use Rattle.tlv_walk.proofs.Followed.{followed-more}
 use Rattle.tlv_walk.proofs.Spellings.{length-opening}
 use Rattle.tlv_show.specs.Dumped.{Dumping, dumped, entered, further, puts}
-use Rattle.tlv_show.specs.DumpText.{end_place, holder_line, wrapper_line}
-use Rattle.tlv_show.specs.Lines.{close_line, opening_line, padding_line}
+use Rattle.tlv_show.specs.DumpText.{end_place}
+use Rattle.tlv_show.specs.Lines.{close_line, holder_line, opening_line, padding_line}
 use Rattle.tlv_show.proofs.Dumped.{behind_put, dumped_bytes}
 use Rattle.tlv_show.proofs.Always.{all_on}
 
@@ -111,16 +111,16 @@ module _ (style : Layout) (names : Table) where
   holder_by : (level at : ℕ) (padded k three : Bool) (h : Heading) → h.offset ≡ at → level + 1 ≤ 255
       → at + (length (octets_of h) + length (lead_by k three)) ≤ 2 ^ 64 - 1
       → followed dumped (standing level at padded) ((if k then Open h else Enter h) ∷ map (λ z. Unused) (lead_by k three))
-      ≡ puts (standing (level + 1) (at + (length (octets_of h) + length (lead_by k three))) false) (if k then opening_line (at_level level) h (codes " {") else wrapper_line (at_level level) h)
+      ≡ puts (standing (level + 1) (at + (length (octets_of h) + length (lead_by k three))) false) (opening_line (at_level level) h (if k then codes " {" else codes " wraps {"))
   holder_by level at padded true three h there low far_enough =
       settled (min (level + 1) 255) (level + 1) (further h.offset (length (octets_of h))) (at + (length (octets_of h) + 0)) false false _ (opening_line (at_level level) h (codes " {"))
       (omega (arith, low)) (omega (arith, there, far_enough)) refl (append-nil (opening_line (at_level level) h (codes " {")))
   holder_by level at padded false true h there low far_enough =
-      settled (min (level + 1) 255) (level + 1) (further (further h.offset (length (octets_of h))) 1) (at + (length (octets_of h) + 1)) false false _ (wrapper_line (at_level level) h)
-      (omega (arith, low)) (omega (arith, there, far_enough)) refl (append-nil (wrapper_line (at_level level) h))
+      settled (min (level + 1) 255) (level + 1) (further (further h.offset (length (octets_of h))) 1) (at + (length (octets_of h) + 1)) false false _ (opening_line (at_level level) h (codes " wraps {"))
+      (omega (arith, low)) (omega (arith, there, far_enough)) refl (append-nil (opening_line (at_level level) h (codes " wraps {")))
   holder_by level at padded false false h there low far_enough =
-      settled (min (level + 1) 255) (level + 1) (further h.offset (length (octets_of h))) (at + (length (octets_of h) + 0)) false false _ (wrapper_line (at_level level) h)
-      (omega (arith, low)) (omega (arith, there, far_enough)) refl (append-nil (wrapper_line (at_level level) h))
+      settled (min (level + 1) 255) (level + 1) (further h.offset (length (octets_of h))) (at + (length (octets_of h) + 0)) false false _ (opening_line (at_level level) h (codes " wraps {"))
+      (omega (arith, low)) (omega (arith, there, far_enough)) refl (append-nil (opening_line (at_level level) h (codes " wraps {")))
 
   pub holder_told : (level at : ℕ) (padded : Bool) (h : Heading) → h.offset ≡ at → level + 1 ≤ 255 → at + length (opening h) ≤ 2 ^ 64 - 1
       → followed dumped (standing level at padded) (opens h) ≡ puts (standing (level + 1) (at + length (opening h)) false) (holder_line (at_level level) h)
@@ -133,7 +133,7 @@ module _ (style : Layout) (names : Table) where
 
   closer_by : (level o : ℕ) (k : Bool) (size : Size) → AllowsSize k size → o + length (end_octets size) ≤ 2 ^ 64 - 1
       → followed dumped (standing (level + 1) o false) ((if k then Close (end_offset size o) else Leave) ∷ [])
-      ≡ puts (standing level (o + length (end_octets size)) false) (close_line (at_level level) (if k then end_offset size o else None))
+      ≡ puts (standing level (o + length (end_octets size)) false) (close_line (at_level level) (if k && is_indefinite size then Some o else None))
   closer_by level o true (Definite n) allowed far_enough =
       settled (level + 1 - 1) level o (o + 0) false false _ (close_line (at_level level) None) (omega arith) (omega arith) refl (append-nil (close_line (at_level (level + 1 - 1)) None) ∙ ap (λ (l : ℕ). close_line (at_level l) None) (omega arith))
   closer_by level o true Indefinite allowed far_enough =
@@ -147,7 +147,7 @@ module _ (style : Layout) (names : Table) where
       → followed dumped (standing (level + 1) o false) (closes h inside ∷ []) ≡ puts (standing level (o + length (end_octets h.size)) false) (close_line (at_level level) (end_place h inside))
   closer_told level o h inside there allowed far_enough =
       subst (λ (n : ℕ). followed dumped (standing (level + 1) o false) ((if h.constructed then Close (end_offset h.size n) else Leave) ∷ [])
-      ≡ puts (standing level (o + length (end_octets h.size)) false) (close_line (at_level level) (if h.constructed then end_offset h.size n else None)))
+      ≡ puts (standing level (o + length (end_octets h.size)) false) (close_line (at_level level) (if h.constructed && is_indefinite h.size then Some n else None)))
       (sym there) (closer_by level o h.constructed h.size allowed far_enough)
 
   -- ---- elements

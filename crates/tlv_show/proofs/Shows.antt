@@ -12,12 +12,21 @@ use Rattle.tlv_walk.specs.Drives.{Drives, had_enough, run_of}
 use Rattle.tlv_walk.specs.Events.{Told, events}
 use Rattle.tlv_walk.specs.Follow.{Following, followed, followed_events}
 use Rattle.tlv_walk.specs.Forest.{Forest, spell}
-use Rattle.tlv_walk.specs.Job.{Runs}
+use Rattle.tlv_walk.specs.Job.{Job, Runs}
 use Rattle.tlv_walk.specs.Reading.{IsReading}
 use Rattle.tlv_walk.specs.Wrappers.{unused_of}
 use Rattle.tlv_walk.proofs.Jobs as jobs
 use Rattle.tlv_show.specs.declared.outcome.Outcome.{Outcome}
-use Rattle.tlv_show.specs.Shows.{showing}
+
+-- of all elements this text is written, and so many findings are counted
+abbrev pub showing : Framing → (Forest → List ℕ) → (Forest → ℕ) → Job Outcome
+showing framing text count = record {
+  framing = framing;
+  limit = 2 ^ 40;
+  text = text;
+  is_enough = λ f. false;
+  answer = λ f e. record { ending = e; findings = count f; unused = unused_of framing.inside f };
+}
 
 -- a follower, and what it makes of readings: a text, and a count in its state
 pub record Shower {S : Type 0} (next : S → Told → Following S) (first : S) (framing : Framing) (text : Forest → List ℕ) (count : Forest → ℕ) (count_in : S → ℕ) : Type 0 where

@@ -8,7 +8,14 @@ use Rattle.tlv_walk.specs.Job.{Job}
 use Rattle.tlv_show.specs.declared.options.Options.{Options}
 use Rattle.tlv_show.specs.declared.outcome.Outcome.{Outcome}
 use Rattle.tlv_show.specs.Shows.{showing}
-use Rattle.tlv_show.specs.Texts.{dump_text, found_count}
+use Rattle.tlv_show.specs.Texts.{dump_text, item_text}
+
+-- all elements, as lines, with those of findings
+abbrev pub dumping : Options → Table → Job Outcome
+dumping options names =
+    showing options.framing options.rules (item_text (finite.get names) (record { level = 0; limit = options.limit; pure = options.pure }))
+
+-- ---- Words of laws and proofs alone
 
 -- how the lines of the first elements are laid out
 abbrev pub top_layout : Options → Layout
@@ -17,7 +24,3 @@ top_layout options = record { level = 0; limit = options.limit; pure = options.p
 -- the text of a dump with these options
 abbrev pub dumped_text : Options → Table → Forest → List ℕ
 dumped_text options names f = dump_text (finite.get names) (top_layout options) options.rules f
-
--- all elements, as lines, with those of findings
-abbrev pub dumping : Options → Table → Job Outcome
-dumping options names = showing options.framing (dumped_text options names) (found_count options.rules)

@@ -24,11 +24,14 @@ pub data Item : Type 0 where
   -- padding begins at this offset
   PaddingLine : (level offset : ℕ) → Item
 
--- the headers of whole elements one after another
+-- the headers of elements one after another
 abbrev pub heads : Forest → List Heading
 heads (Fill rest) = heads rest
 heads (Whole h c rest) = h ∷ heads rest
 heads (Closed h inside rest) = h ∷ heads rest
+heads (Partial h c) = h ∷ []
+heads (Entered h inside) = h ∷ []
+heads (Awaiting h) = h ∷ []
 heads _ = []
 
 module _ (rules : Rules) where

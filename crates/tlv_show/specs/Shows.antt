@@ -1,17 +1,20 @@
 -- What a command does that shows what a source gives, in one pass.
-use Rattle.std.specs.Prelude.{ℕ, ◌^◌, false, List}
+use Rattle.std.specs.Prelude.{ℕ, ◌^◌, false, List, count_by, flat_map}
 use Rattle.tlv_walk.specs.declared.framing.Framing.{Framing}
-use Rattle.tlv_walk.specs.Forest.{Forest}
 use Rattle.tlv_walk.specs.Job.{Job}
 use Rattle.tlv_walk.specs.Wrappers.{unused_of}
 use Rattle.tlv_show.specs.declared.outcome.Outcome.{Outcome}
+use Rattle.tlv_show.specs.declared.rules.Rules.{Rules}
+use Rattle.tlv_show.specs.Items.{Item, items}
+use Rattle.tlv_show.specs.Site.{top}
+use Rattle.tlv_show.specs.Texts.{is_finding}
 
--- of all elements this text is written, and so many findings are counted
-abbrev pub showing : Framing → (Forest → List ℕ) → (Forest → ℕ) → Job Outcome
-showing framing text count = record {
+-- the items of all elements are written, each with this text, and the findings are counted, whether they are written or not
+abbrev pub showing : Framing → Rules → (Item → List ℕ) → Job Outcome
+showing framing rules text_of = record {
   framing = framing;
   limit = 2 ^ 40;
-  text = text;
+  text = λ f. flat_map text_of (items rules top f);
   is_enough = λ f. false;
-  answer = λ f e. record { ending = e; findings = count f; unused = unused_of framing.inside f };
+  answer = λ f e. record { ending = e; findings = count_by is_finding (items rules top f); unused = unused_of framing.inside f };
 }
