@@ -25,12 +25,13 @@ abbrev pub cut_of : Bool → Forest → List ℕ
 cut_of contents_only (Fill rest) = cut_of contents_only rest
 cut_of contents_only (Whole h c rest) = unless contents_only (octets_of h) ++ (c ++ cut_of contents_only rest)
 cut_of contents_only (Closed h inside rest) =
-    (unless contents_only (octets_of h) ++ lead h)
-    ++ (cut_of false inside ++ (unless contents_only (end_octets h.size) ++ cut_of contents_only rest))
+    (unless contents_only (octets_of h) ++ lead h) ++ (cut_of false inside ++ (unless contents_only (end_octets h.size) ++ cut_of contents_only rest))
 cut_of contents_only (Partial h c) = unless contents_only (octets_of h) ++ c
 cut_of contents_only (Entered h inside) = (unless contents_only (octets_of h) ++ lead h) ++ cut_of false inside
 cut_of contents_only (Awaiting h) = unless contents_only (octets_of h)
 cut_of contents_only _ = []
+
+-- ---- Words of laws and proofs alone
 
 -- what is written of elements: the one at this offset, or its contents alone
 abbrev pub cut : ℕ → Bool → Forest → List ℕ

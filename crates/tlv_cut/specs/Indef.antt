@@ -17,7 +17,6 @@ indefinite (Closed h inside rest) =
     if h.constructed then Closed (indefinite_heading h) (indefinite inside) (indefinite rest)
     else Whole h (lead h ++ spell (indefinite inside)) (indefinite rest)
 indefinite (Partial h c) = Partial h c
-indefinite (Entered h inside) =
-    if h.constructed then Entered (indefinite_heading h) (indefinite inside) else Partial h (lead h ++ spell (indefinite inside))
+indefinite (Entered h inside) = if h.constructed then Entered (indefinite_heading h) (indefinite inside) else Partial h (lead h ++ spell (indefinite inside))
 indefinite (Awaiting h) = Awaiting h
 indefinite _ = Stop

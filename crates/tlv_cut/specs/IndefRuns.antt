@@ -6,16 +6,18 @@ use Rattle.tlv_walk.specs.Forest.{spell}
 use Rattle.tlv_walk.specs.Job.{Job}
 use Rattle.tlv_cut.specs.Indef.{indefinite}
 
--- no string is read as encodings, and padding may stand between encodings, or not
-abbrev pub unnamed : Bool → Framing
-unnamed padding = record { inside = []; padding = padding }
-
--- the octets that spell all elements, with an indefinite length in each that is constructed
-abbrev pub respelling : Framing → Job Ending
-respelling framing = record {
-  framing = framing;
+-- the octets that spell all elements, with an indefinite length in each that is constructed. No string is read as encodings,
+-- and padding may stand between encodings, or not
+abbrev pub respelling : Bool → Job Ending
+respelling padding = record {
+  framing = record { inside = []; padding = padding };
   limit = 2 ^ 40;
   text = λ f. spell (indefinite f);
   is_enough = λ f. false;
   answer = λ f e. e;
 }
+
+-- ---- Words of laws and proofs alone
+
+abbrev pub unnamed : Bool → Framing
+unnamed padding = record { inside = []; padding = padding }

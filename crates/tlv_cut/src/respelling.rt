@@ -1,6 +1,6 @@
 //! `indef`, over a source and a drain.
 ghost use Rattle.tlv_walk.specs.Job.{Runs};
-ghost use Rattle.tlv_cut.specs.IndefRuns.{respelling, unnamed};
+ghost use Rattle.tlv_cut.specs.IndefRuns.{respelling};
 
 use crate::Indef;
 use tlv_walk::{DeviceFault, Drain, Ending, Framing, Inside, Source, drive};
@@ -20,7 +20,7 @@ pub fn indef<S: Source, D: Drain>(
     drain: &mut D,
     padding: bool,
 ) -> Result<Ending, DeviceFault>
-    ensures { Runs (respelling (unnamed padding)) (S.told source.old) (S.told source.new)
+    ensures { Runs (respelling padding) (S.told source.old) (S.told source.new)
         (D.told drain.old) (D.told drain.new) result }
 {
     let framing = Framing {
