@@ -27,6 +27,7 @@ use Rattle.tlv_walk.specs.MemSource.{MemSupply}
 use Rattle.tlv_walk.specs.Out.{Sends}
 use Rattle.tlv_walk.specs.Reading.{IsPrefixOf, IsReading}
 use Rattle.tlvdump.proofs.Results.{Stays, one_made, settled_stays, stays_for, text_on}
+use Rattle.tlvdump.proofs.SaidJobs.{said-end}
 use Rattle.tlvdump.specs.declared.command.Command.{Command}
 use Rattle.tlvdump.specs.Held.{or_failed, told_ending, told_failing, told_room}
 use Rattle.tlvdump.specs.Octets.{IsSaid, MakesOf, RunsOctets, broken, ended, settled, too_long}
@@ -238,7 +239,7 @@ module _ (job : Job Said) (stays : Stays job)
     run_in (Err InputTooLong) x = run_long x
 
     pub runs_octets : (said : Said) → Ran job old new from to said → RunsOctets job octets read_fails room written said
-    runs_octets said x = subst (RunsOctets job octets read_fails room written) (sym x.said_is) (run_in x.result x.runs)
+    runs_octets said x = subst (RunsOctets job octets read_fails room written) (sym (said-end x)) (run_in x.result x.runs)
 
 -- what a room tells that has failed: it is full
 full_room : (room : ℕ) (xs : List ℕ) (failures : ℕ) → (told_room room xs failures).failures ≡ 1 → length xs ≤ room → length xs ≡ room

@@ -12,6 +12,7 @@ use Rattle.tlv_walk.specs.Job.{Job, Runs}
 use Rattle.tlv_walk.specs.Laws.{AreOctets}
 use Rattle.tlvdump.proofs.InMemory.{at_end, left_of}
 use Rattle.tlvdump.proofs.Results.{Stays, limit_is, settled_stays, stays_for}
+use Rattle.tlvdump.proofs.SaidJobs.{said-end}
 use Rattle.tlvdump.specs.Laws.{RunsAreResults}
 use Rattle.tlvdump.specs.Report.{Said}
 use Rattle.tlvdump.specs.Results.{IsSettled, Made, Makes, made_of, running}
@@ -66,4 +67,4 @@ unfolding Gives
 run_results command names octets old new from to said all few known old_few quiet from_few took x =
     let job = running command names in
     let y = gives job (stays_for command names) octets all (subst (λ (n : ℕ). length octets ≤ n) (sym (limit_is command names)) few) old new from to known old_few quiet from_few took x.result x.runs in
-    (y.0, y.1, y.2, x.said_is ∙ y.3)
+    (y.0, y.1, y.2, said-end x ∙ y.3)

@@ -1,13 +1,13 @@
 -- A job with what is said of its answer runs as the job itself.
 use Rattle.std.proofs.Common.{◌≡◌, ℕ, List, ap}
-use Rattle.std.specs.Prelude.{Result, Ok, Err}
+use Rattle.std.specs.Prelude.{Result, Ok, Err, MatchResult}
 use Rattle.tlv_walk.specs.declared.run.DeviceFault.{DeviceFault}
 use Rattle.tlv_walk.specs.declared.run.DeviceFault.TheVariants.{ReadFailed, WriteFailed, InputTooLong}
 use Rattle.tlv_walk.specs.Device.{Supply, Taken}
 use Rattle.tlv_walk.specs.Job.{AreSound, Job, Runs}
-use Rattle.tlvdump.specs.Report.{Said, said_of}
+use Rattle.tlvdump.specs.Report.{Said, said_of, said_of_device}
 use Rattle.tlvdump.specs.Results.{said_by}
-use Rattle.tlvdump.specs.Runs.{Ran}
+use Rattle.tlvdump.specs.Runs.{Ran, said_at_end}
 
 module _ {A : Type 0} (say : A → Said) (job : Job A) where
   sound_too : (b : List ℕ) → AreSound job b → AreSound (said_by say job) b
@@ -77,3 +77,11 @@ module _ {A : Type 0} (say : A → Said) (job : Job A) where
   pub said_runs : {old new : Supply} {from to : Taken} {result : Result A DeviceFault} {said : Said} → Runs job old new from to result → said ≡ said_of say result
       → Ran (said_by say job) old new from to said
   said_runs {old} {new} {from} {to} {result} {said} x e = runs_too old new from to result x said e
+
+-- what is said in the end
+pub said-end : {job : Job Said} {old new : Supply} {from to : Taken} {said : Said} → (x : Ran job old new from to said) → said ≡ said_at_end x.result
+said-end {said = said} x = by-result x.result x.said_is
+  where
+    by-result : (result : Result Said DeviceFault) → MatchResult result (λ of_input. said ≡ of_input) (λ fault. said ≡ said_of_device fault) → said ≡ said_at_end result
+    by-result (Ok of_input) e = e
+    by-result (Err fault) e = e

@@ -1,7 +1,10 @@
 -- Which status an input comes to.
-use Rattle.std.proofs.Common.{◌≡◌, ℕ, zero, suc, Bool, true, false, refl, sym, ap, ◌∙◌, subst}
-use Rattle.std.specs.Prelude.{Option, Some, None}
+use Rattle.std.proofs.Common.{◌≡◌, ◌==◌, ℕ, Bool, true, false, if◌then◌else◌, [], ◌++◌, refl, sym, ap, ◌∙◌, subst}
+use Rattle.std.specs.Prelude.{Option, Some, None, codes, decimal}
 use Rattle.tlv_cut.specs.Cut.{has_element_at}
+use Rattle.tlv_show.specs.declared.outcome.Outcome.{Outcome}
+use Rattle.tlv_show.specs.Checks.{checking}
+use Rattle.tlv_show.specs.Dumps.{dumping}
 use Rattle.tlv_value.specs.Names.{Table}
 use Rattle.tlv_walk.proofs.Endings.{done-sound, sound-done}
 use Rattle.tlv_walk.proofs.Unique.{ending-unique}
@@ -11,15 +14,18 @@ use Rattle.tlv_walk.specs.Ending.{IsEnding}
 use Rattle.tlv_walk.specs.Forest.{Forest}
 use Rattle.tlv_walk.specs.Job.{EndsWith}
 use Rattle.tlvdump.specs.Laws.{StatusesTellOfSoundness}
-use Rattle.tlvdump.specs.Report.{said_of_findings, said_of_found, said_of_unused}
+use Rattle.tlvdump.specs.Report.{said_of_findings, said_of_found, said_of_unused, saying}
 use Rattle.tlvdump.specs.Results.{Made, running}
 use Rattle.tlvdump.specs.declared.command.Command.{Command}
 use Rattle.tlvdump.specs.declared.command.Command.TheVariants.{Check, Dump, Extract, Indef}
 
 -- what is said where there is no fault
 quiet : (unused : Option ℕ) (findings : ℕ) → (said_of_unused unused (said_of_findings findings)).status ≡ 2 → ⊥
-quiet None zero e = absurd (cc (e))
-quiet None (suc n) e = absurd (cc (e))
+quiet None findings e = by-test (findings == 0) e
+  where
+    by-test : (none : Bool) → (if none then saying 0 [] else saying 1 (codes "findings: " ++ decimal findings)).status ≡ 2 → ⊥
+    by-test true e = absurd (cc (e))
+    by-test false e = absurd (cc (e))
 quiet (Some offset) findings e = absurd (cc (e))
 
 found_quiet : (offset : ℕ) (found : Bool) → (said_of_found offset found).status ≡ 2 → ⊥
@@ -27,8 +33,8 @@ found_quiet offset true e = absurd (cc (e))
 found_quiet offset false e = absurd (cc (e))
 
 done_quiet : (command : Command) (names : Table) (f : Forest) → ((running command names).answer f ending.Done).status ≡ 2 → ⊥
-done_quiet (Dump options names_file file) names f e = quiet _ _ e
-done_quiet (Check rules framing file) names f e = quiet _ _ e
+done_quiet (Dump options names_file file) names f e = let outcome : Outcome = (dumping options names).answer f ending.Done in quiet outcome.unused outcome.findings e
+done_quiet (Check rules framing file) names f e = let outcome : Outcome = (checking rules framing).answer f ending.Done in quiet outcome.unused outcome.findings e
 done_quiet (Extract offset contents framing file) names f e = found_quiet offset (has_element_at offset f) e
 done_quiet (Indef padding file) names f e = absurd (cc (e))
 

@@ -1,5 +1,5 @@
 -- What the program says of a run: the exit status, the number of findings, and the message.
-use Rattle.std.specs.Prelude.{◌∷◌, ⊤, ℕ, zero, suc, Bool, true, false, List, [], ◌++◌, Option, Some, None, Result, Ok, Err, codes, decimal, take}
+use Rattle.std.specs.Prelude.{◌∷◌, ⊤, ℕ, ◌==◌, Bool, if◌then◌else◌, List, [], ◌++◌, Option, Some, None, Result, Ok, Err, codes, decimal, take}
 use Rattle.clap.specs.Words.{kind_of}
 use Rattle.clap.specs.declared.error.kind.ErrorKind.{ErrorKind}
 use Rattle.clap.specs.declared.error.kind.ErrorKind.TheVariants as kind
@@ -32,19 +32,11 @@ said_in report = record { status = report.status; findings = report.findings; me
 abbrev pub saying : ℕ → List ℕ → Said
 saying status message = record { status = status; findings = 0; message = message }
 
--- nothing is to be said
-abbrev pub clean : Said
-clean = saying 0 []
+-- ---- what an input comes to. Where there is nothing to say, the status is 0 and there is no message
 
--- ---- what an input comes to
-
--- a fault of the encoding: its offset, its code and its text
-abbrev pub fault_line : Fault → List ℕ
-fault_line fault = codes "fault at " ++ decimal fault.offset ++ codes ": " ++ code_of fault.code ++ codes " " ++ text_of fault.code
-
--- a fault takes precedence over what else there is to say
+-- a fault of the encoding, by its offset, its code and its text, takes precedence over what else there is to say
 abbrev pub said_of_ending : Ending → Said → Said
-said_of_ending (ending.Fault fault) other = saying 2 (fault_line fault)
+said_of_ending (ending.Fault f) other = saying 2 (codes "fault at " ++ decimal f.offset ++ codes ": " ++ code_of f.code ++ codes " " ++ text_of f.code)
 said_of_ending ending.Done other = other
 
 -- the first of the named offsets at which there is no string to read takes precedence over findings
@@ -53,25 +45,16 @@ said_of_unused None other = other
 said_of_unused (Some offset) other = saying 1 (codes "E7 no string to read at offset " ++ decimal offset)
 
 abbrev pub said_of_findings : ℕ → Said
-said_of_findings zero = clean
-said_of_findings (suc n) = saying 1 (codes "findings: " ++ decimal (suc n))
+said_of_findings n = if n == 0 then saying 0 [] else saying 1 (codes "findings: " ++ decimal n)
 
 -- a dump or a check: the count stays, whatever is said
 abbrev pub said_of_outcome : Outcome → Said
-said_of_outcome outcome = record (said_of_ending outcome.ending (said_of_unused outcome.unused (said_of_findings outcome.findings))) {
-  findings = outcome.findings;
-}
+said_of_outcome outcome =
+    record (said_of_ending outcome.ending (said_of_unused outcome.unused (said_of_findings outcome.findings))) { findings = outcome.findings }
 
--- whether there is an element at the offset
-abbrev pub said_of_found : ℕ → Bool → Said
-said_of_found offset true = clean
-said_of_found offset false = saying 1 (codes "E4 no element at offset " ++ decimal offset)
-
+-- an extract of the element at this offset
 abbrev pub said_of_cut : ℕ → Cut → Said
-said_of_cut offset cut = said_of_ending cut.ending (said_of_found offset cut.found)
-
-abbrev pub said_of_indef : Ending → Said
-said_of_indef e = said_of_ending e clean
+said_of_cut offset cut = said_of_ending cut.ending (if cut.found then saying 0 [] else saying 1 (codes "E4 no element at offset " ++ decimal offset))
 
 -- ---- devices
 
@@ -130,3 +113,17 @@ line_of (x ∷ xs) = (x ∷ xs) ++ 10 ∷ []
 -- a line was written, or a write failed and the drain took a front of it
 abbrev pub IsTold : List ℕ → Taken → Taken → Type 0
 IsTold line old new = (result : Result ⊤ WriteFault) × Sends old new line result
+
+-- ---- Words of private functions and proofs alone
+
+abbrev pub clean : Said
+clean = saying 0 []
+
+abbrev pub fault_line : Fault → List ℕ
+fault_line fault = codes "fault at " ++ decimal fault.offset ++ codes ": " ++ code_of fault.code ++ codes " " ++ text_of fault.code
+
+abbrev pub said_of_found : ℕ → Bool → Said
+said_of_found offset found = if found then saying 0 [] else saying 1 (codes "E4 no element at offset " ++ decimal offset)
+
+abbrev pub said_of_indef : Ending → Said
+said_of_indef e = said_of_ending e (saying 0 [])

@@ -1,7 +1,7 @@
 -- What a command makes of an input.
-use Rattle.std.specs.Prelude.{◌≡◌, ◌⊎◌, ℕ, true, List}
+use Rattle.std.specs.Prelude.{◌≡◌, ◌⊎◌, ℕ, true, List, []}
 use Rattle.tlv_cut.specs.Extracts.{cutting}
-use Rattle.tlv_cut.specs.IndefRuns.{respelling, unnamed}
+use Rattle.tlv_cut.specs.IndefRuns.{respelling}
 use Rattle.tlv_show.specs.Checks.{checking}
 use Rattle.tlv_show.specs.Dumps.{dumping}
 use Rattle.tlv_value.specs.Names.{Table}
@@ -9,26 +9,21 @@ use Rattle.tlv_walk.specs.declared.ending.Ending.{Ending}
 use Rattle.tlv_walk.specs.Forest.{Forest}
 use Rattle.tlv_walk.specs.Job.{EndsWith, IsFinalEnding, Job}
 use Rattle.tlv_walk.specs.Reading.{IsReading}
-use Rattle.tlvdump.specs.Report.{Said, said_of_cut, said_of_indef, said_of_outcome}
+use Rattle.tlvdump.specs.Report.{Said, said_of_cut, said_of_ending, said_of_outcome, saying}
 use Rattle.tlvdump.specs.declared.command.Command.{Command}
 use Rattle.tlvdump.specs.declared.command.Command.TheVariants.{Check, Dump, Extract, Indef}
 
 -- the same job, with what is said of its answer in place of the answer
 abbrev pub said_by : {A : Type 0} → (A → Said) → Job A → Job Said
-said_by say job = record {
-  framing = job.framing;
-  limit = job.limit;
-  text = job.text;
-  is_enough = job.is_enough;
-  answer = λ f e. say (job.answer f e);
-}
+said_by say job =
+    record { framing = job.framing; limit = job.limit; text = job.text; is_enough = job.is_enough; answer = λ f e. say (job.answer f e) }
 
 -- what each command wants of an input: what is written of its elements, when nothing more is wanted, and what is said
 abbrev pub running : Command → Table → Job Said
 running (Dump options names_file file) names = said_by said_of_outcome (dumping options names)
 running (Check rules framing file) names = said_by said_of_outcome (checking rules framing)
 running (Extract offset contents framing file) names = said_by (said_of_cut offset) (cutting framing offset contents)
-running (Indef padding file) names = said_by said_of_indef (respelling (unnamed padding))
+running (Indef padding file) names = said_by (λ e. said_of_ending e (saying 0 [])) (respelling padding)
 
 -- what comes of an input: the octets written, its ending, and what is said: status, number of findings, message
 pub record Made : Type 0 where

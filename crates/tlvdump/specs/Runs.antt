@@ -1,17 +1,18 @@
 -- What a run over a source and a drain comes to.
-use Rattle.std.specs.Prelude.{◌≡◌, Result, Ok, Err}
+use Rattle.std.specs.Prelude.{◌≡◌, Result, Ok, Err, MatchResult}
 use Rattle.tlv_walk.specs.Device.{Supply, Taken}
 use Rattle.tlv_walk.specs.Job.{Job, Runs}
 use Rattle.tlv_walk.specs.declared.run.DeviceFault.{DeviceFault}
 use Rattle.tlvdump.specs.Report.{Said, said_of_device}
 
--- what is said in the end: of the input, or of the device that failed
-abbrev pub said_at_end : Result Said DeviceFault → Said
-said_at_end (Ok said) = said
-said_at_end (Err fault) = said_of_device fault
-
--- a job was done over a source and a drain, and this is said of it
+-- a job was done over a source and a drain, and this is said in the end: of the input, or of the device that failed
 pub record Ran (job : Job Said) (old new : Supply) (from to : Taken) (said : Said) : Type 0 where
   pub result : Result Said DeviceFault
   pub runs : Runs job old new from to result
-  pub said_is : said ≡ said_at_end result
+  pub said_is : MatchResult result (λ of_input. said ≡ of_input) (λ fault. said ≡ said_of_device fault)
+
+-- ---- Words of proofs alone
+
+abbrev pub said_at_end : Result Said DeviceFault → Said
+said_at_end (Ok said) = said
+said_at_end (Err fault) = said_of_device fault

@@ -1,5 +1,5 @@
 use Rattle.tlv_cut.specs.Extracts.{cutting}
-use Rattle.tlv_cut.specs.IndefRuns.{respelling, unnamed}
+use Rattle.tlv_cut.specs.IndefRuns.{respelling}
 use Rattle.tlv_show.specs.Checks.{checking}
 use Rattle.tlv_show.specs.Dumps.{dumping}
 use Rattle.tlvdump.specs.Report.{said_of_cut, said_of_indef, said_of_outcome}
@@ -16,4 +16,4 @@ pub returns-in-Extract : goal.returns-in-Extract
 returns-in-Extract g c = rw c.in-Extract.is (said_runs (said_of_cut _) (cutting _ _ _) c.extract.ensures c.cut_report.ensures)
 
 pub returns-in-Indef : goal.returns-in-Indef
-returns-in-Indef g c = rw c.in-Indef.is (said_runs said_of_indef (respelling (unnamed _)) c.indef.ensures c.indef_report.ensures)
+returns-in-Indef g c = rw c.in-Indef.is (said_runs said_of_indef (respelling _) c.indef.ensures c.indef_report.ensures)
