@@ -12,8 +12,7 @@ use Rattle.tlv_show.specs.Texts.{dump_text, item_text}
 
 -- all elements, as lines, with those of findings
 abbrev pub dumping : Options → Table → Job Outcome
-dumping options names =
-    showing options.framing options.rules (item_text (finite.get names) (record { level = 0; limit = options.limit; pure = options.pure }))
+dumping options names = showing options.framing options.rules (item_text (finite.get names) (record { level = 0; limit = options.limit; pure = options.pure }))
 
 -- ---- Words of laws and proofs alone
 
