@@ -39,12 +39,11 @@ pub record IsHighForm (class : Class) (constructed : Bool) (number : ℕ) (octet
   pub last_digit : last < 128
   pub few : length digits ≤ 8
   pub value : number ≡ value_of 128 (digits ++ last ∷ [])
-  pub octet : octets ≡ leading_octet class constructed 31 ∷ (flagged digits ++ last ∷ [])
+  pub octet : octets ≡ leading_octet class constructed 31 ∷ (map (λ d. 128 + d) digits ++ last ∷ [])
 
 -- 8.1.2: identifier octets
 abbrev pub IsIdentifier : Class → Bool → ℕ → List ℕ → Type 0
-IsIdentifier class constructed number octets =
-    IsLowForm class constructed number octets ⊎ IsHighForm class constructed number octets
+IsIdentifier class constructed number octets = IsLowForm class constructed number octets ⊎ IsHighForm class constructed number octets
 
 -- 8.1.3.5: the number of octets that follow, 1 to 126, and the length in base 256, here below 2^40
 pub record IsLongForm (n : ℕ) (octets : List ℕ) : Type 0 where
@@ -99,12 +98,21 @@ is_universal class = eqb (class_bits class) 0
 
 -- 8.6.2, 8.7.2: a named primitive that is an OCTET STRING, or a BIT STRING of one or more contents octets:
 -- its contents are to be read as encodings
-abbrev pub is_wrapper : Bool → Class → Bool → ℕ → Size → Bool
-is_wrapper named class constructed number size =
-    named && not constructed && is_universal class && (eqb number 4 || (eqb number 3 && not (eqb (announced size) 0)))
-
 abbrev pub wraps : Heading → Bool
-wraps h = is_wrapper h.named h.class h.constructed h.number h.size
+wraps h = h.named && not h.constructed && is_universal h.class && (eqb h.number 4 || (eqb h.number 3 && not (eqb (announced h.size) 0)))
+
+-- the same of the header with these fields, whatever the others are
+abbrev pub is_wrapper : Bool → Class → Bool → ℕ → Size → Bool
+is_wrapper named class constructed number size = wraps (record {
+  offset = 0;
+  named = named;
+  class = class;
+  constructed = constructed;
+  number = number;
+  size = size;
+  identifier = [];
+  lengths = [];
+})
 
 -- 8.1.2.5: the contents are encodings: the element is constructed, or wraps them
 abbrev pub holds : Heading → Bool
