@@ -1,12 +1,13 @@
 -- The same elements with indefinite lengths keep all rules.
+use Rattle.std.specs.Option.{option_map_or}
 use Rattle.std.proofs.Common.{refl, sym, ap, ◌∙◌, subst}
-use Rattle.std.specs.Prelude.{◌≡◌, ℕ, ◌+◌, ◌<◌, ◌≤◌, Bool, true, false, ◌||◌, eqb, if◌then◌else◌, List, [], ◌∷◌, ◌++◌, length, Option, None, IfSome}
+use Rattle.std.specs.Prelude.{◌≡◌, ℕ, ◌+◌, ◌<◌, ◌≤◌, Bool, true, false, ◌||◌, eqb, if◌then◌else◌, List, [], ◌∷◌, ◌++◌, length, Option, Some, None, IfSome}
 use Rattle.tlv_head.specs.declared.header.Size.{Size}
 use Rattle.tlv_head.specs.declared.header.Size.TheVariants.{Indefinite}
 use Rattle.tlv_head.specs.Header.{AllowsSize, Heading, announced, is_wrapper, octets_of}
 use Rattle.tlv_walk.specs.Forest.{Forest, Stop, Fill, Whole, Closed, Partial, Entered, Awaiting, Begun, Zero}
 use Rattle.tlv_walk.specs.Forest.{extent, has_element, is_whole, lead, opening, spell}
-use Rattle.tlv_walk.specs.Place.{Fits, IsHeadAt, IsOpen, Place, after, bound_in, inside_of}
+use Rattle.tlv_walk.specs.Place.{Fits, IsHeadAt, IsOpen, Place, after, definite_length, inside_of}
 use Rattle.tlv_cut.specs.Indef.{indefinite, indefinite_heading}
 use Rattle.tlv_cut.specs.Placed.{placed}
 use Rattle.tlv_cut.proofs.IndefFolds.{lead_by}
@@ -81,7 +82,7 @@ free_inside p q h g e k = record {
   names = k.names;
   same_names = k.same_names;
   depth = ap (λ (d : ℕ). d + 1) k.depth;
-  bound = ap (λ (s : Size). bound_in s (q.at + length (octets_of g)) q.bound) e ∙ k.bound;
+  bound = ap (λ (s : Size). option_map_or (λ n. Some (q.at + length (octets_of g) + n)) (definite_length s) q.bound) e ∙ k.bound;
   padding = λ z. absurd (cc);
   definite = λ z. absurd (cc);
 }

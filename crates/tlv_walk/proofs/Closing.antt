@@ -10,8 +10,9 @@ use Rattle.tlv_walk.specs.Events.{AreEqualJoined, Told, Close, Leave, apart, clo
 use Rattle.tlv_walk.specs.Forest.{Forest, Stop, Closed, Zero, contents_length, end_octets, extent, is_whole, opening, spell}
 use Rattle.tlv_walk.specs.Wrappers.{enters}
 use Rattle.std.proofs.lemmas.Bool.{cases_Bool}
-use Rattle.tlv_walk.specs.Machine.{found_in, Machine}
-use Rattle.tlv_walk.specs.Place.{Fits, HasLength, IsEntry, IsOpen, Place, after, bound_in, is_indefinite}
+use Rattle.tlv_walk.specs.Machine.{found_in, Machine, bound_in}
+use Rattle.tlv_walk.specs.Place.{Fits, IsEntry, IsOpen, Place, after, is_indefinite}
+use Rattle.tlv_walk.proofs.Lengths.{HasLength}
 use Rattle.tlv_walk.specs.Stack.{IsFilled, IsInIndefinite, Within, bound_of, innermost_of}
 use Rattle.tlv_walk.specs.Tells.{Continues}
 use Rattle.tlv_walk.specs.State.{AreWhole, HasState, Layer, Tail, Between, InEnd, State, ending_of, events_layers, events_tail, frame_of, frames_of, place_in, place_of, spell_layers, spell_tail}

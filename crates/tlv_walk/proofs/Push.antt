@@ -11,7 +11,8 @@ use Rattle.tlv_head.proofs.Scan.{Origin, Scan, Fresh, High, Named, Long, Ready, 
 use Rattle.tlv_head.proofs.Meaning.{Reads, reads-step, reads-scan, front-from_more, front-bytes}
 use Rattle.tlv_walk.specs.Forest.{Forest, Stop, Fill, Whole, Closed, Partial, Entered, Awaiting, Begun, Zero, contents_length, end_octets, extent, is_whole, lead, opening, spell}
 use Rattle.tlv_walk.specs.Inside.{is_among}
-use Rattle.tlv_walk.specs.Place.{Fits, IsClosed, IsEntry, IsHeadAt, IsOpen, IsWhole, LacksOctets, Place, after, inside_of}
+use Rattle.tlv_walk.specs.Place.{Fits, IsClosed, IsEntry, IsHeadAt, IsOpen, IsWhole, Place, after, inside_of}
+use Rattle.tlv_walk.proofs.Lengths.{LacksOctets}
 use Rattle.tlv_walk.proofs.Bounds.{IsEndless, IsFull, fits, fits-inside, has_length, indefinite-endless, lead-zero, length-full, length-lacks, within-fits, within-le, within-outside}
 use Rattle.tlv_walk.proofs.Spellings.{append_assoc-3, append_assoc-4, length-closed, length-opening, length-whole}
 

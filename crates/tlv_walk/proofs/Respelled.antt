@@ -15,7 +15,8 @@ use Rattle.tlv_head.proofs.ShortestSpelling.{ShortIdentifier, ShortLength, short
 use Rattle.tlv_walk.specs.Alike.{AreAlike, HaveLowForms, holders, nothing, padding, primitives}
 use Rattle.tlv_walk.specs.Forest.{Forest, Stop, Fill, Whole, Closed, Partial, Entered, Awaiting, Begun, Zero, end_octets, extent, lead, opening, spell}
 use Rattle.tlv_walk.specs.Inside.{is_among}
-use Rattle.tlv_walk.specs.Place.{HasLength, Place, after, inside_of as place_inside, is_indefinite}
+use Rattle.tlv_walk.specs.Place.{Place, after, inside_of as place_inside, is_indefinite}
+use Rattle.tlv_walk.proofs.Lengths.{HasLength}
 use Rattle.tlv_walk.specs.Reading.{IsSound}
 use Rattle.tlv_walk.specs.Wrappers.{wrappers}
 use Rattle.tlv_walk.proofs.Alike.{AreRegular}
