@@ -1,5 +1,6 @@
 -- Identifier and length octets of an element: X.690 8.1.2 and 8.1.3.
-use Rattle.std.specs.Prelude.{◌≡◌, ◌≢◌, ◌⊎◌, ℕ, ◌+◌, ◌*◌, ◌^◌, ◌<◌, ◌≤◌, Bool, false, not, ◌&&◌, ◌||◌, eqb, if◌then◌else◌, List, [], ◌∷◌, ◌++◌, length, map, All}
+use Rattle.std.specs.Prelude.{◌≡◌, ◌≢◌, ◌⊎◌, ℕ, ◌+◌, ◌*◌, ◌^◌, ◌<◌, ◌≤◌, Bool, true, not, ◌&&◌, ◌||◌, eqb, if◌then◌else◌, List, [], ◌∷◌, ◌++◌, length, map, All, Option, Some, None}
+use Rattle.std.specs.Option.{is_some, unwrap_or}
 use Rattle.tlv_head.specs.declared.header.Class.{Class}
 use Rattle.tlv_head.specs.declared.header.Class.TheVariants.{Universal, Application, Context, Private}
 use Rattle.tlv_head.specs.declared.header.Size.{Size}
@@ -76,21 +77,25 @@ pub record Heading : Type 0 where
 abbrev pub octets_of : Heading → List ℕ
 octets_of h = h.identifier ++ h.lengths
 
--- 8.1.3.2 a): a primitive has a definite length
-abbrev pub AllowsSize : Bool → Size → Type 0
-AllowsSize false Indefinite = ⊥
-AllowsSize constructed size = Unit {0}
+-- 8.1.3.3: the length, where it is definite
+abbrev pub definite_length : Size → Option ℕ
+definite_length (Definite n) = Some n
+definite_length Indefinite = None
 
 -- 8.1.2, 8.1.3: the fields are those that the octets say
 pub record IsHeading (h : Heading) : Type 0 where
   pub identifier : IsIdentifier h.class h.constructed h.number h.identifier
   pub lengths : IsLength h.size h.lengths
-  pub allowed : AllowsSize h.constructed h.size
+  -- 8.1.3.2 a): a primitive has a definite length
+  pub allowed : (h.constructed || is_some (definite_length h.size)) ≡ true
+
+-- the same of a form and a size
+abbrev pub AllowsSize : Bool → Size → Type 0
+AllowsSize constructed size = (constructed || is_some (definite_length size)) ≡ true
 
 -- 8.1.3.3: how many contents octets are announced
 abbrev pub announced : Size → ℕ
-announced (Definite n) = n
-announced Indefinite = 0
+announced size = unwrap_or (definite_length size) 0
 
 -- 8.1.2.2 a): the class is universal
 abbrev pub is_universal : Class → Bool

@@ -1,7 +1,7 @@
 -- The contents of an element that holds others, by a definite length.
 use Rattle.std.specs.Prelude.{◌≡◌, ℕ, ◌<◌, IfSome}
 use Rattle.tlv_head.specs.declared.header.Size.{Size}
-use Rattle.tlv_walk.specs.Place.{definite_length}
+use Rattle.tlv_head.specs.Header.{definite_length}
 
 -- a definite length is that of the contents
 abbrev pub HasLength : Size → ℕ → Type 0

@@ -3,7 +3,7 @@ use Rattle.std.specs.Prelude.{◌≡◌, ◌≢◌, ◌⊎◌, ℕ, ◌+◌, ◌
 use Rattle.std.specs.Option.{option_map_or}
 use Rattle.tlv_head.specs.declared.fault.Fault.{Fault as FaultOf}
 use Rattle.tlv_head.specs.declared.fault.FaultCode.{FaultCode}
-use Rattle.tlv_head.specs.Header.{Heading, IsHeading, announced, holds, is_wrapper, octets_of}
+use Rattle.tlv_head.specs.Header.{Heading, IsHeading, announced, definite_length, holds, is_wrapper, octets_of}
 use Rattle.tlv_head.specs.Progress.{Progress}
 use Rattle.tlv_walk.specs.declared.event.Event.{Event}
 use Rattle.tlv_walk.specs.declared.event.Event.TheVariants as event
@@ -13,7 +13,6 @@ use Rattle.tlv_walk.specs.declared.event.Kind.{Kind}
 use Rattle.tlv_walk.specs.declared.event.Kind.TheVariants as kind
 use Rattle.tlv_head.specs.declared.header.HeaderFields.{HeaderFields}
 use Rattle.tlv_head.specs.declared.header.Size.{Size}
-use Rattle.tlv_walk.specs.Place.{definite_length}
 use Rattle.tlv_walk.specs.declared.framing.Framing.{Framing}
 use Rattle.tlv_walk.specs.declared.stack.Frame.{Frame}
 use Rattle.tlv_walk.specs.Phase.{Phase, Between, InHeader, InContents, BeforeUnused, InEnd, Failed}
