@@ -145,7 +145,7 @@ module _ (n : ℕ) (only : Bool) where
       let a = element_at n inside in
       let b = element_at n rest in
       either (h.offset == n) (Some (Closed h inside Stop)) (option_or a b) refl
-      (either_there a b (whole_at (inside_of p h) inside v.1 v.0.whole) (whole_at (after p (extent h inside)) rest v.2 w))
+      (either_there a b (whole_at (inside_of p h) inside v.1 v.0.1) (whole_at (after p (extent h inside)) rest v.2 w))
   whole_at p (Partial h c) v w = absurd (cc (w))
   whole_at p (Entered h inside) v w = absurd (cc (w))
   whole_at p (Awaiting h) v w = absurd (cc (w))
@@ -171,13 +171,13 @@ module _ (n : ℕ) (only : Bool) where
       let opened = opens_another h (events inside ++ closes h inside ∷ events rest) e in
       first_there (element_at n inside) (element_at n rest) t
       (λ e is.
-      let whole = there_whole (element_at n inside) e is (whole_at (inside_of p h) inside v.1 v.0.whole) in
+      let whole = there_whole (element_at n inside) e is (whole_at (inside_of p h) inside v.1 v.0.1) in
       let on = i.goes ∙ ap goes_of whole in
       let same = opened ∙ followed-enough extracted before (events inside) (closes h inside ∷ events rest) on in
       subst (IsCut (element_at n inside)) (sym same) i)
       (λ none.
       let same = opened ∙ then_more before before [] (events inside) (closes h inside ∷ events rest) (i.misses none)
-      ∙ then_more before before [] (closes h inside ∷ []) (events rest) (closes_told before h inside v.0.header.valid.allowed) in
+      ∙ then_more before before [] (closes h inside ∷ []) (events rest) (closes_told before h inside v.0.0.header.valid.allowed) in
       subst (IsCut (element_at n rest)) (sym same) r)
 
   -- what is made of the events of elements is the cut of them
@@ -196,10 +196,10 @@ module _ (n : ℕ) (only : Bool) where
       choose (h.offset == n) (Some (Closed h inside Stop)) (option_or (element_at n inside) (element_at n rest))
       (followed extracted before (events (Closed h inside rest)))
       (λ e.
-      let k = within n only (inside_of p h) 0 inside v.1 (omega arith) (omega (arith, v.0.depth)) in
-      let all = enough es (events rest) _ (closed_told h inside e v.0.header.valid.allowed v.0.whole k) in
+      let k = within n only (inside_of p h) 0 inside v.1 (omega arith) (omega (arith, (v.0.0.depth refl))) in
+      let all = enough es (events rest) _ (closed_told h inside e v.0.0.header.valid.allowed v.0.1 k) in
       whole_cut (Closed h inside Stop) _ _ refl (closed_octets h inside) (ap (followed extracted before) (closed_again h inside rest) ∙ all))
-      (λ e. passed_by p h inside rest v e (told (inside_of p h) inside v.1 (omega (arith, v.0.depth))) (told (after p (extent h inside)) rest v.2 deep))
+      (λ e. passed_by p h inside rest v e (told (inside_of p h) inside v.1 (omega (arith, (v.0.0.depth refl)))) (told (after p (extent h inside)) rest v.2 deep))
   told p (Partial h c) v deep =
       let es = Begin h ∷ Bytes c ∷ [] in
       choose (h.offset == n) (Some (Partial h c)) None (followed extracted before es)
@@ -211,13 +211,13 @@ module _ (n : ℕ) (only : Bool) where
   told p (Entered h inside) v deep =
       choose (h.offset == n) (Some (Entered h inside)) (element_at n inside) (followed extracted before (opens h ++ events inside))
       (λ e.
-      let k = within n only (inside_of p h) 0 inside v.1 (omega arith) (omega (arith, v.0.0.depth)) in
+      let k = within n only (inside_of p h) 0 inside v.1 (omega arith) (omega (arith, (v.0.0.depth refl))) in
       let all = then_more before (held n only 0) (unless only (octets_of h) ++ lead h) (opens h) (events inside) (opens_it h e) in
       open_cut (Entered h inside) _ refl
       (ap (λ (t : Following Extracting). t.put) all ∙ ap (λ (l : List ℕ). (unless only (octets_of h) ++ lead h) ++ l) k.put)
       (ap (λ (t : Following Extracting). t.goes) all ∙ k.goes)
       (ap (λ (t : Following Extracting). has_begun t.state.stand) all ∙ k.found))
-      (λ e. subst (IsCut (element_at n inside)) (sym (opens_another h (events inside) e)) (told (inside_of p h) inside v.1 (omega (arith, v.0.0.depth))))
+      (λ e. subst (IsCut (element_at n inside)) (sym (opens_another h (events inside) e)) (told (inside_of p h) inside v.1 (omega (arith, (v.0.0.depth refl)))))
   told p (Awaiting h) v deep =
       choose (h.offset == n) (Some (Awaiting h)) None (followed extracted before (Enter h ∷ []))
       (λ e.

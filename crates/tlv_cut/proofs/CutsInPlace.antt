@@ -37,7 +37,7 @@ keeps_front p (Closed h inside rest) plain v =
     let i = keeps_front (inside_of p h) inside refl v.1 in
     let e = end_octets h.size in
     behind_kept (Closed h inside rest) rest (opening h ++ (spell inside ++ e)) (sym (append_assoc-3 (opening h) (spell inside) e (spell rest)))
-    (ap (λ (k : List ℕ). opening h ++ (k ++ (e ++ kept rest))) (sym (i.all v.0.whole)) ∙ sym (append_assoc-3 (opening h) (spell inside) e (kept rest))) refl
+    (ap (λ (k : List ℕ). opening h ++ (k ++ (e ++ kept rest))) (sym (i.all v.0.1)) ∙ sym (append_assoc-3 (opening h) (spell inside) e (kept rest))) refl
     (keeps_front (after p (extent h inside)) rest plain v.2)
 keeps_front p (Partial h c) plain v = record { behind = []; octets = sym (append-nil (octets_of h ++ c)); all = λ w. refl }
 keeps_front p (Entered h inside) plain v =
@@ -128,8 +128,8 @@ module _ (n : ℕ) where
       let f = Whole h c rest in
       choose p f (h.offset == n) (Whole h c Stop) (element_at n rest) d
       (λ is.
-      first p false h f (Whole h c Stop) (spell rest) v.0.header is (sym (append_assoc-3 (octets_of h) c [] (spell rest)))
-      (ap (λ (l : List ℕ). octets_of h ++ l) (sym (ap (λ (l : List ℕ). (c ++ []) ++ l) (ap end_octets v.0.size) ∙ append-nil (c ++ [])))))
+      first p false h f (Whole h c Stop) (spell rest) v.0.0.header is (sym (append_assoc-3 (octets_of h) c [] (spell rest)))
+      (ap (λ (l : List ℕ). octets_of h ++ l) (sym (ap (λ (l : List ℕ). (c ++ []) ++ l) (ap end_octets v.0.1) ∙ append-nil (c ++ [])))))
       (λ _ some.
       in_rest p (after p _) f rest d (octets_of h ++ c) (sym (append_assoc (octets_of h) c (spell rest)))
       (omega (arith, length-append (octets_of h) c))
@@ -141,8 +141,8 @@ module _ (n : ℕ) where
       let i = keeps_front (inside_of p h) inside refl v.1 in
       choose p f (h.offset == n) (Closed h inside Stop) (option_or (element_at n inside) (element_at n rest)) d
       (λ is.
-      first p true h f (Closed h inside Stop) (spell rest) v.0.header is
-      (ap (λ (k : List ℕ). opening h ++ (k ++ (e ++ spell rest))) (i.all v.0.whole) ∙ sym (append_assoc-4 (opening h) (kept inside) e [] (spell rest)))
+      first p true h f (Closed h inside Stop) (spell rest) v.0.0.header is
+      (ap (λ (k : List ℕ). opening h ++ (k ++ (e ++ spell rest))) (i.all v.0.1) ∙ sym (append_assoc-4 (opening h) (kept inside) e [] (spell rest)))
       (closed_parts h inside))
       (λ _ some.
       first_there p f (element_at n inside) (element_at n rest) d
@@ -157,7 +157,7 @@ module _ (n : ℕ) where
   find p (Partial h c) v d some =
       choose p (Partial h c) (h.offset == n) (Partial h c) None d
       (λ is.
-      first p false h (Partial h c) (Partial h c) [] v.0 is (sym (append-nil (octets_of h ++ c)))
+      first p false h (Partial h c) (Partial h c) [] v.0.header is (sym (append-nil (octets_of h ++ c)))
       (ap (λ (l : List ℕ). octets_of h ++ l) (sym (append-nil c))))
       (λ _ some. none p (Partial h c) d some)
       some

@@ -1,12 +1,13 @@
 -- The same elements with indefinite lengths keep all rules.
+use Rattle.std.specs.Option.{option_map_or}
 use Rattle.std.proofs.Common.{refl, sym, ap, ◌∙◌, subst}
-use Rattle.std.specs.Prelude.{◌≡◌, ℕ, ◌+◌, ◌<◌, ◌≤◌, Bool, true, false, ◌||◌, eqb, if◌then◌else◌, List, [], ◌∷◌, ◌++◌, length, Option, None, IfSome}
+use Rattle.std.specs.Prelude.{◌≡◌, ℕ, ◌+◌, ◌<◌, ◌≤◌, Bool, true, false, ◌||◌, eqb, if◌then◌else◌, List, [], ◌∷◌, ◌++◌, length, Option, Some, None, IfSome}
 use Rattle.tlv_head.specs.declared.header.Size.{Size}
 use Rattle.tlv_head.specs.declared.header.Size.TheVariants.{Indefinite}
-use Rattle.tlv_head.specs.Header.{AllowsSize, Heading, announced, is_wrapper, octets_of}
+use Rattle.tlv_head.specs.Header.{AllowsSize, Heading, announced, definite_length, is_wrapper, octets_of}
 use Rattle.tlv_walk.specs.Forest.{Forest, Stop, Fill, Whole, Closed, Partial, Entered, Awaiting, Begun, Zero}
 use Rattle.tlv_walk.specs.Forest.{extent, has_element, is_whole, lead, opening, spell}
-use Rattle.tlv_walk.specs.Place.{Fits, IsHeadAt, IsOpen, Place, after, bound_in, inside_of}
+use Rattle.tlv_walk.specs.Place.{Fits, IsHeadAt, IsOpen, Place, after, inside_of}
 use Rattle.tlv_cut.specs.Indef.{indefinite, indefinite_heading}
 use Rattle.tlv_cut.specs.Placed.{placed}
 use Rattle.tlv_cut.proofs.IndefFolds.{lead_by}
@@ -81,7 +82,7 @@ free_inside p q h g e k = record {
   names = k.names;
   same_names = k.same_names;
   depth = ap (λ (d : ℕ). d + 1) k.depth;
-  bound = ap (λ (s : Size). bound_in s (q.at + length (octets_of g)) q.bound) e ∙ k.bound;
+  bound = ap (λ (s : Size). option_map_or (λ n. Some (q.at + length (octets_of g) + n)) (definite_length s) q.bound) e ∙ k.bound;
   padding = λ z. absurd (cc);
   definite = λ z. absurd (cc);
 }
@@ -103,7 +104,7 @@ constructed_head : (p q : Place) (h : Heading) → IsFree p q → IsHeadAt p tru
 constructed_head p q h k v =
     let constructed = constructed_at p h k.names v in
     record {
-      valid = record { identifier = v.valid.identifier; lengths = refl; allowed = subst (λ (c : Bool). AllowsSize c Indefinite) (sym constructed) tt };
+      valid = record { identifier = v.valid.identifier; lengths = refl; allowed = subst (λ (c : Bool). AllowsSize c Indefinite) (sym constructed) refl };
       offset = refl;
       named = v.named ∙ is_named p.at p.inside k.names ∙ sym (is_named q.at q.inside k.same_names);
       form = ap (λ (c : Bool). c || is_wrapper h.named h.class c h.number Indefinite) constructed;
@@ -138,33 +139,38 @@ is_open p q (Fill rest) k v = (
 )
 is_open p q (Whole h c rest) k v =
     let n = length (octets_of h) + length c in (
-      record { header = primitive_at p q h k v.0.header; size = v.0.size; fits = free_fits p q k n },
+      (record { header = primitive_at p q h k v.0.0.header; depth = λ e. absurd (cc (e)); fits = free_fits p q k n }, v.0.1),
       is_open (after p n) (after q n) rest (free_after p q n n k) v.1,
     )
 is_open p q (Closed h inside rest) k v =
     let head = heading_at q h in
     let at = q.at + length (opening head) in
     let n = extent head (indefinite inside) in
-    made_closed q h inside rest (constructed_at p h k.names v.0.header) (
-      record {
-        header = constructed_head p q h k v.0.header;
-        depth = subst (λ (d : ℕ). d < 128) (sym k.depth) v.0.depth;
-        whole = whole at inside v.0.whole;
-        filled = tt;
-        fits = free_fits p q k (extent head (placed at (indefinite inside)));
-      },
+    made_closed q h inside rest (constructed_at p h k.names v.0.0.header) (
+      (
+        record {
+          header = constructed_head p q h k v.0.0.header;
+          depth = λ _. subst (λ (d : ℕ). d < 128) (sym k.depth) (v.0.0.depth refl);
+          fits = free_fits p q k (extent head (placed at (indefinite inside)));
+        },
+        whole at inside v.0.1,
+        tt,
+      ),
       is_open (inside_of p h) (inside_of q head) inside (free_inside p q h head refl k) v.1,
       follows q h at (indefinite inside) (placed (q.at + n) (indefinite rest))
           (is_open (after p (extent h inside)) (after q n) rest (free_after p q (extent h inside) n k) v.2),
     )
-is_open p q (Partial h c) k v = (primitive_at p q h k v.0, v.1, free_fits p q k (length (octets_of h) + announced h.size))
+is_open p q (Partial h c) k v = (
+  record { header = primitive_at p q h k v.0.header; depth = λ e. absurd (cc (e)); fits = free_fits p q k (length (octets_of h) + announced h.size) },
+  v.1,
+)
 is_open p q (Entered h inside) k v =
     let head = heading_at q h in
     made_entered q h inside (constructed_at p h k.names v.0.0.header) (
       (
         record {
           header = constructed_head p q h k v.0.0.header;
-          depth = subst (λ (d : ℕ). d < 128) (sym k.depth) v.0.0.depth;
+          depth = λ _. subst (λ (d : ℕ). d < 128) (sym k.depth) (v.0.0.depth refl);
           fits = free_fits p q k (length (octets_of head) + 0);
         },
         λ w. tt,

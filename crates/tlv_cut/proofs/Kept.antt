@@ -60,7 +60,7 @@ closes_by : (k : Bool) (size : Size) (s : Extracting) (o : ℕ) → AllowsSize k
 closes_by true (Definite n) s o allowed = refl
 closes_by true Indefinite s o allowed = refl
 closes_by false (Definite n) s o allowed = refl
-closes_by false Indefinite s o allowed = absurd allowed
+closes_by false Indefinite s o allowed = absurd (cc (allowed))
 
 pub closes_told : (s : Extracting) (h : Heading) (inside : Forest) → AllowsSize h.constructed h.size
     → followed extracted s (closes h inside ∷ []) ≡ ended s.stand s (end_octets h.size)
@@ -133,9 +133,9 @@ module _ (n : ℕ) (only : Bool) where
       kept_behind level (Begin h ∷ Bytes c ∷ End ∷ []) (octets_of h ++ c) (Whole h c rest) rest (whole_kept level h c (omega (arith, low, deep))) refl
       (append_assoc (octets_of h) c (kept rest)) refl (within (after p _) level rest v.1 low deep)
   within p level (Closed h inside rest) v low deep =
-      let i : IsKept (suc level) inside = within (inside_of p h) (suc level) inside v.1 (omega (arith, low)) (omega (arith, v.0.depth)) in
+      let i : IsKept (suc level) inside = within (inside_of p h) (suc level) inside v.1 (omega (arith, low)) (omega (arith, (v.0.0.depth refl))) in
       kept_behind level (opens h ++ (events inside ++ closes h inside ∷ [])) (opening h ++ (kept inside ++ end_octets h.size)) (Closed h inside rest) rest
-      (closed_kept level h inside (omega (arith, low, deep)) v.0.header.valid.allowed v.0.whole i) (closed_again h inside rest)
+      (closed_kept level h inside (omega (arith, low, deep)) v.0.0.header.valid.allowed v.0.1 i) (closed_again h inside rest)
       (append_assoc (opening h) (kept inside ++ end_octets h.size) (kept rest)
       ∙ ap (λ (l : List ℕ). opening h ++ l) (append_assoc (kept inside) (end_octets h.size) (kept rest))) refl
       (within (after p (extent h inside)) level rest v.2 low deep)
@@ -148,7 +148,7 @@ module _ (n : ℕ) (only : Bool) where
         stays = λ w. absurd (cc (w));
       }
   within p level (Entered h inside) v low deep =
-      let i : IsKept (suc level) inside = within (inside_of p h) (suc level) inside v.1 (omega (arith, low)) (omega (arith, v.0.0.depth)) in
+      let i : IsKept (suc level) inside = within (inside_of p h) (suc level) inside v.1 (omega (arith, low)) (omega (arith, (v.0.0.depth refl))) in
       let all = then_more (held level) (held (suc level)) (opening h) (opens h) (events inside)
       (opens_told (held level) (held (suc level)) (octets_of h) h (one_more level h (omega (arith, low, deep)))) in
       record {

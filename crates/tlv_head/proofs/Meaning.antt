@@ -81,12 +81,12 @@ reads-high at x c k ds o h s = ⊎_elim
     (cases_lt x 128)
 
 pub allows_definite : (k : Bool) (n : ℕ) → AllowsSize k (Definite n)
-allows_definite true n = tt
-allows_definite false n = tt
+allows_definite true n = refl
+allows_definite false n = refl
 
 reads-indefinite : (at : Origin) (x : ℕ) (c : Class) (k : Bool) (n : ℕ) (i : List ℕ) → IsIdentifier c k n i → x ≡ 128
     → Reads at (cond k (Ready (head_of at c k n i Indefinite (x ∷ []))) (Stuck IndefinitePrimitive)) (i ++ x ∷ [])
-reads-indefinite at x c true n i id e = (record { identifier = id; lengths = rw e; allowed = tt }, refl, refl)
+reads-indefinite at x c true n i id e = (record { identifier = id; lengths = rw e; allowed = refl }, refl, refl)
 reads-indefinite at x c false n i id e = tt
 
 reads-named : (at : Origin) (x : ℕ) (c : Class) (k : Bool) (n : ℕ) (i : List ℕ) → x < 256 → IsIdentifier c k n i → Reads at (step at (Named c k n i) x) (i ++ x ∷ [])
@@ -161,7 +161,7 @@ reads-long at x c k n i m ds o h s = ⊎_elim
     rw (good, le-ltb (length ds + 1) m last) (
       record {
         identifier = s.identifier;
-        allowed = allows_definite k _;
+        allowed = allows_definite k 0;
         lengths = inr (record { digits = ds ++ x ∷ []; each = All-push (λ d. d < 256) ds x s.each h; some = omega arith; few = omega (arith, s.few); value = refl; limit = omega arith; octet = rw is });
       },
       rw (s.octets, append_assoc i ((128 + m) ∷ ds) (x ∷ [])),
@@ -210,7 +210,7 @@ long-front c k n i m ds o some s =
       proper = λ z. omega (arith, ap length z, length-replicate {A = ℕ} (m - length ds) 0, s.short);
       valid = record {
         identifier = s.identifier;
-        allowed = allows_definite k _;
+        allowed = allows_definite k 0;
         lengths = inr (record {
           digits = ds ++ replicate (m - length ds) 0;
           each = All-append (λ d. d < 256) ds _ s.each (All-replicate (λ d. d < 256) (m - length ds) 0 (omega arith));

@@ -113,15 +113,15 @@ first class constructed number size identifier lengths = record {
 
 -- 1f 02 01: an INTEGER of one contents octet
 high-integer_header : IsHeading (first Universal false 2 (Definite 1) (0x1f ∷ 0x02 ∷ []) (0x01 ∷ []))
-high-integer_header = record { identifier = high-integer; lengths = inl (lit< tt, refl); allowed = tt }
+high-integer_header = record { identifier = high-integer; lengths = inl (lit< tt, refl); allowed = refl }
 
 -- 04 82 00 80: an OCTET STRING of 128 contents octets
 octet-string_header : IsHeading (first Universal false 4 (Definite 128) (0x04 ∷ []) (0x82 ∷ 0x00 ∷ 0x80 ∷ []))
-octet-string_header = record { identifier = octet-string; lengths = padded-128; allowed = tt }
+octet-string_header = record { identifier = octet-string; lengths = padded-128; allowed = refl }
 
 -- 30 80: a SEQUENCE up to the end-of-contents octets
 sequence-header : IsHeading (first Universal true 16 Indefinite (0x30 ∷ []) (0x80 ∷ []))
-sequence-header = record { identifier = sequence; lengths = refl; allowed = tt }
+sequence-header = record { identifier = sequence; lengths = refl; allowed = refl }
 
 -- 9f 81, seven 80, 00, fe, 125 octets 00 and 01: one contents octet, announced by the longest header there is
 abbrev longest : Heading
@@ -139,7 +139,7 @@ longest-header = record {
     limit = lit< tt;
     octet = refl;
   });
-  allowed = tt;
+  allowed = refl;
 }
 
 longest-137 : length (octets_of longest) ≡ 137
@@ -183,7 +183,7 @@ front-length = record {
       limit = lit< tt;
       octet = refl;
     });
-    allowed = tt;
+    allowed = refl;
   };
   proper = λ e. cc;
   front = refl;

@@ -184,7 +184,7 @@ scan-length at c k n i (Definite a) l (inr long) allowed =
     let limit : value_of 256 long.digits < 2 ^ 40 = omega (arith, long.limit, long.value) in
     rw (long.octet, long.value) (scan-digits at c k n i long.digits long.some long.few limit)
 scan-length at c true n i Indefinite l e allowed = rw e
-scan-length at c false n i Indefinite l e allowed = absurd allowed
+scan-length at c false n i Indefinite l e allowed = absurd (cc (allowed))
 
 -- the octets of each header lead to it
 pub scan-header : (h : Heading) → IsHeading h → scan (origin_of h) (octets_of h) ≡ Ready h

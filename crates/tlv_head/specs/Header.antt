@@ -1,5 +1,6 @@
 -- Identifier and length octets of an element: X.690 8.1.2 and 8.1.3.
-use Rattle.std.specs.Prelude.{◌≡◌, ◌≢◌, ◌⊎◌, ℕ, ◌+◌, ◌*◌, ◌^◌, ◌<◌, ◌≤◌, Bool, false, not, ◌&&◌, ◌||◌, eqb, if◌then◌else◌, List, [], ◌∷◌, ◌++◌, length, map, All}
+use Rattle.std.specs.Prelude.{◌≡◌, ◌≢◌, ◌⊎◌, ℕ, ◌+◌, ◌*◌, ◌^◌, ◌<◌, ◌≤◌, Bool, true, not, ◌&&◌, ◌||◌, eqb, if◌then◌else◌, List, [], ◌∷◌, ◌++◌, length, map, All, Option, Some, None}
+use Rattle.std.specs.Option.{is_some, unwrap_or}
 use Rattle.tlv_head.specs.declared.header.Class.{Class}
 use Rattle.tlv_head.specs.declared.header.Class.TheVariants.{Universal, Application, Context, Private}
 use Rattle.tlv_head.specs.declared.header.Size.{Size}
@@ -39,12 +40,11 @@ pub record IsHighForm (class : Class) (constructed : Bool) (number : ℕ) (octet
   pub last_digit : last < 128
   pub few : length digits ≤ 8
   pub value : number ≡ value_of 128 (digits ++ last ∷ [])
-  pub octet : octets ≡ leading_octet class constructed 31 ∷ (flagged digits ++ last ∷ [])
+  pub octet : octets ≡ leading_octet class constructed 31 ∷ (map (λ d. 128 + d) digits ++ last ∷ [])
 
 -- 8.1.2: identifier octets
 abbrev pub IsIdentifier : Class → Bool → ℕ → List ℕ → Type 0
-IsIdentifier class constructed number octets =
-    IsLowForm class constructed number octets ⊎ IsHighForm class constructed number octets
+IsIdentifier class constructed number octets = IsLowForm class constructed number octets ⊎ IsHighForm class constructed number octets
 
 -- 8.1.3.5: the number of octets that follow, 1 to 126, and the length in base 256, here below 2^40
 pub record IsLongForm (n : ℕ) (octets : List ℕ) : Type 0 where
@@ -77,21 +77,25 @@ pub record Heading : Type 0 where
 abbrev pub octets_of : Heading → List ℕ
 octets_of h = h.identifier ++ h.lengths
 
--- 8.1.3.2 a): a primitive has a definite length
-abbrev pub AllowsSize : Bool → Size → Type 0
-AllowsSize false Indefinite = ⊥
-AllowsSize constructed size = Unit {0}
+-- 8.1.3.3: the length, where it is definite
+abbrev pub definite_length : Size → Option ℕ
+definite_length (Definite n) = Some n
+definite_length Indefinite = None
 
 -- 8.1.2, 8.1.3: the fields are those that the octets say
 pub record IsHeading (h : Heading) : Type 0 where
   pub identifier : IsIdentifier h.class h.constructed h.number h.identifier
   pub lengths : IsLength h.size h.lengths
-  pub allowed : AllowsSize h.constructed h.size
+  -- 8.1.3.2 a): a primitive has a definite length
+  pub allowed : (h.constructed || is_some (definite_length h.size)) ≡ true
+
+-- the same of a form and a size
+abbrev pub AllowsSize : Bool → Size → Type 0
+AllowsSize constructed size = (constructed || is_some (definite_length size)) ≡ true
 
 -- 8.1.3.3: how many contents octets are announced
 abbrev pub announced : Size → ℕ
-announced (Definite n) = n
-announced Indefinite = 0
+announced size = unwrap_or (definite_length size) 0
 
 -- 8.1.2.2 a): the class is universal
 abbrev pub is_universal : Class → Bool
@@ -99,12 +103,21 @@ is_universal class = eqb (class_bits class) 0
 
 -- 8.6.2, 8.7.2: a named primitive that is an OCTET STRING, or a BIT STRING of one or more contents octets:
 -- its contents are to be read as encodings
-abbrev pub is_wrapper : Bool → Class → Bool → ℕ → Size → Bool
-is_wrapper named class constructed number size =
-    named && not constructed && is_universal class && (eqb number 4 || (eqb number 3 && not (eqb (announced size) 0)))
-
 abbrev pub wraps : Heading → Bool
-wraps h = is_wrapper h.named h.class h.constructed h.number h.size
+wraps h = h.named && not h.constructed && is_universal h.class && (eqb h.number 4 || (eqb h.number 3 && not (eqb (announced h.size) 0)))
+
+-- the same of the header with these fields, whatever the others are
+abbrev pub is_wrapper : Bool → Class → Bool → ℕ → Size → Bool
+is_wrapper named class constructed number size = wraps (record {
+  offset = 0;
+  named = named;
+  class = class;
+  constructed = constructed;
+  number = number;
+  size = size;
+  identifier = [];
+  lengths = [];
+})
 
 -- 8.1.2.5: the contents are encodings: the element is constructed, or wraps them
 abbrev pub holds : Heading → Bool

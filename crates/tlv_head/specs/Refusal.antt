@@ -1,9 +1,9 @@
 -- The front of a header, and the octets that no header has behind it: X.690 8.1.2 and 8.1.3.
-use Rattle.std.specs.Prelude.{◌≡◌, ◌≢◌, ℕ, ◌+◌, ◌<◌, ◌≤◌, Bool, false, List, [], ◌∷◌, ◌++◌, length, All}
+use Rattle.std.specs.Prelude.{◌≡◌, ◌≢◌, ℕ, ◌+◌, ◌<◌, ◌≤◌, Bool, false, List, [], ◌∷◌, ◌++◌, length, map, All}
 use Rattle.tlv_head.specs.declared.header.Class.{Class}
 use Rattle.tlv_head.specs.declared.fault.FaultCode.{FaultCode}
 use Rattle.tlv_head.specs.declared.fault.FaultCode.TheVariants.{TagTooLong, ReservedLength, IndefinitePrimitive, LengthTooLarge}
-use Rattle.tlv_head.specs.Header.{Heading, IsHeading, IsIdentifier, flagged, leading_octet, octets_of}
+use Rattle.tlv_head.specs.Header.{Heading, IsHeading, IsIdentifier, leading_octet, octets_of}
 
 -- 8.1.2, 8.1.3: octets to which one or more others can be added to make a header
 pub record IsFront (octets : List ℕ) : Type 0 where
@@ -33,7 +33,7 @@ BeginsWithNone octets = (h : Heading) (rest : List ℕ) → IsHeading h → octe
 pub data IsRefusedOctet (octets : List ℕ) (x : ℕ) : FaultCode → Type 0 where
   -- F06, 8.1.2.4.2: a ninth subsequent identifier octet with bit 8 set
   tag_too_long : (class : Class) (constructed : Bool) (digits : List ℕ) → All (λ d. d < 128) digits → length digits ≡ 8
-      → octets ≡ leading_octet class constructed 31 ∷ flagged digits → 128 ≤ x → IsRefusedOctet octets x TagTooLong
+      → octets ≡ leading_octet class constructed 31 ∷ map (λ d. 128 + d) digits → 128 ≤ x → IsRefusedOctet octets x TagTooLong
   -- F07, 8.1.3.5 c): a first length octet ff
   reserved_length : (class : Class) (constructed : Bool) (number : ℕ) → IsIdentifier class constructed number octets → x ≡ 255
       → IsRefusedOctet octets x ReservedLength

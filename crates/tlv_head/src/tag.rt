@@ -1,7 +1,8 @@
 //! The texts of tags.
-ghost use Rattle.std.specs.Prelude.{◌≡◌, ◌≤◌, IfSome, length};
+ghost use Rattle.std.specs.Prelude.{◌≡◌, ◌≤◌, IfSome, eqb, length};
+ghost use Rattle.std.specs.Map.{lookup};
 ghost use Rattle.std.specs.Option.{option_copied};
-ghost use Rattle.tlv_head.specs.Tag.{tag_text_of, universal_name};
+ghost use Rattle.tlv_head.specs.Tag.{tag_text_of, universal_names};
 
 use crate::Class;
 use arrayvec::ArrayVec;
@@ -10,7 +11,7 @@ use itoa::Buffer;
 /// The name of a universal type (X.680, table 1), in ASCII, as `INTEGER`: at most 17 octets. `None` where the number is
 /// not that of a type.
 pub fn type_name(number: u64) -> Option<&'static [u8]>
-    ensures name { option_copied result ≡ universal_name number }
+    ensures name { option_copied result ≡ lookup (eqb number) universal_names }
     ensures short { IfSome result (λ name. length name.now ≤ 17) }
 {
     Some(match number {

@@ -153,7 +153,7 @@ module _ (rules : Rules) where
       let inner : List Item = findings_at s.level h.offset (contents_findings rules h c) ++ items rules (behind s h c) rest in
       let b = few-at s.level h.offset (contents_findings rules h c) (items rules (behind s h c) rest) 15 _ (few-contents h c) r in
       let a = few-at s.level h.offset (header_findings rules s h) (WholePrimitive s.level h c ∷ inner) 14 _ (few-header s h) b in
-      omega (arith, a, header-length h v.0.header.valid, length-whole h c rest)
+      omega (arith, a, header-length h v.0.0.header.valid, length-whole h c rest)
   few p s (Closed h inside rest) v =
       let i = few (place_inside p h) (inside_of s h) inside v.1 in
       let r = few (after p (extent h inside)) (behind_holder s h inside) rest v.2 in
@@ -161,13 +161,13 @@ module _ (rules : Rules) where
       let b = few-at s.level h.offset (end_findings rules h (heads inside)) (items rules (behind_holder s h inside) rest) 2 _ (few-end h inside) r in
       let m = few-both (items rules (inside_of s h) inside) (ClosingLine s.level (end_place h inside) ∷ last) _ _ i b in
       let a = few-at s.level h.offset (header_findings rules s h) (OpeningLine s.level h ∷ (items rules (inside_of s h) inside ++ ClosingLine s.level (end_place h inside) ∷ last)) 14 _ (few-header s h) m in
-      omega (arith, a, header-length h v.0.header.valid, length-closed h inside rest, length-opening h)
+      omega (arith, a, header-length h v.0.0.header.valid, length-closed h inside rest, length-opening h)
     where
       few-both : (xs ys : List Item) (n m : ℕ) → length (only xs) ≤ n → length (only ys) ≤ m → length (only (xs ++ ys)) ≤ n + m
       few-both xs ys n m e f = omega (arith, e, f, ap length (filter-append is_finding xs ys), length-append (only xs) (only ys))
   few p s (Partial h c) v =
       let a = few-at s.level h.offset (header_findings rules s h) (OpenPrimitive s.level h c ∷ []) 14 0 (few-header s h) (omega arith) in
-      omega (arith, a, header-length h v.0.valid, length-append (octets_of h) c)
+      omega (arith, a, header-length h v.0.header.valid, length-append (octets_of h) c)
   few p s (Entered h inside) v =
       let i = few (place_inside p h) (inside_of s h) inside v.1 in
       let a = few-at s.level h.offset (header_findings rules s h) (OpeningLine s.level h ∷ items rules (inside_of s h) inside) 14 _ (few-header s h) i in

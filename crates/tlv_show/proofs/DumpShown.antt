@@ -235,14 +235,14 @@ module _ (style : Layout) (names : Table) (rules : Rules) where
   told p holder before w outer (Whole h c rest) v b k =
       let s : Site = site p holder before in
       let q : Place = after p (length (octets_of h) + length c) in
-      let size : announced h.size ≡ length c = ap announced v.0.size in
-      let form : h.constructed ≡ false = not-constructed h.constructed (wraps h) v.0.header.form in
+      let size : announced h.size ≡ length c = ap announced v.0.1 in
+      let form : h.constructed ≡ false = not-constructed h.constructed (wraps h) v.0.0.header.form in
       let u : Bool = has_unused (checked (unchecked h) c) in
       let known : Knows (behind_primitive rules w h c) (behind s h c) =
       subst (λ (x : Bool). Knows (noted w x (announced h.size) u) (behind s h c)) (ap not form) (knows-behind w s (behind s h c) h (first_octet c) u k.0 refl refl (unused-of h c form)) in
       let t = told q holder (Sibling h (first_octet c)) (behind_primitive rules w h c) outer rest v.1 (omega (arith, b, length-whole h c rest)) (known, k.1, k.2) in
       let all = λ (n : ℕ). behind-shown p q (is_padding before) w outer n (behind_contents rules w h c n) (behind_primitive rules w h c) holder (Sibling h (first_octet c)) (Begin h ∷ Bytes c ∷ End ∷ []) _ rest refl
-      (primitive-shown p (is_padding before) w outer n h c v.0.header.offset size (omega (arith, b, length-whole h c rest))) t in
+      (primitive-shown p (is_padding before) w outer n h c v.0.0.header.offset size (omega (arith, b, length-whole h c rest))) t in
       let others : List Item = items rules (behind s h c) rest in
       record {
         text = λ n.
@@ -279,13 +279,13 @@ module _ (style : Layout) (names : Table) (rules : Rules) where
       λ m.
       closes-by (lines_at style names (p.depth + 1) end false) (standing rules (noted_all (frame_of h) inside) (w ∷ outer) m) (end_offset h.size (h.offset + length (opening h) + length (spell inside))) h.constructed
       ∙ ap₂ (λ (d : Following Dumping) (f : Finds). shows (pair d.state f.state) (d.put ++ texts style f))
-      (closer_told style names p.depth end h inside (omega (arith, v.0.header.offset)) v.0.header.valid.allowed (omega (arith, b, size)))
-      (closed-find rules i_place w outer m h inside v.1 v.0.whole)
+      (closer_told style names p.depth end h inside (omega (arith, v.0.0.header.offset)) v.0.0.header.valid.allowed (omega (arith, b, size)))
+      (closed-find rules i_place w outer m h inside v.1 v.0.1)
       ∙ ap (λ (at : ℕ). shows (pair (lines_at style names p.depth at false) (standing rules (noted w (is_primitive h) (announced h.size) false) outer (behind_end rules h inside m))) (close ++ last)) (omega arith) in
       let held-shown : (m : ℕ) → (r : ℕ) × (followed dump_step (start i_place false (frame_of h) (w ∷ outer) m) (events inside)
       ≡ shows (pair (lines_at style names (p.depth + 1) end false) (standing rules (noted_all (frame_of h) inside) (w ∷ outer) r)) held) =
       λ m.
-      let r = i.stands m v.0.whole in (
+      let r = i.stands m v.0.1 in (
         r.0,
         as_shows (start i_place false (frame_of h) (w ∷ outer) m) _ (events inside) held
             (r.1 ∙ ap (λ (x : Bool). pair (lines_at style names (p.depth + 1) end x) (standing rules (noted_all (frame_of h) inside) (w ∷ outer) r.0)) (no_padding style names i_place inside refl v.1)) (i.text m),
@@ -297,7 +297,7 @@ module _ (style : Layout) (names : Table) (rules : Rules) where
       let r = held-shown a in (
         behind_end rules h inside r.0,
         then_shown (start p (is_padding before) w outer n) (start i_place false (frame_of h) (w ∷ outer) a) (first ++ line) (opens h) (events inside ++ closes h inside ∷ [])
-            (opened-shown p holder before w outer n h k v.0.header.offset v.0.depth (omega (arith, b, size)))
+            (opened-shown p holder before w outer n h k v.0.0.header.offset (v.0.0.depth refl) (omega (arith, b, size)))
             ∙ ap (λ (x : Following Showing). record x { put = (first ++ line) ++ x.put })
             (then_shown (start i_place false (frame_of h) (w ∷ outer) a) (pair (lines_at style names (p.depth + 1) end false) (standing rules (noted_all (frame_of h) inside) (w ∷ outer) r.0)) held (events inside) (closes h inside ∷ []) r.1
             ∙ ap (λ (x : Following Showing). record x { put = held ++ x.put }) (closes-shown r.0)),
@@ -349,7 +349,7 @@ module _ (style : Layout) (names : Table) (rules : Rules) where
         text = λ n.
             ap (λ (x : Following Showing). x.put)
             (then_shown (start p (is_padding before) w outer n) (start (place_inside p h) false (frame_of h) (w ∷ outer) (behind_header rules w h n)) (first ++ line) (opens h) (events inside)
-            (opened-shown p holder before w outer n h k v.0.0.header.offset v.0.0.depth (omega (arith, b, size))))
+            (opened-shown p holder before w outer n h k v.0.0.header.offset (v.0.0.depth refl) (omega (arith, b, size))))
             ∙ ap (λ (l : List ℕ). (first ++ line) ++ l) (i.text (behind_header rules w h n))
             ∙ append_assoc first line (texts_of (items rules (inside_of s h) inside))
             ∙ found-first (length outer) p.depth h.offset (header_notes rules w h) (header_findings rules s h) _ (OpeningLine p.depth h ∷ items rules (inside_of s h) inside) k.1 (header-same rules w s h k.0) refl;

@@ -141,7 +141,7 @@ module _ (style : Layout) (names : Table) where
       (append-nil (close_line (at_level (level + 1 - 1)) (Some o)) ∙ ap (λ (l : ℕ). close_line (at_level l) (Some o)) (omega arith))
   closer_by level o false (Definite n) allowed far_enough =
       settled (level + 1 - 1) level o (o + 0) false false _ (close_line (at_level level) None) (omega arith) (omega arith) refl (append-nil (close_line (at_level (level + 1 - 1)) None) ∙ ap (λ (l : ℕ). close_line (at_level l) None) (omega arith))
-  closer_by level o false Indefinite allowed far_enough = absurd allowed
+  closer_by level o false Indefinite allowed far_enough = absurd (cc (allowed))
 
   pub closer_told : (level o : ℕ) (h : Heading) (inside : Forest) → h.offset + length (opening h) + length (spell inside) ≡ o → AllowsSize h.constructed h.size → o + length (end_octets h.size) ≤ 2 ^ 64 - 1
       → followed dumped (standing (level + 1) o false) (closes h inside ∷ []) ≡ puts (standing level (o + length (end_octets h.size)) false) (close_line (at_level level) (end_place h inside))

@@ -204,7 +204,7 @@ sums-up p w n (Fill rest) v e o =
     record { segments = r.segments; bits = r.bits; all = r.all; octets = r.octets; empty = r.empty }
 sums-up p w n (Whole h c rest) v e o =
     let d : ℕ = announced h.size - bit_of w.has_bits in
-    let k : is_primitive h ≡ true = ap not (not-constructed h.constructed (wraps h) v.0.header.form) in
+    let k : is_primitive h ≡ true = ap not (not-constructed h.constructed (wraps h) v.0.0.header.form) in
     let u : Bool = has_unused (checked (unchecked h) c) in
     let r = sums-up (after p (length (octets_of h) + length c)) (segment_noted w true (announced h.size) u) (n + d) rest v.1 e (more-octets w.octets n d o) in
     record {

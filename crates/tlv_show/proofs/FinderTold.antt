@@ -208,8 +208,8 @@ module _ (rules : Rules) where
       let r = told (after p 1) (behind_padding s) w outer rest v.1 (knows-padding w s k (free v.0.0)) l d free in
       record { put = λ n. r.put n ∙ sym (only-pads (is_padding s.before) s.level s.at (items rules (behind_padding s) rest)); stands = r.stands }
   told p s w outer (Whole h c rest) v k l d free =
-      let size : length c ≡ announced h.size = sym (ap announced v.0.size) in
-      let form : h.constructed ≡ false = not-constructed h.constructed (wraps h) v.0.header.form in
+      let size : length c ≡ announced h.size = sym (ap announced v.0.1) in
+      let form : h.constructed ≡ false = not-constructed h.constructed (wraps h) v.0.0.header.form in
       let u : Bool = has_unused (checked (unchecked h) c) in
       let known : Knows (behind_primitive w h c) (behind s h c) =
       subst (λ (b : Bool). Knows (noted w b (announced h.size) u) (behind s h c)) (ap not form) (knows-behind w s (behind s h c) h (first_octet c) u k refl refl (unused-of h c form)) in
@@ -227,21 +227,21 @@ module _ (rules : Rules) where
       let i = told (place_inside p h) (inside_of s h) (frame_of h) (w ∷ outer) inside v.1 (knows-inside s h) (omega (arith, l)) (omega (arith, d)) (λ e. absurd (cc (e))) in
       let r = told (after p (extent h inside)) (behind_holder s h inside) (noted w (is_primitive h) (announced h.size) false) outer rest v.2
       (knows-behind w s (behind_holder s h inside) h None false k refl refl refl) l d free in
-      let few : length outer < 128 = omega (arith, l, d, v.0.depth) in
+      let few : length outer < 128 = omega (arith, l, d, (v.0.0.depth refl)) in
       let es : List Told = closes h inside ∷ events rest in
       let all : (n : ℕ) → (m : ℕ) × (run (standing w outer n) (events (Closed h inside rest))
       ≡ then_told (findings_at (length outer) h.offset (header_notes rules w h)) (then_told (only (items rules (inside_of s h) inside))
       (then_told (findings_at (length outer) h.offset (end_findings rules h (heads inside))) (run (standing (noted w (is_primitive h) (announced h.size) false) outer m) (events rest))))) =
       λ n.
       let a : ℕ = behind_header w h n in
-      let t = i.stands a v.0.whole in
+      let t = i.stands a v.0.1 in
       let put : List Item = findings_at (length outer) h.offset (header_notes rules w h) in (
         behind_end h inside t.0,
         opened w outer n h (events inside ++ es) few
             ∙ ap (then_told put)
             (run-more (standing (frame_of h) (w ∷ outer) a) (events inside) es
             ∙ ap₂ (λ (l : List Item) (x : FinderState). then_told l (run x es)) (i.put a) t.1
-            ∙ ap (then_told (only (items rules (inside_of s h) inside))) (closed (place_inside p h) w outer t.0 h inside (events rest) v.1 v.0.whole)),
+            ∙ ap (then_told (only (items rules (inside_of s h) inside))) (closed (place_inside p h) w outer t.0 h inside (events rest) v.1 v.0.1)),
       ) in
       let last : List Item = ClosingLine s.level (end_place h inside) ∷ (findings_at s.level h.offset (end_findings rules h (heads inside)) ++ items rules (behind_holder s h inside) rest) in
       record {
@@ -263,7 +263,7 @@ module _ (rules : Rules) where
   }
   told p s w outer (Entered h inside) v k l d free =
       let i = told (place_inside p h) (inside_of s h) (frame_of h) (w ∷ outer) inside v.1 (knows-inside s h) (omega (arith, l)) (omega (arith, d)) (λ e. absurd (cc (e))) in
-      let few : length outer < 128 = omega (arith, l, d, v.0.0.depth) in
+      let few : length outer < 128 = omega (arith, l, d, v.0.0.depth refl) in
       record {
         put = λ n.
             ap (λ (t : Step). t.put) (opened w outer n h (events inside) few)

@@ -84,7 +84,7 @@ by-form : (constructed : Bool) (size : Size) → AllowsSize constructed size →
 by-form true (Definite n) a e = absurd (cc (e))
 by-form true Indefinite a e = refl
 by-form false (Definite n) a e = refl
-by-form false Indefinite a e = absurd a
+by-form false Indefinite a e = absurd (cc (a))
 
 regular : (rules : Rules) (s : Site) (h : Heading) → rules ≢ Ber → IsHeading h → list_any tells_of_spelling (on_header rules s h) ≡ false
     → IsRegular (form_by rules) h

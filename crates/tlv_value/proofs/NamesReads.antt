@@ -5,7 +5,7 @@ use Rattle.std.specs.Io.KnownBytes.{Consumes, Keeps}
 use Rattle.std.proofs.lemmas.List.{length-take-le}
 use Rattle.tlv_walk.specs.declared.source.ReadFault.{ReadFault}
 use Rattle.std.specs.List.{concat}
-use Rattle.tlv_walk.specs.Device.{GaveLast, Last, Pieces, ReadsOnce, Supply, counted, gave, given_in}
+use Rattle.tlv_walk.specs.Device.{Pieces, ReadsOnce, Supply, counted, gave, given_in}
 use Rattle.tlv_walk.proofs.Pieces.{Gathered, gathered_more, pieces_all, together_more}
 use Rattle.tlv_value.specs.declared.names.fault.NamesFault.{NamesFault}
 use Rattle.tlv_value.specs.declared.names.fault.NamesFault.TheVariants.{BadOid, BadName, Repeated, TooLarge, ReadFailed, Memory}
@@ -23,7 +23,7 @@ module _ (old mid new : Supply) (octets : List ℕ) (x : Given old mid octets) (
   -- a read that failed
   pub gives_failed : {Z : Type 0} → (e : ReadFault) → ReadsOnce mid new (Err e) piece → Gives {Z = Z} old new (Err ReadFailed)
   gives_failed e r = record {
-    pieces = pieces_all old mid new x.gathered [] (consumes_kept mid.left new.left r.octets) r.reads (subst (λ (l : Last). GaveLast l []) (sym r.last) refl) (omega arith);
+    pieces = pieces_all old mid new x.gathered [] (consumes_kept mid.left new.left r.octets) r.reads (inr (r.last, refl)) (omega arith);
     gives = (r.last, subst (λ (l : List ℕ). length l ≤ 1048576) (sym (append-nil (concat x.gathered.pieces) ∙ x.are)) most);
     failures = r.failures ∙ ap counted failures;
   }
@@ -45,7 +45,7 @@ module _ (old mid new : Supply) (octets : List ℕ) (x : Given old mid octets) (
 
     -- and these are all
     abbrev pub pieces_so : Pieces old new
-    pieces_so = pieces_all old mid new x.gathered (take n piece) r.octets.0 r.reads (subst (λ (l : Last). GaveLast l (take n piece)) (sym r.last) (sym r_length)) few
+    pieces_so = pieces_all old mid new x.gathered (take n piece) r.octets.0 r.reads (inl (r.last ∙ ap gave (sym r_length))) few
 
     length_all : length (concat x.gathered.pieces ++ take n piece) ≡ length octets + n
     length_all = ap length all_are ∙ length-append octets (take n piece) ∙ ap (λ (k : ℕ). length octets + k) r_length

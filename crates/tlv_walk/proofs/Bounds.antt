@@ -8,7 +8,9 @@ use Rattle.tlv_head.specs.declared.header.Size.TheVariants.{Definite, Indefinite
 use Rattle.tlv_head.specs.Header.{Heading, announced, holds, is_wrapper, octets_of}
 use Rattle.tlv_walk.specs.Forest.{end_octets, lead}
 use Rattle.tlv_walk.proofs.Spellings.{length-opening}
-use Rattle.tlv_walk.specs.Place.{Fits, HasLength, LacksOctets, Place, bound_in, inside_of, is_indefinite}
+use Rattle.tlv_walk.specs.Place.{Fits, Place, inside_of, is_indefinite}
+use Rattle.tlv_walk.proofs.Lengths.{HasLength, LacksOctets}
+use Rattle.tlv_walk.specs.Machine.{bound_in}
 
 -- the offset n is not past the bound
 abbrev pub within : Option ℕ → ℕ → Bool

@@ -10,8 +10,9 @@ use Rattle.tlv_walk.specs.Events.{AreEqualJoined, Told, Close, Leave, apart, clo
 use Rattle.tlv_walk.specs.Forest.{Forest, Stop, Closed, Zero, contents_length, end_octets, extent, is_whole, opening, spell}
 use Rattle.tlv_walk.specs.Wrappers.{enters}
 use Rattle.std.proofs.lemmas.Bool.{cases_Bool}
-use Rattle.tlv_walk.specs.Machine.{found_in, Machine}
-use Rattle.tlv_walk.specs.Place.{Fits, HasLength, IsEntry, IsOpen, Place, after, bound_in, is_indefinite}
+use Rattle.tlv_walk.specs.Machine.{found_in, Machine, bound_in}
+use Rattle.tlv_walk.specs.Place.{Fits, IsEntry, IsOpen, Place, after, is_indefinite}
+use Rattle.tlv_walk.proofs.Lengths.{HasLength}
 use Rattle.tlv_walk.specs.Stack.{IsFilled, IsInIndefinite, Within, bound_of, innermost_of}
 use Rattle.tlv_walk.specs.Tells.{Continues}
 use Rattle.tlv_walk.specs.State.{AreWhole, HasState, Layer, Tail, Between, InEnd, State, ending_of, events_layers, events_tail, frame_of, frames_of, place_in, place_of, spell_layers, spell_tail}
@@ -42,12 +43,12 @@ told_closed told ls l here whole h =
     (ap apart (ap (λ (es : List Told). events_layers ls ++ (es ++ [])) (events-behind l.before (Closed l.head here Stop) whole)
     ∙ regroup_told (events_layers ls) (events l.before) (opens l.head) (events here) (closes l.head here)))
 
-closed_whole : (w : Machine) (l : Layer) (ls : List Layer) (here : Forest) → AreWhole (place_in w.framing ls) l.before → IsEntry (after (place_in w.framing ls) (length (spell l.before))) l.head
+closed_whole : (w : Machine) (l : Layer) (ls : List Layer) (here : Forest) → AreWhole (place_in w.framing ls) l.before → IsEntry (after (place_in w.framing ls) (length (spell l.before))) true l.head
     → AreWhole (place_in w.framing (l ∷ ls)) here → HasLength l.head.size (contents_length l.head here) → Fits (after (place_in w.framing ls) (length (spell l.before))) (extent l.head here)
     → AreWhole (place_in w.framing ls) (closed_here l here)
 closed_whole w l ls here before entry inside filled fits = record {
   is_open = open-behind (place_in w.framing ls) l.before (Closed l.head here Stop) before
-      (record { header = entry.header; depth = entry.depth; whole = inside.whole; filled = filled; fits = fits }, inside.is_open, tt);
+      ((record { header = entry.header; depth = entry.depth; fits = fits }, inside.whole, filled), inside.is_open, tt);
   whole = whole-behind l.before (Closed l.head here Stop) before.whole;
 }
 
@@ -74,7 +75,7 @@ close_state w v b told l ls here tail t has stack quiet ends filled fits is_v el
 constructed_indefinite : (k : Bool) (s : Size) → s ≡ Indefinite → AllowsSize k s → k ≡ true
 constructed_indefinite true s e a = refl
 constructed_indefinite false (Definite n) e a = absurd (cc)
-constructed_indefinite false Indefinite e a = absurd a
+constructed_indefinite false Indefinite e a = absurd (cc (a))
 
 size_indefinite : (s : Size) → is_indefinite s ≡ true → s ≡ Indefinite
 size_indefinite (Definite n) e = absurd (cc)

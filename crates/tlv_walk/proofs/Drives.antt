@@ -16,7 +16,7 @@ use Rattle.tlv_walk.specs.declared.run.Run.{Run}
 use Rattle.tlv_walk.specs.declared.run.Turn.{Turn}
 use Rattle.tlv_walk.specs.declared.run.Turn.TheVariants.{Again, Ended}
 use Rattle.std.specs.List.{concat}
-use Rattle.tlv_walk.specs.Device.{GaveLast, Last, Supply, Taken, failed, failures_after, gave, never}
+use Rattle.tlv_walk.specs.Device.{Last, Supply, Taken, failed, failures_after, gave, never}
 use Rattle.tlv_walk.specs.Drives.{Drives, had_enough, octets_told, run_of, walk}
 use Rattle.tlv_walk.specs.Events.{AreEqualJoined, Told, Open, Begin, Bytes, End, Close, Enter, Unused, Leave, Pad, events}
 use Rattle.tlv_walk.specs.Follow.{Following, GoesOn, Joins, Rests, followed, followed_events}
@@ -32,7 +32,8 @@ use Rattle.tlv_walk.specs.Turns.{Calls, EndsBy, EndsIn, Gave, GaveUpTo, StopsIn,
 use Rattle.tlv_walk.specs.Wrappers.{enters, first_other, unused_of}
 use Rattle.tlv_walk.proofs.Followed.{events_enough, followed-alike, followed-enough, kept-alike}
 use Rattle.tlv_walk.proofs.Following.{made_both, made_none, made_put}
-use Rattle.tlv_walk.proofs.Pieces.{Gathered, gathered_more, gathered_none, pieces_all, together_more}
+use Rattle.tlv_walk.proofs.Enough.{ends_so}
+use Rattle.tlv_walk.proofs.Pieces.{GaveLast, Gathered, gathered_more, gathered_none, pieces_all, together_more}
 use Rattle.tlv_walk.proofs.Puts.{sends_nothing, sends_ok, sends_then}
 use Rattle.tlv_walk.proofs.Turns.{stands_spelled, stands_told}
 
@@ -41,7 +42,7 @@ use Rattle.tlv_walk.proofs.Turns.{stands_spelled, stands_told}
 -- what the last read gave
 gave_last : (last : Last) (piece : List ℕ) → GaveUpTo (length piece) last → GaveLast last (given last piece)
 gave_last never piece g = absurd g
-gave_last (gave n) piece g = sym (length-take n piece ∙ omega (arith, g))
+gave_last (gave n) piece g = inl (ap gave (sym (length-take n piece ∙ omega (arith, g))))
 gave_last failed piece g = absurd g
 
 gave_none : (last : Last) (piece : List ℕ) → GaveUpTo (length piece) last → given last piece ≡ [] → last ≡ gave 0
@@ -266,7 +267,12 @@ module _ {S : Type 0} (next : S → Told → Following S)
           subst (λ (b : Bool). EndsWith framing (take limit (before ++ r)) b run.ending) (sym (is_enough_so f go.On (followed next s es).put k))
           (subst (λ (o : List ℕ). EndsWith framing o false run.ending) walked_is (subst (λ (k : Framing). EndsWith k walked false run.ending) x.same y.ending)) in record {
             runs = runs_by (Ok run) f (gave_last new.last piece g) read es go.On k (ap of_source (sym is)) (sent y.more (Ok tt) y.put)
-                (run.ending, answer, ends, ended_by run f (λ e. absurd (true≢false (sym e ∙ none))) g ended);
+                (
+                  run.ending,
+                  answer,
+                  ends_so framing (take limit (before ++ r)) (had_enough (followed next s (events f)).goes) run.ending
+                      (IsFinalEnding run.ending ⊎ ((new.last ≡ gave 0) × IsAtEnd new.left)) ends (ended_by run f (λ e. absurd (true≢false (sym e ∙ none))) g ended),
+                );
             state = k.state;
           }
 
@@ -286,10 +292,8 @@ module _ {S : Type 0} (next : S → Told → Following S)
           (y.spelled ∙ ap length (enough_octets s u es others.0 f made others.1)) yes'
           (y.unused ∙ ap (λ (k : Framing). first_other k.inside (enters es)) x.same ∙ ap (first_other framing.inside) (enough_enters s u es others.0 f made others.1))
           ∙ ap (λ (g : Go). run_of framing f (followed_events next s (events f)) g run.ending) (sym k.goes_so) in
-          let enough : had_enough (followed next s (events f)).goes ≡ true = is_enough_so f go.Enough (followed next s es).put k in
-          let ends : EndsWith framing (take limit (before ++ r)) (had_enough (followed next s (events f)).goes) run.ending =
-          subst (λ (b : Bool). EndsWith framing (take limit (before ++ r)) b run.ending) (sym enough) y.ending in record {
-            runs = runs_by (Ok run) f (gave_last new.last piece g) read es go.Enough k (ap of_source (sym is)) (sent y.more (Ok tt) y.put) (run.ending, answer, ends, inl enough);
+          let enough : had_enough (followed next s (events f)).goes ≡ true = is_enough_so f go.Enough (followed next s es).put k in record {
+            runs = runs_by (Ok run) f (gave_last new.last piece g) read es go.Enough k (ap of_source (sym is)) (sent y.more (Ok tt) y.put) (run.ending, answer, inl (enough, y.ending));
             state = k.state;
           }
 
@@ -312,7 +316,7 @@ module _ {S : Type 0} (next : S → Told → Following S)
           let k : MadeAll s u f go.On (followed next s x.told).put = record { state = y.1 ∙ first_made.state; goes_so = first_made.goes_so; text_is = first_made.text_is } in
           let put : Sends from to (followed next s x.told).put (Ok tt) =
           sends_ok {T = ⊤} {U = ⊤} {E = DeviceFault} {F = DeviceFault} from to ((followed next s x.told).put ++ []) (followed next s x.told).put tt tt (sends_then from at to (followed next s x.told).put [] tt (Ok tt) x.sends y.2) (append-nil _) in record {
-            runs = runs_by (Err ReadFailed) f (subst (λ (l : Last). GaveLast l r) (sym last) none) (subst (λ (o : List ℕ). IsReading framing o f) all first_reading) x.told go.On k (ap of_source (sym is)) put last;
+            runs = runs_by (Err ReadFailed) f (inr (last, none)) (subst (λ (o : List ℕ). IsReading framing o f) all first_reading) x.told go.On k (ap of_source (sym is)) put last;
             state = k.state;
           }
         where

@@ -91,10 +91,10 @@ fits_at w b told s r t h at c =
     subst (λ (n : ℕ). Within (place_in w.framing s.layers).bound n) (omega (arith, c.offset, at.offset)) fits
 
 entry_at : (w : Machine) (b : List ℕ) (told : List Told) (s : State) (r : Progress) (t : List ℕ) (h : Heading) → AtHeader w b told s r → Completed w r t h → holds h ≡ true
-    → IsEntry (place_of w.framing s) h
+    → IsEntry (place_of w.framing s) true h
 entry_at w b told s r t h at c e = record {
   header = head_at w b told s r t h true at c e;
-  depth = omega (arith, c.shallow e, place-depth w.framing s.layers, ap length at.stack);
+  depth = λ _. omega (arith, c.shallow e, place-depth w.framing s.layers, ap length at.stack);
   fits = fits_at w b told s r t h at c;
 }
 

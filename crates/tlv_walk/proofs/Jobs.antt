@@ -16,7 +16,8 @@ use Rattle.tlv_walk.specs.Drives.{Drives, had_enough, run_of, walk}
 use Rattle.tlv_walk.specs.Events.{Told, events}
 use Rattle.tlv_walk.specs.Follow.{Following, followed, goes_of}
 use Rattle.tlv_walk.specs.Forest.{Forest}
-use Rattle.tlv_walk.specs.Job.{AreSound, EndsWith, IsFinalEnding, Job, Runs}
+use Rattle.tlv_walk.specs.Job.{AreSound, IsFinalEnding, Job, Runs}
+use Rattle.tlv_walk.proofs.Enough.{EndsSo}
 use Rattle.tlv_walk.specs.Out.{Sends}
 use Rattle.tlv_walk.specs.Reading.{IsReading}
 
@@ -65,8 +66,7 @@ module _ {S A : Type 0} (next : S → Told → Following S) (job : Job A) (s : S
         comes = (
           w.comes.0,
           answer (take job.limit given) w.reading w.comes.0 (within_limit given) w.is_reading x.state w.comes.1,
-          subst (λ (k : Bool). EndsWith job.framing (take job.limit given) k w.comes.0) same w.comes.2,
-          subst (λ (k : Bool). (k ≡ true) ⊎ IsFinalEnding w.comes.0 ⊎ ((new.last ≡ gave 0) × IsAtEnd new.left)) same w.comes.3,
+          subst (λ (k : Bool). EndsSo job.framing (take job.limit given) k w.comes.0 (IsFinalEnding w.comes.0 ⊎ ((new.last ≡ gave 0) × IsAtEnd new.left))) same w.comes.2,
         );
       }
 

@@ -1,3 +1,4 @@
+pub mod Lengths
 pub mod Spellings
 pub mod Bounds
 pub mod Push
@@ -40,6 +41,7 @@ pub mod Pieces
 pub mod Waiting
 pub mod Following
 pub mod Turns
+pub mod Enough
 pub mod Drives
 pub mod Jobs
 pub mod Inputs

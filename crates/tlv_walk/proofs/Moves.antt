@@ -164,7 +164,7 @@ end_state w b told s h c has e =
       offset = omega (arith, has.offset, ap length (append-nil b));
       stack = has.stack;
       layers = has.layers;
-      here = are_whole _ s.here (Whole h c Stop) has.here (record { header = k.header; size = k.size ∙ ap Definite same; fits = subst (λ (n : ℕ). Fits p (length (octets_of h) + n)) same k.fits }, tt) refl;
+      here = are_whole _ s.here (Whole h c Stop) has.here ((record { header = k.header; depth = λ e. absurd (cc (e)); fits = subst (λ (n : ℕ). Fits p (length (octets_of h) + n)) same k.fits }, k.size ∙ ap Definite same), tt) refl;
       phase = tt;
       told_of = told_whole told s.layers s.here (Whole h c Stop) (Begin h ∷ Bytes c ∷ []) (End ∷ []) has.here.whole has.told_of refl;
       element = has.element ∙ sym (began s.layers s.here (Whole h c Stop) has.here.whole refl);

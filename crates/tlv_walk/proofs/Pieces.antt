@@ -1,11 +1,19 @@
 -- Reads of a source, one behind another.
-use Rattle.std.proofs.Common.{◌≡◌, ℕ, zero, suc, ◌+◌, ◌-◌, ◌^◌, ◌≤◌, min, List, [], ◌∷◌, ◌++◌, length, refl, sym, ap, ◌∙◌, subst, arith, append_assoc, append-nil}
+use Rattle.std.proofs.Common.{◌≡◌, ◌⊎◌, ℕ, zero, suc, ◌+◌, ◌-◌, ◌^◌, ◌<◌, ◌≤◌, min, List, [], ◌∷◌, ◌++◌, length, refl, sym, ap, ◌∙◌, subst, arith, append_assoc, append-nil}
 use Rattle.std.proofs.lemmas.List.Elements.{All-nil, All-push}
 use Rattle.std.proofs.KnownBytes.{Consumes-nil, Consumes-trans}
 use Rattle.std.specs.Prelude.{All}
 use Rattle.std.specs.Io.KnownBytes.{Consumes}
 use Rattle.std.specs.List.{concat}
-use Rattle.tlv_walk.specs.Device.{GaveLast, IsPiece, Pieces, Supply, counted}
+use Rattle.tlv_walk.specs.Device.{Last, Pieces, Supply, counted, failed, gave}
+
+-- a read that is not the last
+abbrev pub IsPiece : List ℕ → Type 0
+IsPiece octets = (0 < length octets) × (length octets ≤ 4096)
+
+-- the last read gave these octets, or failed and gave none
+abbrev pub GaveLast : Last → List ℕ → Type 0
+GaveLast last octets = (last ≡ gave (length octets)) ⊎ ((last ≡ failed) × (octets ≡ []))
 
 -- a count after so many more
 abbrev pub counted_by : ℕ → ℕ → ℕ

@@ -5,8 +5,7 @@ use Rattle.tlv_head.specs.declared.header.Size.TheVariants.{Definite, Indefinite
 use Rattle.tlv_walk.specs.declared.framing.Framing.{Framing}
 use Rattle.tlv_walk.specs.Events.{Told}
 use Rattle.tlv_walk.specs.Forest.{opening, spell}
-use Rattle.tlv_walk.specs.Machine.{Machine}
-use Rattle.tlv_walk.specs.Place.{bound_in}
+use Rattle.tlv_walk.specs.Machine.{Machine, bound_in}
 use Rattle.tlv_walk.specs.Stack.{bound_of}
 use Rattle.tlv_walk.specs.State.{HasState, Layer, State, frames_of, place_in, place_of, spell_layers, spell_tail}
 

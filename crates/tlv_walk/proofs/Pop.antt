@@ -8,10 +8,11 @@ use Rattle.tlv_head.specs.Header.{Heading, IsHeading, IsIdentifier, IsLength, an
 use Rattle.tlv_head.specs.Refusal.{IsFront}
 use Rattle.tlv_head.proofs.Scan.{Origin, Scan, Fresh, High, Named, Long, Ready, Stuck, Over, origin_of, scan, scan_from-append, scan-header, is_more, more-from_front}
 use Rattle.tlv_walk.specs.Forest.{Forest, Stop, Fill, Whole, Closed, Partial, Entered, Awaiting, Begun, Zero, contents_length, end_octets, extent, is_whole, lead, opening, spell}
-use Rattle.tlv_walk.specs.Place.{Fits, IsClosed, IsEntry, IsHeadAt, IsOpen, IsWhole, LacksOctets, Place, after, inside_of, is_indefinite}
+use Rattle.tlv_walk.specs.Place.{Fits, IsEntry, IsHeadAt, IsOpen, Place, after, inside_of, is_indefinite}
+use Rattle.tlv_walk.proofs.Lengths.{LacksOctets}
 use Rattle.tlv_walk.proofs.Bounds.{IsEndless, IsFull, definite-length, fits-inside, fits-within, has_length, indefinite-endless, lacks-length, lead-zero, length-full, within-lacks, within-le}
 use Rattle.tlv_walk.proofs.Spellings.{append_assoc-3, append_assoc-4, length-closed, length-opening, length-whole}
-use Rattle.tlv_walk.proofs.Push.{Grown, Ended, begin, begun, begun-sound, complete, entered, entered-sound, follow, is_filled, opened, origin, partial, push, reaches, settle, size-definite}
+use Rattle.tlv_walk.proofs.Push.{IsClosed, IsWhole, Grown, Ended, begin, begun, begun-sound, complete, entered, entered-sound, follow, is_filled, opened, origin, partial, push, reaches, settle, size-definite}
 
 -- a list is empty, or has a last element
 pub data Back (o : List ℕ) : Type 0 where
@@ -107,13 +108,13 @@ header-popped p h k header d f = elim (back (octets_of h)) [
 ]
 
 -- an element that holds none yet is popped by the last octet of its header
-opened-popped : (p : Place) (h : Heading) (l : List ℕ) → lead h ≡ l → IsEntry p h → Popped p (opened h l)
+opened-popped : (p : Place) (h : Heading) (l : List ℕ) → lead h ≡ l → IsEntry p true h → Popped p (opened h l)
 opened-popped p h l e entry =
-    let r : Popped p (opened h (lead h)) = header-popped p h true entry.header (lt-leb 128 p.depth entry.depth) entry.fits in
+    let r : Popped p (opened h (lead h)) = header-popped p h true entry.header (lt-leb 128 p.depth (entry.depth refl)) entry.fits in
     rw (ap (opened h) e) at r
 
 -- an element that holds none yet
-lead-popped : (p : Place) (h : Heading) (l : List ℕ) → lead h ≡ l → IsEntry p h → Popped p (entered h Stop)
+lead-popped : (p : Place) (h : Heading) (l : List ℕ) → lead h ≡ l → IsEntry p true h → Popped p (entered h Stop)
 lead-popped p h [] e entry = opened-popped p h [] e entry
 lead-popped p h (x ∷ xs) e entry =
     let one : lead h ≡ 0 ∷ [] = lead-zero h x xs e in
@@ -141,7 +142,7 @@ contents-popped : (p : Place) (h : Heading) (c : List ℕ) (x n : ℕ) (g : Fore
 contents-popped p h c x n g header e less f same spelled = record {
   from = Partial h c;
   last = x;
-  is_open = (header, omega (arith, less, ap announced e), rw (ap announced e) f);
+  is_open = (record { header = header; depth = λ e. absurd (cc (e)); fits = rw (ap announced e) f }, omega (arith, less, ap announced e));
   spelled = spelled ∙ sym (append_assoc (octets_of h) c (x ∷ []));
   pushed = ap Grown same;
 }
@@ -163,14 +164,14 @@ primitive-popped p h c n g header e most f same spelled = elim (back c) [
 -- a whole primitive is popped
 whole-popped : (p : Place) (h : Heading) (c : List ℕ) → IsWhole p h c → Popped p (Whole h c Stop)
 whole-popped p h c w =
-    primitive-popped p h c (length c) (Whole h c Stop) w.header w.size (omega arith) w.fits (partial-whole h c w.size) (ap (λ (t : List ℕ). octets_of h ++ t) (append-nil c))
+    primitive-popped p h c (length c) (Whole h c Stop) w.0.header w.1 (omega arith) w.0.fits (partial-whole h c w.1) (ap (λ (t : List ℕ). octets_of h ++ t) (append-nil c))
 
 -- a primitive that lacks contents octets is popped
 partial-popped : (p : Place) (h : Heading) (c : List ℕ) → IsOpen p (Partial h c) → Popped p (Partial h c)
 partial-popped p h c w =
-    let n : (n : ℕ) × (h.size ≡ Definite n) = size-definite h w.0.valid w.0.form in
+    let n : (n : ℕ) × (h.size ≡ Definite n) = size-definite h w.0.header.valid w.0.header.form in
     let all : announced h.size ≡ n.0 = ap announced n.1 in
-    primitive-popped p h c n.0 (Partial h c) w.0 n.1 (omega (arith, w.1)) (within-le p.bound _ _ (omega arith) w.2) (partial-partial h c n.0 n.1 (omega (arith, w.1))) refl
+    primitive-popped p h c n.0 (Partial h c) w.0.header n.1 (omega (arith, w.1)) (within-le p.bound _ _ (omega arith) w.0.fits) (partial-partial h c n.0 n.1 (omega (arith, w.1))) refl
 
 -- an element that lacks contents octets is entered
 lacking-entered : (h : Heading) (f : Forest) → (is_whole f ≡ true → LacksOctets h.size (contents_length h f)) → entered h f ≡ Entered h f
@@ -180,14 +181,14 @@ lacking-entered h f lacks = elim (cases_Bool (is_whole f)) [
 ]
 
 -- contents before the last octet lack octets
-lacks-before : (p : Place) (h : Heading) (f g : Forest) (x : ℕ) → IsEntry p h → IsOpen (inside_of p h) g → spell g ≡ spell f ++ x ∷ [] → LacksOctets h.size (contents_length h f)
+lacks-before : (p : Place) (h : Heading) (f g : Forest) (x : ℕ) → IsEntry p true h → IsOpen (inside_of p h) g → spell g ≡ spell f ++ x ∷ [] → LacksOctets h.size (contents_length h f)
 lacks-before p h f g x entry w spelled =
     within-lacks h.size (p.at + length (octets_of h)) p.bound (contents_length h f)
     (within-le (inside_of p h).bound _ _ (omega (arith, ap length spelled, length-append (spell f) (x ∷ []), length-opening h))
     (reaches (inside_of p h) g (fits-inside p h entry.header.form entry.fits) w))
 
 -- an element that holds octets is popped by the last of them, or by that of what comes before
-settled : (p : Place) (h : Heading) (inside g : Forest) → IsEntry p h → IsOpen (inside_of p h) inside → (inside ≡ Stop) ⊎ Popped (inside_of p h) inside
+settled : (p : Place) (h : Heading) (inside g : Forest) → IsEntry p true h → IsOpen (inside_of p h) inside → (inside ≡ Stop) ⊎ Popped (inside_of p h) inside
     → entered h inside ≡ g → spell g ≡ opening h ++ spell inside → Popped p g
 settled p h inside g entry w (inl stop) same spelled =
     let same' : entered h Stop ≡ g = ap (entered h) (sym stop) ∙ same in
@@ -252,13 +253,13 @@ endless-popped : (p : Place) (h : Heading) (inside : Forest) → is_indefinite h
 endless-popped p h inside i w v =
     let e : IsEndless h.size (p.at + length (octets_of h)) p.bound (contents_length h inside) = indefinite-endless h.size _ p.bound _ i in
     let two : length (end_octets h.size) ≡ 2 = ap length e.ends in
-    let f : Fits (inside_of p h) (length (spell inside) + 2) = rw e.bound (within-le p.bound _ _ (omega arith) w.fits) in
-    let r : IsZeroed (inside_of p h) inside (zeroed inside) = is-zeroed (inside_of p h) inside v w.whole i f in
+    let f : Fits (inside_of p h) (length (spell inside) + 2) = rw e.bound (within-le p.bound _ _ (omega arith) w.0.fits) in
+    let r : IsZeroed (inside_of p h) inside (zeroed inside) = is-zeroed (inside_of p h) inside v w.1 i f in
     record {
       from = Entered h (zeroed inside);
       last = 0;
       is_open = (
-        (record { header = w.header; depth = w.depth; fits = within-le p.bound _ _ (omega (arith, e.none, length-opening h)) w.fits }, λ _. e.lacks _),
+        (record { header = w.0.header; depth = w.0.depth; fits = within-le p.bound _ _ (omega (arith, e.none, length-opening h)) w.0.fits }, λ _. e.lacks _),
         r.is_open,
       );
       spelled = ap (λ (t : List ℕ). opening h ++ (spell inside ++ (t ++ []))) e.ends
@@ -270,11 +271,11 @@ endless-popped p h inside i w v =
 definite-popped : (p : Place) (h : Heading) (inside : Forest) → is_indefinite h.size ≡ false → IsClosed p h inside → IsOpen (inside_of p h) inside
     → (inside ≡ Stop) ⊎ Popped (inside_of p h) inside → Popped p (Closed h inside Stop)
 definite-popped p h inside i w v below =
-    let test : has_length h.size (contents_length h inside) ≡ true = definite-length h.size _ i w.filled in
+    let test : has_length h.size (contents_length h inside) ≡ true = definite-length h.size _ i w.2 in
     let full : IsFull h.size (contents_length h inside) = length-full h.size _ test in
     let none : length (end_octets h.size) ≡ 0 = ap length full.ends in
-    let entry : IsEntry p h = record { header = w.header; depth = w.depth; fits = within-le p.bound _ _ (omega (arith, full.all, length-opening h)) w.fits } in
-    let filled : is_filled h inside ≡ true = and_from _ _ w.whole test in
+    let entry : IsEntry p true h = record { header = w.0.header; depth = w.0.depth; fits = within-le p.bound _ _ (omega (arith, full.all, length-opening h)) w.0.fits } in
+    let filled : is_filled h inside ≡ true = and_from _ _ w.1 test in
     settled p h inside (Closed h inside Stop) entry v below (rw filled)
     (ap (λ (t : List ℕ). opening h ++ (spell inside ++ (t ++ []))) full.ends ∙ ap (λ (t : List ℕ). opening h ++ t) (append-nil (spell inside)))
 

@@ -11,9 +11,18 @@ use Rattle.tlv_head.proofs.Scan.{Origin, Scan, Fresh, High, Named, Long, Ready, 
 use Rattle.tlv_head.proofs.Meaning.{Reads, reads-step, reads-scan, front-from_more, front-bytes}
 use Rattle.tlv_walk.specs.Forest.{Forest, Stop, Fill, Whole, Closed, Partial, Entered, Awaiting, Begun, Zero, contents_length, end_octets, extent, is_whole, lead, opening, spell}
 use Rattle.tlv_walk.specs.Inside.{is_among}
-use Rattle.tlv_walk.specs.Place.{Fits, IsClosed, IsEntry, IsHeadAt, IsOpen, IsWhole, LacksOctets, Place, after, inside_of}
+use Rattle.tlv_walk.specs.Place.{Fits, IsElementAt, IsEntry, IsHeadAt, IsOpen, Place, after, inside_of}
+use Rattle.tlv_walk.proofs.Lengths.{HasLength, LacksOctets}
 use Rattle.tlv_walk.proofs.Bounds.{IsEndless, IsFull, fits, fits-inside, has_length, indefinite-endless, lead-zero, length-full, length-lacks, within-fits, within-le, within-outside}
 use Rattle.tlv_walk.proofs.Spellings.{append_assoc-3, append_assoc-4, length-closed, length-opening, length-whole}
+
+-- a primitive with all its contents octets
+abbrev pub IsWhole : Place → Heading → List ℕ → Type 0
+IsWhole p h c = IsElementAt p false h (length (octets_of h) + length c) × (h.size ≡ Definite (length c))
+
+-- an element that holds others and has ended
+abbrev pub IsClosed : Place → Heading → Forest → Type 0
+IsClosed p h inside = IsElementAt p true h (extent h inside) × (is_whole inside ≡ true) × HasLength h.size (contents_length h inside)
 
 -- what an octet makes of an open forest
 pub data Step : Type 0 where
@@ -128,11 +137,11 @@ reaches p Stop z w = z
 reaches p (Fill rest) z w = within-le p.bound _ _ (omega arith) (reaches (after p 1) rest (within-le p.bound _ _ (omega arith) w.0.2) w.1)
 reaches p (Whole h c rest) z w =
     within-le p.bound _ _ (omega (arith, length-whole h c rest))
-    (reaches (after p (length (octets_of h) + length c)) rest (within-le p.bound _ _ (omega arith) w.0.fits) w.1)
+    (reaches (after p (length (octets_of h) + length c)) rest (within-le p.bound _ _ (omega arith) w.0.0.fits) w.1)
 reaches p (Closed h inside rest) z w =
     within-le p.bound _ _ (omega (arith, length-closed h inside rest))
-    (reaches (after p (extent h inside)) rest (within-le p.bound _ _ (omega arith) w.0.fits) w.2)
-reaches p (Partial h c) z w = within-le p.bound _ _ (omega (arith, length-append (octets_of h) c, w.1)) w.2
+    (reaches (after p (extent h inside)) rest (within-le p.bound _ _ (omega arith) w.0.0.fits) w.2)
+reaches p (Partial h c) z w = within-le p.bound _ _ (omega (arith, length-append (octets_of h) c, w.1)) w.0.fits
 reaches p (Entered h inside) z w =
     reaches-entered p h inside w.0.0.fits (reaches (inside_of p h) inside (fits-inside p h w.0.0.header.form w.0.0.fits) w.1)
 reaches p (Awaiting h) z w = within-le p.bound _ _ (omega arith) w.0.fits
@@ -143,7 +152,7 @@ reaches p Zero z w = w.1
 definite-primitive : (constructed : Bool) (s : Size) → constructed ≡ false → AllowsSize constructed s → (n : ℕ) × (s ≡ Definite n)
 definite-primitive true s e a = absurd (true≢false e)
 definite-primitive false (Definite n) e a = (n, refl)
-definite-primitive false Indefinite e a = absurd a
+definite-primitive false Indefinite e a = absurd (cc (a))
 
 -- what holds no others is no constructed element
 not-holding : (constructed wraps : Bool) → (constructed || wraps) ≡ false → constructed ≡ false
@@ -161,29 +170,27 @@ partial-sound p h c n header e most f =
     let all : announced h.size ≡ n = ap announced e in
     elim (cases_eq (length c) n) [
       | inl full ↦ rw (eq-eqb (length c) (announced h.size) (full ∙ sym all)) (record {
-        is_open = (record { header = header; size = e ∙ ap Definite (sym full); fits = rw full f }, tt);
+        is_open = ((record { header = header; depth = λ e. absurd (cc (e)); fits = rw full f }, e ∙ ap Definite (sym full)), tt);
         spelled = ap (λ (t : List ℕ). octets_of h ++ t) (append-nil c);
       })
       | inr less ↦ rw (ne_eqb (length c) (announced h.size) (λ z. less (z ∙ all))) (record {
-        is_open = (header, omega arith, within-le p.bound _ _ (omega arith) f);
+        is_open = (record { header = header; depth = λ e. absurd (cc (e)); fits = within-le p.bound _ _ (omega arith) f }, omega arith);
         spelled = refl;
       })
     ]
 
 -- an element that holds others, with all its contents octets by its definite length
-pub closed-sound : (p : Place) (h : Heading) (g : Forest) → IsEntry p h → IsOpen (inside_of p h) g → is_whole g ≡ true → IsFull h.size (contents_length h g)
+pub closed-sound : (p : Place) (h : Heading) (g : Forest) → IsEntry p true h → IsOpen (inside_of p h) g → is_whole g ≡ true → IsFull h.size (contents_length h g)
     → Spells p (opening h ++ spell g) (Closed h g Stop)
 closed-sound p h g entry w whole full =
     let none : length (end_octets h.size) ≡ 0 = ap length full.ends in
     record {
       is_open = (
-        record {
-          header = entry.header;
-          depth = entry.depth;
-          whole = whole;
-          filled = full.filled;
-          fits = within-le p.bound _ _ (omega (arith, full.all, length-opening h)) entry.fits;
-        },
+        (
+          record { header = entry.header; depth = entry.depth; fits = within-le p.bound _ _ (omega (arith, full.all, length-opening h)) entry.fits },
+          whole,
+          full.filled,
+        ),
         w,
         tt,
       );
@@ -197,7 +204,7 @@ unfilled-lacks p h g e whole there =
     length-lacks h.size (p.at + length (octets_of h)) p.bound _ (within-le (inside_of p h).bound _ _ (omega (arith, length-opening h)) there) short
 
 -- what an element holds is open: so is the element
-pub entered-sound : (p : Place) (h : Heading) (g : Forest) → IsEntry p h → IsOpen (inside_of p h) g → Spells p (opening h ++ spell g) (entered h g)
+pub entered-sound : (p : Place) (h : Heading) (g : Forest) → IsEntry p true h → IsOpen (inside_of p h) g → Spells p (opening h ++ spell g) (entered h g)
 entered-sound p h g entry w = elim (cases_Bool (is_filled h g)) [
   | inl e ↦
       let parts : (is_whole g ≡ true) × (has_length h.size (contents_length h g) ≡ true) = and_parts _ _ e in
@@ -208,7 +215,7 @@ entered-sound p h g entry w = elim (cases_Bool (is_filled h g)) [
 ]
 
 -- an element that holds none yet
-opened-sound : (p : Place) (h : Heading) (l : List ℕ) → lead h ≡ l → IsEntry p h → Spells p (octets_of h) (opened h l)
+opened-sound : (p : Place) (h : Heading) (l : List ℕ) → lead h ≡ l → IsEntry p true h → Spells p (octets_of h) (opened h l)
 opened-sound p h [] e entry =
     let r : Spells p (opening h ++ []) (entered h Stop) = entered-sound p h Stop entry tt in
     let none : opening h ++ [] ≡ octets_of h = append-nil (opening h) ∙ ap (λ (t : List ℕ). octets_of h ++ t) e ∙ append-nil (octets_of h) in
@@ -218,7 +225,7 @@ opened-sound p h (x ∷ xs) e entry = record { is_open = (entry, lead-zero h x x
 -- a header where one may stand is an open forest
 pub begun-sound : (p : Place) (h : Heading) (k : Bool) → IsHeadAt p k h → (k && leb 128 p.depth) ≡ false → Fits p (length (octets_of h) + announced h.size)
     → Spells p (octets_of h) (begun k h)
-begun-sound p h true header d f = opened-sound p h (lead h) refl (record { header = header; depth = leb-false 128 p.depth d; fits = f })
+begun-sound p h true header d f = opened-sound p h (lead h) refl (record { header = header; depth = λ _. leb-false 128 p.depth d; fits = f })
 begun-sound p h false header d f =
     let n : (n : ℕ) × (h.size ≡ Definite n) = size-definite h header.valid header.form in
     let f' : Fits p (length (octets_of h) + n.0) = rw (ap announced n.1) at f in
@@ -295,10 +302,10 @@ zero-step p x i = elim (cases_Bool (fits p 2)) [
 -- inside the contents of a primitive
 partial-step : (p : Place) (h : Heading) (c : List ℕ) (x : ℕ) → IsOpen p (Partial h c) → IsStep p ((octets_of h ++ c) ++ x ∷ []) (push p (Partial h c) x)
 partial-step p h c x w =
-    let n : (n : ℕ) × (h.size ≡ Definite n) = size-definite h w.0.valid w.0.form in
+    let n : (n : ℕ) × (h.size ≡ Definite n) = size-definite h w.0.header.valid w.0.header.form in
     let all : announced h.size ≡ n.0 = ap announced n.1 in
     rw (append_assoc (octets_of h) c (x ∷ []))
-    (partial-sound p h (c ++ x ∷ []) n.0 w.0 n.1 (omega (arith, length-append c (x ∷ []), w.1)) (within-le p.bound _ _ (omega arith) w.2))
+    (partial-sound p h (c ++ x ∷ []) n.0 w.0.header n.1 (omega (arith, length-append c (x ∷ []), w.1)) (within-le p.bound _ _ (omega arith) w.0.fits))
 
 -- before the first contents octet of a wrapping BIT STRING
 awaiting-step : (p : Place) (h : Heading) (x : ℕ) → IsOpen p (Awaiting h) → IsStep p (octets_of h ++ x ∷ []) (push p (Awaiting h) x)
@@ -342,7 +349,7 @@ closed-step p h inside o (Ended g) w v r = record {
 closed-step p h inside o (Refused code) w v r = tt
 
 -- a step of what an element holds
-entered-step : (p : Place) (h : Heading) (o : List ℕ) (s : Step) → IsEntry p h → IsStep (inside_of p h) o s → IsStep p (opening h ++ o) (settle h s)
+entered-step : (p : Place) (h : Heading) (o : List ℕ) (s : Step) → IsEntry p true h → IsStep (inside_of p h) o s → IsStep p (opening h ++ o) (settle h s)
 entered-step p h o (Grown g) entry r =
     let e : Spells p (opening h ++ spell g) (entered h g) = entered-sound p h g entry r.is_open in
     record { is_open = e.is_open; spelled = e.spelled ∙ ap (λ (t : List ℕ). opening h ++ t) r.spelled }
@@ -351,13 +358,11 @@ entered-step p h o (Ended g) entry r =
     let two : length (end_octets h.size) ≡ 2 = ap length e.ends in
     record {
       is_open = (
-        record {
-          header = entry.header;
-          depth = entry.depth;
-          whole = r.whole;
-          filled = e.filled;
-          fits = within-le p.bound _ _ (omega arith) (rw e.bound at r.fits);
-        },
+        (
+          record { header = entry.header; depth = entry.depth; fits = within-le p.bound _ _ (omega arith) (rw e.bound at r.fits) },
+          r.whole,
+          e.filled,
+        ),
         r.is_open,
         tt,
       );

@@ -15,7 +15,8 @@ use Rattle.tlv_head.proofs.ShortestSpelling.{ShortIdentifier, ShortLength, short
 use Rattle.tlv_walk.specs.Alike.{AreAlike, HaveLowForms, holders, nothing, padding, primitives}
 use Rattle.tlv_walk.specs.Forest.{Forest, Stop, Fill, Whole, Closed, Partial, Entered, Awaiting, Begun, Zero, end_octets, extent, lead, opening, spell}
 use Rattle.tlv_walk.specs.Inside.{is_among}
-use Rattle.tlv_walk.specs.Place.{HasLength, Place, after, inside_of as place_inside, is_indefinite}
+use Rattle.tlv_walk.specs.Place.{Place, after, inside_of as place_inside, is_indefinite}
+use Rattle.tlv_walk.proofs.Lengths.{HasLength}
 use Rattle.tlv_walk.specs.Reading.{IsSound}
 use Rattle.tlv_walk.specs.Wrappers.{wrappers}
 use Rattle.tlv_walk.proofs.Alike.{AreRegular}
@@ -106,8 +107,8 @@ size-length false m n e = e
 
 -- a primitive has a definite length
 allows-size : (constructed t : Bool) (m : ℕ) → (constructed ≡ false → t ≡ false) → AllowsSize constructed (size-for t m)
-allows-size true t m e = tt
-allows-size false false m e = tt
+allows-size true t m e = refl
+allows-size false false m e = refl
 allows-size false true m e = absurd (true≢false (e refl))
 
 -- the contents octets of a wrapper before what it holds
@@ -434,7 +435,7 @@ module _ (form : Bool → Bool) (definite : form false ≡ false) where
       let primitive : h.constructed ≡ false = not-holding h.constructed (is_wrapper h.named h.class h.constructed h.number h.size) u.0.form in
       let o : Octets h false (Definite (length c)) =
       octets-for h false (Definite (length c)) (moved h.class h.constructed false h.number h.identifier primitive u.0.valid.identifier)
-      (subst (λ (k : Bool). leading_octet h.class k h.number ≢ 0) primitive low.0) tt (omega (arith, count, few)) in
+      (subst (λ (k : Bool). leading_octet h.class k h.number ≢ 0) primitive low.0) refl (omega (arith, count, few)) in
       spelling-whole p h c rest primitive u.0.valid o (respelled (after p (length (octets_of h) + length c)) rest (omega (arith, count, few)) u.2 low.1)
   respelled p (Closed h inside rest) few u low =
       let count : length (spell (Closed h inside rest)) ≡ extent h inside + length (spell rest) = length-closed h inside rest in

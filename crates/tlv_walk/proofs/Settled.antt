@@ -6,7 +6,8 @@ use Rattle.tlv_head.specs.declared.header.Size.TheVariants.{Definite, Indefinite
 use Rattle.tlv_head.specs.Header.{Heading, octets_of}
 use Rattle.tlv_walk.specs.declared.framing.Framing.{Framing}
 use Rattle.tlv_walk.specs.Forest.{Forest, Stop, Closed, contents_length, is_whole, opening, spell}
-use Rattle.tlv_walk.specs.Place.{Fits, IsOpen, Place, after, bound_in, inside_of, top}
+use Rattle.tlv_walk.specs.Place.{Fits, IsOpen, Place, after, inside_of, top}
+use Rattle.tlv_walk.specs.Machine.{bound_in}
 use Rattle.tlv_walk.specs.Stack.{IsFilled}
 use Rattle.tlv_walk.specs.State.{AreLayers, AreWhole, Layer, frames_of, is_end, place_in, spell_layers}
 use Rattle.tlv_walk.proofs.Bounds.{IsFull, fits-inside, has_length, length-full}

@@ -3,7 +3,8 @@ use Rattle.std.proofs.Common.{◌≡◌, ◌+◌, true, false, length, refl, ari
 use Rattle.tlv_head.specs.Header.{Heading, octets_of}
 use Rattle.tlv_walk.specs.declared.framing.Framing.{Framing}
 use Rattle.tlv_walk.specs.Forest.{Forest, Stop, Fill, Whole, Closed, Partial, Entered, Awaiting, Begun, Zero, contents_length, extent, is_whole, spell}
-use Rattle.tlv_walk.specs.Place.{Fits, HasLength, IsOpen, Place, after, inside_of, top}
+use Rattle.tlv_walk.specs.Place.{Fits, IsOpen, Place, after, inside_of, top}
+use Rattle.tlv_walk.proofs.Lengths.{HasLength}
 use Rattle.tlv_walk.specs.Reading.{IsSound}
 use Rattle.tlv_walk.proofs.Bounds.{filled-within, within-le}
 use Rattle.tlv_walk.proofs.Spellings.{length-closed, length-opening, length-whole}
@@ -35,12 +36,12 @@ sound-open p (Fill rest) d z s = (
   sound-open (after p 1) rest d (within-le p.bound _ _ (omega arith) z) s.1,
 )
 sound-open p (Whole h c rest) d z s = (
-  record { header = s.0; size = s.1; fits = within-le p.bound _ _ (omega (arith, length-whole h c rest)) z },
+  (record { header = s.0; depth = λ e. absurd (cc (e)); fits = within-le p.bound _ _ (omega (arith, length-whole h c rest)) z }, s.1),
   sound-open (after p (length (octets_of h) + length c)) rest d (within-le p.bound _ _ (omega (arith, length-whole h c rest)) z) s.2,
 )
 sound-open p (Closed h inside rest) d z s =
     let f : Fits p (extent h inside) = within-le p.bound _ _ (omega (arith, length-closed h inside rest)) z in (
-      record { header = s.0; depth = s.2; whole = sound-whole (inside_of p h) inside s.3; filled = s.1; fits = f },
+      (record { header = s.0; depth = λ _. s.2; fits = f }, sound-whole (inside_of p h) inside s.3, s.1),
       sound-open (inside_of p h) inside (λ e. absurd (cc)) (fits-contents p h inside s.1 f) s.3,
       sound-open (after p (extent h inside)) rest d (within-le p.bound _ _ (omega (arith, length-closed h inside rest)) z) s.4,
     )
@@ -54,9 +55,9 @@ sound-open p Zero d z s = absurd s
 pub open-sound : (p : Place) (f : Forest) → IsOpen p f → is_whole f ≡ true → IsSound p f
 open-sound p Stop w t = tt
 open-sound p (Fill rest) w t = (w.0.0, open-sound (after p 1) rest w.1 t)
-open-sound p (Whole h c rest) w t = (w.0.header, w.0.size, open-sound (after p (length (octets_of h) + length c)) rest w.1 t)
+open-sound p (Whole h c rest) w t = (w.0.0.header, w.0.1, open-sound (after p (length (octets_of h) + length c)) rest w.1 t)
 open-sound p (Closed h inside rest) w t =
-    (w.0.header, w.0.filled, w.0.depth, open-sound (inside_of p h) inside w.1 w.0.whole, open-sound (after p (extent h inside)) rest w.2 t)
+    (w.0.0.header, w.0.2, w.0.0.depth refl, open-sound (inside_of p h) inside w.1 w.0.1, open-sound (after p (extent h inside)) rest w.2 t)
 open-sound p (Partial h c) w t = absurd (cc)
 open-sound p (Entered h inside) w t = absurd (cc)
 open-sound p (Awaiting h) w t = absurd (cc)

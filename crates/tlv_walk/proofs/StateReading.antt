@@ -86,11 +86,14 @@ whole-wrappers w ls here g a i j =
 contents-whole : (p : Place) (h : Heading) (c : List ℕ) (left : ℕ) → IsContents p h c left → left ≡ 0 → AreWhole p (Whole h c Stop)
 contents-whole p h c left i e =
     let size : length c + left ≡ length c = omega arith in
-    record { is_open = (record { header = i.header; size = i.size ∙ ap Definite size; fits = rw size at i.fits }, tt); whole = refl }
+    record { is_open = ((record { header = i.header; depth = λ e. absurd (cc (e)); fits = rw size at i.fits }, i.size ∙ ap Definite size), tt); whole = refl }
 
 -- else it lacks contents octets
 contents-partial : (p : Place) (h : Heading) (c : List ℕ) (left : ℕ) → IsContents p h c left → (left ≡ 0 → ⊥) → IsOpen p (Partial h c)
-contents-partial p h c left i n = (i.header, omega (arith, ap announced i.size), within-le p.bound _ _ (omega (arith, ap announced i.size)) i.fits)
+contents-partial p h c left i n = (
+  record { header = i.header; depth = λ e. absurd (cc (e)); fits = within-le p.bound _ _ (omega (arith, ap announced i.size)) i.fits },
+  omega (arith, ap announced i.size),
+)
 
 -- the test of its length says which
 contents-all : (p : Place) (h : Heading) (c : List ℕ) (left : ℕ) → IsContents p h c left → left ≡ 0 → eqb (length c) (announced h.size) ≡ true

@@ -68,9 +68,9 @@ tip-fact p Stop z r w = (z, λ i. r i refl)
 tip-fact p (Fill rest) z r w =
     tip-fact (after p 1) rest (within-le p.bound _ _ (omega arith) w.0.2) (room-after p 1 rest (Fill rest) (omega arith) (λ t. t) r) w.1
 tip-fact p (Whole h c rest) z r w =
-    tip-fact (after p (length (octets_of h) + length c)) rest (within-le p.bound _ _ (omega arith) w.0.fits) (room-after p _ rest (Whole h c rest) (length-whole h c rest) (λ t. t) r) w.1
+    tip-fact (after p (length (octets_of h) + length c)) rest (within-le p.bound _ _ (omega arith) w.0.0.fits) (room-after p _ rest (Whole h c rest) (length-whole h c rest) (λ t. t) r) w.1
 tip-fact p (Closed h inside rest) z r w =
-    tip-fact (after p (extent h inside)) rest (within-le p.bound _ _ (omega arith) w.0.fits) (room-after p _ rest (Closed h inside rest) (length-closed h inside rest) (λ t. t) r) w.2
+    tip-fact (after p (extent h inside)) rest (within-le p.bound _ _ (omega arith) w.0.0.fits) (room-after p _ rest (Closed h inside rest) (length-closed h inside rest) (λ t. t) r) w.2
 tip-fact p (Partial h c) z r w = tt
 tip-fact p (Entered h inside) z r w =
     tip-fact (inside_of p h) inside (fits-inside p h w.0.0.header.form w.0.0.fits) (room-inside p h inside w) w.1

@@ -66,7 +66,7 @@ octets_opens h = elim (cases_Bool h.constructed) [
 no_end_octets : (constructed : Bool) (size : Size) → AllowsSize constructed size → constructed ≡ false → end_octets size ≡ []
 no_end_octets constructed (Definite n) a e = refl
 no_end_octets true Indefinite a e = absurd (true≢false e)
-no_end_octets false Indefinite a e = absurd a
+no_end_octets false Indefinite a e = absurd (cc (a))
 
 octets_close : (size : Size) (at : ℕ) → octets_told (Close (end_offset size at)) ≡ end_octets size
 octets_close (Definite n) at = refl
@@ -93,8 +93,8 @@ octets_whole p (Closed h inside rest) o e =
     ∙ ap (λ (l : List ℕ). l ++ flat_map octets_told (events inside ++ closes h inside ∷ events rest)) (octets_opens h)
     ∙ ap (λ (l : List ℕ). opening h ++ l) (
     octets_append (events inside) (closes h inside ∷ events rest)
-    ∙ ap (λ (l : List ℕ). l ++ flat_map octets_told (closes h inside ∷ events rest)) (octets_whole (inside_of p h) inside o.1 o.0.whole)
-    ∙ ap (λ (l : List ℕ). spell inside ++ (l ++ flat_map octets_told (events rest))) (octets_closes p h inside o.0.header)
+    ∙ ap (λ (l : List ℕ). l ++ flat_map octets_told (closes h inside ∷ events rest)) (octets_whole (inside_of p h) inside o.1 o.0.1)
+    ∙ ap (λ (l : List ℕ). spell inside ++ (l ++ flat_map octets_told (events rest))) (octets_closes p h inside o.0.0.header)
     ∙ ap (λ (l : List ℕ). spell inside ++ (end_octets h.size ++ l)) (octets_whole (after p (extent h inside)) rest o.2 e)
     )
 octets_whole p (Partial h c) o e = absurd (true≢false (sym e))

@@ -1,5 +1,5 @@
 -- The first named offset that is no wrapper's, found by counting.
-use Rattle.std.proofs.Common.{◌≡◌, ◌≢◌, inl, inr, ℕ, suc, ◌+◌, ◌<◌, ◌≤◌, Bool, true, eqb, if◌then◌else◌, List, [], ◌∷◌, ◌++◌, refl, sym, ap, ap₂, ◌∙◌, arith, append-nil, eq-eqb, ne_eqb}
+use Rattle.std.proofs.Common.{◌≡◌, ◌≢◌, inl, inr, ℕ, suc, ◌+◌, ◌<◌, ◌≤◌, Bool, true, not, eqb, if◌then◌else◌, List, [], ◌∷◌, ◌++◌, refl, sym, ap, ap₂, ◌∙◌, arith, append-nil, eq-eqb, ne_eqb}
 use Rattle.std.proofs.lemmas.Bool.{cases_Bool, cases_eq}
 use Rattle.std.specs.Prelude.{Option, Some, None, slice_get}
 use Rattle.std.specs.Option.{option_map_or}
@@ -28,7 +28,7 @@ is_first n ats = rw (eq-eqb n n refl) refl
 first_other-larger : (least at : ℕ) (ns ats : List ℕ) → at < least → AreRising least ns → first_other ns (at ∷ ats) ≡ first_other ns ats
 first_other-larger least at [] ats h r = refl
 first_other-larger least at (n ∷ ns) ats h r =
-    ap₂ (λ (k : Bool) (o : Option ℕ). if k then o else Some n) (not_among n at ats (λ e. omega (arith, e, h, r.0))) (first_other-larger (n + 1) at ns ats (omega (arith, h, r.0)) r.2)
+    ap₂ (λ (k : Bool) (o : Option ℕ). if not k then Some n else o) (not_among n at ats (λ e. omega (arith, e, h, r.0))) (first_other-larger (n + 1) at ns ats (omega (arith, h, r.0)) r.2)
 
 -- an offset among those that rise is not below the least
 among_rise : (least end n : ℕ) (ats : List ℕ) → Rise least end ats → is_among n ats ≡ true → least ≤ n
@@ -66,14 +66,14 @@ first-found (n ∷ ns) (at ∷ ats) least low end r q = elim (cases_eq n at) [
       ∙ ap (slice_get (n ∷ ns)) (found-behind n ns 0 ats)
       ∙ first-found ns ats (n + 1) (at + 1) end r.2 q.1
       ∙ sym (first_other-larger (n + 1) at ns ats (omega (arith, same)) r.2)
-      ∙ ap (λ (k : Bool). if k then first_other ns (at ∷ ats) else Some n) (sym (ap (λ (m : ℕ). is_among n (m ∷ ats)) (sym same) ∙ is_first n ats))
+      ∙ ap (λ (k : Bool). if not k then Some n else first_other ns (at ∷ ats)) (sym (ap (λ (m : ℕ). is_among n (m ∷ ats)) (sym same) ∙ is_first n ats))
   | inr other ↦
       ap (λ (k : Bool). slice_get (n ∷ ns) (found_in (n ∷ ns) (if k then 1 else 0) ats)) (ne_eqb n at other)
       ∙ first-found (n ∷ ns) ats least (at + 1) end r q.1
       ∙ elim (cases_Bool (is_among n ats)) [
         | inl among ↦
             let larger : at < n + 1 = omega (arith, among_rise (at + 1) end n ats q.1 among) in
-            ap₂ (λ (k : Bool) (o : Option ℕ). if k then o else Some n) (sym (not_among n at ats other)) (sym (first_other-larger (n + 1) at ns ats larger r.2))
+            ap₂ (λ (k : Bool) (o : Option ℕ). if not k then Some n else o) (sym (not_among n at ats other)) (sym (first_other-larger (n + 1) at ns ats larger r.2))
         | inr none ↦ rw (not_among n at ats other, none) refl
       ]
 ]

@@ -240,10 +240,10 @@ wrappers-rise p (Whole h c rest) w =
     rise-within _ _ _ _ (wrappers rest) (omega arith) (omega (arith, length-whole h c rest))
     (wrappers-rise (after p (length (octets_of h) + length c)) rest w.1)
 wrappers-rise p (Closed h inside rest) w =
-    let two : 2 ≤ length (octets_of h) = header-length h w.0.header.valid in
+    let two : 2 ≤ length (octets_of h) = header-length h w.0.0.header.valid in
     let size : length (spell (Closed h inside rest)) ≡ extent h inside + length (spell rest) = length-closed h inside rest in
     rise-append p.at (p.at + length (opening h)) _ (wrapper_at h) (wrappers inside ++ wrappers rest)
-    (wrapper-rises p.at (p.at + length (opening h)) h w.0.header.offset (omega (arith, length-opening h)))
+    (wrapper-rises p.at (p.at + length (opening h)) h w.0.0.header.offset (omega (arith, length-opening h)))
     (rise-append (p.at + length (opening h)) (p.at + extent h inside) _ (wrappers inside) (wrappers rest)
     (rise-within _ _ _ _ (wrappers inside) (omega arith) (omega arith) (wrappers-rise (inside_of p h) inside w.1))
     (rise-within _ _ _ _ (wrappers rest) (omega arith) (omega arith) (wrappers-rise (after p (extent h inside)) rest w.2)))
@@ -289,7 +289,7 @@ wrappers-named p Stop w = tt
 wrappers-named p (Fill rest) w = wrappers-named (after p 1) rest w.1
 wrappers-named p (Whole h c rest) w = wrappers-named (after p (length (octets_of h) + length c)) rest w.1
 wrappers-named p (Closed h inside rest) w =
-    named-append p.inside (wrapper_at h) (wrappers inside ++ wrappers rest) (wrapper-named p h w.0.header)
+    named-append p.inside (wrapper_at h) (wrappers inside ++ wrappers rest) (wrapper-named p h w.0.0.header)
     (named-append p.inside (wrappers inside) (wrappers rest) (wrappers-named (inside_of p h) inside w.1) (wrappers-named (after p (extent h inside)) rest w.2))
 wrappers-named p (Partial h c) w = tt
 wrappers-named p (Entered h inside) w =

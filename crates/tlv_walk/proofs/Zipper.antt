@@ -7,7 +7,9 @@ use Rattle.tlv_head.specs.Header.{Heading, announced, octets_of}
 use Rattle.tlv_walk.specs.declared.framing.Framing.{Framing}
 use Rattle.tlv_walk.specs.Ending.{tip}
 use Rattle.tlv_walk.specs.Forest.{Forest, Stop, Fill, Whole, Closed, Partial, Entered, Awaiting, Begun, Zero, contents_length, end_octets, extent, has_element, is_whole, opening, spell}
-use Rattle.tlv_walk.specs.Place.{Fits, IsOpen, LacksOctets, Place, after, bound_in, is_indefinite, top}
+use Rattle.tlv_walk.specs.Place.{Fits, IsOpen, Place, after, is_indefinite, top}
+use Rattle.tlv_walk.proofs.Lengths.{LacksOctets}
+use Rattle.tlv_walk.specs.Machine.{bound_in}
 use Rattle.tlv_walk.specs.Stack.{IsInIndefinite, bound_of}
 use Rattle.tlv_walk.specs.State.{AreLayers, AreWhole, Layer, Tail, Between, InContents, BeforeUnused, InHeader, InEnd, State, frames_of, place_in, spell_layers}
 use Rattle.tlv_walk.proofs.Bounds.{fits-inside}

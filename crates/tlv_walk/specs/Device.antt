@@ -1,5 +1,5 @@
 -- What sources and drains tell of themselves, and what one call makes of that.
-use Rattle.std.specs.Prelude.{◌≡◌, ◌+◌, ◌-◌, ◌^◌, ◌<◌, ◌≤◌, ℕ, List, [], ◌++◌, All, Option, Result, Ok, Err, min, IfOk, length}
+use Rattle.std.specs.Prelude.{◌≡◌, ◌⊎◌, ◌+◌, ◌-◌, ◌^◌, ◌<◌, ◌≤◌, ℕ, List, [], ◌++◌, All, Option, Result, Ok, Err, min, IfOk, length}
 use Rattle.std.specs.List.{concat}
 use Rattle.std.specs.Io.{ReadsAtMost}
 use Rattle.std.specs.Io.KnownBytes.{Consumes, ReadConsumes, WriteAppends}
@@ -37,10 +37,10 @@ abbrev pub counted : ℕ → ℕ
 counted n = min (n + 1) (2 ^ 64 - 1)
 
 module _ {T E : Type 0} where
-  -- the failures after a call with this result
+  -- the failures after a call with this result; the count stops at 2^64 - 1
   abbrev pub failures_after : Result T E → ℕ → ℕ
   failures_after (Ok x) before = before
-  failures_after (Err e) before = counted before
+  failures_after (Err e) before = min (before + 1) (2 ^ 64 - 1)
 
 module _ {E : Type 0} where
   -- what a read with this result gave
@@ -67,23 +67,14 @@ module _ {E : Type 0} where
     pub some : IfOk result (λ n. (0 < n) × (n ≤ length from))
     pub failures : new.failures ≡ failures_after result old.failures
 
--- the last read gave these octets, or failed and gave none
-abbrev pub GaveLast : Last → List ℕ → Type 0
-GaveLast never octets = ⊥
-GaveLast (gave n) octets = n ≡ length octets
-GaveLast failed octets = octets ≡ []
-
--- what a read gives that is not the last: between one octet and 4096
-abbrev pub IsPiece : List ℕ → Type 0
-IsPiece octets = (0 < length octets) × (length octets ≤ 4096)
-
--- reads of a source, one or more: the octets that each gave, and the last
+-- reads of a source, one or more: the octets that each gave, and the last. Each but the last gave between one octet and 4096,
+-- and the last so many that it tells, or it failed and gave none
 pub record Pieces (old new : Supply) : Type 0 where
   pub pieces : List (List ℕ)
   pub last : List ℕ
-  pub each : All IsPiece pieces
+  pub each : All (λ octets. (0 < length octets) × (length octets ≤ 4096)) pieces
   pub short : length last ≤ 4096
-  pub gave_last : GaveLast new.last last
+  pub gave_last : (new.last ≡ gave (length last)) ⊎ ((new.last ≡ failed) × (last ≡ []))
   pub reads : new.reads ≡ min (old.reads + (length pieces + 1)) (2 ^ 64 - 1)
   pub consumed : Consumes old.left new.left (concat pieces ++ last)
 

@@ -1,5 +1,6 @@
 -- What a walk over all that a source gives comes to.
-use Rattle.std.specs.Prelude.{◌≡◌, ℕ, Bool, true, false, List, [], ◌∷◌, flat_map, length, Some, Result, OnOk}
+use Rattle.std.specs.List.{find}
+use Rattle.std.specs.Prelude.{◌≡◌, ℕ, Bool, true, false, not, List, [], ◌∷◌, flat_map, length, Some, Result, OnOk}
 use Rattle.tlv_head.specs.Header.{octets_of}
 use Rattle.tlv_walk.specs.declared.ending.Ending.{Ending}
 use Rattle.tlv_walk.specs.declared.follow.Go.{Go}
@@ -12,7 +13,8 @@ use Rattle.tlv_walk.specs.Events.{Told, Open, Begin, Bytes, Close, Enter, Unused
 use Rattle.tlv_walk.specs.Follow.{Following, followed, followed_events}
 use Rattle.tlv_walk.specs.Forest.{Forest, spell}
 use Rattle.tlv_walk.specs.Job.{Job, Runs, of_drain}
-use Rattle.tlv_walk.specs.Wrappers.{enters, first_other, wrappers}
+use Rattle.tlv_walk.specs.Inside.{is_among}
+use Rattle.tlv_walk.specs.Wrappers.{enters, unused_of}
 
 -- whether a follower had enough
 abbrev pub had_enough : Go → Bool
@@ -33,9 +35,9 @@ octets_told e = []
 -- the run over a forest of which a follower followed these events: where it had enough, it ends behind the last of them
 abbrev pub run_of : Framing → Forest → List Told → Go → Ending → Run
 run_of framing f es go.On e =
-    record { ending = e; octets = length (spell f); enough = false; unused = first_other framing.inside (wrappers f) }
+    record { ending = e; octets = length (spell f); enough = false; unused = unused_of framing.inside f }
 run_of framing f es go.Enough e =
-    record { ending = e; octets = length (flat_map octets_told es); enough = true; unused = first_other framing.inside (enters es) }
+    record { ending = e; octets = length (flat_map octets_told es); enough = true; unused = find (λ n. not (is_among n (enters es))) framing.inside }
 
 module _ {S : Type 0} (next : S → Told → Following S) where
   -- a walk, followed from this state on

@@ -1,8 +1,8 @@
 -- Elements, of which the last may still be open: X.690 8.1.1, 8.1.4 and 8.1.5.
 use Rattle.std.specs.Prelude.{ℕ, ◌+◌, Bool, true, false, eqb, if◌then◌else◌, List, [], ◌∷◌, ◌++◌, length}
 use Rattle.tlv_head.specs.declared.header.Size.{Size}
-use Rattle.tlv_head.specs.declared.header.Size.TheVariants.{Definite, Indefinite}
-use Rattle.tlv_head.specs.Header.{Heading, octets_of}
+use Rattle.std.specs.Option.{is_some}
+use Rattle.tlv_head.specs.Header.{Heading, definite_length, octets_of}
 
 -- 8.1.1.1, 8.1.4: whole elements, one after another, and then at most one open end
 pub data Forest : Type 0 where
@@ -35,8 +35,7 @@ opening h = octets_of h ++ lead h
 
 -- 8.1.5: what ends the contents
 abbrev pub end_octets : Size → List ℕ
-end_octets (Definite n) = []
-end_octets Indefinite = 0 ∷ 0 ∷ []
+end_octets size = if is_some (definite_length size) then [] else 0 ∷ 0 ∷ []
 
 -- 8.1.1.1: the octets
 abbrev pub spell : Forest → List ℕ

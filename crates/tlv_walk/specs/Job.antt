@@ -1,7 +1,8 @@
 -- What a job over all that a source gives comes to.
-use Rattle.std.specs.Prelude.{◌≡◌, ◌⊎◌, ℕ, ◌<◌, ◌≤◌, Bool, true, false, List, length, take, Result, Ok, Err, ⊤}
+use Rattle.std.specs.Prelude.{◌≡◌, ◌≢◌, ◌⊎◌, ℕ, ◌<◌, ◌≤◌, Bool, true, false, List, length, take, Result, Ok, Err, ⊤}
 use Rattle.std.specs.List.{concat}
 use Rattle.std.specs.Io.KnownBytes.{IsAtEnd}
+use Rattle.tlv_head.specs.declared.fault.FaultCode.TheVariants.{Empty, Short}
 use Rattle.tlv_walk.specs.declared.ending.Ending.{Ending}
 use Rattle.tlv_walk.specs.declared.ending.Ending.TheVariants as ending
 use Rattle.tlv_walk.specs.declared.framing.Framing.{Framing}
@@ -10,7 +11,6 @@ use Rattle.tlv_walk.specs.declared.run.DeviceFault.TheVariants.{ReadFailed, Writ
 use Rattle.tlv_walk.specs.Device.{Pieces, Supply, Taken, gave, given_in, failed, failures_after}
 use Rattle.tlv_walk.specs.Ending.{IsEnding}
 use Rattle.tlv_walk.specs.Forest.{Forest, spell}
-use Rattle.tlv_walk.specs.Laws.{IsFinal}
 use Rattle.tlv_walk.specs.Out.{Sends}
 use Rattle.tlv_walk.specs.Reading.{IsReading}
 
@@ -36,10 +36,10 @@ module _ {A : Type 0} where
   of_drain (Err WriteFailed) = Err WriteFailed
   of_drain result = Ok tt
 
--- a fault that is the ending whatever follows
+-- a fault that is the ending whatever follows: one other than F01 and F02, which alone say that the input ends too early
 abbrev pub IsFinalEnding : Ending → Type 0
 IsFinalEnding ending.Done = ⊥
-IsFinalEnding (ending.Fault f) = IsFinal f.code
+IsFinalEnding (ending.Fault f) = (f.code ≢ Empty) × (f.code ≢ Short)
 
 -- the ending: Done where there was enough, otherwise what the octets come to
 abbrev pub EndsWith : Framing → List ℕ → Bool → Ending → Type 0
@@ -56,9 +56,10 @@ module _ {A : Type 0} (job : Job A) where
 
   -- by the result, for octets that were given and their reading: what is returned, or why it is not
   abbrev pub ComesTo : List ℕ → Forest → Supply → Result A DeviceFault → Type 0
-  ComesTo given f new (Ok a) =
-      (e : Ending) × (a ≡ job.answer f e) × EndsWith job.framing (take job.limit given) (job.is_enough f) e
-      × ((job.is_enough f ≡ true) ⊎ IsFinalEnding e ⊎ ((new.last ≡ gave 0) × IsAtEnd new.left))
+  -- there was enough, or the ending is that of the octets, and stays whatever follows, or nothing follows
+  ComesTo given f new (Ok a) = (e : Ending) × (a ≡ job.answer f e) × (
+      ((job.is_enough f ≡ true) × (e ≡ ending.Done))
+      ⊎ ((job.is_enough f ≡ false) × IsEnding job.framing (take job.limit given) e × (IsFinalEnding e ⊎ ((new.last ≡ gave 0) × IsAtEnd new.left))))
   ComesTo given f new (Err ReadFailed) = new.last ≡ failed
   ComesTo given f new (Err WriteFailed) = ⊤
   ComesTo given f new (Err InputTooLong) = (job.limit < length given) × AreSound (take job.limit given)

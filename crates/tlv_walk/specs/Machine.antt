@@ -3,7 +3,7 @@ use Rattle.std.specs.Prelude.{◌≡◌, ◌≢◌, ◌⊎◌, ℕ, ◌+◌, ◌
 use Rattle.std.specs.Option.{option_map_or}
 use Rattle.tlv_head.specs.declared.fault.Fault.{Fault as FaultOf}
 use Rattle.tlv_head.specs.declared.fault.FaultCode.{FaultCode}
-use Rattle.tlv_head.specs.Header.{Heading, IsHeading, announced, holds, is_wrapper, octets_of}
+use Rattle.tlv_head.specs.Header.{Heading, IsHeading, announced, definite_length, holds, is_wrapper, octets_of}
 use Rattle.tlv_head.specs.Progress.{Progress}
 use Rattle.tlv_walk.specs.declared.event.Event.{Event}
 use Rattle.tlv_walk.specs.declared.event.Event.TheVariants as event
@@ -13,7 +13,6 @@ use Rattle.tlv_walk.specs.declared.event.Kind.{Kind}
 use Rattle.tlv_walk.specs.declared.event.Kind.TheVariants as kind
 use Rattle.tlv_head.specs.declared.header.HeaderFields.{HeaderFields}
 use Rattle.tlv_head.specs.declared.header.Size.{Size}
-use Rattle.tlv_walk.specs.Place.{bound_in}
 use Rattle.tlv_walk.specs.declared.framing.Framing.{Framing}
 use Rattle.tlv_walk.specs.declared.stack.Frame.{Frame}
 use Rattle.tlv_walk.specs.Phase.{Phase, Between, InHeader, InContents, BeforeUnused, InEnd, Failed}
@@ -195,6 +194,10 @@ unused_in w = slice_get w.framing.inside w.wrappers
 -- behind a whole header
 abbrev pub behind_header : Machine → Phase → ℕ → Machine
 behind_header w phase at = record w { phase = phase; offset = at; events = w.events + 1; has_element = true }
+
+-- 8.1.3.3: the end of contents that begin there, or else the bound outside
+abbrev pub bound_in : Size → ℕ → Option ℕ → Option ℕ
+bound_in size start outside = option_map_or (λ n. Some (start + n)) (definite_length size) outside
 
 -- the frame of an element whose contents begin at the offset
 abbrev pub frame_with : ℕ → Option ℕ → Size → Bool → Frame

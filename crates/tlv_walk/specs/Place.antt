@@ -1,12 +1,13 @@
 -- Where elements may stand, and what may be open there: X.690 8.1.3, 8.1.4 and 8.1.5.
 use Rattle.std.specs.Prelude.{◌≡◌, ◌≢◌, ℕ, ◌+◌, ◌<◌, ◌≤◌, Bool, true, false, List, [], ◌∷◌, length, Option, Some, None, IfSome}
+use Rattle.std.specs.Option.{is_none, option_map_or}
 use Rattle.tlv_head.specs.declared.header.Size.{Size}
-use Rattle.tlv_head.specs.declared.header.Size.TheVariants.{Definite, Indefinite}
-use Rattle.tlv_head.specs.Header.{Heading, IsHeading, announced, holds, octets_of}
+use Rattle.tlv_head.specs.declared.header.Size.TheVariants.{Definite}
+use Rattle.tlv_head.specs.Header.{Heading, IsHeading, announced, definite_length, holds, octets_of}
 use Rattle.tlv_head.specs.Refusal.{IsFront}
 use Rattle.tlv_walk.specs.declared.framing.Framing.{Framing}
 use Rattle.tlv_walk.specs.Inside.{is_among}
-use Rattle.tlv_walk.specs.Forest.{Forest, Stop, Fill, Whole, Closed, Partial, Entered, Awaiting, Begun, Zero, contents_length, extent, is_whole, lead, opening}
+use Rattle.tlv_walk.specs.Forest.{Forest, Stop, Fill, Whole, Closed, Partial, Entered, Awaiting, Begun, Zero, extent, is_whole, lead, opening, spell}
 
 -- where a forest stands
 pub record Place : Type 0 where
@@ -31,25 +32,16 @@ top framing = record { at = 0; depth = 0; bound = None; indefinite = false; padd
 abbrev pub after : Place → ℕ → Place
 after p n = record p { at = p.at + n }
 
--- 8.1.3.3: the end of contents that begin there, or else the bound outside
-abbrev pub bound_in : Size → ℕ → Option ℕ → Option ℕ
-bound_in (Definite n) start outside = Some (start + n)
-bound_in Indefinite start outside = outside
-
 -- 8.1.3.6: the length is indefinite
 abbrev pub is_indefinite : Size → Bool
-is_indefinite (Definite n) = false
-is_indefinite Indefinite = true
+is_indefinite size = is_none (definite_length size)
 
--- 8.1.4: where the elements stand that an element with this header holds
+-- 8.1.4: where the elements stand that an element with this header holds: where its length is definite, the end of its
+-- contents is the bound
 abbrev pub inside_of : Place → Heading → Place
-inside_of p h = record {
-  at = p.at + length (opening h);
-  depth = p.depth + 1;
-  bound = bound_in h.size (p.at + length (octets_of h)) p.bound;
-  indefinite = is_indefinite h.size;
-  padding = false;
-  inside = p.inside;
+inside_of p h = record p {
+  at = p.at + length (opening h); depth = p.depth + 1; indefinite = is_indefinite h.size; padding = false;
+  bound = option_map_or (λ n. Some (p.at + length (octets_of h) + n)) (definite_length h.size) p.bound;
 }
 
 -- n octets from there on do not pass the bound
@@ -63,49 +55,37 @@ pub record IsHeadAt (p : Place) (holding : Bool) (h : Heading) : Type 0 where
   pub named : h.named ≡ is_among p.at p.inside
   pub form : holds h ≡ holding
 
--- 8.1.3.3: a definite length is that of the contents
-abbrev pub HasLength : Size → ℕ → Type 0
-HasLength (Definite n) m = m ≡ n
-HasLength Indefinite m = Unit {0}
+-- 8.1.4: an element stands there, in at most 127 others where it holds others, and n octets of it do not pass the bound
+pub record IsElementAt (p : Place) (holding : Bool) (h : Heading) (n : ℕ) : Type 0 where
+  pub header : IsHeadAt p holding h
+  pub depth : holding ≡ true → p.depth < 128
+  pub fits : Fits p n
 
--- 8.1.3.3: contents so far of that length lack octets of a definite length
-abbrev pub LacksOctets : Size → ℕ → Type 0
-LacksOctets (Definite n) m = m < n
-LacksOctets Indefinite m = Unit {0}
-
--- 8.1.4: a primitive with all its contents octets
-pub record IsWhole (p : Place) (h : Heading) (c : List ℕ) : Type 0 where
-  pub header : IsHeadAt p false h
-  pub size : h.size ≡ Definite (length c)
-  pub fits : Fits p (length (octets_of h) + length c)
-
--- 8.1.4, 8.1.5: an element that holds others and has ended
-pub record IsClosed (p : Place) (h : Heading) (inside : Forest) : Type 0 where
-  pub header : IsHeadAt p true h
-  pub depth : p.depth < 128
-  pub whole : is_whole inside ≡ true
-  pub filled : HasLength h.size (contents_length h inside)
-  pub fits : Fits p (extent h inside)
-
--- 8.1.4: the header of an element that holds others, with its contents inside the bound
-pub record IsEntry (p : Place) (h : Heading) : Type 0 where
-  pub header : IsHeadAt p true h
-  pub depth : p.depth < 128
-  pub fits : Fits p (length (octets_of h) + announced h.size)
+-- 8.1.3.3: nor do all the contents octets that it announces
+abbrev pub IsEntry : Place → Bool → Heading → Type 0
+IsEntry p holding h = IsElementAt p holding h (length (octets_of h) + announced h.size)
 
 -- an open forest: each element in it stands by the rules, and no octet and no announced end lies past the bound
 abbrev pub IsOpen : Place → Forest → Type 0
 IsOpen p Stop = Unit {0}
 -- an octet 00 between encodings
 IsOpen p (Fill rest) = ((p.padding ≡ true) × (p.indefinite ≡ false) × Fits p 1) × IsOpen (after p 1) rest
-IsOpen p (Whole h c rest) = IsWhole p h c × IsOpen (after p (length (octets_of h) + length c)) rest
-IsOpen p (Closed h inside rest) = IsClosed p h inside × IsOpen (inside_of p h) inside × IsOpen (after p (extent h inside)) rest
+-- 8.1.4: a primitive with all its contents octets
+IsOpen p (Whole h c rest) =
+    (IsElementAt p false h (length (octets_of h) + length c) × (h.size ≡ Definite (length c))) × IsOpen (after p (length (octets_of h) + length c)) rest
+-- 8.1.4, 8.1.5: an element that holds others and has ended. 8.1.3.3: a definite length is that of the contents
+IsOpen p (Closed h inside rest) =
+    (IsElementAt p true h (extent h inside) × (is_whole inside ≡ true) × IfSome (definite_length h.size) (λ n. length (lead h) + length (spell inside) ≡ n))
+    × IsOpen (inside_of p h) inside × IsOpen (after p (extent h inside)) rest
 -- 8.1.4: a primitive that lacks contents octets
-IsOpen p (Partial h c) = IsHeadAt p false h × (length c < announced h.size) × Fits p (length (octets_of h) + announced h.size)
--- 8.1.4: an element that holds others and has not ended: where what it holds is whole, contents octets are lacking
-IsOpen p (Entered h inside) = (IsEntry p h × (is_whole inside ≡ true → LacksOctets h.size (contents_length h inside))) × IsOpen (inside_of p h) inside
+IsOpen p (Partial h c) = IsEntry p false h × (length c < announced h.size)
+-- 8.1.4: an element that holds others and has not ended: where what it holds is whole, and the length is
+-- definite, contents octets are lacking
+IsOpen p (Entered h inside) =
+    (IsEntry p true h × (is_whole inside ≡ true → IfSome (definite_length h.size) (λ n. length (lead h) + length (spell inside) < n)))
+    × IsOpen (inside_of p h) inside
 -- 8.6.2.2: a wrapping BIT STRING of which the header alone is there
-IsOpen p (Awaiting h) = IsEntry p h × (lead h ≡ 0 ∷ [])
+IsOpen p (Awaiting h) = IsEntry p true h × (lead h ≡ 0 ∷ [])
 -- the front of a header, or the first of the end-of-contents octets, inside the bound
 IsOpen p (Begun octets) = (octets ≢ []) × IsFront octets × Fits p (length octets)
 IsOpen p Zero = (p.indefinite ≡ true) × Fits p 1

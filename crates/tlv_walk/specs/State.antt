@@ -56,7 +56,7 @@ pub record AreWhole (p : Place) (f : Forest) : Type 0 where
 abbrev pub AreLayers : Framing → List Layer → Type 0
 AreLayers w [] = Unit {0}
 AreLayers w (l ∷ ls) =
-    AreLayers w ls × AreWhole (place_in w ls) l.before × IsEntry (after (place_in w ls) (length (spell l.before))) l.head
+    AreLayers w ls × AreWhole (place_in w ls) l.before × IsEntry (after (place_in w ls) (length (spell l.before))) true l.head
 
 -- 8.1.3.3: a primitive of which so many contents octets are still to come
 pub record IsContents (p : Place) (h : Heading) (c : List ℕ) (left : ℕ) : Type 0 where

@@ -1,5 +1,6 @@
 -- Which of the named offsets are those of strings that hold encodings.
-use Rattle.std.specs.Prelude.{ℕ, if◌then◌else◌, List, [], ◌∷◌, ◌++◌, Option, Some, None}
+use Rattle.std.specs.Prelude.{ℕ, not, if◌then◌else◌, List, [], ◌∷◌, ◌++◌, Option}
+use Rattle.std.specs.List.{find}
 use Rattle.tlv_head.specs.Header.{Heading}
 use Rattle.tlv_walk.specs.Events.{Told, Enter}
 use Rattle.tlv_walk.specs.Forest.{Forest, Fill, Whole, Closed, Entered, Awaiting}
@@ -18,14 +19,13 @@ wrappers (Entered h inside) = wrapper_at h ++ wrappers inside
 wrappers (Awaiting h) = wrapper_at h
 wrappers end = []
 
--- the first offset of the list that is not among the others
-abbrev pub first_other : List ℕ → List ℕ → Option ℕ
-first_other [] others = None
-first_other (n ∷ ns) others = if is_among n others then first_other ns others else Some n
-
 -- the first named offset that is no wrapper's
 abbrev pub unused_of : List ℕ → Forest → Option ℕ
-unused_of inside f = first_other inside (wrappers f)
+unused_of inside f = find (λ n. not (is_among n (wrappers f))) inside
+
+-- the first offset of the list that is not among the others
+abbrev pub first_other : List ℕ → List ℕ → Option ℕ
+first_other ns others = find (λ n. not (is_among n others)) ns
 
 -- the offsets of the wrappers that events enter
 abbrev pub enters : List Told → List ℕ

@@ -1,5 +1,5 @@
 -- A job over octets in memory, whatever the reads give of them.
-use Rattle.std.proofs.Common.{◌≡◌, ◌≢◌, inl, inr, ℕ, zero, suc, ◌-◌, ◌<◌, ◌≤◌, slice_index_or, Fits, w8, Bool, true, false, List, [], ◌∷◌, ◌++◌, length, take}
+use Rattle.std.proofs.Common.{◌≡◌, ◌≢◌, ◌⊎◌, inl, inr, ℕ, zero, suc, ◌-◌, ◌<◌, ◌≤◌, slice_index_or, Fits, w8, Bool, true, false, List, [], ◌∷◌, ◌++◌, length, take}
 use Rattle.std.proofs.Common.{refl, sym, ap, ◌∙◌, subst, arith, append_assoc, append-nil, length-append}
 use Rattle.arrayvec.specs.ArrayVec.{ArrayVec}
 use Rattle.std.proofs.lemmas.Bool.{cases_lt, lt-ltb, true≢false}
@@ -9,6 +9,8 @@ use Rattle.std.proofs.Math.Seq.{take-append-add, take-append_seam}
 use Rattle.std.specs.Prelude.{if◌then◌else◌, Option, Some, None, Result, Ok, Err, ⊤}
 use Rattle.std.specs.Io.KnownBytes.{Appends, Consumes, IsAtEnd}
 use Rattle.tlv_value.specs.Names.{Table}
+use Rattle.tlv_walk.proofs.Enough.{ends_with, settled_by}
+use Rattle.tlv_walk.proofs.Pieces.{GaveLast}
 use Rattle.tlv_walk.proofs.Endings.{IsRefused, fault-halt}
 use Rattle.tlv_walk.proofs.Puts.{more_left, sends_appends}
 use Rattle.tlv_walk.proofs.Readings.{halt-longest, reading-unique}
@@ -18,7 +20,7 @@ use Rattle.tlv_walk.specs.declared.framing.Framing.{Framing}
 use Rattle.tlv_walk.specs.declared.run.DeviceFault.{DeviceFault}
 use Rattle.tlv_walk.specs.declared.run.DeviceFault.TheVariants.{ReadFailed, WriteFailed, InputTooLong}
 use Rattle.std.specs.List.{concat}
-use Rattle.tlv_walk.specs.Device.{GaveLast, Last, Supply, Taken, counted, failed, gave, given_in, never, unread}
+use Rattle.tlv_walk.specs.Device.{Last, Supply, Taken, counted, failed, gave, given_in, never, unread}
 use Rattle.tlv_walk.specs.Ending.{IsEnding}
 use Rattle.tlv_walk.specs.Forest.{Forest, spell}
 use Rattle.tlv_walk.specs.Job.{AreSound, EndsWith, IsFinalEnding, Job, Runs}
@@ -82,13 +84,19 @@ front_and_rest written sent left text rest longer w t l =
     sym l ∙ ap (λ (xs : List ℕ). xs ++ rest) (sym t) ∙ append_assoc sent left rest ∙ ap (λ (xs : List ℕ). xs ++ (left ++ rest)) (sym w)
 
 pub gave_none : (l : Last) (xs : List ℕ) → l ≡ gave 0 → GaveLast l xs → xs ≡ []
-gave_none l xs e g = let z : GaveLast (gave 0) xs = rw e at g in nothing xs z where
+gave_none l xs e (inr g) = g.1
+gave_none l xs e (inl g) = nothing xs (ap octets_in (sym e ∙ g)) where
+  octets_in : Last → ℕ
+  octets_in never = 0
+  octets_in (gave n) = n
+  octets_in failed = 0
   nothing : (xs : List ℕ) → 0 ≡ length xs → xs ≡ []
   nothing [] e = refl
   nothing (x ∷ xs) e = absurd (cc (e))
 
 failed_none : (l : Last) (xs : List ℕ) → l ≡ failed → GaveLast l xs → xs ≡ []
-failed_none l xs e g = let z : GaveLast failed xs = rw e at g in z
+failed_none l xs e (inl g) = absurd (cc)
+failed_none l xs e (inr g) = g.1
 
 module _ (job : Job Said) (stays : Stays job)
     (goes_on : (b c : List ℕ) (f g : Forest) → length (b ++ c) ≤ job.limit
@@ -152,7 +160,7 @@ module _ (job : Job Said) (stays : Stays job)
         let m : Made = made_of job x.reading e in
         let b : List ℕ = take job.limit given in
         let same : m.said ≡ said = sym x.comes.1 in
-        let y : Makes job b m = record { reading = x.reading; is_reading = x.is_reading; ends = x.comes.2; is_made = refl } in
+        let y : Makes job b m = record { reading = x.reading; is_reading = x.is_reading; ends = ends_with job.framing b (job.is_enough x.reading) e (IsFinalEnding e ⊎ ((new.last ≡ gave 0) × IsAtEnd new.left)) x.comes.2; is_made = refl } in
         let sent : written ≡ m.output = all_sent (job.text x.reading) x.sends in
         let front = take_front job.limit given left.0 in
         let is : seen ≡ b ++ front.0 = ap (take job.limit) left.2 ∙ front.1 in
@@ -160,7 +168,7 @@ module _ (job : Job Said) (stays : Stays job)
         let z = settled_stays job stays b front.0 m (subst AreOctets is (All-take (λ x. x < 256) job.limit octets all)) y k in
         let z' : (z : Makes job seen m) × IsSettled z = subst (λ (o : List ℕ). (z : Makes job o m) × IsSettled z) (sym is) z in
         whole m said z'.0 sent (subst (λ (s : Said). IsSaid job octets read_fails z'.0 s) same (settled z'.1)) in
-        elim x.comes.3 [
+        elim (settled_by job.framing b (job.is_enough x.reading) e (IsFinalEnding e ⊎ ((new.last ≡ gave 0) × IsAtEnd new.left)) x.comes.2) [
           | inl enough ↦ final (inl enough)
           | inr rest ↦ elim rest [
             | inl refused ↦ final (inr refused)

@@ -1,14 +1,15 @@
 -- A run over a source that knows its octets, where neither device fails.
-use Rattle.std.proofs.Common.{◌≡◌, inl, inr, ℕ, ◌-◌, ◌^◌, ◌<◌, ◌≤◌, List, [], ◌++◌, length, take, refl, sym, ap, ◌∙◌, subst, arith, append-nil, length-append}
+use Rattle.std.proofs.Common.{◌≡◌, ◌⊎◌, inl, inr, ℕ, ◌-◌, ◌^◌, ◌<◌, ◌≤◌, List, [], ◌++◌, length, take, refl, sym, ap, ◌∙◌, subst, arith, append-nil, length-append}
 use Rattle.std.proofs.lemmas.List.{take_all}
 use Rattle.std.specs.Prelude.{Some, Result, Ok, Err}
-use Rattle.std.specs.Io.KnownBytes.{Appends}
+use Rattle.std.specs.Io.KnownBytes.{Appends, IsAtEnd}
+use Rattle.tlv_walk.proofs.Enough.{ends_with, settled_by}
 use Rattle.tlv_walk.proofs.Puts.{sends_appends}
 use Rattle.tlv_walk.specs.declared.ending.Ending.{Ending}
 use Rattle.tlv_walk.specs.declared.run.DeviceFault.{DeviceFault}
 use Rattle.tlv_walk.specs.declared.run.DeviceFault.TheVariants.{ReadFailed, WriteFailed, InputTooLong}
-use Rattle.tlv_walk.specs.Device.{Supply, Taken, counted, given_in}
-use Rattle.tlv_walk.specs.Job.{Job, Runs}
+use Rattle.tlv_walk.specs.Device.{Supply, Taken, counted, gave, given_in}
+use Rattle.tlv_walk.specs.Job.{IsFinalEnding, Job, Runs}
 use Rattle.tlv_walk.specs.Laws.{AreOctets}
 use Rattle.tlvdump.proofs.InMemory.{at_end, left_of}
 use Rattle.tlvdump.proofs.Results.{Stays, limit_is, settled_stays, stays_for}
@@ -37,12 +38,12 @@ module _ (job : Job Said) (stays : Stays job) (octets : List ℕ) (all : AreOcte
       let m : Made = made_of job x.reading e in
       let short : length given ≤ job.limit = omega (arith, few, ap length left.2, length-append given left.0) in
       let is : octets ≡ take job.limit given ++ left.0 = left.2 ∙ ap (λ (l : List ℕ). l ++ left.0) (sym (take_all job.limit given short)) in
-      let y : Makes job (take job.limit given) m = record { reading = x.reading; is_reading = x.is_reading; ends = x.comes.2; is_made = refl } in
+      let y : Makes job (take job.limit given) m = record { reading = x.reading; is_reading = x.is_reading; ends = ends_with job.framing (take job.limit given) (job.is_enough x.reading) e (IsFinalEnding e ⊎ ((new.last ≡ gave 0) × IsAtEnd new.left)) x.comes.2; is_made = refl } in
       let sent : Appends from.octets to.octets m.output = sends_appends from to (job.text x.reading) tt x.sends in
       let final : IsSettled y → Gives said = λ (k : IsSettled y).
       let z = settled_stays job stays (take job.limit given) left.0 m (subst AreOctets is all) y k in
       (m, subst (λ (o : List ℕ). Makes job o m) (sym is) z.0, sent, x.comes.1) in
-      elim x.comes.3 [
+      elim (settled_by job.framing (take job.limit given) (job.is_enough x.reading) e (IsFinalEnding e ⊎ ((new.last ≡ gave 0) × IsAtEnd new.left)) x.comes.2) [
         | inl enough ↦ final (inl enough)
         | inr rest ↦ elim rest [
           | inl refused ↦ final (inr refused)

@@ -26,7 +26,7 @@ module _ {A : Type 0} (say : A → Said) (job : Job A) where
         reading = x.reading;
         is_reading = x.is_reading;
         sends = x.sends;
-        comes = (x.comes.0, ap say x.comes.1, x.comes.2, x.comes.3);
+        comes = (x.comes.0, ap say x.comes.1, x.comes.2);
       };
       said_is = e;
     }
