@@ -1,11 +1,10 @@
 -- What is found in an element, by rules.
-use Rattle.std.specs.Prelude.{ℕ, Bool, List, slice_index, codes}
-use Rattle.std.specs.List.{filter}
+use Rattle.std.specs.Prelude.{ℕ, Bool, List, eqb, slice_index, codes}
+use Rattle.std.specs.List.{filter, list_any}
 use Rattle.tlv_head.specs.Header.{Heading}
 use Rattle.tlv_value.specs.declared.finding.Finding.{Finding}
 use Rattle.tlv_value.specs.Checks.{contents_findings as found_on_contents, held}
 use Rattle.tlv_value.specs.Finding.{code_of}
-use Rattle.tlv_value.specs.Types.{is_among}
 use Rattle.tlv_show.specs.declared.rules.Rules.{Rules}
 use Rattle.tlv_show.specs.declared.rules.Rules.TheVariants.{Ber, Der, Cer}
 use Rattle.tlv_show.specs.Conditions.{end_conditions, header_conditions}
@@ -18,7 +17,7 @@ letters Der = codes "BSD"
 letters Cer = codes "BSC"
 
 abbrev pub shows : Rules → Finding → Bool
-shows rules finding = is_among (slice_index (code_of finding) 0) (letters rules)
+shows rules finding = list_any (eqb (slice_index (code_of finding) 0)) (letters rules)
 
 -- ---- Words of laws, proofs and private functions alone
 

@@ -6,10 +6,11 @@ use Rattle.std.proofs.lemmas.Nat.{pow-add}
 use Rattle.std.proofs.lemmas.List.{length-map, nil_from_length}
 use Rattle.std.proofs.Math.ListN.{length-drop}
 use Rattle.std.specs.Prelude.{Option, Some, None, unwrap_or, decimal, nat_lt, nat_le, if◌then◌else◌}
+use Rattle.std.specs.List.{onto_first}
 use Rattle.std.proofs.lemmas.Bool.Decides.{nat_tests}
 use Rattle.std.proofs.lemmas.Fmt.{length-decimal-le_wide}
 use Rattle.std.proofs.Math.Nat.{pow-suc}
-use Rattle.tlv_value.specs.Arcs.{parts_of, onto_first, subidentifier, subidentifiers, part_text, first_arcs, arcs_of, behind_dots, dotted, is_finished, all_below, dotted_text}
+use Rattle.tlv_value.specs.Arcs.{parts_of, subidentifier, subidentifiers, part_text, first_arcs, arcs_of, behind_dots, dotted, is_finished, all_below, dotted_text}
 
 -- the text goes on with the subidentifiers of these octets, of which the first has begun with n
 abbrev pub run : List ℕ → Bool → Bool → ℕ → List ℕ → Option (List ℕ)

@@ -9,7 +9,7 @@ use Rattle.tlv_head.specs.declared.header.Size.TheVariants.{Definite}
 use Rattle.tlv_head.specs.Header.{Heading}
 use Rattle.tlv_value.specs.declared.finding.Finding.{Finding}
 use Rattle.tlv_value.specs.declared.finding.Finding.TheVariants.{B06, B07, B08, B09, B10, B11, B12, B13, B14, B15, B18, B19, S02, S03, S04}
-use Rattle.tlv_value.specs.Checks.{allows, allows_octet, contents_conditions, contents_findings, every, first, held, is_padded_integer, is_padded_object, last_of}
+use Rattle.tlv_value.specs.Checks.{allows, allows_both, allows_octet, contents_conditions, contents_findings, every, first, held, is_padded_integer, is_padded_object, last_of}
 use Rattle.tlv_value.specs.CheckNotes.{Noted, time_findings, universal_findings, where_it}
 use Rattle.tlv_value.specs.CheckState.{all_utf8, allowed_in, each_noted, more_noted, noted_in, notes_each, type_noted, unchecked_of}
 use Rattle.tlv_value.specs.Rows.{full_rows, open_row}
@@ -59,8 +59,7 @@ boolean-same : (c : List ℕ) → on 1 c ≡ universal_findings 1 (noted 1 c)
 boolean-same c =
     let a : List Finding = where_it (not (length c == 1)) B06 in
     let odd : ℕ → List Finding = λ x. where_it (length c == 1 && not (x == 0 || x == 255)) S02 in
-    ap (λ (k : Bool). a ++ (where_it (not k) B18 ++ (odd (first c) ++ []))) (every-is (allows_octet 1) (λ x. refl) c)
-    ∙ ap (λ (l : List Finding). a ++ l) (append-nil (odd (first c)))
+    ap (λ (l : List Finding). a ++ l) (append-nil (odd (first c)))
     ∙ ap (λ (x : ℕ). a ++ odd x) (first-noted c)
 
 integer-by : (c : List ℕ) → where_it (length c == 0) B07 ++ (where_it (is_padded_integer c) B08 ++ []) ≡ where_it (length c == 0) B07 ++ where_it (is_padded_integer (take 2 c)) B08
@@ -70,11 +69,11 @@ integer-by c =
 
 integer-same : (c : List ℕ) → on 2 c ≡ universal_findings 2 (noted 2 c)
 integer-same c =
-    ap (λ (k : Bool). where_it (length c == 0) B07 ++ (where_it (is_padded_integer c) B08 ++ (where_it (not k) B18 ++ []))) (every-is (allows_octet 2) (λ x. refl) c) ∙ integer-by c
+    integer-by c
 
 enumerated-same : (c : List ℕ) → on 10 c ≡ universal_findings 10 (noted 10 c)
 enumerated-same c =
-    ap (λ (k : Bool). where_it (length c == 0) B07 ++ (where_it (is_padded_integer c) B08 ++ (where_it (not k) B18 ++ []))) (every-is (allows_octet 10) (λ x. refl) c) ∙ integer-by c
+    integer-by c
 
 bits-same : (c : List ℕ) → on 3 c ≡ universal_findings 3 (noted 3 c)
 bits-same c =
@@ -83,28 +82,26 @@ bits-same c =
     let d : ℕ → List Finding = λ x. where_it (length c == 1 && nat_le 1 x && nat_le x 7) B15 in
     let e : ℕ → List Finding = λ x. where_it (nat_le 2 (length c) && nat_le x 7 && not (last_of 0 c % 2 ^ x == 0)) S03 in
     let x : ℕ = first c in
-    ap (λ (k : Bool). a ++ (b x ++ (d x ++ (where_it (not k) B18 ++ (e x ++ []))))) (every-is (allows_octet 3) (λ y. refl) c)
-    ∙ four a (b x) (d x) (e x)
+    four a (b x) (d x) (e x)
     ∙ ap (λ (y : ℕ). ((a ++ b y) ++ d y) ++ e y) (first-noted c)
 
 null-same : (c : List ℕ) → on 5 c ≡ universal_findings 5 (noted 5 c)
 null-same c =
     let a : List Finding = where_it (not (length c == 0)) B09 in
-    ap (λ (k : Bool). a ++ (where_it (not k) B18 ++ [])) (every-is (allows_octet 5) (λ x. refl) c) ∙ append-nil a
+    append-nil a
 
 object-same : (c : List ℕ) → on 6 c ≡ universal_findings 6 (noted 6 c)
 object-same c =
     let a : List Finding = where_it (length c == 0) B10 in
     let b : List Finding = where_it (is_padded_object c) B11 in
     let d : List Finding = where_it (nat_le 128 (last_of 0 c)) B12 in
-    ap (λ (k : Bool). a ++ (b ++ (d ++ (where_it (not k) B18 ++ [])))) (every-is (allows_octet 6) (λ x. refl) c)
-    ∙ ap (λ (l : List Finding). a ++ (b ++ l)) (append-nil d)
+    ap (λ (l : List Finding). a ++ (b ++ l)) (append-nil d)
 
 relative-same : (c : List ℕ) → on 13 c ≡ universal_findings 13 (noted 13 c)
 relative-same c =
     let b : List Finding = where_it (is_padded_object c) B11 in
     let d : List Finding = where_it (nat_le 128 (last_of 0 c)) B12 in
-    ap (λ (k : Bool). b ++ (d ++ (where_it (not k) B18 ++ []))) (every-is (allows_octet 13) (λ x. refl) c) ∙ ap (λ (l : List Finding). b ++ l) (append-nil d)
+    ap (λ (l : List Finding). b ++ l) (append-nil d)
 
 tests : (a b : Bool) → where_it (not a) B19 ++ (where_it (a && not b) S04 ++ []) ≡ time_findings a b
 tests true true = refl
@@ -121,15 +118,36 @@ time-by true form canonical c c' e = tests (has_form form c) (has_form canonical
 
 utc-same : (c : List ℕ) → on 23 c ≡ universal_findings 23 (noted 23 c)
 utc-same c =
-    ap (λ (k : Bool). where_it (not k) B18 ++ (where_it (nat_le (length c) 64 && not (has_form utc_time c)) B19 ++ (where_it (nat_le (length c) 64 && has_form utc_time c && not (has_form canonical_utc_time c)) S04 ++ [])))
-    (every-is (allows_octet 23) (λ x. refl) c)
-    ∙ time-by (nat_le (length c) 64) utc_time canonical_utc_time c (take 64 c) (λ e. take-all 64 c (leb-true (length c) 64 e))
+    time-by (nat_le (length c) 64) utc_time canonical_utc_time c (take 64 c) (λ e. take-all 64 c (leb-true (length c) 64 e))
 
 general-same : (c : List ℕ) → on 24 c ≡ universal_findings 24 (noted 24 c)
 general-same c =
-    ap (λ (k : Bool). where_it (not k) B18 ++ (where_it (nat_le (length c) 64 && not (has_form general_time c)) B19 ++ (where_it (nat_le (length c) 64 && has_form general_time c && not (has_form canonical_general_time c)) S04 ++ [])))
-    (every-is (allows_octet 24) (λ x. refl) c)
-    ∙ time-by (nat_le (length c) 64) general_time canonical_general_time c (take 64 c) (λ e. take-all 64 c (leb-true (length c) 64 e))
+    time-by (nat_le (length c) 64) general_time canonical_general_time c (take 64 c) (λ e. take-all 64 c (leb-true (length c) 64 e))
+
+-- all octets at once, and each of them
+both-at : (n k : ℕ) (c : List ℕ) → eqb n k ≡ true → allows_both k c ≡ allows k c → allows_both n c ≡ allows n c
+both-at n k c e h = subst (λ (m : ℕ). allows_both m c ≡ allows m c) (sym (eqb-true n k e)) h
+
+with-each : (k : Bool) (test : ℕ → Bool) → ((x : ℕ) → test x ≡ true) → (c : List ℕ) → (k && every test c) ≡ k
+with-each true test e c = every-is test e c
+with-each false test e c = refl
+
+allows-both : (n : ℕ) (c : List ℕ) → allows_both n c ≡ allows n c
+allows-both n c = at (eqb n 12) (eqb n 18) (eqb n 19) (eqb n 22) (eqb n 26) (eqb n 28) (eqb n 30) refl refl refl refl refl refl refl
+  where
+    at : (p q r s t u v : Bool) → eqb n 12 ≡ p → eqb n 18 ≡ q → eqb n 19 ≡ r → eqb n 22 ≡ s → eqb n 26 ≡ t → eqb n 28 ≡ u → eqb n 30 ≡ v
+        → allows_both n c ≡ allows n c
+    at true q r s t u v e f g h i j k = both-at n 12 c e (with-each (is_utf8 c) (allows_octet 12) (λ x. refl) c)
+    at false true r s t u v e f g h i j k = both-at n 18 c f refl
+    at false false true s t u v e f g h i j k = both-at n 19 c g refl
+    at false false false true t u v e f g h i j k = both-at n 22 c h refl
+    at false false false false true u v e f g h i j k = both-at n 26 c i refl
+    at false false false false false true v e f g h i j k = both-at n 28 c j (with-each (eqb (length c % 4) 0) (allows_octet 28) (λ x. refl) c)
+    at false false false false false false true e f g h i j k = both-at n 30 c k (with-each (eqb (length c % 2) 0) (allows_octet 30) (λ x. refl) c)
+    at false false false false false false false e f g h i j k =
+        let l : allows_both n c ≡ true = rw (e, j, k) (every-is (allows_octet n) (λ x. rw (f, g, h, i) refl) c) in
+        let r : allows n c ≡ true = rw (e, f, g, h, i, j, k) refl in
+        l ∙ sym r
 
 -- of any other type
 allowed-each : (n : ℕ) (c : List ℕ) (text : Bool)
@@ -148,9 +166,9 @@ allowed-each n c false = refl
 
 other-allowed : (n : ℕ) (c : List ℕ) → eqb n 1 ≡ false → eqb n 2 ≡ false → eqb n 3 ≡ false → eqb n 10 ≡ false → eqb n 23 ≡ false → eqb n 24 ≡ false
     → allowed_in (more_noted (unchecked_of n (length c)) c) ≡ allows n c
-other-allowed n c e1 e2 e3 e10 e23 e24 = rw (e1, e2, e3, e10, e23, e24) (by (notes_each n) refl)
+other-allowed n c e1 e2 e3 e10 e23 e24 = rw (e1, e2, e3, e10, e23, e24) (by (notes_each n) refl) ∙ allows-both n c
   where
-    by : (k : Bool) → notes_each n ≡ k → allowed_in (if k then each_noted (unchecked_of n (length c)) c else unchecked_of n (length c)) ≡ allows n c
+    by : (k : Bool) → notes_each n ≡ k → allowed_in (if k then each_noted (unchecked_of n (length c)) c else unchecked_of n (length c)) ≡ allows_both n c
     by true e = allowed-each n c (eqb n 12)
     by false e = ap allowed_in (sym (nothing-noted (unchecked_of n (length c)) c e)) ∙ allowed-each n c (eqb n 12)
 

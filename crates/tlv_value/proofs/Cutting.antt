@@ -5,8 +5,9 @@ use Rattle.std.proofs.lemmas.Bool.{eqb-true, leb-true}
 use Rattle.std.proofs.lemmas.Bool.Decides.{nat_tests}
 use Rattle.tlv_value.specs.declared.kind.Kind.{Kind}
 use Rattle.tlv_value.specs.declared.kind.Kind.TheVariants.{Octets, Boolean, Integer, Bits, Object, Relative, Text, Utf8, Ucs2, Ucs4}
-use Rattle.tlv_value.specs.Cuts.{AreFull, AreRows, IsFull, IsRow, RowsAreACut, put_together}
-use Rattle.tlv_value.specs.Rows.{announced, full_rows, has_room, last_rows, open_row, row_size}
+use Rattle.tlv_value.specs.Cuts.{AreFull, AreRows, IsCut, IsFull, IsRow, RowsAreACut, put_together}
+use Rattle.tlv_value.specs.Rows.{announced, cut_rows, full_rows, has_room, last_rows, open_row, row_size}
+use Rattle.tlv_value.proofs.RowsFrom.{rows-whole}
 use Rattle.tlv_value.proofs.RowSteps.{first-room}
 
 pub size-some : (kind : Kind) → 16 ≤ row_size kind
@@ -131,4 +132,5 @@ pub rows-cut : RowsAreACut
 rows-cut kind octets =
     let z = size-some kind in
     let c = cut-on kind [] octets (λ i g. absurd (omega arith)) (omega arith) in
-    record { together = c.together; each = c.each; full = c.full }
+    let cut : IsCut kind octets (cut_rows kind octets) = record { together = c.together; each = c.each; full = c.full } in
+    rw (rows-whole kind octets) cut

@@ -12,7 +12,8 @@ use Rattle.tlv_value.specs.Layout.{columns, margin, row_line}
 use Rattle.tlv_value.specs.ObjectLines.{object_lines}
 use Rattle.tlv_value.specs.Rows.{full_rows, last_rows}
 use Rattle.tlv_value.specs.State.{TextState, ended, line_in, row_lines, told}
-use Rattle.tlv_value.specs.Value.{NameOf, Value, bit_count, bits_value, boolean_value, held_value, in_rows, integer_value, is_long, is_readable, long_text, most_held, no_names, octets_value, plain_text, row_text, shown_with, used_digits}
+use Rattle.tlv_value.specs.KindValues.{bits_value, boolean_value, in_rows, integer_value, is_long, is_readable, kind_value, long_text, plain_text}
+use Rattle.tlv_value.specs.Value.{NameOf, Value, bit_count, most_held, no_names, octets_value, row_text, shown_with, used_digits}
 
 -- what an element's line begins with
 abbrev pub start_in : TextState → List ℕ
@@ -37,18 +38,18 @@ module _ (name_of : NameOf) (size : ℕ) (layout : Layout) (line : List ℕ → 
   abbrev ended_by : Kind → List ℕ
   ended_by kind =
       if is_long kind size then row_lines kind layout rows (last_rows row)
-      else line (held_value name_of kind row).text ++ row_lines kind layout 0 (held_value name_of kind row).rows
+      else line (kind_value name_of kind row).text ++ row_lines kind layout 0 (kind_value name_of kind row).rows
 
   ended-object_at : (kind : Kind) → kind ≡ Object → is_long kind size ≡ false → ((text : List ℕ) → line text ≡ (start ++ text) ++ 10 ∷ []) → ended_by kind ≡ object_lines name_of layout start false row
   ended-object_at kind e l f =
       let h : is_long Object size ≡ false = rw e at l in
-      let v = held_value name_of Object row in
+      let v = kind_value name_of Object row in
       rw e (rw h (ap (λ (t : List ℕ). line v.text ++ t) (object-rows layout 0 v.rows) ∙ ap (λ (t : List ℕ). t ++ row_lines Octets layout 0 v.rows) (f v.text)))
 
   ended-relative_at : (kind : Kind) → kind ≡ Relative → is_long kind size ≡ false → ((text : List ℕ) → line text ≡ (start ++ text) ++ 10 ∷ []) → ended_by kind ≡ object_lines no_names layout start true row
   ended-relative_at kind e l f =
       let h : is_long Relative size ≡ false = rw e at l in
-      let v = held_value name_of Relative row in
+      let v = kind_value name_of Relative row in
       rw e (rw h (ap (λ (t : List ℕ). line v.text ++ t) (relative-rows layout 0 v.rows) ∙ ap (λ (t : List ℕ). t ++ row_lines Octets layout 0 v.rows) (f v.text)))
 
 pub ended-object : (name_of : NameOf) (s : TextState) → kind_of s.class s.number ≡ Object → is_long (kind_of s.class s.number) s.size ≡ false → ended name_of s ≡ object_lines name_of s.layout (start_in s) false s.kept.row
@@ -60,7 +61,7 @@ ended-relative name_of s e l = ended-relative_at name_of s.size s.layout (line_i
 -- held values without rows
 
 abbrev IsPlain : NameOf → Kind → List ℕ → Type 0
-IsPlain name_of kind row = ((held_value name_of kind row).text ≡ plain_text kind row) × ((held_value name_of kind row).rows ≡ [])
+IsPlain name_of kind row = ((kind_value name_of kind row).text ≡ plain_text kind row) × ((kind_value name_of kind row).rows ≡ [])
 
 octets-plain : (row : List ℕ) → length row ≤ 16 → (octets_value row).rows ≡ []
 octets-plain row h = let b : nat_le (length row) 16 ≡ true = grind (arith, nat_tests) in rw b refl
@@ -75,7 +76,7 @@ boolean-rows (x ∷ y ∷ row) h = octets-plain (x ∷ y ∷ row) h
 
 integer-rows : (row : List ℕ) → length row ≤ 16 → (integer_value row).rows ≡ []
 integer-rows [] h = refl
-integer-rows (x ∷ row) h = let b : nat_le (length (x ∷ row)) 16 ≡ true = grind (arith, nat_tests) in rw b refl
+integer-rows (x ∷ row) h = refl
 
 if-rows : (b : Bool) (x y : Value) → x.rows ≡ [] → y.rows ≡ [] → (if b then x else y).rows ≡ []
 if-rows true x y e f = e
@@ -100,7 +101,7 @@ held-plain name_of Ucs4 row o r h = (refl, refl)
 
 ended-plain_at : (name_of : NameOf) (kind : Kind) (size : ℕ) (layout : Layout) (line : List ℕ → List ℕ) (start : List ℕ) (rows : ℕ) (row : List ℕ) → IsPlain name_of kind row → is_long kind size ≡ false
     → ((text : List ℕ) → line text ≡ (start ++ text) ++ 10 ∷ [])
-    → (if is_long kind size then row_lines kind layout rows (last_rows row) else line (held_value name_of kind row).text ++ row_lines kind layout 0 (held_value name_of kind row).rows)
+    → (if is_long kind size then row_lines kind layout rows (last_rows row) else line (kind_value name_of kind row).text ++ row_lines kind layout 0 (kind_value name_of kind row).rows)
     ≡ (start ++ plain_text kind row) ++ 10 ∷ []
 ended-plain_at name_of kind size layout line start rows row p l f = rw (l, p.0, p.1, append-nil) (f (plain_text kind row))
 

@@ -4,6 +4,8 @@ pub mod Forms
 pub mod UnitSteps
 pub mod LineLengths
 pub mod Texts
+pub mod RowsFrom
+pub mod KindValues
 pub mod RowSteps
 pub mod Short
 pub mod Puts

@@ -7,7 +7,7 @@ use Rattle.std.proofs.Math.Nat.{pow-succ', one-le-pow, mul-le-mul}
 use Rattle.std.proofs.lemmas.Bool.{or_cases, cases_lt, and_parts, and_from, and_left, and_right, leb-true, lt-leb, le-leb, eqb-true, eqb-false, ne_eqb, not-true, le-ltb}
 use Rattle.std.proofs.lemmas.List.{take_all, take_more, take_rest}
 use Rattle.std.proofs.lemmas.List.Splits.{slice_split_first}
-use Rattle.tlv_value.specs.Arcs.{onto_first}
+use Rattle.std.specs.List.{onto_first}
 use Rattle.tlv_value.specs.Names.{lines, is_blank, without_first_blanks, without_last_blanks, is_digit, is_arc, parts, number, may_begin, are_first_arcs, trimmed, without_return, no_name, named, pair_line, text_line, line_of, is_dotted, is_name}
 
 abbrev is_mark : ℕ → ℕ → Bool

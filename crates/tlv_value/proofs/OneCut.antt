@@ -1,5 +1,5 @@
 -- Contents are cut into rows in one way alone.
-use Rattle.std.proofs.Common.{◌≡◌, inl, inr, ℕ, ◌+◌, ◌<◌, ◌≤◌, Bool, true, false, List, [], ◌∷◌, ◌++◌, length, get_or, refl, sym, ap, arith, append-nil, length-append}
+use Rattle.std.proofs.Common.{◌≡◌, inl, inr, ℕ, ◌+◌, ◌<◌, ◌≤◌, Bool, true, false, List, [], ◌∷◌, ◌++◌, length, get_or, refl, sym, ap, ◌∙◌, arith, append-nil, length-append}
 use Rattle.std.proofs.Math.Seq.{drop-append_seam, get_or-append_seam, take-append_seam}
 use Rattle.std.proofs.lemmas.Bool.{eqb-true}
 use Rattle.std.proofs.lemmas.Bool.Decides.{nat_tests}
@@ -10,6 +10,7 @@ use Rattle.tlv_value.specs.Cuts.{AreFull, AreRows, FullRowsAreOfTheCut, IsFull, 
 use Rattle.tlv_value.specs.Room.{HaveRoom}
 use Rattle.tlv_value.specs.Rows.{full_rows, last_rows, open_row, row_size}
 use Rattle.tlv_value.proofs.Cutting.{nil-or, size-some}
+use Rattle.tlv_value.proofs.RowsFrom.{rows-full, rows-whole}
 use Rattle.tlv_value.proofs.RowSteps.{IsFilled, keep, turn}
 
 last-row : (row : List ℕ) → 1 ≤ length row → last_rows row ≡ row ∷ []
@@ -96,7 +97,7 @@ module _ (kind : Kind) where
       full-front row (put_together (next ∷ rows)) (full_ones kind (next ∷ rows)) each.0 (as-filled row next (put_together rows) (has-octet next each.1.0) full.0) (full-rows (next ∷ rows) each.1 full.1)
 
 pub full-rows-of-cut : FullRowsAreOfTheCut
-full-rows-of-cut kind octets rows cut = rw cut.together at (full-rows kind rows cut.each cut.full)
+full-rows-of-cut kind octets rows cut = rows-full kind octets ∙ (rw cut.together at (full-rows kind rows cut.each cut.full))
 
 pub rows-one-cut : RowsHaveOneCut
-rows-one-cut kind octets rows cut = rw cut.together at (sym (one-cut kind rows cut.each cut.full))
+rows-one-cut kind octets rows cut = (rw cut.together at (sym (one-cut kind rows cut.each cut.full))) ∙ sym (rows-whole kind octets)

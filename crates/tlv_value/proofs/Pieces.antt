@@ -7,10 +7,12 @@ use Rattle.tlv_value.specs.declared.kind.Kind.TheVariants.{Octets, Boolean, Inte
 use Rattle.tlv_value.specs.declared.layout.Layout.{Layout}
 use Rattle.tlv_value.specs.Kind.{kind_of}
 use Rattle.tlv_value.specs.Laws.{LinesBegin, LinesEnd, LinesGoOn, PiecesJoin, state_for}
-use Rattle.tlv_value.specs.Rows.{full_rows, has_room, last_rows, open_row, row_size, rows_of}
-use Rattle.tlv_value.specs.State.{Kept, TextState, after, begun, first_kept, has_line, kept_after, kind_in, line_in, open_lines, row_lines, rows_after, rows_told, start, told, unlined_after}
-use Rattle.tlv_value.specs.Value.{NameOf, held_value, in_rows, is_long, long_text}
+use Rattle.tlv_value.specs.Rows.{cut_rows, full_rows, has_room, last_rows, open_row, row_size}
+use Rattle.tlv_value.specs.State.{Kept, TextState, after, begun, ended, first_kept, has_line, kept_after, kind_in, line_in, open_lines, row_lines, rows_after, rows_told, start, told, unlined_after}
+use Rattle.tlv_value.specs.KindValues.{in_rows, is_long, kind_value, long_text}
+use Rattle.tlv_value.specs.Value.{NameOf}
 use Rattle.std.proofs.lemmas.Bool.Decides.{nat_tests}
+use Rattle.tlv_value.proofs.KindValues.{open-lines-by, whole-lines}
 use Rattle.tlv_value.proofs.Puts.{row_lines-append}
 use Rattle.tlv_value.proofs.RowSteps.{full-begins, open-begins}
 
@@ -134,12 +136,12 @@ module _ (layout : Layout) (line : List ℕ → List ℕ) (size : ℕ) where
 
   abbrev whole_at : NameOf → Kind → Bool → List ℕ → List ℕ
   whole_at name_of kind long octets =
-      line (if long then record { text = long_text kind size octets; rows = rows_of kind (in_rows kind octets) } else held_value name_of kind octets).text
-      ++ row_lines kind layout 0 (if long then record { text = long_text kind size octets; rows = rows_of kind (in_rows kind octets) } else held_value name_of kind octets).rows
+      line (if long then record { text = long_text kind size octets; rows = cut_rows kind (in_rows kind octets) } else kind_value name_of kind octets).text
+      ++ row_lines kind layout 0 (if long then record { text = long_text kind size octets; rows = cut_rows kind (in_rows kind octets) } else kind_value name_of kind octets).rows
 
   abbrev ended_at : NameOf → Kind → Bool → Kept → List ℕ
   ended_at name_of kind long k =
-      if long then row_lines kind layout k.rows (last_rows k.row) else line (held_value name_of kind k.row).text ++ row_lines kind layout 0 (held_value name_of kind k.row).rows
+      if long then row_lines kind layout k.rows (last_rows k.row) else line (kind_value name_of kind k.row).text ++ row_lines kind layout 0 (kind_value name_of kind k.row).rows
 
   abbrev WholeIsEnded : NameOf → Kind → Bool → List ℕ → Type 0
   WholeIsEnded name_of kind long octets = whole_at name_of kind long octets ≡ open_at kind long octets ++ ended_at name_of kind long (kept_by kind layout line size long (has_line kind []) (begin_kept kind) octets)
@@ -173,7 +175,8 @@ line_for h layout = line_in (start h layout)
 -- all that is known of a primitive that is still open was told
 pub open-lines : (h : Heading) (layout : Layout) (octets : List ℕ) → open_lines h layout octets ≡ begun (start h layout) ++ told (start h layout) octets
 open-lines h layout octets =
-    open-told layout (line_for h layout) (size_of h.size) (kind_of h.class h.number) (is_long (kind_of h.class h.number) (size_of h.size)) octets
+    open-lines-by h layout octets
+    ∙ open-told layout (line_for h layout) (size_of h.size) (kind_of h.class h.number) (is_long (kind_of h.class h.number) (size_of h.size)) octets
     ∙ ap (λ (t : List ℕ). begun (start h layout) ++ t) (told_by-told (start h layout) octets)
 
 told-nothing_at : (kind : Kind) (layout : Layout) (line : List ℕ → List ℕ) (size : ℕ) (long lined : Bool) (k : Kept) → told_by kind layout line size long lined k [] ≡ []
@@ -210,11 +213,12 @@ long-some kind n size e h = grind (arith, nat_tests)
 
 abbrev whole_by : Layout → (List ℕ → List ℕ) → NameOf → Kind → ℕ → List ℕ → List ℕ
 whole_by layout line name_of kind n octets =
-    line (if is_long kind n then record { text = long_text kind n octets; rows = rows_of kind (in_rows kind octets) } else held_value name_of kind octets).text
-    ++ row_lines kind layout 0 (if is_long kind n then record { text = long_text kind n octets; rows = rows_of kind (in_rows kind octets) } else held_value name_of kind octets).rows
+    line (if is_long kind n then record { text = long_text kind n octets; rows = cut_rows kind (in_rows kind octets) } else kind_value name_of kind octets).text
+    ++ row_lines kind layout 0 (if is_long kind n then record { text = long_text kind n octets; rows = cut_rows kind (in_rows kind octets) } else kind_value name_of kind octets).rows
 
 pub lines-end : LinesEnd
 lines-end name_of h layout octets e =
     let kind : Kind = kind_of h.class h.number in
     let w = whole-ended layout (line_for h layout) (size_of h.size) name_of kind (is_long kind (size_of h.size)) octets (long-some kind (length octets) (size_of h.size) e) in
-    ap (λ (n : ℕ). whole_by layout (line_for h layout) name_of kind n octets) e ∙ w
+    whole-lines name_of h layout octets ∙ ap (λ (n : ℕ). whole_by layout (line_for h layout) name_of kind n octets) e ∙ w
+    ∙ ap (λ (t : List ℕ). t ++ ended name_of (state_for h layout octets)) (sym (open-lines-by h layout octets))

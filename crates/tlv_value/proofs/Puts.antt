@@ -6,6 +6,7 @@ use Rattle.tlv_value.specs.Layout.{row_line}
 use Rattle.tlv_value.specs.Rows.{full_rows, last_rows, open_row, rows_of}
 use Rattle.tlv_value.specs.State.{row_lines}
 use Rattle.tlv_value.specs.Value.{row_text}
+use Rattle.tlv_value.proofs.RowsFrom.{rows-whole}
 
 -- rows in order, with others behind them
 pub row_lines-append : (kind : Kind) (layout : Layout) (i : ℕ) (xs ys : List (List ℕ)) → row_lines kind layout i (xs ++ ys) ≡ row_lines kind layout i xs ++ row_lines kind layout (i + length xs) ys
@@ -22,6 +23,7 @@ rows-split kind layout octets =
     let e : 0 + length (full_rows kind [] octets) ≡ length (full_rows kind [] octets) = omega arith in
     ap (λ (n : ℕ). row_lines kind layout 0 (full_rows kind [] octets) ++ row_lines kind layout n (last_rows (open_row kind [] octets))) (sym e)
     ∙ sym (row_lines-append kind layout 0 (full_rows kind [] octets) (last_rows (open_row kind [] octets)))
+    ∙ ap (row_lines kind layout 0) (sym (rows-whole kind octets))
 
 -- the line feed behind the text
 pub line_end : (line text s : List ℕ) → s ≡ line ++ text → s ++ 10 ∷ [] ≡ line ++ (text ++ 10 ∷ [])

@@ -20,7 +20,11 @@ use Rattle.tlv_value.specs.declared.kind.Kind.{Kind}
 use Rattle.tlv_value.specs.declared.kind.Kind.TheVariants.{Octets, Boolean, Integer, Bits, Object, Relative, Text, Utf8, Ucs2, Ucs4}
 use Rattle.tlv_value.specs.Rows.{utf8_length}
 use Rattle.tlv_value.specs.Units.{alone, escaped_number, escaped_octet, is_printable, octet_text, printable_text, quoted, three_octets, ucs2_unit, ucs4_unit, unit_size, unit_text, units, utf8_number, utf8_unit, without_zeros}
-use Rattle.tlv_value.specs.Value.{bit_count, bits_value, boolean_value, digits_of, integer_value, is_readable, joined_pairs, long_text, most_held, octets_value, only_rows, plain_text, row_text, shown_with, spaced, spaced_pairs, used_digits}
+use Rattle.tlv_value.specs.KindValues.{bits_value, boolean_value, digits_of, integer_value, is_readable, joined_pairs, long_text, plain_text}
+use Rattle.tlv_value.specs.Value.{Value, bit_count, most_held, octets_value, row_text, shown_with, spaced_pairs, used_digits}
+
+abbrev value_with : List ℕ → List (List ℕ) → Value
+value_with text rows = record { text = text; rows = rows }
 
 pair-length : (x : ℕ) → length (encode_lower (x ∷ [])) ≡ 2
 pair-length x = length-encode_with lower_digits (x ∷ [])
@@ -150,14 +154,10 @@ row-short Ucs4 row = quoted-short Ucs4 row
 
 octets-text-short : (octets : List ℕ) → length (octets_value octets).text ≤ 330
 octets-text-short octets =
-    elim (nat_le (length octets) 16) as (λ b. nat_le (length octets) 16 ≡ b → length (if b then record { text = spaced_pairs octets; rows = [] } else only_rows (rows_of Octets octets)).text ≤ 330) [
+    elim (nat_le (length octets) 16) as (λ b. nat_le (length octets) 16 ≡ b → length (if b then value_with (spaced_pairs octets) [] else value_with [] (rows_of Octets octets)).text ≤ 330) [
       | true ↦ λ e. let h : length octets ≤ 16 = leb-true (length octets) 16 e in omega (arith, spaced-short octets)
       | false ↦ λ e. omega arith
     ] refl
-
-spaced-length : (text : List ℕ) → length (spaced text) ≤ 1 + length text
-spaced-length [] = omega arith
-spaced-length (x ∷ xs) = omega arith
 
 digits-short : (n : ℕ) → n < 2 ^ 128 → length (decimal n) ≤ 39
 digits-short n h = length-decimal-le_wide 39 n (omega arith) (omega arith) (omega arith)
@@ -175,13 +175,13 @@ integer-short : (octets : List ℕ) → length octets ≤ 16 → length (integer
 integer-short [] h = omega arith
 integer-short (x ∷ xs) h =
     let f : FitsSigned w128 (twos_complement (x ∷ xs)) = twos-fits_all (x ∷ xs) h in
-    let e : nat_le (length (x ∷ xs)) 16 ≡ true = grind (arith, nat_tests) in
-    rw e (omega (arith, signed-short (twos_complement (x ∷ xs)) f.sfits))
+    omega (arith, signed-short (twos_complement (x ∷ xs)) f.sfits)
 
 used-short : (unused : ℕ) (octets : List ℕ) → length octets ≤ 8 → length (used_digits unused octets) ≤ 65
-used-short unused octets h =
-    let n : ℕ = 8 * length octets - unused in
-    omega (arith, spaced-length (digits_of (take n (bits_of octets))), length-map (take n (bits_of octets)) (λ bit. 48 + bit), length-take n (bits_of octets), length-bits octets)
+used-short unused [] h = omega arith
+used-short unused (x ∷ octets) h =
+    let n : ℕ = 8 * length (x ∷ octets) - unused in
+    omega (arith, length-map (take n (bits_of (x ∷ octets))) (λ bit. 48 + bit), length-take n (bits_of (x ∷ octets)), length-bits (x ∷ octets))
 
 pub count-short : (unused octets : ℕ) → octets < 2 ^ 64 → length (bit_count unused octets) ≤ 44
 count-short unused octets h = omega (arith, length-append (decimal (8 * octets - unused)) (codes " bits"), digits-short (8 * octets - unused) (omega arith))

@@ -4,7 +4,8 @@ use Rattle.std.proofs.Math.Seq.{drop-cons, take-append-add}
 use Rattle.std.proofs.lemmas.List.{map-append, length-take}
 use Rattle.std.specs.Prelude.{true}
 use Rattle.tlv_value.specs.Bits.{bits_of, last_bits}
-use Rattle.tlv_value.specs.Value.{bit_count, bits_value, digits_of, is_readable, spaced, used_digits}
+use Rattle.tlv_value.specs.KindValues.{bits_value, digits_of, is_readable}
+use Rattle.tlv_value.specs.Value.{bit_count, used_digits}
 use Rattle.tlv_value.proofs.Numbers.{bits-append, length-bits}
 
 -- the bits of one octet more
@@ -18,9 +19,10 @@ take-digits zero bits = refl
 take-digits (suc n) [] = refl
 take-digits (suc n) (b ∷ bits) = ap (λ (t : List ℕ). (48 + b) ∷ t) (take-digits n bits)
 
-spaced-some : (text : List ℕ) → 1 ≤ length text → spaced text ≡ 32 ∷ text
-spaced-some [] h = absurd (omega arith)
-spaced-some (x ∷ xs) h = refl
+used-some : (unused : ℕ) (front : List ℕ) (last : ℕ)
+    → used_digits unused (front ++ last ∷ []) ≡ 32 ∷ digits_of (take (8 * length (front ++ last ∷ []) - unused) (bits_of (front ++ last ∷ [])))
+used-some unused [] last = refl
+used-some unused (x ∷ front) last = refl
 
 -- the bits of the last octet
 pub used-last : (unused : ℕ) (front : List ℕ) (last : ℕ) → unused ≤ 7
@@ -32,8 +34,7 @@ used-last unused front last h =
     take-append-add (bits_of front) (last_bits 8 last) (8 - unused) in
     let d : digits_of (take (8 * length (front ++ last ∷ []) - unused) (bits_of (front ++ last ∷ []))) ≡ digits_of (bits_of front) ++ take (8 - unused) (digits_of (last_bits 8 last)) =
     rw (l, b, t) (map-append (λ bit. 48 + bit) (bits_of front) (take (8 - unused) (last_bits 8 last)) ∙ ap (λ (t : List ℕ). digits_of (bits_of front) ++ t) (take-digits (8 - unused) (last_bits 8 last))) in
-    ap spaced d ∙ spaced-some (digits_of (bits_of front) ++ take (8 - unused) (digits_of (last_bits 8 last)))
-    (omega (arith, length-append (digits_of (bits_of front)) (take (8 - unused) (digits_of (last_bits 8 last))), length-take (8 - unused) (digits_of (last_bits 8 last))))
+    used-some unused front last ∙ ap (λ (t : List ℕ). 32 ∷ t) d
 
 -- a BIT STRING that can be read
 pub bits-readable : (c octets : List ℕ) → octets ≡ drop 1 c → 1 ≤ length c → is_readable (get_or c 0 0) (length octets) ≡ true

@@ -1,10 +1,7 @@
 -- Object identifiers: X.690 8.19 and 8.20.
-use Rattle.std.specs.Prelude.{ℕ, ◌-◌, ◌%◌, ◌^◌, Bool, true, false, ◌&&◌, nat_lt, nat_le, if◌then◌else◌, List, [], ◌∷◌, ◌++◌, length, map, flat_map, slice_index, Option, Some, None, decimal}
+use Rattle.std.specs.Prelude.{ℕ, ◌-◌, ◌%◌, ◌^◌, Bool, true, false, ◌&&◌, nat_lt, nat_le, if◌then◌else◌, List, [], ◌∷◌, ◌++◌, length, map, flat_map, slice_index, Option, Some, None, codes, decimal}
+use Rattle.std.specs.List.{join_by, list_all, onto_first}
 use Rattle.tlv_head.specs.Header.{value_of}
-
-abbrev pub onto_first : ℕ → List (List ℕ) → List (List ℕ)
-onto_first x [] = (x ∷ []) ∷ []
-onto_first x (part ∷ parts) = (x ∷ part) ∷ parts
 
 -- 8.19.2: the octets are cut behind each that has bit 8 clear
 abbrev pub parts_of : List ℕ → List (List ℕ)
@@ -18,38 +15,38 @@ subidentifier part = value_of 128 (map (λ x. x % 128) part)
 abbrev pub subidentifiers : List ℕ → List ℕ
 subidentifiers octets = map subidentifier (parts_of octets)
 
--- 8.19.4: the first subidentifier stands for two arcs
-abbrev pub first_arcs : ℕ → List ℕ
-first_arcs v = if nat_lt v 40 then 0 ∷ v ∷ [] else (if nat_lt v 80 then 1 ∷ (v - 40) ∷ [] else 2 ∷ (v - 80) ∷ [])
-
 -- 8.19.3, 8.20.3: the arcs; those of a relative object identifier are the subidentifiers
+-- 8.19.4: else the first subidentifier stands for two arcs
 abbrev pub arcs_of : Bool → List ℕ → List ℕ
 arcs_of true vs = vs
 arcs_of false [] = []
-arcs_of false (v ∷ vs) = first_arcs v ++ vs
-
-abbrev pub behind_dots : List ℕ → List ℕ
-behind_dots arcs = flat_map (λ arc. 46 ∷ decimal arc) arcs
-
--- the arcs in decimal, with dots between them
-abbrev pub dotted : List ℕ → List ℕ
-dotted [] = []
-dotted (arc ∷ arcs) = decimal arc ++ behind_dots arcs
+arcs_of false (v ∷ vs) = (if nat_lt v 40 then 0 ∷ v ∷ [] else (if nat_lt v 80 then 1 ∷ (v - 40) ∷ [] else 2 ∷ (v - 80) ∷ [])) ++ vs
 
 -- there are octets, and bit 8 of the last is clear
 abbrev pub is_finished : List ℕ → Bool
 is_finished octets = nat_le 1 (length octets) && nat_lt (slice_index octets (length octets - 1)) 128
 
-abbrev pub all_below : ℕ → List ℕ → Bool
-all_below bound [] = true
-all_below bound (v ∷ vs) = nat_lt v bound && all_below bound vs
-
--- the dotted text, of 1 to 64 octets
+-- the arcs in decimal, with dots between them, of 1 to 64 octets
 abbrev pub dotted_text : Bool → List ℕ → Option (List ℕ)
 dotted_text relative octets =
-    if is_finished octets && nat_le (length octets) 64 && all_below (2 ^ 128) (subidentifiers octets)
-    then Some (dotted (arcs_of relative (subidentifiers octets)))
+    if is_finished octets && nat_le (length octets) 64 && list_all (λ v. nat_lt v (2 ^ 128)) (subidentifiers octets)
+    then Some (join_by decimal (codes ".") (arcs_of relative (subidentifiers octets)))
     else None
+
+-- ---- Words of private functions and of proofs
+
+abbrev pub all_below : ℕ → List ℕ → Bool
+all_below bound vs = list_all (λ v. nat_lt v bound) vs
+
+-- the arcs that the first subidentifier stands for
+abbrev pub first_arcs : ℕ → List ℕ
+first_arcs v = if nat_lt v 40 then 0 ∷ v ∷ [] else (if nat_lt v 80 then 1 ∷ (v - 40) ∷ [] else 2 ∷ (v - 80) ∷ [])
+
+abbrev pub behind_dots : List ℕ → List ℕ
+behind_dots arcs = flat_map (λ arc. codes "." ++ decimal arc) arcs
+
+abbrev pub dotted : List ℕ → List ℕ
+dotted arcs = join_by decimal (codes ".") arcs
 
 -- an arc in decimal, behind a dot where it is not the first
 abbrev pub arc_text : Bool → ℕ → List ℕ

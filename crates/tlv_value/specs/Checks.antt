@@ -1,16 +1,15 @@
 -- What is found on the contents of a primitive: X.690 8 and 11. The conditions stand at the end, with what they speak of
 -- before them.
-use Rattle.std.specs.Prelude.{ℕ, ◌%◌, ◌^◌, Bool, true, false, ◌&&◌, ◌||◌, not, ◌==◌, eqb, nat_le, nat_lt, if◌then◌else◌, List, [], ◌∷◌, ◌++◌, length, slice_index, codes}
+use Rattle.std.specs.Prelude.{ℕ, ◌%◌, ◌^◌, Bool, true, false, ◌&&◌, ◌||◌, not, ◌==◌, eqb, nat_le, nat_lt, if◌then◌else◌, List, [], ◌∷◌, flat_map, length, slice_index, codes}
+use Rattle.std.specs.Char.{is_ascii_alphabetic, is_ascii_digit}
+use Rattle.std.specs.List.{list_all, list_any}
 use Rattle.std.specs.Str.{is_utf8}
 use Rattle.tlv_head.specs.Header.{Heading, is_universal}
 use Rattle.tlv_value.specs.declared.finding.Finding.{Finding}
 use Rattle.tlv_value.specs.declared.finding.Finding.TheVariants.{B06, B07, B08, B09, B10, B11, B12, B13, B14, B15, B18, B19, S02, S03, S04}
 use Rattle.tlv_value.specs.Times as times
-use Rattle.tlv_value.specs.Types.{bit_string, boolean, integer_types, is_a, is_among, is_one_of, null, object_identifier, object_types, time_types, utc_time}
-
-abbrev pub every : (ℕ → Bool) → List ℕ → Bool
-every test [] = true
-every test (x ∷ xs) = test x && every test xs
+use Rattle.tlv_value.specs.Types.{bit_string, boolean, integer_types, is_a, is_one_of, null, object_identifier, object_types, utc_time}
+use Rattle.tlv_value.specs.Units.{is_printable}
 
 abbrev pub last_of : ℕ → List ℕ → ℕ
 last_of before [] = before
@@ -18,67 +17,47 @@ last_of before (x ∷ xs) = last_of x xs
 
 -- 8.3.2: the first nine bits are all equal
 abbrev pub is_padded_integer : List ℕ → Bool
-is_padded_integer [] = false
-is_padded_integer (x ∷ []) = false
 is_padded_integer (x ∷ y ∷ ys) = (eqb x 0 && nat_lt y 128) || (eqb x 255 && nat_le 128 y)
+is_padded_integer octets = false
 
--- 8.19.2, 8.20.2: an octet 80 behind an octet with bit 8 clear, such as this one
+-- 8.19.2, 8.20.2: an octet 80 behind an octet with bit 8 clear, such as this one; the first octet stands behind such a one too
 abbrev pub is_padded_behind : ℕ → List ℕ → Bool
 is_padded_behind before [] = false
 is_padded_behind before (x ∷ xs) = (nat_lt before 128 && eqb x 128) || is_padded_behind x xs
 
--- the first octet begins a subidentifier too
-abbrev pub is_padded_object : List ℕ → Bool
-is_padded_object octets = is_padded_behind 0 octets
-
 abbrev pub is_digit_or_space : ℕ → Bool
-is_digit_or_space x = eqb x 32 || (nat_le 48 x && nat_le x 57)
-
-abbrev pub is_letter : ℕ → Bool
-is_letter x = (nat_le 65 x && nat_le x 90) || (nat_le 97 x && nat_le x 122)
+is_digit_or_space x = eqb x 32 || is_ascii_digit x
 
 -- X.680 41.4
 abbrev pub is_printable_string : ℕ → Bool
-is_printable_string x = is_digit_or_space x || is_letter x || is_among x (codes "'()+,-./:=?")
+is_printable_string x = is_digit_or_space x || is_ascii_alphabetic x || list_any (eqb x) (codes "'()+,-./:=?")
 
-abbrev pub is_visible : ℕ → Bool
-is_visible x = nat_le 0x20 x && nat_le x 0x7e
-
--- the octets that the type with this number has: NumericString, PrintableString, IA5String, VisibleString
-abbrev pub allows_octet : ℕ → ℕ → Bool
-allows_octet number x =
-    if eqb number 18 then is_digit_or_space x
-    else if eqb number 19 then is_printable_string x
-    else if eqb number 22 then nat_lt x 128
-    else if eqb number 26 then is_visible x
-    else true
-
--- UTF8String, BMPString, UniversalString
-abbrev pub allows_all : ℕ → List ℕ → Bool
-allows_all number octets =
-    if eqb number 12 then is_utf8 octets
-    else if eqb number 30 then eqb (length octets % 2) 0
-    else if eqb number 28 then eqb (length octets % 4) 0
-    else true
-
--- the contents have the characters of their type
+-- the contents have the characters of the type with this number: UTF8String, NumericString, PrintableString, IA5String,
+-- VisibleString, UniversalString, BMPString
 abbrev pub allows : ℕ → List ℕ → Bool
-allows number octets = allows_all number octets && every (allows_octet number) octets
+allows number octets =
+    if eqb number 12 then is_utf8 octets
+    else if eqb number 18 then list_all is_digit_or_space octets
+    else if eqb number 19 then list_all is_printable_string octets
+    else if eqb number 22 then list_all (λ x. nat_lt x 128) octets
+    else if eqb number 26 then list_all is_printable octets
+    else if eqb number 28 then eqb (length octets % 4) 0
+    else if eqb number 30 then eqb (length octets % 2) 0
+    else true
 
 -- ---- The findings
 
 -- findings beside their conditions: those whose conditions hold, in the same order
 abbrev pub held : List (Bool × Finding) → List Finding
-held [] = []
-held (row ∷ rows) = (if row.0 then row.1 ∷ [] else []) ++ held rows
+held rows = flat_map (λ row. if row.0 then row.1 ∷ [] else []) rows
 
 -- the first contents octet. In a BIT STRING it is the number of unused bits
 abbrev pub first : List ℕ → ℕ
 first c = slice_index c 0
 
--- a time of at most 64 octets: of a longer one the form is not looked at
+-- 8.25: a UTCTime or GeneralizedTime of at most 64 octets: of a longer one the form is not looked at
 abbrev pub is_short_time : Heading → List ℕ → Bool
-is_short_time h c = is_one_of time_types h && nat_le (length c) 64
+is_short_time h c = is_one_of (23 ∷ 24 ∷ []) h && nat_le (length c) 64
 
 abbrev pub time_form : Heading → times.Form
 time_form h = if is_a utc_time h then times.utc_time else times.general_time
@@ -100,7 +79,7 @@ contents_conditions h c =
     -- 8.19.2: an OBJECT IDENTIFIER has one subidentifier or more
     ∷ (is_a object_identifier h && length c == 0, B10)
     -- 8.19.2, 8.20.2: no subidentifier begins with 80
-    ∷ (is_one_of object_types h && is_padded_object c, B11)
+    ∷ (is_one_of object_types h && is_padded_behind 0 c, B11)
     -- 8.19.2, 8.20.2: bit 8 is clear in the last octet of a subidentifier
     ∷ (is_one_of object_types h && nat_le 128 (last_of 0 c), B12)
     -- 8.6.2: a BIT STRING has a first octet, the number of unused bits
@@ -124,3 +103,32 @@ contents_conditions h c =
 -- what is found, by the rules of BER, CER or DER, in order
 abbrev pub contents_findings : Heading → List ℕ → List Finding
 contents_findings h c = held (contents_conditions h c)
+
+-- ---- Words of the checker and of proofs: what each octet may be, and what all of them
+
+abbrev pub every : (ℕ → Bool) → List ℕ → Bool
+every test octets = list_all test octets
+
+abbrev pub is_padded_object : List ℕ → Bool
+is_padded_object octets = is_padded_behind 0 octets
+
+-- NumericString, PrintableString, IA5String, VisibleString
+abbrev pub allows_octet : ℕ → ℕ → Bool
+allows_octet number x =
+    if eqb number 18 then is_digit_or_space x
+    else if eqb number 19 then is_printable_string x
+    else if eqb number 22 then nat_lt x 128
+    else if eqb number 26 then is_printable x
+    else true
+
+-- UTF8String, BMPString, UniversalString
+abbrev pub allows_all : ℕ → List ℕ → Bool
+allows_all number octets =
+    if eqb number 12 then is_utf8 octets
+    else if eqb number 30 then eqb (length octets % 2) 0
+    else if eqb number 28 then eqb (length octets % 4) 0
+    else true
+
+-- the two together are `allows`
+abbrev pub allows_both : ℕ → List ℕ → Bool
+allows_both number octets = allows_all number octets && every (allows_octet number) octets

@@ -1,7 +1,7 @@
 -- How the octets of long contents stand in rows, as a condition on rows.
-use Rattle.std.specs.Prelude.{◌≡◌, ◌≢◌, ◌⊎◌, ℕ, ◌+◌, ◌<◌, ◌≤◌, eqb, if◌then◌else◌, List, [], ◌∷◌, ◌++◌, length, slice_index}
+use Rattle.std.specs.Prelude.{◌≡◌, ◌≢◌, ◌⊎◌, ℕ, ◌+◌, ◌<◌, ◌≤◌, false, eqb, if◌then◌else◌, List, [], ◌∷◌, ◌++◌, length, slice_index}
 use Rattle.tlv_value.specs.declared.kind.Kind.{Kind}
-use Rattle.tlv_value.specs.Rows.{announced, full_rows, row_size, rows_of}
+use Rattle.tlv_value.specs.Rows.{announced, row_size, rows_from, rows_of}
 
 abbrev pub put_together : List (List ℕ) → List ℕ
 put_together [] = []
@@ -47,4 +47,4 @@ full_ones kind (row ∷ next ∷ rows) = row ∷ full_ones kind (next ∷ rows)
 
 -- the rows that are full before the end of the contents
 abbrev pub FullRowsAreOfTheCut : Type 0
-FullRowsAreOfTheCut = (kind : Kind) (octets : List ℕ) (rows : List (List ℕ)) → IsCut kind octets rows → full_rows kind [] octets ≡ full_ones kind rows
+FullRowsAreOfTheCut = (kind : Kind) (octets : List ℕ) (rows : List (List ℕ)) → IsCut kind octets rows → rows_from kind false [] octets ≡ full_ones kind rows

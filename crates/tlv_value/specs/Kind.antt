@@ -1,5 +1,5 @@
 -- How the contents of a primitive are read, by its tag: X.680, table 1.
-use Rattle.std.specs.Prelude.{ℕ, eqb, if◌then◌else◌, List, [], ◌∷◌}
+use Rattle.std.specs.Prelude.{ℕ, Bool, true, false, eqb, if◌then◌else◌, List, [], ◌∷◌}
 use Rattle.tlv_head.specs.declared.header.Class.{Class}
 use Rattle.tlv_head.specs.declared.header.Class.TheVariants.{Universal}
 use Rattle.tlv_value.specs.declared.kind.Kind.{Kind}
@@ -24,3 +24,11 @@ kind_in (row ∷ rows) number = if eqb number row.0 then row.1 else kind_in rows
 abbrev pub kind_of : Class → ℕ → Kind
 kind_of Universal number = kind_in universal_kinds number
 kind_of _ number = Octets
+
+-- strings of characters
+abbrev pub is_text : Kind → Bool
+is_text Text = true
+is_text Utf8 = true
+is_text Ucs2 = true
+is_text Ucs4 = true
+is_text _ = false

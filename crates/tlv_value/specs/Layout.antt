@@ -1,5 +1,6 @@
 -- The lines of a value: what begins them, and what is left out.
 use Rattle.std.specs.Prelude.{ℕ, ◌+◌, ◌-◌, ◌*◌, Bool, eqb, nat_lt, if◌then◌else◌, List, [], ◌∷◌, ◌++◌, length, replicate, Option, Some, None, codes, decimal}
+use Rattle.std.specs.Option.{option_map_or}
 use Rattle.tlv_value.specs.declared.layout.Layout.{Layout}
 
 abbrev pub spaces : ℕ → List ℕ
@@ -26,12 +27,8 @@ abbrev pub limited : Option ℕ → ℕ → List ℕ → Option (List ℕ)
 limited None i text = Some text
 limited (Some limit) i text = if nat_lt i limit then Some text else (if eqb i limit then Some (codes "...") else None)
 
-abbrev pub some_line : Layout → Option (List ℕ) → List ℕ
-some_line layout None = []
-some_line layout (Some text) = line layout.pure no_columns (layout.level + 1) text
-
 abbrev pub row_line : Layout → ℕ → List ℕ → List ℕ
-row_line layout i text = some_line layout (limited layout.limit i text)
+row_line layout i text = option_map_or (line layout.pure no_columns (layout.level + 1)) (limited layout.limit i text) []
 
 -- what stands before the text of a line
 abbrev pub margin : Bool → List ℕ → ℕ → List ℕ

@@ -10,6 +10,7 @@ pub mod Units
 pub mod Plain
 pub mod Layout
 pub mod Value
+pub mod KindValues
 pub mod State
 pub mod TextFields
 pub mod ObjectLines

@@ -4,7 +4,8 @@ use Rattle.tlv_value.specs.declared.kind.Kind.TheVariants.{Octets}
 use Rattle.tlv_value.specs.declared.layout.Layout.{Layout}
 use Rattle.tlv_value.specs.Arcs.{dotted_text}
 use Rattle.tlv_value.specs.State.{row_lines}
-use Rattle.tlv_value.specs.Value.{NameOf, Value, object_text, octets_value}
+use Rattle.tlv_value.specs.KindValues.{object_text}
+use Rattle.tlv_value.specs.Value.{NameOf, Value, octets_value}
 
 abbrev pub value_behind : Layout → List ℕ → Value → List ℕ
 value_behind layout line v = (line ++ v.text ++ 10 ∷ []) ++ row_lines Octets layout 0 v.rows

@@ -1,23 +1,17 @@
 -- How long contents are cut into rows.
-use Rattle.std.specs.Prelude.{ℕ, ◌+◌, ◌&&◌, Bool, eqb, nat_le, if◌then◌else◌, List, [], ◌∷◌, ◌++◌, length}
+use Rattle.std.specs.Prelude.{ℕ, ◌+◌, ◌==◌, ◌&&◌, Bool, true, false, not, eqb, nat_le, if◌then◌else◌, List, [], ◌∷◌, ◌++◌, length}
+use Rattle.std.specs.Int.{is_in_range}
 use Rattle.tlv_value.specs.declared.kind.Kind.{Kind}
-use Rattle.tlv_value.specs.declared.kind.Kind.TheVariants.{Text, Utf8, Ucs2, Ucs4}
+use Rattle.tlv_value.specs.declared.kind.Kind.TheVariants.{Utf8}
+use Rattle.tlv_value.specs.Kind.{is_text}
 
 -- how many octets a full row has
 abbrev pub row_size : Kind → ℕ
-row_size Text = 64
-row_size Utf8 = 64
-row_size Ucs2 = 64
-row_size Ucs4 = 64
-row_size _ = 16
+row_size kind = if is_text kind then 64 else 16
 
 -- RFC 3629, 4: of how many octets a character is that begins with this one
 abbrev pub utf8_length : ℕ → ℕ
-utf8_length x =
-    if nat_le 0xc2 x && nat_le x 0xdf then 2
-    else if nat_le 0xe0 x && nat_le x 0xef then 3
-    else if nat_le 0xf0 x && nat_le x 0xf4 then 4
-    else 1
+utf8_length x = if is_in_range 0xc2 0xdf x then 2 else if is_in_range 0xe0 0xef x then 3 else if is_in_range 0xf0 0xf4 x then 4 else 1
 
 -- how many octets want to stand in one row, from this one on
 abbrev pub announced : Kind → ℕ → ℕ
@@ -28,8 +22,22 @@ announced _ x = 1
 abbrev pub has_room : Kind → ℕ → ℕ → Bool
 has_room kind octets x = nat_le (octets + announced kind x) (row_size kind)
 
--- the rows that are full, of the octets of a row that has begun and those behind them: a row is full with its last octet, or
--- with the octet behind it that has no room in it
+-- the rows of octets behind a row that has begun: a row is full with its last octet, or with the octet behind it that has no
+-- room in it. The last row stands among them where it is full, and where the contents are whole if it has octets
+abbrev pub rows_from : Kind → Bool → List ℕ → List ℕ → List (List ℕ)
+rows_from kind whole row [] = if whole && not (length row == 0) then row ∷ [] else []
+rows_from kind whole row (x ∷ xs) =
+    if has_room kind (length row) x
+    then (if eqb (length row + 1) (row_size kind) then (row ++ x ∷ []) ∷ rows_from kind whole [] xs else rows_from kind whole (row ++ x ∷ []) xs)
+    else row ∷ rows_from kind whole (x ∷ []) xs
+
+-- all rows of the contents
+abbrev pub rows_of : Kind → List ℕ → List (List ℕ)
+rows_of kind octets = rows_from kind true [] octets
+
+-- ---- Words of private functions and of proofs: rows as they become full
+
+-- the rows that are full
 abbrev pub full_rows : Kind → List ℕ → List ℕ → List (List ℕ)
 full_rows kind row [] = []
 full_rows kind row (x ∷ xs) =
@@ -50,6 +58,5 @@ abbrev pub last_rows : List ℕ → List (List ℕ)
 last_rows [] = []
 last_rows (x ∷ xs) = (x ∷ xs) ∷ []
 
--- all rows of the contents
-abbrev pub rows_of : Kind → List ℕ → List (List ℕ)
-rows_of kind octets = full_rows kind [] octets ++ last_rows (open_row kind [] octets)
+abbrev pub cut_rows : Kind → List ℕ → List (List ℕ)
+cut_rows kind octets = full_rows kind [] octets ++ last_rows (open_row kind [] octets)

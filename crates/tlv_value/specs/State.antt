@@ -1,5 +1,6 @@
 -- The lines of a primitive, and what is to be kept of its contents between their pieces.
-use Rattle.std.specs.Prelude.{ℕ, ◌+◌, ◌-◌, ◌&&◌, Bool, true, false, if◌then◌else◌, List, [], ◌∷◌, ◌++◌, length, decimal}
+use Rattle.std.specs.Prelude.{ℕ, ◌+◌, ◌-◌, ◌&&◌, Bool, true, false, if◌then◌else◌, List, [], ◌∷◌, ◌++◌, length, decimal, flat_map, nat_lt}
+use Rattle.std.specs.List.{enumerate_from}
 use Rattle.tlv_head.specs.declared.header.Class.{Class}
 use Rattle.tlv_head.specs.Header.{Heading, announced}
 use Rattle.tlv_head.specs.Tag.{tag_text_of}
@@ -9,22 +10,18 @@ use Rattle.tlv_value.specs.declared.layout.Layout.{Layout}
 use Rattle.tlv_value.specs.Kind.{kind_of}
 use Rattle.tlv_value.specs.Layout.{columns, line, row_line}
 use Rattle.tlv_value.specs.Rows.{full_rows, last_rows, open_row}
-use Rattle.tlv_value.specs.Value.{NameOf, Value, held_value, in_rows, is_long, long_text, row_text, whole_value}
-
-abbrev pub element_line : Layout → ℕ → Class → ℕ → ℕ → List ℕ → List ℕ
-element_line layout offset class number n text = line layout.pure (columns offset (decimal n)) layout.level (tag_text_of class number ++ text)
-
--- rows in order, the first of which has this number
-abbrev pub row_lines : Kind → Layout → ℕ → List (List ℕ) → List ℕ
-row_lines kind layout i [] = []
-row_lines kind layout i (row ∷ rows) = row_line layout i (row_text kind row) ++ row_lines kind layout (i + 1) rows
+use Rattle.tlv_value.specs.KindValues.{in_rows, is_long, kind_value, long_text}
+use Rattle.tlv_value.specs.Value.{NameOf, Value, long_value, most_held, row_text, whole_value}
 
 -- the kind of the element's type
 abbrev pub kind_by : Heading → Kind
 kind_by h = kind_of h.class h.number
 
+-- the element's line, and those of its rows
 abbrev pub value_lines : Heading → Layout → Value → List ℕ
-value_lines h layout value = element_line layout h.offset h.class h.number (announced h.size) value.text ++ row_lines (kind_by h) layout 0 value.rows
+value_lines h layout value =
+    line layout.pure (columns h.offset (decimal (announced h.size))) layout.level (tag_text_of h.class h.number ++ value.text)
+    ++ flat_map (λ row. row_line layout row.0 (row_text (kind_by h) row.1)) (enumerate_from 0 value.rows)
 
 -- the lines of a primitive that is whole
 abbrev pub whole_lines : NameOf → Heading → Layout → List ℕ → List ℕ
@@ -35,16 +32,22 @@ abbrev pub has_line : Kind → List ℕ → Bool
 has_line Bits [] = false
 has_line kind octets = true
 
--- of n octets of a long value, of which these have come: what stands on the line, and the rows that are full
-abbrev pub value_so_far : Kind → ℕ → List ℕ → Value
-value_so_far kind n octets = record { text = long_text kind n octets; rows = full_rows kind [] (in_rows kind octets) }
-
 -- the lines of a primitive of whose contents these octets have come, and others are still to come: of a long value those that are known
 abbrev pub open_lines : Heading → Layout → List ℕ → List ℕ
 open_lines h layout octets =
-    if is_long (kind_by h) (announced h.size) && has_line (kind_by h) octets
-    then value_lines h layout (value_so_far (kind_by h) (announced h.size) octets)
+    if nat_lt (most_held (kind_by h)) (announced h.size) && has_line (kind_by h) octets
+    then value_lines h layout (long_value false (kind_by h) (announced h.size) octets)
     else []
+
+-- ---- Words of private functions and of proofs: lines as they become known
+
+abbrev pub element_line : Layout → ℕ → Class → ℕ → ℕ → List ℕ → List ℕ
+element_line layout offset class number n text = line layout.pure (columns offset (decimal n)) layout.level (tag_text_of class number ++ text)
+
+-- rows in order, the first of which has this number
+abbrev pub row_lines : Kind → Layout → ℕ → List (List ℕ) → List ℕ
+row_lines kind layout i [] = []
+row_lines kind layout i (row ∷ rows) = row_line layout i (row_text kind row) ++ row_lines kind layout (i + 1) rows
 
 -- what is kept: of a long value whether its line was written, how many rows were full, and the octets of the row that has
 -- begun; of any other all octets
@@ -134,4 +137,4 @@ abbrev pub ended : NameOf → TextState → List ℕ
 ended name_of s =
     if is_long (kind_in s) s.size
     then row_lines (kind_in s) s.layout s.kept.rows (last_rows s.kept.row)
-    else line_in s (held_value name_of (kind_in s) s.kept.row).text ++ row_lines (kind_in s) s.layout 0 (held_value name_of (kind_in s) s.kept.row).rows
+    else line_in s (kind_value name_of (kind_in s) s.kept.row).text ++ row_lines (kind_in s) s.layout 0 (kind_value name_of (kind_in s) s.kept.row).rows

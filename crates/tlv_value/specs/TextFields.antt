@@ -5,7 +5,7 @@ use Rattle.tlv_value.specs.declared.text.ValueText.TheInside.{Inside}
 use Rattle.tlv_value.specs.Kind.{kind_of}
 use Rattle.tlv_value.specs.Rows.{row_size}
 use Rattle.tlv_value.specs.State.{TextState}
-use Rattle.tlv_value.specs.Value.{is_long}
+use Rattle.tlv_value.specs.KindValues.{is_long}
 
 abbrev pub state_of : Inside → TextState
 state_of t = record {

@@ -1,10 +1,7 @@
 -- The universal types by their numbers: X.680, table 1.
 use Rattle.std.specs.Prelude.{ℕ, Bool, false, ◌&&◌, ◌||◌, not, ◌==◌, eqb, nat_le, List, [], ◌∷◌}
+use Rattle.std.specs.List.{list_any}
 use Rattle.tlv_head.specs.Header.{Heading, is_universal}
-
-abbrev pub is_among : ℕ → List ℕ → Bool
-is_among x [] = false
-is_among x (y ∷ ys) = eqb x y || is_among x ys
 
 -- the numbers of types that conditions name one by one
 abbrev pub boolean : ℕ
@@ -31,7 +28,7 @@ is_a number h = is_universal h.class && h.number == number
 
 -- the tag is that of one of these types
 abbrev pub is_one_of : List ℕ → Heading → Bool
-is_one_of numbers h = is_universal h.class && is_among h.number numbers
+is_one_of numbers h = is_universal h.class && list_any (eqb h.number) numbers
 
 -- no type has the number
 abbrev pub is_unassigned : Heading → Bool
@@ -44,10 +41,6 @@ integer_types = 2 ∷ 10 ∷ []
 -- 8.19, 8.20: OBJECT IDENTIFIER, RELATIVE-OID
 abbrev pub object_types : List ℕ
 object_types = 6 ∷ 13 ∷ []
-
--- 8.25: UTCTime, GeneralizedTime
-abbrev pub time_types : List ℕ
-time_types = 23 ∷ 24 ∷ []
 
 -- 8.2.1, 8.3.1, 8.4, 8.5.1, 8.8.1, 8.19.1, 8.20.1: types whose encodings are primitive: BOOLEAN, INTEGER, NULL, OBJECT IDENTIFIER,
 -- REAL, ENUMERATED, RELATIVE-OID

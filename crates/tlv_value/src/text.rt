@@ -4,7 +4,7 @@ ghost use Rattle.tlv_walk.specs.Out.{Puts};
 ghost use Rattle.tlv_head.specs.Tag.{tag_text_of};
 ghost use Rattle.tlv_value.specs.Layout.{columns, margin};
 ghost use Rattle.tlv_value.specs.State.{after, begun, ended, start, told};
-ghost use Rattle.tlv_value.specs.Value.{in_rows, is_long as is_long_value};
+ghost use Rattle.tlv_value.specs.KindValues.{in_rows, is_long as is_long_value};
 
 use crate::kind::{Kind, kind_of};
 use crate::line::Line;

@@ -1,6 +1,6 @@
 use Rattle.std.proofs.Common.{◌∷◌, [], arith, length-append}
 use Rattle.tlv_value.specs.declared.kind.Kind.TheVariants.{Bits}
-use Rattle.tlv_value.specs.Value.{long_text}
+use Rattle.tlv_value.specs.KindValues.{long_text}
 use Rattle.tlv_value.proofs.Short.{long-short}
 use Rattle.tlv_value.proofs.putting.put_bits.Goals as goal
 

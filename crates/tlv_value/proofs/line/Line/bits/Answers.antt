@@ -2,7 +2,8 @@ use Rattle.std.proofs.Common.{◌≡◌, ◌∷◌, ◌-◌, List, ℕ, length, 
 use Rattle.std.specs.Prelude.{true}
 use Rattle.std.proofs.Math.ListN.{length-drop}
 use Rattle.std.proofs.lemmas.List.{take_all}
-use Rattle.tlv_value.specs.Value.{bit_count, is_readable, used_digits}
+use Rattle.tlv_value.specs.KindValues.{is_readable}
+use Rattle.tlv_value.specs.Value.{bit_count, used_digits}
 use Rattle.tlv_value.proofs.LineLengths.{behind}
 use Rattle.tlv_value.proofs.Texts.{bits-readable}
 use Rattle.tlv_value.proofs.line.Line.bits.Goals as goal

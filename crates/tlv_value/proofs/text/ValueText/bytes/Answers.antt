@@ -7,7 +7,7 @@ use Rattle.tlv_value.specs.Kind.{kind_of}
 use Rattle.tlv_value.specs.Rows.{full_rows}
 use Rattle.tlv_value.specs.State.{TextState, row_lines, told}
 use Rattle.tlv_value.specs.TextFields.{state_of}
-use Rattle.tlv_value.specs.Value.{in_rows, is_long, long_text}
+use Rattle.tlv_value.specs.KindValues.{in_rows, is_long, long_text}
 use Rattle.tlv_value.proofs.Ends.{rows-first, start_in, told-first}
 use Rattle.tlv_value.proofs.text.ValueText.bytes.Goals as goal
 

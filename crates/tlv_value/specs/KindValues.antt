@@ -1,0 +1,80 @@
+-- The values of contents kind by kind, as private functions write them.
+use Rattle.std.specs.Prelude.{ℕ, ◌+◌, ◌-◌, Bool, true, false, ◌&&◌, ◌||◌, not, eqb, nat_le, nat_lt, if◌then◌else◌, List, [], ◌∷◌, ◌++◌, length, map, Option, codes}
+use Rattle.std.specs.Fmt.{signed_decimal}
+use Rattle.std.specs.List.{join_by}
+use Rattle.std.specs.Option.{option_map_or}
+use Rattle.hex.specs.Hex.{encode_lower}
+use Rattle.tlv_value.specs.declared.kind.Kind.{Kind}
+use Rattle.tlv_value.specs.declared.kind.Kind.TheVariants.{Octets, Boolean, Integer, Bits, Object, Relative, Text, Utf8, Ucs2, Ucs4}
+use Rattle.tlv_value.specs.Arcs.{dotted_text}
+use Rattle.tlv_value.specs.Number.{twos_complement}
+use Rattle.tlv_value.specs.Units.{quoted}
+use Rattle.tlv_value.specs.Value.{NameOf, Value, bit_count, most_held, no_names, octets_value, shown_with, spaced_pairs, used_digits}
+
+-- 8.2.2: FALSE is zero
+abbrev pub boolean_value : List ℕ → Value
+boolean_value (x ∷ []) = shown_with (if eqb x 0 then codes "FALSE" else codes "TRUE")
+boolean_value octets = octets_value octets
+
+abbrev pub integer_value : List ℕ → Value
+integer_value [] = octets_value []
+integer_value (x ∷ xs) = shown_with (signed_decimal (twos_complement (x ∷ xs)))
+
+-- 8.6.2: at most 7 unused bits, and none where there is no octet for them
+abbrev pub is_readable : ℕ → ℕ → Bool
+is_readable unused octets = nat_le unused 7 && (eqb unused 0 || not (eqb octets 0))
+
+-- bits as digits
+abbrev pub digits_of : List ℕ → List ℕ
+digits_of bits = map (λ bit. 48 + bit) bits
+
+-- 8.6.2: the first octet is the number of unused bits in the last one
+abbrev pub bits_value : List ℕ → Value
+bits_value [] = octets_value []
+bits_value (unused ∷ octets) =
+    if is_readable unused (length octets)
+    then shown_with (bit_count unused (length octets) ++ used_digits unused octets)
+    else octets_value (unused ∷ octets)
+
+-- a name behind its object identifier
+abbrev pub name_text : Option (List ℕ) → List ℕ
+name_text name = option_map_or (λ text. codes " (" ++ text ++ codes ")") name []
+
+abbrev pub object_text : NameOf → Option (List ℕ) → List ℕ → Value
+object_text name_of dotted octets = option_map_or (λ text. shown_with (text ++ name_text (name_of text))) dotted (octets_value octets)
+
+abbrev pub is_long : Kind → ℕ → Bool
+is_long kind n = nat_lt (most_held kind) n
+
+-- a held value by its kind
+abbrev pub kind_value : NameOf → Kind → List ℕ → Value
+kind_value name_of Octets octets = octets_value octets
+kind_value name_of Boolean octets = boolean_value octets
+kind_value name_of Integer octets = integer_value octets
+kind_value name_of Bits octets = bits_value octets
+kind_value name_of Object octets = object_text name_of (dotted_text false octets) octets
+kind_value name_of Relative octets = object_text no_names (dotted_text true octets) octets
+kind_value name_of kind octets = shown_with (quoted kind octets)
+
+-- long contents: what stands on the line of n octets of which the first has come, and the octets that stand in rows
+abbrev pub long_text : Kind → ℕ → List ℕ → List ℕ
+long_text Bits n (unused ∷ octets) = if nat_le unused 7 then 0x20 ∷ bit_count unused (n - 1) else []
+long_text kind n octets = []
+
+abbrev pub in_rows : Kind → List ℕ → List ℕ
+in_rows Bits (unused ∷ octets) = if nat_le unused 7 then octets else unused ∷ octets
+in_rows kind octets = octets
+
+abbrev pub joined_pairs : List ℕ → List ℕ
+joined_pairs octets = join_by (λ x. encode_lower (x ∷ [])) (codes " ") octets
+
+-- the text on the line of a held value that is no object identifier, or of an object identifier that is shown in hexadecimal
+abbrev pub plain_text : Kind → List ℕ → List ℕ
+plain_text Boolean octets = (boolean_value octets).text
+plain_text Integer octets = (integer_value octets).text
+plain_text Bits octets = (bits_value octets).text
+plain_text Text octets = 0x20 ∷ quoted Text octets
+plain_text Utf8 octets = 0x20 ∷ quoted Utf8 octets
+plain_text Ucs2 octets = 0x20 ∷ quoted Ucs2 octets
+plain_text Ucs4 octets = 0x20 ∷ quoted Ucs4 octets
+plain_text kind octets = spaced_pairs octets
