@@ -54,7 +54,7 @@ pub(crate) fn note_header(
 pub(crate) fn is_plain(rules: Rules, frame: &Frame, header: &Header) -> bool
     ensures { IsTrue result → header_notes rules frame.now header.now ≡ [] }
 {
-    if frame.has_segments || has_high_form(header) || !is_usual(header) {
+    if frame.has_segments || !is_tag_usual(header) || !is_usual(header) {
         return false;
     }
     match rules {
@@ -66,6 +66,15 @@ pub(crate) fn is_plain(rules: Rules, frame: &Frame, header: &Header) -> bool
                 && !is_length_padded(header)
         }
     }
+}
+
+/// Whether nothing is found with the form of the tag: it is the low form, or the high form as it has to be.
+#[inline(always)]
+fn is_tag_usual(header: &Header) -> bool
+    ensures needed { IsTrue result → (has_high_form_of header.now && nat_lt header.now.number 31) ≡ false }
+    ensures shortest { IsTrue result → (has_high_form_of header.now && leading_bits header.now == 0) ≡ false }
+{
+    !has_high_form(header) || (header.number >= 31 && header.number_octet() % 128 != 0)
 }
 
 /// Whether the element is of a type that can have its form, and no constructed string; or of another class.

@@ -1,9 +1,9 @@
 -- What is noted of contents in pieces.
-use Rattle.std.proofs.Common.{◌≡◌, ℕ, ◌+◌, ◌-◌, ◌≤◌, Bool, true, false, List, [], ◌∷◌, ◌++◌, length, take, get_or, refl, sym, ap, ◌∙◌, arith}
+use Rattle.std.proofs.Common.{◌≡◌, ℕ, ◌+◌, ◌-◌, ◌<◌, ◌≤◌, Bool, true, false, List, [], ◌∷◌, ◌++◌, length, take, drop, get_or, refl, sym, ap, ◌∙◌, arith}
 use Rattle.std.specs.Prelude.{◌&&◌, eqb, min}
 use Rattle.std.proofs.lemmas.Bool.Decides.{nat_tests}
 use Rattle.std.proofs.Math.Seq.{take-append-add}
-use Rattle.std.proofs.lemmas.List.{take_min}
+use Rattle.std.proofs.lemmas.List.{drop_more, take_min}
 use Rattle.std.specs.Str.{is_utf8}
 use Rattle.tlv_value.specs.CheckState.{all_utf8}
 use Rattle.tlv_value.specs.Checks.{allows_octet, every, last_of}
@@ -20,6 +20,20 @@ allows-other number x a b c d =
 pub every-other : (number : ℕ) (xs : List ℕ) → (number ≡ 18 → ⊥) → (number ≡ 19 → ⊥) → (number ≡ 22 → ⊥) → (number ≡ 26 → ⊥) → every (allows_octet number) xs ≡ true
 every-other number [] a b c d = refl
 every-other number (x ∷ xs) a b c d = rw (allows-other number x a b c d) (every-other number xs a b c d)
+
+-- one octet more
+every-more : (all : Bool) (number x : ℕ) (xs : List ℕ)
+    → ((all && allows_octet number x) && every (allows_octet number) xs) ≡ (all && every (allows_octet number) (x ∷ xs))
+every-more true number x xs = refl
+every-more false number x xs = refl
+
+pub every-next : (all next : Bool) (number : ℕ) (xs : List ℕ) (i : ℕ) → i < length xs → next ≡ (all && allows_octet number (get_or xs i 0))
+    → (all && every (allows_octet number) (drop i xs)) ≡ every (allows_octet number) xs
+    → (next && every (allows_octet number) (drop (i + 1) xs)) ≡ every (allows_octet number) xs
+every-next all next number xs i h e k =
+    ap (λ (b : Bool). b && every (allows_octet number) (drop (i + 1) xs)) e
+    ∙ every-more all number (get_or xs i 0) (drop (i + 1) xs)
+    ∙ ap (λ (l : List ℕ). all && every (allows_octet number) l) (sym (drop_more xs i 0 h)) ∙ k
 
 -- the last octet
 pub last-at : (before x : ℕ) (xs : List ℕ) → last_of before (x ∷ xs) ≡ get_or (x ∷ xs) (length xs) 0

@@ -14,6 +14,7 @@ ghost use Rattle.tlv_value.specs.Checks.{
   last_of,
 };
 ghost use Rattle.tlv_value.specs.Rows.{full_rows, open_row};
+ghost use Rattle.tlv_value.specs.Times.{canonical_general_time, canonical_utc_time, general_time, has_form, utc_time};
 
 use crate::Finding;
 use crate::kind::Kind;
@@ -97,8 +98,12 @@ impl ValueCheck {
         self.allowed = true;
         self.padded = false;
         self.formed = true;
-        self.row.clear();
-        self.time.clear();
+        if !self.row.is_empty() {
+            self.row.clear();
+        }
+        if !self.time.is_empty() {
+            self.time.clear();
+        }
     }
 
     /// How many contents octets are still to come.
@@ -168,9 +173,11 @@ impl ValueCheck {
     fn note_each(&mut self, octets: &[u8])
         ensures { self.new ≡ each_noted self.old octets.now }
     {
-        self.allowed = both(self.allowed, are_allowed(self.number, octets));
-        self.padded = padded_after(self.number, self.padded, self.last, octets);
-        self.formed = formed_after(self.number, self.formed, &mut self.row, octets);
+        match self.number {
+            6 | 13 => self.padded = padded_after(self.padded, self.last, octets),
+            12 => self.formed = both(self.formed, take_rows(&mut self.row, octets)),
+            _ => self.allowed = both(self.allowed, are_allowed(self.number, octets)),
+        }
         self.last = last_octet(self.last, octets);
     }
 
@@ -196,7 +203,9 @@ impl ValueCheck {
             5 => self.size == 0,
             6 => self.size != 0 && !self.padded && self.last < 128,
             13 => !self.padded && self.last < 128,
-            3 | 23 | 24 => self.has_none(),
+            3 => self.has_none(),
+            23 => self.size > 64 || is_utc_clear(self.time.as_slice()),
+            24 => self.size > 64 || is_general_clear(self.time.as_slice()),
             _ => self.is_allowed(),
         }
     }
@@ -383,27 +392,10 @@ fn extend_time(time: &mut ArrayVec<u8, 64>, octets: &[u8])
 }
 
 /// Whether a subidentifier begins with `80`, with these octets too.
-fn padded_after(number: u64, padded: bool, before: u8, octets: &[u8]) -> bool
-    ensures { result ≡ (if is_object number then padded || is_padded_behind before octets.now else padded) }
+fn padded_after(padded: bool, before: u8, octets: &[u8]) -> bool
+    ensures { result ≡ (padded || is_padded_behind before octets.now) }
 {
-    if number == 6 || number == 13 {
-        padded || is_padded(before, octets)
-    } else {
-        padded
-    }
-}
-
-/// Whether the rows of a UTF8String that were full are well-formed, with these octets too.
-fn formed_after(number: u64, formed: bool, row: &mut ArrayVec<u8, 64>, octets: &[u8]) -> bool
-    requires { length row.old.items < 64 }
-    ensures formed { result ≡ (if eqb number 12 then formed && all_utf8 (full_rows Kind.Utf8 row.old.items octets.now) else formed) }
-    ensures row { row.new.items ≡ (if eqb number 12 then open_row Kind.Utf8 row.old.items octets.now else row.old.items) }
-    ensures begun { length row.new.items < 64 }
-{
-    if number != 12 {
-        return formed;
-    }
-    both(formed, take_rows(row, octets))
+    padded || is_padded(before, octets)
 }
 
 /// Adds a finding, where it is there.
@@ -426,6 +418,22 @@ fn note_time(of_grammar: bool, is_canonical: bool, found: &mut ArrayVec<Finding,
     } else {
         found.push(Finding::B19);
     }
+}
+
+/// Whether nothing is found on a UTCTime.
+#[inline(never)]
+fn is_utc_clear(time: &[u8]) -> bool
+    ensures { result ≡ eqb (length (time_findings (has_form utc_time time.now) (has_form canonical_utc_time time.now))) 0 }
+{
+    utc_canonical(time) && utc_ok(time)
+}
+
+/// Whether nothing is found on a GeneralizedTime.
+#[inline(never)]
+fn is_general_clear(time: &[u8]) -> bool
+    ensures { result ≡ eqb (length (time_findings (has_form general_time time.now) (has_form canonical_general_time time.now))) 0 }
+{
+    general_canonical(time) && general_ok(time)
 }
 
 /// Whether so many of the last bits of an octet are not all 0.
@@ -466,12 +474,12 @@ fn are_allowed(number: u64, octets: &[u8]) -> bool
 fn is_each_allowed(number: u64, octets: &[u8]) -> bool
     ensures { result ≡ every (allows_octet_of number) octets.now }
 {
+    // There is no way out of the loop, so that many octets are looked at in one go.
+    let mut all = true;
     for octet in octets {
-        if !allows_octet(number, *octet) {
-            return false;
-        }
+        all = both(all, allows_octet(number, *octet));
     }
-    true
+    all
 }
 
 /// Whether the type with this universal number has the octet: NumericString, PrintableString, IA5String, VisibleString.
