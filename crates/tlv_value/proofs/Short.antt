@@ -19,8 +19,9 @@ use Rattle.hex.proofs.HexLemmas.{length-encode_with}
 use Rattle.tlv_value.specs.declared.kind.Kind.{Kind}
 use Rattle.tlv_value.specs.declared.kind.Kind.TheVariants.{Octets, Boolean, Integer, Bits, Object, Relative, Text, Utf8, Ucs2, Ucs4}
 use Rattle.tlv_value.specs.Rows.{utf8_length}
-use Rattle.tlv_value.specs.Units.{alone, escaped_number, escaped_octet, is_printable, octet_text, printable_text, quoted, three_octets, ucs2_unit, ucs4_unit, unit_size, unit_text, units, utf8_number, utf8_unit, without_zeros}
-use Rattle.tlv_value.specs.KindValues.{bits_value, boolean_value, digits_of, integer_value, is_readable, joined_pairs, long_text, plain_text}
+use Rattle.tlv_value.specs.Units.{escaped_number, escaped_octet, is_printable, octet_text, printable_text, quoted, three_octets, unit_size, unit_text, units, utf8_number, without_zeros}
+use Rattle.tlv_value.specs.Kind.{is_text}
+use Rattle.tlv_value.specs.KindValues.{bits_value, boolean_value, integer_value, is_readable, joined_pairs, long_text, plain_text}
 use Rattle.tlv_value.specs.Value.{Value, bit_count, most_held, octets_value, row_text, shown_with, spaced_pairs, used_digits}
 
 abbrev value_with : List ℕ → List (List ℕ) → Value
@@ -53,14 +54,14 @@ if-short : (b : Bool) (x y : List ℕ) (n : ℕ) → length x ≤ n → length y
 if-short true x y n h g = h
 if-short false x y n h g = g
 
-ucs2-short : (unit : List ℕ) → 1 ≤ length unit → length (ucs2_unit unit) ≤ 5 * length unit
+ucs2-short : (unit : List ℕ) → 1 ≤ length unit → length (unit_text Ucs2 unit) ≤ 5 * length unit
 ucs2-short [] h = absurd (omega arith)
 ucs2-short (a ∷ []) h = omega (arith, escaped-short a)
 ucs2-short (a ∷ b ∷ []) h =
     if-short (eqb a 0 && is_printable b) (printable_text b) (escaped_number (a ∷ b ∷ [])) 10 (omega (arith, printable-short b)) (omega (arith, number-short (a ∷ b ∷ [])))
 ucs2-short (a ∷ b ∷ c ∷ unit) h = omega (arith, escaped-short a)
 
-ucs4-short : (unit : List ℕ) → 1 ≤ length unit → length (ucs4_unit unit) ≤ 5 * length unit
+ucs4-short : (unit : List ℕ) → 1 ≤ length unit → length (unit_text Ucs4 unit) ≤ 5 * length unit
 ucs4-short [] h = absurd (omega arith)
 ucs4-short (a ∷ []) h = omega (arith, escaped-short a)
 ucs4-short (a ∷ b ∷ []) h = omega (arith, escaped-short a)
@@ -69,26 +70,23 @@ ucs4-short (a ∷ b ∷ c ∷ d ∷ []) h =
     if-short (eqb a 0 && eqb b 0 && eqb c 0 && is_printable d) (printable_text d) (escaped_number (a ∷ b ∷ c ∷ d ∷ [])) 20 (omega (arith, printable-short d)) (omega (arith, number-short (a ∷ b ∷ c ∷ d ∷ [])))
 ucs4-short (a ∷ b ∷ c ∷ d ∷ e ∷ unit) h = omega (arith, escaped-short a)
 
-utf8-short : (unit : List ℕ) → 1 ≤ length unit → length (utf8_unit unit) ≤ 5 * length unit
+utf8-short : (unit : List ℕ) → 1 ≤ length unit → length (unit_text Utf8 unit) ≤ 5 * length unit
 utf8-short [] h = absurd (omega arith)
 utf8-short (a ∷ []) h = omega (arith, octet-short a)
 utf8-short (a ∷ b ∷ unit) h = omega (arith, number-short (three_octets (utf8_number (a ∷ b ∷ unit))))
 
-alone-short : (unit : List ℕ) → 1 ≤ length unit → length (alone octet_text unit) ≤ 5 * length unit
-alone-short [] h = absurd (omega arith)
-alone-short (a ∷ unit) h = omega (arith, octet-short a)
-
 unit-short : (kind : Kind) (unit : List ℕ) → 1 ≤ length unit → length (unit_text kind unit) ≤ 5 * length unit
-unit-short Octets unit h = alone-short unit h
-unit-short Boolean unit h = alone-short unit h
-unit-short Integer unit h = alone-short unit h
-unit-short Bits unit h = alone-short unit h
-unit-short Object unit h = alone-short unit h
-unit-short Relative unit h = alone-short unit h
-unit-short Text unit h = alone-short unit h
-unit-short Utf8 unit h = utf8-short unit h
-unit-short Ucs2 unit h = ucs2-short unit h
-unit-short Ucs4 unit h = ucs4-short unit h
+unit-short kind [] h = absurd (omega arith)
+unit-short Octets (a ∷ unit) h = omega (arith, octet-short a)
+unit-short Boolean (a ∷ unit) h = omega (arith, octet-short a)
+unit-short Integer (a ∷ unit) h = omega (arith, octet-short a)
+unit-short Bits (a ∷ unit) h = omega (arith, octet-short a)
+unit-short Object (a ∷ unit) h = omega (arith, octet-short a)
+unit-short Relative (a ∷ unit) h = omega (arith, octet-short a)
+unit-short Text (a ∷ unit) h = omega (arith, octet-short a)
+unit-short Utf8 (a ∷ unit) h = utf8-short (a ∷ unit) h
+unit-short Ucs2 (a ∷ unit) h = ucs2-short (a ∷ unit) h
+unit-short Ucs4 (a ∷ unit) h = ucs4-short (a ∷ unit) h
 
 utf8_length-some : (x : ℕ) → 1 ≤ utf8_length x
 utf8_length-some x = grind (arith, nat_tests)
@@ -199,6 +197,19 @@ text-short kind octets h = omega (arith, quoted-short kind octets)
 
 pairs-short : (octets : List ℕ) → length octets ≤ 64 → length (spaced_pairs octets) ≤ 330
 pairs-short octets h = omega (arith, spaced-short octets)
+
+-- a string of characters
+pub text-plain : (kind : Kind) (octets : List ℕ) → is_text kind ≡ true → plain_text kind octets ≡ 32 ∷ quoted kind octets
+text-plain Octets octets e = absurd (cc)
+text-plain Boolean octets e = absurd (cc)
+text-plain Integer octets e = absurd (cc)
+text-plain Bits octets e = absurd (cc)
+text-plain Object octets e = absurd (cc)
+text-plain Relative octets e = absurd (cc)
+text-plain Text octets e = refl
+text-plain Utf8 octets e = refl
+text-plain Ucs2 octets e = refl
+text-plain Ucs4 octets e = refl
 
 pub plain-short : (kind : Kind) (octets : List ℕ) → length octets ≤ most_held kind → length (plain_text kind octets) ≤ 330
 plain-short Octets octets h = pairs-short octets (omega arith)

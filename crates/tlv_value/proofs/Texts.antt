@@ -1,7 +1,7 @@
 -- The texts of values, piece by piece.
 use Rattle.std.proofs.Common.{◌≡◌, ℕ, zero, suc, ◌+◌, ◌-◌, ◌*◌, ◌<◌, ◌≤◌, List, [], ◌∷◌, ◌++◌, length, take, drop, get_or, refl, ap, ◌∙◌, arith, append-nil, length-append, add-one}
 use Rattle.std.proofs.Math.Seq.{drop-cons, take-append-add}
-use Rattle.std.proofs.lemmas.List.{map-append, length-take}
+use Rattle.std.proofs.lemmas.List.{map-append}
 use Rattle.std.specs.Prelude.{true}
 use Rattle.tlv_value.specs.Bits.{bits_of, last_bits}
 use Rattle.tlv_value.specs.KindValues.{bits_value, digits_of, is_readable}

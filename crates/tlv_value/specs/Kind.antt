@@ -1,5 +1,7 @@
 -- How the contents of a primitive are read, by its tag: X.680, table 1.
-use Rattle.std.specs.Prelude.{ℕ, Bool, true, false, eqb, if◌then◌else◌, List, [], ◌∷◌}
+use Rattle.std.specs.Prelude.{ℕ, Bool, true, false, eqb, List, [], ◌∷◌}
+use Rattle.std.specs.Map.{lookup}
+use Rattle.std.specs.Option.{unwrap_or}
 use Rattle.tlv_head.specs.declared.header.Class.{Class}
 use Rattle.tlv_head.specs.declared.header.Class.TheVariants.{Universal}
 use Rattle.tlv_value.specs.declared.kind.Kind.{Kind}
@@ -17,12 +19,8 @@ universal_kinds =
     -- UniversalString, BMPString
     ∷ (28, Ucs4) ∷ (30, Ucs2) ∷ []
 
-abbrev pub kind_in : List (ℕ × Kind) → ℕ → Kind
-kind_in [] number = Octets
-kind_in (row ∷ rows) number = if eqb number row.0 then row.1 else kind_in rows number
-
 abbrev pub kind_of : Class → ℕ → Kind
-kind_of Universal number = kind_in universal_kinds number
+kind_of Universal number = unwrap_or (lookup (eqb number) universal_kinds) Octets
 kind_of _ number = Octets
 
 -- strings of characters

@@ -1,5 +1,5 @@
 -- The universal types by their numbers: X.680, table 1.
-use Rattle.std.specs.Prelude.{ℕ, Bool, false, ◌&&◌, ◌||◌, not, ◌==◌, eqb, nat_le, List, [], ◌∷◌}
+use Rattle.std.specs.Prelude.{ℕ, Bool, ◌&&◌, ◌||◌, not, ◌==◌, eqb, nat_le, List, [], ◌∷◌}
 use Rattle.std.specs.List.{list_any}
 use Rattle.tlv_head.specs.Header.{Heading, is_universal}
 

@@ -30,13 +30,6 @@ without_zeros (d ∷ e ∷ ds) = if eqb d 0x30 then without_zeros (e ∷ ds) els
 abbrev pub escaped_number : List ℕ → List ℕ
 escaped_number octets = codes "\\u{" ++ without_zeros (encode_lower octets) ++ codes "}"
 
--- a character of two octets, and one of four
-abbrev pub ucs2_text : ℕ → ℕ → List ℕ
-ucs2_text a b = if eqb a 0 && is_printable b then printable_text b else escaped_number (a ∷ b ∷ [])
-
-abbrev pub ucs4_text : ℕ → ℕ → ℕ → ℕ → List ℕ
-ucs4_text a b c d = if eqb a 0 && eqb b 0 && eqb c 0 && is_printable d then printable_text d else escaped_number (a ∷ b ∷ c ∷ d ∷ [])
-
 -- RFC 3629, 3: the number of a character of two to four octets
 abbrev pub utf8_number : List ℕ → ℕ
 utf8_number (a ∷ b ∷ []) = a % 32 * 64 + b % 64
@@ -61,28 +54,18 @@ units kind skipped [] = []
 units kind zero (x ∷ xs) = take (unit_size kind (x ∷ xs)) (x ∷ xs) ∷ units kind (unit_size kind (x ∷ xs) - 1) xs
 units kind (suc skipped) (x ∷ xs) = units kind skipped xs
 
--- a unit of one octet
-abbrev pub alone : (ℕ → List ℕ) → List ℕ → List ℕ
-alone text [] = []
-alone text (a ∷ rest) = text a
-
-abbrev pub ucs2_unit : List ℕ → List ℕ
-ucs2_unit (a ∷ b ∷ []) = ucs2_text a b
-ucs2_unit unit = alone escaped_octet unit
-
-abbrev pub ucs4_unit : List ℕ → List ℕ
-ucs4_unit (a ∷ b ∷ c ∷ d ∷ []) = ucs4_text a b c d
-ucs4_unit unit = alone escaped_octet unit
-
-abbrev pub utf8_unit : List ℕ → List ℕ
-utf8_unit (a ∷ []) = octet_text a
-utf8_unit unit = escaped_number (three_octets (utf8_number unit))
-
+-- the text of a unit
 abbrev pub unit_text : Kind → List ℕ → List ℕ
-unit_text Ucs2 unit = ucs2_unit unit
-unit_text Ucs4 unit = ucs4_unit unit
-unit_text Utf8 unit = utf8_unit unit
-unit_text _ unit = alone octet_text unit
+unit_text kind [] = []
+-- a character of two octets, and one of four
+unit_text Ucs2 (a ∷ b ∷ []) = if eqb a 0 && is_printable b then printable_text b else escaped_number (a ∷ b ∷ [])
+unit_text Ucs2 (a ∷ more) = escaped_octet a
+unit_text Ucs4 (a ∷ b ∷ c ∷ d ∷ []) =
+    if eqb a 0 && eqb b 0 && eqb c 0 && is_printable d then printable_text d else escaped_number (a ∷ b ∷ c ∷ d ∷ [])
+unit_text Ucs4 (a ∷ more) = escaped_octet a
+unit_text Utf8 (a ∷ b ∷ more) = escaped_number (three_octets (utf8_number (a ∷ b ∷ more)))
+-- an octet that is a character, or belongs to none
+unit_text kind (a ∷ more) = octet_text a
 
 -- a row of characters, in quotation marks
 abbrev pub quoted : Kind → List ℕ → List ℕ

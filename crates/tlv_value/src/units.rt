@@ -8,12 +8,9 @@ ghost use Rattle.tlv_value.specs.Units.{
   octet_text,
   printable_text,
   quoted as quoted_row,
-  ucs2_unit,
-  ucs4_unit,
   unit_size as unit_size_of,
   unit_text,
   utf8_number as utf8_number_of,
-  utf8_unit,
   without_zeros,
 };
 
@@ -70,7 +67,7 @@ impl Line {
 
     /// Adds a unit of BMPString.
     fn ucs2(&mut self, unit: &[u8])
-        ensures { length self.old + length (ucs2_unit unit.now) ≤ 1024 → self.new ≡ self.old ++ ucs2_unit unit.now }
+        ensures { length self.old + length (unit_text Kind.Ucs2 unit.now) ≤ 1024 → self.new ≡ self.old ++ unit_text Kind.Ucs2 unit.now }
     {
         match unit {
             [0, octet] if is_printable(*octet) => self.printable(*octet),
@@ -82,7 +79,7 @@ impl Line {
 
     /// Adds a unit of UniversalString.
     fn ucs4(&mut self, unit: &[u8])
-        ensures { length self.old + length (ucs4_unit unit.now) ≤ 1024 → self.new ≡ self.old ++ ucs4_unit unit.now }
+        ensures { length self.old + length (unit_text Kind.Ucs4 unit.now) ≤ 1024 → self.new ≡ self.old ++ unit_text Kind.Ucs4 unit.now }
     {
         match unit {
             [0, 0, 0, octet] if is_printable(*octet) => self.printable(*octet),
@@ -94,18 +91,20 @@ impl Line {
 
     /// Adds a unit of UTF8String.
     fn utf8(&mut self, unit: &[u8])
-        ensures { length self.old + length (utf8_unit unit.now) ≤ 1024 → self.new ≡ self.old ++ utf8_unit unit.now }
+        ensures { length self.old + length (unit_text Kind.Utf8 unit.now) ≤ 1024 → self.new ≡ self.old ++ unit_text Kind.Utf8 unit.now }
     {
-        if let [octet] = unit {
-            self.octet(*octet);
-            return;
+        match unit {
+            [] => {}
+            [octet] => self.octet(*octet),
+            _ => {
+                let number = utf8_number(unit);
+                self.escaped_number(&[
+                    (number / 65536 % 256) as u8,
+                    (number / 256 % 256) as u8,
+                    (number % 256) as u8,
+                ]);
+            }
         }
-        let number = utf8_number(unit);
-        self.escaped_number(&[
-            (number / 65536 % 256) as u8,
-            (number / 256 % 256) as u8,
-            (number % 256) as u8,
-        ]);
     }
 
     /// Adds a character of one octet, or the octet's number.
