@@ -176,12 +176,7 @@ module _ {S : Type 0} (next : S → Told → Following S)
 
     -- the octets so far hold neither a fault nor enough
     first_sound : AreSound (walk next framing limit s) before
-    first_sound = record {
-      forest = x.stands.reading;
-      is_reading = first_reading;
-      spelled = first_spelled;
-      not_enough = ap had_enough first_made.goes_so;
-    }
+    first_sound = (x.stands.reading, first_reading, first_spelled, ap had_enough first_made.goes_so)
 
     module _ (v : Machine) (u : S) (new : Supply) (to : Taken) (piece : List ℕ) (result : Result Turn DeviceFault) (calls : Calls 4096 mid new at to piece result)
         (room : length piece ≡ 4096) (octets : AreOctets piece) (below : w.offset ≤ limit) where
@@ -266,13 +261,12 @@ module _ {S : Type 0} (next : S → Told → Following S)
           let ends : EndsWith framing (take limit (before ++ r)) (had_enough (followed next s (events f)).goes) run.ending =
           subst (λ (b : Bool). EndsWith framing (take limit (before ++ r)) b run.ending) (sym (is_enough_so f go.On (followed next s es).put k))
           (subst (λ (o : List ℕ). EndsWith framing o false run.ending) walked_is (subst (λ (k : Framing). EndsWith k walked false run.ending) x.same y.ending)) in record {
-            runs = runs_by (Ok run) f (gave_last new.last piece g) read es go.On k (ap of_source (sym is)) (sent y.more (Ok tt) y.put)
-                (
-                  run.ending,
-                  answer,
-                  ends_so framing (take limit (before ++ r)) (had_enough (followed next s (events f)).goes) run.ending
-                      (IsFinalEnding run.ending ⊎ ((new.last ≡ gave 0) × IsAtEnd new.left)) ends (ended_by run f (λ e. absurd (true≢false (sym e ∙ none))) g ended),
-                );
+            runs = runs_by (Ok run) f (gave_last new.last piece g) read es go.On k (ap of_source (sym is)) (sent y.more (Ok tt) y.put) (
+              run.ending,
+              answer,
+              ends_so framing (take limit (before ++ r)) (had_enough (followed next s (events f)).goes) run.ending
+                  (IsFinalEnding run.ending ⊎ ((new.last ≡ gave 0) × IsAtEnd new.left)) ends (ended_by run f (λ e. absurd (true≢false (sym e ∙ none))) g ended),
+            );
             state = k.state;
           }
 
@@ -354,12 +348,8 @@ module _ {S : Type 0} (next : S → Told → Following S)
           let read : IsReading framing walked f = subst (λ (k : Framing). IsReading k walked f) (z.framing ∙ x.same) z.stands.is_reading in
           let k : MadeAll s u f go.On (followed next s es).put =
           made_all s u es f go.On (made_both next s t u x.told z.more go.On x.made z.made) (stands_told v walked es f z.stands z.quiet z.stands.is_reading) in
-          let sound : AreSound (walk next framing limit s) (take limit (before ++ r)) = subst (AreSound (walk next framing limit s)) walked_is (record {
-            forest = f;
-            is_reading = read;
-            spelled = stands_spelled v walked es f z.stands z.stands.is_reading;
-            not_enough = is_enough_so f go.On (followed next s es).put k;
-          }) in record {
+          let sound : AreSound (walk next framing limit s) (take limit (before ++ r)) = subst (AreSound (walk next framing limit s)) walked_is
+          (f, read, stands_spelled v walked es f z.stands z.stands.is_reading, is_enough_so f go.On (followed next s es).put k) in record {
             runs = runs_by (Err InputTooLong) f (gave_last new.last piece g) read es go.On k (ap of_source (sym is)) (sent z.more (Ok tt) z.put) (y.0, sound);
             state = k.state;
           }

@@ -38,12 +38,7 @@ module _ {S A : Type 0} (next : S → Told → Following S) (job : Job A) (s : S
   within_limit given = omega (arith, length-take job.limit given)
 
   sound_as : (octets : List ℕ) → length octets ≤ job.limit → AreSound (walk next job.framing job.limit s) octets → AreSound job octets
-  sound_as octets few x = record {
-    forest = x.forest;
-    is_reading = x.is_reading;
-    spelled = x.spelled;
-    not_enough = sym (enough octets x.forest few x.is_reading) ∙ x.not_enough;
-  }
+  sound_as octets few x = (x.0, x.1, x.2, sym (enough octets x.0 few x.1) ∙ x.3)
 
   -- what the walk sent is the job's text
   sent_as : {E : Type 0} (given : List ℕ) (f : Forest) (result : Result ⊤ E) → IsReading job.framing (take job.limit given) f → Sends from to (followed next s (events f)).put result → Sends from to (job.text f) result

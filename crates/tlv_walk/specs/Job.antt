@@ -27,14 +27,17 @@ pub record Job (A : Type 0) : Type 0 where
   pub answer : Forest → Ending → A
 
 module _ {A : Type 0} where
-  -- what a result says of the source alone, and of the drain alone
+  -- what a result says of one device alone, the source or the drain: that it failed, or nothing
+  abbrev pub of_device : DeviceFault → Result A DeviceFault → Result ⊤ DeviceFault
+  of_device ReadFailed (Err ReadFailed) = Err ReadFailed
+  of_device WriteFailed (Err WriteFailed) = Err WriteFailed
+  of_device device result = Ok tt
+
   abbrev pub of_source : Result A DeviceFault → Result ⊤ DeviceFault
-  of_source (Err ReadFailed) = Err ReadFailed
-  of_source result = Ok tt
+  of_source result = of_device ReadFailed result
 
   abbrev pub of_drain : Result A DeviceFault → Result ⊤ DeviceFault
-  of_drain (Err WriteFailed) = Err WriteFailed
-  of_drain result = Ok tt
+  of_drain result = of_device WriteFailed result
 
 -- a fault that is the ending whatever follows: one other than F01 and F02, which alone say that the input ends too early
 abbrev pub IsFinalEnding : Ending → Type 0
@@ -48,11 +51,8 @@ EndsWith framing octets false e = IsEnding framing octets e
 
 module _ {A : Type 0} (job : Job A) where
   -- there is neither a fault in the octets nor enough
-  pub record AreSound (octets : List ℕ) : Type 0 where
-    pub forest : Forest
-    pub is_reading : IsReading job.framing octets forest
-    pub spelled : spell forest ≡ octets
-    pub not_enough : job.is_enough forest ≡ false
+  abbrev pub AreSound : List ℕ → Type 0
+  AreSound octets = (f : Forest) × IsReading job.framing octets f × (spell f ≡ octets) × (job.is_enough f ≡ false)
 
   -- by the result, for octets that were given and their reading: what is returned, or why it is not
   abbrev pub ComesTo : List ℕ → Forest → Supply → Result A DeviceFault → Type 0
@@ -67,12 +67,12 @@ module _ {A : Type 0} (job : Job A) where
   -- a source was read to its end, to a fault or to enough, and what that makes was sent to a drain
   pub record Runs (old new : Supply) (from to : Taken) (result : Result A DeviceFault) : Type 0 where
     pub pieces : Pieces old new
-    pub failures : new.failures ≡ failures_after (of_source result) old.failures
+    pub failures : new.failures ≡ failures_after (of_device ReadFailed result) old.failures
     -- before the last read there was no reason to stop
     pub sound : AreSound (concat pieces.pieces)
     pub within : length (concat pieces.pieces) ≤ job.limit
     -- no more octets are read as encodings than the limit
     pub reading : Forest
     pub is_reading : IsReading job.framing (take job.limit (given_in pieces)) reading
-    pub sends : Sends from to (job.text reading) (of_drain result)
+    pub sends : Sends from to (job.text reading) (of_device WriteFailed result)
     pub comes : ComesTo (given_in pieces) reading new result

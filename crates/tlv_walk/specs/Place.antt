@@ -40,7 +40,10 @@ is_indefinite size = is_none (definite_length size)
 -- contents is the bound
 abbrev pub inside_of : Place → Heading → Place
 inside_of p h = record p {
-  at = p.at + length (opening h); depth = p.depth + 1; indefinite = is_indefinite h.size; padding = false;
+  at = p.at + length (opening h);
+  depth = p.depth + 1;
+  indefinite = is_indefinite h.size;
+  padding = false;
   bound = option_map_or (λ n. Some (p.at + length (octets_of h) + n)) (definite_length h.size) p.bound;
 }
 

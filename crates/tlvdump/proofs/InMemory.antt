@@ -90,6 +90,7 @@ gave_none l xs e (inl g) = nothing xs (ap octets_in (sym e ∙ g)) where
   octets_in never = 0
   octets_in (gave n) = n
   octets_in failed = 0
+
   nothing : (xs : List ℕ) → 0 ≡ length xs → xs ≡ []
   nothing [] e = refl
   nothing (x ∷ xs) e = absurd (cc (e))
@@ -108,13 +109,13 @@ module _ (job : Job Said) (stays : Stays job)
   -- octets that hold neither a fault nor enough settle nothing
   unsettled : (b : List ℕ) (made : Made) → (x : Makes job b made) → AreSound job b → IsSettled x → ⊥
   unsettled b made x s k =
-      let same : x.reading ≡ s.forest = reading-unique job.framing b x.reading s.forest x.is_reading s.is_reading in
-      let not_enough : job.is_enough x.reading ≡ false = ap job.is_enough same ∙ s.not_enough in
+      let same : x.reading ≡ s.0 = reading-unique job.framing b x.reading s.0 x.is_reading s.1 in
+      let not_enough : job.is_enough x.reading ≡ false = ap job.is_enough same ∙ s.3 in
       elim k [
         | inl enough ↦ true≢false (sym enough ∙ not_enough)
         | inr final ↦
             let ends : IsEnding job.framing b made.ending = subst (λ (k : Bool). EndsWith job.framing b k made.ending) not_enough x.ends in
-            spelled_on job.framing b s.forest made.ending s.is_reading s.spelled ends final
+            spelled_on job.framing b s.0 made.ending s.1 s.2 ends final
       ]
 
   module _ (old new : Supply) (from to : Taken) (room : ℕ) (written : List ℕ)

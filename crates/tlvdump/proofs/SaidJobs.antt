@@ -11,7 +11,7 @@ use Rattle.tlvdump.specs.Runs.{Ran, said_at_end}
 
 module _ {A : Type 0} (say : A → Said) (job : Job A) where
   sound_too : (b : List ℕ) → AreSound job b → AreSound (said_by say job) b
-  sound_too b x = record { forest = x.forest; is_reading = x.is_reading; spelled = x.spelled; not_enough = x.not_enough }
+  sound_too b x = x
 
   module _ (old new : Supply) (from to : Taken) where
     runs_too : (result : Result A DeviceFault) → Runs job old new from to result
