@@ -206,7 +206,8 @@ impl ValueCheck {
             3 => self.has_none(),
             23 => self.size > 64 || is_utc_clear(self.time.as_slice()),
             24 => self.size > 64 || is_general_clear(self.time.as_slice()),
-            _ => self.is_allowed(),
+            12 | 28 | 30 => self.is_allowed(),
+            _ => self.allowed,
         }
     }
 

@@ -238,6 +238,7 @@ fn behind_mark(octets: &[u8], octet: u8) -> Option<&[u8]>
 }
 
 /// Two digits of a number from `low` to `high`.
+#[inline(always)]
 fn two_digits(octets: &[u8], low: u8, high: u8) -> Option<&[u8]>
     ensures { option_to_list (option_copied result) ≡ two low high octets.now }
 {
