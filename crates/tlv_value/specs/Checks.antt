@@ -20,7 +20,8 @@ abbrev pub is_padded_integer : List ℕ → Bool
 is_padded_integer (x ∷ y ∷ ys) = (eqb x 0 && nat_lt y 128) || (eqb x 255 && nat_le 128 y)
 is_padded_integer octets = false
 
--- 8.19.2, 8.20.2: an octet 80 behind an octet with bit 8 clear, such as this one; the first octet stands behind such a one too
+-- 8.19.2, 8.20.2: an octet 80 that begins a subidentifier: it stands behind an octet with bit 8 clear. The first octet begins one
+-- too: before it 0 is taken to stand
 abbrev pub is_padded_behind : ℕ → List ℕ → Bool
 is_padded_behind before [] = false
 is_padded_behind before (x ∷ xs) = (nat_lt before 128 && eqb x 128) || is_padded_behind x xs

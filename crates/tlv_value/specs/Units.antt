@@ -64,7 +64,7 @@ unit_text Ucs4 (a ∷ b ∷ c ∷ d ∷ []) =
     if eqb a 0 && eqb b 0 && eqb c 0 && is_printable d then printable_text d else escaped_number (a ∷ b ∷ c ∷ d ∷ [])
 unit_text Ucs4 (a ∷ more) = escaped_octet a
 unit_text Utf8 (a ∷ b ∷ more) = escaped_number (three_octets (utf8_number (a ∷ b ∷ more)))
--- an octet that is a character, or belongs to none
+-- an octet that is a character by itself, or belongs to none
 unit_text kind (a ∷ more) = octet_text a
 
 -- a row of characters, in quotation marks

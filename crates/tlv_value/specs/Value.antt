@@ -49,10 +49,11 @@ most_held Object = 64
 most_held Relative = 64
 most_held kind = row_size kind
 
--- contents that are no longer
+-- the value of contents that are no longer; those that cannot be read are shown as octets
 abbrev pub held_value : NameOf → Kind → List ℕ → Value
 -- 8.2.2: FALSE is zero
 held_value name_of Boolean (x ∷ []) = shown_with (if eqb x 0 then codes "FALSE" else codes "TRUE")
+-- 8.3.3, 8.4
 held_value name_of Integer (x ∷ xs) = shown_with (signed_decimal (twos_complement (x ∷ xs)))
 -- 8.6.2: the first octet is the number of unused bits in the last one: at most 7, and none where there is no octet for them
 held_value name_of Bits (unused ∷ octets) =
@@ -61,11 +62,13 @@ held_value name_of Bits (unused ∷ octets) =
     else octets_value (unused ∷ octets)
 -- a name stands behind its object identifier
 held_value name_of Object octets =
-    option_map_or (λ text. shown_with (text ++ option_map_or (λ name. codes " (" ++ name ++ codes ")") (name_of text) [])) (dotted_text false octets) (octets_value octets)
+    option_map_or (λ text. shown_with (text ++ option_map_or (λ name. codes " (" ++ name ++ codes ")") (name_of text) []))
+    (dotted_text false octets) (octets_value octets)
 held_value name_of Relative octets = option_map_or shown_with (dotted_text true octets) (octets_value octets)
 held_value name_of kind octets = if is_text kind then shown_with (quoted kind octets) else octets_value octets
 
--- long contents of n octets, of which these have come, be it all of them: what stands on the line, and the other octets in rows
+-- the value of long contents of n octets, of which these have come, as far as it is known: whether they are whole says the first
+-- argument. 8.6.2: of a BIT STRING the number of bits stands on the line, where its first octet can be read
 abbrev pub long_value : Bool → Kind → ℕ → List ℕ → Value
 long_value whole Bits n (unused ∷ octets) =
     if nat_le unused 7 then record { text = 0x20 ∷ bit_count unused (n - 1); rows = rows_from Bits whole [] octets }
@@ -80,6 +83,8 @@ whole_value name_of kind octets =
 -- the text of a row: characters, or pairs of digits with spaces between them
 abbrev pub row_text : Kind → List ℕ → List ℕ
 row_text kind row = if is_text kind then quoted kind row else join_by (λ x. encode_lower (x ∷ [])) (codes " ") row
+
+-- ---- A word of proofs
 
 abbrev pub no_names : NameOf
 no_names text = None
