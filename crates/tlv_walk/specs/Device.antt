@@ -67,8 +67,8 @@ module _ {E : Type 0} where
     pub some : IfOk result (λ n. (0 < n) × (n ≤ length from))
     pub failures : new.failures ≡ failures_after result old.failures
 
--- reads of a source, one or more: the octets that each gave, and the last. Each but the last gave between one octet and 4096,
--- and the last so many that it tells, or it failed and gave none
+-- reads of a source, one or more: the octets that each gave, and the last. Each but the last gave between one octet and 4096.
+-- The last gave as many as the source tells of it, or failed and gave none
 pub record Pieces (old new : Supply) : Type 0 where
   pub pieces : List (List ℕ)
   pub last : List ℕ

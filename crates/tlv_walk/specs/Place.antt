@@ -64,7 +64,7 @@ pub record IsElementAt (p : Place) (holding : Bool) (h : Heading) (n : ℕ) : Ty
   pub depth : holding ≡ true → p.depth < 128
   pub fits : Fits p n
 
--- 8.1.3.3: nor do all the contents octets that it announces
+-- 8.1.3.3: the same of its header and all the contents octets that are announced
 abbrev pub IsEntry : Place → Bool → Heading → Type 0
 IsEntry p holding h = IsElementAt p holding h (length (octets_of h) + announced h.size)
 
