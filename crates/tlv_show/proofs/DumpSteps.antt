@@ -1,14 +1,14 @@
 -- What a dump makes of an event: what its lines and its finder make of it.
-use Rattle.std.proofs.Common.{◌≡◌, ℕ, Bool, true, false, if◌then◌else◌, List, [], ◌∷◌, ◌++◌, refl, sym, ap, ap₂, ◌∙◌, append-nil}
+use Rattle.std.proofs.Common.{◌≡◌, ℕ, Bool, true, false, not, if◌then◌else◌, List, [], ◌∷◌, ◌++◌, refl, sym, ap, ap₂, ◌∙◌, append-nil, append_assoc}
 use Rattle.tlv_walk.specs.declared.follow.Go.{Go}
 use Rattle.tlv_walk.specs.declared.follow.Go.TheVariants as go
 use Rattle.tlv_walk.specs.Events.{Told, Open, Begin, Bytes, End, Close, Enter, Unused, Leave, Pad}
 use Rattle.tlv_walk.specs.Follow.{Following, each_octet, followed, if_on}
 use Rattle.tlv_show.specs.Dumped.{Dumping, dumped, one_dumped, one_padded}
-use Rattle.tlv_show.specs.DumpStep.{Showing, dump_step, findings_first, findings_last, is_header, one_filled, one_shown}
+use Rattle.tlv_show.specs.DumpStep.{Showing, dump_step, findings_first, findings_last, found_lines, is_header, one_filled, one_shown}
 use Rattle.tlv_show.specs.FinderState.{FinderState, Finds, Tells, find, find_bytes, finds_nothing, heard}
 use Rattle.tlv_show.proofs.CheckLaws.{found-join}
-use Rattle.tlv_show.specs.CheckStep.{all_told, all_written}
+use Rattle.tlv_show.specs.CheckStep.{all_written, written_where}
 use Rattle.tlv_show.specs.declared.style.Style.TheVariants.{Dump}
 
 -- octet by octet, and at once
@@ -100,12 +100,19 @@ module _ (s : Showing) (told : Finds) (tells : Bool) (e : Told) (says : Tells (f
   other-step : is_header e ≡ false → dump_step s e ≡ findings_last s u d
   other-step h = step-is s e ∙ ap (λ (k : Bool). by_order k s (find s.finder e) d) h ∙ last-heard (find s.finder e) told tells says
 
-  -- the findings before the lines, or behind them
-  pub header-text : is_header e ≡ true → all_told (Dump s.lines.layout.pure) u ++ d.put ≡ (dump_step s e).put
-  header-text h = ap (λ (k : Following Showing). k.put) (sym (header-step h))
+  -- the findings before the lines, the lines, and the findings behind them
+  in_order : (k : Bool) → is_header e ≡ k
+      → written_where k (Dump s.lines.layout.pure) u ++ (d.put ++ written_where (not k) (Dump s.lines.layout.pure) u) ≡ (dump_step s e).put
+  in_order true h = ap (λ (l : List ℕ). found_lines s u ++ l) (append-nil d.put) ∙ ap (λ (k : Following Showing). k.put) (sym (header-step h))
+  in_order false h = ap (λ (k : Following Showing). k.put) (sym (other-step h))
 
-  pub other-text : is_header e ≡ false → d.put ++ all_told (Dump s.lines.layout.pure) u ≡ (dump_step s e).put
-  other-text h = ap (λ (k : Following Showing). k.put) (sym (other-step h))
+  pub step-text : written_where (is_header e) (Dump s.lines.layout.pure) u ++ (d.put ++ written_where (not (is_header e)) (Dump s.lines.layout.pure) u) ≡ (dump_step s e).put
+  step-text = in_order (is_header e) refl
+
+  pub step-joined : (written_where (is_header e) (Dump s.lines.layout.pure) u ++ d.put) ++ written_where (not (is_header e)) (Dump s.lines.layout.pure) u ≡ (dump_step s e).put
+  step-joined =
+      append_assoc (written_where (is_header e) (Dump s.lines.layout.pure) u) d.put (written_where (not (is_header e)) (Dump s.lines.layout.pure) u)
+      ∙ step-text
 
   in_state : (k : Bool) → is_header e ≡ k → (v : Dumping) → v ≡ d.state → (record { lines = v; finder = u.state } ≡ (dump_step s e).state) × (go.On ≡ (dump_step s e).goes)
   in_state true h v w = rw (header-step h) (ap (λ (x : Dumping). record { lines = x; finder = u.state }) w, refl)

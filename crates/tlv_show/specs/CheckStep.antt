@@ -1,5 +1,5 @@
 -- What a check makes of events.
-use Rattle.std.specs.Prelude.{ℕ, List, [], ◌∷◌, None, flat_map}
+use Rattle.std.specs.Prelude.{ℕ, Bool, if◌then◌else◌, List, [], ◌∷◌, None, flat_map}
 use Rattle.tlv_value.specs.declared.finding.Finding.{Finding}
 use Rattle.tlv_walk.specs.declared.follow.Go.TheVariants.{On}
 use Rattle.tlv_walk.specs.Events.{Told, Open, Begin, Bytes, End, Close, Enter, Unused, Leave, Pad}
@@ -20,6 +20,10 @@ all_written style level at findings = flat_map (written style level at) findings
 -- those that were told last
 abbrev pub all_told : Style → Finds → List ℕ
 all_told style f = all_written style f.level f.at f.found
+
+-- where they are written here
+abbrev pub written_where : Bool → Style → Finds → List ℕ
+written_where here style f = if here then all_told style f else []
 
 -- the findings are put, each with its line
 abbrev pub lists : Finds → Following FinderState

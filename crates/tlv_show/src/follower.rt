@@ -8,7 +8,7 @@ ghost use Rattle.tlv_show.specs.Dumps.{top_layout};
 use crate::Options;
 use crate::finder::Finder;
 use crate::line_follower::Lines;
-use crate::style::{Style, put_findings};
+use crate::style::{Style, put_where};
 use std::marker::Model;
 use tlv_value::{Layout, Line, Names};
 use tlv_walk::{Drain, Event, Follow, Go, Out, WriteFault};
@@ -77,23 +77,17 @@ impl Follow for Dump<'_> {
 
     #[inline(always)]
     fn on<D: Drain>(&mut self, event: &Event<'_>, out: &mut Out<'_, D>) -> Result<Go, WriteFault> {
-        // Two ways, so that each event goes straight to what it needs.
         let style = Style::Dump(self.lines.layout().pure);
-        if is_header(event) {
-            let tells = self.finder.find(event);
-            put_findings(tells, &mut self.line, style, &self.finder, out)?;
-            self.lines.show(event, out)?;
-        } else {
-            let tells = self.finder.find(event);
-            self.lines.show(event, out)?;
-            put_findings(tells, &mut self.line, style, &self.finder, out)?;
-        }
+        let first = is_header(event);
+        let tells = self.finder.find(event);
+        put_where(first, tells, &mut self.line, style, &self.finder, out)?;
+        self.lines.show(event, out)?;
+        put_where(!first, tells, &mut self.line, style, &self.finder, out)?;
         Ok(Go::On)
     }
 }
 
 /// Whether an event is the header of an element.
-#[inline(always)]
 fn is_header(event: &Event<'_>) -> bool
     ensures { result ≡ is_header_of (told_of event.now) }
 {
