@@ -2,7 +2,8 @@
 use Rattle.std.proofs.Common.{refl, sym, ap, ◌∙◌, subst, arith, append_assoc, append-nil}
 use Rattle.std.specs.Prelude.{◌≡◌, ℕ, ◌≤◌, Bool, true, false, ◌==◌, if◌then◌else◌, List, [], ◌∷◌, ◌++◌, Option, Some, None}
 use Rattle.std.specs.Option.{is_some, option_map_or, option_or}
-use Rattle.tlv_head.specs.Header.{AllowsSize, Heading, octets_of}
+use Rattle.tlv_head.specs.Header.{Heading, octets_of}
+use Rattle.tlv_head.specs.Private.Header.{AllowsSize}
 use Rattle.tlv_walk.specs.declared.follow.Go.TheVariants as go
 use Rattle.tlv_walk.specs.Events.{Told, Begin, Bytes, End, Enter, closes, events, opens}
 use Rattle.tlv_walk.specs.Follow.{Following, followed, goes_of, stay}

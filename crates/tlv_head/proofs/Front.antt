@@ -11,7 +11,8 @@ use Rattle.tlv_head.specs.Fields.{heading_with, Suits}
 use Rattle.tlv_head.specs.declared.reader.Part.{Part}
 use Rattle.tlv_head.specs.declared.reader.Part.TheVariants.{Start, Number, Length, Digits, Done}
 use Rattle.tlv_head.specs.Header.{Heading, IsHeading, IsIdentifier, IsLength, octets_of}
-use Rattle.tlv_head.specs.Part.{BeginsWithIdentifier, BeginsWithLength, Carries, MakesHeader, is_done}
+use Rattle.tlv_head.specs.Part.{Carries, is_done}
+use Rattle.tlv_head.specs.Private.Part.{BeginsWithIdentifier, BeginsWithLength, MakesHeader}
 use Rattle.tlv_head.specs.Read.{BeginsWithFields}
 use Rattle.tlv_head.specs.Refusal.{BeginsWith, IsFront}
 use Rattle.tlv_head.proofs.Scan.{origin_of, scan, Fresh, Ready, no-front, scan-header}

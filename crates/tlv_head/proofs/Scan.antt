@@ -7,7 +7,8 @@ use Rattle.tlv_head.specs.declared.header.Class.{Class}
 use Rattle.tlv_head.specs.declared.header.Class.TheVariants.{Universal, Application, Context, Private}
 use Rattle.tlv_head.specs.declared.header.Size.{Size}
 use Rattle.tlv_head.specs.declared.header.Size.TheVariants.{Definite, Indefinite}
-use Rattle.tlv_head.specs.Header.{class_bits, leading_octet, value_of, IsIdentifier, IsLength, Heading, octets_of, AllowsSize, IsHeading}
+use Rattle.tlv_head.specs.Header.{class_bits, leading_octet, value_of, IsIdentifier, IsLength, Heading, octets_of, IsHeading}
+use Rattle.tlv_head.specs.Private.Header.{AllowsSize}
 use Rattle.tlv_head.specs.Refusal.{IsFront}
 use Rattle.tlv_head.specs.declared.fault.FaultCode.{FaultCode}
 use Rattle.tlv_head.specs.declared.fault.FaultCode.TheVariants.{StrayEnd, TagTooLong, ReservedLength, IndefinitePrimitive, LengthTooLarge}

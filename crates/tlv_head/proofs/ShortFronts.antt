@@ -11,8 +11,10 @@ use Rattle.tlv_head.specs.declared.reader.Part.{Part}
 use Rattle.tlv_head.specs.declared.reader.Part.TheVariants.{Start, Number, Length, Digits, Done}
 use Rattle.tlv_head.specs.declared.reader.Next.{Next}
 use Rattle.tlv_head.specs.declared.reader.Next.TheVariants.{Unfinished, Finished, Refused}
-use Rattle.tlv_head.specs.Header.{AllowsSize, IsIdentifier, IsLength, flagged, leading_octet}
-use Rattle.tlv_head.specs.Part.{BeginsWithIdentifier, BeginsWithNoIdentifier, BeginsWithNoLength, Carries, CarriesIdentifier, CarriesNumber, Follows}
+use Rattle.tlv_head.specs.Header.{IsIdentifier, IsLength, flagged, leading_octet}
+use Rattle.tlv_head.specs.Private.Header.{AllowsSize}
+use Rattle.tlv_head.specs.Part.{Carries, CarriesIdentifier, CarriesNumber}
+use Rattle.tlv_head.specs.Private.Part.{BeginsWithIdentifier, BeginsWithNoIdentifier, BeginsWithNoLength, Follows}
 use Rattle.tlv_head.specs.Read.{BeginsWithNoShort}
 use Rattle.tlv_head.specs.Refusal.{IsRefusedOctet, indefinite_primitive, length_too_large, reserved_length, tag_too_long}
 use Rattle.tlv_head.proofs.Scan.{Named, scan, scan-identifier, start}

@@ -7,7 +7,8 @@ use Rattle.std.proofs.Math.Nat.{pow-suc, pow-le-pow_right, one-le-pow}
 use Rattle.tlv_head.specs.Header.{IsIdentifier, value_of}
 use Rattle.tlv_head.specs.Refusal.{IsRefusedOctet, tag_too_long, reserved_length, indefinite_primitive, length_too_large}
 use Rattle.tlv_head.specs.declared.fault.FaultCode.TheVariants.{TagTooLong, ReservedLength, IndefinitePrimitive, LengthTooLarge}
-use Rattle.tlv_head.specs.Part.{CarriesNumber, CarriesIdentifier, CarriesLength, MakesHeader}
+use Rattle.tlv_head.specs.Part.{CarriesNumber, CarriesIdentifier, CarriesLength}
+use Rattle.tlv_head.specs.Private.Part.{MakesHeader}
 use Rattle.tlv_head.specs.declared.header.Size.TheVariants.{Definite}
 use Rattle.tlv_head.specs.declared.reader.Identifier.{Identifier}
 use Rattle.tlv_head.proofs.Digits.{value_of-snoc, value_of-lt}

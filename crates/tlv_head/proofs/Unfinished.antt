@@ -5,7 +5,8 @@ use Rattle.tlv_head.specs.Header.{Heading, IsHeading, is_wrapper}
 use Rattle.tlv_head.specs.Progress.{Progress, Fits}
 use Rattle.tlv_head.specs.Refusal.{IsFront}
 use Rattle.tlv_head.specs.Push.{Completes, IsTooDeep, EndsPast}
-use Rattle.tlv_head.specs.Part.{Carries, CarriesNumber, CarriesIdentifier, CarriesLength, MakesHeader, is_done}
+use Rattle.tlv_head.specs.Part.{Carries, CarriesNumber, CarriesIdentifier, CarriesLength, is_done}
+use Rattle.tlv_head.specs.Private.Part.{MakesHeader}
 use Rattle.tlv_head.specs.declared.header.Size.{Size}
 use Rattle.tlv_head.specs.declared.header.Size.TheVariants.{Definite}
 use Rattle.tlv_head.specs.declared.reader.Identifier.{Identifier}

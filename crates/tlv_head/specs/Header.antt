@@ -89,10 +89,6 @@ pub record IsHeading (h : Heading) : Type 0 where
   -- 8.1.3.2 a): a primitive has a definite length
   pub allowed : (h.constructed || is_some (definite_length h.size)) ≡ true
 
--- 8.1.3.2 a), of a form and a size
-abbrev pub AllowsSize : Bool → Size → Type 0
-AllowsSize constructed size = (constructed || is_some (definite_length size)) ≡ true
-
 -- 8.1.3.3: how many contents octets are announced
 abbrev pub announced : Size → ℕ
 announced size = unwrap_or (definite_length size) 0

@@ -10,3 +10,4 @@ pub mod Part
 pub mod Read
 pub mod Laws
 pub mod Shortest
+pub mod Private

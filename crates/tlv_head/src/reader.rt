@@ -4,8 +4,9 @@ ghost use Rattle.tlv_head.specs.Header.{class_bits, is_wrapper as is_wrapper_of}
 ghost use Rattle.tlv_head.specs.Progress.{Fits};
 ghost use Rattle.tlv_head.specs.Refusal.{BeginsWithNone};
 ghost use Rattle.tlv_head.specs.Read.{BeginsWithFields, BeginsWithNoShort, IsShort};
-ghost use Rattle.tlv_head.specs.Part.{BeginsWithIdentifier, BeginsWithLength, BeginsWithNoIdentifier, BeginsWithNoLength};
-ghost use Rattle.tlv_head.specs.Part.{Carries, CarriesNumber, CarriesIdentifier, CarriesLength, Follows, is_done};
+ghost use Rattle.tlv_head.specs.Private.Part.{BeginsWithIdentifier, BeginsWithLength, BeginsWithNoIdentifier, BeginsWithNoLength};
+ghost use Rattle.tlv_head.specs.Part.{Carries, CarriesNumber, CarriesIdentifier, CarriesLength, is_done};
+ghost use Rattle.tlv_head.specs.Private.Part.{Follows};
 
 use crate::header::is_wrapper;
 use crate::{Class, Fault, FaultCode, Header, HeaderFields, Size};

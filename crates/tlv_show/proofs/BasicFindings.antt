@@ -10,8 +10,10 @@ use Rattle.tlv_show.specs.declared.rules.Rules.{Rules}
 use Rattle.tlv_show.specs.declared.rules.Rules.TheVariants.{Ber, Der, Cer}
 use Rattle.tlv_show.specs.Conditions.{end_conditions, header_conditions}
 use Rattle.tlv_show.specs.DumpText.{end_place}
-use Rattle.tlv_show.specs.Found.{contents_findings, end_findings, shows}
-use Rattle.tlv_show.specs.Items.{Item, FindingAt, OpeningLine, ClosingLine, WholePrimitive, OpenPrimitive, PaddingLine, findings_at, heads, items}
+use Rattle.tlv_show.specs.Found.{contents_findings, shows}
+use Rattle.tlv_show.specs.Private.Found.{end_findings}
+use Rattle.tlv_show.specs.Items.{Item, FindingAt, OpeningLine, ClosingLine, WholePrimitive, OpenPrimitive, PaddingLine, heads, items}
+use Rattle.tlv_show.specs.Private.Items.{findings_at}
 use Rattle.tlv_show.specs.Laws.{BasicFindingsStay, is_basic}
 use Rattle.tlv_show.specs.Site.{Site, behind, behind_holder, behind_padding, inside_of, is_padding, top}
 use Rattle.tlv_show.specs.Texts.{check_line}

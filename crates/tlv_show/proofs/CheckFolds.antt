@@ -24,9 +24,12 @@ use Rattle.tlv_show.specs.declared.style.Style.TheVariants.{Check}
 use Rattle.tlv_show.specs.CheckStep.{all_written, check_step}
 use Rattle.tlv_show.specs.Conditions.{end_conditions, header_conditions}
 use Rattle.tlv_show.specs.DumpText.{end_place}
-use Rattle.tlv_show.specs.FinderState.{FinderState, Finds, OpenValue, checked_by, closed_by, count_up, ended_by, find, find_open, frame_of, header_notes, no_findings, top_frame}
-use Rattle.tlv_show.specs.Found.{contents_findings, end_findings, header_findings, shows}
-use Rattle.tlv_show.specs.Items.{Item, FindingAt, OpeningLine, ClosingLine, WholePrimitive, OpenPrimitive, PaddingLine, findings_at, heads, items}
+use Rattle.tlv_show.specs.FinderState.{FinderState, Finds, OpenValue, checked_by, closed_by, count_up, ended_by, find_open, frame_of, header_notes, no_findings, top_frame}
+use Rattle.tlv_show.specs.Private.FinderState.{find}
+use Rattle.tlv_show.specs.Found.{contents_findings, header_findings, shows}
+use Rattle.tlv_show.specs.Private.Found.{end_findings}
+use Rattle.tlv_show.specs.Items.{Item, FindingAt, OpeningLine, ClosingLine, WholePrimitive, OpenPrimitive, PaddingLine, heads, items}
+use Rattle.tlv_show.specs.Private.Items.{findings_at}
 use Rattle.tlv_show.specs.Site.{Site, behind, behind_holder, behind_padding, inside_of, is_padding, top}
 use Rattle.tlv_show.specs.Texts.{check_line, check_text, found_count, is_finding}
 use Rattle.tlv_show.proofs.CheckLaws.{step-is}

@@ -9,8 +9,10 @@ use Rattle.tlv_walk.specs.Events.{Told, Open, Begin, Bytes, End, Close, Enter, U
 use Rattle.tlv_walk.specs.Follow.{Following, each_octet, stay}
 use Rattle.tlv_show.specs.declared.style.Style.{Style}
 use Rattle.tlv_show.specs.declared.style.Style.TheVariants.{Check}
-use Rattle.tlv_show.specs.CheckStep.{all_told, all_written, check_step, lists, one_checked}
-use Rattle.tlv_show.specs.FinderState.{FinderState, Finds, OpenValue, Tells, checked_by, find, find_bytes, heard}
+use Rattle.tlv_show.specs.CheckStep.{all_written, check_step, lists, one_checked}
+use Rattle.tlv_show.specs.Private.CheckStep.{all_told}
+use Rattle.tlv_show.specs.FinderState.{FinderState, Finds, OpenValue, checked_by, find_bytes}
+use Rattle.tlv_show.specs.Private.FinderState.{Tells, find, heard}
 use Rattle.tlv_show.proofs.Dumped.{take-both}
 
 value-join : (v : Option OpenValue) (x y : List ℕ) → checked_by (checked_by v x) y ≡ checked_by v (x ++ y)

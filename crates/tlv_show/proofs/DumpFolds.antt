@@ -11,8 +11,10 @@ use Rattle.tlv_walk.specs.Reading.{IsReading}
 use Rattle.tlv_show.specs.declared.options.Options.{Options}
 use Rattle.tlv_show.specs.Dumps.{dumped_text, top_layout}
 use Rattle.tlv_show.specs.Dumped.{dumped}
-use Rattle.tlv_show.specs.DumpStep.{Showing, dump_step, is_header, nothing_shown}
-use Rattle.tlv_show.specs.FinderState.{FinderState, find, top_frame}
+use Rattle.tlv_show.specs.DumpStep.{Showing, dump_step, nothing_shown}
+use Rattle.tlv_show.specs.Private.DumpStep.{is_header}
+use Rattle.tlv_show.specs.FinderState.{FinderState, top_frame}
+use Rattle.tlv_show.specs.Private.FinderState.{find}
 use Rattle.tlv_show.specs.Site.{Start}
 use Rattle.tlv_show.specs.Texts.{found_count}
 use Rattle.tlv_show.proofs.CheckFolds.{count-run}

@@ -26,11 +26,15 @@ use Rattle.tlv_show.specs.Dumped.{Dumping, dumped, entered, one_dumped}
 use Rattle.tlv_show.specs.DumpStep.{Showing, dump_step}
 use Rattle.tlv_show.specs.DumpText.{end_place}
 use Rattle.tlv_show.specs.FinderState.{FinderState, Finds, find_begin, find_bytes, find_close, find_end, find_open, frame_of, header_notes, noted}
-use Rattle.tlv_show.specs.Found.{contents_findings, end_findings, header_findings}
+use Rattle.tlv_show.specs.Found.{contents_findings, header_findings}
+use Rattle.tlv_show.specs.Private.Found.{end_findings}
 use Rattle.tlv_show.specs.Laws.{PrimitivesAreShown}
-use Rattle.tlv_show.specs.Items.{Item, FindingAt, OpeningLine, ClosingLine, WholePrimitive, OpenPrimitive, PaddingLine, findings_at, heads, items}
-use Rattle.tlv_show.specs.Lines.{close_line, holder_line, opening_line, padding_line}
-use Rattle.tlv_show.specs.Site.{Before, Padding, Sibling, Site, Start, behind, behind_holder, behind_padding, first_octet, inside_of, is_padding}
+use Rattle.tlv_show.specs.Items.{Item, FindingAt, OpeningLine, ClosingLine, WholePrimitive, OpenPrimitive, PaddingLine, heads, items}
+use Rattle.tlv_show.specs.Private.Items.{findings_at}
+use Rattle.tlv_show.specs.Lines.{close_line, opening_line, padding_line}
+use Rattle.tlv_show.specs.Private.Lines.{holder_line}
+use Rattle.tlv_show.specs.Site.{Before, Padding, Sibling, Site, Start, behind, behind_holder, behind_padding, inside_of, is_padding}
+use Rattle.tlv_show.specs.Private.Site.{first_octet}
 use Rattle.tlv_show.specs.Texts.{item_text}
 use Rattle.tlv_show.specs.Dumped.{further, value_after, value_told}
 use Rattle.tlv_show.proofs.Dumped.{dumped_bytes, of_bytes}

@@ -5,10 +5,13 @@ use Rattle.tlv_walk.specs.declared.follow.Go.TheVariants as go
 use Rattle.tlv_walk.specs.Events.{Told, Open, Begin, Bytes, End, Close, Enter, Unused, Leave, Pad}
 use Rattle.tlv_walk.specs.Follow.{Following, each_octet, followed, if_on}
 use Rattle.tlv_show.specs.Dumped.{Dumping, dumped, one_dumped, one_padded}
-use Rattle.tlv_show.specs.DumpStep.{Showing, dump_step, findings_first, findings_last, found_lines, is_header, one_filled, one_shown}
-use Rattle.tlv_show.specs.FinderState.{FinderState, Finds, Tells, find, find_bytes, finds_nothing, heard}
+use Rattle.tlv_show.specs.DumpStep.{Showing, dump_step, findings_first, findings_last, found_lines, one_filled, one_shown}
+use Rattle.tlv_show.specs.Private.DumpStep.{is_header}
+use Rattle.tlv_show.specs.FinderState.{FinderState, Finds, find_bytes, finds_nothing}
+use Rattle.tlv_show.specs.Private.FinderState.{Tells, find, heard}
 use Rattle.tlv_show.proofs.CheckLaws.{found-join}
-use Rattle.tlv_show.specs.CheckStep.{all_written, written_where}
+use Rattle.tlv_show.specs.CheckStep.{all_written}
+use Rattle.tlv_show.specs.Private.CheckStep.{written_where}
 use Rattle.tlv_show.specs.declared.style.Style.TheVariants.{Dump}
 
 -- octet by octet, and at once

@@ -6,7 +6,8 @@ use Rattle.std.specs.FinMap as finite
 use Rattle.std.specs.Prelude.{Some, None, codes}
 use Rattle.tlv_head.specs.declared.header.Size.{Size}
 use Rattle.tlv_head.specs.declared.header.Size.TheVariants.{Definite, Indefinite}
-use Rattle.tlv_head.specs.Header.{AllowsSize, Heading, announced, octets_of}
+use Rattle.tlv_head.specs.Header.{Heading, announced, octets_of}
+use Rattle.tlv_head.specs.Private.Header.{AllowsSize}
 use Rattle.tlv_value.specs.declared.layout.Layout.{Layout}
 use Rattle.tlv_value.specs.Names.{Table}
 use Rattle.tlv_value.specs.State.{TextState, after as after_octets, begun, ended, open_lines, start, told as told_by_octets, whole_lines}
@@ -20,7 +21,8 @@ use Rattle.tlv_walk.proofs.Followed.{followed-more}
 use Rattle.tlv_walk.proofs.Spellings.{length-opening}
 use Rattle.tlv_show.specs.Dumped.{Dumping, dumped, entered, further, puts}
 use Rattle.tlv_show.specs.DumpText.{end_place}
-use Rattle.tlv_show.specs.Lines.{close_line, holder_line, opening_line, padding_line}
+use Rattle.tlv_show.specs.Lines.{close_line, opening_line, padding_line}
+use Rattle.tlv_show.specs.Private.Lines.{holder_line}
 use Rattle.tlv_show.proofs.Dumped.{behind_put, dumped_bytes}
 use Rattle.tlv_show.proofs.Always.{all_on}
 

@@ -15,9 +15,10 @@ use Rattle.tlv_show.specs.declared.rules.Rules.{Rules}
 use Rattle.tlv_show.specs.declared.rules.Rules.TheVariants.{Ber, Der, Cer}
 use Rattle.tlv_show.specs.Conditions.{end_conditions, ends_empty, has_unused_bits, is_not_full}
 use Rattle.tlv_show.specs.FinderState.{end_notes, frame_of, noted, segment_noted}
-use Rattle.tlv_show.specs.Found.{end_findings}
+use Rattle.tlv_show.specs.Private.Found.{end_findings}
 use Rattle.tlv_show.specs.Items.{heads}
-use Rattle.tlv_show.specs.Site.{Sibling, Site, behind_padding, first_octet, in_bit_string, in_string, inside_of, is_held_by}
+use Rattle.tlv_show.specs.Site.{Sibling, Site, behind_padding, in_bit_string, in_string, inside_of}
+use Rattle.tlv_show.specs.Private.Site.{first_octet, is_held_by}
 use Rattle.tlv_show.proofs.HeaderNotes.{Knows, end-by, ends-are, ends_by, filter-held}
 
 -- ---- what frames know

@@ -16,10 +16,14 @@ use Rattle.tlv_walk.specs.Place.{IsOpen, Place, after, inside_of as place_inside
 use Rattle.tlv_show.specs.declared.frames.Frame.{Frame}
 use Rattle.tlv_show.specs.declared.rules.Rules.{Rules}
 use Rattle.tlv_show.specs.DumpText.{end_place}
-use Rattle.tlv_show.specs.FinderState.{FinderState, Finds, contents_notes, count_up, find, find_begin, find_bytes, find_close, find_end, find_open, frame_of, header_notes, noted}
-use Rattle.tlv_show.specs.Found.{contents_findings, end_findings, header_findings, shows}
-use Rattle.tlv_show.specs.Items.{Item, FindingAt, OpeningLine, ClosingLine, WholePrimitive, OpenPrimitive, PaddingLine, findings_at, heads, items}
-use Rattle.tlv_show.specs.Site.{Site, behind, behind_holder, behind_padding, first_octet, inside_of, is_padding}
+use Rattle.tlv_show.specs.FinderState.{FinderState, Finds, contents_notes, count_up, find_begin, find_bytes, find_close, find_end, find_open, frame_of, header_notes, noted}
+use Rattle.tlv_show.specs.Private.FinderState.{find}
+use Rattle.tlv_show.specs.Found.{contents_findings, header_findings, shows}
+use Rattle.tlv_show.specs.Private.Found.{end_findings}
+use Rattle.tlv_show.specs.Items.{Item, FindingAt, OpeningLine, ClosingLine, WholePrimitive, OpenPrimitive, PaddingLine, heads, items}
+use Rattle.tlv_show.specs.Private.Items.{findings_at}
+use Rattle.tlv_show.specs.Site.{Site, behind, behind_holder, behind_padding, inside_of, is_padding}
+use Rattle.tlv_show.specs.Private.Site.{first_octet}
 use Rattle.tlv_show.specs.Texts.{is_finding}
 use Rattle.tlv_show.proofs.CheckLaws.{one-or-more}
 use Rattle.tlv_show.proofs.FinderFolds.{knows-behind, knows-inside, knows-padding, not-constructed, noted_all, stays, summed, unused-of}

@@ -13,10 +13,12 @@ use Rattle.tlv_value.specs.Types.{bit_string, constructed_types, has_segments, i
 use Rattle.tlv_show.specs.declared.frames.Frame.{Frame}
 use Rattle.tlv_show.specs.declared.rules.Rules.{Rules}
 use Rattle.tlv_show.specs.declared.rules.Rules.TheVariants.{Ber, Der, Cer}
-use Rattle.tlv_show.specs.Conditions.{first_length, has_high_form, has_long_form, has_unused_bits, header_conditions, is_not_full, leading_bits, segment_type}
+use Rattle.tlv_show.specs.Conditions.{first_length, has_high_form, has_long_form, has_unused_bits, header_conditions, is_not_full, leading_bits}
+use Rattle.tlv_show.specs.Private.Conditions.{segment_type}
 use Rattle.tlv_show.specs.FinderState.{end_notes, header_notes}
 use Rattle.tlv_show.specs.Found.{header_findings, shows}
-use Rattle.tlv_show.specs.Site.{Site, in_bit_string, in_string, is_held_by}
+use Rattle.tlv_show.specs.Site.{Site, in_bit_string, in_string}
+use Rattle.tlv_show.specs.Private.Site.{is_held_by}
 
 -- what a frame knows of a site
 pub record Knows (w : Frame) (s : Site) : Type 0 where

@@ -24,8 +24,10 @@ use Rattle.tlv_show.specs.declared.rules.Rules.{Rules}
 use Rattle.tlv_show.specs.declared.rules.Rules.TheVariants.{Ber, Der, Cer}
 use Rattle.tlv_show.specs.Conditions.{end_conditions, has_high_form, header_conditions, leading_bits}
 use Rattle.tlv_show.specs.DumpText.{end_place}
-use Rattle.tlv_show.specs.Found.{contents_findings, end_findings, header_findings}
-use Rattle.tlv_show.specs.Items.{Item, OpeningLine, ClosingLine, WholePrimitive, PaddingLine, heads, items, on_contents, on_end, on_header}
+use Rattle.tlv_show.specs.Found.{contents_findings, header_findings}
+use Rattle.tlv_show.specs.Private.Found.{end_findings}
+use Rattle.tlv_show.specs.Items.{Item, OpeningLine, ClosingLine, WholePrimitive, PaddingLine, heads, items}
+use Rattle.tlv_show.specs.Private.Items.{on_contents, on_end, on_header}
 use Rattle.tlv_show.specs.Site.{Site, behind, behind_holder, behind_padding, inside_of, is_padding, top}
 use Rattle.tlv_show.specs.Spellings.{SomeSpelling, is_on_spelling, tells_of_spelling}
 use Rattle.tlv_show.proofs.LongerHeaders.{longer_identifier-absent, longer_lengths, longer_lengths-absent}

@@ -7,7 +7,8 @@ use Rattle.std.specs.List.{list_any}
 use Rattle.std.specs.Prelude.{if◌then◌else◌, slice_index}
 use Rattle.tlv_head.specs.declared.header.Size.{Size}
 use Rattle.tlv_head.specs.declared.header.Size.TheVariants.{Definite, Indefinite}
-use Rattle.tlv_head.specs.Header.{AllowsSize, Heading, IsHeading, announced, octets_of}
+use Rattle.tlv_head.specs.Header.{Heading, IsHeading, announced, octets_of}
+use Rattle.tlv_head.specs.Private.Header.{AllowsSize}
 use Rattle.tlv_head.specs.Shortest.{IsShortest}
 use Rattle.tlv_head.proofs.Shortest.{identifier-from, lengths-from}
 use Rattle.tlv_value.specs.declared.finding.Finding.{Finding}
@@ -24,7 +25,8 @@ use Rattle.tlv_show.specs.declared.rules.Rules.{Rules}
 use Rattle.tlv_show.specs.declared.rules.Rules.TheVariants.{Ber, Der, Cer}
 use Rattle.tlv_show.specs.Conditions.{first_length, has_high_form, has_long_form, header_conditions, leading_bits}
 use Rattle.tlv_show.specs.Found.{header_findings}
-use Rattle.tlv_show.specs.Items.{Item, OpeningLine, ClosingLine, WholePrimitive, PaddingLine, findings_at, items, on_contents, on_end, on_header}
+use Rattle.tlv_show.specs.Items.{Item, OpeningLine, ClosingLine, WholePrimitive, PaddingLine, items}
+use Rattle.tlv_show.specs.Private.Items.{findings_at, on_contents, on_end, on_header}
 use Rattle.tlv_show.specs.DumpText.{end_place}
 use Rattle.tlv_show.specs.Site.{Site, behind, behind_holder, behind_padding, inside_of, is_padding, top}
 use Rattle.tlv_show.specs.Spellings.{OneSpelling, is_on_spelling, tells_of_spelling}

@@ -17,14 +17,6 @@ written (Dump pure) level at finding = finding_line (record { level = level; lim
 abbrev pub all_written : Style → ℕ → ℕ → List Finding → List ℕ
 all_written style level at findings = flat_map (written style level at) findings
 
--- those that were told last
-abbrev pub all_told : Style → Finds → List ℕ
-all_told style f = all_written style f.level f.at f.found
-
--- where they are written here
-abbrev pub written_where : Bool → Style → Finds → List ℕ
-written_where here style f = if here then all_told style f else []
-
 -- the findings are put, each with its line
 abbrev pub lists : Finds → Following FinderState
 lists f = record { state = f.state; put = all_written Check f.level f.at f.found; goes = On }

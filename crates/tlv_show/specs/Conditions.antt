@@ -91,6 +91,3 @@ leading_bits h = slice_index h.identifier 1 % 128
 
 abbrev pub first_length : Heading → ℕ
 first_length h = slice_index h.lengths 1
-
-abbrev pub segment_type : Site → ℕ
-segment_type s = if in_bit_string s then bit_string else octet_string

@@ -53,15 +53,3 @@ dump_step s (Close at) = findings_last s (find_close s.finder) (dumped s.lines (
 dump_step s Leave = findings_last s (find_close s.finder) (dumped s.lines Leave)
 dump_step s Unused = findings_last s (finds_nothing s.finder) (dumped s.lines Unused)
 dump_step s (Pad octets) = each_octet one_filled s octets
-
--- what is found with a header comes first
-abbrev pub is_header : Told → Bool
-is_header (Open h) = true
-is_header (Enter h) = true
-is_header (Begin h) = true
-is_header (Bytes octets) = false
-is_header End = false
-is_header (Close at) = false
-is_header Leave = false
-is_header Unused = false
-is_header (Pad octets) = false

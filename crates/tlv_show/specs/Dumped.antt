@@ -59,10 +59,6 @@ dumped_close s (Some at) = puts (record s { layout = outer s.layout; offset = fu
 abbrev pub dumped_begin : Dumping → Heading → Following Dumping
 dumped_begin s h = puts (record (entered s h) { value = Some (start h s.layout) }) (begun (start h s.layout))
 
--- a primitive, if one is open
-abbrev pub if_open : Bool → Option TextState → Option TextState
-if_open is_open value = if is_open then value else None
-
 -- contents octets: no more count than were announced
 abbrev pub value_after : Option TextState → List ℕ → Option TextState
 value_after None octets = None

@@ -18,10 +18,6 @@ use Rattle.tlv_show.specs.Found.{shows}
 
 -- ---- Frames
 
-abbrev pub innermost_of : List Frame → Option Frame
-innermost_of [] = None
-innermost_of (w ∷ outer) = Some w
-
 -- at the top, where no element holds others
 abbrev pub top_frame : Frame
 top_frame = record {
@@ -111,14 +107,6 @@ pub record OpenValue : Type 0 where
   pub at : ℕ
   pub check : CheckState
 
--- a primitive, if one is open
-abbrev pub begun_at : ℕ → Option CheckState → Option OpenValue
-begun_at at None = None
-begun_at at (Some check) = Some (record { at = at; check = check })
-
-abbrev pub open_by : Bool → ℕ → Option CheckState → Option OpenValue
-open_by is_open at check = if is_open then begun_at at check else None
-
 pub record FinderState : Type 0 where
   pub rules : Rules
   -- the frame of the innermost element that is open, or of the top, and those outside, innermost first
@@ -147,19 +135,6 @@ finds s level at found = record { state = record s { count = count_up s.count (l
 
 abbrev pub finds_nothing : FinderState → Finds
 finds_nothing s = record { state = s; level = 0; at = 0; found = [] }
-
--- the state alone changes
-abbrev pub stands : FinderState → Finds → Finds
-stands s f = record f { state = s }
-
--- a finder answers whether there may be findings: where so, it says what they are; where not, there are none
-abbrev pub Tells : Finds → Finds → Bool → Type 0
-Tells f new true = new ≡ f
-Tells f new false = (new.state ≡ f.state) × (f.found ≡ [])
-
--- what was told, if anything was
-abbrev pub heard : Bool → Finds → Finds
-heard tells f = if tells then f else finds_nothing f.state
 
 -- ---- What it makes of an event
 
@@ -206,15 +181,3 @@ closed_by s (w ∷ outer) =
 
 abbrev pub find_close : FinderState → Finds
 find_close s = closed_by s s.outer
-
--- an event
-abbrev pub find : FinderState → Told → Finds
-find s (Open h) = find_open s h
-find s (Begin h) = find_begin s h
-find s (Bytes octets) = finds_nothing (find_bytes s octets)
-find s End = find_end s
-find s (Close at) = find_close s
-find s (Enter h) = find_open s h
-find s Unused = finds_nothing s
-find s Leave = find_close s
-find s (Pad octets) = finds_nothing s

@@ -27,6 +27,3 @@ header_findings rules s h = filter (shows rules) (held (header_conditions s h))
 
 abbrev pub contents_findings : Rules → Heading → List ℕ → List Finding
 contents_findings rules h c = filter (shows rules) (found_on_contents h c)
-
-abbrev pub end_findings : Rules → Heading → List Heading → List Finding
-end_findings rules h inside = filter (shows rules) (held (end_conditions h inside))

@@ -8,7 +8,8 @@ use Rattle.tlv_walk.specs.Forest.{Forest, Fill, Whole, Closed, Partial, Entered,
 use Rattle.tlv_show.specs.declared.rules.Rules.{Rules}
 use Rattle.tlv_show.specs.Conditions.{end_conditions, header_conditions}
 use Rattle.tlv_show.specs.DumpText.{end_place}
-use Rattle.tlv_show.specs.Found.{contents_findings, end_findings, header_findings, shows}
+use Rattle.tlv_show.specs.Found.{contents_findings, header_findings, shows}
+use Rattle.tlv_show.specs.Private.Found.{end_findings}
 use Rattle.tlv_show.specs.Site.{Site, behind, behind_holder, behind_padding, inside_of, is_padding}
 
 -- an item, with its level: how many elements hold what it is about
@@ -52,18 +53,3 @@ module _ (rules : Rules) where
   items s (Entered h inside) = told s h (header_conditions s h) ++ OpeningLine s.level h ∷ items (inside_of s h) inside
   items s (Awaiting h) = told s h (header_conditions s h) ++ OpeningLine s.level h ∷ []
   items s _ = []
-
--- ---- Words of proofs alone
-
-abbrev pub findings_at : ℕ → ℕ → List Finding → List Item
-findings_at level at findings = map (FindingAt level at) findings
-
-module _ (rules : Rules) where
-  abbrev pub on_header : Site → Heading → List Item
-  on_header s h = findings_at s.level h.offset (header_findings rules s h)
-
-  abbrev pub on_contents : Site → Heading → List ℕ → List Item
-  on_contents s h c = findings_at s.level h.offset (contents_findings rules h c)
-
-  abbrev pub on_end : Site → Heading → Forest → List Item
-  on_end s h inside = findings_at s.level h.offset (end_findings rules h (heads inside))

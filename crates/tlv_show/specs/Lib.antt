@@ -14,3 +14,4 @@ pub mod Shows
 pub mod Laws
 pub mod Checks
 pub mod Spellings
+pub mod Private

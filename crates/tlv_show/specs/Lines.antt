@@ -22,9 +22,6 @@ text_line layout first text = line layout.pure first layout.level text
 abbrev pub opening_line : Layout → Heading → List ℕ → List ℕ
 opening_line layout h word = text_line layout (columns h.offset (size_text h.size)) (tag_text_of h.class h.number ++ word)
 
-abbrev pub holder_line : Layout → Heading → List ℕ
-holder_line layout h = opening_line layout h (if h.constructed then codes " {" else codes " wraps {")
-
 abbrev pub close_line : Layout → Option ℕ → List ℕ
 close_line layout offset = text_line layout (option_map_or (λ at. columns at (codes "end")) offset no_columns) (codes "}")
 

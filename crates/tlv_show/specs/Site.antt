@@ -52,11 +52,3 @@ in_string s = option_map_or has_segments s.holder false
 
 abbrev pub in_bit_string : Site → Bool
 in_bit_string s = option_map_or (λ h. has_segments h && is_a bit_string h) s.holder false
-
--- ---- Words of proofs alone
-
-abbrev pub first_octet : List ℕ → Option ℕ
-first_octet c = slice_get c 0
-
-abbrev pub is_held_by : (Heading → Bool) → Option Heading → Bool
-is_held_by test holder = option_map_or test holder false

@@ -3,27 +3,8 @@ ghost use Rattle.std.specs.Prelude.{◌≡◌, ℕ, Some, [], if◌then◌else�
 ghost use Rattle.std.specs.List.{filter};
 ghost use Rattle.tlv_value.specs.CheckState.{found_in, unchecked};
 ghost use Rattle.tlv_walk.specs.Tells.{told_of};
-ghost use Rattle.tlv_show.specs.FinderState.{
-  Tells,
-  begun_at,
-  begun_in,
-  checked_by,
-  entered_in,
-  find as find_in,
-  find_begin,
-  find_bytes,
-  find_close,
-  find_end,
-  find_open,
-  finds,
-  finds_nothing,
-  frame_of as frame_inside,
-  header_notes,
-  no_findings,
-  noted,
-  stands,
-  top_frame,
-};
+ghost use Rattle.tlv_show.specs.FinderState.{begun_in, checked_by, entered_in, find_begin, find_bytes, find_close, find_end, find_open, finds, finds_nothing, frame_of as frame_inside, header_notes, no_findings, noted, top_frame};
+ghost use Rattle.tlv_show.specs.Private.FinderState.{Tells, begun_at, find as find_in, stands};
 ghost use Rattle.tlv_show.specs.Found.{shows};
 
 use crate::Rules;
@@ -77,7 +58,8 @@ impl Told {
 }
 
 impl Model for Finder {
-    ghost use Rattle.tlv_show.specs.FinderState.{Finds, open_by};
+    ghost use Rattle.tlv_show.specs.FinderState.{Finds};
+    ghost use Rattle.tlv_show.specs.Private.FinderState.{open_by};
 
     ghost Value = { Finds };
 

@@ -2,7 +2,8 @@
 ghost use Rattle.std.specs.Prelude.{◌≡◌, refl};
 ghost use Rattle.tlv_walk.proofs.Followed.{each_octet-goes_on, each_octet-joins};
 ghost use Rattle.tlv_walk.specs.Tells.{told_of};
-ghost use Rattle.tlv_show.specs.DumpStep.{dump_step, is_header as is_header_of, nothing_shown, one_filled, one_shown};
+ghost use Rattle.tlv_show.specs.DumpStep.{dump_step, nothing_shown, one_filled, one_shown};
+ghost use Rattle.tlv_show.specs.Private.DumpStep.{is_header as is_header_of};
 ghost use Rattle.tlv_show.specs.Dumps.{top_layout};
 
 use crate::Options;

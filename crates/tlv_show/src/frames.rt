@@ -1,6 +1,6 @@
 //! What is kept of the elements that stand beside one another.
 ghost use Rattle.std.specs.Prelude.{◌≡◌, ◌<◌, ◌≤◌, ◌∷◌, [], drop, length};
-ghost use Rattle.tlv_show.specs.FinderState.{innermost_of};
+ghost use Rattle.tlv_show.specs.Private.FinderState.{innermost_of};
 
 use arrayvec::ArrayVec;
 use std::marker::Model;

@@ -42,7 +42,8 @@ pub(crate) struct Lines<'n> {
 
 impl<'n> Model for Lines<'n> {
     ghost use Rattle.std.specs.Coded.{codes};
-    ghost use Rattle.tlv_show.specs.Dumped.{Dumping, if_open};
+    ghost use Rattle.tlv_show.specs.Dumped.{Dumping};
+    ghost use Rattle.tlv_show.specs.Private.Dumped.{if_open};
     ghost use Rattle.tlv_value.specs.Names.{table_code};
 
     ghost Value = { Dumping };
@@ -200,7 +201,8 @@ impl<'n> Lines<'n> {
 
 ghost use Rattle.std.specs.Prelude.{Some};
 ghost use Rattle.tlv_value.specs.State.{begun, start};
-ghost use Rattle.tlv_show.specs.Dumped.{if_open, value_after, value_ended, value_told};
+ghost use Rattle.tlv_show.specs.Dumped.{value_after, value_ended, value_told};
+ghost use Rattle.tlv_show.specs.Private.Dumped.{if_open};
 
 /// A primitive begins, in place of the last one.
 #[inline(always)]

@@ -1,8 +1,9 @@
 //! How findings are written.
 ghost use Rattle.std.specs.Prelude.{◌≡◌};
 ghost use Rattle.tlv_walk.specs.Out.{Puts};
-ghost use Rattle.tlv_show.specs.CheckStep.{all_told, all_written, written, written_where};
-ghost use Rattle.tlv_show.specs.FinderState.{heard};
+ghost use Rattle.tlv_show.specs.CheckStep.{all_written, written};
+ghost use Rattle.tlv_show.specs.Private.CheckStep.{all_told, written_where};
+ghost use Rattle.tlv_show.specs.Private.FinderState.{heard};
 ghost use Rattle.tlv_show.specs.Texts.{finding_line, listed};
 
 use crate::finder::Finder;

@@ -10,7 +10,8 @@ use Rattle.std.specs.List.{onto_first}
 use Rattle.std.proofs.lemmas.Bool.Decides.{nat_tests}
 use Rattle.std.proofs.lemmas.Fmt.{length-decimal-le_wide}
 use Rattle.std.proofs.Math.Nat.{pow-suc}
-use Rattle.tlv_value.specs.Arcs.{parts_of, subidentifier, subidentifiers, part_text, first_arcs, arcs_of, behind_dots, dotted, is_finished, all_below, dotted_text}
+use Rattle.tlv_value.specs.Arcs.{parts_of, subidentifier, subidentifiers, arcs_of, is_finished, dotted_text}
+use Rattle.tlv_value.specs.Private.Arcs.{part_text, first_arcs, behind_dots, dotted, all_below}
 
 -- the text goes on with the subidentifiers of these octets, of which the first has begun with n
 abbrev pub run : List ℕ → Bool → Bool → ℕ → List ℕ → Option (List ℕ)

@@ -9,7 +9,8 @@ use Rattle.tlv_head.specs.declared.header.Size.TheVariants.{Definite}
 use Rattle.tlv_head.specs.Header.{Heading}
 use Rattle.tlv_value.specs.declared.finding.Finding.{Finding}
 use Rattle.tlv_value.specs.declared.finding.Finding.TheVariants.{B06, B07, B08, B09, B10, B11, B12, B13, B14, B15, B18, B19, S02, S03, S04}
-use Rattle.tlv_value.specs.Checks.{allows, allows_both, allows_octet, contents_conditions, contents_findings, every, first, held, is_padded_integer, is_padded_object, last_of}
+use Rattle.tlv_value.specs.Checks.{allows, allows_octet, contents_conditions, contents_findings, every, first, held, is_padded_integer, last_of}
+use Rattle.tlv_value.specs.Private.Checks.{allows_both, is_padded_object}
 use Rattle.tlv_value.specs.CheckNotes.{Noted, time_findings, universal_findings, where_it}
 use Rattle.tlv_value.specs.CheckState.{all_utf8, allowed_in, each_noted, more_noted, noted_in, notes_each, type_noted, unchecked_of}
 use Rattle.tlv_value.specs.Rows.{full_rows, open_row}

@@ -6,7 +6,8 @@ use Rattle.std.proofs.lemmas.Bool.Decides.{nat_tests}
 use Rattle.tlv_value.specs.declared.kind.Kind.{Kind}
 use Rattle.tlv_value.specs.declared.kind.Kind.TheVariants.{Octets, Boolean, Integer, Bits, Object, Relative, Text, Utf8, Ucs2, Ucs4}
 use Rattle.tlv_value.specs.Cuts.{AreFull, AreRows, IsCut, IsFull, IsRow, RowsAreACut, put_together}
-use Rattle.tlv_value.specs.Rows.{announced, cut_rows, full_rows, has_room, last_rows, open_row, row_size}
+use Rattle.tlv_value.specs.Rows.{announced, full_rows, has_room, last_rows, open_row, row_size}
+use Rattle.tlv_value.specs.Private.Rows.{cut_rows}
 use Rattle.tlv_value.proofs.RowsFrom.{rows-whole}
 use Rattle.tlv_value.proofs.RowSteps.{first-room}
 

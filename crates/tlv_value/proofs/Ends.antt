@@ -9,10 +9,11 @@ use Rattle.tlv_value.specs.declared.kind.Kind.TheVariants.{Octets, Boolean, Inte
 use Rattle.tlv_value.specs.declared.layout.Layout.{Layout}
 use Rattle.tlv_value.specs.Kind.{kind_of}
 use Rattle.tlv_value.specs.Layout.{columns, margin, row_line}
-use Rattle.tlv_value.specs.ObjectLines.{object_lines}
+use Rattle.tlv_value.specs.Private.ObjectLines.{object_lines}
 use Rattle.tlv_value.specs.Rows.{full_rows, last_rows}
 use Rattle.tlv_value.specs.State.{TextState, ended, line_in, row_lines, told}
-use Rattle.tlv_value.specs.KindValues.{bits_value, boolean_value, in_rows, integer_value, is_long, is_readable, kind_value, long_text, plain_text}
+use Rattle.tlv_value.specs.KindValues.{bits_value, boolean_value, in_rows, integer_value, is_long, is_readable, kind_value, long_text}
+use Rattle.tlv_value.specs.Private.KindValues.{plain_text}
 use Rattle.tlv_value.specs.Value.{NameOf, Value, bit_count, most_held, no_names, octets_value, row_text, shown_with, used_digits}
 
 -- what an element's line begins with

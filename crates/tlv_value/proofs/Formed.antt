@@ -9,7 +9,7 @@ use Rattle.std.proofs.lemmas.Str.{IsUtf8-append, IsUtf8-encode, IsUtf8-nil, IsUt
 use Rattle.tlv_value.specs.declared.kind.Kind.TheVariants.{Utf8}
 use Rattle.tlv_value.specs.CheckState.{all_utf8}
 use Rattle.tlv_value.specs.Rows.{full_rows, has_room, last_rows, open_row, rows_of, utf8_length}
-use Rattle.tlv_value.specs.Room.{HaveRoom}
+use Rattle.tlv_value.specs.Private.Room.{HaveRoom}
 use Rattle.tlv_value.proofs.Arcs.{and_right}
 use Rattle.tlv_value.proofs.RowsFrom.{rows-whole}
 use Rattle.tlv_value.proofs.RowSteps.{full-begins, open-begins, shift-room}

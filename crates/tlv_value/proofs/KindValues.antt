@@ -10,7 +10,8 @@ use Rattle.tlv_value.specs.declared.layout.Layout.{Layout}
 use Rattle.tlv_value.specs.Arcs.{dotted_text}
 use Rattle.tlv_value.specs.KindValues.{in_rows, is_long, kind_value, long_text, object_text}
 use Rattle.tlv_value.specs.Layout.{row_line}
-use Rattle.tlv_value.specs.Rows.{cut_rows, full_rows, rows_from}
+use Rattle.tlv_value.specs.Rows.{full_rows, rows_from}
+use Rattle.tlv_value.specs.Private.Rows.{cut_rows}
 use Rattle.tlv_value.specs.State.{has_line, kind_by, line_in, open_lines, row_lines, start, value_lines, whole_lines}
 use Rattle.tlv_value.specs.Value.{NameOf, Value, bit_count, held_value, long_value, no_names, octets_value, row_text, shown_with, whole_value}
 use Rattle.tlv_value.proofs.RowsFrom.{rows-full, rows-whole}

@@ -12,7 +12,8 @@ use Rattle.tlv_value.specs.declared.names.fault.NamesFault.TheVariants.{BadOid, 
 use Rattle.std.specs.BTreeMap.{BTreeMap}
 use Rattle.tlv_value.specs.Names.{Table, names_of}
 use Rattle.tlv_value.specs.NamesReading.{IsSaid, ReadsFrom}
-use Rattle.tlv_value.specs.NamesSteps.{ComesTo, Gives, GivesAll, result_in, table_in}
+use Rattle.tlv_value.specs.NamesSteps.{table_in}
+use Rattle.tlv_value.specs.Private.NamesSteps.{ComesTo, Gives, GivesAll, result_in}
 
 -- the octets that the reads so far gave
 pub record Given (old new : Supply) (octets : List ℕ) : Type 0 where

@@ -12,7 +12,8 @@ use Rattle.std.specs.FinMap.Entries as entries
 use Rattle.std.proofs.lemmas.Bool.{le-leb, lt-leb}
 use Rattle.std.proofs.lemmas.List.{nil_from_length}
 use Rattle.tlv_value.specs.Names.{Entry, Table, Line, nothing, named, no_oid, no_name, too_long, lines, line_of, entry_of, entries_of, is_among, refusal, first_refusal, names_of}
-use Rattle.tlv_value.specs.NamesSteps.{AddsLine, ComesTo, texts_in}
+use Rattle.tlv_value.specs.NamesSteps.{texts_in}
+use Rattle.tlv_value.specs.Private.NamesSteps.{AddsLine, ComesTo}
 use Rattle.tlv_value.specs.declared.names.fault.NamesFault.{NamesFault}
 use Rattle.tlv_value.specs.declared.names.fault.NamesFault.TheVariants.{BadOid, BadName, Repeated, TooLarge, ReadFailed, Memory}
 use Rattle.tlv_value.proofs.NamesTexts.{first_line}

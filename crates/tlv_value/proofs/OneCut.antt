@@ -7,7 +7,7 @@ use Rattle.std.proofs.lemmas.List.{get_or_append_left}
 use Rattle.std.specs.Prelude.{eqb, if◌then◌else◌}
 use Rattle.tlv_value.specs.declared.kind.Kind.{Kind}
 use Rattle.tlv_value.specs.Cuts.{AreFull, AreRows, FullRowsAreOfTheCut, IsFull, IsRow, RowsHaveOneCut, full_ones, put_together}
-use Rattle.tlv_value.specs.Room.{HaveRoom}
+use Rattle.tlv_value.specs.Private.Room.{HaveRoom}
 use Rattle.tlv_value.specs.Rows.{full_rows, last_rows, open_row, row_size}
 use Rattle.tlv_value.proofs.Cutting.{nil-or, size-some}
 use Rattle.tlv_value.proofs.RowsFrom.{rows-full, rows-whole}

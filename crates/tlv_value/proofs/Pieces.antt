@@ -7,7 +7,8 @@ use Rattle.tlv_value.specs.declared.kind.Kind.TheVariants.{Octets, Boolean, Inte
 use Rattle.tlv_value.specs.declared.layout.Layout.{Layout}
 use Rattle.tlv_value.specs.Kind.{kind_of}
 use Rattle.tlv_value.specs.Laws.{LinesBegin, LinesEnd, LinesGoOn, PiecesJoin, state_for}
-use Rattle.tlv_value.specs.Rows.{cut_rows, full_rows, has_room, last_rows, open_row, row_size}
+use Rattle.tlv_value.specs.Rows.{full_rows, has_room, last_rows, open_row, row_size}
+use Rattle.tlv_value.specs.Private.Rows.{cut_rows}
 use Rattle.tlv_value.specs.State.{Kept, TextState, after, begun, ended, first_kept, has_line, kept_after, kind_in, line_in, open_lines, row_lines, rows_after, rows_told, start, told, unlined_after}
 use Rattle.tlv_value.specs.KindValues.{in_rows, is_long, kind_value, long_text}
 use Rattle.tlv_value.specs.Value.{NameOf}

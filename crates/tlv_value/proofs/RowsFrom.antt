@@ -3,7 +3,8 @@ use Rattle.std.proofs.Common.{◌≡◌, ℕ, ◌+◌, Bool, true, false, List, 
 use Rattle.std.proofs.lemmas.Bool.Decides.{nat_tests}
 use Rattle.std.specs.Prelude.{◌==◌, eqb, if◌then◌else◌}
 use Rattle.tlv_value.specs.declared.kind.Kind.{Kind}
-use Rattle.tlv_value.specs.Rows.{cut_rows, full_rows, has_room, last_rows, open_row, row_size, rows_from, rows_of}
+use Rattle.tlv_value.specs.Rows.{full_rows, has_room, last_rows, open_row, row_size, rows_from, rows_of}
+use Rattle.tlv_value.specs.Private.Rows.{cut_rows}
 
 abbrev last_of : Bool → List ℕ → List (List ℕ)
 last_of whole row = if whole then last_rows row else []

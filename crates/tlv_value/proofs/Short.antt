@@ -21,7 +21,8 @@ use Rattle.tlv_value.specs.declared.kind.Kind.TheVariants.{Octets, Boolean, Inte
 use Rattle.tlv_value.specs.Rows.{utf8_length}
 use Rattle.tlv_value.specs.Units.{escaped_number, escaped_octet, is_printable, octet_text, printable_text, quoted, three_octets, unit_size, unit_text, units, utf8_number, without_zeros}
 use Rattle.tlv_value.specs.Kind.{is_text}
-use Rattle.tlv_value.specs.KindValues.{bits_value, boolean_value, integer_value, is_readable, joined_pairs, long_text, plain_text}
+use Rattle.tlv_value.specs.KindValues.{bits_value, boolean_value, integer_value, is_readable, long_text}
+use Rattle.tlv_value.specs.Private.KindValues.{joined_pairs, plain_text}
 use Rattle.tlv_value.specs.Value.{Value, bit_count, most_held, octets_value, row_text, shown_with, spaced_pairs, used_digits}
 
 abbrev value_with : List ℕ → List (List ℕ) → Value

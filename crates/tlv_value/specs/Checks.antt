@@ -110,9 +110,6 @@ contents_findings h c = held (contents_conditions h c)
 abbrev pub every : (ℕ → Bool) → List ℕ → Bool
 every test octets = list_all test octets
 
-abbrev pub is_padded_object : List ℕ → Bool
-is_padded_object octets = is_padded_behind 0 octets
-
 -- NumericString, PrintableString, IA5String, VisibleString
 abbrev pub allows_octet : ℕ → ℕ → Bool
 allows_octet number x =
@@ -121,15 +118,3 @@ allows_octet number x =
     else if eqb number 22 then nat_lt x 128
     else if eqb number 26 then is_printable x
     else true
-
--- UTF8String, BMPString, UniversalString
-abbrev pub allows_all : ℕ → List ℕ → Bool
-allows_all number octets =
-    if eqb number 12 then is_utf8 octets
-    else if eqb number 30 then eqb (length octets % 2) 0
-    else if eqb number 28 then eqb (length octets % 4) 0
-    else true
-
--- the two together are `allows`
-abbrev pub allows_both : ℕ → List ℕ → Bool
-allows_both number octets = allows_all number octets && every (allows_octet number) octets

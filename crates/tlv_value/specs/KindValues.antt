@@ -24,10 +24,6 @@ integer_value (x ∷ xs) = shown_with (signed_decimal (twos_complement (x ∷ xs
 abbrev pub is_readable : ℕ → ℕ → Bool
 is_readable unused octets = nat_le unused 7 && (eqb unused 0 || not (eqb octets 0))
 
--- bits as digits
-abbrev pub digits_of : List ℕ → List ℕ
-digits_of bits = map (λ bit. 48 + bit) bits
-
 -- 8.6.2: the first octet is the number of unused bits in the last one
 abbrev pub bits_value : List ℕ → Value
 bits_value [] = octets_value []
@@ -64,17 +60,3 @@ long_text kind n octets = []
 abbrev pub in_rows : Kind → List ℕ → List ℕ
 in_rows Bits (unused ∷ octets) = if nat_le unused 7 then octets else unused ∷ octets
 in_rows kind octets = octets
-
-abbrev pub joined_pairs : List ℕ → List ℕ
-joined_pairs octets = join_by (λ x. encode_lower (x ∷ [])) (codes " ") octets
-
--- the text on the line of a held value that is no object identifier, or of an object identifier that is shown in hexadecimal
-abbrev pub plain_text : Kind → List ℕ → List ℕ
-plain_text Boolean octets = (boolean_value octets).text
-plain_text Integer octets = (integer_value octets).text
-plain_text Bits octets = (bits_value octets).text
-plain_text Text octets = 0x20 ∷ quoted Text octets
-plain_text Utf8 octets = 0x20 ∷ quoted Utf8 octets
-plain_text Ucs2 octets = 0x20 ∷ quoted Ucs2 octets
-plain_text Ucs4 octets = 0x20 ∷ quoted Ucs4 octets
-plain_text kind octets = spaced_pairs octets

@@ -5,15 +5,12 @@ pub mod Number
 pub mod Arcs
 pub mod Times
 pub mod Rows
-pub mod Room
 pub mod Units
-pub mod Plain
 pub mod Layout
 pub mod Value
 pub mod KindValues
 pub mod State
 pub mod TextFields
-pub mod ObjectLines
 pub mod Laws
 pub mod Types
 pub mod Checks
@@ -25,3 +22,4 @@ pub mod Names
 pub mod NamesReading
 pub mod NamesSteps
 pub mod Cuts
+pub mod Private

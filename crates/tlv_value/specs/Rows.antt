@@ -57,6 +57,3 @@ open_row kind row (x ∷ xs) =
 abbrev pub last_rows : List ℕ → List (List ℕ)
 last_rows [] = []
 last_rows (x ∷ xs) = (x ∷ xs) ∷ []
-
-abbrev pub cut_rows : Kind → List ℕ → List (List ℕ)
-cut_rows kind octets = full_rows kind [] octets ++ last_rows (open_row kind [] octets)

@@ -1,6 +1,7 @@
 //! Object identifiers as dotted texts.
 ghost use Rattle.std.specs.Prelude.{◌≡◌, ◌+◌, ◌<◌, ◌≤◌, ◌^◌, ◌++◌, [], is_some, length, unwrap_or};
-ghost use Rattle.tlv_value.specs.Arcs.{arc_text, dotted_text, is_finished as is_finished_list, part_text};
+ghost use Rattle.tlv_value.specs.Arcs.{dotted_text, is_finished as is_finished_list};
+ghost use Rattle.tlv_value.specs.Private.Arcs.{arc_text, part_text};
 
 use arrayvec::ArrayVec;
 use itoa::Buffer;

@@ -2,10 +2,11 @@
 ghost use Rattle.std.specs.Prelude.{◌≡◌, ◌+◌, ◌-◌, ◌*◌, ◌<◌, ◌≤◌, ◌^◌, ◌++◌, ◌∷◌, [], codes, false, if◌then◌else◌, length, true, OnOk};
 ghost use Rattle.tlv_walk.specs.Out.{Puts};
 ghost use Rattle.tlv_value.specs.Layout.{row_line as row_line_of};
-ghost use Rattle.tlv_value.specs.ObjectLines.{object_lines, octets_lines};
+ghost use Rattle.tlv_value.specs.Private.ObjectLines.{object_lines, octets_lines};
 ghost use Rattle.tlv_value.specs.Rows.{full_rows, last_rows, open_row, row_size as row_size_of, rows_of};
 ghost use Rattle.tlv_value.specs.State.{row_lines};
-ghost use Rattle.tlv_value.specs.KindValues.{long_text, plain_text};
+ghost use Rattle.tlv_value.specs.KindValues.{long_text};
+ghost use Rattle.tlv_value.specs.Private.KindValues.{plain_text};
 ghost use Rattle.tlv_value.specs.Value.{most_held, no_names, row_text};
 
 use crate::dotted::dotted_of;

@@ -1,6 +1,6 @@
 //! The texts of characters.
 ghost use Rattle.std.specs.Prelude.{◌≡◌, ◌+◌, ◌<◌, ◌≤◌, ◌++◌, ◌∷◌, [], length};
-ghost use Rattle.tlv_value.specs.Plain.{ArePlain, IsPart, is_plain as is_plain_octet};
+ghost use Rattle.tlv_value.specs.Private.Plain.{ArePlain, IsPart, is_plain as is_plain_octet};
 ghost use Rattle.tlv_value.specs.Units.{
   escaped_number,
   escaped_octet,

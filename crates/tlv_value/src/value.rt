@@ -2,7 +2,8 @@
 ghost use Rattle.std.specs.Prelude.{◌≡◌, ◌+◌, ◌-◌, ◌*◌, ◌<◌, ◌≤◌, ◌++◌, ◌∷◌, [], decimal, length, take, true};
 ghost use Rattle.tlv_value.specs.Bits.{bits_of, last_bits};
 ghost use Rattle.tlv_value.specs.Layout.{spaces};
-ghost use Rattle.tlv_value.specs.KindValues.{bits_value, boolean_value, digits_of, integer_value, is_readable as is_readable_by, joined_pairs as pairs_joined, long_text, plain_text};
+ghost use Rattle.tlv_value.specs.KindValues.{bits_value, boolean_value, integer_value, is_readable as is_readable_by, long_text};
+ghost use Rattle.tlv_value.specs.Private.KindValues.{digits_of, joined_pairs as pairs_joined, plain_text};
 ghost use Rattle.tlv_value.specs.Value.{bit_count as bit_count_text, most_held, row_text, spaced_pairs as pairs_spaced, used_digits};
 
 use crate::decimal::decimal_of;

@@ -6,7 +6,8 @@ use Rattle.tlv_head.specs.Header.{Heading, IsHeading, octets_of}
 use Rattle.tlv_head.specs.Shortest.{HaveOneTag, IsShortest}
 use Rattle.tlv_head.proofs.Shortest.{shortest_are_one}
 use Rattle.tlv_walk.specs.Alike.{AreAlike, holders, nothing, padding, primitives}
-use Rattle.tlv_walk.specs.Forest.{Forest, Stop, Fill, Whole, Closed, Partial, Entered, Awaiting, Begun, Zero, contents_length, end_octets, extent, lead, opening, spell}
+use Rattle.tlv_walk.specs.Forest.{Forest, Stop, Fill, Whole, Closed, Partial, Entered, Awaiting, Begun, Zero, end_octets, extent, lead, opening, spell}
+use Rattle.tlv_walk.specs.Private.Forest.{contents_length}
 use Rattle.tlv_walk.specs.Place.{Place, after, inside_of, is_indefinite}
 use Rattle.tlv_walk.proofs.Lengths.{HasLength}
 use Rattle.tlv_walk.specs.Reading.{IsSound}

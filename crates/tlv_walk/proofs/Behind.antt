@@ -9,9 +9,11 @@ use Rattle.tlv_walk.specs.Phase as phase
 use Rattle.tlv_walk.specs.Ending.{IsEnding}
 use Rattle.tlv_walk.specs.Events.{Told}
 use Rattle.tlv_walk.specs.Machine.{Machine}
-use Rattle.tlv_walk.specs.Stack.{Within, left_to}
+use Rattle.tlv_walk.specs.Stack.{Within}
+use Rattle.tlv_walk.specs.Private.Stack.{left_to}
 use Rattle.tlv_walk.specs.State.{HasState}
-use Rattle.tlv_walk.specs.Tells.{Continues, RefusesOctet, TellsEvent, TellsFault, TellsStep, told_of}
+use Rattle.tlv_walk.specs.Tells.{told_of}
+use Rattle.tlv_walk.specs.Private.Tells.{Continues, RefusesOctet, TellsEvent, TellsFault, TellsStep}
 use Rattle.tlv_walk.proofs.Moves.{continues_both}
 
 module _ (old mid new : Machine) (x : ℕ) (first : Continues old mid (x ∷ []) []) (same : mid.framing ≡ old.framing) (kept : mid.stack ≡ old.stack) where

@@ -3,18 +3,21 @@ use Rattle.std.proofs.Common.{◌≡◌, inl, inr, ℕ, ◌+◌, ◌-◌, ◌≤
 use Rattle.std.proofs.lemmas.Bool.{true≢false}
 use Rattle.tlv_head.specs.declared.header.Size.{Size}
 use Rattle.tlv_head.specs.declared.header.Size.TheVariants.{Definite, Indefinite}
-use Rattle.tlv_head.specs.Header.{AllowsSize, Heading, announced, octets_of}
+use Rattle.tlv_head.specs.Header.{Heading, announced, octets_of}
+use Rattle.tlv_head.specs.Private.Header.{AllowsSize}
 use Rattle.tlv_walk.specs.declared.stack.Frame.{Frame}
 use Rattle.tlv_walk.specs.Phase as phase
 use Rattle.tlv_walk.specs.Events.{AreEqualJoined, Told, Close, Leave, apart, closes, end_offset, events, opens}
-use Rattle.tlv_walk.specs.Forest.{Forest, Stop, Closed, Zero, contents_length, end_octets, extent, is_whole, opening, spell}
+use Rattle.tlv_walk.specs.Forest.{Forest, Stop, Closed, Zero, end_octets, extent, is_whole, opening, spell}
+use Rattle.tlv_walk.specs.Private.Forest.{contents_length}
 use Rattle.tlv_walk.specs.Wrappers.{enters}
 use Rattle.std.proofs.lemmas.Bool.{cases_Bool}
 use Rattle.tlv_walk.specs.Machine.{found_in, Machine, bound_in}
 use Rattle.tlv_walk.specs.Place.{Fits, IsEntry, IsOpen, Place, after, is_indefinite}
 use Rattle.tlv_walk.proofs.Lengths.{HasLength}
-use Rattle.tlv_walk.specs.Stack.{IsFilled, IsInIndefinite, Within, bound_of, innermost_of}
-use Rattle.tlv_walk.specs.Tells.{Continues}
+use Rattle.tlv_walk.specs.Stack.{IsFilled, IsInIndefinite, Within, bound_of}
+use Rattle.tlv_walk.specs.Private.Stack.{innermost_of}
+use Rattle.tlv_walk.specs.Private.Tells.{Continues}
 use Rattle.tlv_walk.specs.State.{AreWhole, HasState, Layer, Tail, Between, InEnd, State, ending_of, events_layers, events_tail, frame_of, frames_of, place_in, place_of, spell_layers, spell_tail}
 use Rattle.tlv_walk.proofs.Moves.{began, between_tail, closed_here, continues_both, lone_tail, phase_at, tail_state, tells_zero, told_more, with_layers, with_tail}
 use Rattle.tlv_walk.proofs.Places.{definite-size, place-offset}

@@ -5,7 +5,8 @@ use Rattle.tlv_walk.specs.declared.ending.Ending.TheVariants as ending
 use Rattle.tlv_walk.specs.Phase as phase
 use Rattle.tlv_walk.specs.Ending.{IsEnding, fault}
 use Rattle.tlv_walk.specs.Events.{Told}
-use Rattle.tlv_walk.specs.Machine.{IsWaiting, Machine, fault_at}
+use Rattle.tlv_walk.specs.Machine.{Machine}
+use Rattle.tlv_walk.specs.Private.Machine.{IsWaiting, fault_at}
 use Rattle.tlv_walk.specs.State.{Stands}
 use Rattle.tlv_walk.proofs.StateEndings.{state-done, state-empty, state-short}
 

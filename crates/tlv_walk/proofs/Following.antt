@@ -15,7 +15,8 @@ use Rattle.tlv_walk.specs.Phase as phase
 use Rattle.tlv_walk.specs.Device.{Taken}
 use Rattle.tlv_walk.specs.Events.{AreEqualJoined, Told, apart, events}
 use Rattle.tlv_walk.specs.Follow.{Following, and_then, followed, followed_events}
-use Rattle.tlv_walk.specs.Follows.{Fails, Follows, FollowsTo, GoesOnIn, Made, Stops, Walked, WalkedTo}
+use Rattle.tlv_walk.specs.Follows.{Made}
+use Rattle.tlv_walk.specs.Private.Follows.{Fails, Follows, FollowsTo, GoesOnIn, Stops, Walked, WalkedTo}
 use Rattle.tlv_walk.specs.Forest.{Forest}
 use Rattle.tlv_walk.specs.Inside.{CanName}
 use Rattle.tlv_walk.specs.Machine.{Machine, Refuses, found_in}

@@ -13,11 +13,12 @@ use Rattle.tlv_walk.specs.Phase.{Phase}
 use Rattle.tlv_walk.specs.Phase as phase
 use Rattle.tlv_walk.specs.Events.{Told, Open, Begin, Enter}
 use Rattle.tlv_walk.specs.Forest.{Stop, lead}
-use Rattle.tlv_walk.specs.Machine.{CanEnter, Enters, Machine, behind_header, found_in, frame_with, next_wrapper}
+use Rattle.tlv_walk.specs.Machine.{Machine, found_in, frame_with, next_wrapper}
+use Rattle.tlv_walk.specs.Private.Machine.{CanEnter, Enters, behind_header}
 use Rattle.tlv_walk.specs.Wrappers.{enters}
 use Rattle.tlv_walk.specs.Inside.{is_among}
 use Rattle.tlv_walk.specs.Stack.{Within, bound_of}
-use Rattle.tlv_walk.specs.Tells.{Continues}
+use Rattle.tlv_walk.specs.Private.Tells.{Continues}
 use Rattle.tlv_head.specs.Read.{BeginsWithFields}
 use Rattle.tlv_head.specs.Refusal.{BeginsWith}
 use Rattle.tlv_walk.specs.State.{HasState, InContents, Between, State, frame_of, place_of}

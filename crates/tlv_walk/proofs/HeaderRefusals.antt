@@ -19,10 +19,11 @@ use Rattle.tlv_walk.specs.Events.{Told}
 use Rattle.tlv_walk.specs.Inside.{is_among}
 use Rattle.tlv_walk.specs.Machine.{Machine}
 use Rattle.tlv_walk.specs.Place.{Fits as FitsAt, IsHeadAt, Place}
-use Rattle.tlv_walk.specs.ReadsOn.{HandsOver}
-use Rattle.tlv_walk.specs.Stack.{Within, bound_of, left_to}
+use Rattle.tlv_walk.specs.Private.ReadsOn.{HandsOver}
+use Rattle.tlv_walk.specs.Stack.{Within, bound_of}
+use Rattle.tlv_walk.specs.Private.Stack.{left_to}
 use Rattle.tlv_walk.specs.State.{HasState, InHeader, State, place_of}
-use Rattle.tlv_walk.specs.Tells.{RefusesOctet}
+use Rattle.tlv_walk.specs.Private.Tells.{RefusesOctet}
 use Rattle.tlv_walk.proofs.HeaderSteps.{HasTaken, TakenState, in_header, taken_state}
 use Rattle.tlv_walk.proofs.Moves.{phase_at, with_tail}
 use Rattle.tlv_walk.proofs.Places.{place-bound, place-depth}

@@ -16,12 +16,14 @@ use Rattle.tlv_walk.specs.Phase.{Phase}
 use Rattle.tlv_walk.specs.Phase as phase
 use Rattle.tlv_walk.specs.Events.{Told}
 use Rattle.tlv_walk.specs.declared.framing.Framing.{Framing}
-use Rattle.tlv_walk.specs.Machine.{CanEnter, Enters, Machine, found_in}
+use Rattle.tlv_walk.specs.Machine.{Machine, found_in}
+use Rattle.tlv_walk.specs.Private.Machine.{CanEnter, Enters}
 use Rattle.tlv_walk.specs.Wrappers.{enters}
-use Rattle.tlv_walk.specs.ReadsOn.{HandsOver, Makes, TellsHeader}
-use Rattle.tlv_walk.specs.Stack.{Within, bound_of, left_to}
+use Rattle.tlv_walk.specs.Private.ReadsOn.{HandsOver, Makes, TellsHeader}
+use Rattle.tlv_walk.specs.Stack.{Within, bound_of}
+use Rattle.tlv_walk.specs.Private.Stack.{left_to}
 use Rattle.tlv_walk.specs.State.{HasState, IsPhaseOf, Between, InHeader, State, place_of}
-use Rattle.tlv_walk.specs.Tells.{Continues, TellsEvent}
+use Rattle.tlv_walk.specs.Private.Tells.{Continues, TellsEvent}
 use Rattle.tlv_walk.proofs.Entering.{AtHeader, Completed, at_front, at_new, front_state}
 use Rattle.tlv_walk.proofs.HeaderKinds.{enters_found, enters_framing, enters_state, event_of}
 use Rattle.tlv_walk.proofs.Moves.{phase_at, with_tail}

@@ -3,7 +3,7 @@ use Rattle.std.proofs.Common.{◌≡◌, [], ◌∷◌, refl}
 use Rattle.std.specs.Prelude.{Some, codes}
 use Rattle.tlv_walk.specs.declared.follow.Go.TheVariants.{Enough}
 use Rattle.tlv_walk.specs.Events.{Bytes, Close, End, Pad}
-use Rattle.tlv_walk.specs.Lined.{ends, lined, place, puts}
+use Rattle.tlv_walk.specs.Private.Lined.{ends, lined, place, puts}
 
 octets_row : lined 0 (Bytes (74 ∷ 5 ∷ [])) ≡ puts 0 (codes " 4a 05")
 octets_row = refl

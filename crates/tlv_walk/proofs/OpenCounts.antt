@@ -5,7 +5,8 @@ use Rattle.tlv_walk.specs.declared.framing.Framing.{Framing}
 use Rattle.tlv_walk.specs.declared.stack.Frame.{Frame}
 use Rattle.tlv_walk.specs.Events.{Told}
 use Rattle.tlv_walk.specs.Forest.{Forest, Stop, Fill, Whole, Closed, Partial, Entered, Awaiting, Begun, Zero, is_whole}
-use Rattle.tlv_walk.specs.Machine.{IsWaiting, Machine}
+use Rattle.tlv_walk.specs.Machine.{Machine}
+use Rattle.tlv_walk.specs.Private.Machine.{IsWaiting}
 use Rattle.tlv_walk.specs.OpenCount.{open_count}
 use Rattle.tlv_walk.specs.Place.{Place}
 use Rattle.tlv_walk.specs.State.{AreLayers, HasState, Layer, Tail, Between, InContents, BeforeUnused, InHeader, InEnd, State, frames_of, place_of, stack_of}

@@ -5,11 +5,13 @@ use Rattle.tlv_head.specs.declared.fault.FaultCode.{FaultCode}
 use Rattle.tlv_head.specs.declared.fault.FaultCode.TheVariants.{StrayEnd, BadEnd, MissingEnd, TooDeep, Overrun, BadInside}
 use Rattle.tlv_head.specs.declared.header.Size.{Size}
 use Rattle.tlv_head.specs.declared.header.Size.TheVariants.{Definite, Indefinite}
-use Rattle.tlv_head.specs.Header.{AllowsSize, Heading, IsHeading, announced, holds, octets_of, wraps}
+use Rattle.tlv_head.specs.Header.{Heading, IsHeading, announced, holds, octets_of, wraps}
+use Rattle.tlv_head.specs.Private.Header.{AllowsSize}
 use Rattle.tlv_head.specs.Refusal.{IsFront}
 use Rattle.tlv_head.proofs.Scan.{Origin, Scan, Fresh, High, Named, Long, Ready, Stuck, Over, origin_of, step, scan, first-more}
 use Rattle.tlv_head.proofs.Meaning.{Reads, reads-step, reads-scan, front-from_more, front-bytes}
-use Rattle.tlv_walk.specs.Forest.{Forest, Stop, Fill, Whole, Closed, Partial, Entered, Awaiting, Begun, Zero, contents_length, end_octets, extent, is_whole, lead, opening, spell}
+use Rattle.tlv_walk.specs.Forest.{Forest, Stop, Fill, Whole, Closed, Partial, Entered, Awaiting, Begun, Zero, end_octets, extent, is_whole, lead, opening, spell}
+use Rattle.tlv_walk.specs.Private.Forest.{contents_length}
 use Rattle.tlv_walk.specs.Inside.{is_among}
 use Rattle.tlv_walk.specs.Place.{Fits, IsElementAt, IsEntry, IsHeadAt, IsOpen, Place, after, inside_of}
 use Rattle.tlv_walk.proofs.Lengths.{HasLength, LacksOctets}

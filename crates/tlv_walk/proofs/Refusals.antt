@@ -9,10 +9,12 @@ use Rattle.tlv_walk.specs.Phase.{Phase}
 use Rattle.tlv_walk.specs.Phase as phase
 use Rattle.tlv_walk.specs.Ending.{IsEnding, IsFault, bad_end, bad_inside, fault, missing_end, no_end, stray_end}
 use Rattle.tlv_walk.specs.Events.{Told}
-use Rattle.tlv_walk.specs.Machine.{IsWaiting, IsWaitingIn, Machine, fault_at}
-use Rattle.tlv_walk.specs.Stack.{IsFilled, IsInIndefinite, Within, bound_of, left_to, room_of}
+use Rattle.tlv_walk.specs.Machine.{Machine}
+use Rattle.tlv_walk.specs.Private.Machine.{IsWaiting, IsWaitingIn, fault_at}
+use Rattle.tlv_walk.specs.Stack.{IsFilled, IsInIndefinite, Within, bound_of}
+use Rattle.tlv_walk.specs.Private.Stack.{left_to, room_of}
 use Rattle.tlv_walk.specs.State.{HasState, Layer, Between, BeforeUnused, InEnd, State, frames_of, place_in, place_of}
-use Rattle.tlv_walk.specs.Tells.{RefusesOctet}
+use Rattle.tlv_walk.specs.Private.Tells.{RefusesOctet}
 use Rattle.tlv_walk.proofs.Entering.{lead_tail}
 use Rattle.tlv_walk.proofs.Moves.{between_tail, lone_tail, phase_at, tail_state, with_tail}
 use Rattle.tlv_walk.proofs.Places.{place-bound, place-offset}

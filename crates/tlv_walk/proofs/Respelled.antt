@@ -7,7 +7,8 @@ use Rattle.std.specs.Prelude.{if◌then◌else◌}
 use Rattle.tlv_head.specs.declared.header.Class.{Class}
 use Rattle.tlv_head.specs.declared.header.Size.{Size}
 use Rattle.tlv_head.specs.declared.header.Size.TheVariants.{Definite, Indefinite}
-use Rattle.tlv_head.specs.Header.{AllowsSize, Heading, IsHeading, IsIdentifier, announced, is_universal, is_wrapper, leading_octet, octets_of}
+use Rattle.tlv_head.specs.Header.{Heading, IsHeading, IsIdentifier, announced, is_universal, is_wrapper, leading_octet, octets_of}
+use Rattle.tlv_head.specs.Private.Header.{AllowsSize}
 use Rattle.tlv_head.specs.Shortest.{IsShortest}
 use Rattle.tlv_head.proofs.LengthOctets.{FewLengths, few-lengths}
 use Rattle.tlv_head.proofs.Shortest.{identifier-le, identifier-some, lengths-some}

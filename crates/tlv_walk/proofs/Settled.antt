@@ -5,7 +5,8 @@ use Rattle.tlv_head.specs.declared.header.Size.{Size}
 use Rattle.tlv_head.specs.declared.header.Size.TheVariants.{Definite, Indefinite}
 use Rattle.tlv_head.specs.Header.{Heading, octets_of}
 use Rattle.tlv_walk.specs.declared.framing.Framing.{Framing}
-use Rattle.tlv_walk.specs.Forest.{Forest, Stop, Closed, contents_length, is_whole, opening, spell}
+use Rattle.tlv_walk.specs.Forest.{Forest, Stop, Closed, is_whole, opening, spell}
+use Rattle.tlv_walk.specs.Private.Forest.{contents_length}
 use Rattle.tlv_walk.specs.Place.{Fits, IsOpen, Place, after, inside_of, top}
 use Rattle.tlv_walk.specs.Machine.{bound_in}
 use Rattle.tlv_walk.specs.Stack.{IsFilled}

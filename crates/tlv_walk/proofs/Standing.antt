@@ -16,7 +16,8 @@ use Rattle.tlv_walk.specs.Ending.{IsEnding}
 use Rattle.tlv_walk.specs.Reading.{IsReading}
 use Rattle.tlv_walk.specs.Place.{IsOpen, top}
 use Rattle.tlv_walk.specs.State.{Stands, waiting_of}
-use Rattle.tlv_walk.specs.Tells.{IsRefused, IsRefusedBehind, RefusesOctet, StandsBehind, StandsRefused, StandsStep, TellsEvent, TellsFault, TellsStep, told_of}
+use Rattle.tlv_walk.specs.Tells.{IsRefused, IsRefusedBehind, StandsBehind, StandsRefused, StandsStep, told_of}
+use Rattle.tlv_walk.specs.Private.Tells.{RefusesOctet, TellsEvent, TellsFault, TellsStep}
 use Rattle.std.specs.Prelude.{slice_get}
 use Rattle.tlv_walk.proofs.Endings.{refused-reading}
 use Rattle.tlv_walk.proofs.OpenCounts.{state-depth}

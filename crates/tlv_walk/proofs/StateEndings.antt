@@ -10,7 +10,8 @@ use Rattle.tlv_walk.specs.Phase as phase
 use Rattle.tlv_walk.specs.Ending.{IsEnding, IsFault, done, empty, fault, short, tip}
 use Rattle.tlv_walk.specs.Events.{Told}
 use Rattle.tlv_walk.specs.Forest.{Forest, Stop, Partial, Awaiting, Begun, Zero, has_element, is_whole, spell}
-use Rattle.tlv_walk.specs.Machine.{IsReady, IsReadyIn, IsWaiting, IsWaitingIn, Machine}
+use Rattle.tlv_walk.specs.Machine.{IsReady, IsReadyIn, Machine}
+use Rattle.tlv_walk.specs.Private.Machine.{IsWaiting, IsWaitingIn}
 use Rattle.tlv_walk.specs.Place.{Place, top}
 use Rattle.tlv_walk.specs.State.{HasState, IsPhaseOf, Layer, Tail, Between, InContents, BeforeUnused, InHeader, InEnd, State, begins_element, frames_of, place_in, place_of, spell_tail, stack_of}
 use Rattle.tlv_walk.proofs.Endings.{halt-ending}

@@ -12,7 +12,8 @@ use Rattle.tlv_walk.specs.Forest.{Forest, Stop, Whole, Partial, Awaiting, Begun,
 use Rattle.tlv_walk.specs.Machine.{Machine, new_machine, found_in}
 use Rattle.tlv_walk.specs.Place.{IsOpen, Place, after, top}
 use Rattle.tlv_walk.specs.Reading.{IsReading}
-use Rattle.tlv_walk.specs.State.{AreLayers, AreWhole, HasState, IsContents, IsPhaseOf, Layer, Tail, Between, InContents, BeforeUnused, InHeader, InEnd, Stands, State, endings_at, events_layers, events_state, events_tail, frames_of, place_in, place_of, spell_layers, spell_state, spell_tail, stack_of, waiting_in, waiting_of, wrappers_layers, wrappers_state, wrappers_tail}
+use Rattle.tlv_walk.specs.State.{AreLayers, AreWhole, HasState, IsContents, IsPhaseOf, Layer, Tail, Between, InContents, BeforeUnused, InHeader, InEnd, Stands, State, endings_at, events_layers, events_state, events_tail, frames_of, place_in, place_of, spell_layers, spell_state, spell_tail, stack_of, waiting_in, waiting_of}
+use Rattle.tlv_walk.specs.Private.State.{wrappers_layers, wrappers_state, wrappers_tail}
 use Rattle.tlv_walk.specs.Inside.{CanName}
 use Rattle.tlv_walk.specs.Wrappers.{enters, wrappers}
 use Rattle.tlv_walk.proofs.Joined.{apart-before, apart-from_joined, joined-from_apart}

@@ -24,7 +24,7 @@ use Rattle.tlv_walk.specs.Drives.{octets_told}
 use Rattle.tlv_walk.specs.Ending.{IsEnding}
 use Rattle.tlv_walk.specs.Events.{AreEqualJoined, Told, events}
 use Rattle.tlv_walk.specs.Follow.{Following, followed}
-use Rattle.tlv_walk.specs.Follows.{Fails, Follows, FollowsTo, GoesOnIn, Stops, WalkedTo}
+use Rattle.tlv_walk.specs.Private.Follows.{Fails, Follows, FollowsTo, GoesOnIn, Stops, WalkedTo}
 use Rattle.tlv_walk.specs.Forest.{Forest, spell}
 use Rattle.tlv_walk.specs.Job.{IsFinalEnding}
 use Rattle.tlv_walk.specs.Laws.{AreOctets}

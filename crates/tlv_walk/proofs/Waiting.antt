@@ -4,7 +4,8 @@ use Rattle.tlv_walk.specs.declared.stack.Frame.{Frame}
 use Rattle.tlv_walk.specs.Phase.{Phase}
 use Rattle.tlv_walk.specs.Phase as phase
 use Rattle.tlv_walk.specs.Events.{Told, End}
-use Rattle.tlv_walk.specs.Machine.{IsReady, IsWaiting, IsWaitingIn, Machine}
+use Rattle.tlv_walk.specs.Machine.{IsReady, Machine}
+use Rattle.tlv_walk.specs.Private.Machine.{IsWaiting, IsWaitingIn}
 use Rattle.tlv_walk.specs.Stack.{IsFilled}
 use Rattle.tlv_walk.specs.State.{NothingWaits, ending_of, endings_at, is_end, waiting_in, waiting_of}
 use Rattle.tlv_walk.proofs.StateEndings.{ready-waits}

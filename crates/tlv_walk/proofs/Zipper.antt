@@ -6,7 +6,8 @@ use Rattle.tlv_head.specs.declared.header.Size.TheVariants.{Definite, Indefinite
 use Rattle.tlv_head.specs.Header.{Heading, announced, octets_of}
 use Rattle.tlv_walk.specs.declared.framing.Framing.{Framing}
 use Rattle.tlv_walk.specs.Ending.{tip}
-use Rattle.tlv_walk.specs.Forest.{Forest, Stop, Fill, Whole, Closed, Partial, Entered, Awaiting, Begun, Zero, contents_length, end_octets, extent, has_element, is_whole, opening, spell}
+use Rattle.tlv_walk.specs.Forest.{Forest, Stop, Fill, Whole, Closed, Partial, Entered, Awaiting, Begun, Zero, end_octets, extent, has_element, is_whole, opening, spell}
+use Rattle.tlv_walk.specs.Private.Forest.{contents_length}
 use Rattle.tlv_walk.specs.Place.{Fits, IsOpen, Place, after, is_indefinite, top}
 use Rattle.tlv_walk.proofs.Lengths.{LacksOctets}
 use Rattle.tlv_walk.specs.Machine.{bound_in}

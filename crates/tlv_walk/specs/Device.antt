@@ -48,11 +48,6 @@ module _ {E : Type 0} where
   last_of (Ok n) = gave n
   last_of (Err e) = failed
 
-  -- what is kept of reads after one more with this result
-  abbrev pub after_read : Result ℕ E → Reads → Reads
-  after_read result old =
-      record { reads = counted old.reads; last = last_of result; failures = failures_after result old.failures }
-
   -- one read into room that then holds these octets
   pub record ReadsOnce (old new : Supply) (result : Result ℕ E) (to : List ℕ) : Type 0 where
     pub octets : ReadConsumes old.left new.left result to

@@ -1,5 +1,4 @@
 pub mod Device
-pub mod LastRead
 pub mod MemDrain
 pub mod MemSource
 pub mod Out
@@ -18,11 +17,10 @@ pub mod WalkerFields
 pub mod Laws
 pub mod State
 pub mod Tells
-pub mod ReadsOn
 pub mod OpenCount
 pub mod Follows
 pub mod Turns
 pub mod Job
 pub mod Drives
-pub mod Lined
 pub mod Alike
+pub mod Private

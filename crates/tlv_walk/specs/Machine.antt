@@ -16,7 +16,8 @@ use Rattle.tlv_head.specs.declared.header.Size.{Size}
 use Rattle.tlv_walk.specs.declared.framing.Framing.{Framing}
 use Rattle.tlv_walk.specs.declared.stack.Frame.{Frame}
 use Rattle.tlv_walk.specs.Phase.{Phase, Between, InHeader, InContents, BeforeUnused, InEnd, Failed}
-use Rattle.tlv_walk.specs.Stack.{IsFilled, IsInIndefinite, IsInWrapper, IsNested, Within, bound_of, room_of}
+use Rattle.tlv_walk.specs.Stack.{IsFilled, IsInIndefinite, IsInWrapper, IsNested, Within, bound_of}
+use Rattle.tlv_walk.specs.Private.Stack.{room_of}
 
 pub record Machine : Type 0 where
   -- the open elements, innermost first
@@ -60,18 +61,6 @@ pub record IsMachine (w : Machine) : Type 0 where
   pub named : length w.framing.inside ≤ 16
   pub found : w.wrappers ≤ length w.framing.inside
 
--- an event is to come that needs no further octet
-abbrev pub IsWaitingIn : Phase → List Frame → ℕ → Type 0
-IsWaitingIn Between stack offset = IsFilled stack offset
-IsWaitingIn (InHeader r) stack offset = ⊥
-IsWaitingIn (InContents left) stack offset = left ≡ 0
-IsWaitingIn BeforeUnused stack offset = ⊥
-IsWaitingIn InEnd stack offset = ⊥
-IsWaitingIn (Failed fault) stack offset = ⊥
-
-abbrev pub IsWaiting : Machine → Type 0
-IsWaiting w = IsWaitingIn w.phase w.stack w.offset
-
 -- nothing is waiting, and nothing was refused
 abbrev pub IsReadyIn : Phase → List Frame → ℕ → Type 0
 IsReadyIn Between stack offset = IsFilled stack offset → ⊥
@@ -92,42 +81,6 @@ IsTold (InContents left) = Unit {0}
 IsTold BeforeUnused = Unit {0}
 IsTold InEnd = ⊥
 IsTold (Failed fault) = ⊥
-
--- an event was told, and the walker stands at this offset
-pub record Tells (old new : Machine) (at : ℕ) : Type 0 where
-  pub offset : new.offset ≡ at
-  pub events : new.events ≡ old.events + 1
-  pub within : new.events ≤ new.offset
-  pub told : IsTold new.phase
-
--- a header begins with the piece, inside the bound
-pub record CanBegin (w : Machine) (piece : List ℕ) : Type 0 where
-  pub phase : w.phase ≡ Between
-  pub first : ℕ
-  pub rest : List ℕ
-  pub octets : piece ≡ first ∷ rest
-  pub nonzero : first ≢ 0
-  pub room : room_of w.stack w.offset ≢ Some 0
-
--- a header has begun
-abbrev pub IsHeader : Phase → Type 0
-IsHeader Between = ⊥
-IsHeader (InHeader r) = Unit {0}
-IsHeader (InContents left) = ⊥
-IsHeader BeforeUnused = ⊥
-IsHeader InEnd = ⊥
-IsHeader (Failed fault) = ⊥
-
--- the piece begins with octets of a header
-abbrev pub CanRead : Machine → List ℕ → Type 0
-CanRead w piece = CanBegin w piece ⊎ (IsHeader w.phase × (piece ≢ []))
-
--- the walker stands behind the octets that the reader has; if those are none, a header begins with the piece
-pub record CanReadOn (w : Machine) (r : Progress) (piece : List ℕ) : Type 0 where
-  pub unfinished : r.done ≡ false
-  pub place : r.offset + length r.octets ≡ w.offset
-  pub fewer : w.events + length w.stack ≤ r.offset
-  pub first : (r.octets ≢ []) ⊎ CanBegin w piece
 
 -- so many octets were taken, and one event was told
 abbrev pub TellsOne : Machine → Machine → List ℕ → List ℕ → Type 0
@@ -162,22 +115,6 @@ Steps old new before after (step.Event e) = TellsOne old new before after × Has
 Steps old new before after step.NeedMore = TakesAll old new before after
 Steps old new before after (step.Fault f) = Refuses old new before after f
 
--- what an event that came at once took from the front of a piece; nothing, where none came
-abbrev pub StepsAtOnce : Machine → Machine → List ℕ → List ℕ → Option Event → Type 0
-StepsAtOnce old new before after (Some e) = TellsOne old new before after × HasOctets e
-StepsAtOnce old new before after None = (new ≡ old) × (after ≡ before)
-
--- a header that may stand there, and of which the walker has taken a part at most
-pub record CanEnter (w : Machine) (h : Heading) : Type 0 where
-  pub valid : IsHeading h
-  pub fewer : w.events + length w.stack ≤ h.offset
-  pub limit : h.offset + length (octets_of h) ≤ 2 ^ 40
-  pub shallow : holds h ≡ true → length w.stack < 128
-  pub fits : Within (bound_of w.stack) (h.offset + length (octets_of h) + announced h.size)
-
-abbrev pub fault_at : FaultCode → ℕ → FaultOf
-fault_at code offset = record { code = code; offset = offset }
-
 -- how many of the named offsets, from the first on, are wrappers' once one was found at this offset
 abbrev pub next_wrapper : List ℕ → ℕ → ℕ → ℕ
 next_wrapper inside k at = option_map_or (λ n. if eqb n at then k + 1 else k) (slice_get inside k) k
@@ -191,10 +128,6 @@ found_in inside k (at ∷ ats) = found_in inside (next_wrapper inside k at) ats
 abbrev pub unused_in : Machine → Option ℕ
 unused_in w = slice_get w.framing.inside w.wrappers
 
--- behind a whole header
-abbrev pub behind_header : Machine → Phase → ℕ → Machine
-behind_header w phase at = record w { phase = phase; offset = at; events = w.events + 1; has_element = true }
-
 -- 8.1.3.3: the end of contents that begin there, or else the bound outside
 abbrev pub bound_in : Size → ℕ → Option ℕ → Option ℕ
 bound_in size start outside = option_map_or (λ n. Some (start + n)) (definite_length size) outside
@@ -202,19 +135,3 @@ bound_in size start outside = option_map_or (λ n. Some (start + n)) (definite_l
 -- the frame of an element whose contents begin at the offset
 abbrev pub frame_with : ℕ → Option ℕ → Size → Bool → Frame
 frame_with start outer size constructed = record { end = bound_in size start None; bound = bound_in size start outer; wrapper = not constructed }
-
--- where a walker stands behind a header
-abbrev pub Enters : Machine → Machine → HeaderFields → ℕ → Kind → Type 0
-Enters old new f at kind.Primitive =
-    ((f.constructed || is_wrapper f.named f.class f.constructed f.number f.size) ≡ false)
-    × (new ≡ behind_header old (InContents (announced f.size)) at)
-Enters old new f at kind.Constructed =
-    (f.constructed ≡ true)
-    × (new ≡ record (behind_header old Between at) { stack = frame_with at (bound_of old.stack) f.size f.constructed ∷ old.stack })
-Enters old new f at kind.Wrapper =
-    (f.constructed ≡ false)
-    × (is_wrapper f.named f.class f.constructed f.number f.size ≡ true)
-    × (new ≡ record (behind_header old (if eqb f.number 3 then BeforeUnused else Between) at) {
-      stack = frame_with at (bound_of old.stack) f.size f.constructed ∷ old.stack;
-      wrappers = next_wrapper old.framing.inside old.wrappers f.offset;
-    })

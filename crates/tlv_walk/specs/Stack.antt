@@ -2,22 +2,10 @@
 use Rattle.std.specs.Prelude.{◌≡◌, ℕ, ◌-◌, ◌≤◌, true, List, [], ◌∷◌, Option, Some, None, IfSome}
 use Rattle.tlv_walk.specs.declared.stack.Frame.{Frame}
 
-abbrev pub innermost_of : List Frame → Option Frame
-innermost_of [] = None
-innermost_of (f ∷ fs) = Some f
-
 -- the end of the innermost definite element
 abbrev pub bound_of : List Frame → Option ℕ
 bound_of [] = None
 bound_of (f ∷ fs) = f.bound
-
--- how many octets there are from an offset to a bound
-abbrev pub left_to : Option ℕ → ℕ → Option ℕ
-left_to None offset = None
-left_to (Some b) offset = Some (b - offset)
-
-abbrev pub room_of : List Frame → ℕ → Option ℕ
-room_of stack offset = left_to (bound_of stack) offset
 
 -- the offset does not lie past the bound
 abbrev pub Within : Option ℕ → ℕ → Type 0

@@ -120,21 +120,6 @@ events_tail InEnd = []
 abbrev pub events_state : State → List Told
 events_state s = events_layers s.layers ++ (events s.here ++ events_tail s.tail)
 
--- the wrappers
-abbrev pub wrappers_layers : List Layer → List ℕ
-wrappers_layers [] = []
-wrappers_layers (l ∷ ls) = wrappers_layers ls ++ (wrappers l.before ++ wrapper_at l.head)
-
-abbrev pub wrappers_tail : Tail → List ℕ
-wrappers_tail Between = []
-wrappers_tail (InContents h c) = []
-wrappers_tail (BeforeUnused h) = wrapper_at h
-wrappers_tail (InHeader octets) = []
-wrappers_tail InEnd = []
-
-abbrev pub wrappers_state : State → List ℕ
-wrappers_state s = wrappers_layers s.layers ++ (wrappers s.here ++ wrappers_tail s.tail)
-
 -- an octet of an element came
 abbrev pub begins_among : List Layer → Forest → Bool
 begins_among [] here = has_element here

@@ -1,7 +1,8 @@
 //! What octets are read from.
 
 ghost use Rattle.std.specs.Prelude.{◌≡◌, ◌<◌, length};
-ghost use Rattle.tlv_walk.specs.Device.{ReadsOnce, Supply, after_read, never};
+ghost use Rattle.tlv_walk.specs.Device.{ReadsOnce, Supply, never};
+ghost use Rattle.tlv_walk.specs.Private.Device.{after_read};
 
 use std::marker::Model;
 
@@ -41,7 +42,7 @@ pub(crate) struct ReadLog {
 
 impl Model for ReadLog {
     ghost use Rattle.tlv_walk.specs.Device.{Reads};
-    ghost use Rattle.tlv_walk.specs.LastRead.{last_read};
+    ghost use Rattle.tlv_walk.specs.Private.LastRead.{last_read};
 
     ghost Value = { Reads };
 

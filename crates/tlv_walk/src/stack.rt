@@ -1,6 +1,7 @@
 //! The open elements that hold others.
 ghost use Rattle.std.specs.Prelude.{◌≡◌, ◌-◌, ◌<◌, ◌≤◌, ◌↔◌, ◌∷◌, IsTrue, [], length, drop};
-ghost use Rattle.tlv_walk.specs.Stack.{IsFilled, IsInIndefinite, Within, bound_of, innermost_of, left_to};
+ghost use Rattle.tlv_walk.specs.Stack.{IsFilled, IsInIndefinite, Within, bound_of};
+ghost use Rattle.tlv_walk.specs.Private.Stack.{innermost_of, left_to};
 
 use arrayvec::ArrayVec;
 use std::marker::Model;

@@ -3,7 +3,7 @@ ghost use Rattle.std.specs.Prelude.{◌≡◌, ℕ, List, ◌+◌, ◌<◌, ◌�
 ghost use Rattle.tlv_walk.specs.Device.{failures_after};
 ghost use Rattle.tlv_walk.specs.Events.{Told};
 ghost use Rattle.tlv_walk.specs.Follow.{IsFollowed};
-ghost use Rattle.tlv_walk.specs.Follows.{Stops};
+ghost use Rattle.tlv_walk.specs.Private.Follows.{Stops};
 ghost use Rattle.tlv_walk.specs.Laws.{AreOctets};
 ghost use Rattle.tlv_walk.specs.Machine.{IsReady, unused_in};
 ghost use Rattle.tlv_walk.specs.Out.{Puts, Sends, lender_of};

@@ -63,18 +63,21 @@ impl Walker {
     ghost use Rattle.tlv_head.specs.Fields.{Suits, heading_with};
     ghost use Rattle.tlv_head.specs.Header.{announced, holds, octets_of};
     ghost use Rattle.tlv_walk.specs.Phase as phases;
-    ghost use Rattle.tlv_walk.specs.Machine.{CanBegin, CanEnter, CanRead, CanReadOn, Enters, HasOctets, IsWaiting, Steps, StepsAtOnce, Tells, TellsOne, fault_at, new_machine, next_wrapper, unused_in};
+    ghost use Rattle.tlv_walk.specs.Machine.{HasOctets, Steps, TellsOne, new_machine, next_wrapper, unused_in};
+    ghost use Rattle.tlv_walk.specs.Private.Machine.{CanBegin, CanEnter, CanRead, CanReadOn, Enters, IsWaiting, StepsAtOnce, Tells, fault_at};
     ghost use Rattle.tlv_head.specs.declared.fault.Fault.{Fault as FaultOf};
     ghost use Rattle.tlv_walk.specs.Ending.{IsEnding};
     ghost use Rattle.tlv_walk.specs.Events.{Told};
     ghost use Rattle.tlv_walk.specs.OpenCount.{open_count};
     ghost use Rattle.tlv_walk.specs.State.{NothingWaits, Stands};
     ghost use Rattle.tlv_walk.specs.Wrappers.{unused_of};
-    ghost use Rattle.tlv_walk.specs.ReadsOn.{TellsFrom, TellsHeader};
-    ghost use Rattle.tlv_walk.specs.Tells.{Continues, StandsRefused, StandsStep, TellsAtOnce, TellsEvent, TellsStep, told_of};
+    ghost use Rattle.tlv_walk.specs.Private.ReadsOn.{TellsFrom, TellsHeader};
+    ghost use Rattle.tlv_walk.specs.Tells.{StandsRefused, StandsStep, told_of};
+    ghost use Rattle.tlv_walk.specs.Private.Tells.{Continues, TellsAtOnce, TellsEvent, TellsStep};
     ghost use Rattle.tlv_head.specs.Read.{BeginsWithFields};
     ghost use Rattle.tlv_walk.specs.Inside.{is_among};
-    ghost use Rattle.tlv_walk.specs.Stack.{IsFilled, Within, bound_of, room_of};
+    ghost use Rattle.tlv_walk.specs.Stack.{IsFilled, Within, bound_of};
+    ghost use Rattle.tlv_walk.specs.Private.Stack.{room_of};
 
     /// A walker that has taken nothing.
     pub fn new(framing: &Framing) -> Walker

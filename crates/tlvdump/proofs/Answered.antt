@@ -8,7 +8,8 @@ use Rattle.clap.proofs.OnLiterals.{clap_on_literals}
 use Rattle.tlvdump.specs.declared.command.Command.{Command}
 use Rattle.tlvdump.specs.declared.command.UsageFault.{UsageFault}
 use Rattle.tlvdump.specs.declared.command.UsageFault.TheVariants.{Parser, Value, Memory}
-use Rattle.tlvdump.specs.Commands.{Answers, AnswersSubcommand, IsRefusal, IsUsageFaultOf}
+use Rattle.tlvdump.specs.Commands.{Answers, IsUsageFaultOf}
+use Rattle.tlvdump.specs.Private.Commands.{AnswersSubcommand, IsRefusal}
 use Rattle.tlvdump.specs.Line.{line_app}
 
 pub simple : is_simple line_app ≡ true

@@ -1,7 +1,7 @@
 -- What a chain of builders has made, by one step.
 use Rattle.std.proofs.Common.{◌≡◌, ◌∙◌, ◌||◌, Bool, false, ap, ap₂}
 use Rattle.clap.specs.Words.{App, Rule, rule_of, with_rule, with_subcommand, AddsArg, AddsSubcommand}
-use Rattle.tlvdump.specs.Line.{IsMade}
+use Rattle.tlvdump.specs.Private.Line.{IsMade}
 use Rattle.clap.specs.declared.builder.arg.Arg.{Arg}
 use Rattle.clap.specs.declared.builder.command.Command.{Command}
 

@@ -31,11 +31,12 @@ use Rattle.tlv_walk.specs.Reading.{IsPrefixOf, IsReading}
 use Rattle.tlvdump.proofs.Results.{Stays, one_made, settled_stays, stays_for, text_on}
 use Rattle.tlvdump.proofs.SaidJobs.{said-end}
 use Rattle.tlvdump.specs.declared.command.Command.{Command}
-use Rattle.tlvdump.specs.Held.{or_failed, told_ending, told_failing, told_room}
+use Rattle.tlvdump.specs.Private.Held.{or_failed, told_ending, told_failing, told_room}
 use Rattle.tlvdump.specs.Octets.{IsSaid, MakesOf, RunsOctets, broken, ended, settled, too_long}
 use Rattle.tlvdump.specs.Report.{Said, said_of_device}
 use Rattle.tlvdump.specs.Results.{IsSettled, Made, Makes, made_of, running}
-use Rattle.tlvdump.specs.Runs.{Ran, said_at_end}
+use Rattle.tlvdump.specs.Runs.{Ran}
+use Rattle.tlvdump.specs.Private.Runs.{said_at_end}
 
 -- what a slice holds of numbers that fit an octet
 octets_of : (xs : List ℕ) → ((i : ℕ) → Fits w8 (slice_index_or xs i 0)) → AreOctets xs

@@ -17,7 +17,7 @@ use Rattle.tlvdump.proofs.SaidJobs.{said-end}
 use Rattle.tlvdump.specs.Laws.{RunsAreResults}
 use Rattle.tlvdump.specs.Report.{Said}
 use Rattle.tlvdump.specs.Results.{IsSettled, Made, Makes, made_of, running}
-use Rattle.tlvdump.specs.Runs.{said_at_end}
+use Rattle.tlvdump.specs.Private.Runs.{said_at_end}
 
 -- a count below its end goes on
 goes_up : (n : ℕ) → n < 2 ^ 64 - 1 → counted n ≡ n → ⊥

@@ -15,7 +15,7 @@ use Rattle.tlv_walk.specs.declared.ending.Ending.TheVariants.{Done}
 use Rattle.tlv_walk.specs.declared.framing.Framing.{Framing}
 use Rattle.tlv_walk.specs.Ending.{fault}
 use Rattle.tlvdump.proofs.Results.{result_of}
-use Rattle.tlvdump.specs.Report.{clean}
+use Rattle.tlvdump.specs.Private.Report.{clean}
 use Rattle.tlvdump.specs.Results.{Made, running}
 use Rattle.tlvdump.specs.declared.command.Command.{Command}
 use Rattle.tlvdump.specs.declared.command.Command.TheVariants.{Check, Dump, Extract, Indef}

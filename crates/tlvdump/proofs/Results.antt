@@ -22,7 +22,8 @@ use Rattle.tlv_walk.specs.Job.{EndsWith, IsFinalEnding, Job}
 use Rattle.tlv_walk.specs.Laws.{AreOctets}
 use Rattle.tlv_walk.specs.Reading.{IsPrefixOf, IsReading}
 use Rattle.tlvdump.specs.Laws.{InputsHaveOneResult, OutputsGoOn, SecondIndefIsTheFirst, SettledResultsStay}
-use Rattle.tlvdump.specs.Report.{Said, said_of_cut, said_of_indef}
+use Rattle.tlvdump.specs.Report.{Said, said_of_cut}
+use Rattle.tlvdump.specs.Private.Report.{said_of_indef}
 use Rattle.tlvdump.specs.Results.{IsSettled, Made, Makes, made_of, running}
 use Rattle.tlvdump.specs.declared.command.Command.{Command}
 use Rattle.tlvdump.specs.declared.command.Command.TheVariants.{Check, Dump, Extract, Indef}

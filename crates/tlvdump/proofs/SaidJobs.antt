@@ -7,7 +7,8 @@ use Rattle.tlv_walk.specs.Device.{Supply, Taken}
 use Rattle.tlv_walk.specs.Job.{AreSound, Job, Runs}
 use Rattle.tlvdump.specs.Report.{Said, said_of, said_of_device}
 use Rattle.tlvdump.specs.Results.{said_by}
-use Rattle.tlvdump.specs.Runs.{Ran, said_at_end}
+use Rattle.tlvdump.specs.Runs.{Ran}
+use Rattle.tlvdump.specs.Private.Runs.{said_at_end}
 
 module _ {A : Type 0} (say : A → Said) (job : Job A) where
   sound_too : (b : List ℕ) → AreSound job b → AreSound (said_by say job) b

@@ -14,7 +14,8 @@ use Rattle.tlv_walk.specs.Ending.{IsEnding}
 use Rattle.tlv_walk.specs.Forest.{Forest}
 use Rattle.tlv_walk.specs.Job.{EndsWith}
 use Rattle.tlvdump.specs.Laws.{StatusesTellOfSoundness}
-use Rattle.tlvdump.specs.Report.{said_of_findings, said_of_found, said_of_unused, saying}
+use Rattle.tlvdump.specs.Report.{said_of_findings, said_of_unused, saying}
+use Rattle.tlvdump.specs.Private.Report.{said_of_found}
 use Rattle.tlvdump.specs.Results.{Made, running}
 use Rattle.tlvdump.specs.declared.command.Command.{Command}
 use Rattle.tlvdump.specs.declared.command.Command.TheVariants.{Check, Dump, Extract, Indef}

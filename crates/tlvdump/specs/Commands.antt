@@ -86,24 +86,6 @@ Answers words result = MatchResult result (λ command. IsCommandOf words (Ok com
 
 -- ---- parts of the answer
 
--- why a result that is none comes to nothing: a value, or memory
-abbrev pub Explains : Result Command Text → UsageFault → Type 0
-Explains wanted (Parser error) = ⊥
-Explains wanted (Value name) = wanted ≡ Err name.now
-Explains wanted Memory = ⊤
-
-abbrev pub AnswersFrom : Result Command Text → Result Command UsageFault → Type 0
-AnswersFrom wanted result = MatchResult result (λ command. wanted ≡ Ok command) (Explains wanted)
-
-abbrev pub AnswersSubcommand : Option (Text × List Row) → Result Command UsageFault → Type 0
-AnswersSubcommand found result = (p : Text × List Row) × (found ≡ Some p) × AnswersFrom (command_from p) result
-
--- an error of `clap` is want of memory, or a refusal of the words
-abbrev pub IsRefusal : Error → UsageFault → Type 0
-IsRefusal error (Parser told) = (told ≡ error) × ¬ (kind_of error ≡ OutOfMemory)
-IsRefusal error (Value name) = ⊥
-IsRefusal error Memory = kind_of error ≡ OutOfMemory
-
 -- ---- the files of a command
 
 abbrev pub file_of : Command → Option Text

@@ -1,5 +1,4 @@
 pub mod Commands
-pub mod Held
 pub mod Laws
 pub mod Line
 pub mod Octets
@@ -7,3 +6,4 @@ pub mod Report
 pub mod Results
 pub mod Runs
 pub mod Values
+pub mod Private

@@ -6,11 +6,6 @@ use Rattle.clap.specs.declared.builder.command.Command.{Command}
 use Rattle.clap.specs.declared.builder.command.Command.TheViews.{out-Command as fields_of}
 use Rattle.clap.specs.declared.builder.action.ArgAction.TheVariants.{Help, Set, SetTrue, Version}
 
--- the command is that of the line, and none of its arguments is global
-pub record IsMade (command : Command) (app : App) : Type 0 where
-  pub shape : app_of command ≡ app
-  pub local : (fields_of command).has_globals ≡ false
-
 -- `--name VALUE`
 abbrev pub option_rule : Text → Rule
 option_rule name = record (new_rule name) { long = Some name; action = Some Set; value_names = 1 }

@@ -113,17 +113,3 @@ line_of (x ∷ xs) = (x ∷ xs) ++ 10 ∷ []
 -- a line was written, or a write failed and the drain took a front of it
 abbrev pub IsTold : List ℕ → Taken → Taken → Type 0
 IsTold line old new = (result : Result ⊤ WriteFault) × Sends old new line result
-
--- ---- Words of private functions and proofs alone
-
-abbrev pub clean : Said
-clean = saying 0 []
-
-abbrev pub fault_line : Fault → List ℕ
-fault_line fault = codes "fault at " ++ decimal fault.offset ++ codes ": " ++ code_of fault.code ++ codes " " ++ text_of fault.code
-
-abbrev pub said_of_found : ℕ → Bool → Said
-said_of_found offset found = if found then saying 0 [] else saying 1 (codes "E4 no element at offset " ++ decimal offset)
-
-abbrev pub said_of_indef : Ending → Said
-said_of_indef e = said_of_ending e (saying 0 [])

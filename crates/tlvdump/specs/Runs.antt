@@ -10,9 +10,3 @@ pub record Ran (job : Job Said) (old new : Supply) (from to : Taken) (said : Sai
   pub result : Result Said DeviceFault
   pub runs : Runs job old new from to result
   pub said_is : MatchResult result (λ of_input. said ≡ of_input) (λ fault. said ≡ said_of_device fault)
-
--- ---- Words of proofs alone
-
-abbrev pub said_at_end : Result Said DeviceFault → Said
-said_at_end (Ok said) = said
-said_at_end (Err fault) = said_of_device fault

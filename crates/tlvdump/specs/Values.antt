@@ -43,10 +43,6 @@ if_named ns = if nat_le (length ns) 16 && are_rising 0 ns then Some ns else None
 abbrev pub offsets_in : Text → Option (List ℕ)
 offsets_in t = option_and_then if_named (each_offset (parts_of t))
 
--- the text behind a reference, if there is one
-abbrev pub text_in : Option (Bor Text) → Option Text
-text_in = option_map (λ t. t.now)
-
 -- ---- the value of an option, by its text or by none; nothing where the text is no value
 
 -- an offset has to be given

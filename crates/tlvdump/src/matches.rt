@@ -1,7 +1,8 @@
 //! The command that the words of a command line ask for.
 ghost use Rattle.std.specs.Prelude.{◌≡◌, IfErr, IfOk, is_some, option_map, true};
 ghost use Rattle.clap.specs.Words.{first_of, found_of, rows_of, subcommand_rows_of};
-ghost use Rattle.tlvdump.specs.Commands.{Answers, AnswersFrom, AnswersSubcommand, IsRefusal, check_from, dump_from, extract_from, indef_from, is_given as is_given_in};
+ghost use Rattle.tlvdump.specs.Commands.{Answers, check_from, dump_from, extract_from, indef_from, is_given as is_given_in};
+ghost use Rattle.tlvdump.specs.Private.Commands.{AnswersFrom, AnswersSubcommand, IsRefusal};
 
 use crate::command::{Command, UsageFault};
 use crate::parser::line_parser;

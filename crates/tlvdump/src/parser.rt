@@ -1,7 +1,8 @@
 //! What `clap` is told of the command line, with the texts of help.
 ghost use Rattle.std.specs.Prelude.{◌≡◌, IfOk, codes, false};
 ghost use Rattle.clap.specs.Words.{rule_of};
-ghost use Rattle.tlvdump.specs.Line.{IsMade, check_app, dump_app, extract_app, helped, indef_app, line_app, program_app};
+ghost use Rattle.tlvdump.specs.Line.{check_app, dump_app, extract_app, helped, indef_app, line_app, program_app};
+ghost use Rattle.tlvdump.specs.Private.Line.{IsMade};
 ghost use Rattle.tlvdump.specs.Line.{file_rule, flag_rule, help_rule, offset_rule, option_rule, version_rule};
 
 use clap::{Arg, ArgAction, Command};

@@ -1,7 +1,9 @@
 //! What the program says of a run: the exit status and the message.
 ghost use Rattle.std.specs.Prelude.{◌≡◌, ◌+◌, ◌++◌, ◌≤◌, [], decimal, length};
-ghost use Rattle.tlvdump.specs.Report.{fault_line, line_with, said_in, said_of, saying as saying_of};
-ghost use Rattle.tlvdump.specs.Report.{said_of_cut, said_of_ending, said_of_findings, said_of_found, said_of_indef, said_of_outcome, said_of_unused};
+ghost use Rattle.tlvdump.specs.Report.{line_with, said_in, said_of, saying as saying_of};
+ghost use Rattle.tlvdump.specs.Private.Report.{fault_line};
+ghost use Rattle.tlvdump.specs.Report.{said_of_cut, said_of_ending, said_of_findings, said_of_outcome, said_of_unused};
+ghost use Rattle.tlvdump.specs.Private.Report.{said_of_found, said_of_indef};
 ghost use Rattle.tlvdump.specs.Report.{said_of_closed, said_of_device, said_of_names, said_of_unprinted, said_of_usage, said_of_words};
 
 use crate::command::UsageFault;

@@ -2,7 +2,8 @@
 ghost use Rattle.std.specs.Prelude.{◌<◌, ◌==◌, ◌≡◌, ◌≤◌, ◌∷◌, IfSome, [], length};
 ghost use Rattle.std.specs.List.{position_or_len};
 ghost use Rattle.std.specs.Option.{option_map_or};
-ghost use Rattle.tlvdump.specs.Values.{inside_of as inside_in, limit_of as limit_in, number_in, offset_of as offset_in, offsets_in, parts_of, rules_of as rules_in, text_in};
+ghost use Rattle.tlvdump.specs.Values.{inside_of as inside_in, limit_of as limit_in, number_in, offset_of as offset_in, offsets_in, parts_of, rules_of as rules_in};
+ghost use Rattle.tlvdump.specs.Private.Values.{text_in};
 
 use arrayvec::ArrayVec;
 use tlv_show::Rules;

@@ -2,7 +2,7 @@
 ghost use Rattle.std.specs.Prelude.{◌≡◌, ◌==◌, ◌+◌, ◌≤◌, drop, length};
 ghost use Rattle.std.specs.List.{list_all, position_or_len};
 ghost use Rattle.tlv_value.specs.Names.{is_blank as is_blank_octet, is_name as is_name_text, is_printable, line_of, trimmed as trimmed_text, without_first_blanks, without_last_blanks, without_return as without_return_at_end};
-ghost use Rattle.tlv_value.specs.NamesSteps.{answer_for, texts_of};
+ghost use Rattle.tlv_value.specs.Private.NamesSteps.{answer_for, texts_of};
 
 use super::NamesFault;
 use super::arcs::is_dotted;

@@ -1,6 +1,6 @@
 //! The octets of a names file.
 ghost use Rattle.tlv_value.specs.NamesReading.{ReadsFrom};
-ghost use Rattle.tlv_value.specs.NamesSteps.{Gives, result_in};
+ghost use Rattle.tlv_value.specs.Private.NamesSteps.{Gives, result_in};
 
 use super::NamesFault;
 use super::table::{Table, table_of};

@@ -1,7 +1,8 @@
 //! The table of a names file.
 ghost use Rattle.std.specs.Prelude.{◌≡◌, ◌≤◌, length};
 ghost use Rattle.tlv_value.specs.Names.{line_of};
-ghost use Rattle.tlv_value.specs.NamesSteps.{Adds, AddsLine, ComesTo, texts_in};
+ghost use Rattle.tlv_value.specs.NamesSteps.{texts_in};
+ghost use Rattle.tlv_value.specs.Private.NamesSteps.{Adds, AddsLine, ComesTo};
 
 use super::NamesFault;
 use super::line::{behind, end_before, entry_of};

@@ -2,7 +2,7 @@
 ghost use Rattle.std.specs.Prelude.{◌≡◌, ◌+◌, ◌*◌, ◌≤◌, ◌++◌, length};
 ghost use Rattle.arrayvec.specs.ArrayVec.{array_vec_len};
 ghost use Rattle.tlv_walk.specs.Follow.{IsFollowed};
-ghost use Rattle.tlv_walk.specs.Lined.{
+ghost use Rattle.tlv_walk.specs.Private.Lined.{
   close_line as close_line_of,
   ends,
   header_line as header_line_of,
@@ -153,7 +153,7 @@ impl Follow for Lines {
     ghost use Rattle.std.specs.Prelude.{codes, refl};
     ghost use Rattle.std.proofs.Common.{ap};
     ghost use Rattle.std.proofs.lemmas.Grind.{flat_map-append};
-    ghost use Rattle.tlv_walk.specs.Lined.{lined, pair as pair_of, puts};
+    ghost use Rattle.tlv_walk.specs.Private.Lined.{lined, pair as pair_of, puts};
 
     ghost next = { lined };
 

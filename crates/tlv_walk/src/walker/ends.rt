@@ -1,9 +1,11 @@
 //! How a walker takes what stands between elements, and the ends of those that hold others.
 ghost use Rattle.std.specs.Prelude.{◌≡◌, ℕ, ◌+◌, ◌^◌, ◌≤◌, ◌∷◌, [], length};
 ghost use Rattle.tlv_walk.specs.Phase as phases;
-ghost use Rattle.tlv_walk.specs.Machine.{HasOctets, Steps, StepsAtOnce, Tells};
+ghost use Rattle.tlv_walk.specs.Machine.{HasOctets, Steps};
+ghost use Rattle.tlv_walk.specs.Private.Machine.{StepsAtOnce, Tells};
 ghost use Rattle.tlv_walk.specs.Stack.{IsFilled};
-ghost use Rattle.tlv_walk.specs.Tells.{Continues, TellsAtOnce, TellsStep, told_of};
+ghost use Rattle.tlv_walk.specs.Tells.{told_of};
+ghost use Rattle.tlv_walk.specs.Private.Tells.{Continues, TellsAtOnce, TellsStep};
 
 use super::{Phase, Walker};
 use crate::{Event, Step};

@@ -5,10 +5,12 @@ ghost use Rattle.tlv_head.specs.Header.{announced, holds, octets_of};
 ghost use Rattle.tlv_head.specs.Read.{BeginsWithFields};
 ghost use Rattle.tlv_walk.specs.Phase as phases;
 ghost use Rattle.tlv_walk.specs.Inside.{is_among};
-ghost use Rattle.tlv_walk.specs.Machine.{CanBegin, CanEnter, CanRead, CanReadOn, Enters, HasOctets, Steps, StepsAtOnce, Tells, next_wrapper};
-ghost use Rattle.tlv_walk.specs.ReadsOn.{TellsFrom, TellsHeader};
+ghost use Rattle.tlv_walk.specs.Machine.{HasOctets, Steps, next_wrapper};
+ghost use Rattle.tlv_walk.specs.Private.Machine.{CanBegin, CanEnter, CanRead, CanReadOn, Enters, StepsAtOnce, Tells};
+ghost use Rattle.tlv_walk.specs.Private.ReadsOn.{TellsFrom, TellsHeader};
 ghost use Rattle.tlv_walk.specs.Stack.{Within, bound_of};
-ghost use Rattle.tlv_walk.specs.Tells.{TellsAtOnce, TellsStep, told_of};
+ghost use Rattle.tlv_walk.specs.Tells.{told_of};
+ghost use Rattle.tlv_walk.specs.Private.Tells.{TellsAtOnce, TellsStep};
 
 use super::{Phase, Walker};
 use crate::event::Kind;

@@ -2,7 +2,7 @@ use Rattle.std.proofs.Common.{◌+◌, take, drop, sym, ◌∙◌, subst, refl, 
 use Rattle.std.proofs.lemmas.List.{take-append-drop, take_all, take_more}
 use Rattle.tlv_head.specs.Refusal.{BeginsWith}
 use Rattle.tlv_head.specs.Fields.{heading_with}
-use Rattle.tlv_head.specs.Part.{MakesHeader}
+use Rattle.tlv_head.specs.Private.Part.{MakesHeader}
 use Rattle.tlv_head.proofs.Front.{around, begun_none, begun_part, made_begins, made_suits}
 use Rattle.tlv_head.proofs.Refused.{refused-with_none}
 use Rattle.tlv_head.proofs.reader.read_header.Goals as goal

@@ -1,6 +1,7 @@
 use Rattle.std.proofs.Common.{◌≡◌, ℕ, ◌+◌, ◌*◌, ◌%◌, ◌++◌, true, List, get_or, refl, sym, ap, ◌∙◌, arith, length-append}
 use Rattle.std.proofs.lemmas.Grind.{common_steps}
-use Rattle.tlv_value.specs.Arcs.{is_finished, part_text}
+use Rattle.tlv_value.specs.Arcs.{is_finished}
+use Rattle.tlv_value.specs.Private.Arcs.{part_text}
 use Rattle.tlv_value.proofs.Arcs.{dotted-short, run-end, run-last, run-none, run-within}
 use Rattle.tlv_value.proofs.dotted.dotted_of.Goals.{then-octet-lt128, else-octet-lt128}
 use Rattle.tlv_value.proofs.dotted.dotted_of.Goals as goal

@@ -1,5 +1,5 @@
 use Rattle.std.proofs.Common.{arith, length-append}
-use Rattle.tlv_value.specs.KindValues.{plain_text}
+use Rattle.tlv_value.specs.Private.KindValues.{plain_text}
 use Rattle.tlv_value.proofs.Short.{plain-short}
 use Rattle.tlv_value.proofs.putting.put_value.Goals as goal
 

@@ -1,4 +1,4 @@
-use Rattle.tlv_value.specs.Room.{HaveRoom}
+use Rattle.tlv_value.specs.Private.Room.{HaveRoom}
 use Rattle.tlv_value.proofs.rows.fitting.Given as goal
 
 abbrev pub invariant-loop-i : goal.invariant-loop-i

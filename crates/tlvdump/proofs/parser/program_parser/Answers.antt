@@ -3,7 +3,8 @@ use Rattle.std.proofs.lemmas.Result.{IfOk-weaker}
 use Rattle.clap.specs.Simple.{on_top}
 use Rattle.clap.specs.Words.{new_app}
 use Rattle.std.specs.Prelude.{codes}
-use Rattle.tlvdump.specs.Line.{IsMade, settled}
+use Rattle.tlvdump.specs.Line.{settled}
+use Rattle.tlvdump.specs.Private.Line.{IsMade}
 use Rattle.tlvdump.proofs.Building.{one_more}
 use Rattle.tlvdump.proofs.parser.program_parser.Goals as goal
 

@@ -1,7 +1,7 @@
 use Rattle.std.proofs.Common.{rules}
 use Rattle.std.proofs.lemmas.Result.{IfOk-weaker}
 use Rattle.clap.specs.Words.{new_app}
-use Rattle.tlvdump.specs.Line.{IsMade}
+use Rattle.tlvdump.specs.Private.Line.{IsMade}
 use Rattle.tlvdump.proofs.Building.{one_more}
 use Rattle.tlvdump.proofs.parser.with_help.Goals as goal
 

@@ -2,7 +2,8 @@ use Rattle.tlv_cut.specs.Extracts.{cutting}
 use Rattle.tlv_cut.specs.IndefRuns.{respelling}
 use Rattle.tlv_show.specs.Checks.{checking}
 use Rattle.tlv_show.specs.Dumps.{dumping}
-use Rattle.tlvdump.specs.Report.{said_of_cut, said_of_indef, said_of_outcome}
+use Rattle.tlvdump.specs.Report.{said_of_cut, said_of_outcome}
+use Rattle.tlvdump.specs.Private.Report.{said_of_indef}
 use Rattle.tlvdump.proofs.SaidJobs.{said_runs}
 use Rattle.tlvdump.proofs.runner.run.Goals as goal
 

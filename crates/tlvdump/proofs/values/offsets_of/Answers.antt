@@ -1,5 +1,6 @@
 use Rattle.std.proofs.Common.{◌≡◌, ◌∙◌, None, rules}
-use Rattle.tlvdump.specs.Values.{each_offset, parts_of, text_in}
+use Rattle.tlvdump.specs.Values.{each_offset, parts_of}
+use Rattle.tlvdump.specs.Private.Values.{text_in}
 use Rattle.tlvdump.proofs.Offsets.{judged, last_part}
 use Rattle.tlvdump.proofs.values.offsets_of.Goals as goal
 

@@ -1,6 +1,7 @@
 use Rattle.std.proofs.Common.{◌≡◌, ◌+◌, length}
 use Rattle.std.specs.Option.{option_map_or}
-use Rattle.tlvdump.specs.Values.{each_offset, parts_of, text_in}
+use Rattle.tlvdump.specs.Values.{each_offset, parts_of}
+use Rattle.tlvdump.specs.Private.Values.{text_in}
 use Rattle.tlvdump.proofs.Offsets.{behind, still}
 use Rattle.tlvdump.proofs.values.offsets_of.Given as goal
 

@@ -1,7 +1,8 @@
 use Rattle.std.proofs.Common.{◌≡◌, ◌-◌, ◌^◌, ◌<◌, ◌≤◌, ℕ, true, length, ap, sym, ◌∙◌, arith}
 use Rattle.std.proofs.lemmas.Result.{on_ok_weaker}
 use Rattle.tlv_walk.specs.Follow.{Following, each_octet}
-use Rattle.tlv_show.specs.Dumped.{Dumping, further, if_open, one_padded}
+use Rattle.tlv_show.specs.Dumped.{Dumping, further, one_padded}
+use Rattle.tlv_show.specs.Private.Dumped.{if_open}
 use Rattle.tlv_show.proofs.Dumped.{padded_first, padded_more}
 use Rattle.tlv_walk.proofs.Puts.{puts_nothing, puts_text}
 use Rattle.tlv_show.proofs.line_follower.Lines.pad.Goals as goal

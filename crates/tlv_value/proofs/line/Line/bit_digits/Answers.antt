@@ -2,7 +2,7 @@ use Rattle.std.proofs.Common.{◌≡◌, ℕ, ◌+◌, ◌-◌, ◌++◌, ◌∷
 use Rattle.std.proofs.Math.ListN.{length-drop}
 use Rattle.std.proofs.lemmas.List.{nil_from_length}
 use Rattle.tlv_value.specs.Bits.{bits_of, last_bits}
-use Rattle.tlv_value.specs.KindValues.{digits_of}
+use Rattle.tlv_value.specs.Private.KindValues.{digits_of}
 use Rattle.tlv_value.specs.Value.{used_digits}
 use Rattle.tlv_value.proofs.LineLengths.{behind}
 use Rattle.tlv_value.proofs.Texts.{bits-step, used-last}

@@ -1,6 +1,6 @@
 use Rattle.std.proofs.Common.{◌≡◌, ℕ, ◌+◌, ◌≤◌, ◌++◌, ◌∷◌, List, length, drop}
 use Rattle.tlv_value.specs.Bits.{bits_of}
-use Rattle.tlv_value.specs.KindValues.{digits_of}
+use Rattle.tlv_value.specs.Private.KindValues.{digits_of}
 use Rattle.tlv_value.proofs.line.Line.bit_digits.Given as goal
 
 abbrev pub invariant-loop-octet : goal.invariant-loop-octet

@@ -1,6 +1,6 @@
 use Rattle.std.proofs.Common.{take, sym, ◌∙◌, ap}
 use Rattle.tlv_value.specs.Names.{trimmed}
-use Rattle.tlv_value.specs.NamesSteps.{answer_for}
+use Rattle.tlv_value.specs.Private.NamesSteps.{answer_for}
 use Rattle.tlv_value.proofs.NamesTexts.{full_pair, no_name_pair, named_pair}
 use Rattle.tlv_value.proofs.names.line.entry_of.Goals as goal
 

@@ -4,10 +4,11 @@ use Rattle.tlv_walk.proofs.Puts.{puts_text}
 use Rattle.tlv_value.specs.declared.kind.Kind.{Kind}
 use Rattle.tlv_value.specs.declared.kind.Kind.TheVariants.{Object, Relative}
 use Rattle.tlv_value.specs.Kind.{kind_of}
-use Rattle.tlv_value.specs.ObjectLines.{object_lines}
+use Rattle.tlv_value.specs.Private.ObjectLines.{object_lines}
 use Rattle.tlv_value.specs.State.{TextState, ended}
 use Rattle.tlv_value.specs.TextFields.{state_of}
-use Rattle.tlv_value.specs.KindValues.{is_long, plain_text}
+use Rattle.tlv_value.specs.KindValues.{is_long}
+use Rattle.tlv_value.specs.Private.KindValues.{plain_text}
 use Rattle.tlv_value.specs.Value.{NameOf, no_names}
 use Rattle.tlv_value.proofs.Ends.{ended-object, ended-plain, ended-relative, held-most, held-plain, start_in}
 use Rattle.tlv_value.proofs.text.ValueText.end.Goals as goal

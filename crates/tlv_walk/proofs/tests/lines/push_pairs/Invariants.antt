@@ -1,5 +1,5 @@
 use Rattle.std.proofs.Common.{◌≡◌, ◌+◌, ◌*◌, ◌++◌, length}
-use Rattle.tlv_walk.specs.Lined.{pairs}
+use Rattle.tlv_walk.specs.Private.Lined.{pairs}
 use Rattle.tlv_walk.proofs.tests.lines.push_pairs.Given as goal
 
 abbrev pub invariant-loop-rest : goal.invariant-loop-rest

@@ -1,5 +1,5 @@
 use Rattle.std.proofs.Common.{rules}
-use Rattle.tlv_walk.specs.Lined.{pair}
+use Rattle.tlv_walk.specs.Private.Lined.{pair}
 use Rattle.tlv_walk.proofs.Puts.{fails_octet, puts_octet}
 use Rattle.tlv_walk.proofs.tests.lines.put_pairs.Goals as goal
 

@@ -1,5 +1,5 @@
 use Rattle.std.proofs.Common.{take}
-use Rattle.tlv_walk.specs.Lined.{pairs}
+use Rattle.tlv_walk.specs.Private.Lined.{pairs}
 use Rattle.tlv_walk.proofs.Puts.{HasPut}
 use Rattle.tlv_walk.proofs.tests.lines.put_pairs.Given as goal
 

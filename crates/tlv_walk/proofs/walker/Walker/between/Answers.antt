@@ -1,7 +1,7 @@
 use Rattle.std.proofs.Common.{◌≡◌, ℕ, ◌+◌, ◌-◌, List, ◌∷◌, length, take, drop, refl, sym, subst, inl, arith, rules}
 use Rattle.std.proofs.lemmas.Grind.{common_steps}
 use Rattle.tlv_walk.specs.Stack.{Within, bound_of}
-use Rattle.tlv_walk.specs.Tells.{TellsStep}
+use Rattle.tlv_walk.specs.Private.Tells.{TellsStep}
 use Rattle.tlv_walk.proofs.Behind.{room_more, step_behind}
 use Rattle.tlv_walk.proofs.Moves.{tells_zero}
 use Rattle.tlv_walk.proofs.walker.Walker.between.Goals.{else-indefinite-via-then-indefinite+else-eq, else-indefinite-via-else-indefinite}

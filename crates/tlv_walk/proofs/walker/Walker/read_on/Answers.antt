@@ -2,8 +2,9 @@ use Rattle.std.proofs.Common.{◌≡◌, inl, ℕ, ◌+◌, ◌≤◌, get_or, [
 use Rattle.tlv_head.specs.Progress.{Progress}
 use Rattle.tlv_head.specs.Push.{FitsThere, IsRefused}
 use Rattle.tlv_walk.specs.Machine.{Machine}
-use Rattle.tlv_walk.specs.ReadsOn.{HandsOver}
-use Rattle.tlv_walk.specs.Stack.{Within, bound_of, left_to}
+use Rattle.tlv_walk.specs.Private.ReadsOn.{HandsOver}
+use Rattle.tlv_walk.specs.Stack.{Within, bound_of}
+use Rattle.tlv_walk.specs.Private.Stack.{left_to}
 use Rattle.tlv_walk.specs.Tells.{told_of}
 use Rattle.tlv_walk.specs.WalkerFields.{machine_of}
 use Rattle.tlv_walk.proofs.HeaderRefusals.{refuses_header}

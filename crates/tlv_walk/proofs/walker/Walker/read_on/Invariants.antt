@@ -1,5 +1,6 @@
 use Rattle.std.proofs.Common.{◌≡◌, ◌+◌, false, length}
-use Rattle.tlv_walk.specs.Stack.{Within, left_to}
+use Rattle.tlv_walk.specs.Stack.{Within}
+use Rattle.tlv_walk.specs.Private.Stack.{left_to}
 use Rattle.tlv_walk.proofs.HeaderSteps.{CanGive, HasTaken}
 use Rattle.tlv_walk.proofs.walker.Walker.read_on.Given as goal
 

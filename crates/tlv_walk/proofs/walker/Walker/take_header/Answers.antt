@@ -1,7 +1,7 @@
 use Rattle.std.proofs.Common.{[], ◌∷◌, refl, subst, rules}
 use Rattle.tlv_head.specs.Fields.{heading_with}
 use Rattle.tlv_walk.specs.declared.event.Kind.{Kind}
-use Rattle.tlv_walk.specs.Tells.{Continues}
+use Rattle.tlv_walk.specs.Private.Tells.{Continues}
 use Rattle.tlv_walk.proofs.HeaderKinds.{event_of, fast_enters, fast_may_enter}
 use Rattle.tlv_walk.proofs.walker.Walker.take_header.Goals as goal
 

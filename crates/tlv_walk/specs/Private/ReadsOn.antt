@@ -7,7 +7,7 @@ use Rattle.tlv_walk.specs.Phase.{Between, InHeader}
 use Rattle.tlv_walk.specs.Events.{Told}
 use Rattle.tlv_walk.specs.Inside.{is_among}
 use Rattle.tlv_walk.specs.Machine.{Machine}
-use Rattle.tlv_walk.specs.Tells.{Continues, TellsStep}
+use Rattle.tlv_walk.specs.Private.Tells.{Continues, TellsStep}
 
 -- a reader of the header that begins where the walker stands
 pub record BeginsAt (w : Machine) (r : Progress) : Type 0 where

@@ -1,0 +1,9 @@
+pub mod CheckStep
+pub mod Conditions
+pub mod DumpStep
+pub mod Dumped
+pub mod FinderState
+pub mod Found
+pub mod Items
+pub mod Lines
+pub mod Site

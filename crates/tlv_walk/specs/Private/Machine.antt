@@ -1,0 +1,105 @@
+-- What the walker's own functions ask for and answer.
+use Rattle.std.specs.Prelude.{◌≡◌, ◌≢◌, ◌⊎◌, ℕ, ◌+◌, ◌^◌, ◌<◌, ◌≤◌, Bool, true, false, not, ◌||◌, eqb, if◌then◌else◌, slice_get, List, [], ◌∷◌, length, Option, Some, None}
+use Rattle.std.specs.Option.{option_map_or}
+use Rattle.tlv_head.specs.declared.fault.Fault.{Fault as FaultOf}
+use Rattle.tlv_head.specs.declared.fault.FaultCode.{FaultCode}
+use Rattle.tlv_head.specs.Header.{Heading, IsHeading, announced, definite_length, holds, is_wrapper, octets_of}
+use Rattle.tlv_head.specs.Progress.{Progress}
+use Rattle.tlv_walk.specs.declared.event.Event.{Event}
+use Rattle.tlv_walk.specs.declared.event.Event.TheVariants as event
+use Rattle.tlv_walk.specs.declared.event.Step.{Step}
+use Rattle.tlv_walk.specs.declared.event.Step.TheVariants as step
+use Rattle.tlv_walk.specs.declared.event.Kind.{Kind}
+use Rattle.tlv_walk.specs.declared.event.Kind.TheVariants as kind
+use Rattle.tlv_head.specs.declared.header.HeaderFields.{HeaderFields}
+use Rattle.tlv_head.specs.declared.header.Size.{Size}
+use Rattle.tlv_walk.specs.declared.framing.Framing.{Framing}
+use Rattle.tlv_walk.specs.declared.stack.Frame.{Frame}
+use Rattle.tlv_walk.specs.Phase.{Phase, Between, InHeader, InContents, BeforeUnused, InEnd, Failed}
+use Rattle.tlv_walk.specs.Stack.{IsFilled, IsInIndefinite, IsInWrapper, IsNested, Within, bound_of}
+use Rattle.tlv_walk.specs.Private.Stack.{room_of}
+use Rattle.tlv_walk.specs.Machine.{Machine, new_machine, IsInHeader, IsPhase, IsMachine, IsReadyIn, IsReady, IsTold, TellsOne, TakesAll, Refuses, HasOctets, Steps, next_wrapper, found_in, unused_in, bound_in, frame_with}
+
+-- an event is to come that needs no further octet
+abbrev pub IsWaitingIn : Phase → List Frame → ℕ → Type 0
+IsWaitingIn Between stack offset = IsFilled stack offset
+IsWaitingIn (InHeader r) stack offset = ⊥
+IsWaitingIn (InContents left) stack offset = left ≡ 0
+IsWaitingIn BeforeUnused stack offset = ⊥
+IsWaitingIn InEnd stack offset = ⊥
+IsWaitingIn (Failed fault) stack offset = ⊥
+
+abbrev pub IsWaiting : Machine → Type 0
+IsWaiting w = IsWaitingIn w.phase w.stack w.offset
+
+-- an event was told, and the walker stands at this offset
+pub record Tells (old new : Machine) (at : ℕ) : Type 0 where
+  pub offset : new.offset ≡ at
+  pub events : new.events ≡ old.events + 1
+  pub within : new.events ≤ new.offset
+  pub told : IsTold new.phase
+
+-- a header begins with the piece, inside the bound
+pub record CanBegin (w : Machine) (piece : List ℕ) : Type 0 where
+  pub phase : w.phase ≡ Between
+  pub first : ℕ
+  pub rest : List ℕ
+  pub octets : piece ≡ first ∷ rest
+  pub nonzero : first ≢ 0
+  pub room : room_of w.stack w.offset ≢ Some 0
+
+-- a header has begun
+abbrev pub IsHeader : Phase → Type 0
+IsHeader Between = ⊥
+IsHeader (InHeader r) = Unit {0}
+IsHeader (InContents left) = ⊥
+IsHeader BeforeUnused = ⊥
+IsHeader InEnd = ⊥
+IsHeader (Failed fault) = ⊥
+
+-- the piece begins with octets of a header
+abbrev pub CanRead : Machine → List ℕ → Type 0
+CanRead w piece = CanBegin w piece ⊎ (IsHeader w.phase × (piece ≢ []))
+
+-- the walker stands behind the octets that the reader has; if those are none, a header begins with the piece
+pub record CanReadOn (w : Machine) (r : Progress) (piece : List ℕ) : Type 0 where
+  pub unfinished : r.done ≡ false
+  pub place : r.offset + length r.octets ≡ w.offset
+  pub fewer : w.events + length w.stack ≤ r.offset
+  pub first : (r.octets ≢ []) ⊎ CanBegin w piece
+
+-- what an event that came at once took from the front of a piece; nothing, where none came
+abbrev pub StepsAtOnce : Machine → Machine → List ℕ → List ℕ → Option Event → Type 0
+StepsAtOnce old new before after (Some e) = TellsOne old new before after × HasOctets e
+StepsAtOnce old new before after None = (new ≡ old) × (after ≡ before)
+
+-- a header that may stand there, and of which the walker has taken a part at most
+pub record CanEnter (w : Machine) (h : Heading) : Type 0 where
+  pub valid : IsHeading h
+  pub fewer : w.events + length w.stack ≤ h.offset
+  pub limit : h.offset + length (octets_of h) ≤ 2 ^ 40
+  pub shallow : holds h ≡ true → length w.stack < 128
+  pub fits : Within (bound_of w.stack) (h.offset + length (octets_of h) + announced h.size)
+
+abbrev pub fault_at : FaultCode → ℕ → FaultOf
+fault_at code offset = record { code = code; offset = offset }
+
+-- behind a whole header
+abbrev pub behind_header : Machine → Phase → ℕ → Machine
+behind_header w phase at = record w { phase = phase; offset = at; events = w.events + 1; has_element = true }
+
+-- where a walker stands behind a header
+abbrev pub Enters : Machine → Machine → HeaderFields → ℕ → Kind → Type 0
+Enters old new f at kind.Primitive =
+    ((f.constructed || is_wrapper f.named f.class f.constructed f.number f.size) ≡ false)
+    × (new ≡ behind_header old (InContents (announced f.size)) at)
+Enters old new f at kind.Constructed =
+    (f.constructed ≡ true)
+    × (new ≡ record (behind_header old Between at) { stack = frame_with at (bound_of old.stack) f.size f.constructed ∷ old.stack })
+Enters old new f at kind.Wrapper =
+    (f.constructed ≡ false)
+    × (is_wrapper f.named f.class f.constructed f.number f.size ≡ true)
+    × (new ≡ record (behind_header old (if eqb f.number 3 then BeforeUnused else Between) at) {
+      stack = frame_with at (bound_of old.stack) f.size f.constructed ∷ old.stack;
+      wrappers = next_wrapper old.framing.inside old.wrappers f.offset;
+    })
