@@ -1,16 +1,11 @@
 -- What a `HeadReader` carries of the octets so far.
-use Rattle.std.specs.Prelude.{◌≡◌, ◌≢◌, ℕ, ◌+◌, ◌^◌, ◌-◌, ◌<◌, ◌≤◌, Bool, true, false, List, [], ◌∷◌, ◌++◌, length, take, All}
+use Rattle.std.specs.Prelude.{◌≡◌, ℕ, ◌+◌, ◌^◌, ◌-◌, ◌<◌, ◌≤◌, Bool, true, false, List, [], ◌∷◌, ◌++◌, length, All}
 use Rattle.tlv_head.specs.declared.header.Class.{Class}
-use Rattle.tlv_head.specs.declared.header.Size.{Size}
-use Rattle.tlv_head.specs.Header.{IsIdentifier, IsLength, flagged, leading_octet, value_of}
-use Rattle.tlv_head.specs.Private.Header.{AllowsSize}
+use Rattle.tlv_head.specs.Header.{IsIdentifier, flagged, leading_octet, value_of}
 use Rattle.tlv_head.specs.Progress.{Progress}
-use Rattle.tlv_head.specs.Refusal.{IsRefusedOctet}
 use Rattle.tlv_head.specs.declared.reader.Identifier.{Identifier}
 use Rattle.tlv_head.specs.declared.reader.Part.{Part}
 use Rattle.tlv_head.specs.declared.reader.Part.TheVariants.{Start, Number, Length, Digits, Done}
-use Rattle.tlv_head.specs.declared.reader.Next.{Next}
-use Rattle.tlv_head.specs.declared.reader.Next.TheVariants.{Unfinished, Finished, Refused}
 use Rattle.tlv_head.specs.declared.reader.HeadReader.TheInside.{Inside}
 
 -- 8.1.2.4.2: the high form so far: digits, each with bit 8 set, behind the first octet

@@ -1,5 +1,5 @@
 -- What a check makes of events.
-use Rattle.std.specs.Prelude.{ℕ, Bool, if◌then◌else◌, List, [], ◌∷◌, None, flat_map}
+use Rattle.std.specs.Prelude.{ℕ, List, [], ◌∷◌, None, flat_map}
 use Rattle.tlv_value.specs.declared.finding.Finding.{Finding}
 use Rattle.tlv_walk.specs.declared.follow.Go.TheVariants.{On}
 use Rattle.tlv_walk.specs.Events.{Told, Open, Begin, Bytes, End, Close, Enter, Unused, Leave, Pad}

@@ -1,6 +1,6 @@
 -- What is kept of elements so that what is found in them can be told event by event, and what is told. Nothing here is to be
 -- believed: `Items` has what is told, and a law has that it is the same.
-use Rattle.std.specs.Prelude.{ℕ, ◌≡◌, ◌+◌, ◌-◌, ◌^◌, Bool, true, false, ◌&&◌, ◌||◌, not, ◌==◌, nat_le, nat_lt, if◌then◌else◌, List, [], ◌∷◌, ◌++◌, length, max, min, take, Option, Some, None}
+use Rattle.std.specs.Prelude.{ℕ, ◌+◌, ◌-◌, ◌^◌, Bool, true, false, ◌&&◌, ◌||◌, not, ◌==◌, nat_le, nat_lt, if◌then◌else◌, List, [], ◌∷◌, ◌++◌, length, max, min, take, Option, Some, None}
 use Rattle.std.specs.List.{filter}
 use Rattle.tlv_head.specs.Header.{Heading, announced}
 use Rattle.tlv_value.specs.declared.finding.Finding.{Finding}
@@ -8,7 +8,6 @@ use Rattle.tlv_value.specs.declared.finding.Finding.TheVariants.{B01, B02, B03, 
 use Rattle.tlv_value.specs.CheckNotes.{where_it}
 use Rattle.tlv_value.specs.CheckState.{CheckState, checked, found_in, has_unused, unchecked}
 use Rattle.tlv_value.specs.Types.{bit_string, constructed_types, has_segments, is_a, is_one_of, is_primitive, is_string, is_unassigned, octet_string, primitive_types}
-use Rattle.tlv_walk.specs.Events.{Told, Open, Begin, Bytes, End, Close, Enter, Unused, Leave, Pad}
 use Rattle.tlv_walk.specs.Place.{is_indefinite}
 use Rattle.tlv_show.specs.declared.frames.Frame.{Frame}
 use Rattle.tlv_show.specs.declared.rules.Rules.{Rules}

@@ -7,7 +7,7 @@ use Rattle.tlv_value.specs.Checks.{contents_findings as found_on_contents, held}
 use Rattle.tlv_value.specs.Finding.{code_of}
 use Rattle.tlv_show.specs.declared.rules.Rules.{Rules}
 use Rattle.tlv_show.specs.declared.rules.Rules.TheVariants.{Ber, Der, Cer}
-use Rattle.tlv_show.specs.Conditions.{end_conditions, header_conditions}
+use Rattle.tlv_show.specs.Conditions.{header_conditions}
 use Rattle.tlv_show.specs.Site.{Site}
 
 -- the letters of the codes: B is of all encodings, S of those by DER and those by CER, D and C of one of them

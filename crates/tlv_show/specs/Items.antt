@@ -8,8 +8,7 @@ use Rattle.tlv_walk.specs.Forest.{Forest, Fill, Whole, Closed, Partial, Entered,
 use Rattle.tlv_show.specs.declared.rules.Rules.{Rules}
 use Rattle.tlv_show.specs.Conditions.{end_conditions, header_conditions}
 use Rattle.tlv_show.specs.DumpText.{end_place}
-use Rattle.tlv_show.specs.Found.{contents_findings, header_findings, shows}
-use Rattle.tlv_show.specs.Private.Found.{end_findings}
+use Rattle.tlv_show.specs.Found.{shows}
 use Rattle.tlv_show.specs.Site.{Site, behind, behind_holder, behind_padding, inside_of, is_padding}
 
 -- an item, with its level: how many elements hold what it is about

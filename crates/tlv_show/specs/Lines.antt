@@ -1,5 +1,5 @@
 -- Parts of the lines of a dump. The lines of all items stand in `Texts`.
-use Rattle.std.specs.Prelude.{ℕ, if◌then◌else◌, List, ◌++◌, Option, codes, decimal}
+use Rattle.std.specs.Prelude.{ℕ, List, ◌++◌, Option, codes, decimal}
 use Rattle.std.specs.Option.{option_map_or}
 use Rattle.tlv_head.specs.declared.header.Size.{Size}
 use Rattle.tlv_head.specs.declared.header.Size.TheVariants.{Definite, Indefinite}

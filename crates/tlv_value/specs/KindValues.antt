@@ -1,15 +1,13 @@
 -- The values of contents kind by kind, as private functions write them.
-use Rattle.std.specs.Prelude.{ℕ, ◌+◌, ◌-◌, Bool, true, false, ◌&&◌, ◌||◌, not, eqb, nat_le, nat_lt, if◌then◌else◌, List, [], ◌∷◌, ◌++◌, length, map, Option, codes}
+use Rattle.std.specs.Prelude.{ℕ, ◌-◌, Bool, true, false, ◌&&◌, ◌||◌, not, eqb, nat_le, nat_lt, if◌then◌else◌, List, [], ◌∷◌, ◌++◌, length, Option, codes}
 use Rattle.std.specs.Fmt.{signed_decimal}
-use Rattle.std.specs.List.{join_by}
 use Rattle.std.specs.Option.{option_map_or}
-use Rattle.hex.specs.Hex.{encode_lower}
 use Rattle.tlv_value.specs.declared.kind.Kind.{Kind}
-use Rattle.tlv_value.specs.declared.kind.Kind.TheVariants.{Octets, Boolean, Integer, Bits, Object, Relative, Text, Utf8, Ucs2, Ucs4}
+use Rattle.tlv_value.specs.declared.kind.Kind.TheVariants.{Octets, Boolean, Integer, Bits, Object, Relative}
 use Rattle.tlv_value.specs.Arcs.{dotted_text}
 use Rattle.tlv_value.specs.Number.{twos_complement}
 use Rattle.tlv_value.specs.Units.{quoted}
-use Rattle.tlv_value.specs.Value.{NameOf, Value, bit_count, most_held, no_names, octets_value, shown_with, spaced_pairs, used_digits}
+use Rattle.tlv_value.specs.Value.{NameOf, Value, bit_count, most_held, no_names, octets_value, shown_with, used_digits}
 
 -- 8.2.2: FALSE is zero
 abbrev pub boolean_value : List ℕ → Value

@@ -1,18 +1,8 @@
 -- The table that names hold, by the map that the code keeps.
-use Rattle.std.specs.Prelude.{◌≡◌, ℕ, ◌+◌, ◌<◌, ◌≤◌, true, false, List, length, map, Option, Some, None, Result, Ok, Err, Vec}
-use Rattle.std.specs.Option.{option_map}
-use Rattle.std.specs.Result.{IsOk, IsErrOf}
-use Rattle.std.specs.Ordering.{nat_cmp}
-use Rattle.std.specs.Cmp.Lexicographic.{slice_cmp}
+use Rattle.std.specs.Prelude.{ℕ, List, map, Option, Some, None, Vec}
 use Rattle.std.specs.FinMap as finite
-use Rattle.std.specs.Borrow.{Bor}
 use Rattle.std.specs.BTreeMap.{BTreeMap}
-use Rattle.std.specs.Io.KnownBytes.{IsAtEnd}
-use Rattle.tlv_walk.specs.Device.{Pieces, Supply, failed, gave, given_in}
-use Rattle.tlv_value.specs.Names.{Entry, Line, nothing, named, no_oid, no_name, too_long, Table, is_among, names_of}
-use Rattle.tlv_value.specs.NamesReading.{IsTooLong, failures_of}
-use Rattle.tlv_value.specs.declared.names.fault.NamesFault.{NamesFault}
-use Rattle.tlv_value.specs.declared.names.fault.NamesFault.TheVariants.{BadOid, BadName, Repeated, TooLarge, ReadFailed, Memory}
+use Rattle.tlv_value.specs.Names.{Entry, Table}
 
 -- the texts that a map holds
 abbrev pub texts_in : {Z : Type 0} → BTreeMap (Vec ℕ Z) (Vec ℕ Z) → List Entry

@@ -1,23 +1,18 @@
 -- What contracts see of a `Walker`: the state of a machine that takes octets and tells events.
-use Rattle.std.specs.Prelude.{◌≡◌, ◌≢◌, ◌⊎◌, ℕ, ◌+◌, ◌^◌, ◌<◌, ◌≤◌, Bool, true, false, not, ◌||◌, eqb, if◌then◌else◌, slice_get, List, [], ◌∷◌, length, Option, Some, None}
+use Rattle.std.specs.Prelude.{◌≡◌, ◌≢◌, ℕ, ◌+◌, ◌^◌, ◌≤◌, Bool, false, not, eqb, if◌then◌else◌, slice_get, List, [], ◌∷◌, length, Option, Some, None}
 use Rattle.std.specs.Option.{option_map_or}
 use Rattle.tlv_head.specs.declared.fault.Fault.{Fault as FaultOf}
-use Rattle.tlv_head.specs.declared.fault.FaultCode.{FaultCode}
-use Rattle.tlv_head.specs.Header.{Heading, IsHeading, announced, definite_length, holds, is_wrapper, octets_of}
+use Rattle.tlv_head.specs.Header.{definite_length}
 use Rattle.tlv_head.specs.Progress.{Progress}
 use Rattle.tlv_walk.specs.declared.event.Event.{Event}
 use Rattle.tlv_walk.specs.declared.event.Event.TheVariants as event
 use Rattle.tlv_walk.specs.declared.event.Step.{Step}
 use Rattle.tlv_walk.specs.declared.event.Step.TheVariants as step
-use Rattle.tlv_walk.specs.declared.event.Kind.{Kind}
-use Rattle.tlv_walk.specs.declared.event.Kind.TheVariants as kind
-use Rattle.tlv_head.specs.declared.header.HeaderFields.{HeaderFields}
 use Rattle.tlv_head.specs.declared.header.Size.{Size}
 use Rattle.tlv_walk.specs.declared.framing.Framing.{Framing}
 use Rattle.tlv_walk.specs.declared.stack.Frame.{Frame}
 use Rattle.tlv_walk.specs.Phase.{Phase, Between, InHeader, InContents, BeforeUnused, InEnd, Failed}
 use Rattle.tlv_walk.specs.Stack.{IsFilled, IsInIndefinite, IsInWrapper, IsNested, Within, bound_of}
-use Rattle.tlv_walk.specs.Private.Stack.{room_of}
 
 pub record Machine : Type 0 where
   -- the open elements, innermost first

@@ -1,5 +1,5 @@
 -- The open elements that hold others, innermost first.
-use Rattle.std.specs.Prelude.{◌≡◌, ℕ, ◌-◌, ◌≤◌, true, List, [], ◌∷◌, Option, Some, None, IfSome}
+use Rattle.std.specs.Prelude.{◌≡◌, ℕ, ◌≤◌, true, List, [], ◌∷◌, Option, Some, None, IfSome}
 use Rattle.tlv_walk.specs.declared.stack.Frame.{Frame}
 
 -- the end of the innermost definite element

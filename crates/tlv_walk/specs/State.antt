@@ -12,7 +12,7 @@ use Rattle.tlv_walk.specs.Inside.{CanName, is_among}
 use Rattle.tlv_walk.specs.Machine.{Machine, found_in, frame_with}
 use Rattle.tlv_walk.specs.Place.{Fits, IsEntry, IsHeadAt, IsOpen, Place, after, inside_of, top}
 use Rattle.tlv_walk.specs.Reading.{IsReading}
-use Rattle.tlv_walk.specs.Wrappers.{enters, wrapper_at, wrappers}
+use Rattle.tlv_walk.specs.Wrappers.{enters}
 
 -- an open element that holds others, and the whole elements before it in the element around it
 pub record Layer : Type 0 where

@@ -1,5 +1,5 @@
 -- What a walker's steps tell.
-use Rattle.std.specs.Prelude.{◌≡◌, ◌⊎◌, ℕ, List, [], ◌∷◌, ◌++◌, length, Option, Some, None}
+use Rattle.std.specs.Prelude.{◌≡◌, ◌⊎◌, ℕ, List, [], ◌∷◌, ◌++◌, length}
 use Rattle.tlv_head.specs.declared.fault.Fault.{Fault}
 use Rattle.tlv_walk.specs.declared.ending.Ending.{Ending}
 use Rattle.tlv_walk.specs.declared.ending.Ending.TheVariants as ending
@@ -11,13 +11,12 @@ use Rattle.tlv_walk.specs.declared.event.Step.TheVariants as step
 use Rattle.tlv_walk.specs.Phase.{Failed}
 use Rattle.tlv_walk.specs.Ending.{IsEnding}
 use Rattle.tlv_walk.specs.Events.{AreEqualJoined, Told, events, Open, Begin, Bytes, End, Close, Enter, Unused, Leave, Pad}
-use Rattle.tlv_walk.specs.Machine.{Machine, found_in, unused_in}
-use Rattle.tlv_walk.specs.Private.Machine.{IsWaiting}
+use Rattle.tlv_walk.specs.Machine.{Machine, unused_in}
 use Rattle.tlv_walk.specs.OpenCount.{open_count}
-use Rattle.tlv_walk.specs.State.{HasState, NothingWaits, Stands, State}
+use Rattle.tlv_walk.specs.State.{NothingWaits, Stands}
 use Rattle.tlv_walk.specs.Forest.{Forest, spell}
 use Rattle.tlv_walk.specs.Reading.{IsReading}
-use Rattle.tlv_walk.specs.Wrappers.{enters, unused_of}
+use Rattle.tlv_walk.specs.Wrappers.{unused_of}
 
 -- an event, apart from where its octets lie in memory
 abbrev pub told_of : Event → Told

@@ -5,7 +5,6 @@ use Rattle.std.specs.Str.{bytes_eq}
 use Rattle.clap.specs.Faults.{fault_of}
 use Rattle.clap.specs.Kinds.{IsAmong}
 use Rattle.clap.specs.Words.{Row, first_of, kind_of, subcommand_of}
-use Rattle.clap.specs.declared.error.Error.{Error}
 use Rattle.clap.specs.declared.error.kind.ErrorKind.TheVariants.{OutOfMemory}
 use Rattle.tlv_show.specs.declared.rules.Rules.{Rules}
 use Rattle.tlv_show.specs.declared.rules.Rules.TheVariants.{Ber, Der}

@@ -1,9 +1,7 @@
 -- The command line: which words `clap` is told to take. Each value is a text to it.
-use Rattle.std.specs.Prelude.{◌≡◌, Some, codes, false, true}
-use Rattle.clap.specs.Words.{App, Rule, Shape, Text, app_of, new_app, new_rule, with_rule, with_subcommand}
+use Rattle.std.specs.Prelude.{Some, codes, true}
+use Rattle.clap.specs.Words.{App, Rule, Shape, Text, new_app, new_rule, with_rule, with_subcommand}
 use Rattle.clap.specs.Simple.{on_top}
-use Rattle.clap.specs.declared.builder.command.Command.{Command}
-use Rattle.clap.specs.declared.builder.command.Command.TheViews.{out-Command as fields_of}
 use Rattle.clap.specs.declared.builder.action.ArgAction.TheVariants.{Help, Set, SetTrue, Version}
 
 -- `--name VALUE`

@@ -1,18 +1,14 @@
 -- What the steps of a `HeadReader` answer.
-use Rattle.std.specs.Prelude.{◌≡◌, ◌≢◌, ℕ, ◌+◌, ◌^◌, ◌-◌, ◌<◌, ◌≤◌, Bool, true, false, List, [], ◌∷◌, ◌++◌, length, take, All}
+use Rattle.std.specs.Prelude.{◌≡◌, ◌≢◌, ℕ, ◌≤◌, Bool, List, [], ◌∷◌, ◌++◌, length, take}
 use Rattle.tlv_head.specs.declared.header.Class.{Class}
 use Rattle.tlv_head.specs.declared.header.Size.{Size}
-use Rattle.tlv_head.specs.Header.{IsIdentifier, IsLength, flagged, leading_octet, value_of}
+use Rattle.tlv_head.specs.Header.{IsIdentifier, IsLength}
 use Rattle.tlv_head.specs.Private.Header.{AllowsSize}
-use Rattle.tlv_head.specs.Progress.{Progress}
 use Rattle.tlv_head.specs.Refusal.{IsRefusedOctet}
 use Rattle.tlv_head.specs.declared.reader.Identifier.{Identifier}
-use Rattle.tlv_head.specs.declared.reader.Part.{Part}
-use Rattle.tlv_head.specs.declared.reader.Part.TheVariants.{Start, Number, Length, Digits, Done}
 use Rattle.tlv_head.specs.declared.reader.Next.{Next}
 use Rattle.tlv_head.specs.declared.reader.Next.TheVariants.{Unfinished, Finished, Refused}
-use Rattle.tlv_head.specs.declared.reader.HeadReader.TheInside.{Inside}
-use Rattle.tlv_head.specs.Part.{IsNumberFront, IsLengthFront, CarriesNumber, CarriesIdentifier, CarriesLength, Carries, is_done, progress_of}
+use Rattle.tlv_head.specs.Part.{CarriesIdentifier, Carries}
 
 -- the octets are a header with these fields
 pub record MakesHeader (id : Identifier) (size : Size) (octets : List ℕ) : Type 0 where

@@ -1,20 +1,9 @@
 -- What a `Finder` makes of an event, and what it answers.
-use Rattle.std.specs.Prelude.{ℕ, ◌≡◌, ◌+◌, ◌-◌, ◌^◌, Bool, true, false, ◌&&◌, ◌||◌, not, ◌==◌, nat_le, nat_lt, if◌then◌else◌, List, [], ◌∷◌, ◌++◌, length, max, min, take, Option, Some, None}
-use Rattle.std.specs.List.{filter}
-use Rattle.tlv_head.specs.Header.{Heading, announced}
-use Rattle.tlv_value.specs.declared.finding.Finding.{Finding}
-use Rattle.tlv_value.specs.declared.finding.Finding.TheVariants.{B01, B02, B03, B04, B05, B16, B17, S01, D01, D02, C01, C02, C03, C04, C05, C06}
-use Rattle.tlv_value.specs.CheckNotes.{where_it}
-use Rattle.tlv_value.specs.CheckState.{CheckState, checked, found_in, has_unused, unchecked}
-use Rattle.tlv_value.specs.Types.{bit_string, constructed_types, has_segments, is_a, is_one_of, is_primitive, is_string, is_unassigned, octet_string, primitive_types}
+use Rattle.std.specs.Prelude.{ℕ, ◌≡◌, Bool, true, false, if◌then◌else◌, List, [], ◌∷◌, Option, Some, None}
+use Rattle.tlv_value.specs.CheckState.{CheckState}
 use Rattle.tlv_walk.specs.Events.{Told, Open, Begin, Bytes, End, Close, Enter, Unused, Leave, Pad}
-use Rattle.tlv_walk.specs.Place.{is_indefinite}
 use Rattle.tlv_show.specs.declared.frames.Frame.{Frame}
-use Rattle.tlv_show.specs.declared.rules.Rules.{Rules}
-use Rattle.tlv_show.specs.declared.rules.Rules.TheVariants.{Ber, Der, Cer}
-use Rattle.tlv_show.specs.Conditions.{first_length, has_high_form, has_long_form, leading_bits}
-use Rattle.tlv_show.specs.Found.{shows}
-use Rattle.tlv_show.specs.FinderState.{top_frame, frame_of, segment_noted, noted, basic_notes, length_notes, der_notes, cer_notes, header_notes, end_notes, OpenValue, FinderState, no_findings, Finds, count_up, finds, finds_nothing, entered_in, find_open, begun_in, find_begin, checked_by, find_bytes, contents_notes, ended_by, find_end, closed_by, find_close}
+use Rattle.tlv_show.specs.FinderState.{OpenValue, FinderState, Finds, finds_nothing, find_open, find_begin, find_bytes, find_end, find_close}
 
 abbrev pub innermost_of : List Frame → Option Frame
 innermost_of [] = None

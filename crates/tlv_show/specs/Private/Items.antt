@@ -1,16 +1,13 @@
 -- What is told in an element, as proofs say it.
-use Rattle.std.specs.Prelude.{ℕ, Bool, if◌then◌else◌, List, [], ◌∷◌, ◌++◌, filter, map, Option}
+use Rattle.std.specs.Prelude.{ℕ, List, map}
 use Rattle.tlv_head.specs.Header.{Heading}
 use Rattle.tlv_value.specs.declared.finding.Finding.{Finding}
-use Rattle.tlv_value.specs.Checks.{contents_conditions, held}
-use Rattle.tlv_walk.specs.Forest.{Forest, Fill, Whole, Closed, Partial, Entered, Awaiting}
+use Rattle.tlv_walk.specs.Forest.{Forest}
 use Rattle.tlv_show.specs.declared.rules.Rules.{Rules}
-use Rattle.tlv_show.specs.Conditions.{end_conditions, header_conditions}
-use Rattle.tlv_show.specs.DumpText.{end_place}
-use Rattle.tlv_show.specs.Found.{contents_findings, header_findings, shows}
+use Rattle.tlv_show.specs.Found.{contents_findings, header_findings}
 use Rattle.tlv_show.specs.Private.Found.{end_findings}
-use Rattle.tlv_show.specs.Site.{Site, behind, behind_holder, behind_padding, inside_of, is_padding}
-use Rattle.tlv_show.specs.Items.{Item, heads, told, items, FindingAt, OpeningLine, ClosingLine, WholePrimitive, OpenPrimitive, PaddingLine}
+use Rattle.tlv_show.specs.Site.{Site}
+use Rattle.tlv_show.specs.Items.{Item, heads, FindingAt}
 
 abbrev pub findings_at : ℕ → ℕ → List Finding → List Item
 findings_at level at findings = map (FindingAt level at) findings

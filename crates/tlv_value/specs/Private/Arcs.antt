@@ -1,8 +1,6 @@
 -- Words of object identifiers that private functions and proofs use.
-use Rattle.std.specs.Prelude.{ℕ, ◌-◌, ◌%◌, ◌^◌, Bool, true, false, ◌&&◌, nat_lt, nat_le, if◌then◌else◌, List, [], ◌∷◌, ◌++◌, length, map, flat_map, slice_index, Option, Some, None, codes, decimal}
-use Rattle.std.specs.List.{join_by, list_all, onto_first}
-use Rattle.tlv_head.specs.Header.{value_of}
-use Rattle.tlv_value.specs.Arcs.{parts_of, subidentifier, subidentifiers, arcs_of, is_finished, dotted_text}
+use Rattle.std.specs.Prelude.{ℕ, ◌-◌, Bool, true, false, nat_lt, if◌then◌else◌, List, [], ◌∷◌, ◌++◌, flat_map, codes, decimal}
+use Rattle.std.specs.List.{join_by, list_all}
 
 abbrev pub all_below : ℕ → List ℕ → Bool
 all_below bound vs = list_all (λ v. nat_lt v bound) vs

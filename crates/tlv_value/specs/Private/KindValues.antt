@@ -1,16 +1,12 @@
 -- Words of values that private functions and proofs use.
-use Rattle.std.specs.Prelude.{ℕ, ◌+◌, ◌-◌, Bool, true, false, ◌&&◌, ◌||◌, not, eqb, nat_le, nat_lt, if◌then◌else◌, List, [], ◌∷◌, ◌++◌, length, map, Option, codes}
-use Rattle.std.specs.Fmt.{signed_decimal}
+use Rattle.std.specs.Prelude.{ℕ, ◌+◌, List, [], ◌∷◌, map, codes}
 use Rattle.std.specs.List.{join_by}
-use Rattle.std.specs.Option.{option_map_or}
 use Rattle.hex.specs.Hex.{encode_lower}
 use Rattle.tlv_value.specs.declared.kind.Kind.{Kind}
-use Rattle.tlv_value.specs.declared.kind.Kind.TheVariants.{Octets, Boolean, Integer, Bits, Object, Relative, Text, Utf8, Ucs2, Ucs4}
-use Rattle.tlv_value.specs.Arcs.{dotted_text}
-use Rattle.tlv_value.specs.Number.{twos_complement}
+use Rattle.tlv_value.specs.declared.kind.Kind.TheVariants.{Boolean, Integer, Bits, Text, Utf8, Ucs2, Ucs4}
 use Rattle.tlv_value.specs.Units.{quoted}
-use Rattle.tlv_value.specs.Value.{NameOf, Value, bit_count, most_held, no_names, octets_value, shown_with, spaced_pairs, used_digits}
-use Rattle.tlv_value.specs.KindValues.{boolean_value, integer_value, is_readable, bits_value, name_text, object_text, is_long, kind_value, long_text, in_rows}
+use Rattle.tlv_value.specs.Value.{spaced_pairs}
+use Rattle.tlv_value.specs.KindValues.{boolean_value, integer_value, bits_value}
 
 -- bits as digits
 abbrev pub digits_of : List ℕ → List ℕ

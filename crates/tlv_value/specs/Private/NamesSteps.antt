@@ -1,5 +1,5 @@
 -- What the steps of reading a names file answer.
-use Rattle.std.specs.Prelude.{◌≡◌, ℕ, ◌+◌, ◌<◌, ◌≤◌, true, false, List, length, map, Option, Some, None, Result, Ok, Err, Vec}
+use Rattle.std.specs.Prelude.{◌≡◌, ℕ, ◌+◌, ◌<◌, ◌≤◌, true, false, List, length, Option, Some, None, Result, Ok, Err, Vec}
 use Rattle.std.specs.Option.{option_map}
 use Rattle.std.specs.Result.{IsOk, IsErrOf}
 use Rattle.std.specs.Ordering.{nat_cmp}
@@ -13,7 +13,7 @@ use Rattle.tlv_value.specs.Names.{Entry, Line, nothing, named, no_oid, no_name, 
 use Rattle.tlv_value.specs.NamesReading.{IsTooLong, failures_of}
 use Rattle.tlv_value.specs.declared.names.fault.NamesFault.{NamesFault}
 use Rattle.tlv_value.specs.declared.names.fault.NamesFault.TheVariants.{BadOid, BadName, Repeated, TooLarge, ReadFailed, Memory}
-use Rattle.tlv_value.specs.NamesSteps.{texts_in, table_in, names_in}
+use Rattle.tlv_value.specs.NamesSteps.{texts_in, table_in}
 
 abbrev pub texts_of : Result (Option (Bor (List ℕ) × Bor (List ℕ))) NamesFault → Result (Option Entry) NamesFault
 texts_of (Ok pair) = Ok (option_map (λ p. (p.0.now, p.1.now)) pair)

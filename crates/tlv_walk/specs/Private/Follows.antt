@@ -8,7 +8,7 @@ use Rattle.tlv_walk.specs.declared.framing.Framing.{Framing}
 use Rattle.tlv_walk.specs.declared.turning.Stop.{Stop}
 use Rattle.tlv_walk.specs.declared.turning.Stop.TheVariants as stop
 use Rattle.tlv_walk.specs.Events.{AreEqualJoined, Told, events}
-use Rattle.tlv_walk.specs.Follow.{Following, followed, followed_events}
+use Rattle.tlv_walk.specs.Follow.{Following, followed}
 use Rattle.tlv_walk.specs.Forest.{Forest}
 use Rattle.tlv_walk.specs.Machine.{IsTold, Machine, unused_in}
 use Rattle.tlv_walk.specs.Reading.{IsReading}

@@ -1,24 +1,18 @@
 -- What the walker's own functions ask for and answer.
-use Rattle.std.specs.Prelude.{◌≡◌, ◌≢◌, ◌⊎◌, ℕ, ◌+◌, ◌^◌, ◌<◌, ◌≤◌, Bool, true, false, not, ◌||◌, eqb, if◌then◌else◌, slice_get, List, [], ◌∷◌, length, Option, Some, None}
-use Rattle.std.specs.Option.{option_map_or}
+use Rattle.std.specs.Prelude.{◌≡◌, ◌≢◌, ◌⊎◌, ℕ, ◌+◌, ◌^◌, ◌<◌, ◌≤◌, true, false, ◌||◌, eqb, if◌then◌else◌, List, [], ◌∷◌, length, Option, Some, None}
 use Rattle.tlv_head.specs.declared.fault.Fault.{Fault as FaultOf}
 use Rattle.tlv_head.specs.declared.fault.FaultCode.{FaultCode}
-use Rattle.tlv_head.specs.Header.{Heading, IsHeading, announced, definite_length, holds, is_wrapper, octets_of}
+use Rattle.tlv_head.specs.Header.{Heading, IsHeading, announced, holds, is_wrapper, octets_of}
 use Rattle.tlv_head.specs.Progress.{Progress}
 use Rattle.tlv_walk.specs.declared.event.Event.{Event}
-use Rattle.tlv_walk.specs.declared.event.Event.TheVariants as event
-use Rattle.tlv_walk.specs.declared.event.Step.{Step}
-use Rattle.tlv_walk.specs.declared.event.Step.TheVariants as step
 use Rattle.tlv_walk.specs.declared.event.Kind.{Kind}
 use Rattle.tlv_walk.specs.declared.event.Kind.TheVariants as kind
 use Rattle.tlv_head.specs.declared.header.HeaderFields.{HeaderFields}
-use Rattle.tlv_head.specs.declared.header.Size.{Size}
-use Rattle.tlv_walk.specs.declared.framing.Framing.{Framing}
 use Rattle.tlv_walk.specs.declared.stack.Frame.{Frame}
 use Rattle.tlv_walk.specs.Phase.{Phase, Between, InHeader, InContents, BeforeUnused, InEnd, Failed}
-use Rattle.tlv_walk.specs.Stack.{IsFilled, IsInIndefinite, IsInWrapper, IsNested, Within, bound_of}
+use Rattle.tlv_walk.specs.Stack.{IsFilled, Within, bound_of}
 use Rattle.tlv_walk.specs.Private.Stack.{room_of}
-use Rattle.tlv_walk.specs.Machine.{Machine, new_machine, IsInHeader, IsPhase, IsMachine, IsReadyIn, IsReady, IsTold, TellsOne, TakesAll, Refuses, HasOctets, Steps, next_wrapper, found_in, unused_in, bound_in, frame_with}
+use Rattle.tlv_walk.specs.Machine.{Machine, IsTold, TellsOne, HasOctets, next_wrapper, frame_with}
 
 -- an event is to come that needs no further octet
 abbrev pub IsWaitingIn : Phase → List Frame → ℕ → Type 0

@@ -1,7 +1,7 @@
 -- What the functions of a stack answer.
-use Rattle.std.specs.Prelude.{◌≡◌, ℕ, ◌-◌, ◌≤◌, true, List, [], ◌∷◌, Option, Some, None, IfSome}
+use Rattle.std.specs.Prelude.{ℕ, ◌-◌, List, [], ◌∷◌, Option, Some, None}
 use Rattle.tlv_walk.specs.declared.stack.Frame.{Frame}
-use Rattle.tlv_walk.specs.Stack.{bound_of, Within, IsInIndefinite, IsInWrapper, IsFilled, IsBound, IsNested}
+use Rattle.tlv_walk.specs.Stack.{bound_of}
 
 abbrev pub innermost_of : List Frame → Option Frame
 innermost_of [] = None

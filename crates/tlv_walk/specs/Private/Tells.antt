@@ -1,24 +1,18 @@
 -- What the walker's own functions tell.
-use Rattle.std.specs.Prelude.{◌≡◌, ◌⊎◌, ℕ, List, [], ◌∷◌, ◌++◌, length, Option, Some, None}
+use Rattle.std.specs.Prelude.{◌≡◌, ◌⊎◌, ℕ, List, [], ◌∷◌, ◌++◌, Option, Some, None}
 use Rattle.tlv_head.specs.declared.fault.Fault.{Fault}
-use Rattle.tlv_walk.specs.declared.ending.Ending.{Ending}
 use Rattle.tlv_walk.specs.declared.ending.Ending.TheVariants as ending
-use Rattle.tlv_walk.specs.declared.framing.Framing.{Framing}
 use Rattle.tlv_walk.specs.declared.event.Event.{Event}
-use Rattle.tlv_walk.specs.declared.event.Event.TheVariants as event
 use Rattle.tlv_walk.specs.declared.event.Step.{Step}
 use Rattle.tlv_walk.specs.declared.event.Step.TheVariants as step
 use Rattle.tlv_walk.specs.Phase.{Failed}
 use Rattle.tlv_walk.specs.Ending.{IsEnding}
-use Rattle.tlv_walk.specs.Events.{AreEqualJoined, Told, events, Open, Begin, Bytes, End, Close, Enter, Unused, Leave, Pad}
-use Rattle.tlv_walk.specs.Machine.{Machine, found_in, unused_in}
+use Rattle.tlv_walk.specs.Events.{Told}
+use Rattle.tlv_walk.specs.Machine.{Machine, found_in}
 use Rattle.tlv_walk.specs.Private.Machine.{IsWaiting}
-use Rattle.tlv_walk.specs.OpenCount.{open_count}
-use Rattle.tlv_walk.specs.State.{HasState, NothingWaits, Stands, State}
-use Rattle.tlv_walk.specs.Forest.{Forest, spell}
-use Rattle.tlv_walk.specs.Reading.{IsReading}
-use Rattle.tlv_walk.specs.Wrappers.{enters, unused_of}
-use Rattle.tlv_walk.specs.Tells.{told_of, StandsBehind, IsRefusedBehind, StandsRefused, StandsAtEnd, IsRefused, StandsStep}
+use Rattle.tlv_walk.specs.State.{HasState, State}
+use Rattle.tlv_walk.specs.Wrappers.{enters}
+use Rattle.tlv_walk.specs.Tells.{told_of}
 
 -- from whatever state the walker had, it came to one with these octets and events more
 pub record Continues (old new : Machine) (taken : List ℕ) (more : List Told) : Type 0 where

@@ -1,22 +1,13 @@
 -- What is answered of the words that `clap` took, or refused.
-use Rattle.std.specs.Prelude.{◌≡◌, ℕ, Bool, false, List, [], Option, Some, None, Result, Ok, Err, MatchResult, ⊤, codes, if◌then◌else◌}
-use Rattle.std.specs.Option.{option_map_or}
-use Rattle.std.specs.Str.{bytes_eq}
-use Rattle.clap.specs.Faults.{fault_of}
-use Rattle.clap.specs.Kinds.{IsAmong}
-use Rattle.clap.specs.Words.{Row, first_of, kind_of, subcommand_of}
+use Rattle.std.specs.Prelude.{◌≡◌, List, Option, Some, Result, Ok, Err, MatchResult, ⊤}
+use Rattle.clap.specs.Words.{Row, kind_of}
 use Rattle.clap.specs.declared.error.Error.{Error}
 use Rattle.clap.specs.declared.error.kind.ErrorKind.TheVariants.{OutOfMemory}
-use Rattle.tlv_show.specs.declared.rules.Rules.{Rules}
-use Rattle.tlv_show.specs.declared.rules.Rules.TheVariants.{Ber, Der}
-use Rattle.tlv_walk.specs.declared.framing.Framing.{Framing}
-use Rattle.tlvdump.specs.Line.{line_app}
-use Rattle.tlvdump.specs.Values.{Text, inside_of, limit_of, offset_of, rules_of}
+use Rattle.tlvdump.specs.Values.{Text}
 use Rattle.tlvdump.specs.declared.command.Command.{Command}
-use Rattle.tlvdump.specs.declared.command.Command.TheVariants.{Check, Dump, Extract, Indef}
 use Rattle.tlvdump.specs.declared.command.UsageFault.{UsageFault}
 use Rattle.tlvdump.specs.declared.command.UsageFault.TheVariants.{Parser, Value, Memory}
-use Rattle.tlvdump.specs.Commands.{is_given, framing_from, dump_with, dump_from, check_with, check_from, extract_with, extract_from, indef_from, command_from, IsCommandOf, IsUsageFaultOf, Answers, file_of, names_file_of}
+use Rattle.tlvdump.specs.Commands.{command_from}
 
 -- why a result that is none comes to nothing: a value, or memory
 abbrev pub Explains : Result Command Text → UsageFault → Type 0
