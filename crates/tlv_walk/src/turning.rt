@@ -133,7 +133,7 @@ fn follow<F: Follow, D: Drain>(
             None => match walker.quick_event(&mut rest) {
                 Some(event) => follower.on(&event, out)?,
                 None => match walker.step(&mut rest) {
-                    Step::Event(event) => follower.on(&event, out)?,
+                    Step::Event(event) => follow_event(follower, &event, out)?,
                     Step::NeedMore => return Ok(Stop::UsedUp),
                     Step::Fault(fault) => return Ok(Stop::Fault(fault)),
                 },
@@ -143,4 +143,18 @@ fn follow<F: Follow, D: Drain>(
             return Ok(Stop::Enough);
         }
     }
+}
+
+/// Lets the follower follow an event. It stands apart for the events that seldom come, so that the follower is inlined
+/// only where speed counts.
+#[inline(never)]
+fn follow_event<F: Follow, D: Drain>(
+    follower: &mut F,
+    event: &Event<'_>,
+    out: &mut Out<'_, D>,
+) -> Result<Go, WriteFault>
+    ensures puts { Puts D.told out.old out.new (F.next follower.old (told_of event.now)).put result }
+    ensures state { IsFollowed (F.next follower.old (told_of event.now)) follower.new result }
+{
+    follower.on(event, out)
 }

@@ -288,6 +288,13 @@ impl Walker {
         if !matches!(self.phase, Phase::Between) {
             return None;
         }
+        let octets: &'a [u8] = *piece;
+        if let [first, ..] = octets
+            && *first & 0x1f == 0x1f
+        {
+            // No end comes before such an octet unless the innermost element is filled, and then no header fits in it.
+            return self.short_header(piece);
+        }
         if self.stack.is_filled(self.offset) {
             return Some(self.end_filled());
         }
