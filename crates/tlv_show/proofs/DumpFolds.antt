@@ -1,35 +1,37 @@
 -- A dump shows its text, and counts its findings.
-use Rattle.std.proofs.Common.{◌≡◌, ℕ, ◌^◌, ◌≤◌, Bool, true, false, List, [], ◌∷◌, length, refl, ap, ◌∙◌, arith, length-append}
+use Rattle.std.proofs.Common.{◌≡◌, ℕ, ◌^◌, ◌≤◌, List, [], ◌∷◌, length, refl, ap, ◌∙◌, arith, length-append}
 use Rattle.std.specs.Prelude.{None}
 use Rattle.tlv_value.specs.Names.{Table}
 use Rattle.tlv_walk.specs.declared.follow.Go.{Go}
-use Rattle.tlv_walk.specs.Events.{Told, events}
+use Rattle.tlv_walk.specs.Events.{Told, Open, Begin, Bytes, End, Close, Enter, Unused, Leave, Pad, events}
 use Rattle.tlv_walk.specs.Follow.{Following, followed, if_on}
 use Rattle.tlv_walk.specs.Forest.{Forest, spell}
 use Rattle.tlv_walk.specs.Place.{top as place_top}
 use Rattle.tlv_walk.specs.Reading.{IsReading}
 use Rattle.tlv_show.specs.declared.options.Options.{Options}
 use Rattle.tlv_show.specs.Dumps.{dumped_text, top_layout}
-use Rattle.tlv_show.specs.Dumped.{dumped}
 use Rattle.tlv_show.specs.DumpStep.{Showing, dump_step, nothing_shown}
-use Rattle.tlv_show.specs.Private.DumpStep.{is_header}
 use Rattle.tlv_show.specs.FinderState.{FinderState, top_frame}
 use Rattle.tlv_show.specs.Private.FinderState.{find}
 use Rattle.tlv_show.specs.Site.{Start}
 use Rattle.tlv_show.specs.Texts.{found_count}
 use Rattle.tlv_show.proofs.CheckFolds.{count-run}
 use Rattle.tlv_show.proofs.DumpShown.{told}
-use Rattle.tlv_show.proofs.DumpSteps.{all_on, by_order, one_on, step-is}
+use Rattle.tlv_show.proofs.DumpSteps.{all_on, each-filled, each-shown, one_on}
 use Rattle.tlv_show.proofs.FinderTold.{run}
 use Rattle.tlv_show.proofs.Shows.{Shower}
 
 -- the finder of a dump goes by the events alone
 finder-by : (s : Showing) (e : Told) → (dump_step s e).state.finder ≡ (find s.finder e).state
-finder-by s e = ap (λ (t : Following Showing). t.state.finder) (step-is s e) ∙ ordered (is_header e)
-  where
-    ordered : (k : Bool) → (by_order k s (find s.finder e) (dumped s.lines e)).state.finder ≡ (find s.finder e).state
-    ordered true = refl
-    ordered false = refl
+finder-by s (Open h) = refl
+finder-by s (Begin h) = refl
+finder-by s (Bytes octets) = ap (λ (t : Following Showing). t.state.finder) (each-shown s octets)
+finder-by s End = refl
+finder-by s (Close at) = refl
+finder-by s (Enter h) = refl
+finder-by s Unused = refl
+finder-by s Leave = refl
+finder-by s (Pad octets) = ap (λ (t : Following Showing). t.state.finder) (each-filled s octets)
 
 finder-run : (s : Showing) (es : List Told) → (followed dump_step s es).state.finder ≡ (run s.finder es).state
 finder-run s [] = refl

@@ -137,7 +137,10 @@ impl Finder {
             Event::Open(header) | Event::Enter(header) | Event::Begin(header) => {
                 self.begin(header, matches!(event, Event::Begin(_)))
             }
-            Event::Bytes(octets) => self.bytes(octets),
+            Event::Bytes(octets) => {
+                self.bytes(octets);
+                false
+            }
             Event::End => self.end(),
             Event::Close(_) | Event::Leave => self.close(),
             Event::Unused | Event::Pad(_) => false,
@@ -183,7 +186,7 @@ impl Finder {
 
     /// An element begins: a primitive, or one that holds others.
     #[inline(always)]
-    fn begin(&mut self, header: &Header, is_value: bool) -> bool
+    pub fn begin(&mut self, header: &Header, is_value: bool) -> bool
         ensures { Tells (if is_value then find_begin self.old.state header.now else find_open self.old.state header.now)
             self.new result }
     {
@@ -198,18 +201,17 @@ impl Finder {
 
     /// Contents of a primitive go on.
     #[inline(always)]
-    fn bytes(&mut self, octets: &[u8]) -> bool
-        ensures { Tells (finds_nothing (find_bytes self.old.state octets.now)) self.new result }
+    pub fn bytes(&mut self, octets: &[u8])
+        ensures { self.new ≡ stands (find_bytes self.old.state octets.now) self.old }
     {
         if self.is_open && !octets.is_empty() {
             take_octets(&mut self.check, octets);
         }
-        false
     }
 
     /// A primitive ends.
     #[inline(always)]
-    fn end(&mut self) -> bool
+    pub fn end(&mut self) -> bool
         ensures { Tells (find_end self.old.state) self.new result }
     {
         let Some(check) = &self.check else {
@@ -232,7 +234,7 @@ impl Finder {
 
     /// An element that holds others ends.
     #[inline(always)]
-    fn close(&mut self) -> bool
+    pub fn close(&mut self) -> bool
         ensures { Tells (find_close self.old.state) self.new result }
     {
         let Some(outer) = self.outer.pop() else {

@@ -1,16 +1,17 @@
 //! The follower that writes a dump.
-ghost use Rattle.std.specs.Prelude.{◌≡◌, refl};
+ghost use Rattle.std.specs.Prelude.{◌≡◌, ◌≤◌, OnOk, length, refl};
 ghost use Rattle.tlv_walk.proofs.Followed.{each_octet-goes_on, each_octet-joins};
-ghost use Rattle.tlv_walk.specs.Tells.{told_of};
-ghost use Rattle.tlv_show.specs.DumpStep.{dump_step, nothing_shown, one_filled, one_shown};
-ghost use Rattle.tlv_show.specs.Private.DumpStep.{is_header as is_header_of};
+ghost use Rattle.tlv_walk.specs.Events.{Begin, Bytes, Close, End};
+ghost use Rattle.tlv_walk.specs.Out.{Puts};
+ghost use Rattle.tlv_show.specs.DumpStep.{dump_step, nothing_shown, one_filled, one_shown, shown_open};
 ghost use Rattle.tlv_show.specs.Dumps.{top_layout};
 
 use crate::Options;
 use crate::finder::Finder;
 use crate::line_follower::Lines;
-use crate::style::{Style, put_where};
+use crate::style::put_findings;
 use std::marker::Model;
+use tlv_head::Header;
 use tlv_value::{Layout, Line, Names};
 use tlv_walk::{Drain, Event, Follow, Go, Out, WriteFault};
 
@@ -78,19 +79,83 @@ impl Follow for Dump<'_> {
 
     #[inline(always)]
     fn on<D: Drain>(&mut self, event: &Event<'_>, out: &mut Out<'_, D>) -> Result<Go, WriteFault> {
-        let style = Style::Dump(self.lines.layout().pure);
-        let first = is_header(event);
-        let tells = self.finder.find(event);
-        put_where(first, tells, &mut self.line, style, &self.finder, out)?;
-        self.lines.show(event, out)?;
-        put_where(!first, tells, &mut self.line, style, &self.finder, out)?;
+        match event {
+            Event::Open(header) => self.open(header, b" {", out)?,
+            Event::Enter(header) => self.open(header, b" wraps {", out)?,
+            Event::Begin(header) => self.begin(header, out)?,
+            Event::Bytes(octets) => self.bytes(octets, out)?,
+            Event::End => self.end(out)?,
+            Event::Close(at) => self.close(*at, out)?,
+            Event::Leave => self.close(None, out)?,
+            Event::Unused => self.lines.unused(),
+            Event::Pad(octets) => self.lines.pad(octets, out)?,
+        }
         Ok(Go::On)
     }
 }
 
-/// Whether an event is the header of an element.
-fn is_header(event: &Event<'_>) -> bool
-    ensures { result ≡ is_header_of (told_of event.now) }
-{
-    matches!(event, Event::Open(_) | Event::Enter(_) | Event::Begin(_))
+impl Dump<'_> {
+    /// An element that holds others begins: its line has this word behind the tag.
+    #[inline(always)]
+    fn open<D: Drain>(
+        &mut self,
+        header: &Header,
+        word: &[u8],
+        out: &mut Out<'_, D>,
+    ) -> Result<(), WriteFault>
+        requires { length word.now ≤ 16 }
+        ensures state { OnOk result (self.new ≡ (shown_open self.old header.now word.now).state) }
+        ensures puts { Puts D.told out.old out.new (shown_open self.old header.now word.now).put result }
+    {
+        let tells = self.finder.begin(header, false);
+        let style = self.lines.style();
+        put_findings(tells, &mut self.line, style, &self.finder, out)?;
+        self.lines.open(header, word, out)
+    }
+
+    /// A primitive begins.
+    #[inline(always)]
+    fn begin<D: Drain>(&mut self, header: &Header, out: &mut Out<'_, D>) -> Result<(), WriteFault>
+        ensures state { OnOk result (self.new ≡ (dump_step self.old (Begin header.now)).state) }
+        ensures puts { Puts D.told out.old out.new (dump_step self.old (Begin header.now)).put result }
+    {
+        let tells = self.finder.begin(header, true);
+        let style = self.lines.style();
+        put_findings(tells, &mut self.line, style, &self.finder, out)?;
+        self.lines.begin(header, out)
+    }
+
+    /// Contents of a primitive go on.
+    #[inline(always)]
+    fn bytes<D: Drain>(&mut self, octets: &[u8], out: &mut Out<'_, D>) -> Result<(), WriteFault>
+        ensures state { OnOk result (self.new ≡ (dump_step self.old (Bytes octets.now)).state) }
+        ensures puts { Puts D.told out.old out.new (dump_step self.old (Bytes octets.now)).put result }
+    {
+        self.finder.bytes(octets);
+        self.lines.bytes(octets, out)
+    }
+
+    /// A primitive ends.
+    #[inline(always)]
+    fn end<D: Drain>(&mut self, out: &mut Out<'_, D>) -> Result<(), WriteFault>
+        ensures state { OnOk result (self.new ≡ (dump_step self.old End).state) }
+        ensures puts { Puts D.told out.old out.new (dump_step self.old End).put result }
+    {
+        let tells = self.finder.end();
+        self.lines.end(out)?;
+        let style = self.lines.style();
+        put_findings(tells, &mut self.line, style, &self.finder, out)
+    }
+
+    /// An element that holds others ends: `at` is where its end-of-contents octets stand.
+    #[inline(always)]
+    fn close<D: Drain>(&mut self, at: Option<u64>, out: &mut Out<'_, D>) -> Result<(), WriteFault>
+        ensures state { OnOk result (self.new ≡ (dump_step self.old (Close at)).state) }
+        ensures puts { Puts D.told out.old out.new (dump_step self.old (Close at)).put result }
+    {
+        let tells = self.finder.close();
+        self.lines.close(at, out)?;
+        let style = self.lines.style();
+        put_findings(tells, &mut self.line, style, &self.finder, out)
+    }
 }

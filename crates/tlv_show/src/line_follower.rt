@@ -1,8 +1,8 @@
 //! The lines of a dump that are no findings.
 ghost use Rattle.std.specs.Prelude.{◌≡◌, ◌≤◌, ◌-◌, ◌^◌, OnOk, length};
+ghost use Rattle.tlv_walk.specs.Events.{Unused};
 ghost use Rattle.tlv_walk.specs.Follow.{each_octet};
 ghost use Rattle.tlv_walk.specs.Out.{Puts};
-ghost use Rattle.tlv_walk.specs.Tells.{told_of};
 ghost use Rattle.tlv_show.specs.Dumped.{
   dumped,
   dumped_begin,
@@ -16,10 +16,11 @@ ghost use Rattle.tlv_show.specs.Dumped.{
 };
 
 use crate::lines::{write_closing, write_opening, write_padding};
+use crate::style::Style;
 use std::marker::Model;
 use tlv_head::Header;
 use tlv_value::{Layout, Line, Names, ValueText};
-use tlv_walk::{Drain, Event, Out, WriteFault};
+use tlv_walk::{Drain, Out, WriteFault};
 
 /// Writes the lines that each event allows. The line of an element that holds others comes with its header, and that
 /// of its end with its end; those of a primitive come as [`ValueText`] writes them.
@@ -75,37 +76,19 @@ impl<'n> Lines<'n> {
         }
     }
 
-    /// How lines are laid out.
-    pub fn layout(&self) -> Layout
-        ensures { result ≡ self.now.layout }
+    /// How findings between the lines are written.
+    pub fn style(&self) -> Style
+        ensures { result ≡ Style.Dump self.now.layout.pure }
     {
-        self.layout
+        Style::Dump(self.layout.pure)
     }
 
-    /// Puts the lines that an event allows.
+    /// The count of unused bits of a BIT STRING that wraps encodings: it has no line.
     #[inline(always)]
-    pub fn show<D: Drain>(
-        &mut self,
-        event: &Event<'_>,
-        out: &mut Out<'_, D>,
-    ) -> Result<(), WriteFault>
-        ensures state { OnOk result (self.new ≡ (dumped self.old (told_of event.now)).state) }
-        ensures puts { Puts D.told out.old out.new (dumped self.old (told_of event.now)).put result }
+    pub fn unused(&mut self)
+        ensures { self.new ≡ (dumped self.old Unused).state }
     {
-        match event {
-            Event::Open(header) => self.open(header, b" {", out),
-            Event::Enter(header) => self.open(header, b" wraps {", out),
-            Event::Begin(header) => self.begin(header, out),
-            Event::Bytes(octets) => self.bytes(octets, out),
-            Event::End => self.end(out),
-            Event::Close(at) => self.close(*at, out),
-            Event::Leave => self.close(None, out),
-            Event::Unused => {
-                self.offset = self.offset.saturating_add(1);
-                Ok(())
-            }
-            Event::Pad(octets) => self.pad(octets, out),
-        }
+        self.offset = self.offset.saturating_add(1);
     }
 
     /// An element begins: padding ends, and its contents stand behind its header.
@@ -119,7 +102,7 @@ impl<'n> Lines<'n> {
 
     /// An element that holds others begins.
     #[inline(always)]
-    fn open<D: Drain>(
+    pub fn open<D: Drain>(
         &mut self,
         header: &Header,
         word: &[u8],
@@ -137,7 +120,11 @@ impl<'n> Lines<'n> {
     }
 
     /// An element that holds others ends: `at` is where its end-of-contents octets stand.
-    fn close<D: Drain>(&mut self, at: Option<u64>, out: &mut Out<'_, D>) -> Result<(), WriteFault>
+    pub fn close<D: Drain>(
+        &mut self,
+        at: Option<u64>,
+        out: &mut Out<'_, D>,
+    ) -> Result<(), WriteFault>
         ensures state { OnOk result (self.new ≡ (dumped_close self.old at).state) }
         ensures puts { Puts D.told out.old out.new (dumped_close self.old at).put result }
     {
@@ -151,7 +138,11 @@ impl<'n> Lines<'n> {
 
     /// A primitive begins.
     #[inline(always)]
-    fn begin<D: Drain>(&mut self, header: &Header, out: &mut Out<'_, D>) -> Result<(), WriteFault>
+    pub fn begin<D: Drain>(
+        &mut self,
+        header: &Header,
+        out: &mut Out<'_, D>,
+    ) -> Result<(), WriteFault>
         ensures state { OnOk result (self.new ≡ (dumped_begin self.old header.now).state) }
         ensures puts { Puts D.told out.old out.new (dumped_begin self.old header.now).put result }
     {
@@ -162,7 +153,7 @@ impl<'n> Lines<'n> {
 
     /// Contents of a primitive go on.
     #[inline(always)]
-    fn bytes<D: Drain>(&mut self, octets: &[u8], out: &mut Out<'_, D>) -> Result<(), WriteFault>
+    pub fn bytes<D: Drain>(&mut self, octets: &[u8], out: &mut Out<'_, D>) -> Result<(), WriteFault>
         ensures state { OnOk result (self.new ≡ (each_octet one_dumped self.old octets.now).state) }
         ensures puts { Puts D.told out.old out.new (each_octet one_dumped self.old octets.now).put result }
     {
@@ -171,7 +162,7 @@ impl<'n> Lines<'n> {
     }
 
     /// A primitive ends.
-    fn end<D: Drain>(&mut self, out: &mut Out<'_, D>) -> Result<(), WriteFault>
+    pub fn end<D: Drain>(&mut self, out: &mut Out<'_, D>) -> Result<(), WriteFault>
         ensures state { self.new ≡ (dumped_end self.old).state }
         ensures puts { Puts D.told out.old out.new (dumped_end self.old).put result }
     {
@@ -181,7 +172,7 @@ impl<'n> Lines<'n> {
     }
 
     /// Padding goes on. A run of it has one line, which comes with its first octet.
-    fn pad<D: Drain>(&mut self, octets: &[u8], out: &mut Out<'_, D>) -> Result<(), WriteFault>
+    pub fn pad<D: Drain>(&mut self, octets: &[u8], out: &mut Out<'_, D>) -> Result<(), WriteFault>
         ensures state { OnOk result (self.new ≡ (each_octet one_padded self.old octets.now).state) }
         ensures puts { Puts D.told out.old out.new (each_octet one_padded self.old octets.now).put result }
     {

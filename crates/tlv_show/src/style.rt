@@ -2,7 +2,7 @@
 ghost use Rattle.std.specs.Prelude.{◌≡◌};
 ghost use Rattle.tlv_walk.specs.Out.{Puts};
 ghost use Rattle.tlv_show.specs.CheckStep.{all_written, written};
-ghost use Rattle.tlv_show.specs.Private.CheckStep.{all_told, written_where};
+ghost use Rattle.tlv_show.specs.Private.CheckStep.{all_told};
 ghost use Rattle.tlv_show.specs.Private.FinderState.{heard};
 ghost use Rattle.tlv_show.specs.Texts.{finding_line, listed};
 
@@ -48,24 +48,6 @@ pub(crate) fn put_findings<D: Drain>(
         finder.findings(),
         out,
     )
-}
-
-/// [`put_findings`], where findings are to be put here.
-#[inline(always)]
-pub(crate) fn put_where<D: Drain>(
-    here: bool,
-    tells: bool,
-    line: &mut Line,
-    style: Style,
-    finder: &Finder,
-    out: &mut Out<'_, D>,
-) -> Result<(), WriteFault>
-    ensures { Puts D.told out.old out.new (written_where here style (heard tells finder.now)) result }
-{
-    if !here {
-        return Ok(());
-    }
-    put_findings(tells, line, style, finder, out)
 }
 
 /// Puts a line for each of these findings in the element at this level and offset.

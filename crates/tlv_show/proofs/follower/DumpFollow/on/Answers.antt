@@ -1,29 +1,48 @@
-use Rattle.std.proofs.Common.{rules, refl}
-use Rattle.tlv_walk.specs.Tells.{told_of}
-use Rattle.tlv_walk.proofs.Puts.{front_first, puts_as, puts_failed_in, puts_failed_last, puts_text, puts_then}
-use Rattle.tlv_show.proofs.DumpSteps.{step-joined, step-state, step-text}
+use Rattle.std.proofs.Common.{refl, rules, sym, ap}
+use Rattle.tlv_walk.specs.Events.{Bytes}
+use Rattle.tlv_walk.proofs.Puts.{puts_as, puts_failed_last}
+use Rattle.tlv_show.specs.Dumped.{Dumping}
+use Rattle.tlv_show.specs.DumpStep.{Showing}
+use Rattle.tlv_show.proofs.DumpSteps.{each-filled, one_on}
 use Rattle.tlv_show.proofs.follower.DumpFollow.on.Goals as goal
 
-pub returns-in_err-put_where-clause-puts : goal.returns-in_err-put_where-clause-puts
-returns-in_err-put_where-clause-puts g c = rw (← c.self.view_is)
-    (puts_text g.D.Drain.told _ _ _ _ _ (step-text (record { lines = c.self.inside.lines; finder = c.self.inside.finder.state }) c.find-tells.new.self c.find-tells.result (told_of c.args.event.now) c.find-tells.ensures)
-    (puts_failed_in g.D.Drain.told _ _ _ _ _ _ (rw (c.layout.ensures, c.is_header-first.ensures) at c.in_err-put_where.ensures) (search rules) (front_first _ _)))
+-- ---- an element begins
 
-pub returns-in_err-show-clause-puts : goal.returns-in_err-show-clause-puts
-returns-in_err-show-clause-puts g c = rw (← c.self.view_is)
-    (puts_text g.D.Drain.told _ _ _ _ _ (step-joined (record { lines = c.self.inside.lines; finder = c.self.inside.finder.state }) c.find-tells.new.self c.find-tells.result (told_of c.args.event.now) c.find-tells.ensures)
-    (puts_failed_in g.D.Drain.told _ _ _ _ _ _ (puts_then g.D.Drain.told _ _ _ _ _ _ _ (rw (c.layout.ensures, c.is_header-first.ensures) at c.in_ok-put_where.ensures) c.in_err-show.ensures.puts) (search rules) (front_first _ _)))
+pub returns-in_err-open-in-Open-clause-puts : goal.returns-in_err-open-in-Open-clause-puts
+returns-in_err-open-in-Open-clause-puts g c = rw c.in-Open.is (puts_failed_last g.D.Drain.told _ _ _ _ _ c.in_err-open-in-Open.ensures.puts (search rules))
 
-pub returns-in_err-put_where-2-clause-puts : goal.returns-in_err-put_where-2-clause-puts
-returns-in_err-put_where-2-clause-puts g c = rw (← c.self.view_is)
-    (puts_text g.D.Drain.told _ _ _ _ _ (step-joined (record { lines = c.self.inside.lines; finder = c.self.inside.finder.state }) c.find-tells.new.self c.find-tells.result (told_of c.args.event.now) c.find-tells.ensures)
-    (puts_failed_last g.D.Drain.told _ _ _ _ _ (puts_then g.D.Drain.told _ _ _ _ _ _ _ (puts_then g.D.Drain.told _ _ _ _ _ _ _ (rw (c.layout.ensures, c.is_header-first.ensures) at c.in_ok-put_where.ensures) c.in_ok-show.ensures.puts) (rw (c.layout.ensures, c.is_header-first.ensures) at c.in_err-put_where-2.ensures)) (search rules)))
+pub returns-in_ok-open-in-Open-clause-puts : goal.returns-in_ok-open-in-Open-clause-puts
+returns-in_ok-open-in-Open-clause-puts g c = rw c.in-Open.is (puts_as g.D.Drain.told _ _ _ _ _ _ c.in_ok-open-in-Open.ensures.puts refl)
 
-pub returns-clause-puts : goal.returns-clause-puts
-returns-clause-puts g c = rw (← c.self.view_is)
-    (puts_text g.D.Drain.told _ _ _ _ _ (step-joined (record { lines = c.self.inside.lines; finder = c.self.inside.finder.state }) c.find-tells.new.self c.find-tells.result (told_of c.args.event.now) c.find-tells.ensures)
-    (puts_as g.D.Drain.told _ _ _ _ _ _ (puts_then g.D.Drain.told _ _ _ _ _ _ _ (puts_then g.D.Drain.told _ _ _ _ _ _ _ (rw (c.layout.ensures, c.is_header-first.ensures) at c.in_ok-put_where.ensures) c.in_ok-show.ensures.puts) (rw (c.layout.ensures, c.is_header-first.ensures) at c.in_ok-put_where-2.ensures)) refl))
+pub returns-in_err-open-in-Enter-clause-puts : goal.returns-in_err-open-in-Enter-clause-puts
+returns-in_err-open-in-Enter-clause-puts g c = rw c.in-Enter.is (puts_failed_last g.D.Drain.told _ _ _ _ _ c.in_err-open-in-Enter.ensures.puts (search rules))
 
-pub returns-clause-state : goal.returns-clause-state
-returns-clause-state g c = rw (← c.self.view_is)
-    (step-state (record { lines = c.self.inside.lines; finder = c.self.inside.finder.state }) c.find-tells.new.self c.find-tells.result (told_of c.args.event.now) c.find-tells.ensures c.show.new.self c.in_ok-show.ensures.state)
+pub returns-in_ok-open-in-Enter-clause-puts : goal.returns-in_ok-open-in-Enter-clause-puts
+returns-in_ok-open-in-Enter-clause-puts g c = rw c.in-Enter.is (puts_as g.D.Drain.told _ _ _ _ _ _ c.in_ok-open-in-Enter.ensures.puts refl)
+
+pub returns-in_err-begin-in-Begin-clause-puts : goal.returns-in_err-begin-in-Begin-clause-puts
+returns-in_err-begin-in-Begin-clause-puts g c = rw c.in-Begin.is (puts_failed_last g.D.Drain.told _ _ _ _ _ c.in_err-begin-in-Begin.ensures.puts (search rules))
+
+pub returns-in_ok-begin-in-Begin-clause-puts : goal.returns-in_ok-begin-in-Begin-clause-puts
+returns-in_ok-begin-in-Begin-clause-puts g c = rw c.in-Begin.is (puts_as g.D.Drain.told _ _ _ _ _ _ c.in_ok-begin-in-Begin.ensures.puts refl)
+
+-- ---- contents and padding
+
+pub returns-in_ok-bytes-in-Bytes-clause-state : goal.returns-in_ok-bytes-in-Bytes-clause-state
+returns-in_ok-bytes-in-Bytes-clause-state g c = rw c.in-Bytes.is (c.in_ok-bytes-in-Bytes.ensures.state, sym (one_on c.args.self.now (Bytes c.in-Bytes.octets.now)))
+
+pub returns-in_err-pad-in-Pad-clause-puts : goal.returns-in_err-pad-in-Pad-clause-puts
+returns-in_err-pad-in-Pad-clause-puts g c =
+    let s : Showing = record { lines = c.self-in-Pad.inside.lines; finder = c.self-in-Pad.inside.finder.state } in
+    rw (c.in-Pad.is, ← c.self-in-Pad.view_is, each-filled s c.in-Pad.octets.now) (puts_failed_last g.D.Drain.told _ _ _ _ _ c.in_err-pad-in-Pad.ensures.puts (search rules))
+
+pub returns-in_ok-pad-in-Pad-clause-puts : goal.returns-in_ok-pad-in-Pad-clause-puts
+returns-in_ok-pad-in-Pad-clause-puts g c =
+    let s : Showing = record { lines = c.self-in-Pad.inside.lines; finder = c.self-in-Pad.inside.finder.state } in
+    rw (c.in-Pad.is, ← c.self-in-Pad.view_is, each-filled s c.in-Pad.octets.now) (puts_as g.D.Drain.told _ _ _ _ _ _ c.in_ok-pad-in-Pad.ensures.puts refl)
+
+pub returns-in_ok-pad-in-Pad-clause-state : goal.returns-in_ok-pad-in-Pad-clause-state
+returns-in_ok-pad-in-Pad-clause-state g c =
+    let s : Showing = record { lines = c.self-in-Pad.inside.lines; finder = c.self-in-Pad.inside.finder.state } in
+    rw (c.in-Pad.is, ← c.self-in-Pad.view_is, each-filled s c.in-Pad.octets.now)
+    (ap (λ (l : Dumping). record { lines = l; finder = s.finder }) c.in_ok-pad-in-Pad.ensures.state, refl)
