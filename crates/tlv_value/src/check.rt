@@ -426,7 +426,8 @@ fn note_time(of_grammar: bool, is_canonical: bool, found: &mut ArrayVec<Finding,
 fn is_utc_clear(time: &[u8]) -> bool
     ensures { result ≡ eqb (length (time_findings (has_form utc_time time.now) (has_form canonical_utc_time time.now))) 0 }
 {
-    utc_canonical(time) && utc_ok(time)
+    // A canonical time is of its grammar.
+    utc_canonical(time)
 }
 
 /// Whether nothing is found on a GeneralizedTime.
@@ -434,7 +435,8 @@ fn is_utc_clear(time: &[u8]) -> bool
 fn is_general_clear(time: &[u8]) -> bool
     ensures { result ≡ eqb (length (time_findings (has_form general_time time.now) (has_form canonical_general_time time.now))) 0 }
 {
-    general_canonical(time) && general_ok(time)
+    // A canonical time is of its grammar.
+    general_canonical(time)
 }
 
 /// Whether so many of the last bits of an octet are not all 0.
