@@ -14,7 +14,7 @@ is_nil (x ∷ xs) = false
 
 -- of whatever octets, each rest that the first form leaves the second leaves too: where a rest of the first passes a
 -- test, one of the second does
-pub record Within (f g : Form) : Type 0 where
+record Within (f g : Form) : Type 0 where
   pub leaves : (test : List ℕ → Bool) (octets : List ℕ) → list_any test (f octets) ≡ true → list_any test (g octets) ≡ true
 
 or-left : (a b : Bool) → a ≡ true → (a || b) ≡ true
@@ -181,7 +181,7 @@ within-second : {f g : Form} → Within f g → Within (second then f) (maybe se
 within-second w = within-then (within-first nothing (within-same second)) w
 
 -- 11.8
-pub utc-within : Within canonical_utc_time utc_time
+utc-within : Within canonical_utc_time utc_time
 utc-within =
     within-fronts _ _ _ _ (within-same (two 0 99)) (within-fronts _ _ _ _ (within-same day) (within-fronts _ _ _ _ within-hour
     (within-front _ _ _ (within-same minute) (within-second (within-first (sign then hour then minute) (within-same (mark 90)))))))
@@ -193,7 +193,7 @@ general-tail =
     (within-first nothing (within-first (sign then hour then maybe minute) (within-same (mark 90))))
 
 -- 11.7
-pub general-within : Within canonical_general_time general_time
+general-within : Within canonical_general_time general_time
 general-within =
     within-fronts _ _ _ _ (within-same (two 0 99)) (within-fronts _ _ _ _ (within-same (two 0 99)) (within-fronts _ _ _ _ (within-same day)
     (within-front _ _ _ within-hour
@@ -205,7 +205,7 @@ empty-any ([] ∷ rests) = refl
 empty-any ((x ∷ xs) ∷ rests) = empty-any rests
 
 -- where the canonical form is within the grammar, nothing is found exactly on what has the canonical form
-pub clear-within :
+clear-within :
     {f g : Form} → Within f g → (octets : List ℕ) → has_form f octets ≡ eqb (length (time_findings (has_form g octets) (has_form f octets))) 0
 clear-within {f} {g} w octets =
     go (has_form f octets) (has_form g octets) (λ h. empty-any (g octets) ∙ w.leaves is_nil octets (sym (empty-any (f octets)) ∙ h))
@@ -215,3 +215,13 @@ clear-within {f} {g} w octets =
     go true false v = absurd (let e = v refl in cc)
     go false true v = refl
     go false false v = refl
+
+pub utc_clear :
+    (octets : List ℕ)
+    → has_form canonical_utc_time octets ≡ eqb (length (time_findings (has_form utc_time octets) (has_form canonical_utc_time octets))) 0
+utc_clear octets = clear-within utc-within octets
+
+pub general_clear :
+    (octets : List ℕ)
+    → has_form canonical_general_time octets ≡ eqb (length (time_findings (has_form general_time octets) (has_form canonical_general_time octets))) 0
+general_clear octets = clear-within general-within octets
