@@ -26,3 +26,4 @@ pub mod Worked
 pub mod PairSteps
 pub mod PlainUnits
 pub mod EachNoted
+pub mod Within

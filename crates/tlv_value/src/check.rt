@@ -1,27 +1,22 @@
 //! What is found on the contents of a primitive.
-ghost use Rattle.std.specs.Prelude.{IsTrue, ◌≡◌, ◌+◌, ◌<◌, ◌≤◌, ◌%◌, ◌^◌, ◌++◌, ◌&&◌, ◌||◌, ℕ, List, [], eqb, false, if◌then◌else◌, length, not, slice_index, take, true};
-ghost use Rattle.std.specs.Str.{is_utf8};
+ghost use Rattle.std.specs.Prelude.{◌≡◌, ◌+◌, ◌≤◌, ◌&&◌, ℕ, List, eqb, length, slice_index};
 ghost use Rattle.tlv_head.specs.Header.{Heading, announced};
-ghost use Rattle.tlv_value.specs.CheckNotes.{is_object, time_findings, where_it};
-ghost use Rattle.tlv_value.specs.CheckState.{all_utf8, allowed_in, checked, each_noted, found_in, front_noted, has_unused, notes_each, notes_front, notes_time, type_noted, unchecked};
-ghost use Rattle.tlv_value.specs.Checks.{
-  allows_octet as allows_octet_of,
-  contents_findings,
-  every,
-  is_padded_behind,
-  is_padded_integer,
-  is_printable_string,
-  last_of,
-};
-ghost use Rattle.tlv_value.specs.Rows.{full_rows, open_row};
-ghost use Rattle.tlv_value.specs.Times.{canonical_general_time, canonical_utc_time, general_time, has_form, utc_time};
+ghost use Rattle.tlv_value.specs.CheckState.{allowed_in, checked, each_noted, found_in, front_noted, has_unused, type_noted, unchecked};
+ghost use Rattle.tlv_value.specs.Checks.{contents_findings, is_padded_integer};
+
+mod characters;
+mod findings;
+mod noting;
+mod rows;
+mod times;
 
 use crate::Finding;
-use crate::kind::Kind;
-use crate::rows::fitting;
-use crate::time::{general_canonical, general_ok, utc_canonical, utc_ok};
 use arrayvec::ArrayVec;
+use characters::are_allowed;
+use noting::{is_each_noted, is_front_noted, is_time, last_octet, padded_after};
+use rows::{is_well_formed, take_rows};
 use std::marker::Model;
+use times::{extend_time, is_general_clear, is_utc_clear};
 use tlv_head::{Class, Header, Size};
 
 /// Finds what is wrong with the contents of a primitive, in whatever pieces they come.
@@ -219,66 +214,6 @@ impl ValueCheck {
         self.found().is_empty()
     }
 
-    /// What is found on the contents by what was noted of them.
-    fn found(&self) -> ArrayVec<Finding, 16>
-        ensures { result.items ≡ found_in self.now }
-    {
-        let mut found = ArrayVec::new();
-        let first = self.first();
-        match self.number {
-            1 => {
-                note(self.size != 1, Finding::B06, &mut found);
-                note(
-                    self.size == 1 && first != 0 && first != 255,
-                    Finding::S02,
-                    &mut found,
-                );
-            }
-            2 | 10 => {
-                note(self.size == 0, Finding::B07, &mut found);
-                note(self.is_number_padded(), Finding::B08, &mut found);
-            }
-            3 => {
-                note(self.size == 0, Finding::B13, &mut found);
-                note(first > 7, Finding::B14, &mut found);
-                note(
-                    self.size == 1 && first >= 1 && first <= 7,
-                    Finding::B15,
-                    &mut found,
-                );
-                note(
-                    self.size >= 2 && first <= 7 && are_set(first, self.last),
-                    Finding::S03,
-                    &mut found,
-                );
-            }
-            5 => note(self.size != 0, Finding::B09, &mut found),
-            6 => {
-                note(self.size == 0, Finding::B10, &mut found);
-                note(self.padded, Finding::B11, &mut found);
-                note(self.last >= 128, Finding::B12, &mut found);
-            }
-            13 => {
-                note(self.padded, Finding::B11, &mut found);
-                note(self.last >= 128, Finding::B12, &mut found);
-            }
-            23 => {
-                if self.size <= 64 {
-                    let time = self.time.as_slice();
-                    note_time(utc_ok(time), utc_canonical(time), &mut found);
-                }
-            }
-            24 => {
-                if self.size <= 64 {
-                    let time = self.time.as_slice();
-                    note_time(general_ok(time), general_canonical(time), &mut found);
-                }
-            }
-            _ => note(!self.is_allowed(), Finding::B18, &mut found),
-        }
-        found
-    }
-
     /// The first octet, where the type asks for it; 0 before the first.
     #[inline(always)]
     fn first(&self) -> u8
@@ -343,239 +278,4 @@ fn both(first: bool, second: bool) -> bool
     ensures { result ≡ (first && second) }
 {
     first && second
-}
-
-/// Whether the octets are UTF-8.
-fn is_well_formed(octets: &[u8]) -> bool
-    ensures { result ≡ is_utf8 octets.now }
-{
-    simdutf8::is_utf8(octets)
-}
-
-/// Whether each contents octet of the type with this universal number is looked at.
-#[inline(always)]
-fn is_each_noted(number: u64) -> bool
-    ensures { result ≡ notes_each number }
-{
-    number == 6
-        || number == 12
-        || number == 13
-        || number == 18
-        || number == 19
-        || number == 22
-        || number == 26
-}
-
-/// Whether the first octets of the type with this universal number are looked at, and the last one: BOOLEAN, INTEGER,
-/// BIT STRING, ENUMERATED.
-#[inline(always)]
-fn is_front_noted(number: u64) -> bool
-    ensures { result ≡ notes_front number }
-{
-    number == 1 || number == 2 || number == 3 || number == 10
-}
-
-/// Whether the type with this universal number is one of the two times.
-#[inline(always)]
-fn is_time(number: u64) -> bool
-    ensures { result ≡ notes_time number }
-{
-    number == 23 || number == 24
-}
-
-/// Keeps the first octets of a time.
-#[inline(never)]
-fn extend_time(time: &mut ArrayVec<u8, 64>, octets: &[u8])
-    ensures { time.new.items ≡ take 64 (time.old.items ++ octets.now) }
-{
-    let room = octets.len().min(time.remaining_capacity());
-    let _ = time.try_extend_from_slice(&octets[..room]);
-}
-
-/// Whether a subidentifier begins with `80`, with these octets too.
-fn padded_after(padded: bool, before: u8, octets: &[u8]) -> bool
-    ensures { result ≡ (padded || is_padded_behind before octets.now) }
-{
-    padded || is_padded(before, octets)
-}
-
-/// Adds a finding, where it is there.
-fn note(there: bool, finding: Finding, found: &mut ArrayVec<Finding, 16>)
-    requires { length found.old.items < 16 }
-    ensures { found.new.items ≡ found.old.items ++ where_it there finding }
-{
-    if there {
-        found.push(finding);
-    }
-}
-
-/// Adds what is found on a time.
-fn note_time(of_grammar: bool, is_canonical: bool, found: &mut ArrayVec<Finding, 16>)
-    requires { length found.old.items < 16 }
-    ensures { found.new.items ≡ found.old.items ++ time_findings of_grammar is_canonical }
-{
-    if of_grammar {
-        note(!is_canonical, Finding::S04, found);
-    } else {
-        found.push(Finding::B19);
-    }
-}
-
-/// Whether nothing is found on a UTCTime.
-#[inline(never)]
-fn is_utc_clear(time: &[u8]) -> bool
-    ensures { result ≡ eqb (length (time_findings (has_form utc_time time.now) (has_form canonical_utc_time time.now))) 0 }
-{
-    utc_canonical(time) && utc_ok(time)
-}
-
-/// Whether nothing is found on a GeneralizedTime.
-#[inline(never)]
-fn is_general_clear(time: &[u8]) -> bool
-    ensures { result ≡ eqb (length (time_findings (has_form general_time time.now) (has_form canonical_general_time time.now))) 0 }
-{
-    general_canonical(time) && general_ok(time)
-}
-
-/// Whether so many of the last bits of an octet are not all 0.
-fn are_set(bits: u8, octet: u8) -> bool
-    requires { bits ≤ 7 }
-    ensures { result ≡ not (eqb (octet % 2 ^ bits) 0) }
-{
-    let bits_above = match bits {
-        0 => 1,
-        1 => 2,
-        2 => 4,
-        3 => 8,
-        4 => 16,
-        5 => 32,
-        6 => 64,
-        _ => 128,
-    };
-    octet % bits_above != 0
-}
-
-/// Whether the type with this universal number has all of the octets.
-#[inline(never)]
-fn are_allowed(number: u64, octets: &[u8]) -> bool
-    ensures { result ≡ every (allows_octet_of number) octets.now }
-{
-    // A call for each type: where it is inlined, the type is then not asked for again at each octet.
-    match number {
-        18 => is_each_allowed(18, octets),
-        19 => is_each_allowed(19, octets),
-        22 => is_each_allowed(22, octets),
-        26 => is_each_allowed(26, octets),
-        _ => true,
-    }
-}
-
-/// Whether the type with this universal number has each of the octets.
-#[inline(always)]
-fn is_each_allowed(number: u64, octets: &[u8]) -> bool
-    ensures { result ≡ every (allows_octet_of number) octets.now }
-{
-    // There is no way out of the loop, so that many octets are looked at in one go.
-    let mut all = true;
-    for octet in octets {
-        all = both(all, allows_octet(number, *octet));
-    }
-    all
-}
-
-/// Whether the type with this universal number has the octet: NumericString, PrintableString, IA5String, VisibleString.
-#[inline(always)]
-fn allows_octet(number: u64, octet: u8) -> bool
-    ensures { result ≡ allows_octet_of number octet }
-{
-    match number {
-        18 => matches!(octet, b' ' | b'0'..=b'9'),
-        19 => is_printable(octet),
-        22 => octet < 128,
-        26 => matches!(octet, 0x20..=0x7e),
-        _ => true,
-    }
-}
-
-/// Whether PrintableString has the octet (X.680 41.4).
-#[inline(always)]
-fn is_printable(octet: u8) -> bool
-    ensures { result ≡ is_printable_string octet }
-{
-    matches!(
-        octet,
-        b' ' | b'0'..=b'9'
-            | b'A'..=b'Z'
-            | b'a'..=b'z'
-            | b'\''
-            | b'('
-            | b')'
-            | b'+'
-            | b','
-            | b'-'
-            | b'.'
-            | b'/'
-            | b':'
-            | b'='
-            | b'?'
-    )
-}
-
-/// Whether a subidentifier begins with `80`, behind this octet.
-fn is_padded(before: u8, octets: &[u8]) -> bool
-    ensures { result ≡ is_padded_behind before octets.now }
-{
-    let mut before = before;
-    for octet in octets {
-        if before < 128 && *octet == 128 {
-            return true;
-        }
-        before = *octet;
-    }
-    false
-}
-
-/// The last of the octets, or the one before them.
-fn last_octet(before: u8, octets: &[u8]) -> u8
-    ensures { result ≡ last_of before octets.now }
-{
-    match octets {
-        [.., last] => *last,
-        [] => before,
-    }
-}
-
-/// Takes octets behind the row that has begun. Answers whether the rows that are then full are well-formed.
-fn take_rows(row: &mut ArrayVec<u8, 64>, octets: &[u8]) -> bool
-    requires { length row.old.items < 64 }
-    ensures formed { result ≡ all_utf8 (full_rows Kind.Utf8 row.old.items octets.now) }
-    ensures row { row.new.items ≡ open_row Kind.Utf8 row.old.items octets.now }
-    ensures begun { length row.new.items < 64 }
-{
-    let mut formed = true;
-    let mut rest = octets;
-    while !rest.is_empty() {
-        let (part, more) = rest.split_at(fitting(Kind::Utf8, row.len(), rest));
-        rest = more;
-        if row.len() + part.len() < 64 && rest.is_empty() {
-            let _ = row.try_extend_from_slice(part);
-            return formed;
-        }
-        formed = both(formed, is_full_formed(row, part));
-    }
-    formed
-}
-
-/// Whether the row that has begun is well-formed with the octets that fill it. The row is then empty.
-fn is_full_formed(row: &mut ArrayVec<u8, 64>, part: &[u8]) -> bool
-    requires { length row.old.items + length part.now ≤ 64 }
-    ensures formed { result ≡ is_utf8 (row.old.items ++ part.now) }
-    ensures row { row.new.items ≡ [] }
-{
-    if row.is_empty() {
-        return is_well_formed(part);
-    }
-    let _ = row.try_extend_from_slice(part);
-    let full = row.take();
-    is_well_formed(full.as_slice())
 }

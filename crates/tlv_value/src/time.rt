@@ -32,6 +32,7 @@ ghost use Rattle.tlv_value.specs.Times.{
 };
 
 /// Whether the octets are of the grammar of UTCTime: `YYMMDDhhmm`, `ss` or nothing, and `Z`, `+hhmm` or `-hhmm`.
+#[inline(never)]
 pub fn utc_ok(contents: &[u8]) -> bool
     ensures { result ≡ has_form utc_time contents.now }
 {
@@ -56,6 +57,7 @@ pub fn utc_canonical(contents: &[u8]) -> bool
 
 /// Whether the octets are of the grammar of GeneralizedTime: `YYYYMMDDhh`, `mm`, `mmss` or nothing, a fraction of one
 /// or more digits behind `.` or `,` or nothing, and `Z`, `+hh`, `-hh`, `+hhmm`, `-hhmm` or nothing.
+#[inline(never)]
 pub fn general_ok(contents: &[u8]) -> bool
     ensures { result ≡ has_form general_time contents.now }
 {

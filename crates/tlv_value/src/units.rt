@@ -1,6 +1,6 @@
 //! The texts of characters.
-ghost use Rattle.std.specs.Prelude.{◌≡◌, ◌+◌, ◌<◌, ◌≤◌, ◌++◌, ◌∷◌, [], length};
-ghost use Rattle.tlv_value.specs.Private.Plain.{ArePlain, IsPart, is_plain as is_plain_octet};
+ghost use Rattle.std.specs.Prelude.{◌≡◌, ◌+◌, ◌<◌, ◌≤◌, ◌++◌, ◌∷◌, [], false, length, slice_index, true};
+ghost use Rattle.tlv_value.specs.Private.Plain.{ArePlain, IsPart, is_ascii, is_plain as is_plain_octet};
 ghost use Rattle.tlv_value.specs.Units.{
   escaped_number,
   escaped_octet,
@@ -184,6 +184,8 @@ fn is_plain(octet: u8) -> bool
 fn plain_size(kind: Kind, octets: &[u8]) -> usize
     ensures within { result ≤ length octets.now }
     ensures plain { ArePlain kind octets.now result }
+    ensures next { result < length octets.now → is_ascii kind ≡ true
+        → is_plain_octet (slice_index octets.now result) ≡ false }
 {
     if !matches!(kind, Kind::Text | Kind::Utf8) {
         return 0;

@@ -1,6 +1,6 @@
 use Rattle.std.proofs.Common.{◌≡◌, sym, arith}
 use Rattle.tlv_value.proofs.Noting.{every-other}
-use Rattle.tlv_value.proofs.check.are_allowed.Goals as goal
+use Rattle.tlv_value.proofs.check.characters.are_allowed.Goals as goal
 
 pub returns-in_default : goal.returns-in_default
 returns-in_default c =

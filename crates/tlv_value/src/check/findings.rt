@@ -1,0 +1,111 @@
+//! What is found on contents by what was noted of them.
+ghost use Rattle.std.specs.Prelude.{◌≡◌, ◌<◌, ◌≤◌, ◌%◌, ◌^◌, ◌++◌, eqb, length, not};
+ghost use Rattle.tlv_value.specs.CheckNotes.{time_findings, where_it};
+ghost use Rattle.tlv_value.specs.CheckState.{found_in};
+
+use super::ValueCheck;
+use crate::Finding;
+use crate::time::{general_canonical, general_ok, utc_canonical, utc_ok};
+use arrayvec::ArrayVec;
+
+impl ValueCheck {
+    /// What is found on the contents by what was noted of them.
+    pub(super) fn found(&self) -> ArrayVec<Finding, 16>
+        ensures { result.items ≡ found_in self.now }
+    {
+        let mut found = ArrayVec::new();
+        let first = self.first();
+        match self.number {
+            1 => {
+                note(self.size != 1, Finding::B06, &mut found);
+                note(
+                    self.size == 1 && first != 0 && first != 255,
+                    Finding::S02,
+                    &mut found,
+                );
+            }
+            2 | 10 => {
+                note(self.size == 0, Finding::B07, &mut found);
+                note(self.is_number_padded(), Finding::B08, &mut found);
+            }
+            3 => {
+                note(self.size == 0, Finding::B13, &mut found);
+                note(first > 7, Finding::B14, &mut found);
+                note(
+                    self.size == 1 && first >= 1 && first <= 7,
+                    Finding::B15,
+                    &mut found,
+                );
+                note(
+                    self.size >= 2 && first <= 7 && are_set(first, self.last),
+                    Finding::S03,
+                    &mut found,
+                );
+            }
+            5 => note(self.size != 0, Finding::B09, &mut found),
+            6 => {
+                note(self.size == 0, Finding::B10, &mut found);
+                note(self.padded, Finding::B11, &mut found);
+                note(self.last >= 128, Finding::B12, &mut found);
+            }
+            13 => {
+                note(self.padded, Finding::B11, &mut found);
+                note(self.last >= 128, Finding::B12, &mut found);
+            }
+            23 => {
+                if self.size <= 64 {
+                    let time = self.time.as_slice();
+                    note_time(utc_ok(time), utc_canonical(time), &mut found);
+                }
+            }
+            24 => {
+                if self.size <= 64 {
+                    let time = self.time.as_slice();
+                    note_time(general_ok(time), general_canonical(time), &mut found);
+                }
+            }
+            _ => note(!self.is_allowed(), Finding::B18, &mut found),
+        }
+        found
+    }
+}
+
+/// Adds a finding, where it is there.
+fn note(there: bool, finding: Finding, found: &mut ArrayVec<Finding, 16>)
+    requires { length found.old.items < 16 }
+    ensures { found.new.items ≡ found.old.items ++ where_it there finding }
+{
+    if there {
+        found.push(finding);
+    }
+}
+
+/// Adds what is found on a time.
+fn note_time(of_grammar: bool, is_canonical: bool, found: &mut ArrayVec<Finding, 16>)
+    requires { length found.old.items < 16 }
+    ensures { found.new.items ≡ found.old.items ++ time_findings of_grammar is_canonical }
+{
+    if of_grammar {
+        note(!is_canonical, Finding::S04, found);
+    } else {
+        found.push(Finding::B19);
+    }
+}
+
+/// Whether so many of the last bits of an octet are not all 0.
+fn are_set(bits: u8, octet: u8) -> bool
+    requires { bits ≤ 7 }
+    ensures { result ≡ not (eqb (octet % 2 ^ bits) 0) }
+{
+    let bits_above = match bits {
+        0 => 1,
+        1 => 2,
+        2 => 4,
+        3 => 8,
+        4 => 16,
+        5 => 32,
+        6 => 64,
+        _ => 128,
+    };
+    octet % bits_above != 0
+}

@@ -1,0 +1,52 @@
+//! Whether a UTF8String is well-formed, row by row.
+ghost use Rattle.std.specs.Prelude.{◌≡◌, ◌+◌, ◌<◌, ◌≤◌, ◌++◌, [], length};
+ghost use Rattle.std.specs.Str.{is_utf8};
+ghost use Rattle.tlv_value.specs.CheckState.{all_utf8};
+ghost use Rattle.tlv_value.specs.Rows.{full_rows, open_row};
+
+use super::both;
+use crate::kind::Kind;
+use crate::rows::fitting;
+use arrayvec::ArrayVec;
+
+/// Takes octets behind the row that has begun. Answers whether the rows that are then full are well-formed.
+pub(super) fn take_rows(row: &mut ArrayVec<u8, 64>, octets: &[u8]) -> bool
+    requires { length row.old.items < 64 }
+    ensures formed { result ≡ all_utf8 (full_rows Kind.Utf8 row.old.items octets.now) }
+    ensures row { row.new.items ≡ open_row Kind.Utf8 row.old.items octets.now }
+    ensures begun { length row.new.items < 64 }
+{
+    let mut formed = true;
+    let mut rest = octets;
+    while !rest.is_empty() {
+        let (part, more) = rest.split_at(fitting(Kind::Utf8, row.len(), rest));
+        rest = more;
+        if row.len() + part.len() < 64 && rest.is_empty() {
+            let _ = row.try_extend_from_slice(part);
+            return formed;
+        }
+        formed = both(formed, is_full_formed(row, part));
+    }
+    formed
+}
+
+/// Whether the row that has begun is well-formed with the octets that fill it. The row is then empty.
+fn is_full_formed(row: &mut ArrayVec<u8, 64>, part: &[u8]) -> bool
+    requires { length row.old.items + length part.now ≤ 64 }
+    ensures formed { result ≡ is_utf8 (row.old.items ++ part.now) }
+    ensures row { row.new.items ≡ [] }
+{
+    if row.is_empty() {
+        return is_well_formed(part);
+    }
+    let _ = row.try_extend_from_slice(part);
+    let full = row.take();
+    is_well_formed(full.as_slice())
+}
+
+/// Whether the octets are UTF-8.
+pub(super) fn is_well_formed(octets: &[u8]) -> bool
+    ensures { result ≡ is_utf8 octets.now }
+{
+    simdutf8::is_utf8(octets)
+}
