@@ -1,6 +1,5 @@
 -- What a dump makes of events: the lines of elements, with those of what is found in them before and behind.
-use Rattle.std.specs.Prelude.{ℕ, List, [], ◌∷◌, ◌++◌, codes}
-use Rattle.tlv_head.specs.Header.{Heading}
+use Rattle.std.specs.Prelude.{ℕ, List, [], ◌∷◌, ◌++◌}
 use Rattle.tlv_value.specs.declared.layout.Layout.{Layout}
 use Rattle.tlv_value.specs.Names.{Table}
 use Rattle.tlv_walk.specs.declared.follow.Go.TheVariants.{On}
@@ -9,7 +8,7 @@ use Rattle.tlv_walk.specs.Follow.{Following, each_octet}
 use Rattle.tlv_show.specs.declared.rules.Rules.{Rules}
 use Rattle.tlv_show.specs.declared.style.Style.TheVariants.{Dump}
 use Rattle.tlv_show.specs.CheckStep.{all_written}
-use Rattle.tlv_show.specs.Dumped.{Dumping, dumped, dumped_open, fresh, one_dumped, one_padded}
+use Rattle.tlv_show.specs.Dumped.{Dumping, dumped, fresh, one_dumped, one_padded}
 use Rattle.tlv_show.specs.FinderState.{FinderState, Finds, find_begin, find_bytes, find_close, find_end, find_open, finds_nothing, no_findings}
 
 -- what contracts see of a `Dump`
@@ -32,10 +31,6 @@ findings_first s f d = record { state = record { lines = d.state; finder = f.sta
 abbrev pub findings_last : Showing → Finds → Following Dumping → Following Showing
 findings_last s f d = record { state = record { lines = d.state; finder = f.state }; put = d.put ++ found_lines s f; goes = On }
 
--- an element that holds others begins: its line has this word behind the tag
-abbrev pub shown_open : Showing → Heading → List ℕ → Following Showing
-shown_open s h word = findings_first s (find_open s.finder h) (dumped_open s.lines h word)
-
 -- a contents octet, and an octet of padding
 abbrev pub one_shown : Showing → ℕ → Following Showing
 one_shown s x =
@@ -49,8 +44,8 @@ one_filled s x =
 
 -- an event
 abbrev pub dump_step : Showing → Told → Following Showing
-dump_step s (Open h) = shown_open s h (codes " {")
-dump_step s (Enter h) = shown_open s h (codes " wraps {")
+dump_step s (Open h) = findings_first s (find_open s.finder h) (dumped s.lines (Open h))
+dump_step s (Enter h) = findings_first s (find_open s.finder h) (dumped s.lines (Enter h))
 dump_step s (Begin h) = findings_first s (find_begin s.finder h) (dumped s.lines (Begin h))
 dump_step s (Bytes octets) = each_octet one_shown s octets
 dump_step s End = findings_last s (find_end s.finder) (dumped s.lines End)

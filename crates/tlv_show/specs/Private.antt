@@ -1,5 +1,6 @@
 pub mod CheckStep
 pub mod Conditions
+pub mod DumpStep
 pub mod Dumped
 pub mod FinderState
 pub mod Found

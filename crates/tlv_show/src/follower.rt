@@ -1,9 +1,10 @@
 //! The follower that writes a dump.
-ghost use Rattle.std.specs.Prelude.{◌≡◌, ◌≤◌, OnOk, length, refl};
+ghost use Rattle.std.specs.Prelude.{◌≡◌, OnOk, refl};
 ghost use Rattle.tlv_walk.proofs.Followed.{each_octet-goes_on, each_octet-joins};
-ghost use Rattle.tlv_walk.specs.Events.{Begin, Bytes, Close, End};
+ghost use Rattle.tlv_walk.specs.Events.{Bytes, Close, End};
 ghost use Rattle.tlv_walk.specs.Out.{Puts};
-ghost use Rattle.tlv_show.specs.DumpStep.{dump_step, nothing_shown, one_filled, one_shown, shown_open};
+ghost use Rattle.tlv_show.specs.DumpStep.{dump_step, nothing_shown, one_filled, one_shown};
+ghost use Rattle.tlv_show.specs.Private.DumpStep.{beginning};
 ghost use Rattle.tlv_show.specs.Dumps.{top_layout};
 
 use crate::Options;
@@ -80,9 +81,11 @@ impl Follow for Dump<'_> {
     #[inline(always)]
     fn on<D: Drain>(&mut self, event: &Event<'_>, out: &mut Out<'_, D>) -> Result<Go, WriteFault> {
         match event {
-            Event::Open(header) => self.open(header, b" {", out)?,
-            Event::Enter(header) => self.open(header, b" wraps {", out)?,
-            Event::Begin(header) => self.begin(header, out)?,
+            Event::Open(header) | Event::Enter(header) | Event::Begin(header) => {
+                let is_value = matches!(event, Event::Begin(_));
+                let wraps = matches!(event, Event::Enter(_));
+                self.begin(header, is_value, wraps, out)?
+            }
             Event::Bytes(octets) => self.bytes(octets, out)?,
             Event::End => self.end(out)?,
             Event::Close(at) => self.close(*at, out)?,
@@ -95,38 +98,26 @@ impl Follow for Dump<'_> {
 }
 
 impl Dump<'_> {
-    /// An element that holds others begins: its line has this word behind the tag.
+    /// An element begins: a primitive, or one that holds others, as a constructed one or as a wrapper.
     #[inline(always)]
-    fn open<D: Drain>(
+    fn begin<D: Drain>(
         &mut self,
         header: &Header,
-        word: &[u8],
+        is_value: bool,
+        wraps: bool,
         out: &mut Out<'_, D>,
     ) -> Result<(), WriteFault>
-        requires { length word.now ≤ 16 }
-        ensures state { OnOk result (self.new ≡ (shown_open self.old header.now word.now).state) }
-        ensures puts { Puts D.told out.old out.new (shown_open self.old header.now word.now).put result }
+        ensures state { OnOk result (self.new ≡ (dump_step self.old (beginning is_value wraps header.now)).state) }
+        ensures puts { Puts D.told out.old out.new (dump_step self.old (beginning is_value wraps header.now)).put result }
     {
-        let tells = self.finder.begin(header, false);
+        let tells = self.finder.begin(header, is_value);
         let style = self.lines.style();
         put_findings(tells, &mut self.line, style, &self.finder, out)?;
-        self.lines.open(header, word, out)
-    }
-
-    /// A primitive begins.
-    #[inline(always)]
-    fn begin<D: Drain>(&mut self, header: &Header, out: &mut Out<'_, D>) -> Result<(), WriteFault>
-        ensures state { OnOk result (self.new ≡ (dump_step self.old (Begin header.now)).state) }
-        ensures puts { Puts D.told out.old out.new (dump_step self.old (Begin header.now)).put result }
-    {
-        let tells = self.finder.begin(header, true);
-        let style = self.lines.style();
-        put_findings(tells, &mut self.line, style, &self.finder, out)?;
-        self.lines.begin(header, out)
+        self.lines.head(header, is_value, wraps, out)
     }
 
     /// Contents of a primitive go on.
-    #[inline(always)]
+    #[inline]
     fn bytes<D: Drain>(&mut self, octets: &[u8], out: &mut Out<'_, D>) -> Result<(), WriteFault>
         ensures state { OnOk result (self.new ≡ (dump_step self.old (Bytes octets.now)).state) }
         ensures puts { Puts D.told out.old out.new (dump_step self.old (Bytes octets.now)).put result }
@@ -136,7 +127,7 @@ impl Dump<'_> {
     }
 
     /// A primitive ends.
-    #[inline(always)]
+    #[inline]
     fn end<D: Drain>(&mut self, out: &mut Out<'_, D>) -> Result<(), WriteFault>
         ensures state { OnOk result (self.new ≡ (dump_step self.old End).state) }
         ensures puts { Puts D.told out.old out.new (dump_step self.old End).put result }
@@ -148,7 +139,7 @@ impl Dump<'_> {
     }
 
     /// An element that holds others ends: `at` is where its end-of-contents octets stand.
-    #[inline(always)]
+    #[inline]
     fn close<D: Drain>(&mut self, at: Option<u64>, out: &mut Out<'_, D>) -> Result<(), WriteFault>
         ensures state { OnOk result (self.new ≡ (dump_step self.old (Close at)).state) }
         ensures puts { Puts D.told out.old out.new (dump_step self.old (Close at)).put result }

@@ -1,30 +1,25 @@
-use Rattle.std.proofs.Common.{refl, rules, sym, ap}
-use Rattle.tlv_walk.specs.Events.{Bytes}
-use Rattle.tlv_walk.proofs.Puts.{puts_as, puts_failed_last}
+use Rattle.std.proofs.Common.{◌≡◌, refl, rules, sym, ap}
+use Rattle.tlv_walk.specs.Events.{Told, Bytes}
+use Rattle.tlv_walk.specs.Tells.{told_of}
+use Rattle.tlv_show.specs.Private.DumpStep.{beginning}
+use Rattle.tlv_walk.proofs.Puts.{puts_as, puts_failed_last, puts_text}
 use Rattle.tlv_show.specs.Dumped.{Dumping}
-use Rattle.tlv_show.specs.DumpStep.{Showing}
+use Rattle.tlv_show.specs.DumpStep.{Showing, dump_step}
 use Rattle.tlv_show.proofs.DumpSteps.{each-filled, one_on}
 use Rattle.tlv_show.proofs.follower.DumpFollow.on.Goals as goal
 
 -- ---- an element begins
 
-pub returns-in_err-open-in-Open-clause-puts : goal.returns-in_err-open-in-Open-clause-puts
-returns-in_err-open-in-Open-clause-puts g c = rw c.in-Open.is (puts_failed_last g.D.Drain.told _ _ _ _ _ c.in_err-open-in-Open.ensures.puts (search rules))
+pub returns-in_err-begin-in-Open-clause-puts : goal.returns-in_err-begin-in-Open-clause-puts
+returns-in_err-begin-in-Open-clause-puts g c =
+    let same : beginning c.match-matches.matches c.match-matches-2.matches c.in-Open.header ≡ told_of c.args.event.now = search rules in
+    puts_text g.D.Drain.told _ _ _ _ _ (ap (λ (e : Told). (dump_step c.args.self.now e).put) same)
+    (puts_failed_last g.D.Drain.told _ _ _ _ _ c.in_err-begin-in-Open.ensures.puts (search rules))
 
-pub returns-in_ok-open-in-Open-clause-puts : goal.returns-in_ok-open-in-Open-clause-puts
-returns-in_ok-open-in-Open-clause-puts g c = rw c.in-Open.is (puts_as g.D.Drain.told _ _ _ _ _ _ c.in_ok-open-in-Open.ensures.puts refl)
-
-pub returns-in_err-open-in-Enter-clause-puts : goal.returns-in_err-open-in-Enter-clause-puts
-returns-in_err-open-in-Enter-clause-puts g c = rw c.in-Enter.is (puts_failed_last g.D.Drain.told _ _ _ _ _ c.in_err-open-in-Enter.ensures.puts (search rules))
-
-pub returns-in_ok-open-in-Enter-clause-puts : goal.returns-in_ok-open-in-Enter-clause-puts
-returns-in_ok-open-in-Enter-clause-puts g c = rw c.in-Enter.is (puts_as g.D.Drain.told _ _ _ _ _ _ c.in_ok-open-in-Enter.ensures.puts refl)
-
-pub returns-in_err-begin-in-Begin-clause-puts : goal.returns-in_err-begin-in-Begin-clause-puts
-returns-in_err-begin-in-Begin-clause-puts g c = rw c.in-Begin.is (puts_failed_last g.D.Drain.told _ _ _ _ _ c.in_err-begin-in-Begin.ensures.puts (search rules))
-
-pub returns-in_ok-begin-in-Begin-clause-puts : goal.returns-in_ok-begin-in-Begin-clause-puts
-returns-in_ok-begin-in-Begin-clause-puts g c = rw c.in-Begin.is (puts_as g.D.Drain.told _ _ _ _ _ _ c.in_ok-begin-in-Begin.ensures.puts refl)
+pub returns-in_ok-begin-in-Open-clause-puts : goal.returns-in_ok-begin-in-Open-clause-puts
+returns-in_ok-begin-in-Open-clause-puts g c =
+    let same : beginning c.match-matches.matches c.match-matches-2.matches c.in-Open.header ≡ told_of c.args.event.now = search rules in
+    puts_as g.D.Drain.told _ _ _ _ _ _ c.in_ok-begin-in-Open.ensures.puts (ap (λ (e : Told). (dump_step c.args.self.now e).put) same)
 
 -- ---- contents and padding
 
