@@ -1,10 +1,10 @@
 //! What is found in elements, event by event.
-ghost use Rattle.std.specs.Prelude.{◌≡◌, ℕ, Some, [], if◌then◌else◌, length};
+ghost use Rattle.std.specs.Prelude.{◌≡◌, [], if◌then◌else◌, length};
 ghost use Rattle.std.specs.List.{filter};
-ghost use Rattle.tlv_value.specs.CheckState.{found_in, unchecked};
+ghost use Rattle.tlv_value.specs.CheckState.{found_in};
 ghost use Rattle.tlv_walk.specs.Tells.{told_of};
-ghost use Rattle.tlv_show.specs.FinderState.{begun_in, checked_by, entered_in, find_begin, find_bytes, find_close, find_end, find_open, finds, finds_nothing, frame_of as frame_inside, header_notes, no_findings, noted, top_frame};
-ghost use Rattle.tlv_show.specs.Private.FinderState.{Tells, begun_at, find as find_in, stands};
+ghost use Rattle.tlv_show.specs.FinderState.{begun_in, entered_in, find_begin, find_bytes, find_close, find_end, find_open, finds, finds_nothing, frame_of as frame_inside, header_notes, no_findings, noted, top_frame};
+ghost use Rattle.tlv_show.specs.Private.FinderState.{Tells, find as find_in, stands};
 ghost use Rattle.tlv_show.specs.Found.{shows};
 
 use crate::Rules;
@@ -27,8 +27,9 @@ pub(crate) struct Finder {
     /// Where the primitive begins that is open.
     at: u64,
     is_open: bool,
-    /// It is used again for the next primitive, so its room is not filled anew each time.
-    check: Option<ValueCheck>,
+    /// What is noted of the primitive that is open, or of the last one. It is used again for the next primitive, so its
+    /// room is not filled anew each time.
+    check: ValueCheck,
     /// How many findings were told.
     count: u64,
     /// What the last event told. It is kept here so that nothing is moved where nothing is found.
@@ -88,7 +89,7 @@ impl Finder {
             outer: Frames::new(),
             at: 0,
             is_open: false,
-            check: None,
+            check: ValueCheck::of_type(0, 0),
             count: 0,
             told: Told {
                 level: 0,
@@ -181,7 +182,7 @@ impl Finder {
     {
         self.at = header.offset;
         self.is_open = true;
-        restart(&mut self.check, header);
+        self.check.restart(header);
     }
 
     /// An element begins: a primitive, or one that holds others.
@@ -199,13 +200,14 @@ impl Finder {
         tells
     }
 
-    /// Contents of a primitive go on.
+    /// Contents of a primitive go on. Those past the octets that were announced do not count.
     #[inline(always)]
     pub fn bytes(&mut self, octets: &[u8])
         ensures { self.new ≡ stands (find_bytes self.old.state octets.now) self.old }
     {
         if self.is_open && !octets.is_empty() {
-            take_octets(&mut self.check, octets);
+            let count = self.check.left().min(octets.len() as u64) as usize;
+            self.check.bytes(&octets[..count]);
         }
     }
 
@@ -214,12 +216,10 @@ impl Finder {
     pub fn end(&mut self) -> bool
         ensures { Tells (find_end self.old.state) self.new result }
     {
-        let Some(check) = &self.check else {
-            return false;
-        };
         if !self.is_open {
             return false;
         }
+        let check = &self.check;
         self.is_open = false;
         note_element(&mut self.frame, true, check.size(), check.has_unused_bits());
         if check.left() != 0 || check.is_clear() {
@@ -296,28 +296,6 @@ fn note_element(frame: &mut Frame, is_primitive: bool, size: u64, is_unused: boo
     frame.all_primitive = frame.all_primitive && is_primitive;
     frame.octets = frame.octets.saturating_add(octets).min(1001);
     frame.is_empty = is_primitive && size == 0;
-}
-
-/// A primitive begins, in place of the last one.
-#[inline(always)]
-fn restart(check: &mut Option<ValueCheck>, header: &Header)
-    ensures { check.new ≡ Some (unchecked header.now) }
-{
-    match check {
-        Some(check) => check.restart(header),
-        None => *check = Some(ValueCheck::new(header)),
-    }
-}
-
-/// Takes contents octets of the primitive that is open. Those past the ones that were announced do not count.
-#[inline(always)]
-fn take_octets(check: &mut Option<ValueCheck>, octets: &[u8])
-    ensures { (at : ℕ) → begun_at at check.new ≡ checked_by (begun_at at check.old) octets.now }
-{
-    if let Some(check) = check {
-        let count = check.left().min(octets.len() as u64) as usize;
-        check.bytes(&octets[..count]);
-    }
 }
 
 /// Notes what is found on the contents of a primitive, of which all have come.

@@ -1,7 +1,7 @@
 //! What is found on the contents of a primitive.
 ghost use Rattle.std.specs.Prelude.{◌≡◌, ◌+◌, ◌≤◌, ◌&&◌, ℕ, List, eqb, length, slice_index};
 ghost use Rattle.tlv_head.specs.Header.{Heading, announced};
-ghost use Rattle.tlv_value.specs.CheckState.{allowed_in, checked, each_noted, found_in, front_noted, has_unused, type_noted, unchecked};
+ghost use Rattle.tlv_value.specs.CheckState.{allowed_in, checked, each_noted, found_in, front_noted, has_unused, type_noted, unchecked, unchecked_of};
 ghost use Rattle.tlv_value.specs.Checks.{contents_findings, is_padded_integer};
 
 mod characters;
@@ -62,9 +62,15 @@ impl ValueCheck {
     pub fn new(header: &Header) -> ValueCheck
         ensures { result ≡ unchecked header.now }
     {
-        let size = size_of(header);
+        ValueCheck::of_type(type_of(header), size_of(header))
+    }
+
+    /// For a primitive of the universal type with this number, with so many contents octets, of which none has come.
+    pub fn of_type(number: u64, size: u64) -> ValueCheck
+        ensures { result ≡ unchecked_of number size }
+    {
         ValueCheck {
-            number: type_of(header),
+            number,
             size,
             left: size,
             first: 0,

@@ -9,13 +9,9 @@ abbrev pub innermost_of : List Frame → Option Frame
 innermost_of [] = None
 innermost_of (w ∷ outer) = Some w
 
--- a primitive, if one is open
-abbrev pub begun_at : ℕ → Option CheckState → Option OpenValue
-begun_at at None = None
-begun_at at (Some check) = Some (record { at = at; check = check })
-
-abbrev pub open_by : Bool → ℕ → Option CheckState → Option OpenValue
-open_by is_open at check = if is_open then begun_at at check else None
+-- the primitive that begins at `at`, if one is open
+abbrev pub open_by : Bool → ℕ → CheckState → Option OpenValue
+open_by is_open at check = if is_open then Some (record { at = at; check = check }) else None
 
 -- the state alone changes
 abbrev pub stands : FinderState → Finds → Finds
