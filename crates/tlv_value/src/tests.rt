@@ -4,6 +4,7 @@ mod findings;
 mod long;
 mod rows;
 mod texts;
+mod typed;
 mod types;
 mod unused;
 
