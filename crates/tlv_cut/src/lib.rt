@@ -7,8 +7,6 @@ mod extractor;
 mod indefinite;
 pub mod laws;
 mod respelling;
-#[cfg(test)]
-mod tests;
 
 pub use extracting::{Cut, extract};
 pub use extractor::Extract;

@@ -7,8 +7,6 @@ mod header;
 pub mod laws;
 mod reader;
 mod tag;
-#[cfg(test)]
-mod tests;
 
 pub use fault::{Fault, FaultCode};
 pub use header::{Class, Header, HeaderFields, Size, spell_indefinite};

@@ -1,8 +1,6 @@
 //! What `dump` writes: a line for each element, and rows for the contents of a long primitive.
 #![tactic(auto)]
 
-#[cfg(test)]
-mod check_tests;
 mod checker;
 mod checking;
 mod dumping;
@@ -17,8 +15,6 @@ mod options;
 mod outcome;
 mod rules;
 mod style;
-#[cfg(test)]
-mod tests;
 
 pub use checker::Check;
 pub use checking::check;

@@ -45,6 +45,5 @@ pub mod Enough
 pub mod Drives
 pub mod Jobs
 pub mod Inputs
-pub mod Lined
 pub mod Alike
 pub mod Respelled

@@ -2,7 +2,6 @@ pub mod Device
 pub mod Follows
 pub mod Forest
 pub mod LastRead
-pub mod Lined
 pub mod Machine
 pub mod ReadsOn
 pub mod Stack

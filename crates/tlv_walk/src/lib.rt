@@ -15,8 +15,6 @@ mod run;
 mod source;
 mod stack;
 mod stream;
-#[cfg(test)]
-mod tests;
 mod turning;
 mod walker;
 

@@ -1,0 +1,11 @@
+//! The tests of `tlv_head`, `tlv_walk`, `tlv_show` and `tlv_cut`, by what these crates make public.
+#![tactic(auto)]
+
+#[cfg(test)]
+mod cut;
+#[cfg(test)]
+mod head;
+#[cfg(test)]
+mod show;
+#[cfg(test)]
+mod walk;

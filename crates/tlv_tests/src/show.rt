@@ -1,0 +1,277 @@
+//! Dumps of events, told one by one.
+mod checks;
+
+use std::process::Abort;
+use std::test::Fail;
+use tlv_head::{Header, read_header};
+use tlv_show::{Dump, Options, Rules};
+use tlv_value::Names;
+use tlv_walk::{
+    Drain, Ending, Event, Follow, Framing, MemDrain, MemSource, Out, Run, Turn, Walker, WriteFault,
+    turn,
+};
+
+/// The header with these octets, at this offset.
+fn header(offset: u64, octets: &[u8]) -> Result<Header, Fail> {
+    match read_header(offset, false, octets) {
+        Some((fields, len)) if len == octets.len() => Ok(Header::new(&fields, octets)),
+        _ => Err(Fail::from("no header")),
+    }
+}
+
+/// Options of a dump of everything.
+fn plain() -> Options {
+    Options {
+        rules: Rules::Ber,
+        limit: None,
+        pure: false,
+        framing: Framing::plain(),
+    }
+}
+
+/// Tells the events to a new dump.
+fn tell<D: Drain>(events: &[Event<'_>], drain: &mut D) -> Result<(), WriteFault> {
+    let mut out = Out::new(drain);
+    let names = Names::empty();
+    let mut follower = Dump::new(&plain(), &names);
+    for event in events {
+        follower.on(event, &mut out)?;
+    }
+    out.flush()
+}
+
+/// Expects the events to make a dump of this text.
+fn expect_text(rt: &impl Abort, events: &[Event<'_>], text: &[u8]) {
+    let mut room = [0; 400];
+    let mut drain = MemDrain::new(&mut room, 7);
+    assert_eq!(rt; tell(events, &mut drain), Ok(()));
+    assert_eq!(rt; drain.written(), text);
+}
+
+#[test]
+fn a_constructed_string(rt: HostRuntime) -> Result<(), Fail> {
+    let events = [
+        Event::Open(header(0, &[0x3a, 9])?),
+        Event::Begin(header(2, &[4, 3])?),
+        Event::Bytes(b"J"),
+        Event::Bytes(b"on"),
+        Event::End,
+        Event::Begin(header(7, &[4, 2])?),
+        Event::Bytes(b"es"),
+        Event::End,
+        Event::Close(None),
+    ];
+    let text = b"       0      9: VisibleString {
+       2      3:   OCTET STRING 4a 6f 6e
+       7      2:   OCTET STRING 65 73
+                 }
+";
+    expect_text(&rt, &events, text);
+    Ok(())
+}
+
+#[test]
+fn the_indefinite_form(rt: HostRuntime) -> Result<(), Fail> {
+    let events = [
+        Event::Open(header(0, &[0x3a, 0x80])?),
+        Event::Begin(header(2, &[4, 3])?),
+        Event::Bytes(b"Jon"),
+        Event::End,
+        Event::Close(Some(7)),
+    ];
+    let text = b"       0  indef: VisibleString {
+       2      3:   OCTET STRING 4a 6f 6e
+       7    end: }
+";
+    expect_text(&rt, &events, text);
+    Ok(())
+}
+
+const CONTENTS: [u8; 17] = [0, 0x80, 0, 0, 0, 0, 0, 0, 0, 0, 0, 0, 0, 0, 0, 0, 0];
+
+const ROWS: &[u8] = b"       0     17: INTEGER
+                   00 80 00 00 00 00 00 00 00 00 00 00 00 00 00 00
+                   00
+";
+
+#[test]
+fn rows_from_one_piece(rt: HostRuntime) -> Result<(), Fail> {
+    let events = [
+        Event::Begin(header(0, &[2, 17])?),
+        Event::Bytes(&CONTENTS),
+        Event::End,
+    ];
+    expect_text(&rt, &events, ROWS);
+    Ok(())
+}
+
+#[test]
+fn rows_from_pieces(rt: HostRuntime) -> Result<(), Fail> {
+    for cut in 0..=17 {
+        let (front, behind) = CONTENTS.split_at(cut);
+        let events = [
+            Event::Begin(header(0, &[2, 17])?),
+            Event::Bytes(front),
+            Event::Bytes(behind),
+            Event::End,
+        ];
+        expect_text(&rt, &events, ROWS);
+    }
+    Ok(())
+}
+
+#[test]
+fn a_wrapper_and_padding(rt: HostRuntime) -> Result<(), Fail> {
+    let events = [
+        Event::Pad(&[0]),
+        Event::Pad(&[0, 0]),
+        Event::Enter(header(3, &[3, 3])?),
+        Event::Unused,
+        Event::Begin(header(6, &[5, 0])?),
+        Event::End,
+        Event::Leave,
+        Event::Pad(&[0]),
+    ];
+    let text = b"       0    pad: padding
+       3      3: BIT STRING wraps {
+       6      0:   NULL
+                 }
+       8    pad: padding
+";
+    expect_text(&rt, &events, text);
+    Ok(())
+}
+
+#[test]
+fn a_drain_without_room(rt: HostRuntime) -> Result<(), Fail> {
+    let events = [Event::Begin(header(0, &[5, 0])?), Event::End];
+    let mut room = [0; 10];
+    let mut drain = MemDrain::new(&mut room, 400);
+    assert_eq!(rt; tell(&events, &mut drain), Err(WriteFault));
+    assert_eq!(rt; drain.written(), b"       0  ".as_slice());
+    Ok(())
+}
+
+/// Behind each read of four octets the lines are written that the octets so far allow: 1, 2, 4 and 4.
+#[test]
+fn lines_come_with_their_octets(rt: HostRuntime) {
+    let text = b"       0      9: VisibleString {
+       2      3:   OCTET STRING 4a 6f 6e
+       7      2:   OCTET STRING 65 73
+                 }
+";
+    let mut room = [0; 200];
+    let mut piece = [0; 4];
+    let mut walker = Walker::new(&Framing::plain());
+    let names = Names::empty();
+    let mut follower = Dump::new(&plain(), &names);
+    let mut source = MemSource::new(b"\x3a\x09\x04\x03Jon\x04\x02es", &[], None);
+    let mut drain = MemDrain::new(&mut room, 200);
+    let Ok(Turn::Again) = turn(
+        &mut walker,
+        &mut follower,
+        &mut source,
+        &mut drain,
+        &mut piece,
+        11,
+    ) else {
+        panic!(rt; "more is to be read");
+    };
+    assert_eq!(rt; drain.written(), &text[..33]);
+    let Ok(Turn::Again) = turn(
+        &mut walker,
+        &mut follower,
+        &mut source,
+        &mut drain,
+        &mut piece,
+        11,
+    ) else {
+        panic!(rt; "more is to be read");
+    };
+    assert_eq!(rt; drain.written(), &text[..74]);
+    let Ok(Turn::Again) = turn(
+        &mut walker,
+        &mut follower,
+        &mut source,
+        &mut drain,
+        &mut piece,
+        11,
+    ) else {
+        panic!(rt; "more is to be read");
+    };
+    assert_eq!(rt; drain.written(), text.as_slice());
+    let end = turn(
+        &mut walker,
+        &mut follower,
+        &mut source,
+        &mut drain,
+        &mut piece,
+        11,
+    );
+    let run = Run {
+        ending: Ending::Done,
+        octets: 11,
+        enough: false,
+        unused: None,
+    };
+    assert_eq!(rt; end, Ok(Turn::Ended(run)));
+    assert_eq!(rt; drain.written(), text.as_slice());
+}
+
+/// The lines that so many octets of the constructed string allow.
+fn lines_with(octets: u64) -> &'static [u8] {
+    match octets {
+        0 | 1 => b"",
+        2..=6 => b"       0      9: VisibleString {\n",
+        7..=10 => b"       0      9: VisibleString {
+       2      3:   OCTET STRING 4a 6f 6e
+",
+        _ => b"       0      9: VisibleString {
+       2      3:   OCTET STRING 4a 6f 6e
+       7      2:   OCTET STRING 65 73
+                 }
+",
+    }
+}
+
+/// Expects the lines of the string turn by turn, if its first read gives so many octets.
+fn expect_turns(rt: &impl Abort, first: u64) {
+    let mut room = [0; 200];
+    let mut piece = [0; 11];
+    let names = Names::empty();
+    let mut walker = Walker::new(&Framing::plain());
+    let mut follower = Dump::new(&plain(), &names);
+    let cuts = [first];
+    let mut source = MemSource::new(b"\x3a\x09\x04\x03Jon\x04\x02es", &cuts, None);
+    let mut drain = MemDrain::new(&mut room, 200);
+    let Ok(Turn::Again) = turn(
+        &mut walker,
+        &mut follower,
+        &mut source,
+        &mut drain,
+        &mut piece,
+        11,
+    ) else {
+        panic!(rt; "more is to be read");
+    };
+    assert_eq!(rt; drain.written(), lines_with(first));
+    let Ok(Turn::Again) = turn(
+        &mut walker,
+        &mut follower,
+        &mut source,
+        &mut drain,
+        &mut piece,
+        11,
+    ) else {
+        panic!(rt; "more is to be read");
+    };
+    assert_eq!(rt; drain.written(), lines_with(11));
+}
+
+/// The same in each cut into two pieces.
+#[test]
+fn lines_come_with_their_octets_in_each_cut(rt: HostRuntime) {
+    for first in 1..11 {
+        expect_turns(&rt, first);
+    }
+}

@@ -1,0 +1,186 @@
+//! A follower that writes each event as a line of text.
+ghost use Rattle.std.specs.Prelude.{◌≡◌, ◌+◌, ◌*◌, ◌≤◌, ◌++◌, length};
+ghost use Rattle.arrayvec.specs.ArrayVec.{array_vec_len};
+ghost use Rattle.tlv_walk.specs.Follow.{IsFollowed};
+ghost use Rattle.tlv_tests.specs.Lined.{
+  close_line as close_line_of,
+  ends,
+  header_line as header_line_of,
+  pair as pair_of,
+  pads,
+  pairs,
+  place as place_of,
+};
+ghost use Rattle.tlv_walk.specs.Out.{Puts};
+
+use arrayvec::ArrayVec;
+use std::marker::Model;
+use tlv_head::Header;
+use tlv_walk::{Drain, Event, Follow, Go, Out, WriteFault};
+
+const DIGITS: [u8; 16] = *b"0123456789abcdef";
+
+/// Writes each event as a line of text, but contents octets in front of their primitive's end.
+#[derive(Drop)]
+pub(crate) struct Lines {
+    ends: u64,
+}
+
+impl Model for Lines {
+    ghost use Rattle.std.specs.Prelude.{ℕ};
+
+    ghost Value = { ℕ };
+
+    ghost view = { λ lines. lines.ends };
+}
+
+impl Lines {
+    /// A follower that has enough with the end of so many elements, or never where that is 0.
+    pub fn up_to(ends: u64) -> Lines
+        ensures { result ≡ ends }
+    {
+        Lines { ends }
+    }
+
+    /// An element ends.
+    fn end<D: Drain>(&mut self, line: &[u8], out: &mut Out<'_, D>) -> Result<Go, WriteFault>
+        ensures state { IsFollowed (ends self.old line.now) self.new result }
+        ensures puts { Puts D.told out.old out.new line.now result }
+    {
+        out.put(line)?;
+        let is_last = self.ends == 1;
+        self.ends = self.ends.saturating_sub(1);
+        Ok(if is_last { Go::Enough } else { Go::On })
+    }
+}
+
+/// An octet as a space and two digits.
+fn pair(octet: u8) -> [u8; 3]
+    ensures { result ≡ pair_of octet }
+{
+    [
+        b' ',
+        DIGITS[usize::from(octet / 16)],
+        DIGITS[usize::from(octet % 16)],
+    ]
+}
+
+/// An offset as a space and its last four decimal digits.
+fn place(offset: u64) -> [u8; 5]
+    ensures { result ≡ place_of offset }
+{
+    [
+        b' ',
+        DIGITS[(offset / 1000 % 10) as usize],
+        DIGITS[(offset / 100 % 10) as usize],
+        DIGITS[(offset / 10 % 10) as usize],
+        DIGITS[(offset % 10) as usize],
+    ]
+}
+
+/// Adds each octet as a space and two digits.
+fn push_pairs(line: &mut ArrayVec<u8, 512>, octets: &[u8])
+    requires room { array_vec_len line.old + 3 * length octets.now ≤ 512 }
+    ensures text { line.new.items ≡ line.old.items ++ pairs octets.now }
+    ensures grows { array_vec_len line.new ≡ array_vec_len line.old + 3 * length octets.now }
+{
+    let mut rest = octets;
+    while let [octet, behind @ ..] = rest {
+        let _ = line.try_extend_from_slice(&pair(*octet));
+        rest = behind;
+    }
+}
+
+/// The line of a header.
+fn header_line(word: &[u8], header: &Header) -> ArrayVec<u8, 512>
+    requires { length word.now ≤ 5 }
+    ensures { result.items ≡ header_line_of word.now header.now }
+{
+    let mut line = ArrayVec::new();
+    let _ = line.try_extend_from_slice(word);
+    let _ = line.try_extend_from_slice(&place(header.offset));
+    push_pairs(&mut line, header.raw());
+    line.push(b'\n');
+    line
+}
+
+/// The line of the end of a constructed element.
+fn close_line(at: Option<u64>) -> ArrayVec<u8, 11>
+    ensures { result.items ≡ close_line_of at }
+{
+    let mut line = ArrayVec::new();
+    let _ = line.try_extend_from_slice(b"close");
+    if let Some(at) = at {
+        let _ = line.try_extend_from_slice(&place(at));
+    }
+    line.push(b'\n');
+    line
+}
+
+/// Puts the line of a header.
+fn put_header<D: Drain>(
+    word: &[u8],
+    header: &Header,
+    out: &mut Out<'_, D>,
+) -> Result<(), WriteFault>
+    requires { length word.now ≤ 5 }
+    ensures { Puts D.told out.old out.new (header_line_of word.now header.now) result }
+{
+    out.put(header_line(word, header).as_slice())
+}
+
+/// Puts each octet as a space and two digits.
+fn put_pairs<D: Drain>(octets: &[u8], out: &mut Out<'_, D>) -> Result<(), WriteFault>
+    ensures { Puts D.told out.old out.new (pairs octets.now) result }
+{
+    for octet in octets {
+        out.put(&pair(*octet))?;
+    }
+    Ok(())
+}
+
+/// Puts a line for each octet of padding.
+fn put_padding<D: Drain>(octets: &[u8], out: &mut Out<'_, D>) -> Result<(), WriteFault>
+    ensures { Puts D.told out.old out.new (pads octets.now) result }
+{
+    for _octet in octets {
+        out.put(b"pad\n")?;
+    }
+    Ok(())
+}
+
+impl Follow for Lines {
+    ghost use Rattle.std.specs.Prelude.{codes, refl};
+    ghost use Rattle.std.proofs.Common.{ap};
+    ghost use Rattle.std.proofs.lemmas.Grind.{flat_map-append};
+    ghost use Rattle.tlv_tests.specs.Lined.{lined, pair as pair_of, puts};
+
+    ghost next = { lined };
+
+    ghost bytes_join = { λ s x y. ap (puts s) (flat_map-append pair_of x y) };
+
+    ghost bytes_rest = { λ s. refl };
+
+    ghost bytes_go_on = { λ s x. refl };
+
+    ghost pad_join = { λ s x y. ap (puts s) (flat_map-append (λ z. codes "pad\n") x y) };
+
+    ghost pad_rest = { λ s. refl };
+
+    ghost pad_go_on = { λ s x. refl };
+
+    fn on<D: Drain>(&mut self, event: &Event<'_>, out: &mut Out<'_, D>) -> Result<Go, WriteFault> {
+        match event {
+            Event::Open(header) => put_header(b"open", header, out)?,
+            Event::Begin(header) => put_header(b"begin", header, out)?,
+            Event::Enter(header) => put_header(b"enter", header, out)?,
+            Event::Bytes(octets) => put_pairs(octets, out)?,
+            Event::Pad(octets) => put_padding(octets, out)?,
+            Event::Unused => out.put(b"unused\n")?,
+            Event::End => return self.end(b" end\n", out),
+            Event::Leave => return self.end(b"leave\n", out),
+            Event::Close(at) => return self.end(close_line(*at).as_slice(), out),
+        }
+        Ok(Go::On)
+    }
+}

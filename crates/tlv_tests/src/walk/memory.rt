@@ -1,0 +1,45 @@
+//! A source and a drain over memory.
+use tlv_walk::{Drain, MemDrain, MemSource, ReadFault, Source, WriteFault};
+
+#[test]
+fn source_gives_pieces(rt: HostRuntime) {
+    let mut to = [0; 4];
+
+    // A cut of 2, one of 0, which counts as 1, and then as many as there is room for.
+    let mut source = MemSource::new(b"abcdefghi", &[2, 0], None);
+    for want in [b"ab".as_slice(), b"c", b"defg", b"hi", b"", b""] {
+        let got = source.read(&mut to);
+        assert_eq!(rt; got, Ok(want.len()));
+        assert!(rt; to.starts_with(want));
+    }
+}
+
+#[test]
+fn source_fails_once(rt: HostRuntime) {
+    let mut to = [0; 4];
+    let mut source = MemSource::new(b"abcdef", &[4], Some(1));
+    assert_eq!(rt; source.read(&mut to), Ok(4));
+    assert_eq!(rt; source.read(&mut to), Err(ReadFault));
+    assert_eq!(rt; source.read(&mut to), Ok(2));
+    assert!(rt; to.starts_with(b"ef"));
+}
+
+#[test]
+fn drain_takes_what_fits(rt: HostRuntime) {
+    let mut room = [0; 5];
+    let mut drain = MemDrain::new(&mut room, 2);
+    assert_eq!(rt; drain.write(b"abc"), Ok(2));
+    assert_eq!(rt; drain.write(b"c"), Ok(1));
+    assert_eq!(rt; drain.write(b"def"), Ok(2));
+    assert_eq!(rt; drain.write(b"f"), Err(WriteFault));
+    assert_eq!(rt; drain.written(), b"abcde".as_slice());
+}
+
+#[test]
+fn drain_takes_at_least_one(rt: HostRuntime) {
+    let mut room = [0; 2];
+    let mut drain = MemDrain::new(&mut room, 0);
+    assert_eq!(rt; drain.write(b"ab"), Ok(1));
+    assert_eq!(rt; drain.write(b"b"), Ok(1));
+    assert_eq!(rt; drain.written(), b"ab".as_slice());
+}

@@ -1,0 +1,81 @@
+//! Offsets that may be named, and framings.
+use super::lines::Lines;
+use std::process::Abort;
+use tlv_walk::{Ending, Framing, Inside, MemDrain, MemSource, Run, Walker, drive};
+
+/// The largest offset that may be named.
+const LARGEST: u64 = 1_099_511_627_776;
+
+#[test]
+fn sixteen_rising_offsets_are_named(rt: HostRuntime) {
+    assert!(rt; Inside::new(&[]).is_some());
+    assert!(rt; Inside::new(&[0]).is_some());
+    assert!(rt; Inside::new(&[0, 1, LARGEST]).is_some());
+    assert!(rt;
+        Inside::new(&[0, 1, 2, 3, 4, 5, 6, 7, 8, 9, 10, 11, 12, 13, 14, LARGEST]).is_some()
+    );
+}
+
+#[test]
+fn other_offsets_are_not_named(rt: HostRuntime) {
+    let many = [0, 1, 2, 3, 4, 5, 6, 7, 8, 9, 10, 11, 12, 13, 14, 15, 16];
+    assert!(rt; Inside::new(&many).is_none());
+    assert!(rt; Inside::new(&[3, 3]).is_none());
+    assert!(rt; Inside::new(&[5, 3]).is_none());
+    assert!(rt; Inside::new(&[LARGEST.saturating_add(1)]).is_none());
+    assert!(rt; Inside::new(&[0, u64::MAX]).is_none());
+}
+
+#[test]
+fn a_plain_framing_names_nothing(rt: HostRuntime) {
+    let plain = Framing::plain();
+    assert!(rt; !plain.padding);
+    assert_eq!(rt; Walker::new(&plain).unused(), None);
+    let none = Framing {
+        inside: Inside::none(),
+        padding: true,
+    };
+    assert_eq!(rt; Walker::new(&none).unused(), None);
+}
+
+#[test]
+fn the_first_named_offset_is_unused_at_first(rt: HostRuntime) {
+    let Some(inside) = Inside::new(&[3, 7]) else {
+        panic!(rt; "the offsets rise");
+    };
+    let framing = Framing {
+        inside,
+        padding: false,
+    };
+    assert_eq!(rt; Walker::new(&framing).unused(), Some(3));
+}
+
+/// Walks over two strings that wrap, up to the end of so many elements.
+fn expect_unused(rt: &impl Abort, ends: u64, octets: u64, unused: Option<u64>) {
+    let Some(inside) = Inside::new(&[0, 4]) else {
+        panic!(rt; "the offsets rise");
+    };
+    let framing = Framing {
+        inside,
+        padding: false,
+    };
+    let mut room = [0; 128];
+    let mut source = MemSource::new(b"\x04\x02\x05\x00\x04\x00", &[], None);
+    let mut drain = MemDrain::new(&mut room, 4096);
+    let result = drive(&mut source, &mut Lines::up_to(ends), &mut drain, &framing);
+    let run = Run {
+        ending: Ending::Done,
+        octets,
+        enough: true,
+        unused,
+    };
+    assert_eq!(rt; result, Ok(run));
+}
+
+/// A named string behind the end that is enough is not found.
+#[test]
+fn unused_offsets_are_told_with_enough(rt: HostRuntime) {
+    expect_unused(&rt, 1, 4, Some(4));
+    expect_unused(&rt, 2, 4, Some(4));
+    expect_unused(&rt, 3, 6, None);
+}

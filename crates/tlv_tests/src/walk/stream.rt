@@ -1,0 +1,62 @@
+//! A reader as a source, and a writer as a drain.
+use std::io::{self, ErrorKind, Read, Write};
+use tlv_walk::{Drain, ReadFault, ReadSource, Source, WriteDrain, WriteFault};
+
+/// Is interrupted at its first read, and then gives `rest`.
+#[derive(Drop)]
+struct Interrupted {
+    was: bool,
+    rest: &'static [u8],
+}
+
+impl Read for Interrupted {
+    fn read(&mut self, buf: &mut [u8]) -> io::Result<usize> {
+        if self.was {
+            return self.rest.read(buf);
+        }
+        self.was = true;
+        Err(io::Error::from(ErrorKind::Interrupted))
+    }
+}
+
+/// Takes nothing at its first write, fails at its second, and then takes one octet each time.
+#[derive(Drop)]
+struct Reluctant {
+    writes: u8,
+}
+
+impl Write for Reluctant {
+    fn write(&mut self, buf: &[u8]) -> io::Result<usize> {
+        self.writes = self.writes.saturating_add(1);
+        match self.writes {
+            1 => Ok(0),
+            2 => Err(io::Error::from(ErrorKind::Interrupted)),
+            _ => Ok(buf.len().min(1)),
+        }
+    }
+
+    fn flush(&mut self) -> io::Result<()> {
+        Ok(())
+    }
+}
+
+#[test]
+fn interrupted_read_fails(rt: HostRuntime) {
+    let mut source = ReadSource::new(Interrupted {
+        was: false,
+        rest: b"abc",
+    });
+    let mut to = [0; 4];
+    assert_eq!(rt; source.read(&mut to), Err(ReadFault));
+    assert_eq!(rt; source.read(&mut to), Ok(3));
+    assert!(rt; to.starts_with(b"abc"));
+    assert_eq!(rt; source.read(&mut to), Ok(0));
+}
+
+#[test]
+fn write_of_nothing_fails(rt: HostRuntime) {
+    let mut drain = WriteDrain::new(Reluctant { writes: 0 });
+    assert_eq!(rt; drain.write(b"ab"), Err(WriteFault));
+    assert_eq!(rt; drain.write(b"ab"), Err(WriteFault));
+    assert_eq!(rt; drain.write(b"ab"), Ok(1));
+}

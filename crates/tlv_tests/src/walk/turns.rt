@@ -1,0 +1,102 @@
+//! Reads that are followed one by one.
+use super::lines::Lines;
+use tlv_walk::{DeviceFault, Ending, Framing, MemDrain, MemSource, Run, Turn, Walker, turn};
+
+/// A constructed string of definite length.
+const INPUT: &[u8] = b"\x3a\x09\x04\x03\x4a\x6f\x6e\x04\x02\x65\x73";
+
+const TEXT: &[u8] =
+    b"open 0000 3a 09\nbegin 0002 04 03\n 4a 6f 6e end\nbegin 0007 04 02\n 65 73 end\nclose\n";
+
+/// Behind each turn all is written that the octets read so far come to.
+#[test]
+fn turns_follow_one_read_each(rt: HostRuntime) {
+    let mut room = [0; 128];
+    let mut piece = [0; 4];
+    let mut walker = Walker::new(&Framing::plain());
+    let mut lines = Lines::up_to(0);
+    let mut source = MemSource::new(INPUT, &[], None);
+    let mut drain = MemDrain::new(&mut room, 4096);
+    let Ok(Turn::Again) = turn(
+        &mut walker,
+        &mut lines,
+        &mut source,
+        &mut drain,
+        &mut piece,
+        11,
+    ) else {
+        panic!(rt; "more is to be read");
+    };
+    assert_eq!(rt; drain.written(), &TEXT[..33]);
+    let Ok(Turn::Again) = turn(
+        &mut walker,
+        &mut lines,
+        &mut source,
+        &mut drain,
+        &mut piece,
+        11,
+    ) else {
+        panic!(rt; "more is to be read");
+    };
+    assert_eq!(rt; drain.written(), &TEXT[..47]);
+    let Ok(Turn::Again) = turn(
+        &mut walker,
+        &mut lines,
+        &mut source,
+        &mut drain,
+        &mut piece,
+        11,
+    ) else {
+        panic!(rt; "more is to be read");
+    };
+    assert_eq!(rt; drain.written(), TEXT);
+    let end = turn(
+        &mut walker,
+        &mut lines,
+        &mut source,
+        &mut drain,
+        &mut piece,
+        11,
+    );
+    let run = Run {
+        ending: Ending::Done,
+        octets: 11,
+        enough: false,
+        unused: None,
+    };
+    assert_eq!(rt; end, Ok(Turn::Ended(run)));
+    assert_eq!(rt; drain.written(), TEXT);
+}
+
+/// After a read that failed the next one goes on behind the same octets.
+#[test]
+fn a_turn_behind_a_failed_read_goes_on(rt: HostRuntime) {
+    let mut room = [0; 128];
+    let mut piece = [0; 16];
+    let mut walker = Walker::new(&Framing::plain());
+    let mut lines = Lines::up_to(0);
+    let mut source = MemSource::new(INPUT, &[5], Some(1));
+    let mut drain = MemDrain::new(&mut room, 4096);
+    let Ok(Turn::Again) = turn(
+        &mut walker,
+        &mut lines,
+        &mut source,
+        &mut drain,
+        &mut piece,
+        11,
+    ) else {
+        panic!(rt; "more is to be read");
+    };
+    assert_eq!(rt; drain.written(), &TEXT[..36]);
+    let failed = turn(
+        &mut walker,
+        &mut lines,
+        &mut source,
+        &mut drain,
+        &mut piece,
+        11,
+    );
+    assert_eq!(rt; failed, Err(DeviceFault::ReadFailed));
+    assert_eq!(rt; drain.written(), &TEXT[..36]);
+    assert_eq!(rt; walker.offset(), 5);
+}

@@ -1,7 +1,0 @@
-use Rattle.std.proofs.Common.{take}
-use Rattle.tlv_walk.specs.Private.Lined.{pads}
-use Rattle.tlv_walk.proofs.Puts.{HasPut}
-use Rattle.tlv_walk.proofs.tests.lines.put_padding.Given as goal
-
-abbrev pub invariant-loop-octet : goal.invariant-loop-octet
-invariant-loop-octet g l = HasPut g.D.Drain.told l.initial.out l.out (pads (take l._octet-index l.octets))
