@@ -1,14 +1,13 @@
 //! Headers, tags and faults of real octets.
+mod fields;
 mod octets;
+mod texts;
 
 ghost use Rattle.std.specs.Prelude.{◌≤◌};
 
 use self::octets::{OFFSET, Place, REFUSALS, SHAPES, Shape, TOP};
 use std::process::Abort;
-use tlv_head::{
-    Class, Fault, FaultCode, Head, HeadReader, Header, Size, read_header, read_short,
-    spell_indefinite, tag_text, type_name,
-};
+use tlv_head::{Fault, FaultCode, Head, HeadReader, Header, Size, read_header, read_short};
 
 /// The header with which the octets begin, and its octets.
 fn front_header(octets: &[u8]) -> Option<Header> {
@@ -117,53 +116,6 @@ fn short_headers_are_read_at_once(rt: HostRuntime) {
         );
     }
     assert!(rt; read_short(OFFSET, false, b"\x00\x00").is_none());
-}
-
-/// The octets behind the first of the identifier and of the length.
-#[test]
-fn headers_give_their_second_octets(rt: HostRuntime) {
-    for (octets, number, length) in [
-        (b"\x02\x01".as_slice(), 0, 0),
-        (b"\x04\x82\x03\xe8".as_slice(), 0, 3),
-        (b"\x1f\x85\x06\x81\x80".as_slice(), 0x85, 0x80),
-    ] {
-        let Some((fields, count)) = read_header(OFFSET, false, octets) else {
-            panic!(rt; "{octets:?} begins with no header");
-        };
-        let header = Header::new(&fields, &octets[..count]);
-        assert_eq!(rt; header.number_octet(), number, "of {octets:?}");
-        assert_eq!(rt; header.length_octet(), length, "of {octets:?}");
-    }
-}
-
-/// A header is made of fields and octets, and gives the fields again.
-#[test]
-fn fields_make_headers(rt: HostRuntime) {
-    for shape in &SHAPES {
-        let Some((fields, count)) = read_header(OFFSET, true, shape.octets) else {
-            panic!(rt; "{:?} begins with no header", shape.octets);
-        };
-        assert_eq!(rt; count, shape.octets.len());
-        let header = Header::new(&fields, &shape.octets[..count]);
-        expect_shape(&rt, &header, shape);
-        assert_eq!(rt;
-            header.identifier(),
-            &shape.octets[..usize::from(shape.id_len)]
-        );
-        let again = header.fields();
-        assert_eq!(rt; again.offset, OFFSET);
-        assert!(rt; again.named);
-        assert_eq!(rt; again.class, shape.class, "of {:?}", shape.octets);
-        assert_eq!(rt;
-            again.constructed,
-            shape.constructed,
-            "of {:?}",
-            shape.octets
-        );
-        assert_eq!(rt; again.number, shape.number, "of {:?}", shape.octets);
-        assert_eq!(rt; again.size, shape.size, "of {:?}", shape.octets);
-        assert_eq!(rt; again.id_len, shape.id_len, "of {:?}", shape.octets);
-    }
 }
 
 /// An octet before the last is taken, and makes no header.
@@ -276,180 +228,4 @@ fn a_refusal_leaves_the_reader(rt: HostRuntime) {
     };
     assert_eq!(rt; header.raw(), b"\x04\x00".as_slice());
     assert!(rt; reader.done());
-}
-
-#[test]
-fn lengths_become_indefinite(rt: HostRuntime) {
-    for (octets, want) in [
-        (b"\x30\x03".as_slice(), b"\x30\x80".as_slice()),
-        (b"\x30\x80", b"\x30\x80"),
-        (b"\xbf\x1f\x82\x01\x00", b"\xbf\x1f\x80"),
-        (
-            b"\xff\xff\xff\xff\xff\xff\xff\xff\xff\x7f\x01",
-            b"\xff\xff\xff\xff\xff\xff\xff\xff\xff\x7f\x80",
-        ),
-    ] {
-        let Some(header) = front_header(octets) else {
-            panic!(rt; "{:?} begins with no header", octets);
-        };
-        assert!(rt; header.constructed);
-        assert_eq!(rt; spell_indefinite(&header).as_slice(), want);
-    }
-}
-
-/// Named primitives of universal 4, and of universal 3 with contents.
-#[test]
-fn strings_wrap(rt: HostRuntime) {
-    for (octets, wraps) in [
-        (b"\x04\x00".as_slice(), true),
-        (b"\x04\x05", true),
-        (b"\x1f\x04\x02", true),
-        (b"\x03\x01", true),
-        (b"\x03\x81\x80", true),
-        (b"\x03\x00", false),
-        (b"\x24\x00", false),
-        (b"\x23\x80", false),
-        (b"\x84\x05", false),
-        (b"\x43\x05", false),
-        (b"\x0c\x05", false),
-        (b"\x30\x05", false),
-    ] {
-        let Some((named, _)) = read_header(OFFSET, true, octets) else {
-            panic!(rt; "{:?} begins with no header", octets);
-        };
-        assert_eq!(rt; named.wraps(), wraps, "{:?}", octets);
-        let Some(unnamed) = front_header(octets) else {
-            panic!(rt; "{:?} begins with no header", octets);
-        };
-        assert!(rt; !unnamed.wraps(), "{:?}", octets);
-    }
-}
-
-/// The texts of the universal tags, by their numbers.
-static UNIVERSAL: [&str; 38] = [
-    "[UNIVERSAL 0]",
-    "BOOLEAN",
-    "INTEGER",
-    "BIT STRING",
-    "OCTET STRING",
-    "NULL",
-    "OBJECT IDENTIFIER",
-    "ObjectDescriptor",
-    "EXTERNAL",
-    "REAL",
-    "ENUMERATED",
-    "EMBEDDED PDV",
-    "UTF8String",
-    "RELATIVE-OID",
-    "TIME",
-    "[UNIVERSAL 15]",
-    "SEQUENCE",
-    "SET",
-    "NumericString",
-    "PrintableString",
-    "TeletexString",
-    "VideotexString",
-    "IA5String",
-    "UTCTime",
-    "GeneralizedTime",
-    "GraphicString",
-    "VisibleString",
-    "GeneralString",
-    "UniversalString",
-    "CHARACTER STRING",
-    "BMPString",
-    "DATE",
-    "TIME-OF-DAY",
-    "DATE-TIME",
-    "DURATION",
-    "OID-IRI",
-    "RELATIVE-OID-IRI",
-    "[UNIVERSAL 37]",
-];
-
-#[test]
-fn tags_have_texts(rt: HostRuntime) {
-    for (number, text) in UNIVERSAL.iter().enumerate() {
-        let tag = tag_text(Class::Universal, number as u64);
-        assert_eq!(rt; tag.as_slice(), text.as_bytes(), "{}", number);
-        match type_name(number as u64) {
-            Some(name) => assert_eq!(rt; name, text.as_bytes()),
-            None => assert!(rt; text.starts_with("[UNIVERSAL "), "{}", number),
-        }
-    }
-    for (class, number, text) in [
-        (
-            Class::Universal,
-            9_223_372_036_854_775_807,
-            "[UNIVERSAL 9223372036854775807]",
-        ),
-        (Class::Application, 31, "[APPLICATION 31]"),
-        (
-            Class::Application,
-            9_223_372_036_854_775_807,
-            "[APPLICATION 9223372036854775807]",
-        ),
-        (Class::Context, 0, "[0]"),
-        (
-            Class::Context,
-            72_057_594_037_927_936,
-            "[72057594037927936]",
-        ),
-        (Class::Private, 2, "[PRIVATE 2]"),
-    ] {
-        assert_eq!(rt; tag_text(class, number).as_slice(), text.as_bytes());
-    }
-}
-
-#[test]
-fn faults_have_texts(rt: HostRuntime) {
-    for (code, name, text) in [
-        (FaultCode::Empty, "F01", "empty input"),
-        (FaultCode::Short, "F02", "input ends inside an encoding"),
-        (
-            FaultCode::StrayEnd,
-            "F03",
-            "end-of-contents outside an indefinite element",
-        ),
-        (FaultCode::BadEnd, "F04", "octet 00 not followed by 00"),
-        (
-            FaultCode::MissingEnd,
-            "F05",
-            "no end-of-contents inside the enclosing length",
-        ),
-        (
-            FaultCode::TagTooLong,
-            "F06",
-            "more than nine octets of tag number",
-        ),
-        (
-            FaultCode::ReservedLength,
-            "F07",
-            "length octet ff is reserved",
-        ),
-        (
-            FaultCode::IndefinitePrimitive,
-            "F08",
-            "indefinite length of a primitive",
-        ),
-        (FaultCode::LengthTooLarge, "F09", "length of 2^40 or more"),
-        (FaultCode::TooDeep, "F10", "more than 128 open elements"),
-        (
-            FaultCode::Overrun,
-            "F11",
-            "element runs past the enclosing length",
-        ),
-        (
-            FaultCode::BadInside,
-            "F12",
-            "first octet of a wrapped BIT STRING is not 00",
-        ),
-    ] {
-        assert_eq!(rt; code.name(), name.as_bytes());
-        let fault = Fault {
-            code,
-            offset: OFFSET,
-        };
-        assert_eq!(rt; fault.text(), text.as_bytes());
-    }
 }

@@ -6,6 +6,8 @@ mod cut;
 #[cfg(test)]
 mod head;
 #[cfg(test)]
+mod reads;
+#[cfg(test)]
 mod show;
 #[cfg(test)]
 mod walk;

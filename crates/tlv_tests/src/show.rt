@@ -1,6 +1,8 @@
 //! Dumps of events, told one by one.
+mod check_rows;
 mod checks;
 
+use crate::reads::{LENGTH, expect_again};
 use std::process::Abort;
 use std::test::Fail;
 use tlv_head::{Header, read_header};
@@ -167,38 +169,32 @@ fn lines_come_with_their_octets(rt: HostRuntime) {
     let mut follower = Dump::new(&plain(), &names);
     let mut source = MemSource::new(b"\x3a\x09\x04\x03Jon\x04\x02es", &[], None);
     let mut drain = MemDrain::new(&mut room, 200);
-    let Ok(Turn::Again) = turn(
+    expect_again(
+        &rt,
         &mut walker,
         &mut follower,
         &mut source,
         &mut drain,
         &mut piece,
-        11,
-    ) else {
-        panic!(rt; "more is to be read");
-    };
+    );
     assert_eq!(rt; drain.written(), &text[..33]);
-    let Ok(Turn::Again) = turn(
+    expect_again(
+        &rt,
         &mut walker,
         &mut follower,
         &mut source,
         &mut drain,
         &mut piece,
-        11,
-    ) else {
-        panic!(rt; "more is to be read");
-    };
+    );
     assert_eq!(rt; drain.written(), &text[..74]);
-    let Ok(Turn::Again) = turn(
+    expect_again(
+        &rt,
         &mut walker,
         &mut follower,
         &mut source,
         &mut drain,
         &mut piece,
-        11,
-    ) else {
-        panic!(rt; "more is to be read");
-    };
+    );
     assert_eq!(rt; drain.written(), text.as_slice());
     let end = turn(
         &mut walker,
@@ -206,7 +202,7 @@ fn lines_come_with_their_octets(rt: HostRuntime) {
         &mut source,
         &mut drain,
         &mut piece,
-        11,
+        LENGTH,
     );
     let run = Run {
         ending: Ending::Done,
@@ -244,27 +240,23 @@ fn expect_turns(rt: &impl Abort, first: u64) {
     let cuts = [first];
     let mut source = MemSource::new(b"\x3a\x09\x04\x03Jon\x04\x02es", &cuts, None);
     let mut drain = MemDrain::new(&mut room, 200);
-    let Ok(Turn::Again) = turn(
+    expect_again(
+        rt,
         &mut walker,
         &mut follower,
         &mut source,
         &mut drain,
         &mut piece,
-        11,
-    ) else {
-        panic!(rt; "more is to be read");
-    };
+    );
     assert_eq!(rt; drain.written(), lines_with(first));
-    let Ok(Turn::Again) = turn(
+    expect_again(
+        rt,
         &mut walker,
         &mut follower,
         &mut source,
         &mut drain,
         &mut piece,
-        11,
-    ) else {
-        panic!(rt; "more is to be read");
-    };
+    );
     assert_eq!(rt; drain.written(), lines_with(11));
 }
 

@@ -2,6 +2,8 @@
 //! octets come, and where a device fails.
 mod deep;
 mod devices;
+mod enough;
+mod fault_rows;
 mod lines;
 mod memory;
 mod naming;
@@ -11,13 +13,14 @@ mod steps;
 mod stream;
 mod turns;
 
+use self::fault_rows::{ENDED, REFUSED};
 use self::lines::Lines;
-use self::rows::{ENCODINGS, ENDED, REFUSED, Row, WRAPPED};
+use self::rows::{ENCODINGS, Row, WRAPPED};
 use std::alloc::Global;
 use std::process::Abort;
 use std::test::Fail;
 use tlv_walk::{
-    DeviceFault, Ending, Framing, INPUT_LIMIT, Inside, MemDrain, MemSource, Run, drive, drive_up_to,
+    DeviceFault, Ending, Framing, INPUT_LIMIT, Inside, MemDrain, MemSource, Run, drive_up_to,
 };
 
 /// Cuts into single octets: as many as the rows' inputs have, and more.
@@ -266,69 +269,6 @@ fn writes_fail(rt: HostRuntime) -> Result<(), Fail> {
         expect_failed_writes(&rt, rt.alloc(), rows)?;
     }
     Ok(())
-}
-
-/// Walks up to the end of so many elements.
-fn expect_enough(rt: &impl Abort, ends: u64, reads: Reads<'_>, run: Run, text: &[u8]) {
-    let mut room = [0; 1024];
-    let mut source = MemSource::new(
-        b"\x30\x80\x02\x01\x05\x00\x00\x00",
-        reads.cuts,
-        reads.fail_at,
-    );
-    let mut drain = MemDrain::new(&mut room, 4096);
-    let result = drive(
-        &mut source,
-        &mut Lines::up_to(ends),
-        &mut drain,
-        &Framing::plain(),
-    );
-    assert_eq!(rt; drain.written(), text);
-    assert_eq!(rt; result, Ok(run));
-}
-
-const FIRST_END: Run = Run {
-    ending: Ending::Done,
-    octets: 5,
-    enough: true,
-    unused: None,
-};
-
-/// Nothing is walked over behind the octets of the end that is enough, be it refused or not.
-#[test]
-fn octets_behind_enough_are_not_followed(rt: HostRuntime) {
-    let first = b"open 0000 30 80\nbegin 0002 02 01\n 05 end\n";
-    let both = b"open 0000 30 80\nbegin 0002 02 01\n 05 end\nclose 0005\n";
-    let second_end = Run {
-        octets: 7,
-        ..FIRST_END
-    };
-    for cut in 1..9 {
-        let reads = Reads {
-            cuts: &[cut],
-            ..WHOLE
-        };
-        expect_enough(&rt, 1, reads, FIRST_END, first);
-        expect_enough(&rt, 2, reads, second_end, both);
-    }
-}
-
-/// No read is made behind the octets of the end that is enough.
-#[test]
-fn nothing_is_read_behind_enough(rt: HostRuntime) {
-    let first = b"open 0000 30 80\nbegin 0002 02 01\n 05 end\n";
-    let cut = Reads {
-        cuts: &[5],
-        fail_at: Some(1),
-        limit: INPUT_LIMIT,
-    };
-    expect_enough(&rt, 1, cut, FIRST_END, first);
-    let singly = Reads {
-        cuts: &ONES,
-        fail_at: Some(5),
-        limit: INPUT_LIMIT,
-    };
-    expect_enough(&rt, 1, singly, FIRST_END, first);
 }
 
 /// No read is made behind an octet that is refused, and what was read with it is not followed.

@@ -1,5 +1,16 @@
 //! Octets put to an `Out`, and what its drain took.
+use std::process::Abort;
 use tlv_walk::{MemDrain, Out, WriteFault};
+
+/// Puts octets, without a fault.
+fn put(rt: &impl Abort, out: &mut Out<'_, MemDrain<'_>>, octets: &[u8]) {
+    assert_eq!(rt; out.put(octets), Ok(()));
+}
+
+/// Hands on what is held, if the drain takes it.
+fn flush(out: &mut Out<'_, MemDrain<'_>>) -> Result<(), WriteFault> {
+    out.flush()
+}
 
 #[test]
 fn short_writes_take_all(rt: HostRuntime) {
@@ -7,27 +18,30 @@ fn short_writes_take_all(rt: HostRuntime) {
     let mut drain = MemDrain::new(&mut room, 3);
     {
         let mut out = Out::new(&mut drain);
-        assert_eq!(rt; out.put(b"tag, "), Ok(()));
-        assert_eq!(rt; out.put(b""), Ok(()));
-        assert_eq!(rt; out.put(b"length"), Ok(()));
-        assert_eq!(rt; out.flush(), Ok(()));
-        assert_eq!(rt; out.flush(), Ok(()));
+        put(&rt, &mut out, b"tag, ");
+        put(&rt, &mut out, b"");
+        put(&rt, &mut out, b"length");
+        assert_eq!(rt; flush(&mut out), Ok(()));
+        assert_eq!(rt; flush(&mut out), Ok(()));
     }
     assert_eq!(rt; drain.written(), b"tag, length".as_slice());
+}
+
+/// Puts more than is held at once.
+fn put_much(rt: &impl Abort, drain: &mut MemDrain<'_>) {
+    let mut out = Out::new(drain);
+    put(rt, &mut out, &[1; 96]);
+    put(rt, &mut out, &[2; 4000]);
+    put(rt, &mut out, &[3; 4]);
+    put(rt, &mut out, &[4; 5000]);
+    assert_eq!(rt; flush(&mut out), Ok(()));
 }
 
 #[test]
 fn more_than_is_held(rt: HostRuntime) {
     let mut room = [0; 10_000];
     let mut drain = MemDrain::new(&mut room, 1000);
-    {
-        let mut out = Out::new(&mut drain);
-        assert_eq!(rt; out.put(&[1; 96]), Ok(()));
-        assert_eq!(rt; out.put(&[2; 4000]), Ok(()));
-        assert_eq!(rt; out.put(&[3; 4]), Ok(()));
-        assert_eq!(rt; out.put(&[4; 5000]), Ok(()));
-        assert_eq!(rt; out.flush(), Ok(()));
-    }
+    put_much(&rt, &mut drain);
     let written = drain.written();
     assert_eq!(rt; written.len(), 9100);
     for (octet, count) in [(1, 96), (2, 4000), (3, 4), (4, 5000)] {
@@ -45,8 +59,8 @@ fn no_room_is_a_fault(rt: HostRuntime) {
     let mut drain = MemDrain::new(&mut room, 2);
     {
         let mut out = Out::new(&mut drain);
-        assert_eq!(rt; out.put(b"abcd"), Ok(()));
-        assert_eq!(rt; out.flush(), Err(WriteFault));
+        put(&rt, &mut out, b"abcd");
+        assert_eq!(rt; flush(&mut out), Err(WriteFault));
     }
     assert_eq!(rt; drain.written(), b"abc".as_slice());
 }

@@ -1,5 +1,6 @@
 //! Reads that are followed one by one.
 use super::lines::Lines;
+use crate::reads::{LENGTH, expect_again};
 use tlv_walk::{DeviceFault, Ending, Framing, MemDrain, MemSource, Run, Turn, Walker, turn};
 
 /// A constructed string of definite length.
@@ -17,38 +18,32 @@ fn turns_follow_one_read_each(rt: HostRuntime) {
     let mut lines = Lines::up_to(0);
     let mut source = MemSource::new(INPUT, &[], None);
     let mut drain = MemDrain::new(&mut room, 4096);
-    let Ok(Turn::Again) = turn(
+    expect_again(
+        &rt,
         &mut walker,
         &mut lines,
         &mut source,
         &mut drain,
         &mut piece,
-        11,
-    ) else {
-        panic!(rt; "more is to be read");
-    };
+    );
     assert_eq!(rt; drain.written(), &TEXT[..33]);
-    let Ok(Turn::Again) = turn(
+    expect_again(
+        &rt,
         &mut walker,
         &mut lines,
         &mut source,
         &mut drain,
         &mut piece,
-        11,
-    ) else {
-        panic!(rt; "more is to be read");
-    };
+    );
     assert_eq!(rt; drain.written(), &TEXT[..47]);
-    let Ok(Turn::Again) = turn(
+    expect_again(
+        &rt,
         &mut walker,
         &mut lines,
         &mut source,
         &mut drain,
         &mut piece,
-        11,
-    ) else {
-        panic!(rt; "more is to be read");
-    };
+    );
     assert_eq!(rt; drain.written(), TEXT);
     let end = turn(
         &mut walker,
@@ -56,7 +51,7 @@ fn turns_follow_one_read_each(rt: HostRuntime) {
         &mut source,
         &mut drain,
         &mut piece,
-        11,
+        LENGTH,
     );
     let run = Run {
         ending: Ending::Done,
@@ -77,16 +72,14 @@ fn a_turn_behind_a_failed_read_goes_on(rt: HostRuntime) {
     let mut lines = Lines::up_to(0);
     let mut source = MemSource::new(INPUT, &[5], Some(1));
     let mut drain = MemDrain::new(&mut room, 4096);
-    let Ok(Turn::Again) = turn(
+    expect_again(
+        &rt,
         &mut walker,
         &mut lines,
         &mut source,
         &mut drain,
         &mut piece,
-        11,
-    ) else {
-        panic!(rt; "more is to be read");
-    };
+    );
     assert_eq!(rt; drain.written(), &TEXT[..36]);
     let failed = turn(
         &mut walker,
@@ -94,7 +87,7 @@ fn a_turn_behind_a_failed_read_goes_on(rt: HostRuntime) {
         &mut source,
         &mut drain,
         &mut piece,
-        11,
+        LENGTH,
     );
     assert_eq!(rt; failed, Err(DeviceFault::ReadFailed));
     assert_eq!(rt; drain.written(), &TEXT[..36]);

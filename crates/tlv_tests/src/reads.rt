@@ -1,0 +1,29 @@
+//! Reads that are followed one by one.
+ghost use Rattle.std.specs.Prelude.{◌<◌, ◌≤◌, length};
+ghost use Rattle.tlv_walk.specs.Machine.{IsReady};
+
+use std::process::Abort;
+use tlv_walk::{Follow, MemDrain, MemSource, Turn, Walker, turn};
+
+/// As many octets as the inputs of these tests have.
+pub(crate) const LENGTH: u64 = 11;
+
+/// Follows one read, behind which more is to be read.
+pub(crate) fn expect_again<F: Follow>(
+    rt: &impl Abort,
+    walker: &mut Walker,
+    follower: &mut F,
+    source: &mut MemSource<'_>,
+    drain: &mut MemDrain<'_>,
+    piece: &mut [u8],
+)
+    requires piece { (0 < length piece.old) × (length piece.old ≤ 4096) }
+    requires taken { walker.old.offset ≤ 11 }
+    requires ready { IsReady walker.old }
+    ensures taken { walker.new.offset ≤ 11 }
+    ensures ready { IsReady walker.new }
+{
+    let Ok(Turn::Again) = turn(walker, follower, source, drain, piece, LENGTH) else {
+        panic!(rt; "more is to be read");
+    };
+}
