@@ -27,3 +27,8 @@ pub(crate) fn expect_again<F: Follow>(
         panic!(rt; "more is to be read");
     };
 }
+
+/// Expects the drain to have taken these octets.
+pub(crate) fn expect_written(rt: &impl Abort, drain: &MemDrain<'_>, octets: &[u8]) {
+    assert_eq!(rt; drain.written(), octets);
+}

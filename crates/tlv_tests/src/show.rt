@@ -2,7 +2,7 @@
 mod check_rows;
 mod checks;
 
-use crate::reads::{LENGTH, expect_again};
+use crate::reads::{LENGTH, expect_again, expect_written};
 use std::process::Abort;
 use std::test::Fail;
 use tlv_head::{Header, read_header};
@@ -177,7 +177,7 @@ fn lines_come_with_their_octets(rt: HostRuntime) {
         &mut drain,
         &mut piece,
     );
-    assert_eq!(rt; drain.written(), &text[..33]);
+    expect_written(&rt, &drain, &text[..33]);
     expect_again(
         &rt,
         &mut walker,
@@ -186,7 +186,7 @@ fn lines_come_with_their_octets(rt: HostRuntime) {
         &mut drain,
         &mut piece,
     );
-    assert_eq!(rt; drain.written(), &text[..74]);
+    expect_written(&rt, &drain, &text[..74]);
     expect_again(
         &rt,
         &mut walker,
@@ -195,7 +195,7 @@ fn lines_come_with_their_octets(rt: HostRuntime) {
         &mut drain,
         &mut piece,
     );
-    assert_eq!(rt; drain.written(), text.as_slice());
+    expect_written(&rt, &drain, text.as_slice());
     let end = turn(
         &mut walker,
         &mut follower,
@@ -211,7 +211,7 @@ fn lines_come_with_their_octets(rt: HostRuntime) {
         unused: None,
     };
     assert_eq!(rt; end, Ok(Turn::Ended(run)));
-    assert_eq!(rt; drain.written(), text.as_slice());
+    expect_written(&rt, &drain, text.as_slice());
 }
 
 /// The lines that so many octets of the constructed string allow.
@@ -248,7 +248,7 @@ fn expect_turns(rt: &impl Abort, first: u64) {
         &mut drain,
         &mut piece,
     );
-    assert_eq!(rt; drain.written(), lines_with(first));
+    expect_written(rt, &drain, lines_with(first));
     expect_again(
         rt,
         &mut walker,
@@ -257,7 +257,7 @@ fn expect_turns(rt: &impl Abort, first: u64) {
         &mut drain,
         &mut piece,
     );
-    assert_eq!(rt; drain.written(), lines_with(11));
+    expect_written(rt, &drain, lines_with(11));
 }
 
 /// The same in each cut into two pieces.

@@ -1,7 +1,8 @@
 //! What a whole header tells, and what is made of it.
-use super::octets::{OFFSET, SHAPES};
+use super::octets::{OFFSET, SHAPES, Shape};
 use super::{expect_shape, front_header};
-use tlv_head::{Header, read_header, spell_indefinite};
+use std::process::Abort;
+use tlv_head::{Header, HeaderFields, read_header, spell_indefinite};
 
 /// The octets behind the first of the identifier and of the length.
 #[test]
@@ -20,6 +21,21 @@ fn headers_give_their_second_octets(rt: HostRuntime) {
     }
 }
 
+fn expect_fields(rt: &impl Abort, fields: &HeaderFields, shape: &Shape) {
+    assert_eq!(rt; fields.offset, OFFSET);
+    assert!(rt; fields.named);
+    assert_eq!(rt; fields.class, shape.class, "of {:?}", shape.octets);
+    assert_eq!(rt;
+        fields.constructed,
+        shape.constructed,
+        "of {:?}",
+        shape.octets
+    );
+    assert_eq!(rt; fields.number, shape.number, "of {:?}", shape.octets);
+    assert_eq!(rt; fields.size, shape.size, "of {:?}", shape.octets);
+    assert_eq!(rt; fields.id_len, shape.id_len, "of {:?}", shape.octets);
+}
+
 /// A header is made of fields and octets, and gives the fields again.
 #[test]
 fn fields_make_headers(rt: HostRuntime) {
@@ -34,19 +50,7 @@ fn fields_make_headers(rt: HostRuntime) {
             header.identifier(),
             &shape.octets[..usize::from(shape.id_len)]
         );
-        let again = header.fields();
-        assert_eq!(rt; again.offset, OFFSET);
-        assert!(rt; again.named);
-        assert_eq!(rt; again.class, shape.class, "of {:?}", shape.octets);
-        assert_eq!(rt;
-            again.constructed,
-            shape.constructed,
-            "of {:?}",
-            shape.octets
-        );
-        assert_eq!(rt; again.number, shape.number, "of {:?}", shape.octets);
-        assert_eq!(rt; again.size, shape.size, "of {:?}", shape.octets);
-        assert_eq!(rt; again.id_len, shape.id_len, "of {:?}", shape.octets);
+        expect_fields(&rt, &header.fields(), shape);
     }
 }
 

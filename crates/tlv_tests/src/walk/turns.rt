@@ -1,6 +1,6 @@
 //! Reads that are followed one by one.
 use super::lines::Lines;
-use crate::reads::{LENGTH, expect_again};
+use crate::reads::{LENGTH, expect_again, expect_written};
 use tlv_walk::{DeviceFault, Ending, Framing, MemDrain, MemSource, Run, Turn, Walker, turn};
 
 /// A constructed string of definite length.
@@ -26,7 +26,7 @@ fn turns_follow_one_read_each(rt: HostRuntime) {
         &mut drain,
         &mut piece,
     );
-    assert_eq!(rt; drain.written(), &TEXT[..33]);
+    expect_written(&rt, &drain, &TEXT[..33]);
     expect_again(
         &rt,
         &mut walker,
@@ -35,7 +35,7 @@ fn turns_follow_one_read_each(rt: HostRuntime) {
         &mut drain,
         &mut piece,
     );
-    assert_eq!(rt; drain.written(), &TEXT[..47]);
+    expect_written(&rt, &drain, &TEXT[..47]);
     expect_again(
         &rt,
         &mut walker,
@@ -44,7 +44,7 @@ fn turns_follow_one_read_each(rt: HostRuntime) {
         &mut drain,
         &mut piece,
     );
-    assert_eq!(rt; drain.written(), TEXT);
+    expect_written(&rt, &drain, TEXT);
     let end = turn(
         &mut walker,
         &mut lines,
@@ -60,7 +60,7 @@ fn turns_follow_one_read_each(rt: HostRuntime) {
         unused: None,
     };
     assert_eq!(rt; end, Ok(Turn::Ended(run)));
-    assert_eq!(rt; drain.written(), TEXT);
+    expect_written(&rt, &drain, TEXT);
 }
 
 /// After a read that failed the next one goes on behind the same octets.
@@ -80,7 +80,7 @@ fn a_turn_behind_a_failed_read_goes_on(rt: HostRuntime) {
         &mut drain,
         &mut piece,
     );
-    assert_eq!(rt; drain.written(), &TEXT[..36]);
+    expect_written(&rt, &drain, &TEXT[..36]);
     let failed = turn(
         &mut walker,
         &mut lines,
@@ -90,6 +90,6 @@ fn a_turn_behind_a_failed_read_goes_on(rt: HostRuntime) {
         LENGTH,
     );
     assert_eq!(rt; failed, Err(DeviceFault::ReadFailed));
-    assert_eq!(rt; drain.written(), &TEXT[..36]);
+    expect_written(&rt, &drain, &TEXT[..36]);
     assert_eq!(rt; walker.offset(), 5);
 }
