@@ -21,6 +21,7 @@ pub mod StateEndings
 pub mod OpenCounts
 pub mod Places
 pub mod Moves
+pub mod Calls
 pub mod Closing
 pub mod Entering
 pub mod HeaderKinds

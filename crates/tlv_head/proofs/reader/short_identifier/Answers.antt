@@ -1,3 +1,4 @@
+use Rattle.std.proofs.lemmas.Grind.{common_steps}
 use Rattle.std.proofs.Common.{rules, ◌∷◌, [], get_or, arith}
 use Rattle.tlv_head.specs.Part.{CarriesNumber}
 use Rattle.tlv_head.proofs.ShortFronts.{always-unfinished, goes-on, leads-on, no-other, no-third, still-high, IsUnended}
@@ -35,3 +36,6 @@ returns-in_default-next_number-2-2 c =
     (c.next_number.ensures _ c.in-Number.ensures) c.in-Unfinished-Number.is c.in-Unfinished-Number.field-0-is in
     absurd (always-unfinished c.next_number-in-Unfinished-Number.result c.in-Unfinished-Number.higher _ _ high (omega arith)
     (c.next_number-in-Unfinished-Number.ensures _ high) (search rules))
+
+pub returns-then-octets-lt3 : goal.returns-then-octets-lt3
+returns-then-octets-lt3 c = grind (arith, common_steps)

@@ -1,4 +1,4 @@
-use Rattle.std.proofs.Common.{◌≡◌, ◌+◌, ◌<◌, ℕ, get_or, take, arith, sym, refl, ap, ◌∙◌, to_z, of_z, add-one, FitsSigned}
+use Rattle.std.proofs.Common.{◌≡◌, ◌+◌, ◌<◌, ℕ, get_or, take, arith, sym, refl, ap, ◌∙◌, to_z, of_z, add-one, FitsSigned, rules}
 use Rattle.std.proofs.lemmas.Grind.{common_steps}
 use Rattle.std.specs.Prelude.{ℤ, pos, ◌+ℤ◌, ◌*ℤ◌}
 use Rattle.std.proofs.lemmas.Int.{to_z-of_z}
@@ -37,3 +37,6 @@ loop-octet-preserved c =
     let g : FitsSigned w128 (twos_complement (take (i + 1 + 1) c.args.contents.now)) = twos-fits_all (take (i + 1 + 1) c.args.contents.now) (grind (arith, common_steps)) in
     let from : c.from.result ≡ pos x = c.from.ensures ∙ ap pos same in
     stepped (to_z w128 c.loop-octet.number-bits) c.from.result (twos_complement (take (i + 1) c.args.contents.now)) (twos_complement (take (i + 1 + 1) c.args.contents.now)) x (c.type_inv.contents (i + 1)).fits f g e from m
+
+pub loop-octet-init : goal.loop-octet-init
+loop-octet-init c = search rules

@@ -1,4 +1,5 @@
 use Rattle.std.proofs.Common.{rules, refl}
+use Rattle.tlv_walk.proofs.Calls.{calls_given}
 use Rattle.tlv_walk.proofs.Turns.{turns_again, turns_end, turns_enough, turns_failed, turns_fault, turns_long}
 use Rattle.tlv_walk.proofs.turning.turn.Goals as goal
 
@@ -31,3 +32,21 @@ pub returns-in-UsedUp-3-clause-turned : goal.returns-in-UsedUp-3-clause-turned
 returns-in-UsedUp-3-clause-turned g c = λ b told st.
     turns_again g.F.Follow.next _ _ _ _ _ _ b told c.read.new.to _ _ c.in-Ok.count c.min-walked.result c.args.limit st
     (search rules) c.requires.taken (search rules) refl (search rules) c.in-Ok-follow_and_flush.ensures.octets _ (rw c.in-UsedUp-2.is at c.in-Ok-follow_and_flush.ensures.stops) (search rules) (search rules)
+
+pub returns-in_default-follow_and_flush-clause-calls : goal.returns-in_default-follow_and_flush-clause-calls
+returns-in_default-follow_and_flush-clause-calls g c = calls_given _ _ _ _ _ _ c.in-Ok.count _ (rw c.in-Ok.is at c.read.ensures) (search rules) (search rules) refl (search rules)
+
+pub returns-in-Enough-clause-calls : goal.returns-in-Enough-clause-calls
+returns-in-Enough-clause-calls g c = calls_given _ _ _ _ _ _ c.in-Ok.count _ (rw c.in-Ok.is at c.read.ensures) (search rules) (search rules) refl (search rules)
+
+pub returns-in-Fault-clause-calls : goal.returns-in-Fault-clause-calls
+returns-in-Fault-clause-calls g c = calls_given _ _ _ _ _ _ c.in-Ok.count _ (rw c.in-Ok.is at c.read.ensures) (search rules) (search rules) refl (search rules)
+
+pub returns-in-UsedUp-clause-calls : goal.returns-in-UsedUp-clause-calls
+returns-in-UsedUp-clause-calls g c = calls_given _ _ _ _ _ _ c.in-Ok.count _ (rw c.in-Ok.is at c.read.ensures) (search rules) (search rules) refl (search rules)
+
+pub returns-in-UsedUp-2-clause-calls : goal.returns-in-UsedUp-2-clause-calls
+returns-in-UsedUp-2-clause-calls g c = calls_given _ _ _ _ _ _ c.in-Ok.count _ (rw c.in-Ok.is at c.read.ensures) (search rules) (search rules) refl (search rules)
+
+pub returns-in-UsedUp-3-clause-calls : goal.returns-in-UsedUp-3-clause-calls
+returns-in-UsedUp-3-clause-calls g c = calls_given _ _ _ _ _ _ c.in-Ok.count _ (rw c.in-Ok.is at c.read.ensures) (search rules) (search rules) refl (search rules)

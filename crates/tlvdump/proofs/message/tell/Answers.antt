@@ -3,3 +3,6 @@ use Rattle.tlvdump.proofs.message.tell.Goals as goal
 
 pub returns-clause-told : goal.returns-clause-told
 returns-clause-told g c = (c.send.result, search rules)
+
+pub returns-clause-status : goal.returns-clause-status
+returns-clause-status g c = search rules

@@ -1,4 +1,5 @@
-use Rattle.std.proofs.Common.{◌≡◌, ◌∙◌, None, rules}
+use Rattle.std.proofs.lemmas.Grind.{common_steps}
+use Rattle.std.proofs.Common.{◌≡◌, ◌∙◌, None, rules, arith}
 use Rattle.tlvdump.specs.Values.{each_offset, parts_of}
 use Rattle.tlvdump.specs.Private.Values.{text_in}
 use Rattle.tlvdump.proofs.Offsets.{judged, last_part}
@@ -10,3 +11,6 @@ returns c =
     let none : text_in c.loop-rest.rest ≡ None = search rules in
     judged c.new.result ns (search rules) (search rules) (search rules)
     ∙ last_part (each_offset (parts_of c.args.text.now)) ns (text_in c.loop-rest.rest) none c.loop-rest.invariant
+
+pub loop-rest-preserved : goal.loop-rest-preserved
+loop-rest-preserved c = grind (arith, common_steps)

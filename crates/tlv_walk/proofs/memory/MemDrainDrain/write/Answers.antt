@@ -1,4 +1,4 @@
-use Rattle.std.proofs.Common.{arith}
+use Rattle.std.proofs.Common.{arith, rules}
 use Rattle.std.proofs.lemmas.Grind.{common_steps}
 use Rattle.std.proofs.lemmas.Slice.{drop-put_mid}
 use Rattle.tlv_walk.proofs.memory.MemDrainDrain.write.Goals as goal
@@ -6,3 +6,6 @@ use Rattle.tlv_walk.proofs.memory.MemDrainDrain.write.Goals as goal
 pub returns-clause-rest : goal.returns-clause-rest
 returns-clause-rest c =
     drop-put_mid c.args.self.now.used _ c.args.self.now.room.now c.copy_from_slice.new.self _ (grind (arith, common_steps)) (omega (arith, c.fits-self)) (grind (arith, common_steps))
+
+pub returns-then-free-eq0-clause-told : goal.returns-then-free-eq0-clause-told
+returns-then-free-eq0-clause-told c = search rules

@@ -25,3 +25,6 @@ returns-then-indefinite-2-clause-tells c =
 pub returns-clause-tells : goal.returns-clause-tells
 returns-clause-tells c =
     rw c.fail-2.ensures.0 (inl (refuses_stray_front _ c.args.piece.now.now c.in-len1-up.len_at_least (search rules) (search rules) (search rules) (search rules) (search rules)))
+
+pub padding-requires-clause-top : goal.padding-requires-clause-top
+padding-requires-clause-top c = search rules

@@ -1,4 +1,4 @@
-use Rattle.std.proofs.Common.{◌≡◌, inl, ℕ, ◌+◌, ◌≤◌, get_or, [], length, Option, sym, ap, ◌∙◌, subst, arith}
+use Rattle.std.proofs.Common.{◌≡◌, inl, ℕ, ◌+◌, ◌≤◌, get_or, [], length, Option, sym, ap, ◌∙◌, subst, arith, rules}
 use Rattle.tlv_head.specs.Progress.{Progress}
 use Rattle.tlv_head.specs.Push.{FitsThere, IsRefused}
 use Rattle.tlv_walk.specs.Machine.{Machine}
@@ -66,3 +66,6 @@ returns-clause-tells c = λ w over.
     tells_unfinished w (machine_of c.self-2.inside) c.args.reader c.loop-piece.reader c.args.piece.now.now c.loop-piece.offset (subst (λ (m : Machine). HandsOver w m c.args.reader) (sym same) over)
     (subst (HasTaken c.args.reader c.loop-piece.reader c.args.piece.now.now) used i.read) (give_some c.loop-piece.reader.octets c.loop-piece.piece.now _ i.first used) i.place
     (subst (λ (b : Option ℕ). Within b c.loop-piece.offset) bound i.within)
+
+pub returns-in-Refused-clause-steps : goal.returns-in-Refused-clause-steps
+returns-in-Refused-clause-steps c = search rules

@@ -1,0 +1,5 @@
+use Rattle.std.proofs.Common.{rules}
+use Rattle.tlv_head.proofs.header.is_wrapper.Goals as goal
+
+pub returns-in-Universal-eq4 : goal.returns-in-Universal-eq4
+returns-in-Universal-eq4 c = search rules

@@ -1,0 +1,8 @@
+use Rattle.std.proofs.Common.{rules}
+use Rattle.tlv_walk.proofs.out.Out.flush.Goals as goal
+
+pub returns-clause-puts : goal.returns-clause-puts
+returns-clause-puts g c = search rules
+
+pub returns-clause-empty : goal.returns-clause-empty
+returns-clause-empty g c = search rules
