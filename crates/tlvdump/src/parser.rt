@@ -1,6 +1,6 @@
 //! What `clap` is told of the command line, with the texts of help.
 ghost use Rattle.std.specs.Prelude.{◌≡◌, IfOk, codes, false};
-ghost use Rattle.clap.specs.Words.{rule_of};
+ghost use Rattle.clap.specs.Words.{App, rule_of, with_subcommand};
 ghost use Rattle.tlvdump.specs.Line.{check_app, dump_app, extract_app, helped, indef_app, line_app, program_app};
 ghost use Rattle.tlvdump.specs.Private.Line.{IsMade};
 ghost use Rattle.tlvdump.specs.Line.{file_rule, flag_rule, help_rule, offset_rule, option_rule, version_rule};
@@ -159,17 +159,24 @@ fn program_parser<'a>(alloc: Global) -> Result<Command<'a>, AllocError>
         .arg(version_flag(alloc))
 }
 
+/// One command more. The parser stands alone here, so that a command that cannot be made leaves one thing to drop.
+fn with_command<'a>(
+    parser: Command<'a>,
+    command: Result<Command<'a>, AllocError>,
+) -> Result<Command<'a>, AllocError>
+    ensures { (x y : App) → IsMade parser.entry x → IfOk command.entry (λ made. IsMade made y)
+        → IfOk result (λ made. IsMade made (with_subcommand x y.top)) }
+{
+    parser.subcommand(command?)
+}
+
 /// The whole command line.
 pub(crate) fn line_parser<'a>(alloc: Global) -> Result<Command<'a>, AllocError>
     ensures { IfOk result (λ command. IsMade command line_app) }
 {
-    let dump = dump_parser(alloc)?;
-    let check = check_parser(alloc)?;
-    let extract = extract_parser(alloc)?;
-    let indef = indef_parser(alloc)?;
-    program_parser(alloc)?
-        .subcommand(dump)?
-        .subcommand(check)?
-        .subcommand(extract)?
-        .subcommand(indef)
+    let parser = program_parser(alloc)?;
+    let parser = with_command(parser, dump_parser(alloc))?;
+    let parser = with_command(parser, check_parser(alloc))?;
+    let parser = with_command(parser, extract_parser(alloc))?;
+    with_command(parser, indef_parser(alloc))
 }

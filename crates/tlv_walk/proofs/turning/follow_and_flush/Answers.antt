@@ -1,4 +1,5 @@
-use Rattle.std.proofs.Common.{rules}
+use Rattle.std.proofs.Common.{rules, arith}
+use Rattle.std.proofs.lemmas.Grind.{elements}
 use Rattle.std.proofs.lemmas.Result.{err_from_is_err_and}
 use Rattle.tlv_walk.proofs.Turns.{fails_sent, stops_flushed, stops_unflushed}
 use Rattle.tlv_walk.proofs.turning.follow_and_flush.Goals as goal
@@ -16,3 +17,30 @@ returns-in_err-flush-clause-stops g c =
 pub returns-clause-stops : goal.returns-clause-stops
 returns-clause-stops g c =
     stops_flushed g.F.Follow.next g.D.Drain.told _ _ _ _ _ _ _ _ _ _ (search rules) (search rules) (search rules) _ c.in_ok-stop.ensures.stops c.in_ok-flush.ensures.puts (search rules)
+
+pub returns-in_err-stop-clause-octets : goal.returns-in_err-stop-clause-octets
+returns-in_err-stop-clause-octets g c = grind (arith, elements)
+
+pub returns-in_err-flush-clause-octets : goal.returns-in_err-flush-clause-octets
+returns-in_err-flush-clause-octets g c = grind (arith, elements)
+
+pub returns-clause-octets : goal.returns-clause-octets
+returns-clause-octets g c = grind (arith, elements)
+
+pub returns-in_err-stop-clause-failed : goal.returns-in_err-stop-clause-failed
+returns-in_err-stop-clause-failed g c = search rules
+
+pub returns-in_err-flush-clause-failed : goal.returns-in_err-flush-clause-failed
+returns-in_err-flush-clause-failed g c = search rules
+
+pub returns-clause-failed : goal.returns-clause-failed
+returns-clause-failed g c = search rules
+
+pub returns-in_err-stop-clause-used_up : goal.returns-in_err-stop-clause-used_up
+returns-in_err-stop-clause-used_up g c = search rules
+
+pub returns-in_err-flush-clause-used_up : goal.returns-in_err-flush-clause-used_up
+returns-in_err-flush-clause-used_up g c = search rules
+
+pub returns-clause-used_up : goal.returns-clause-used_up
+returns-clause-used_up g c = search rules

@@ -1,4 +1,5 @@
-use Rattle.std.proofs.Common.{rules, refl}
+use Rattle.std.proofs.Common.{rules, refl, arith}
+use Rattle.std.proofs.lemmas.Grind.{elements}
 use Rattle.tlv_walk.proofs.Calls.{calls_given}
 use Rattle.tlv_walk.proofs.Turns.{turns_again, turns_end, turns_enough, turns_failed, turns_fault, turns_long}
 use Rattle.tlv_walk.proofs.turning.turn.Goals as goal
@@ -50,3 +51,24 @@ returns-in-UsedUp-2-clause-calls g c = calls_given _ _ _ _ _ _ c.in-Ok.count _ (
 
 pub returns-in-UsedUp-3-clause-calls : goal.returns-in-UsedUp-3-clause-calls
 returns-in-UsedUp-3-clause-calls g c = calls_given _ _ _ _ _ _ c.in-Ok.count _ (rw c.in-Ok.is at c.read.ensures) (search rules) (search rules) refl (search rules)
+
+pub returns-in_default-clause-octets : goal.returns-in_default-clause-octets
+returns-in_default-clause-octets g c = grind (arith, elements)
+
+pub returns-in_default-follow_and_flush-clause-octets : goal.returns-in_default-follow_and_flush-clause-octets
+returns-in_default-follow_and_flush-clause-octets g c = grind (arith, elements)
+
+pub returns-in-Enough-clause-octets : goal.returns-in-Enough-clause-octets
+returns-in-Enough-clause-octets g c = grind (arith, elements)
+
+pub returns-in-Fault-clause-octets : goal.returns-in-Fault-clause-octets
+returns-in-Fault-clause-octets g c = grind (arith, elements)
+
+pub returns-in-UsedUp-clause-octets : goal.returns-in-UsedUp-clause-octets
+returns-in-UsedUp-clause-octets g c = grind (arith, elements)
+
+pub returns-in-UsedUp-2-clause-octets : goal.returns-in-UsedUp-2-clause-octets
+returns-in-UsedUp-2-clause-octets g c = grind (arith, elements)
+
+pub returns-in-UsedUp-3-clause-octets : goal.returns-in-UsedUp-3-clause-octets
+returns-in-UsedUp-3-clause-octets g c = grind (arith, elements)
