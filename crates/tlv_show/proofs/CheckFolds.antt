@@ -16,7 +16,7 @@ use Rattle.tlv_walk.specs.Follow.{Following, followed, if_on}
 use Rattle.tlv_walk.specs.Forest.{Forest, Stop, Fill, Whole, Closed, Partial, Entered, Awaiting, Begun, Zero, extent, opening, spell}
 use Rattle.tlv_walk.specs.Place.{IsOpen, Place, after, inside_of as place_inside, top as place_top}
 use Rattle.tlv_walk.specs.Reading.{IsReading}
-use Rattle.tlv_walk.proofs.Pop.{header-length}
+use Rattle.tlv_walk.proofs.PopHeaders.{header-length}
 use Rattle.tlv_walk.proofs.Spellings.{length-closed, length-opening, length-whole}
 use Rattle.tlv_show.specs.declared.frames.Frame.{Frame}
 use Rattle.tlv_show.specs.declared.rules.Rules.{Rules}

@@ -1,5 +1,5 @@
 -- What a dump makes of the events of elements is their text.
-use Rattle.std.proofs.Common.{◌≡◌, ℕ, ◌+◌, ◌-◌, ◌^◌, ◌<◌, ◌≤◌, ◌==◌, Bool, true, false, if◌then◌else◌, List, [], ◌∷◌, ◌++◌, length, map, refl, sym, subst, not, ap, ap₂, ◌∙◌, arith, append_assoc, append-nil, length-append}
+use Rattle.std.proofs.Common.{◌≡◌, ℕ, ◌+◌, ◌-◌, ◌^◌, ◌<◌, ◌≤◌, ◌==◌, Bool, true, false, if◌then◌else◌, List, [], ◌∷◌, ◌++◌, length, refl, sym, subst, not, ap, ap₂, ◌∙◌, arith, append_assoc, append-nil, length-append}
 use Rattle.std.proofs.lemmas.Grind.{flat_map-append}
 use Rattle.std.specs.FinMap as finite
 use Rattle.std.specs.Prelude.{flat_map, Option, Some, None, codes}
@@ -11,24 +11,21 @@ use Rattle.tlv_value.specs.Names.{Table}
 use Rattle.tlv_value.specs.State.{open_lines, whole_lines}
 use Rattle.tlv_value.specs.Types.{is_primitive}
 use Rattle.tlv_walk.specs.declared.follow.Go.{Go}
-use Rattle.tlv_walk.specs.declared.follow.Go.TheVariants as go
-use Rattle.tlv_walk.specs.Events.{Told, Open, Begin, Bytes, End, Close, Enter, Unused, Leave, Pad, closes, end_offset, events, opens}
-use Rattle.tlv_walk.specs.Follow.{Following, and_then, each_octet, followed, if_on}
+use Rattle.tlv_walk.specs.Events.{Told, Begin, Bytes, End, Pad, closes, end_offset, events, opens}
+use Rattle.tlv_walk.specs.Follow.{Following, followed}
 use Rattle.tlv_walk.specs.Forest.{Forest, Stop, Fill, Whole, Closed, Partial, Entered, Awaiting, Begun, Zero, extent, is_whole, lead, opening, spell}
 use Rattle.tlv_walk.specs.Place.{IsOpen, Place, after, inside_of as place_inside}
-use Rattle.tlv_walk.proofs.Followed.{followed-more}
 use Rattle.tlv_walk.proofs.Spellings.{length-closed, length-whole}
 use Rattle.tlv_show.specs.declared.frames.Frame.{Frame}
 use Rattle.tlv_show.specs.declared.rules.Rules.{Rules}
 use Rattle.tlv_show.specs.declared.style.Style.TheVariants.{Dump}
 use Rattle.tlv_show.specs.CheckStep.{all_written}
-use Rattle.tlv_show.specs.Dumped.{Dumping, dumped, entered, one_dumped}
+use Rattle.tlv_show.specs.Dumped.{Dumping}
 use Rattle.tlv_show.specs.DumpStep.{Showing, dump_step}
 use Rattle.tlv_show.specs.DumpText.{end_place}
-use Rattle.tlv_show.specs.FinderState.{FinderState, Finds, find_begin, find_bytes, find_close, find_end, find_open, frame_of, header_notes, noted}
+use Rattle.tlv_show.specs.FinderState.{Finds, frame_of, header_notes, noted}
 use Rattle.tlv_show.specs.Found.{contents_findings, header_findings}
 use Rattle.tlv_show.specs.Private.Found.{end_findings}
-use Rattle.tlv_show.specs.Laws.{PrimitivesAreShown}
 use Rattle.tlv_show.specs.Items.{Item, FindingAt, OpeningLine, ClosingLine, WholePrimitive, OpenPrimitive, PaddingLine, heads, items}
 use Rattle.tlv_show.specs.Private.Items.{findings_at}
 use Rattle.tlv_show.specs.Lines.{close_line, opening_line, padding_line}
@@ -36,111 +33,12 @@ use Rattle.tlv_show.specs.Private.Lines.{holder_line}
 use Rattle.tlv_show.specs.Site.{Before, Padding, Sibling, Site, Start, behind, behind_holder, behind_padding, inside_of, is_padding}
 use Rattle.tlv_show.specs.Private.Site.{first_octet}
 use Rattle.tlv_show.specs.Texts.{item_text}
-use Rattle.tlv_show.specs.Dumped.{further, value_after, value_told}
-use Rattle.tlv_show.proofs.Dumped.{dumped_bytes, of_bytes}
-use Rattle.tlv_show.proofs.DumpSteps.{all_on, each-shown}
-use Rattle.tlv_show.proofs.DumpTexts.{standing as lines_at, at_level, closer_told, fill_told, holder_told, no_padding, padded_behind, part_told, primitive_told, primitives_shown}
+use Rattle.tlv_show.proofs.DumpSteps.{all_on}
+use Rattle.tlv_show.proofs.DumpTexts.{standing as lines_at, at_level, closer_told, fill_told, holder_told, no_padding, padded_behind, part_told, primitive_told}
 use Rattle.tlv_show.proofs.FinderFolds.{knows-behind, knows-inside, knows-padding, not-constructed, noted_all, unused-of}
-use Rattle.tlv_show.proofs.FinderTold.{behind_contents, behind_end, behind_header, behind_primitive, closed-find, opened-find, primitive-find, primitive-found, standing}
+use Rattle.tlv_show.proofs.FinderTold.{behind_contents, behind_end, behind_header, behind_primitive, closed-find, opened-find, primitive-find, standing}
 use Rattle.tlv_show.proofs.HeaderNotes.{Knows, header-same}
-
--- ---- events one behind another
-
-abbrev pair : Dumping → FinderState → Showing
-pair l f = record { lines = l; finder = f }
-
-abbrev shows : Showing → List ℕ → Following Showing
-shows s put = record { state = s; put = put; goes = go.On }
-
-shown-more : (s : Showing) (xs ys : List Told) → followed dump_step s (xs ++ ys) ≡ and_then (followed dump_step s xs) (λ u. followed dump_step u ys)
-shown-more s xs ys = followed-more dump_step s xs ys (all_on s xs)
-
-then_shown : (s t : Showing) (put : List ℕ) (xs ys : List Told) → followed dump_step s xs ≡ shows t put
-    → followed dump_step s (xs ++ ys) ≡ record (followed dump_step t ys) { put = put ++ (followed dump_step t ys).put }
-then_shown s t put xs ys e = shown-more s xs ys ∙ ap (λ (k : Following Showing). and_then k (λ u. followed dump_step u ys)) e
-
--- the lines of what is found, as a dump in this layout puts them
-abbrev texts : Layout → Finds → List ℕ
-texts layout f = all_written (Dump layout.pure) f.level f.at f.found
-
--- ---- an element that holds others
-
-opens-by : (l : Dumping) (s : FinderState) (h : Heading) (k three : Bool)
-    → followed dump_step (pair l s) ((if k then Open h else Enter h) ∷ map {A = ℕ} (λ z. Unused) (if k then [] else (if three then 0 ∷ [] else [])))
-    ≡ (let d = followed dumped l ((if k then Open h else Enter h) ∷ map {A = ℕ} (λ z. Unused) (if k then [] else (if three then 0 ∷ [] else []))) in
-    shows (pair d.state (find_open s h).state) (texts l.layout (find_open s h) ++ d.put))
-opens-by l s h true three = ap (shows _) (append_assoc (texts l.layout (find_open s h)) (dumped l (Open h)).put [])
-opens-by l s h false true = ap (shows _) (append_assoc (texts l.layout (find_open s h)) (dumped l (Enter h)).put [])
-opens-by l s h false false = ap (shows _) (append_assoc (texts l.layout (find_open s h)) (dumped l (Enter h)).put [])
-
-again : (a b : List ℕ) → (a ++ b) ++ [] ≡ (a ++ []) ++ b
-again a b = append-nil (a ++ b) ∙ ap (λ (x : List ℕ). x ++ b) (sym (append-nil a))
-
-closes-by : (l : Dumping) (s : FinderState) (at : Option ℕ) (k : Bool)
-    → followed dump_step (pair l s) ((if k then Close at else Leave) ∷ [])
-    ≡ (let d = followed dumped l ((if k then Close at else Leave) ∷ []) in
-    shows (pair d.state (find_close s).state) (d.put ++ texts l.layout (find_close s)))
-closes-by l s None true = ap (shows _) (again (dumped l (Close None)).put (texts l.layout (find_close s)))
-closes-by l s (Some at) true = ap (shows _) (again (dumped l (Close (Some at))).put (texts l.layout (find_close s)))
-closes-by l s at false = ap (shows _) (again (dumped l Leave).put (texts l.layout (find_close s)))
-
--- ---- a primitive
-
-around : (a b m e t : List ℕ) → (a ++ b) ++ (m ++ ((e ++ t) ++ [])) ≡ a ++ ((b ++ (m ++ (e ++ []))) ++ t)
-around a b m e t = simp (append_assoc, append-nil)
-
-primitive-by : (l : Dumping) (s : FinderState) (h : Heading) (c : List ℕ)
-    → followed dump_step (pair l s) (Begin h ∷ Bytes c ∷ End ∷ [])
-    ≡ (let d = followed dumped l (Begin h ∷ Bytes c ∷ End ∷ []) in
-    let f = find_end (find_bytes (find_begin s h).state c) in
-    shows (pair d.state f.state) (texts l.layout (find_begin s h) ++ (d.put ++ texts l.layout f)))
-primitive-by l s h c =
-    let b = dumped l (Begin h) in
-    let m = each_octet one_dumped b.state c in
-    let e = dumped m.state End in
-    let u : FinderState = find_bytes (find_begin s h).state c in
-    let f = find_end u in
-    let first = texts l.layout (find_begin s h) in
-    let whole : Following Dumping → Following Showing = λ k. shows (pair (dumped k.state End).state f.state) ((first ++ b.put) ++ (k.put ++ (((dumped k.state End).put ++ texts k.state.layout f) ++ []))) in
-    let parts : Following Dumping → Following Showing =
-    λ k. let d = and_then b (λ z. if_on k.goes k (λ w. followed dumped w (End ∷ []))) in shows (pair d.state f.state) (first ++ (d.put ++ texts l.layout f)) in
-    let o : Following Dumping = of_bytes b.state (further b.state.offset (length c)) (value_after b.state.value c) (value_told b.state.value c) in
-    let is : m ≡ o = dumped_bytes b.state c in
-    ap (λ (k : Following Showing). record {
-      state = (if_on k.goes k (λ w. followed dump_step w (End ∷ []))).state;
-      put = (first ++ b.put) ++ (if_on k.goes k (λ w. followed dump_step w (End ∷ []))).put;
-      goes = (if_on k.goes k (λ w. followed dump_step w (End ∷ []))).goes;
-    })
-    (each-shown (pair b.state (find_begin s h).state) c)
-    ∙ ap whole is
-    ∙ ap (shows (pair (dumped o.state End).state f.state)) (around first b.put o.put (dumped o.state End).put (texts l.layout f))
-    ∙ sym (ap parts is)
-
-pub primitives_are_shown : PrimitivesAreShown
-primitives_are_shown s h c size =
-    let d = primitives_shown s.lines h c size in
-    let f = primitive-found s.finder h c (sym size) in
-    let l : Dumping = record (entered s.lines h) { offset = further (entered s.lines h).offset (length c); value = None } in (
-      pair l f.0,
-      refl,
-      f.1,
-      primitive-by s.lines s.finder h c
-          ∙ ap₂ (λ (d : Following Dumping) (f : Finds). shows (pair d.state f.state) (texts s.lines.layout (find_begin s.finder h) ++ (d.put ++ texts s.lines.layout f))) d f.2,
-    )
-
--- a primitive that is open
-part-by : (l : Dumping) (s : FinderState) (h : Heading) (c : List ℕ)
-    → (followed dump_step (pair l s) (Begin h ∷ Bytes c ∷ [])).put ≡ texts l.layout (find_begin s h) ++ (followed dumped l (Begin h ∷ Bytes c ∷ [])).put
-part-by l s h c =
-    let b = dumped l (Begin h) in
-    let m = each_octet one_dumped b.state c in
-    let first = texts l.layout (find_begin s h) in
-    let o : Following Dumping = of_bytes b.state (further b.state.offset (length c)) (value_after b.state.value c) (value_told b.state.value c) in
-    let is : m ≡ o = dumped_bytes b.state c in
-    ap (λ (k : Following Showing). (first ++ b.put) ++ (if_on k.goes k (λ w. followed dump_step w [])).put) (each-shown (pair b.state (find_begin s h).state) c)
-    ∙ append_assoc first b.put (m.put ++ [])
-    ∙ ap (λ (k : Following Dumping). first ++ (b.put ++ (k.put ++ []))) is
-    ∙ sym (ap (λ (k : Following Dumping). first ++ (and_then b (λ z. if_on k.goes k (λ w. followed dumped w []))).put) is)
+use Rattle.tlv_show.proofs.DumpEvents.{pair, shows, then_shown, texts, opens-by, closes-by, primitive-by, part-by}
 
 -- ---- elements, in this style, with these names and rules
 module _ (style : Layout) (names : Table) (rules : Rules) where

@@ -9,6 +9,7 @@ pub mod FinderTold
 pub mod Shows
 pub mod CheckFolds
 pub mod DumpSteps
+pub mod DumpEvents
 pub mod DumpShown
 pub mod DumpFolds
 pub mod BasicFindings

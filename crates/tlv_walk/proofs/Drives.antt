@@ -1,9 +1,7 @@
 -- A walk over all that a source gives, turn by turn.
 use Rattle.std.proofs.Common.{◌≡◌, ◌≢◌, ◌⊎◌, inl, inr, ℕ, zero, suc, ◌-◌, ◌≤◌, ◌<◌, Bool, true, false, List, [], ◌∷◌, ◌++◌, length, take, flat_map, refl, sym, ap, ◌∙◌, subst, arith, append-nil}
 use Rattle.std.proofs.lemmas.Bool.{cases_Bool, true≢false}
-use Rattle.std.proofs.lemmas.List.{length-take}
-use Rattle.std.proofs.lemmas.List.Elements.{All-append, All-nil, All-take}
-use Rattle.std.proofs.Math.Seq.{take-append-add}
+use Rattle.std.proofs.lemmas.List.Elements.{All-append}
 use Rattle.std.specs.Prelude.{Option, Result, Ok, Err, ⊤}
 use Rattle.std.specs.Io.KnownBytes.{IsAtEnd}
 use Rattle.tlv_walk.specs.declared.ending.Ending.{Ending}
@@ -16,67 +14,27 @@ use Rattle.tlv_walk.specs.declared.run.Run.{Run}
 use Rattle.tlv_walk.specs.declared.run.Turn.{Turn}
 use Rattle.tlv_walk.specs.declared.run.Turn.TheVariants.{Again, Ended}
 use Rattle.std.specs.List.{concat}
-use Rattle.tlv_walk.specs.Device.{Last, Supply, Taken, failed, failures_after, gave, never}
+use Rattle.tlv_walk.specs.Device.{Last, Supply, Taken, failed, failures_after, gave}
 use Rattle.tlv_walk.specs.Drives.{Drives, had_enough, octets_told, run_of, walk}
-use Rattle.tlv_walk.specs.Events.{AreEqualJoined, Told, Open, Begin, Bytes, End, Close, Enter, Unused, Leave, Pad, events}
+use Rattle.tlv_walk.specs.Events.{AreEqualJoined, Told, Bytes, Pad, events}
 use Rattle.tlv_walk.specs.Follow.{Following, GoesOn, Joins, Rests, followed, followed_events}
 use Rattle.tlv_walk.specs.Follows.{Made}
 use Rattle.tlv_walk.specs.Forest.{Forest, spell}
 use Rattle.tlv_walk.specs.Job.{AreSound, ComesTo, EndsWith, IsFinalEnding, Runs, of_drain, of_source}
 use Rattle.tlv_walk.specs.Laws.{AreOctets}
-use Rattle.tlv_walk.specs.Machine.{Machine, new_machine}
+use Rattle.tlv_walk.specs.Machine.{Machine}
 use Rattle.tlv_walk.specs.Out.{Sends}
 use Rattle.tlv_walk.specs.Reading.{IsReading}
-use Rattle.tlv_walk.specs.State.{Stands, waiting_of}
+use Rattle.tlv_walk.specs.State.{Stands}
 use Rattle.tlv_walk.specs.Turns.{Calls, EndsBy, EndsIn, Gave, GaveUpTo, StopsIn, Turns, given}
 use Rattle.tlv_walk.specs.Wrappers.{enters, first_other, unused_of}
 use Rattle.tlv_walk.proofs.Followed.{events_enough, followed-alike, followed-enough, kept-alike}
-use Rattle.tlv_walk.proofs.Following.{made_both, made_none, made_put}
+use Rattle.tlv_walk.proofs.Following.{made_both, made_put}
 use Rattle.tlv_walk.proofs.Enough.{ends_so}
-use Rattle.tlv_walk.proofs.Pieces.{GaveLast, Gathered, gathered_more, gathered_none, pieces_all, together_more}
-use Rattle.tlv_walk.proofs.Puts.{sends_nothing, sends_ok, sends_then}
+use Rattle.tlv_walk.proofs.Pieces.{GaveLast, gathered_more, pieces_all, together_more}
+use Rattle.tlv_walk.proofs.Puts.{sends_ok, sends_then}
 use Rattle.tlv_walk.proofs.Turns.{stands_spelled, stands_told}
-
--- ---- reads
-
--- what the last read gave
-gave_last : (last : Last) (piece : List ℕ) → GaveUpTo (length piece) last → GaveLast last (given last piece)
-gave_last never piece g = absurd g
-gave_last (gave n) piece g = inl (ap gave (sym (length-take n piece ∙ omega (arith, g))))
-gave_last failed piece g = absurd g
-
-gave_none : (last : Last) (piece : List ℕ) → GaveUpTo (length piece) last → given last piece ≡ [] → last ≡ gave 0
-gave_none never piece g e = absurd g
-gave_none (gave n) piece g e = ap gave (omega (arith, g, length-take n piece, ap length e))
-gave_none failed piece g e = absurd g
-
-given_short : (last : Last) (piece : List ℕ) (room : ℕ) → length piece ≤ room → length (given last piece) ≤ room
-given_short never piece room h = omega arith
-given_short (gave n) piece room h = omega (arith, h, length-take n piece)
-given_short failed piece room h = omega arith
-
-given_octets : (last : Last) (piece : List ℕ) → AreOctets piece → AreOctets (given last piece)
-given_octets never piece a = All-nil (λ x. x < 256)
-given_octets (gave n) piece a = All-take (λ x. x < 256) n piece a
-given_octets failed piece a = All-nil (λ x. x < 256)
-
--- of octets behind others as many as the limit leaves
-limit_behind : (limit : ℕ) (b r : List ℕ) → length b ≤ limit → b ++ take (limit - length b) r ≡ take limit (b ++ r)
-limit_behind limit b r h = sym (take-append-add b r (limit - length b)) ∙ ap (λ (k : ℕ). take k (b ++ r)) (omega (arith, h))
-
--- ---- what is kept of events
-
-enters_each : (es : List Told) → enters es ≡ flat_map (λ e. enters (e ∷ [])) es
-enters_each [] = refl
-enters_each (Enter h ∷ es) = ap (λ (l : List ℕ). h.offset ∷ l) (enters_each es)
-enters_each (Open h ∷ es) = enters_each es
-enters_each (Begin h ∷ es) = enters_each es
-enters_each (Bytes c ∷ es) = enters_each es
-enters_each (End ∷ es) = enters_each es
-enters_each (Close o ∷ es) = enters_each es
-enters_each (Unused ∷ es) = enters_each es
-enters_each (Leave ∷ es) = enters_each es
-enters_each (Pad c ∷ es) = enters_each es
+use Rattle.tlv_walk.proofs.SoFar.{gave_last, gave_none, given_short, given_octets, limit_behind, enters_each, Walking}
 
 -- a run with these values
 run_is : (run : Run) (e : Ending) (n : ℕ) (k : Bool) (u : Option ℕ) → run.ending ≡ e → run.octets ≡ n → run.enough ≡ k → run.unused ≡ u → run ≡ record { ending = e; octets = n; enough = k; unused = u }
@@ -85,32 +43,6 @@ run_is run e n k u p q r s =
     ∙ ap (λ (x : ℕ). record { ending = e; octets = x; enough = run.enough; unused = run.unused }) q
     ∙ ap (λ (x : Bool). record { ending = e; octets = n; enough = x; unused = run.unused }) r
     ∙ ap (λ (x : Option ℕ). record { ending = e; octets = n; enough = k; unused = x }) s
-
-module _ {S : Type 0} (next : S → Told → Following S) where
-  -- the walk so far: the octets given, the events told of them, and what was made of these
-  pub record Walking (framing : Framing) (w : Machine) (s t : S) (old new : Supply) (from to : Taken) : Type 0 where
-    pub gathered : Gathered old new
-    pub octets : AreOctets (concat gathered.pieces)
-    pub failures : new.failures ≡ old.failures
-    pub told : List Told
-    pub made : Made next s t told go.On
-    pub sends : Sends {T = ⊤} {E = DeviceFault} from to (followed next s told).put (Ok tt)
-    pub same : w.framing ≡ framing
-    pub stands : Stands w (concat gathered.pieces) told
-    pub quiet : waiting_of w ≡ []
-
-  pub walking_none : (framing : Framing) (s : S) (old : Supply) (from : Taken) → Stands (new_machine framing) [] [] → Walking framing (new_machine framing) s s old old from from
-  walking_none framing s old from st = record {
-    gathered = gathered_none old;
-    octets = All-nil (λ x. x < 256);
-    failures = refl;
-    told = [];
-    made = made_none next s;
-    sends = sends_nothing from tt;
-    same = refl;
-    stands = st;
-    quiet = refl;
-  }
 
 module _ {S : Type 0} (next : S → Told → Following S)
     (bytes_join : Joins next Bytes) (bytes_rest : Rests next Bytes) (bytes_go_on : GoesOn next Bytes)

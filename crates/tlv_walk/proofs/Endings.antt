@@ -12,7 +12,7 @@ use Rattle.tlv_walk.specs.Forest.{Forest, has_element, is_whole, spell}
 use Rattle.tlv_walk.specs.Place.{top}
 use Rattle.tlv_walk.specs.Reading.{IsReading, IsSoundList}
 use Rattle.tlv_walk.specs.Ending.{IsEnding, IsFault, done, empty, fault, refused, short, tip}
-use Rattle.tlv_walk.proofs.Push.{Spells}
+use Rattle.tlv_walk.proofs.PushSteps.{Spells}
 use Rattle.tlv_walk.proofs.Readings.{Run, Going, Halted, IsHalt, IsRun, halt-longer, halt-longest, is-run, run, run-reading, unique}
 use Rattle.tlv_walk.proofs.Spellings.{front-same}
 use Rattle.tlv_walk.proofs.Sound.{open-sound, sound-open_top, sound-whole}

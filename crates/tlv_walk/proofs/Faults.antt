@@ -14,8 +14,8 @@ use Rattle.tlv_walk.specs.Forest.{Forest, Stop, Partial, Awaiting, Begun, Zero}
 use Rattle.tlv_walk.specs.Place.{Fits, IsHeadAt, IsOpen, Place, top}
 use Rattle.tlv_walk.specs.Ending.{IsFault, bad_inside, missing_end, bad_end, no_room, refused_octet, too_deep, overrun, no_end, stray_end, tip}
 use Rattle.tlv_walk.proofs.Bounds.{fits, fits-within, within-fits}
-use Rattle.tlv_walk.proofs.Push.{Step, Grown, Ended, Refused, begin, complete, origin, push, zero_between}
-use Rattle.tlv_walk.proofs.Pop.{push-scan}
+use Rattle.tlv_walk.proofs.PushSteps.{Step, Grown, Ended, Refused, begin, complete, origin, push, zero_between}
+use Rattle.tlv_walk.proofs.PopHeaders.{push-scan}
 use Rattle.tlv_walk.proofs.Tips.{IsTip, push-tip, refusal, tip-fact}
 
 -- what does not fit passes the bound

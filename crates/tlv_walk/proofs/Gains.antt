@@ -8,7 +8,7 @@ use Rattle.tlv_walk.specs.Forest.{Forest, Stop, Fill, Whole, Closed, Partial, En
 use Rattle.tlv_walk.specs.Place.{IsOpen, Place, after, inside_of}
 use Rattle.tlv_walk.specs.Events.{Told, Begin, Bytes, End, Enter, Unused, Pad, apart, closes, events, opens}
 use Rattle.tlv_walk.proofs.Bounds.{fits}
-use Rattle.tlv_walk.proofs.Push.{Step, Grown, Ended, Refused, entered, follow, is_filled, partial, push, settle}
+use Rattle.tlv_walk.proofs.PushSteps.{Step, Grown, Ended, Refused, entered, follow, is_filled, partial, push, settle}
 use Rattle.tlv_walk.proofs.Joined.{apart-before, apart-more, bytes_apart}
 
 -- the events of what a step gives

@@ -1,7 +1,9 @@
 pub mod Lengths
 pub mod Spellings
 pub mod Bounds
+pub mod PushSteps
 pub mod Push
+pub mod PopHeaders
 pub mod Pop
 pub mod Readings
 pub mod Sound
@@ -43,8 +45,10 @@ pub mod Waiting
 pub mod Following
 pub mod Turns
 pub mod Enough
+pub mod SoFar
 pub mod Drives
 pub mod Jobs
 pub mod Inputs
 pub mod Alike
+pub mod ShortHeaders
 pub mod Respelled

@@ -6,8 +6,8 @@ use Rattle.tlv_walk.specs.Place.{IsOpen, Place, top}
 use Rattle.tlv_walk.specs.Reading.{IsReading}
 use Rattle.tlv_walk.specs.Events.{AreEqualJoined, Told, apart, events}
 use Rattle.tlv_walk.proofs.Spellings.{front-of}
-use Rattle.tlv_walk.proofs.Push.{Grown}
-use Rattle.tlv_walk.proofs.Pop.{back, is_nil, is_push}
+use Rattle.tlv_walk.proofs.PushSteps.{Grown}
+use Rattle.tlv_walk.proofs.PopHeaders.{back, is_nil, is_push}
 use Rattle.tlv_walk.proofs.Readings.{PoppedBy, popped-by, unique}
 use Rattle.tlv_walk.proofs.Joined.{apart-before, joined-from_apart}
 use Rattle.tlv_walk.proofs.Gains.{Brings, gained, push-brings}

@@ -10,8 +10,10 @@ use Rattle.tlv_walk.specs.Forest.{Forest, Stop, spell}
 use Rattle.tlv_walk.specs.Place.{IsOpen, Place, top}
 use Rattle.tlv_walk.specs.Reading.{IsPrefixOf, IsReading}
 use Rattle.tlv_walk.proofs.Spellings.{front-of, front-same}
-use Rattle.tlv_walk.proofs.Push.{Step, Grown, Ended, Refused, IsStep, Spells, push, push-sound}
-use Rattle.tlv_walk.proofs.Pop.{Popped, back, is_nil, is_push, pop}
+use Rattle.tlv_walk.proofs.PushSteps.{Step, Grown, Ended, Refused, IsStep, Spells, push}
+use Rattle.tlv_walk.proofs.Push.{push-sound}
+use Rattle.tlv_walk.proofs.PopHeaders.{Popped, back, is_nil, is_push}
+use Rattle.tlv_walk.proofs.Pop.{pop}
 
 -- a forest, popped by this octet
 pub record PoppedBy (p : Place) (f : Forest) (o : List ℕ) (x : ℕ) : Type 0 where

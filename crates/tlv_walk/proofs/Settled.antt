@@ -12,7 +12,8 @@ use Rattle.tlv_walk.specs.Machine.{bound_in}
 use Rattle.tlv_walk.specs.Stack.{IsFilled}
 use Rattle.tlv_walk.specs.State.{AreLayers, AreWhole, Layer, frames_of, is_end, place_in, spell_layers}
 use Rattle.tlv_walk.proofs.Bounds.{IsFull, fits-inside, has_length, length-full}
-use Rattle.tlv_walk.proofs.Push.{Spells, closed-sound, is_filled, reaches, unfilled-lacks}
+use Rattle.tlv_walk.proofs.PushSteps.{Spells, is_filled}
+use Rattle.tlv_walk.proofs.Push.{closed-sound, reaches, unfilled-lacks}
 use Rattle.tlv_walk.proofs.Spellings.{length-opening}
 use Rattle.tlv_walk.proofs.Zipper.{behind, open-behind, open-within, settled, spell-behind, spell-within, whole-behind, within}
 

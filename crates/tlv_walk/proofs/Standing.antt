@@ -24,7 +24,7 @@ use Rattle.tlv_walk.proofs.OpenCounts.{state-depth}
 use Rattle.tlv_walk.proofs.Unused.{told_unused}
 use Rattle.tlv_walk.proofs.StateEndings.{ready-waits}
 use Rattle.tlv_walk.proofs.Waiting.{quiet}
-use Rattle.tlv_walk.proofs.Push.{Spells}
+use Rattle.tlv_walk.proofs.PushSteps.{Spells}
 use Rattle.tlv_walk.proofs.StateReading.{stands, state-events, state-spells}
 use Rattle.tlv_walk.proofs.Zipper.{reading_of}
 

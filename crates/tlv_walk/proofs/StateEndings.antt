@@ -16,7 +16,7 @@ use Rattle.tlv_walk.specs.Place.{Place, top}
 use Rattle.tlv_walk.specs.State.{HasState, IsPhaseOf, Layer, Tail, Between, InContents, BeforeUnused, InHeader, InEnd, State, begins_element, frames_of, place_in, place_of, spell_tail, stack_of}
 use Rattle.tlv_walk.proofs.Endings.{halt-ending}
 use Rattle.tlv_walk.proofs.Faults.{fault-refused}
-use Rattle.tlv_walk.proofs.Push.{Spells}
+use Rattle.tlv_walk.proofs.PushSteps.{Spells}
 use Rattle.tlv_walk.proofs.Readings.{IsHalt}
 use Rattle.tlv_walk.proofs.Settled.{end_in, settled-within}
 use Rattle.tlv_walk.proofs.StateReading.{contents-less, place_behind, state-offset, state-reading, state-spells}

@@ -18,7 +18,7 @@ use Rattle.tlv_walk.specs.Inside.{CanName}
 use Rattle.tlv_walk.specs.Wrappers.{enters, wrappers}
 use Rattle.tlv_walk.proofs.Joined.{apart-before, apart-from_joined, joined-from_apart}
 use Rattle.tlv_walk.proofs.Bounds.{within-le}
-use Rattle.tlv_walk.proofs.Push.{Spells}
+use Rattle.tlv_walk.proofs.PushSteps.{Spells}
 use Rattle.tlv_walk.proofs.Readings.{Going, run-reading}
 use Rattle.tlv_walk.proofs.Settled.{end_in, settled-spells}
 use Rattle.tlv_walk.proofs.Zipper.{behind, open-behind, open-within, place-at, reading_in, reading_of, room-if_open, settled, spell-behind, spell-within, whole-behind, within}

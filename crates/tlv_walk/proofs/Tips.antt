@@ -8,7 +8,7 @@ use Rattle.tlv_walk.specs.Place.{Fits, IsOpen, Place, after, inside_of}
 use Rattle.tlv_walk.specs.Ending.{tip}
 use Rattle.tlv_walk.proofs.Bounds.{fits-inside, lacks-within, within-le}
 use Rattle.tlv_walk.proofs.Spellings.{length-closed, length-opening, length-whole}
-use Rattle.tlv_walk.proofs.Push.{Step, Grown, Ended, Refused, follow, push, settle}
+use Rattle.tlv_walk.proofs.PushSteps.{Step, Grown, Ended, Refused, follow, push, settle}
 
 -- the code of a refusal
 abbrev pub refusal : Step → Option FaultCode

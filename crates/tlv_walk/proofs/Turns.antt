@@ -39,7 +39,7 @@ use Rattle.tlv_walk.proofs.Finals.{refused-final}
 use Rattle.tlv_walk.proofs.Followed.{followed-front}
 use Rattle.tlv_walk.proofs.Following.{walked_goes_on}
 use Rattle.tlv_walk.proofs.Puts.{puts_failed_last, puts_then_as, sends_err, sends_flushed, sends_ok, sends_puts}
-use Rattle.tlv_walk.proofs.Push.{Spells}
+use Rattle.tlv_walk.proofs.PushSteps.{Spells}
 use Rattle.tlv_walk.proofs.Readings.{reading-longer, reading-unique}
 use Rattle.tlv_walk.proofs.StateReading.{state-reading, state-spells}
 use Rattle.tlv_walk.proofs.ToldOctets.{stands-told_octets}

@@ -11,8 +11,9 @@ use Rattle.tlv_walk.specs.Events.{Told, Open, Begin, Bytes, End, Close, Enter, U
 use Rattle.tlv_walk.specs.Wrappers.{enters, wrapper_at, wrappers}
 use Rattle.tlv_walk.proofs.Bounds.{fits}
 use Rattle.tlv_walk.proofs.Spellings.{length-closed, length-opening, length-whole}
-use Rattle.tlv_walk.proofs.Push.{Step, Grown, Ended, Refused, Spells, begin, begun, entered, is_filled, opened, origin, partial, push, push-sound, zero_between}
-use Rattle.tlv_walk.proofs.Pop.{header-length}
+use Rattle.tlv_walk.proofs.PushSteps.{Step, Grown, Ended, Refused, Spells, begin, begun, entered, is_filled, opened, origin, partial, push, zero_between}
+use Rattle.tlv_walk.proofs.Push.{push-sound}
+use Rattle.tlv_walk.proofs.PopHeaders.{header-length}
 use Rattle.tlv_walk.proofs.Gains.{closing, gained, push-brings, step_events}
 
 -- of two pieces

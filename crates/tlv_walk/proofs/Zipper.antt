@@ -14,7 +14,7 @@ use Rattle.tlv_walk.specs.Machine.{bound_in}
 use Rattle.tlv_walk.specs.Stack.{IsInIndefinite, bound_of}
 use Rattle.tlv_walk.specs.State.{AreLayers, AreWhole, Layer, Tail, Between, InContents, BeforeUnused, InHeader, InEnd, State, frames_of, place_in, spell_layers}
 use Rattle.tlv_walk.proofs.Bounds.{fits-inside}
-use Rattle.tlv_walk.proofs.Push.{is_filled}
+use Rattle.tlv_walk.proofs.PushSteps.{is_filled}
 use Rattle.tlv_walk.proofs.Spellings.{append_assoc-3, append_assoc-4, length-closed, length-whole}
 
 -- whole elements, and then others

@@ -13,7 +13,7 @@ use Rattle.tlv_walk.specs.Private.State.{wrappers_layers}
 use Rattle.tlv_walk.specs.Place.{Place, after}
 use Rattle.tlv_walk.specs.Wrappers.{wrapper_at, wrappers}
 use Rattle.tlv_walk.proofs.Bounds.{IsFull}
-use Rattle.tlv_walk.proofs.Push.{is_filled}
+use Rattle.tlv_walk.proofs.PushSteps.{is_filled}
 use Rattle.tlv_walk.proofs.Settled.{IsEnded, end_in, end-filled, filled-ended, filled-full}
 use Rattle.tlv_walk.proofs.Zipper.{behind, settled, within}
 

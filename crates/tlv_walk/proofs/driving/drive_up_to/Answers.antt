@@ -5,7 +5,8 @@ use Rattle.tlv_walk.specs.declared.run.DeviceFault.{DeviceFault}
 use Rattle.tlv_walk.specs.declared.run.Turn.{Turn}
 use Rattle.tlv_walk.specs.Device.{Supply, Taken}
 use Rattle.tlv_walk.specs.Turns.{Calls}
-use Rattle.tlv_walk.proofs.Drives.{drives_ended, drives_err, walking_none, walking_on}
+use Rattle.tlv_walk.proofs.SoFar.{walking_none}
+use Rattle.tlv_walk.proofs.Drives.{drives_ended, drives_err, walking_on}
 use Rattle.tlv_walk.proofs.driving.drive_up_to.Goals as goal
 
 -- there is room for as many octets before a turn

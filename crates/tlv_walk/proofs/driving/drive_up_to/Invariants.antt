@@ -1,6 +1,6 @@
 use Rattle.std.proofs.Common.{◌≡◌, ◌-◌, ◌≤◌, length}
 use Rattle.tlv_walk.specs.Machine.{IsReady}
-use Rattle.tlv_walk.proofs.Drives.{Walking}
+use Rattle.tlv_walk.proofs.SoFar.{Walking}
 use Rattle.tlv_walk.proofs.driving.drive_up_to.Given as goal
 
 abbrev pub invariant-turns : goal.invariant-turns

@@ -1,6 +1,6 @@
 use Rattle.std.proofs.Common.{sym}
 use Rattle.tlv_walk.specs.Forest.{Forest}
-use Rattle.tlv_walk.proofs.Push.{Spells}
+use Rattle.tlv_walk.proofs.PushSteps.{Spells}
 use Rattle.tlv_walk.proofs.Readings.{prefix}
 use Rattle.tlv_walk.proofs.laws.fronts_are_open.Goals as goal
 
