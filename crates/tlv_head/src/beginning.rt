@@ -1,5 +1,5 @@
 //! Reads a header at once, from a slice that begins with it.
-ghost use Rattle.std.specs.Prelude.{◌≡◌, ◌≤◌, IfSome, MatchOption};
+ghost use Rattle.std.specs.Prelude.{◌≤◌, IfSome, MatchOption};
 ghost use Rattle.tlv_head.specs.Refusal.{BeginsWithNone};
 ghost use Rattle.tlv_head.specs.Read.{BeginsWithFields, BeginsWithNoShort, IsShort};
 ghost use Rattle.tlv_head.specs.Private.Part.{BeginsWithIdentifier, BeginsWithLength, BeginsWithNoIdentifier, BeginsWithNoLength};
