@@ -6,10 +6,10 @@ use Rattle.tlv_head.specs.declared.header.Class.{Class}
 use Rattle.tlv_head.specs.declared.header.Size.{Size}
 use Rattle.tlv_head.specs.declared.header.Size.TheVariants.{Definite, Indefinite}
 use Rattle.tlv_head.specs.declared.header.HeaderFields.{HeaderFields}
-use Rattle.tlv_head.specs.declared.reader.Identifier.{Identifier}
+use Rattle.tlv_head.specs.declared.part.Identifier.{Identifier}
 use Rattle.tlv_head.specs.Fields.{heading_with, Suits}
-use Rattle.tlv_head.specs.declared.reader.Part.{Part}
-use Rattle.tlv_head.specs.declared.reader.Part.TheVariants.{Start, Number, Length, Digits, Done}
+use Rattle.tlv_head.specs.declared.part.Part.{Part}
+use Rattle.tlv_head.specs.declared.part.Part.TheVariants.{Start, Number, Length, Digits, Done}
 use Rattle.tlv_head.specs.Header.{Heading, IsHeading, IsIdentifier, IsLength, octets_of}
 use Rattle.tlv_head.specs.Part.{Carries, is_done}
 use Rattle.tlv_head.specs.Private.Part.{BeginsWithIdentifier, BeginsWithLength, MakesHeader}

@@ -6,11 +6,11 @@ use Rattle.tlv_head.specs.declared.header.Class.{Class}
 use Rattle.tlv_head.specs.declared.header.Size.{Size}
 use Rattle.tlv_head.specs.declared.header.Size.TheVariants.{Definite, Indefinite}
 use Rattle.tlv_head.specs.declared.fault.FaultCode.{FaultCode}
-use Rattle.tlv_head.specs.declared.reader.Identifier.{Identifier}
-use Rattle.tlv_head.specs.declared.reader.Part.{Part}
-use Rattle.tlv_head.specs.declared.reader.Part.TheVariants.{Start, Number, Length, Digits, Done}
-use Rattle.tlv_head.specs.declared.reader.Next.{Next}
-use Rattle.tlv_head.specs.declared.reader.Next.TheVariants.{Unfinished, Finished, Refused}
+use Rattle.tlv_head.specs.declared.part.Identifier.{Identifier}
+use Rattle.tlv_head.specs.declared.part.Part.{Part}
+use Rattle.tlv_head.specs.declared.part.Part.TheVariants.{Start, Number, Length, Digits, Done}
+use Rattle.tlv_head.specs.declared.part.Next.{Next}
+use Rattle.tlv_head.specs.declared.part.Next.TheVariants.{Unfinished, Finished, Refused}
 use Rattle.tlv_head.specs.Header.{IsIdentifier, IsLength, flagged, leading_octet}
 use Rattle.tlv_head.specs.Private.Header.{AllowsSize}
 use Rattle.tlv_head.specs.Part.{Carries, CarriesIdentifier, CarriesNumber}

@@ -10,7 +10,7 @@ use Rattle.tlv_head.specs.declared.fault.FaultCode.TheVariants.{TagTooLong, Rese
 use Rattle.tlv_head.specs.Part.{CarriesNumber, CarriesIdentifier, CarriesLength}
 use Rattle.tlv_head.specs.Private.Part.{MakesHeader}
 use Rattle.tlv_head.specs.declared.header.Size.TheVariants.{Definite}
-use Rattle.tlv_head.specs.declared.reader.Identifier.{Identifier}
+use Rattle.tlv_head.specs.declared.part.Identifier.{Identifier}
 use Rattle.tlv_head.proofs.Digits.{value_of-snoc, value_of-lt}
 use Rattle.tlv_head.proofs.Meaning.{allows_definite}
 

@@ -9,9 +9,9 @@ use Rattle.tlv_head.specs.Part.{Carries, CarriesNumber, CarriesIdentifier, Carri
 use Rattle.tlv_head.specs.Private.Part.{MakesHeader}
 use Rattle.tlv_head.specs.declared.header.Size.{Size}
 use Rattle.tlv_head.specs.declared.header.Size.TheVariants.{Definite}
-use Rattle.tlv_head.specs.declared.reader.Identifier.{Identifier}
-use Rattle.tlv_head.specs.declared.reader.Part.{Part}
-use Rattle.tlv_head.specs.declared.reader.Part.TheVariants.{Start, Number, Length, Digits, Done}
+use Rattle.tlv_head.specs.declared.part.Identifier.{Identifier}
+use Rattle.tlv_head.specs.declared.part.Part.{Part}
+use Rattle.tlv_head.specs.declared.part.Part.TheVariants.{Start, Number, Length, Digits, Done}
 use Rattle.std.proofs.lemmas.List.{length-map}
 use Rattle.std.proofs.Math.Seq.{drop-append_seam, take-append_seam}
 use Rattle.tlv_head.proofs.Steps.{ends_number, ends_length, more_length}

@@ -3,9 +3,9 @@ use Rattle.std.specs.Prelude.{◌≡◌, ℕ, ◌+◌, ◌^◌, ◌-◌, ◌<◌
 use Rattle.tlv_head.specs.declared.header.Class.{Class}
 use Rattle.tlv_head.specs.Header.{IsIdentifier, flagged, leading_octet, value_of}
 use Rattle.tlv_head.specs.Progress.{Progress}
-use Rattle.tlv_head.specs.declared.reader.Identifier.{Identifier}
-use Rattle.tlv_head.specs.declared.reader.Part.{Part}
-use Rattle.tlv_head.specs.declared.reader.Part.TheVariants.{Start, Number, Length, Digits, Done}
+use Rattle.tlv_head.specs.declared.part.Identifier.{Identifier}
+use Rattle.tlv_head.specs.declared.part.Part.{Part}
+use Rattle.tlv_head.specs.declared.part.Part.TheVariants.{Start, Number, Length, Digits, Done}
 use Rattle.tlv_head.specs.declared.reader.HeadReader.TheInside.{Inside}
 
 -- 8.1.2.4.2: the high form so far: digits, each with bit 8 set, behind the first octet

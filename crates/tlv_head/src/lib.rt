@@ -2,13 +2,16 @@
 //! octet at a time, the texts of tags, and the faults of an input.
 #![tactic(auto)]
 
+mod beginning;
 mod fault;
 mod header;
 pub mod laws;
+mod part;
 mod reader;
 mod tag;
 
+pub use beginning::{read_header, read_short};
 pub use fault::{Fault, FaultCode};
 pub use header::{Class, Header, HeaderFields, Size, spell_indefinite};
-pub use reader::{Head, HeadReader, read_header, read_short};
+pub use reader::{Head, HeadReader};
 pub use tag::{tag_text, type_name};

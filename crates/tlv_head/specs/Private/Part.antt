@@ -5,9 +5,9 @@ use Rattle.tlv_head.specs.declared.header.Size.{Size}
 use Rattle.tlv_head.specs.Header.{IsIdentifier, IsLength}
 use Rattle.tlv_head.specs.Private.Header.{AllowsSize}
 use Rattle.tlv_head.specs.Refusal.{IsRefusedOctet}
-use Rattle.tlv_head.specs.declared.reader.Identifier.{Identifier}
-use Rattle.tlv_head.specs.declared.reader.Next.{Next}
-use Rattle.tlv_head.specs.declared.reader.Next.TheVariants.{Unfinished, Finished, Refused}
+use Rattle.tlv_head.specs.declared.part.Identifier.{Identifier}
+use Rattle.tlv_head.specs.declared.part.Next.{Next}
+use Rattle.tlv_head.specs.declared.part.Next.TheVariants.{Unfinished, Finished, Refused}
 use Rattle.tlv_head.specs.Part.{CarriesIdentifier, Carries}
 
 -- the octets are a header with these fields

@@ -2,7 +2,7 @@ use Rattle.std.proofs.lemmas.Grind.{common_steps}
 use Rattle.std.proofs.Common.{rules, ◌∷◌, [], get_or, arith}
 use Rattle.tlv_head.specs.Part.{CarriesNumber}
 use Rattle.tlv_head.proofs.ShortFronts.{always-unfinished, goes-on, leads-on, no-other, no-third, still-high, IsUnended}
-use Rattle.tlv_head.proofs.reader.short_identifier.Goals as goal
+use Rattle.tlv_head.proofs.beginning.short_identifier.Goals as goal
 
 pub returns-in_default : goal.returns-in_default
 returns-in_default c = absurd (leads-on c.leading.result _ c.leading.ensures c.in_default.not-Length c.in_default.not-Number)

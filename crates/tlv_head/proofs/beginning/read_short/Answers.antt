@@ -1,7 +1,7 @@
 use Rattle.std.proofs.Common.{rules}
 use Rattle.tlv_head.proofs.Front.{begins_short}
 use Rattle.tlv_head.proofs.ShortFronts.{no-short_identifier, no-short_length}
-use Rattle.tlv_head.proofs.reader.read_short.Goals as goal
+use Rattle.tlv_head.proofs.beginning.read_short.Goals as goal
 
 pub returns-in_err-identifier-clause-begins : goal.returns-in_err-identifier-clause-begins
 returns-in_err-identifier-clause-begins c = rw c.from_residual.ensures (no-short_identifier c.args.octets.now c.in_err-identifier.ensures)

@@ -5,7 +5,7 @@ use Rattle.tlv_head.specs.Fields.{heading_with}
 use Rattle.tlv_head.specs.Private.Part.{MakesHeader}
 use Rattle.tlv_head.proofs.Front.{around, begun_none, begun_part, made_begins, made_suits}
 use Rattle.tlv_head.proofs.Refused.{refused-with_none}
-use Rattle.tlv_head.proofs.reader.read_header.Goals as goal
+use Rattle.tlv_head.proofs.beginning.read_header.Goals as goal
 
 pub returns-in-Finished : goal.returns-in-Finished
 returns-in-Finished c =

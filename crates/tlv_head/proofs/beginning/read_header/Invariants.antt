@@ -1,7 +1,7 @@
 use Rattle.std.proofs.Common.{◌≡◌, false, take}
 use Rattle.tlv_head.specs.Part.{Carries, is_done}
-use Rattle.tlv_head.specs.declared.reader.Part.TheVariants.{Start}
-use Rattle.tlv_head.proofs.reader.read_header.Given as goal
+use Rattle.tlv_head.specs.declared.part.Part.TheVariants.{Start}
+use Rattle.tlv_head.proofs.beginning.read_header.Given as goal
 
 abbrev pub invariant-loop-i : goal.invariant-loop-i
 invariant-loop-i l = record {
