@@ -3,13 +3,13 @@ ghost use Rattle.std.specs.Prelude.{◌≡◌, [], if◌then◌else◌, length};
 ghost use Rattle.std.specs.List.{filter};
 ghost use Rattle.tlv_value.specs.CheckState.{found_in};
 ghost use Rattle.tlv_walk.specs.Tells.{told_of};
-ghost use Rattle.tlv_show.specs.FinderState.{begun_in, entered_in, find_begin, find_bytes, find_close, find_end, find_open, finds, finds_nothing, frame_of as frame_inside, header_notes, no_findings, noted, top_frame};
+ghost use Rattle.tlv_show.specs.FinderState.{begun_in, entered_in, find_begin, find_bytes, find_close, find_end, find_open, finds, finds_nothing, header_notes, no_findings};
 ghost use Rattle.tlv_show.specs.Private.FinderState.{Tells, find as find_in, stands};
 ghost use Rattle.tlv_show.specs.Found.{shows};
 
 use crate::Rules;
-use crate::frames::{Frame, Frames};
-use crate::header_findings::{is_bit_string, is_plain, is_string, note_end, note_header, size_of};
+use crate::frames::{Frame, Frames, frame_of, note_element, top};
+use crate::header_findings::{is_plain, note_end, note_header};
 use arrayvec::ArrayVec;
 use std::marker::Model;
 use tlv_head::Header;
@@ -252,50 +252,6 @@ impl Finder {
         self.count = self.count.saturating_add(self.told.findings.len() as u64);
         true
     }
-}
-
-/// The frame of the top.
-fn top() -> Frame
-    ensures { result ≡ top_frame }
-{
-    Frame {
-        all_primitive: true,
-        ..Frame::default()
-    }
-}
-
-/// The frame of an element of which nothing inside has come.
-#[inline(always)]
-fn frame_of(header: &Header) -> Frame
-    ensures { result ≡ frame_inside header.now }
-{
-    let has_segments = header.constructed && is_string(header);
-    Frame {
-        at: header.offset,
-        size: size_of(header),
-        is_primitive: !header.constructed,
-        has_segments,
-        has_bits: has_segments && is_bit_string(header),
-        all_primitive: true,
-        ..Frame::default()
-    }
-}
-
-/// Keeps what must be known of an element in a string: whether it is primitive, how many contents octets it announces,
-/// and whether bits of it are unused. Nothing is asked of the others.
-#[inline(always)]
-fn note_element(frame: &mut Frame, is_primitive: bool, size: u64, is_unused: bool)
-    ensures { frame.new ≡ noted frame.old is_primitive size is_unused }
-{
-    if !frame.has_segments {
-        return;
-    }
-    let octets = size.saturating_sub(u64::from(frame.has_bits));
-    frame.is_unused = is_unused;
-    frame.is_not_full = !(is_primitive && size == 1000);
-    frame.all_primitive = frame.all_primitive && is_primitive;
-    frame.octets = frame.octets.saturating_add(octets).min(1001);
-    frame.is_empty = is_primitive && size == 0;
 }
 
 /// Notes what is found on the contents of a primitive, of which all have come.

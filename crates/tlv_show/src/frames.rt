@@ -1,9 +1,12 @@
 //! What is kept of the elements that stand beside one another.
 ghost use Rattle.std.specs.Prelude.{◌≡◌, ◌<◌, ◌≤◌, ◌∷◌, [], drop, length};
+ghost use Rattle.tlv_show.specs.FinderState.{frame_of as frame_inside, noted, top_frame};
 ghost use Rattle.tlv_show.specs.Private.FinderState.{innermost_of};
 
+use crate::headers::{is_bit_string, is_string, size_of};
 use arrayvec::ArrayVec;
 use std::marker::Model;
+use tlv_head::Header;
 
 /// What is kept of an element that holds others, and of those that it holds so far.
 #[derive(Clone, Copy, Debug, Default)]
@@ -28,6 +31,50 @@ pub(crate) struct Frame {
     pub octets: u64,
     /// Whether the last that it holds is a primitive without contents octets.
     pub is_empty: bool,
+}
+
+/// The frame of the top.
+pub(crate) fn top() -> Frame
+    ensures { result ≡ top_frame }
+{
+    Frame {
+        all_primitive: true,
+        ..Frame::default()
+    }
+}
+
+/// The frame of an element of which nothing inside has come.
+#[inline(always)]
+pub(crate) fn frame_of(header: &Header) -> Frame
+    ensures { result ≡ frame_inside header.now }
+{
+    let has_segments = header.constructed && is_string(header);
+    Frame {
+        at: header.offset,
+        size: size_of(header),
+        is_primitive: !header.constructed,
+        has_segments,
+        has_bits: has_segments && is_bit_string(header),
+        all_primitive: true,
+        ..Frame::default()
+    }
+}
+
+/// Keeps what must be known of an element in a string: whether it is primitive, how many contents octets it announces,
+/// and whether bits of it are unused. Nothing is asked of the others.
+#[inline(always)]
+pub(crate) fn note_element(frame: &mut Frame, is_primitive: bool, size: u64, is_unused: bool)
+    ensures { frame.new ≡ noted frame.old is_primitive size is_unused }
+{
+    if !frame.has_segments {
+        return;
+    }
+    let octets = size.saturating_sub(u64::from(frame.has_bits));
+    frame.is_unused = is_unused;
+    frame.is_not_full = !(is_primitive && size == 1000);
+    frame.all_primitive = frame.all_primitive && is_primitive;
+    frame.octets = frame.octets.saturating_add(octets).min(1001);
+    frame.is_empty = is_primitive && size == 0;
 }
 
 /// The frames of the open elements that hold others, at most 128.

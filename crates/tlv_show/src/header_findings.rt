@@ -1,27 +1,25 @@
 //! What is found with a header, and with the end of an element that holds others.
 ghost use Rattle.std.specs.Prelude.{IsTrue, false, ◌≡◌, ◌<◌, ◌≤◌, ◌+◌, ◌++◌, ◌&&◌, ◌||◌, ◌==◌, if◌then◌else◌, nat_le, nat_lt, length, []};
-ghost use Rattle.tlv_head.specs.Header.{announced, is_universal as is_universal_class};
 ghost use Rattle.tlv_value.specs.CheckNotes.{where_it};
 ghost use Rattle.tlv_value.specs.Types.{
-  bit_string,
   constructed_types,
   has_segments,
-  is_a,
   is_one_of,
   is_primitive as is_primitive_of,
-  is_string as is_string_of,
   is_unassigned as is_unassigned_of,
-  octet_string,
   primitive_types,
 };
-ghost use Rattle.tlv_walk.specs.Place.{is_indefinite as is_indefinite_of};
-ghost use Rattle.tlv_show.specs.Conditions.{first_length, has_high_form as has_high_form_of, has_long_form, leading_bits};
+ghost use Rattle.tlv_show.specs.Conditions.{has_high_form as has_high_form_of, leading_bits};
 ghost use Rattle.tlv_show.specs.FinderState.{basic_notes, cer_notes, der_notes, end_notes as end_notes_of, header_notes, length_notes};
 
 use crate::Rules;
 use crate::frames::Frame;
+use crate::headers::{
+    has_high_form, is_always_constructed, is_always_primitive, is_indefinite, is_length_padded,
+    is_segment, is_string, is_unassigned, is_universal, size_of,
+};
 use arrayvec::ArrayVec;
-use tlv_head::{Class, Header, Size};
+use tlv_head::Header;
 use tlv_value::Finding;
 
 /// Notes what is found with a header, in order, by the frame of the element that holds it.
@@ -210,94 +208,4 @@ fn note_cer(frame: &Frame, header: &Header, found: &mut ArrayVec<Finding, 16>)
         found,
     );
     note(frame.has_segments && frame.is_not_full, Finding::C04, found);
-}
-
-/// Whether the tag is in the high form (8.1.2.4).
-#[inline(always)]
-fn has_high_form(header: &Header) -> bool
-    ensures { result ≡ has_high_form_of header.now }
-{
-    header.id_len > 1
-}
-
-/// Whether fewer length octets would do (9.1, 10.1).
-#[inline(always)]
-fn is_length_padded(header: &Header) -> bool
-    ensures { result ≡ (has_long_form header.now && (nat_lt (announced header.now.size) 128 || first_length header.now == 0)) }
-{
-    let is_long = header.raw().len() > usize::from(header.id_len) + 1;
-    is_long && (size_of(header) < 128 || header.length_octet() == 0)
-}
-
-/// How many contents octets the header announces; none in the indefinite form.
-#[inline(always)]
-pub(crate) fn size_of(header: &Header) -> u64
-    ensures { result ≡ announced header.now.size }
-{
-    match header.size {
-        Size::Definite(size) => size,
-        Size::Indefinite => 0,
-    }
-}
-
-#[inline(always)]
-fn is_indefinite(header: &Header) -> bool
-    ensures { result ≡ is_indefinite_of header.now.size }
-{
-    matches!(header.size, Size::Indefinite)
-}
-
-#[inline(always)]
-fn is_universal(header: &Header) -> bool
-    ensures { result ≡ is_universal_class header.now.class }
-{
-    matches!(header.class, Class::Universal)
-}
-
-/// Whether no type has this universal number.
-#[inline(always)]
-fn is_unassigned(header: &Header) -> bool
-    ensures { result ≡ is_unassigned_of header.now }
-{
-    is_universal(header) && (header.number == 0 || header.number == 15 || header.number >= 37)
-}
-
-/// Whether the encodings of the type are primitive.
-#[inline(always)]
-fn is_always_primitive(header: &Header) -> bool
-    ensures { result ≡ is_one_of primitive_types header.now }
-{
-    is_universal(header) && matches!(header.number, 1 | 2 | 5 | 6 | 9 | 10 | 13)
-}
-
-/// Whether the encodings of the type are constructed.
-#[inline(always)]
-fn is_always_constructed(header: &Header) -> bool
-    ensures { result ≡ is_one_of constructed_types header.now }
-{
-    is_universal(header) && matches!(header.number, 8 | 11 | 16 | 17 | 29)
-}
-
-/// Whether the type is that of a string, with the strings of characters and the two times.
-#[inline(always)]
-pub(crate) fn is_string(header: &Header) -> bool
-    ensures { result ≡ is_string_of header.now }
-{
-    is_universal(header) && matches!(header.number, 3 | 4 | 7 | 12 | 30 | 18..=28)
-}
-
-/// Whether the type is BIT STRING.
-#[inline(always)]
-pub(crate) fn is_bit_string(header: &Header) -> bool
-    ensures { result ≡ is_a bit_string header.now }
-{
-    is_universal(header) && header.number == 3
-}
-
-/// Whether the tag is that of a segment, of a BIT STRING or of any other string.
-#[inline(always)]
-fn is_segment(has_bits: bool, header: &Header) -> bool
-    ensures { result ≡ is_a (if has_bits then bit_string else octet_string) header.now }
-{
-    is_universal(header) && header.number == if has_bits { 3 } else { 4 }
 }

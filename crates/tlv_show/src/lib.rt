@@ -8,6 +8,7 @@ mod finder;
 mod follower;
 mod frames;
 mod header_findings;
+mod headers;
 pub mod laws;
 mod line_follower;
 mod lines;
