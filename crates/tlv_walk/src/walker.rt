@@ -1,6 +1,6 @@
 //! A machine that takes an encoding in pieces, and keeps a frame for each open element that holds
 //! others.
-ghost use Rattle.std.specs.Prelude.{◌≡◌, ◌≢◌, ℕ, ◌+◌, ◌^◌, ◌<◌, ◌≤◌, ◌↔◌, All, IsTrue, Some, length, slice_get, take};
+ghost use Rattle.std.specs.Prelude.{◌≡◌, ℕ, ◌+◌, ◌^◌, ◌≤◌, ◌↔◌, IsTrue, length};
 
 mod contents;
 mod ends;
@@ -60,25 +60,18 @@ impl Model for Walker {
 }
 
 impl Walker {
-    ghost use Rattle.std.specs.Prelude.{◌≢◌, ◌∷◌, ◌++◌, List, [], Some, false, slice_get, true};
-    ghost use Rattle.tlv_head.specs.Fields.{Suits, heading_with};
-    ghost use Rattle.tlv_head.specs.Header.{announced, holds, octets_of};
+    ghost use Rattle.std.specs.Prelude.{◌∷◌, ◌++◌, List, [], false};
     ghost use Rattle.tlv_walk.specs.Phase as phases;
-    ghost use Rattle.tlv_walk.specs.Machine.{HasOctets, Steps, TellsOne, new_machine, next_wrapper, unused_in};
-    ghost use Rattle.tlv_walk.specs.Private.Machine.{CanBegin, CanEnter, CanRead, CanReadOn, Enters, IsWaiting, StepsAtOnce, Tells, fault_at};
+    ghost use Rattle.tlv_walk.specs.Machine.{Steps, new_machine, unused_in};
+    ghost use Rattle.tlv_walk.specs.Private.Machine.{IsWaiting, fault_at};
     ghost use Rattle.tlv_head.specs.declared.fault.Fault.{Fault as FaultOf};
     ghost use Rattle.tlv_walk.specs.Ending.{IsEnding};
     ghost use Rattle.tlv_walk.specs.Events.{Told};
     ghost use Rattle.tlv_walk.specs.OpenCount.{open_count};
     ghost use Rattle.tlv_walk.specs.State.{NothingWaits, Stands};
     ghost use Rattle.tlv_walk.specs.Wrappers.{unused_of};
-    ghost use Rattle.tlv_walk.specs.Private.ReadsOn.{TellsFrom, TellsHeader};
-    ghost use Rattle.tlv_walk.specs.Tells.{StandsRefused, StandsStep, told_of};
-    ghost use Rattle.tlv_walk.specs.Private.Tells.{Continues, TellsAtOnce, TellsEvent, TellsStep};
-    ghost use Rattle.tlv_head.specs.Read.{BeginsWithFields};
-    ghost use Rattle.tlv_walk.specs.Inside.{is_among};
-    ghost use Rattle.tlv_walk.specs.Stack.{IsFilled, Within, bound_of};
-    ghost use Rattle.tlv_walk.specs.Private.Stack.{room_of};
+    ghost use Rattle.tlv_walk.specs.Tells.{StandsRefused, StandsStep};
+    ghost use Rattle.tlv_walk.specs.Private.Tells.{TellsStep};
 
     /// A walker that has taken nothing.
     pub fn new(framing: &Framing) -> Walker
