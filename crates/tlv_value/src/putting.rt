@@ -1,20 +1,20 @@
 //! Lines on their way to an [`Out`].
-ghost use Rattle.std.specs.Prelude.{◌≡◌, ◌+◌, ◌-◌, ◌*◌, ◌<◌, ◌≤◌, ◌^◌, ◌++◌, ◌∷◌, [], codes, false, if◌then◌else◌, length, true, OnOk};
+ghost use Rattle.std.specs.Prelude.{◌+◌, ◌<◌, ◌≤◌, ◌++◌, ◌∷◌, [], codes, false, length, true};
 ghost use Rattle.tlv_walk.specs.Out.{Puts};
-ghost use Rattle.tlv_value.specs.Layout.{row_line as row_line_of};
 ghost use Rattle.tlv_value.specs.Private.ObjectLines.{object_lines, octets_lines};
-ghost use Rattle.tlv_value.specs.Rows.{full_rows, last_rows, open_row, row_size as row_size_of, rows_of};
-ghost use Rattle.tlv_value.specs.State.{row_lines};
 ghost use Rattle.tlv_value.specs.KindValues.{long_text};
 ghost use Rattle.tlv_value.specs.Private.KindValues.{plain_text};
-ghost use Rattle.tlv_value.specs.Value.{most_held, no_names, row_text};
+ghost use Rattle.tlv_value.specs.Value.{most_held, no_names};
+
+mod rows;
 
 use crate::dotted::dotted_of;
 use crate::kind::Kind;
 use crate::line::Line;
-use crate::rows::{fitting, row_size};
 use crate::{Layout, NameTable};
 use arrayvec::ArrayVec;
+use rows::put_all_rows;
+pub(crate) use rows::{put_last, put_rows};
 use tlv_walk::{Drain, Out, WriteFault};
 
 /// Puts a line that lacks its line feed alone.
@@ -160,144 +160,4 @@ fn put_octets<D: Drain>(
     }
     put_line(line, out)?;
     put_all_rows(layout, contents, line, out)
-}
-
-/// Puts rows of all of the octets.
-fn put_all_rows<D: Drain>(
-    layout: Layout,
-    contents: &[u8],
-    line: &mut Line,
-    out: &mut Out<'_, D>,
-) -> Result<(), WriteFault>
-    requires { length contents.now ≤ 64 }
-    ensures { Puts D.told out.old out.new
-        (row_lines Kind.Octets layout 0 (rows_of Kind.Octets contents.now)) result }
-{
-    let mut row = ArrayVec::new();
-    let mut rows = 0;
-    put_rows(
-        Kind::Octets,
-        layout,
-        &mut row,
-        &mut rows,
-        contents,
-        line,
-        out,
-    )?;
-    put_last(Kind::Octets, layout, rows, row.as_slice(), line, out)
-}
-
-/// Puts the rows that are full, of the octets of the row that has begun and those behind them. What is left begins a row.
-pub(crate) fn put_rows<D: Drain>(
-    kind: Kind,
-    layout: Layout,
-    row: &mut ArrayVec<u8, 64>,
-    rows: &mut u64,
-    octets: &[u8],
-    line: &mut Line,
-    out: &mut Out<'_, D>,
-) -> Result<(), WriteFault>
-    requires begun { length row.old.items < row_size_of kind }
-    requires counted { rows.old + length row.old.items + length octets.now < 2 ^ 64 }
-    ensures begun { length row.new.items < row_size_of kind }
-    ensures counted { rows.new + length row.new.items ≤ rows.old + length row.old.items + length octets.now }
-    ensures row { OnOk result (row.new.items ≡ open_row kind row.old.items octets.now) }
-    ensures rows { OnOk result (rows.new ≡ rows.old + length (full_rows kind row.old.items octets.now)) }
-    ensures puts { Puts D.told out.old out.new
-        (row_lines kind layout rows.old (full_rows kind row.old.items octets.now)) result }
-{
-    let size = row_size(kind);
-    let mut rest = octets;
-    while !rest.is_empty() {
-        let (part, more) = rest.split_at(fitting(kind, row.len(), rest));
-        rest = more;
-        if row.len() + part.len() < size && rest.is_empty() {
-            let _ = row.try_extend_from_slice(part);
-            return Ok(());
-        }
-        let index = *rows;
-        *rows += 1;
-        put_full(kind, layout, index, row, part, line, out)?;
-    }
-    Ok(())
-}
-
-/// Puts the row that has begun with the octets that fill it: from where they stand, if they are the whole row.
-fn put_full<D: Drain>(
-    kind: Kind,
-    layout: Layout,
-    index: u64,
-    row: &mut ArrayVec<u8, 64>,
-    part: &[u8],
-    line: &mut Line,
-    out: &mut Out<'_, D>,
-) -> Result<(), WriteFault>
-    requires { length row.old.items + length part.now ≤ 64 }
-    ensures row { row.new.items ≡ [] }
-    ensures puts { Puts D.told out.old out.new
-        (row_line_of layout index (row_text kind (row.old.items ++ part.now))) result }
-{
-    if row.is_empty() {
-        return put_row(kind, layout, index, part, line, out);
-    }
-    let _ = row.try_extend_from_slice(part);
-    let put = put_row(kind, layout, index, row.as_slice(), line, out);
-    row.clear();
-    put
-}
-
-/// Puts a last row, where there is one.
-pub(crate) fn put_last<D: Drain>(
-    kind: Kind,
-    layout: Layout,
-    index: u64,
-    row: &[u8],
-    line: &mut Line,
-    out: &mut Out<'_, D>,
-) -> Result<(), WriteFault>
-    requires { length row.now ≤ 64 }
-    ensures { Puts D.told out.old out.new (row_lines kind layout index (last_rows row.now)) result }
-{
-    if row.is_empty() {
-        return Ok(());
-    }
-    put_row(kind, layout, index, row, line, out)
-}
-
-/// Puts a row, unless that is past the limit.
-fn put_row<D: Drain>(
-    kind: Kind,
-    layout: Layout,
-    index: u64,
-    row: &[u8],
-    line: &mut Line,
-    out: &mut Out<'_, D>,
-) -> Result<(), WriteFault>
-    requires { length row.now ≤ 64 }
-    ensures { Puts D.told out.old out.new (row_line_of layout index (row_text kind row.now)) result }
-{
-    if !write_row(kind, layout, index, row, line) {
-        return Ok(());
-    }
-    out.put(line.as_slice())
-}
-
-/// Makes the line of a row, unless that is past the limit. Answers whether there is one.
-fn write_row(kind: Kind, layout: Layout, index: u64, row: &[u8], line: &mut Line) -> bool
-    requires { length row.now ≤ 64 }
-    ensures { (if result then line.new else []) ≡ row_line_of layout index (row_text kind row.now) }
-{
-    match layout.limit {
-        Some(limit) if index > u64::from(limit) => return false,
-        Some(limit) if index == u64::from(limit) => {
-            line.begin_row(layout);
-            line.push(b"...");
-        }
-        _ => {
-            line.begin_row(layout);
-            line.row(kind, row);
-        }
-    }
-    line.push(b"\n");
-    true
 }

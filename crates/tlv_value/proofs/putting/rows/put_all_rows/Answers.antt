@@ -4,7 +4,7 @@ use Rattle.tlv_value.specs.declared.kind.Kind.TheVariants.{Octets}
 use Rattle.tlv_value.specs.Rows.{full_rows, last_rows, open_row}
 use Rattle.tlv_value.specs.State.{row_lines}
 use Rattle.tlv_value.proofs.Puts.{rows-split}
-use Rattle.tlv_value.proofs.putting.put_all_rows.Goals as goal
+use Rattle.tlv_value.proofs.putting.rows.put_all_rows.Goals as goal
 
 pub returns-in_err-put_rows : goal.returns-in_err-put_rows
 returns-in_err-put_rows g c =

@@ -8,8 +8,8 @@ use Rattle.tlv_value.specs.Rows.{full_rows, row_size}
 use Rattle.tlv_value.specs.State.{row_lines}
 use Rattle.tlv_value.specs.Value.{row_text}
 use Rattle.tlv_value.proofs.RowSteps.{kept, progress, turned}
-use Rattle.tlv_value.proofs.putting.put_rows.Goals.{else-len-part-via-then-len-part+else-is_empty, else-len-part-via-else-len-part}
-use Rattle.tlv_value.proofs.putting.put_rows.Goals as goal
+use Rattle.tlv_value.proofs.putting.rows.put_rows.Goals.{else-len-part-via-then-len-part+else-is_empty, else-len-part-via-else-len-part}
+use Rattle.tlv_value.proofs.putting.rows.put_rows.Goals as goal
 
 pub returns-then-is_empty-clause-row : goal.returns-then-is_empty-clause-row
 returns-then-is_empty-clause-row g c =

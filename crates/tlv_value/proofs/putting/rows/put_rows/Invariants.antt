@@ -2,7 +2,7 @@ use Rattle.std.proofs.Common.{◌≡◌, ℕ, ◌+◌, ◌<◌, ◌≤◌, ◌++
 use Rattle.tlv_walk.proofs.Puts.{HasPut}
 use Rattle.tlv_value.specs.Rows.{full_rows, open_row, row_size}
 use Rattle.tlv_value.specs.State.{row_lines}
-use Rattle.tlv_value.proofs.putting.put_rows.Given as goal
+use Rattle.tlv_value.proofs.putting.rows.put_rows.Given as goal
 
 abbrev pub invariant-loop-rest : goal.invariant-loop-rest
 invariant-loop-rest g l = record {

@@ -2,8 +2,8 @@ use Rattle.std.proofs.Common.{◌≡◌, ℕ, ◌<◌, ◌∷◌, [], List, arit
 use Rattle.tlv_value.specs.Value.{row_text}
 use Rattle.tlv_value.proofs.LineLengths.{limited_dots, limited_none, limited_shown, line_of_row}
 use Rattle.tlv_value.proofs.Short.{row-short}
-use Rattle.tlv_value.proofs.putting.write_row.Goals.{in-Some-2, in_default, in_default-via-in-Some-2+else-index-from-2, in_default-via-in_default}
-use Rattle.tlv_value.proofs.putting.write_row.Goals as goal
+use Rattle.tlv_value.proofs.putting.rows.write_row.Goals.{in-Some-2, in_default, in_default-via-in-Some-2+else-index-from-2, in_default-via-in_default}
+use Rattle.tlv_value.proofs.putting.rows.write_row.Goals as goal
 
 pub returns : goal.returns
 returns c =
