@@ -1,7 +1,7 @@
 //! What is found on contents by what was noted of them.
-ghost use Rattle.std.specs.Prelude.{◌≡◌, ◌<◌, ◌≤◌, ◌%◌, ◌^◌, ◌++◌, eqb, length, not};
-ghost use Rattle.tlv_value.specs.CheckNotes.{time_findings, where_it};
-ghost use Rattle.tlv_value.specs.CheckState.{found_in};
+ghost use Rattle.std.specs.Prelude.{◌≡◌, ◌<◌, ◌≤◌, ◌%◌, ◌^◌, ◌++◌, [], eqb, length, not};
+ghost use Rattle.tlv_value.specs.CheckNotes.{bits_findings, boolean_findings, time_findings, where_it};
+ghost use Rattle.tlv_value.specs.CheckState.{found_in, noted_in};
 
 use super::ValueCheck;
 use crate::Finding;
@@ -14,34 +14,13 @@ impl ValueCheck {
         ensures { result.items ≡ found_in self.now }
     {
         let mut found = ArrayVec::new();
-        let first = self.first();
         match self.number {
-            1 => {
-                note(self.size != 1, Finding::B06, &mut found);
-                note(
-                    self.size == 1 && first != 0 && first != 255,
-                    Finding::S02,
-                    &mut found,
-                );
-            }
+            1 => self.note_boolean(&mut found),
             2 | 10 => {
                 note(self.size == 0, Finding::B07, &mut found);
                 note(self.is_number_padded(), Finding::B08, &mut found);
             }
-            3 => {
-                note(self.size == 0, Finding::B13, &mut found);
-                note(first > 7, Finding::B14, &mut found);
-                note(
-                    self.size == 1 && first >= 1 && first <= 7,
-                    Finding::B15,
-                    &mut found,
-                );
-                note(
-                    self.size >= 2 && first <= 7 && are_set(first, self.last),
-                    Finding::S03,
-                    &mut found,
-                );
-            }
+            3 => self.note_bits(&mut found),
             5 => note(self.size != 0, Finding::B09, &mut found),
             6 => {
                 note(self.size == 0, Finding::B10, &mut found);
@@ -67,6 +46,40 @@ impl ValueCheck {
             _ => note(!self.is_allowed(), Finding::B18, &mut found),
         }
         found
+    }
+
+    /// Notes what is found on the contents of a BOOLEAN.
+    fn note_boolean(&self, found: &mut ArrayVec<Finding, 16>)
+        requires { found.old.items ≡ [] }
+        ensures { found.new.items ≡ boolean_findings (noted_in self.now) }
+    {
+        let first = self.first();
+        note(self.size != 1, Finding::B06, found);
+        note(
+            self.size == 1 && first != 0 && first != 255,
+            Finding::S02,
+            found,
+        );
+    }
+
+    /// Notes what is found on the contents of a BIT STRING.
+    fn note_bits(&self, found: &mut ArrayVec<Finding, 16>)
+        requires { found.old.items ≡ [] }
+        ensures { found.new.items ≡ bits_findings (noted_in self.now) }
+    {
+        let first = self.first();
+        note(self.size == 0, Finding::B13, found);
+        note(first > 7, Finding::B14, found);
+        note(
+            self.size == 1 && first >= 1 && first <= 7,
+            Finding::B15,
+            found,
+        );
+        note(
+            self.size >= 2 && first <= 7 && are_set(first, self.last),
+            Finding::S03,
+            found,
+        );
     }
 }
 
