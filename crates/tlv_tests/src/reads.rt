@@ -1,5 +1,5 @@
 //! Reads that are followed one by one.
-ghost use Rattle.std.specs.Prelude.{◌<◌, ◌≤◌, length};
+ghost use Rattle.std.specs.Prelude.{◌<◌, ◌≤◌, ◌^◌, length};
 ghost use Rattle.tlv_walk.specs.Machine.{IsReady};
 
 use std::process::Abort;
@@ -16,14 +16,16 @@ pub(crate) fn expect_again<F: Follow>(
     source: &mut MemSource<'_>,
     drain: &mut MemDrain<'_>,
     piece: &mut [u8],
+    limit: u64,
 )
     requires piece { (0 < length piece.old) × (length piece.old ≤ 4096) }
-    requires taken { walker.old.offset ≤ 11 }
+    requires limit { limit ≤ 2 ^ 40 }
+    requires taken { walker.old.offset ≤ limit }
     requires ready { IsReady walker.old }
-    ensures taken { walker.new.offset ≤ 11 }
+    ensures taken { walker.new.offset ≤ limit }
     ensures ready { IsReady walker.new }
 {
-    let Ok(Turn::Again) = turn(walker, follower, source, drain, piece, LENGTH) else {
+    let Ok(Turn::Again) = turn(walker, follower, source, drain, piece, limit) else {
         panic!(rt; "more is to be read");
     };
 }

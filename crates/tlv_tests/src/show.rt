@@ -1,6 +1,7 @@
 //! Dumps of events, told one by one.
 mod check_rows;
 mod checks;
+mod turns;
 
 use crate::reads::{LENGTH, expect_again, expect_written};
 use std::process::Abort;
@@ -176,6 +177,7 @@ fn lines_come_with_their_octets(rt: HostRuntime) {
         &mut source,
         &mut drain,
         &mut piece,
+        LENGTH,
     );
     expect_written(&rt, &drain, &text[..33]);
     expect_again(
@@ -185,6 +187,7 @@ fn lines_come_with_their_octets(rt: HostRuntime) {
         &mut source,
         &mut drain,
         &mut piece,
+        LENGTH,
     );
     expect_written(&rt, &drain, &text[..74]);
     expect_again(
@@ -194,6 +197,7 @@ fn lines_come_with_their_octets(rt: HostRuntime) {
         &mut source,
         &mut drain,
         &mut piece,
+        LENGTH,
     );
     expect_written(&rt, &drain, text.as_slice());
     let end = turn(
@@ -247,6 +251,7 @@ fn expect_turns(rt: &impl Abort, first: u64) {
         &mut source,
         &mut drain,
         &mut piece,
+        LENGTH,
     );
     expect_written(rt, &drain, lines_with(first));
     expect_again(
@@ -256,6 +261,7 @@ fn expect_turns(rt: &impl Abort, first: u64) {
         &mut source,
         &mut drain,
         &mut piece,
+        LENGTH,
     );
     expect_written(rt, &drain, lines_with(11));
 }

@@ -25,6 +25,7 @@ fn turns_follow_one_read_each(rt: HostRuntime) {
         &mut source,
         &mut drain,
         &mut piece,
+        LENGTH,
     );
     expect_written(&rt, &drain, &TEXT[..33]);
     expect_again(
@@ -34,6 +35,7 @@ fn turns_follow_one_read_each(rt: HostRuntime) {
         &mut source,
         &mut drain,
         &mut piece,
+        LENGTH,
     );
     expect_written(&rt, &drain, &TEXT[..47]);
     expect_again(
@@ -43,6 +45,7 @@ fn turns_follow_one_read_each(rt: HostRuntime) {
         &mut source,
         &mut drain,
         &mut piece,
+        LENGTH,
     );
     expect_written(&rt, &drain, TEXT);
     let end = turn(
@@ -79,6 +82,7 @@ fn a_turn_behind_a_failed_read_goes_on(rt: HostRuntime) {
         &mut source,
         &mut drain,
         &mut piece,
+        LENGTH,
     );
     expect_written(&rt, &drain, &TEXT[..36]);
     let failed = turn(
