@@ -107,6 +107,7 @@ fn a_turn_behind_a_failed_read_goes_on(rt: HostRuntime) {
         &mut source,
         &mut drain,
         &mut piece,
+        LENGTH,
     );
     expect_written(&rt, &drain, TEXT);
 }
