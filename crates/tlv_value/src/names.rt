@@ -9,8 +9,6 @@ mod fault;
 mod line;
 mod reading;
 mod table;
-#[cfg(test)]
-mod tests;
 
 use crate::NameTable;
 pub use fault::NamesFault;
