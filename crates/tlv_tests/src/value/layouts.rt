@@ -88,7 +88,7 @@ fn rows_of_numbers_are_left_out(rt: HostRuntime) {
     );
 }
 
-/// The rows of an object identifier are, too. As many as the limit are all written.
+/// So are those of an object identifier. As many rows as the limit are all written.
 #[test]
 fn rows_of_objects_are_left_out(rt: HostRuntime) {
     let object = LARGE_ARCS[0].element;

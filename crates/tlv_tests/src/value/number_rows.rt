@@ -166,7 +166,7 @@ pub(super) static BITS: [Row<'static>; 8] = [
 ];
 
 /// BIT STRINGs whose first octet is missing or says no number of unused bits that they have.
-pub(super) static NO_BITS: [Row<'static>; 5] = [
+pub(super) static WRONG_BITS: [Row<'static>; 5] = [
     Row {
         element: b"\x03\x01\x03",
         lines: &["       0      1: BIT STRING 03"],

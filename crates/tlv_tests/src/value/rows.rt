@@ -1,5 +1,7 @@
 //! Elements of each kind, and their lines.
-use super::number_rows::{BITS, BOOLEANS_AND_NULLS, LARGE_NUMBERS, NO_BITS, OCTETS, SMALL_NUMBERS};
+use super::number_rows::{
+    BITS, BOOLEANS_AND_NULLS, LARGE_NUMBERS, OCTETS, SMALL_NUMBERS, WRONG_BITS,
+};
 use super::object_rows::{FIRST_ARCS, LARGE_ARCS, LENGTHS, RELATIVE};
 use super::text_rows::{
     FOUR_OCTETS, NO_UTF8, NO_UTF8_ROWS, OTHER_ROWS, TIMES_AND_OCTETS, TWO_OCTETS, UTF8, UTF8_ROWS,
@@ -39,8 +41,8 @@ fn bits_are_shown(rt: HostRuntime) {
 }
 
 #[test]
-fn bit_strings_without_bits_are_shown(rt: HostRuntime) {
-    expect_rows(&rt, &NO_BITS);
+fn wrong_bit_strings_are_shown(rt: HostRuntime) {
+    expect_rows(&rt, &WRONG_BITS);
 }
 
 #[test]
