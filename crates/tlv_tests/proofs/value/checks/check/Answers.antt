@@ -1,7 +1,7 @@
 use Rattle.std.proofs.Common.{ap, arith}
 use Rattle.tlv_head.specs.Header.{Heading, announced}
 use Rattle.tlv_value.specs.CheckState.{CheckState}
-use Rattle.tlv_value.proofs.tests.check.Goals as goal
+use Rattle.tlv_tests.proofs.value.checks.check.Goals as goal
 
 pub end-found-requires : goal.end-found-requires
 end-found-requires c =

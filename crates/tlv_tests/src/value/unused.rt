@@ -1,7 +1,6 @@
 //! Unused bits of a BIT STRING.
-use crate::ValueCheck;
-use std::process::Abort;
 use tlv_head::{Header, read_header};
+use tlv_value::ValueCheck;
 
 /// An element, and whether bits of its last contents octet are unused.
 struct Row {

@@ -1,6 +1,6 @@
 //! A check of which the type and the size are given.
-use crate::{Finding, ValueCheck};
 use arrayvec::ArrayVec;
+use tlv_value::{Finding, ValueCheck};
 
 /// What is found on the whole contents of a primitive of the type with this universal number.
 fn found_on(number: u64, contents: &[u8]) -> ArrayVec<Finding, 16> {

@@ -1,55 +1,11 @@
 //! Strings and times, and their lines.
-use super::rows::Row;
+use super::Row;
 
-pub static TEXTS: [Row<'static>; 27] = [
+/// Times, and strings whose characters have one octet.
+pub(super) static TIMES_AND_OCTETS: [Row<'static>; 7] = [
     Row {
         element: b"\x17\x0b9105062345Z",
         lines: &["       0     11: UTCTime \"9105062345Z\""],
-    },
-    Row {
-        element: b"\x0c\x06\x22\x5c\x0a\xc3\xa9\xff",
-        lines: &["       0      6: UTF8String \"\\\"\\\\\\x0a\\u{e9}\\xff\""],
-    },
-    Row {
-        element: b"\x1e\x04\x00\x41\x20\xac",
-        lines: &["       0      4: BMPString \"A\\u{20ac}\""],
-    },
-    Row {
-        element: b"\x1e\x03\x00\x41\x20",
-        lines: &["       0      3: BMPString \"A\\x20\""],
-    },
-    Row {
-        element: b"\x1c\x06\x00\x00\x00\x41\x00\x01",
-        lines: &["       0      6: UniversalString \"A\\x00\\x01\""],
-    },
-    Row {
-        element: b"\x1c\x04\x00\x01\xf6\x00",
-        lines: &["       0      4: UniversalString \"\\u{1f600}\""],
-    },
-    Row {
-        element: b"\x0c\x00",
-        lines: &["       0      0: UTF8String \"\""],
-    },
-    // Surrogates and overlong forms are no characters.
-    Row {
-        element: b"\x0c\x03\xed\xa0\x80",
-        lines: &["       0      3: UTF8String \"\\xed\\xa0\\x80\""],
-    },
-    Row {
-        element: b"\x0c\x02\xc0\x80",
-        lines: &["       0      2: UTF8String \"\\xc0\\x80\""],
-    },
-    Row {
-        element: b"\x0c\x04\xf0\x9f\x98\x80",
-        lines: &["       0      4: UTF8String \"\\u{1f600}\""],
-    },
-    Row {
-        element: b"\x0c\x01\x7f",
-        lines: &["       0      1: UTF8String \"\\x7f\""],
-    },
-    Row {
-        element: b"\x14\x02\x41\xe9",
-        lines: &["       0      2: TeletexString \"A\\xe9\""],
     },
     Row {
         element: b"\x17\x0b9113062345Z",
@@ -64,8 +20,55 @@ pub static TEXTS: [Row<'static>; 27] = [
         lines: &["       0     15: GeneralizedTime \"19920721240000Z\""],
     },
     Row {
+        element: b"\x14\x02\x41\xe9",
+        lines: &["       0      2: TeletexString \"A\\xe9\""],
+    },
+    Row {
+        element: b"\x16\x04\x22\x5c\x7e\x7f",
+        lines: &["       0      4: IA5String \"\\\"\\\\~\\x7f\""],
+    },
+    Row {
+        element: b"\x13\x40aaaaaaaaaaaaaaaaaaaaaaaaaaaaaaaaaaaaaaaaaaaaaaaaaaaaaaaaaaaaaaaa",
+        lines: &[
+            "       0     64: PrintableString \"aaaaaaaaaaaaaaaaaaaaaaaaaaaaaaaaaaaaaaaaaaaaaaaaaaaaaaaaaaaaaaaa\"",
+        ],
+    },
+];
+
+/// Characters of UTF-8, and an octet that is none.
+pub(super) static UTF8: [Row<'static>; 5] = [
+    Row {
+        element: b"\x0c\x06\x22\x5c\x0a\xc3\xa9\xff",
+        lines: &["       0      6: UTF8String \"\\\"\\\\\\x0a\\u{e9}\\xff\""],
+    },
+    Row {
+        element: b"\x0c\x00",
+        lines: &["       0      0: UTF8String \"\""],
+    },
+    Row {
+        element: b"\x0c\x04\xf0\x9f\x98\x80",
+        lines: &["       0      4: UTF8String \"\\u{1f600}\""],
+    },
+    Row {
+        element: b"\x0c\x01\x7f",
+        lines: &["       0      1: UTF8String \"\\x7f\""],
+    },
+    Row {
         element: b"\x0c\x02\x1f\x00",
         lines: &["       0      2: UTF8String \"\\x1f\\x00\""],
+    },
+];
+
+/// Octets that are no characters of UTF-8.
+pub(super) static NO_UTF8: [Row<'static>; 5] = [
+    // Surrogates and overlong forms are no characters.
+    Row {
+        element: b"\x0c\x03\xed\xa0\x80",
+        lines: &["       0      3: UTF8String \"\\xed\\xa0\\x80\""],
+    },
+    Row {
+        element: b"\x0c\x02\xc0\x80",
+        lines: &["       0      2: UTF8String \"\\xc0\\x80\""],
     },
     // The last character has no second octet.
     Row {
@@ -81,9 +84,17 @@ pub static TEXTS: [Row<'static>; 27] = [
         element: b"\x0c\x08\xf4\x8f\xbf\xbf\xf4\x90\x80\x80",
         lines: &["       0      8: UTF8String \"\\u{10ffff}\\xf4\\x90\\x80\\x80\""],
     },
+];
+
+/// Strings whose characters have two octets.
+pub(super) static TWO_OCTETS: [Row<'static>; 4] = [
     Row {
-        element: b"\x16\x04\x22\x5c\x7e\x7f",
-        lines: &["       0      4: IA5String \"\\\"\\\\~\\x7f\""],
+        element: b"\x1e\x04\x00\x41\x20\xac",
+        lines: &["       0      4: BMPString \"A\\u{20ac}\""],
+    },
+    Row {
+        element: b"\x1e\x03\x00\x41\x20",
+        lines: &["       0      3: BMPString \"A\\x20\""],
     },
     Row {
         element: b"\x1e\x0a\x00\x22\x00\x5c\x00\x0a\x00\x7f\xd8\x00",
@@ -92,6 +103,18 @@ pub static TEXTS: [Row<'static>; 27] = [
     Row {
         element: b"\x1e\x02\x00\x00",
         lines: &["       0      2: BMPString \"\\u{0}\""],
+    },
+];
+
+/// Strings whose characters have four octets.
+pub(super) static FOUR_OCTETS: [Row<'static>; 6] = [
+    Row {
+        element: b"\x1c\x06\x00\x00\x00\x41\x00\x01",
+        lines: &["       0      6: UniversalString \"A\\x00\\x01\""],
+    },
+    Row {
+        element: b"\x1c\x04\x00\x01\xf6\x00",
+        lines: &["       0      4: UniversalString \"\\u{1f600}\""],
     },
     // One octet, three octets, and three alone are left over.
     Row {
@@ -110,16 +133,10 @@ pub static TEXTS: [Row<'static>; 27] = [
         element: b"\x1c\x04\xff\xff\xff\xff",
         lines: &["       0      4: UniversalString \"\\u{ffffffff}\""],
     },
-    Row {
-        element: b"\x13\x40aaaaaaaaaaaaaaaaaaaaaaaaaaaaaaaaaaaaaaaaaaaaaaaaaaaaaaaaaaaaaaaa",
-        lines: &[
-            "       0     64: PrintableString \"aaaaaaaaaaaaaaaaaaaaaaaaaaaaaaaaaaaaaaaaaaaaaaaaaaaaaaaaaaaaaaaa\"",
-        ],
-    },
 ];
 
-/// Rows have 64 octets, and split no character.
-pub static ROWS: [Row<'static>; 12] = [
+/// Rows of UTF-8 have 64 octets, and split no character.
+pub(super) static UTF8_ROWS: [Row<'static>; 5] = [
     Row {
         element: b"\x0c\x41aaaaaaaaaaaaaaaaaaaaaaaaaaaaaaaaaaaaaaaaaaaaaaaaaaaaaaaaaaaaaaa\xc3\xa9",
         lines: &[
@@ -161,6 +178,10 @@ pub static ROWS: [Row<'static>; 12] = [
             "                   \"a\"",
         ],
     },
+];
+
+/// Octets that are no characters of UTF-8, at the end of a row.
+pub(super) static NO_UTF8_ROWS: [Row<'static>; 3] = [
     // Three octets would have to follow, of which the row has room for two.
     Row {
         element: b"\x0c\x41aaaaaaaaaaaaaaaaaaaaaaaaaaaaaaaaaaaaaaaaaaaaaaaaaaaaaaaaaaaaa\xf4aaa",
@@ -186,6 +207,10 @@ pub static ROWS: [Row<'static>; 12] = [
             "                   \"\\xff\"",
         ],
     },
+];
+
+/// Rows of other strings have 64 octets, and split no character.
+pub(super) static OTHER_ROWS: [Row<'static>; 4] = [
     // A string of octets has no characters of two.
     Row {
         element: b"\x14\x41aaaaaaaaaaaaaaaaaaaaaaaaaaaaaaaaaaaaaaaaaaaaaaaaaaaaaaaaaaaaaaa\xc3\xa9",

@@ -1,7 +1,7 @@
 //! Drains without room.
 use super::{OneName, PLAIN};
-use crate::ValueText;
 use tlv_head::{Header, Size, read_header};
+use tlv_value::ValueText;
 use tlv_walk::{MemDrain, Out};
 
 /// The call at which a write failed.

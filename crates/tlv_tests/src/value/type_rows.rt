@@ -1,14 +1,15 @@
 //! What is shown of each type of X.680.
 
 /// A type, and what is shown of its contents where they are the octet `41`, and where they are empty.
-pub struct Type<'a> {
+pub(super) struct Type<'a> {
     pub identifier: &'a [u8],
     pub name: &'a str,
     pub one: &'a str,
     pub none: &'a str,
 }
 
-pub static TYPES: [Type<'static>; 40] = [
+/// Types with a form of their own, and octets.
+pub(super) static SIMPLE: [Type<'static>; 8] = [
     Type {
         identifier: b"\x01",
         name: "BOOLEAN",
@@ -46,40 +47,10 @@ pub static TYPES: [Type<'static>; 40] = [
         none: "",
     },
     Type {
-        identifier: b"\x07",
-        name: "ObjectDescriptor",
-        one: " \"A\"",
-        none: " \"\"",
-    },
-    Type {
-        identifier: b"\x08",
-        name: "EXTERNAL",
-        one: " 41",
-        none: "",
-    },
-    Type {
-        identifier: b"\x09",
-        name: "REAL",
-        one: " 41",
-        none: "",
-    },
-    Type {
         identifier: b"\x0a",
         name: "ENUMERATED",
         one: " 65",
         none: "",
-    },
-    Type {
-        identifier: b"\x0b",
-        name: "EMBEDDED PDV",
-        one: " 41",
-        none: "",
-    },
-    Type {
-        identifier: b"\x0c",
-        name: "UTF8String",
-        one: " \"A\"",
-        none: " \"\"",
     },
     Type {
         identifier: b"\x0d",
@@ -87,29 +58,15 @@ pub static TYPES: [Type<'static>; 40] = [
         one: " 65",
         none: "",
     },
+];
+
+/// Strings whose characters have one octet.
+pub(super) static STRINGS: [Type<'static>; 9] = [
     Type {
-        identifier: b"\x0e",
-        name: "TIME",
-        one: " 41",
-        none: "",
-    },
-    Type {
-        identifier: b"\x0f",
-        name: "[UNIVERSAL 15]",
-        one: " 41",
-        none: "",
-    },
-    Type {
-        identifier: b"\x10",
-        name: "SEQUENCE",
-        one: " 41",
-        none: "",
-    },
-    Type {
-        identifier: b"\x11",
-        name: "SET",
-        one: " 41",
-        none: "",
+        identifier: b"\x07",
+        name: "ObjectDescriptor",
+        one: " \"A\"",
+        none: " \"\"",
     },
     Type {
         identifier: b"\x12",
@@ -142,18 +99,6 @@ pub static TYPES: [Type<'static>; 40] = [
         none: " \"\"",
     },
     Type {
-        identifier: b"\x17",
-        name: "UTCTime",
-        one: " \"A\"",
-        none: " \"\"",
-    },
-    Type {
-        identifier: b"\x18",
-        name: "GeneralizedTime",
-        one: " \"A\"",
-        none: " \"\"",
-    },
-    Type {
         identifier: b"\x19",
         name: "GraphicString",
         one: " \"A\"",
@@ -171,6 +116,16 @@ pub static TYPES: [Type<'static>; 40] = [
         one: " \"A\"",
         none: " \"\"",
     },
+];
+
+/// Strings whose characters may have more octets, and times of digits.
+pub(super) static WIDE_STRINGS_AND_TIMES: [Type<'static>; 5] = [
+    Type {
+        identifier: b"\x0c",
+        name: "UTF8String",
+        one: " \"A\"",
+        none: " \"\"",
+    },
     Type {
         identifier: b"\x1c",
         name: "UniversalString",
@@ -178,16 +133,72 @@ pub static TYPES: [Type<'static>; 40] = [
         none: " \"\"",
     },
     Type {
+        identifier: b"\x1e",
+        name: "BMPString",
+        one: " \"\\x41\"",
+        none: " \"\"",
+    },
+    Type {
+        identifier: b"\x17",
+        name: "UTCTime",
+        one: " \"A\"",
+        none: " \"\"",
+    },
+    Type {
+        identifier: b"\x18",
+        name: "GeneralizedTime",
+        one: " \"A\"",
+        none: " \"\"",
+    },
+];
+
+/// Types that hold others, and REAL, which is shown as octets like them.
+pub(super) static COMPOUND: [Type<'static>; 6] = [
+    Type {
+        identifier: b"\x08",
+        name: "EXTERNAL",
+        one: " 41",
+        none: "",
+    },
+    Type {
+        identifier: b"\x09",
+        name: "REAL",
+        one: " 41",
+        none: "",
+    },
+    Type {
+        identifier: b"\x0b",
+        name: "EMBEDDED PDV",
+        one: " 41",
+        none: "",
+    },
+    Type {
+        identifier: b"\x10",
+        name: "SEQUENCE",
+        one: " 41",
+        none: "",
+    },
+    Type {
+        identifier: b"\x11",
+        name: "SET",
+        one: " 41",
+        none: "",
+    },
+    Type {
         identifier: b"\x1d",
         name: "CHARACTER STRING",
         one: " 41",
         none: "",
     },
+];
+
+/// Types that are shown as octets.
+pub(super) static DATES_AND_IRIS: [Type<'static>; 7] = [
     Type {
-        identifier: b"\x1e",
-        name: "BMPString",
-        one: " \"\\x41\"",
-        none: " \"\"",
+        identifier: b"\x0e",
+        name: "TIME",
+        one: " 41",
+        none: "",
     },
     Type {
         identifier: b"\x1f\x1f",
@@ -222,6 +233,16 @@ pub static TYPES: [Type<'static>; 40] = [
     Type {
         identifier: b"\x1f\x24",
         name: "RELATIVE-OID-IRI",
+        one: " 41",
+        none: "",
+    },
+];
+
+/// Tags that are shown by their class and number.
+pub(super) static NAMELESS: [Type<'static>; 5] = [
+    Type {
+        identifier: b"\x0f",
+        name: "[UNIVERSAL 15]",
         one: " 41",
         none: "",
     },

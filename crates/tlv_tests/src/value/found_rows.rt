@@ -1,13 +1,14 @@
 //! Elements and what is found on their contents.
-use crate::Finding;
+use tlv_value::Finding;
 
 /// An element and the findings on its contents, of all rules.
-pub struct Found<'a> {
+pub(super) struct Found<'a> {
     pub element: &'a [u8],
     pub findings: &'a [Finding],
 }
 
-pub static FOUND: [Found<'static>; 12] = [
+/// BOOLEANs, NULLs and numbers.
+pub(super) static NUMBERS: [Found<'static>; 8] = [
     Found {
         element: b"\x02\x02\x00\x7f",
         findings: &[Finding::B08],
@@ -40,6 +41,10 @@ pub static FOUND: [Found<'static>; 12] = [
         element: b"\x05\x01\xaa",
         findings: &[Finding::B09],
     },
+];
+
+/// BIT STRINGs.
+pub(super) static BITS: [Found<'static>; 4] = [
     Found {
         element: b"\x03\x02\x05\xbf",
         findings: &[Finding::S03],
@@ -58,7 +63,8 @@ pub static FOUND: [Found<'static>; 12] = [
     },
 ];
 
-pub static FOUND_ON_TEXTS: [Found<'static>; 13] = [
+/// Object identifiers.
+pub(super) static OBJECTS: [Found<'static>; 5] = [
     Found {
         element: b"\x06\x02\x80\x01",
         findings: &[Finding::B11],
@@ -79,6 +85,10 @@ pub static FOUND_ON_TEXTS: [Found<'static>; 13] = [
         element: b"\x0d\x02\x05\x80",
         findings: &[Finding::B11, Finding::B12],
     },
+];
+
+/// Times.
+pub(super) static TIMES: [Found<'static>; 4] = [
     Found {
         element: b"\x17\x0b9105062345Z",
         findings: &[Finding::S04],
@@ -95,6 +105,10 @@ pub static FOUND_ON_TEXTS: [Found<'static>; 13] = [
         element: b"\x18\x0f19920721240000Z",
         findings: &[Finding::S04],
     },
+];
+
+/// Strings.
+pub(super) static STRINGS: [Found<'static>; 4] = [
     Found {
         element: b"\x0c\x06\x22\x5c\x0a\xc3\xa9\xff",
         findings: &[Finding::B18],

@@ -1,5 +1,5 @@
 use Rattle.std.proofs.Common.{◌≡◌, length}
-use Rattle.tlv_value.proofs.tests.put_pieces.Given as goal
+use Rattle.tlv_tests.proofs.value.put_pieces.Given as goal
 
 abbrev pub invariant-loop-rest : goal.invariant-loop-rest
 invariant-loop-rest g l = l.text.left ≡ length l.rest

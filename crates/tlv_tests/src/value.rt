@@ -1,0 +1,195 @@
+//! Values and their lines, whatever pieces the contents come in, what is found on them, and names.
+mod checks;
+mod drains;
+mod found_rows;
+mod functions;
+mod layouts;
+mod lines;
+mod long;
+mod names;
+mod number_rows;
+mod object_rows;
+mod rows;
+mod text_rows;
+mod type_rows;
+mod typed;
+mod types;
+mod unused;
+
+ghost use Rattle.std.specs.Prelude.{◌≡◌, ◌+◌, ◌≤◌, None, Some, bytes_eq, codes, if◌then◌else◌, length};
+
+use std::process::Abort;
+use tlv_head::{Header, Size, read_header};
+use tlv_value::{Layout, NameTable, ValueText};
+use tlv_walk::{Drain, MemDrain, Out};
+
+/// An element and the lines of its value, at level 0.
+struct Row<'a> {
+    element: &'a [u8],
+    lines: &'a [&'a str],
+}
+
+/// A table of one name.
+struct OneName;
+
+impl NameTable for OneName {
+    ghost name_of = { λ table dotted. if bytes_eq dotted (codes "1.2.840") then Some (codes "us") else None };
+
+    fn get(&self, dotted: &[u8]) -> Option<&[u8]> {
+        if dotted == b"1.2.840".as_slice() {
+            Some(b"us".as_slice())
+        } else {
+            None
+        }
+    }
+}
+
+/// The outermost level, without a limit.
+const PLAIN: Layout = Layout {
+    level: 0,
+    limit: None,
+    pure: false,
+};
+
+/// Writes the lines of the element at this offset into the room. Its contents come in two pieces, cut at `cut`, or behind
+/// the last octet. Answers how many octets were written.
+fn show<N: NameTable>(
+    element: &[u8],
+    offset: u64,
+    layout: Layout,
+    names: &N,
+    cut: usize,
+    room: &mut [u8],
+) -> Option<usize> {
+    let (fields, count) = read_header(offset, false, element)?;
+    let header = Header::new(&fields, &element[..count]);
+    let contents = &element[count..];
+    if header.size != Size::Definite(contents.len() as u64) {
+        return None;
+    }
+    let (front, back) = contents.split_at(cut.min(contents.len()));
+    let mut drain = MemDrain::new(room, 4096);
+    {
+        let mut out = Out::new(&mut drain);
+        let mut text = ValueText::new(&header, layout);
+        put_two(&mut text, front, back, names, &mut out)?;
+        out.flush().ok()?;
+    }
+    Some(drain.written().len())
+}
+
+/// Puts the lines of a primitive whose contents come in two pieces.
+fn put_two<N: NameTable, D: Drain>(
+    text: &mut ValueText,
+    front: &[u8],
+    back: &[u8],
+    names: &N,
+    out: &mut Out<'_, D>,
+) -> Option<()>
+    requires { text.old.left ≡ length front.now + length back.now }
+{
+    text.begin(out).ok()?;
+    text.bytes(front, out).ok()?;
+    text.bytes(back, out).ok()?;
+    text.end(names, out).ok()
+}
+
+/// The same with contents that come in pieces of `size` octets, but for the first, which has at most `first`.
+fn show_pieces<N: NameTable>(
+    element: &[u8],
+    layout: Layout,
+    names: &N,
+    first: usize,
+    size: usize,
+    room: &mut [u8],
+) -> Option<usize>
+    requires { 1 ≤ size }
+{
+    let (fields, count) = read_header(0, false, element)?;
+    let header = Header::new(&fields, &element[..count]);
+    let contents = &element[count..];
+    if header.size != Size::Definite(contents.len() as u64) {
+        return None;
+    }
+    let mut drain = MemDrain::new(room, 7);
+    {
+        let mut out = Out::new(&mut drain);
+        let mut text = ValueText::new(&header, layout);
+        let (front, back) = contents.split_at(first.min(contents.len()));
+        put_pieces(&mut text, front, back, size, names, &mut out)?;
+        out.flush().ok()?;
+    }
+    Some(drain.written().len())
+}
+
+/// Puts the lines of a primitive whose contents come in pieces of `size` octets behind the first.
+fn put_pieces<N: NameTable, D: Drain>(
+    text: &mut ValueText,
+    front: &[u8],
+    back: &[u8],
+    size: usize,
+    names: &N,
+    out: &mut Out<'_, D>,
+) -> Option<()>
+    requires some { 1 ≤ size }
+    requires left { text.old.left ≡ length front.now + length back.now }
+{
+    text.begin(out).ok()?;
+    text.bytes(front, out).ok()?;
+    let mut rest = back;
+    while !rest.is_empty() {
+        let (piece, more) = rest.split_at(size.min(rest.len()));
+        rest = more;
+        text.bytes(piece, out).ok()?;
+    }
+    text.end(names, out).ok()
+}
+
+/// Whether the octets are these lines.
+fn are_lines(octets: &[u8], lines: &[&str]) -> bool {
+    let mut rest = octets;
+    for line in lines {
+        let Some(more) = rest.strip_prefix(line.as_bytes()) else {
+            return false;
+        };
+        let [b'\n', more @ ..] = more else {
+            return false;
+        };
+        rest = more;
+    }
+    rest.is_empty()
+}
+
+/// Expects the lines of an element, with its contents whole, in every cut into two pieces, and octet by octet.
+fn expect_lines(rt: &impl Abort, element: &[u8], layout: Layout, lines: &[&str]) {
+    expect_lines_named(rt, element, layout, &OneName, lines);
+}
+
+/// The same with these names.
+fn expect_lines_named<N: NameTable>(
+    rt: &impl Abort,
+    element: &[u8],
+    layout: Layout,
+    names: &N,
+    lines: &[&str],
+) {
+    let mut room = [0; 1024];
+    for cut in 0..element.len() {
+        match show(element, 0, layout, names, cut, &mut room) {
+            Some(count) if count <= 1024 => assert!(rt;
+                are_lines(&room[..count], lines),
+                "cut at {cut}: {:?}",
+                lines
+            ),
+            _ => assert!(rt; false, "not shown: {:?}", lines),
+        }
+    }
+    match show_pieces(element, layout, names, 0, 1, &mut room) {
+        Some(count) if count <= 1024 => assert!(rt;
+            are_lines(&room[..count], lines),
+            "by octets: {:?}",
+            lines
+        ),
+        _ => assert!(rt; false, "not shown: {:?}", lines),
+    }
+}

@@ -1,0 +1,75 @@
+//! Decimal numbers, dotted texts and times.
+use arrayvec::ArrayVec;
+use tlv_value::{decimal_of, dotted_of, general_canonical, general_ok, utc_canonical, utc_ok};
+
+#[test]
+fn decimals(rt: HostRuntime) {
+    let mut largest = [0xff; 16];
+    largest[0] = 0x7f;
+    let mut least = [0; 16];
+    least[0] = 0x80;
+    assert_eq!(rt; decimal_of(&[]), None);
+    assert_eq!(rt; decimal_of(&[0x00]), Some(0));
+    assert_eq!(rt; decimal_of(&[0xff]), Some(-1));
+    assert_eq!(rt; decimal_of(&[0x00, 0x7f]), Some(127));
+    assert_eq!(rt; decimal_of(&largest), Some(i128::MAX));
+    assert_eq!(rt; decimal_of(&least), Some(i128::MIN));
+    assert_eq!(rt; decimal_of(&[0; 17]), None);
+}
+
+/// Where there is no text, none is left of what was there before.
+#[test]
+fn dotted_texts(rt: HostRuntime) {
+    // 2^128 - 1, and 2^128.
+    let mut largest = [0xff; 19];
+    largest[0] = 0x83;
+    largest[18] = 0x7f;
+    let mut too_large = [0x80; 19];
+    too_large[0] = 0x84;
+    too_large[18] = 0;
+    let mut text = ArrayVec::new();
+    for (contents, relative, want) in [
+        ([0x2a, 0x86, 0x48].as_slice(), false, "1.2.840"),
+        (&[0x03, 0x04], true, "3.4"),
+        (&[], false, ""),
+        (&[0x27], false, "0.39"),
+        (&[0x28], false, "1.0"),
+        (&[0x78], false, "2.40"),
+        (&[0x2a, 0x86], false, ""),
+        (&largest, false, "2.340282366920938463463374607431768211375"),
+        (&largest, true, "340282366920938463463374607431768211455"),
+        (&too_large, false, ""),
+        (&[0x27], true, "39"),
+        (&too_large, true, ""),
+        (&[0x01; 65], true, ""),
+    ] {
+        let is_there = dotted_of(contents, relative, &mut text);
+        assert_eq!(rt; text.as_slice(), want.as_bytes());
+        assert_eq!(rt; is_there, !want.is_empty());
+    }
+}
+
+#[test]
+fn times(rt: HostRuntime) {
+    for (time, of_grammar, is_canonical) in [
+        ("910506234540Z", true, true),
+        ("910506234540+0000", true, false),
+        ("910506244540Z", true, false),
+        ("9113062345Z", false, false),
+    ] {
+        assert_eq!(rt; utc_ok(time.as_bytes()), of_grammar, "{time}");
+        assert_eq!(rt; utc_canonical(time.as_bytes()), is_canonical, "{time}");
+    }
+    for (time, of_grammar, is_canonical) in [
+        ("1992072213", true, false),
+        ("19920722132100.3Z", true, true),
+        ("19920722132100,3Z", true, false),
+        ("19920722132100.Z", false, false),
+        ("19920722132160Z", true, true),
+        ("19920722132100.50Z", true, false),
+        ("19920721240000Z", true, false),
+    ] {
+        assert_eq!(rt; general_ok(time.as_bytes()), of_grammar, "{time}");
+        assert_eq!(rt; general_canonical(time.as_bytes()), is_canonical, "{time}");
+    }
+}

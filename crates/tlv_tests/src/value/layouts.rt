@@ -1,0 +1,120 @@
+//! Where lines stand, how many are written, and names behind object identifiers.
+use super::number_rows::LARGE_NUMBERS;
+use super::object_rows::LARGE_ARCS;
+use super::{OneName, PLAIN, are_lines, expect_lines, expect_lines_named, show};
+use std::test::Fail;
+use tlv_value::{Layout, Names};
+use tlv_walk::MemSource;
+
+/// What stands for the rows that are left out.
+const DOTS: &str = "                   ...";
+
+/// The outermost level, with this limit.
+fn limited(limit: u32) -> Layout {
+    Layout {
+        limit: Some(limit),
+        ..PLAIN
+    }
+}
+
+/// An object identifier has its name behind it. A relative one has none, though its dotted text may be a name's.
+#[test]
+fn names_of_a_file_are_shown(rt: HostRuntime) -> Result<(), Fail> {
+    let mut source = MemSource::new(b"1.2.840 us\n", &[], None);
+    let names = Names::read(rt.alloc(), &mut source)?;
+    for (element, line) in [
+        (
+            b"\x06\x03\x2a\x86\x48".as_slice(),
+            "       0      3: OBJECT IDENTIFIER 1.2.840 (us)",
+        ),
+        (
+            b"\x06\x04\x2a\x86\x48\x01",
+            "       0      4: OBJECT IDENTIFIER 1.2.840.1",
+        ),
+        (
+            b"\x0d\x04\x01\x02\x86\x48",
+            "       0      4: RELATIVE-OID 1.2.840",
+        ),
+    ] {
+        expect_lines_named(&rt, element, PLAIN, &names, &[line]);
+    }
+    Ok(())
+}
+
+/// Elements inside others: the first column is the offset, and the tag text stands two columns further for each level.
+#[test]
+fn places(rt: HostRuntime) {
+    let mut room = [0; 64];
+    for (element, offset, level, line) in [
+        (
+            b"\x02\x01\x05".as_slice(),
+            2,
+            1,
+            "       2      1:   INTEGER 5",
+        ),
+        (b"\x02\x01\x05", 4, 2, "       4      1:     INTEGER 5"),
+        (
+            b"\x04\x03Jon",
+            2,
+            1,
+            "       2      3:   OCTET STRING 4a 6f 6e",
+        ),
+        (b"\x04\x02es", 7, 1, "       7      2:   OCTET STRING 65 73"),
+    ] {
+        let layout = Layout { level, ..PLAIN };
+        match show(element, offset, layout, &OneName, 0, &mut room) {
+            Some(count) if count <= 64 => assert!(rt; are_lines(&room[..count], &[line])),
+            _ => assert!(rt; false, "not shown: {line}"),
+        }
+    }
+}
+
+/// Above the limit the first row is three dots, and those behind it are left out.
+#[test]
+fn rows_of_numbers_are_left_out(rt: HostRuntime) {
+    let integer = LARGE_NUMBERS[2].element;
+    let row = "                   00 80 00 00 00 00 00 00 00 00 00 00 00 00 00 00";
+    expect_lines(
+        &rt,
+        integer,
+        limited(1),
+        &["       0     17: INTEGER", row, DOTS],
+    );
+    expect_lines(
+        &rt,
+        integer,
+        limited(0),
+        &["       0     17: INTEGER", DOTS],
+    );
+}
+
+/// So are those of an object identifier. As many rows as the limit are all written.
+#[test]
+fn rows_of_objects_are_left_out(rt: HostRuntime) {
+    let object = LARGE_ARCS[0].element;
+    let line = "       0     19: OBJECT IDENTIFIER";
+    let row = "                   ff ff ff ff ff ff ff ff ff ff ff ff ff ff ff ff";
+    expect_lines(&rt, object, limited(0), &[line, DOTS]);
+    expect_lines(&rt, object, limited(1), &[line, row, DOTS]);
+    expect_lines(&rt, object, limited(2), LARGE_ARCS[0].lines);
+}
+
+/// Without the first columns nothing else changes.
+#[test]
+fn columns_are_left_out(rt: HostRuntime) {
+    for (element, line) in [
+        (b"\x04\x03Jon".as_slice(), "  OCTET STRING 4a 6f 6e"),
+        (b"\x04\x02es", "  OCTET STRING 65 73"),
+    ] {
+        expect_lines(
+            &rt,
+            element,
+            Layout {
+                level: 1,
+                limit: None,
+                pure: true,
+            },
+            &[line],
+        );
+    }
+}

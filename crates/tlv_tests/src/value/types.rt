@@ -1,0 +1,70 @@
+//! Every type, with one octet and with none.
+use super::type_rows::{
+    COMPOUND, DATES_AND_IRIS, NAMELESS, SIMPLE, STRINGS, Type, WIDE_STRINGS_AND_TIMES,
+};
+use super::{PLAIN, expect_lines};
+use arrayvec::ArrayVec;
+use std::process::Abort;
+
+/// Expects a line of these parts for the type with this identifier and these contents.
+fn expect_type(rt: &impl Abort, identifier: &[u8], rest: &[u8], parts: &[&str]) {
+    let mut element = ArrayVec::<u8, 8>::new();
+    let _ = element.try_extend_from_slice(identifier);
+    let _ = element.try_extend_from_slice(rest);
+    let mut line = ArrayVec::<u8, 80>::new();
+    for part in parts {
+        let _ = line.try_extend_from_slice(part.as_bytes());
+    }
+    match std::str::from_utf8(line.as_slice()) {
+        Ok(line) => expect_lines(rt, element.as_slice(), PLAIN, &[line]),
+        Err(_) => assert!(rt; false),
+    }
+}
+
+/// Expects the lines of each type, with one octet and with none.
+fn expect_types(rt: &impl Abort, types: &[Type<'_>]) {
+    for each in types {
+        expect_type(
+            rt,
+            each.identifier,
+            &[1, 0x41],
+            &["       0      1: ", each.name, each.one],
+        );
+        expect_type(
+            rt,
+            each.identifier,
+            &[0],
+            &["       0      0: ", each.name, each.none],
+        );
+    }
+}
+
+#[test]
+fn simple_types_are_shown(rt: HostRuntime) {
+    expect_types(&rt, &SIMPLE);
+}
+
+#[test]
+fn string_types_are_shown(rt: HostRuntime) {
+    expect_types(&rt, &STRINGS);
+}
+
+#[test]
+fn wide_string_and_time_types_are_shown(rt: HostRuntime) {
+    expect_types(&rt, &WIDE_STRINGS_AND_TIMES);
+}
+
+#[test]
+fn compound_types_are_shown(rt: HostRuntime) {
+    expect_types(&rt, &COMPOUND);
+}
+
+#[test]
+fn date_and_iri_types_are_shown(rt: HostRuntime) {
+    expect_types(&rt, &DATES_AND_IRIS);
+}
+
+#[test]
+fn nameless_types_are_shown(rt: HostRuntime) {
+    expect_types(&rt, &NAMELESS);
+}
