@@ -1,5 +1,6 @@
 //! Runs over octets in memory, which `run_octets` makes with devices of its own.
-use super::asked::{Asked, CHECKS, DUMPS, EXTRACTS, INDEFS, STRING, command_for};
+use super::asked::command_for;
+use super::asked_rows::{Asked, CHECKS, DUMPS, EXTRACTS, FAILED_EXTRACTS, INDEFS, STRING};
 use super::{ONES, READ_FAILED, WRITE_FAILED};
 use crate::octets::{Shown, run_octets};
 use std::alloc::Global;
@@ -31,7 +32,13 @@ fn expect_row(rt: &impl Abort, alloc: Global, row: &Asked<'_>, cuts: &[u64]) -> 
 
 #[test]
 fn cuts_do_not_show(rt: HostRuntime) -> Result<(), Fail> {
-    for rows in [EXTRACTS.as_slice(), &INDEFS, &DUMPS, &CHECKS] {
+    for rows in [
+        EXTRACTS.as_slice(),
+        &FAILED_EXTRACTS,
+        &INDEFS,
+        &DUMPS,
+        &CHECKS,
+    ] {
         for row in rows {
             expect_row(&rt, rt.alloc(), row, &[])?;
             expect_row(&rt, rt.alloc(), row, &ONES)?;

@@ -1,8 +1,8 @@
-//! Values of universal types, on their line and in rows.
+//! Values of universal types that stand on their element's line.
 use super::rows::{CLEAN, Row};
 
-/// Values that stand on their element's line.
-pub(crate) static VALUES: [Row<'static>; 23] = [
+/// BOOLEAN, INTEGER and NULL.
+pub(crate) static NUMBERS: [Row<'static>; 7] = [
     Row {
         name: "TRUE, which is not ff",
         input: b"\x01\x01\x01",
@@ -69,6 +69,10 @@ pub(crate) static VALUES: [Row<'static>; 23] = [
         message: "findings: 1",
         ..CLEAN
     },
+];
+
+/// BIT STRING and OBJECT IDENTIFIER.
+pub(crate) static BITS_AND_ARCS: [Row<'static>; 8] = [
     Row {
         name: "a BIT STRING with unused bits",
         input: b"\x03\x02\x05\xbf",
@@ -141,6 +145,10 @@ pub(crate) static VALUES: [Row<'static>; 23] = [
         message: "findings: 1",
         ..CLEAN
     },
+];
+
+/// Times and texts.
+pub(crate) static TEXTS: [Row<'static>; 5] = [
     Row {
         name: "a UTCTime",
         input: b"\x17\x0b9105062345Z",
@@ -186,6 +194,10 @@ pub(crate) static VALUES: [Row<'static>; 23] = [
         message: "findings: 1",
         ..CLEAN
     },
+];
+
+/// Universal numbers that are unassigned, or in the high form.
+pub(crate) static UNIVERSAL_NUMBERS: [Row<'static>; 3] = [
     Row {
         name: "universal number 0",
         input: b"\x20\x00",
@@ -223,82 +235,6 @@ pub(crate) static VALUES: [Row<'static>; 23] = [
         status: 1,
         findings: 3,
         message: "findings: 3",
-        ..CLEAN
-    },
-];
-
-/// A value with a character across the end of its first row.
-pub(crate) static LONG: [Row<'static>; 1] = [Row {
-    name: "a character that does not fit its row",
-    input: b"\x0c\x41aaaaaaaaaaaaaaaaaaaaaaaaaaaaaaaaaaaaaaaaaaaaaaaaaaaaaaaaaaaaaaa\xc3\xa9",
-    lines: &[
-        (2, "       0     65: UTF8String"),
-        (
-            66,
-            "                   \"aaaaaaaaaaaaaaaaaaaaaaaaaaaaaaaaaaaaaaaaaaaaaaaaaaaaaaaaaaaaaaa\"",
-        ),
-        (67, "                   \"\\u{e9}\""),
-    ],
-    ..CLEAN
-}];
-
-/// Lines without their first columns, and fewer rows.
-pub(crate) static LAYOUTS: [Row<'static>; 5] = [
-    Row {
-        name: "without first columns",
-        pure: true,
-        input: b"\x3a\x09\x04\x03\x4a\x6f\x6e\x04\x02\x65\x73",
-        lines: &[
-            (2, "VisibleString {"),
-            (7, "  OCTET STRING 4a 6f 6e"),
-            (11, "  OCTET STRING 65 73"),
-            (11, "}"),
-        ],
-        ..CLEAN
-    },
-    Row {
-        name: "padding without first columns",
-        pure: true,
-        padding: true,
-        input: b"\x00\x00\x05\x00\x00\x00\x05\x00\x00",
-        lines: &[
-            (1, "padding"),
-            (4, "NULL"),
-            (5, "padding"),
-            (8, "NULL"),
-            (9, "padding"),
-        ],
-        ..CLEAN
-    },
-    Row {
-        name: "an indefinite element without first columns",
-        pure: true,
-        input: b"\x30\x80\x05\x00\x00\x00",
-        lines: &[(2, "SEQUENCE {"), (4, "  NULL"), (6, "}")],
-        ..CLEAN
-    },
-    Row {
-        name: "one row",
-        limit: Some(1),
-        input: b"\x02\x11\x00\x80\x00\x00\x00\x00\x00\x00\x00\x00\x00\x00\x00\x00\x00\x00\x00",
-        lines: &[
-            (2, "       0     17: INTEGER"),
-            (
-                18,
-                "                   00 80 00 00 00 00 00 00 00 00 00 00 00 00 00 00",
-            ),
-            (19, "                   ..."),
-        ],
-        ..CLEAN
-    },
-    Row {
-        name: "no row",
-        limit: Some(0),
-        input: b"\x02\x11\x00\x80\x00\x00\x00\x00\x00\x00\x00\x00\x00\x00\x00\x00\x00\x00\x00",
-        lines: &[
-            (2, "       0     17: INTEGER"),
-            (18, "                   ..."),
-        ],
         ..CLEAN
     },
 ];
