@@ -13,7 +13,7 @@ use Rattle.tlv_walk.specs.declared.follow.Go.TheVariants as go
 use Rattle.tlv_walk.specs.declared.framing.Framing.{Framing}
 use Rattle.tlv_walk.specs.declared.out.Out.{Out}
 use Rattle.tlv_walk.specs.declared.run.DeviceFault.{DeviceFault}
-use Rattle.tlv_walk.specs.declared.run.DeviceFault.TheVariants.{WriteFailed, InputTooLong}
+use Rattle.tlv_walk.specs.declared.run.DeviceFault.TheVariants.{ReadFailed, WriteFailed, InputTooLong}
 use Rattle.tlv_walk.specs.declared.run.Run.{Run}
 use Rattle.tlv_walk.specs.declared.run.Turn.{Turn}
 use Rattle.tlv_walk.specs.declared.run.Turn.TheVariants.{Again, Ended}
@@ -24,6 +24,7 @@ use Rattle.tlv_walk.specs.Drives.{octets_told}
 use Rattle.tlv_walk.specs.Ending.{IsEnding}
 use Rattle.tlv_walk.specs.Events.{AreEqualJoined, Told, events}
 use Rattle.tlv_walk.specs.Follow.{Following, followed}
+use Rattle.tlv_walk.specs.Private.Answers.{Answers, IsRun}
 use Rattle.tlv_walk.specs.Private.Follows.{Fails, Follows, FollowsTo, GoesOnIn, Stops, WalkedTo}
 use Rattle.tlv_walk.specs.Forest.{Forest, spell}
 use Rattle.tlv_walk.specs.Job.{IsFinalEnding}
@@ -60,13 +61,6 @@ stands_told v b told f st quiet r =
     let all : AreEqualJoined (told ++ waiting_of v) (events st.reading) = st.all_told in
     subst (λ (es : List Told). AreEqualJoined es (events f)) (ap (λ (es : List Told). told ++ es) quiet ∙ append-nil told)
     (subst (λ (g : Forest). AreEqualJoined (told ++ waiting_of v) (events g)) (reading-unique v.framing b st.reading f st.is_reading r) all)
-
--- a run that goes by these values
-pub record IsRun (run : Run) (e : Ending) (stopped : Bool) (v : Machine) : Type 0 where
-  pub ending : run.ending ≡ e
-  pub enough : run.enough ≡ stopped
-  pub octets : run.octets ≡ v.offset
-  pub unused : run.unused ≡ unused_in v
 
 -- ---- an octet that is refused
 
@@ -247,14 +241,14 @@ module _ {S : Type 0} (next : S → Told → Following S) (w v : Machine) (s t :
   used : (why : Stop) → Used why → StandsOn next w v s t (b ++ piece) told (λ text. Sends {T = ⊤} {E = DeviceFault} from to text (Ok tt))
   used why x = used_up_on next w v s t b piece told _ (λ text. Sends {T = ⊤} {E = DeviceFault} from to text (Ok tt)) (sent why (Ok Again)) x st
 
-  pub turns_again : (why : Stop) → Used why → (m < n → ⊥) → (n ≡ 0 → ⊥) → Turns next limit w v s t b told r from to (Ok Again)
+  turns_again : (why : Stop) → Used why → (m < n → ⊥) → (n ≡ 0 → ⊥) → Turns next limit w v s t b told r from to (Ok Again)
   turns_again why x fits some' = (
     λ e. some' (sym many ∙ ap length e),
     omega (arith, length-append b r, many, st.has_state.offset, fits, below, is_m),
     subst (λ (o : List ℕ). StandsOn next w v s t (b ++ o) told (λ text. Sends {T = ⊤} {E = DeviceFault} from to text (Ok tt))) (all_within fits) (used why x),
   )
 
-  pub turns_long : (why : Stop) → Used why → m < n → Turns next limit w v s t b told r from to (Err InputTooLong)
+  turns_long : (why : Stop) → Used why → m < n → Turns next limit w v s t b told r from to (Err InputTooLong)
   turns_long why x more = (
     omega (arith, length-append b r, many, st.has_state.offset, more, below, is_m),
     subst (λ (o : List ℕ). StandsOn next w v s t o told (λ text. Sends {T = ⊤} {E = DeviceFault} from to text (Ok tt))) reached (used why x),
@@ -266,13 +260,13 @@ module _ {S : Type 0} (next : S → Told → Following S) (w v : Machine) (s t :
       let P : List ℕ → Type 0 = λ text. Sends {T = ⊤} {E = DeviceFault} from to text (Ok tt) in
       subst (λ (k : Bool). EndsBy next k w v s t (b ++ take (limit - length b) r) told P run) (sym is) (subst (λ (o : List ℕ). EndsIn next w v s t o told P run) reached x)
 
-  pub turns_end : (run : Run) (e : Ending) (why : Stop) → Used why → (n ≡ 0) → IsRun run e false v
+  turns_end : (run : Run) (e : Ending) (why : Stop) → Used why → (n ≡ 0) → IsRun run e false v
       → ((o : List ℕ) (es : List Told) → Stands v o es → IsEnding v.framing o e) → Turns next limit w v s t b told r from to (Ok (Ended run))
   turns_end run e why x none is ends =
       let on = used why x in
       (ends_by run is.enough (used_up_ends next w v s t (b ++ piece) told _ run e on is (ends (b ++ piece) (told ++ on.more) on.stands)), inr (inr (is_r ∙ ap (λ (k : ℕ). take k p) none)))
 
-  pub turns_fault : (run : Run) (e : Fault) (why : Stop) → Stops next w v s t piece (Sent (Ok why)) (Ok (stop.Fault e)) → IsRun run (ending.Fault e) false v
+  turns_fault : (run : Run) (e : Fault) (why : Stop) → Stops next w v s t piece (Sent (Ok why)) (Ok (stop.Fault e)) → IsRun run (ending.Fault e) false v
       → Turns next limit w v s t b told r from to (Ok (Ended run))
   turns_fault run e why x is =
       let k : WalkedTo w v piece x.more e b told = x.walked b told st in (
@@ -280,13 +274,27 @@ module _ {S : Type 0} (next : S → Told → Following S) (w v : Machine) (s t :
         inr (inl (subst IsFinalEnding (sym is.ending) (refused-final w.framing (b ++ k.taken) k.octet [] e k.refused.offset (k.refused.ends [])))),
       )
 
-  pub turns_enough : (run : Run) (why : Stop) → Stops next w v s t piece (Sent (Ok why)) (Ok stop.Enough) → IsRun run ending.Done true v → Turns next limit w v s t b told r from to (Ok (Ended run))
+  turns_enough : (run : Run) (why : Stop) → Stops next w v s t piece (Sent (Ok why)) (Ok stop.Enough) → IsRun run ending.Done true v → Turns next limit w v s t b told r from to (Ok (Ended run))
   turns_enough run why x is =
       let P : List ℕ → Type 0 = λ text. Sends {T = ⊤} {E = DeviceFault} from to text (Ok tt) in (
         subst (λ (k : Bool). EndsBy next k w v s t (b ++ take (limit - length b) r) told P run) (sym is.enough)
             (subst (λ (o : List ℕ). StopsIn next w v s t o told P run) reached (enough_stops next w v s t b piece told _ P (sent why (Ok Again)) x st read.0 read.1 run is)),
         inl is.enough,
       )
+
+  -- by why it stopped
+  pub turns_answered : (why : Stop) (result : Result Turn DeviceFault) → Stops next w v s t piece (Sent (Ok why)) (Ok why) → Answers n m v why result → Turns next limit w v s t b told r from to result
+  turns_answered stop.Enough (Ok (Ended run)) x is = turns_enough run stop.Enough x is
+  turns_answered (stop.Fault f) (Ok (Ended run)) x is = turns_fault run f (stop.Fault f) x is
+  turns_answered stop.UsedUp (Err InputTooLong) x is = turns_long stop.UsedUp x is
+  turns_answered stop.UsedUp (Ok (Ended run)) x is = turns_end run is.2.0 stop.UsedUp x is.1 is.2.1 is.2.2
+  turns_answered stop.UsedUp (Ok Again) x is = turns_again stop.UsedUp x is.0 is.1
+  turns_answered stop.Enough (Ok Again) x is = absurd is
+  turns_answered stop.Enough (Err e) x is = absurd is
+  turns_answered (stop.Fault f) (Ok Again) x is = absurd is
+  turns_answered (stop.Fault f) (Err e) x is = absurd is
+  turns_answered stop.UsedUp (Err ReadFailed) x is = absurd is
+  turns_answered stop.UsedUp (Err WriteFailed) x is = absurd is
 
   pub turns_failed : (e : WriteFault) → Fails next w s piece (Sent (Err e)) → Turns next limit w v s t b told r from to (Err WriteFailed)
   turns_failed e x =

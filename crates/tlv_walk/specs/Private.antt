@@ -1,3 +1,4 @@
+pub mod Answers
 pub mod Device
 pub mod Follows
 pub mod Forest

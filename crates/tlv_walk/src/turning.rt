@@ -3,9 +3,10 @@ ghost use Rattle.std.specs.Prelude.{◌≡◌, ℕ, List, ◌+◌, ◌<◌, ◌�
 ghost use Rattle.tlv_walk.specs.Device.{failures_after};
 ghost use Rattle.tlv_walk.specs.Events.{Told};
 ghost use Rattle.tlv_walk.specs.Follow.{IsFollowed};
+ghost use Rattle.tlv_walk.specs.Private.Answers.{Answers, IsRun};
 ghost use Rattle.tlv_walk.specs.Private.Follows.{Stops};
 ghost use Rattle.tlv_walk.specs.Laws.{AreOctets};
-ghost use Rattle.tlv_walk.specs.Machine.{IsReady, unused_in};
+ghost use Rattle.tlv_walk.specs.Machine.{IsReady};
 ghost use Rattle.tlv_walk.specs.Out.{Puts, Sends, lender_of};
 ghost use Rattle.tlv_walk.specs.State.{Stands};
 ghost use Rattle.tlv_walk.specs.Tells.{told_of};
@@ -66,20 +67,25 @@ pub fn turn<F: Follow, S: Source, D: Drain>(
     let Ok(stop) = follow_and_flush(walker, follower, drain, &piece[..walked]) else {
         return Err(DeviceFault::WriteFailed);
     };
+    answer(walker, stop, count, walked)
+}
+
+/// What a turn answers to this stop, where of `read` octets so many were followed.
+fn answer(walker: &Walker, stop: Stop, read: usize, followed: usize) -> Result<Turn, DeviceFault>
+    requires { stop ≡ Stop.UsedUp → IsReady walker.now }
+    ensures { Answers read followed walker.now stop result }
+{
     match stop {
         Stop::Enough => Ok(Turn::Ended(run_of(walker, Ending::Done, true))),
         Stop::Fault(fault) => Ok(Turn::Ended(run_of(walker, Ending::Fault(fault), false))),
-        Stop::UsedUp if walked < count => Err(DeviceFault::InputTooLong),
-        Stop::UsedUp if count == 0 => Ok(Turn::Ended(run_of(walker, walker.finish(), false))),
+        Stop::UsedUp if followed < read => Err(DeviceFault::InputTooLong),
+        Stop::UsedUp if read == 0 => Ok(Turn::Ended(run_of(walker, walker.finish(), false))),
         Stop::UsedUp => Ok(Turn::Again),
     }
 }
 
 fn run_of(walker: &Walker, ending: Ending, enough: bool) -> Run
-    ensures ending { result.ending ≡ ending }
-    ensures enough { result.enough ≡ enough }
-    ensures octets { result.octets ≡ walker.now.offset }
-    ensures unused { result.unused ≡ unused_in walker.now }
+    ensures { IsRun result ending enough walker.now }
 {
     Run {
         ending,

@@ -1,5 +1,5 @@
 use Rattle.std.proofs.Common.{rules}
 use Rattle.tlv_walk.proofs.turning.run_of.Goals as goal
 
-pub returns-clause-unused : goal.returns-clause-unused
-returns-clause-unused c = search rules
+pub returns : goal.returns
+returns c = search rules
