@@ -4,6 +4,8 @@
 #[cfg(test)]
 mod cut;
 #[cfg(test)]
+mod expect;
+#[cfg(test)]
 mod head;
 #[cfg(test)]
 mod reads;

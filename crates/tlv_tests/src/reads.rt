@@ -2,6 +2,7 @@
 ghost use Rattle.std.specs.Prelude.{◌<◌, ◌≤◌, ◌^◌, length};
 ghost use Rattle.tlv_walk.specs.Machine.{IsReady};
 
+use crate::expect::expect_eq;
 use std::process::Abort;
 use tlv_walk::{Follow, MemDrain, MemSource, Turn, Walker, turn};
 
@@ -32,5 +33,5 @@ pub(crate) fn expect_again<F: Follow>(
 
 /// Expects the drain to have taken these octets.
 pub(crate) fn expect_written(rt: &impl Abort, drain: &MemDrain<'_>, octets: &[u8]) {
-    assert_eq!(rt; drain.written(), octets);
+    expect_eq(rt, drain.written(), octets);
 }

@@ -3,6 +3,7 @@ mod asked;
 mod asked_rows;
 mod deep;
 mod encodings;
+mod expect;
 mod failures;
 mod framed;
 mod layouts;
@@ -16,6 +17,7 @@ mod words;
 mod words_rows;
 
 use self::encodings::{ENCODINGS, ENDED};
+use self::expect::expect_eq;
 use self::framed::{NO_STRINGS, PADDED, WRAPPED, WRAPPED_FAULTS};
 use self::layouts::{LAYOUTS, LONG};
 use self::refused::{REFUSED_ENDS, REFUSED_HEADERS};
@@ -131,15 +133,15 @@ fn expect_dump(
     let mut source = MemSource::new(row.input, devices.cuts, devices.fail_at);
     let mut drain = MemDrain::new(room, devices.most);
     let report = run(&command, &Names::empty(), &mut source, &mut drain);
-    assert_eq!(rt; drain.written(), answer.written, "{}", row.name);
-    assert_eq!(rt;
+    expect_eq(rt, row.name, drain.written(), answer.written);
+    expect_eq(
+        rt,
+        row.name,
         report.message.as_slice(),
         answer.message.as_bytes(),
-        "{}",
-        row.name
     );
-    assert_eq!(rt; report.status, answer.status, "{}", row.name);
-    assert_eq!(rt; report.findings, answer.findings, "{}", row.name);
+    expect_eq(rt, row.name, report.status, answer.status);
+    expect_eq(rt, row.name, report.findings, answer.findings);
 }
 
 /// Expects the row's own answer, with all its lines, of a dump whose octets come in these pieces.

@@ -1,5 +1,6 @@
 //! Readers and writers that fail.
 use super::lines::Lines;
+use crate::expect::expect_eq;
 use std::io::{self, ErrorKind, Read, Write};
 use tlv_walk::{
     DeviceFault, Framing, MemDrain, MemSource, Out, ReadSource, WriteDrain, WriteFault, drive,
@@ -37,8 +38,8 @@ fn an_interrupted_read_fails(rt: HostRuntime) {
         &mut drain,
         &Framing::plain(),
     );
-    assert_eq!(rt; result, Err(DeviceFault::ReadFailed));
-    assert_eq!(rt; drain.written(), b"begin 0000 05 00\n end\n".as_slice());
+    expect_eq(&rt, result, Err(DeviceFault::ReadFailed));
+    expect_eq(&rt, drain.written(), b"begin 0000 05 00\n end\n".as_slice());
 }
 
 /// Takes nothing at its first write, and then all.
@@ -71,7 +72,7 @@ fn a_write_of_nothing_fails(rt: HostRuntime) {
         &mut drain,
         &Framing::plain(),
     );
-    assert_eq!(rt; result, Err(DeviceFault::WriteFailed));
+    expect_eq(&rt, result, Err(DeviceFault::WriteFailed));
 }
 
 /// Octets that are too many to be held go to the drain behind those that were.
@@ -81,8 +82,8 @@ fn a_long_put_fails(rt: HostRuntime) {
     let mut drain = MemDrain::new(&mut room, 2);
     {
         let mut out = Out::new(&mut drain);
-        assert_eq!(rt; out.put(b"abc"), Ok(()));
-        assert_eq!(rt; out.put(&[b'd'; 5000]), Err(WriteFault));
+        expect_eq(&rt, out.put(b"abc"), Ok(()));
+        expect_eq(&rt, out.put(&[b'd'; 5000]), Err(WriteFault));
     }
-    assert_eq!(rt; drain.written(), b"abcdd".as_slice());
+    expect_eq(&rt, drain.written(), b"abcdd".as_slice());
 }

@@ -1,6 +1,7 @@
 //! Walks up to the end that is enough.
 use super::lines::Lines;
 use super::{ONES, Reads, WHOLE};
+use crate::expect::expect_eq;
 use std::process::Abort;
 use tlv_walk::{Ending, Framing, INPUT_LIMIT, MemDrain, MemSource, Run, drive};
 
@@ -19,8 +20,8 @@ fn expect_enough(rt: &impl Abort, ends: u64, reads: Reads<'_>, run: Run, text: &
         &mut drain,
         &Framing::plain(),
     );
-    assert_eq!(rt; drain.written(), text);
-    assert_eq!(rt; result, Ok(run));
+    expect_eq(rt, drain.written(), text);
+    expect_eq(rt, result, Ok(run));
 }
 
 const FIRST_END: Run = Run {

@@ -1,4 +1,5 @@
 //! A source and a drain over memory.
+use crate::expect::expect_eq;
 use tlv_walk::{Drain, MemDrain, MemSource, ReadFault, Source, WriteFault};
 
 #[test]
@@ -9,7 +10,7 @@ fn source_gives_pieces(rt: HostRuntime) {
     let mut source = MemSource::new(b"abcdefghi", &[2, 0], None);
     for want in [b"ab".as_slice(), b"c", b"defg", b"hi", b"", b""] {
         let got = source.read(&mut to);
-        assert_eq!(rt; got, Ok(want.len()));
+        expect_eq(&rt, got, Ok(want.len()));
         assert!(rt; to.starts_with(want));
     }
 }
@@ -18,9 +19,9 @@ fn source_gives_pieces(rt: HostRuntime) {
 fn source_fails_once(rt: HostRuntime) {
     let mut to = [0; 4];
     let mut source = MemSource::new(b"abcdef", &[4], Some(1));
-    assert_eq!(rt; source.read(&mut to), Ok(4));
-    assert_eq!(rt; source.read(&mut to), Err(ReadFault));
-    assert_eq!(rt; source.read(&mut to), Ok(2));
+    expect_eq(&rt, source.read(&mut to), Ok(4));
+    expect_eq(&rt, source.read(&mut to), Err(ReadFault));
+    expect_eq(&rt, source.read(&mut to), Ok(2));
     assert!(rt; to.starts_with(b"ef"));
 }
 
@@ -28,18 +29,18 @@ fn source_fails_once(rt: HostRuntime) {
 fn drain_takes_what_fits(rt: HostRuntime) {
     let mut room = [0; 5];
     let mut drain = MemDrain::new(&mut room, 2);
-    assert_eq!(rt; drain.write(b"abc"), Ok(2));
-    assert_eq!(rt; drain.write(b"c"), Ok(1));
-    assert_eq!(rt; drain.write(b"def"), Ok(2));
-    assert_eq!(rt; drain.write(b"f"), Err(WriteFault));
-    assert_eq!(rt; drain.written(), b"abcde".as_slice());
+    expect_eq(&rt, drain.write(b"abc"), Ok(2));
+    expect_eq(&rt, drain.write(b"c"), Ok(1));
+    expect_eq(&rt, drain.write(b"def"), Ok(2));
+    expect_eq(&rt, drain.write(b"f"), Err(WriteFault));
+    expect_eq(&rt, drain.written(), b"abcde".as_slice());
 }
 
 #[test]
 fn drain_takes_at_least_one(rt: HostRuntime) {
     let mut room = [0; 2];
     let mut drain = MemDrain::new(&mut room, 0);
-    assert_eq!(rt; drain.write(b"ab"), Ok(1));
-    assert_eq!(rt; drain.write(b"b"), Ok(1));
-    assert_eq!(rt; drain.written(), b"ab".as_slice());
+    expect_eq(&rt, drain.write(b"ab"), Ok(1));
+    expect_eq(&rt, drain.write(b"b"), Ok(1));
+    expect_eq(&rt, drain.written(), b"ab".as_slice());
 }

@@ -1,5 +1,6 @@
 //! Offsets that may be named, and framings.
 use super::lines::Lines;
+use crate::expect::expect_eq;
 use std::process::Abort;
 use tlv_walk::{Ending, Framing, Inside, MemDrain, MemSource, Run, Walker, drive};
 
@@ -30,12 +31,12 @@ fn other_offsets_are_not_named(rt: HostRuntime) {
 fn a_plain_framing_names_nothing(rt: HostRuntime) {
     let plain = Framing::plain();
     assert!(rt; !plain.padding);
-    assert_eq!(rt; Walker::new(&plain).unused(), None);
+    expect_eq(&rt, Walker::new(&plain).unused(), None);
     let none = Framing {
         inside: Inside::none(),
         padding: true,
     };
-    assert_eq!(rt; Walker::new(&none).unused(), None);
+    expect_eq(&rt, Walker::new(&none).unused(), None);
 }
 
 #[test]
@@ -47,7 +48,7 @@ fn the_first_named_offset_is_unused_at_first(rt: HostRuntime) {
         inside,
         padding: false,
     };
-    assert_eq!(rt; Walker::new(&framing).unused(), Some(3));
+    expect_eq(&rt, Walker::new(&framing).unused(), Some(3));
 }
 
 /// Walks over two strings that wrap, up to the end of so many elements.
@@ -69,7 +70,7 @@ fn expect_unused(rt: &impl Abort, ends: u64, octets: u64, unused: Option<u64>) {
         enough: true,
         unused,
     };
-    assert_eq!(rt; result, Ok(run));
+    expect_eq(rt, result, Ok(run));
 }
 
 /// A named string behind the end that is enough is not found.

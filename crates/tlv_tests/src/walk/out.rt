@@ -1,10 +1,11 @@
 //! Octets put to an `Out`, and what its drain took.
+use crate::expect::expect_eq;
 use std::process::Abort;
 use tlv_walk::{MemDrain, Out, WriteFault};
 
 /// Puts octets, without a fault.
 fn put(rt: &impl Abort, out: &mut Out<'_, MemDrain<'_>>, octets: &[u8]) {
-    assert_eq!(rt; out.put(octets), Ok(()));
+    expect_eq(rt, out.put(octets), Ok(()));
 }
 
 /// Hands on what is held, if the drain takes it.
@@ -21,10 +22,10 @@ fn short_writes_take_all(rt: HostRuntime) {
         put(&rt, &mut out, b"tag, ");
         put(&rt, &mut out, b"");
         put(&rt, &mut out, b"length");
-        assert_eq!(rt; flush(&mut out), Ok(()));
-        assert_eq!(rt; flush(&mut out), Ok(()));
+        expect_eq(&rt, flush(&mut out), Ok(()));
+        expect_eq(&rt, flush(&mut out), Ok(()));
     }
-    assert_eq!(rt; drain.written(), b"tag, length".as_slice());
+    expect_eq(&rt, drain.written(), b"tag, length".as_slice());
 }
 
 /// Puts more than is held at once.
@@ -34,7 +35,7 @@ fn put_much(rt: &impl Abort, drain: &mut MemDrain<'_>) {
     put(rt, &mut out, &[2; 4000]);
     put(rt, &mut out, &[3; 4]);
     put(rt, &mut out, &[4; 5000]);
-    assert_eq!(rt; flush(&mut out), Ok(()));
+    expect_eq(rt, flush(&mut out), Ok(()));
 }
 
 #[test]
@@ -43,7 +44,7 @@ fn more_than_is_held(rt: HostRuntime) {
     let mut drain = MemDrain::new(&mut room, 1000);
     put_much(&rt, &mut drain);
     let written = drain.written();
-    assert_eq!(rt; written.len(), 9100);
+    expect_eq(&rt, written.len(), 9100);
     for (octet, count) in [(1, 96), (2, 4000), (3, 4), (4, 5000)] {
         assert_eq!(rt;
             written.iter().filter(|o| **o == octet).count(),
@@ -60,7 +61,7 @@ fn no_room_is_a_fault(rt: HostRuntime) {
     {
         let mut out = Out::new(&mut drain);
         put(&rt, &mut out, b"abcd");
-        assert_eq!(rt; flush(&mut out), Err(WriteFault));
+        expect_eq(&rt, flush(&mut out), Err(WriteFault));
     }
-    assert_eq!(rt; drain.written(), b"abc".as_slice());
+    expect_eq(&rt, drain.written(), b"abc".as_slice());
 }

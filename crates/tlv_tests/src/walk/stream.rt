@@ -1,4 +1,5 @@
 //! A reader as a source, and a writer as a drain.
+use crate::expect::expect_eq;
 use std::io::{self, ErrorKind, Read, Write};
 use tlv_walk::{Drain, ReadFault, ReadSource, Source, WriteDrain, WriteFault};
 
@@ -47,16 +48,16 @@ fn interrupted_read_fails(rt: HostRuntime) {
         rest: b"abc",
     });
     let mut to = [0; 4];
-    assert_eq!(rt; source.read(&mut to), Err(ReadFault));
-    assert_eq!(rt; source.read(&mut to), Ok(3));
+    expect_eq(&rt, source.read(&mut to), Err(ReadFault));
+    expect_eq(&rt, source.read(&mut to), Ok(3));
     assert!(rt; to.starts_with(b"abc"));
-    assert_eq!(rt; source.read(&mut to), Ok(0));
+    expect_eq(&rt, source.read(&mut to), Ok(0));
 }
 
 #[test]
 fn write_of_nothing_fails(rt: HostRuntime) {
     let mut drain = WriteDrain::new(Reluctant { writes: 0 });
-    assert_eq!(rt; drain.write(b"ab"), Err(WriteFault));
-    assert_eq!(rt; drain.write(b"ab"), Err(WriteFault));
-    assert_eq!(rt; drain.write(b"ab"), Ok(1));
+    expect_eq(&rt, drain.write(b"ab"), Err(WriteFault));
+    expect_eq(&rt, drain.write(b"ab"), Err(WriteFault));
+    expect_eq(&rt, drain.write(b"ab"), Ok(1));
 }

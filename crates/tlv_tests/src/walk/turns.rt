@@ -1,5 +1,6 @@
 //! Reads that are followed one by one.
 use super::lines::Lines;
+use crate::expect::expect_eq;
 use crate::reads::{LENGTH, expect_again, expect_written};
 use tlv_walk::{DeviceFault, Ending, Framing, MemDrain, MemSource, Run, Step, Turn, Walker, turn};
 
@@ -62,7 +63,7 @@ fn turns_follow_one_read_each(rt: HostRuntime) {
         enough: false,
         unused: None,
     };
-    assert_eq!(rt; end, Ok(Turn::Ended(run)));
+    expect_eq(&rt, end, Ok(Turn::Ended(run)));
     expect_written(&rt, &drain, TEXT);
 }
 
@@ -93,7 +94,7 @@ fn a_turn_behind_a_failed_read_goes_on(rt: HostRuntime) {
         &mut piece,
         LENGTH,
     );
-    assert_eq!(rt; failed, Err(DeviceFault::ReadFailed));
+    expect_eq(&rt, failed, Err(DeviceFault::ReadFailed));
     expect_written(&rt, &drain, &TEXT[..36]);
     assert_eq!(rt; walker.offset(), 5);
     let mut none: &[u8] = &[];

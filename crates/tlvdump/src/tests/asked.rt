@@ -1,6 +1,7 @@
 //! What is written and reported of an input, by the words that ask for it.
 use super::ONES;
 use super::asked_rows::{Asked, CHECKS, DUMPS, EXTRACTS, FAILED_EXTRACTS, INDEFS};
+use super::expect::expect_eq;
 use crate::command::Command;
 use crate::matches::command_of;
 use crate::runner::run;
@@ -30,9 +31,9 @@ fn expect(rt: &impl Abort, alloc: Global, row: &Asked<'_>, cuts: &[u64]) -> Resu
     let mut source = MemSource::new(input, cuts, None);
     let mut drain = MemDrain::new(&mut room, 4096);
     let report = run(&command, &Names::empty(), &mut source, &mut drain);
-    assert_eq!(rt; drain.written(), written, "{list:?}");
-    assert_eq!(rt; report.message.as_slice(), message.as_bytes(), "{list:?}");
-    assert_eq!(rt; report.status, status, "{list:?}");
+    expect_eq(rt, list, drain.written(), written);
+    expect_eq(rt, list, report.message.as_slice(), message.as_bytes());
+    expect_eq(rt, list, report.status, status);
     Ok(())
 }
 
@@ -54,11 +55,13 @@ fn findings_are_counted(rt: HostRuntime) {
         let mut source = MemSource::new(&input[..octets], &[6], fail_at);
         let mut drain = MemDrain::new(&mut room, 4096);
         let report = run(&command, &Names::empty(), &mut source, &mut drain);
-        assert_eq!(rt; report.findings, findings);
-        assert_eq!(rt; report.status, status);
-        assert_eq!(rt;
+        expect_eq(&rt, octets, report.findings, findings);
+        expect_eq(&rt, octets, report.status, status);
+        expect_eq(
+            &rt,
+            octets,
             drain.written(),
-            b"0 B08 integer is padded\n4 B07 no contents of an integer\n".as_slice()
+            b"0 B08 integer is padded\n4 B07 no contents of an integer\n".as_slice(),
         );
     }
 }

@@ -1,4 +1,5 @@
 //! Reads and writes that fail, and what is written before.
+use super::expect::expect_eq;
 use super::rows::Row;
 use super::{
     Answer, Devices, ONES, READ_FAILED, WRITE_FAILED, dump_command, expect_dump, expect_row, plain,
@@ -109,10 +110,17 @@ fn lines_before_a_failed_read_are_written(rt: HostRuntime) {
     let mut drain = MemDrain::new(&mut room, 4096);
     let command = dump_command(plain());
     let report = run(&command, &Names::empty(), &mut source, &mut drain);
-    assert_eq!(rt;
+    expect_eq(
+        &rt,
+        "written",
         drain.written(),
-        b"       0      9: VisibleString {\n".as_slice()
+        b"       0      9: VisibleString {\n".as_slice(),
     );
-    assert_eq!(rt; report.message.as_slice(), READ_FAILED.as_bytes());
-    assert_eq!(rt; report.status, 3);
+    expect_eq(
+        &rt,
+        "message",
+        report.message.as_slice(),
+        READ_FAILED.as_bytes(),
+    );
+    expect_eq(&rt, "status", report.status, 3);
 }

@@ -1,4 +1,5 @@
 //! What is told where no input is read, and how it is told.
+use super::expect::expect_eq;
 use crate::command::UsageFault;
 use crate::message::tell;
 use crate::report::{
@@ -12,8 +13,8 @@ use tlv_walk::MemDrain;
 fn expect_told(rt: &impl Abort, report: &Report, status: u8, line: &[u8]) {
     let mut room = [0; 129];
     let mut drain = MemDrain::new(&mut room, 5);
-    assert_eq!(rt; tell(report, &mut drain), status);
-    assert_eq!(rt; drain.written(), line);
+    expect_eq(rt, line, tell(report, &mut drain), status);
+    expect_eq(rt, line, drain.written(), line);
 }
 
 #[test]
@@ -65,6 +66,6 @@ fn lines_are_told(rt: HostRuntime) {
 fn failed_writes_keep_the_status(rt: HostRuntime) {
     let mut room = [0; 7];
     let mut drain = MemDrain::new(&mut room, 5);
-    assert_eq!(rt; tell(&closed_report(), &mut drain), 3);
-    assert_eq!(rt; drain.written(), b"E5 cann".as_slice());
+    expect_eq(&rt, "status", tell(&closed_report(), &mut drain), 3);
+    expect_eq(&rt, "written", drain.written(), b"E5 cann".as_slice());
 }

@@ -1,6 +1,7 @@
 //! Runs over octets in memory, which `run_octets` makes with devices of its own.
 use super::asked::command_for;
 use super::asked_rows::{Asked, CHECKS, DUMPS, EXTRACTS, FAILED_EXTRACTS, INDEFS, STRING};
+use super::expect::expect_eq;
 use super::{ONES, READ_FAILED, WRITE_FAILED};
 use crate::octets::{Shown, run_octets};
 use std::alloc::Global;
@@ -16,9 +17,14 @@ fn expect<const N: usize>(
     status: u8,
     message: &str,
 ) {
-    assert_eq!(rt; shown.written.as_slice(), written);
-    assert_eq!(rt; shown.report.message.as_slice(), message.as_bytes());
-    assert_eq!(rt; shown.report.status, status);
+    expect_eq(rt, "written", shown.written.as_slice(), written);
+    expect_eq(
+        rt,
+        "message",
+        shown.report.message.as_slice(),
+        message.as_bytes(),
+    );
+    expect_eq(rt, "status", shown.report.status, status);
 }
 
 /// Runs the command of the row over its input in these pieces.
@@ -92,7 +98,7 @@ fn octets_before_a_failed_read_are_shown(rt: HostRuntime) -> Result<(), Fail> {
         for cuts in [&[], ONES.as_slice()] {
             let shown = run_octets::<256>(&command, &Names::empty(), input, cuts, true);
             expect(&rt, &shown, written, status, message);
-            assert_eq!(rt; shown.report.findings, 0);
+            expect_eq(&rt, list, shown.report.findings, 0);
         }
     }
     Ok(())

@@ -1,4 +1,5 @@
 //! Runs of a dump: in whatever pieces the octets come, without memory, and with names.
+use super::expect::expect_eq;
 use super::rows::Row;
 use super::{dump_command, expect_in_pieces, plain, tables, text_of};
 use crate::command::Command;
@@ -51,8 +52,8 @@ fn runs_take_no_memory(rt: HostRuntime) {
         let mut source = MemSource::new(input, &[], None);
         let mut drain = MemDrain::new(&mut room, 4096);
         let report = run(&command, &Names::empty(), &mut source, &mut drain);
-        assert_eq!(rt; drain.written(), written);
-        assert_eq!(rt; report.status, 0);
+        expect_eq(&rt, "written", drain.written(), written);
+        expect_eq(&rt, "status", report.status, 0);
     }
 }
 
@@ -72,8 +73,8 @@ fn names_of_object_identifiers_are_shown(rt: HostRuntime) -> Result<(), Fail> {
     let text = b"       0      3: OBJECT IDENTIFIER 1.2.840 (us)
        5      4: RELATIVE-OID 1.2.840
 ";
-    assert_eq!(rt; drain.written(), text.as_slice());
-    assert_eq!(rt; report.message.as_slice(), b"".as_slice());
-    assert_eq!(rt; report.status, 0);
+    expect_eq(&rt, "written", drain.written(), text.as_slice());
+    expect_eq(&rt, "message", report.message.as_slice(), b"".as_slice());
+    expect_eq(&rt, "status", report.status, 0);
     Ok(())
 }

@@ -1,4 +1,5 @@
 //! What words ask for, and why words are refused.
+use super::expect::expect_eq;
 use super::words_rows::{
     CUTS, Comes, INSIDE, Judged, LIMITS, REFUSED_VALUES, RULES, SHOWN, WRONG_OPTIONS, WRONG_WORDS,
 };
@@ -47,48 +48,30 @@ fn expect_judged(rt: &impl Abort, alloc: Global, rows: &[Judged<'_>]) {
             Ok(asked) => comes_of(&asked),
             Err(fault) => refusal_of(&fault),
         };
-        assert_eq!(rt; comes, want, "{:?}", list);
+        expect_eq(rt, list, comes, want);
     }
 }
 
+/// Options and their values.
 #[test]
-fn limits_are_numbers_of_32_bits(rt: HostRuntime) {
-    expect_judged(&rt, rt.alloc(), &LIMITS);
+fn options_are_judged(rt: HostRuntime) {
+    for rows in [
+        LIMITS.as_slice(),
+        &WRONG_OPTIONS,
+        &INSIDE,
+        &RULES,
+        &REFUSED_VALUES,
+    ] {
+        expect_judged(&rt, rt.alloc(), rows);
+    }
 }
 
+/// Commands, offsets and files, help and the version, and words that are none of these.
 #[test]
-fn wrong_options_are_refused(rt: HostRuntime) {
-    expect_judged(&rt, rt.alloc(), &WRONG_OPTIONS);
-}
-
-#[test]
-fn wrong_words_are_refused(rt: HostRuntime) {
-    expect_judged(&rt, rt.alloc(), &WRONG_WORDS);
-}
-
-#[test]
-fn offsets_inside_rise(rt: HostRuntime) {
-    expect_judged(&rt, rt.alloc(), &INSIDE);
-}
-
-#[test]
-fn help_and_version_are_shown(rt: HostRuntime) {
-    expect_judged(&rt, rt.alloc(), &SHOWN);
-}
-
-#[test]
-fn offsets_and_files_are_taken(rt: HostRuntime) {
-    expect_judged(&rt, rt.alloc(), &CUTS);
-}
-
-#[test]
-fn rules_are_taken(rt: HostRuntime) {
-    expect_judged(&rt, rt.alloc(), &RULES);
-}
-
-#[test]
-fn one_refused_value_is_told(rt: HostRuntime) {
-    expect_judged(&rt, rt.alloc(), &REFUSED_VALUES);
+fn other_words_are_judged(rt: HostRuntime) {
+    for rows in [WRONG_WORDS.as_slice(), &SHOWN, &CUTS] {
+        expect_judged(&rt, rt.alloc(), rows);
+    }
 }
 
 /// The files that words name: the names file, and the file to read.
@@ -100,8 +83,8 @@ fn expect_files(
     file: Option<&str>,
 ) -> Result<(), Fail> {
     let asked = command(alloc, list)?;
-    assert_eq!(rt; asked.names_file(), names, "{:?}", list);
-    assert_eq!(rt; asked.file(), file, "{:?}", list);
+    expect_eq(rt, list, asked.names_file(), names);
+    expect_eq(rt, list, asked.file(), file);
     Ok(())
 }
 

@@ -1,0 +1,8 @@
+//! What a test expects of two values.
+use std::fmt::Debug;
+use std::process::Abort;
+
+/// Expects both to be the same. It stands apart since each `assert_eq!` is proved where it stands.
+pub(crate) fn expect_eq<T: Copy + PartialEq + Debug>(rt: &impl Abort, got: T, want: T) {
+    assert!(rt; got == want, "{:?} in place of {:?}", got, want);
+}
