@@ -5,7 +5,7 @@ use tlv_value::ValueText;
 use tlv_walk::{MemDrain, Out};
 
 /// The call at which a write failed.
-#[derive(Clone, Copy, Debug, PartialEq, Eq)]
+#[derive(Clone, Copy)]
 enum Call {
     Before,
     Begin,
