@@ -160,6 +160,14 @@ fn are_lines(octets: &[u8], lines: &[&str]) -> bool {
     rest.is_empty()
 }
 
+/// Whether so many octets of the room are these lines.
+fn are_shown(room: &[u8], count: Option<usize>, lines: &[&str]) -> bool {
+    match count {
+        Some(count) if count <= room.len() => are_lines(&room[..count], lines),
+        _ => false,
+    }
+}
+
 /// Expects the lines of an element, with its contents whole, in every cut into two pieces, and octet by octet.
 fn expect_lines(rt: &impl Abort, element: &[u8], layout: Layout, lines: &[&str]) {
     expect_lines_named(rt, element, layout, &OneName, lines);
@@ -175,21 +183,9 @@ fn expect_lines_named<N: NameTable>(
 ) {
     let mut room = [0; 1024];
     for cut in 0..element.len() {
-        match show(element, 0, layout, names, cut, &mut room) {
-            Some(count) if count <= 1024 => assert!(rt;
-                are_lines(&room[..count], lines),
-                "cut at {cut}: {:?}",
-                lines
-            ),
-            _ => assert!(rt; false, "not shown: {:?}", lines),
-        }
+        let count = show(element, 0, layout, names, cut, &mut room);
+        assert!(rt; are_shown(&room, count, lines), "cut at {cut}: {:?}", lines);
     }
-    match show_pieces(element, layout, names, 0, 1, &mut room) {
-        Some(count) if count <= 1024 => assert!(rt;
-            are_lines(&room[..count], lines),
-            "by octets: {:?}",
-            lines
-        ),
-        _ => assert!(rt; false, "not shown: {:?}", lines),
-    }
+    let count = show_pieces(element, layout, names, 0, 1, &mut room);
+    assert!(rt; are_shown(&room, count, lines), "by octets: {:?}", lines);
 }

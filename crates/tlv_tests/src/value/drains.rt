@@ -5,7 +5,7 @@ use tlv_value::ValueText;
 use tlv_walk::{MemDrain, Out};
 
 /// The call at which a write failed.
-#[derive(Clone, Copy, Debug, PartialEq, Eq)]
+#[derive(Clone, Copy)]
 enum Call {
     Before,
     Begin,
@@ -73,18 +73,18 @@ fn drains_without_room(rt: HostRuntime) {
             let mut drain = MemDrain::new(&mut room[..size], 100);
             let at = failing_call(INTEGER, letters, &mut drain);
             let written = drain.written();
-            assert!(rt; is_front(written, letters, LINES));
-            match at {
-                None => assert_eq!(rt; written.len(), letters + LINES.len()),
+            let all = letters + LINES.len();
+            let is_right = match at {
+                None => written.len() == all,
                 Some(call) => {
-                    assert_eq!(rt; written.len(), size);
-                    assert!(rt; size < letters + LINES.len());
                     seen[call as usize] = true;
+                    written.len() == size && size < all
                 }
-            }
+            };
+            assert!(rt; is_right && is_front(written, letters, LINES));
         }
     }
-    assert_eq!(rt; seen, [true; 5]);
+    assert!(rt; seen == [true; 5]);
 }
 
 /// The rows of one piece may be more than an `Out` holds.
@@ -98,13 +98,12 @@ fn rows_without_room(rt: HostRuntime) {
     // The line has 30 octets, and 125 rows have 67 each.
     let mut room = [0; 8405];
     let mut whole = MemDrain::new(&mut room, 4096);
-    assert_eq!(rt; failing_call(&element, 0, &mut whole), None);
-    assert_eq!(rt; whole.written().len(), 8405);
+    assert!(rt; failing_call(&element, 0, &mut whole).is_none() && whole.written().len() == 8405);
     let mut short = [0; 8405];
     for i in 0..124 {
         let mut drain = MemDrain::new(&mut short[..68 * i], 4096);
-        assert!(rt; failing_call(&element, 0, &mut drain).is_some());
-        assert_eq!(rt; drain.written().len(), 68 * i);
-        assert!(rt; whole.written().starts_with(drain.written()));
+        let fails = failing_call(&element, 0, &mut drain).is_some();
+        let written = drain.written();
+        assert!(rt; fails && written.len() == 68 * i && whole.written().starts_with(written));
     }
 }

@@ -8,13 +8,17 @@ fn decimals(rt: HostRuntime) {
     largest[0] = 0x7f;
     let mut least = [0; 16];
     least[0] = 0x80;
-    assert_eq!(rt; decimal_of(&[]), None);
-    assert_eq!(rt; decimal_of(&[0x00]), Some(0));
-    assert_eq!(rt; decimal_of(&[0xff]), Some(-1));
-    assert_eq!(rt; decimal_of(&[0x00, 0x7f]), Some(127));
-    assert_eq!(rt; decimal_of(&largest), Some(i128::MAX));
-    assert_eq!(rt; decimal_of(&least), Some(i128::MIN));
-    assert_eq!(rt; decimal_of(&[0; 17]), None);
+    for (contents, want) in [
+        ([].as_slice(), None),
+        (&[0x00], Some(0)),
+        (&[0xff], Some(-1)),
+        (&[0x00, 0x7f], Some(127)),
+        (&largest, Some(i128::MAX)),
+        (&least, Some(i128::MIN)),
+        (&[0; 17], None),
+    ] {
+        assert!(rt; decimal_of(contents) == want, "{:?}", contents);
+    }
 }
 
 /// Where there is no text, none is left of what was there before.
@@ -44,8 +48,8 @@ fn dotted_texts(rt: HostRuntime) {
         (&[0x01; 65], true, ""),
     ] {
         let is_there = dotted_of(contents, relative, &mut text);
-        assert_eq!(rt; text.as_slice(), want.as_bytes());
-        assert_eq!(rt; is_there, !want.is_empty());
+        let is_right = text.as_slice() == want.as_bytes() && is_there != want.is_empty();
+        assert!(rt; is_right, "{:?}", contents);
     }
 }
 
@@ -57,8 +61,9 @@ fn times(rt: HostRuntime) {
         ("910506244540Z", true, false),
         ("9113062345Z", false, false),
     ] {
-        assert_eq!(rt; utc_ok(time.as_bytes()), of_grammar, "{time}");
-        assert_eq!(rt; utc_canonical(time.as_bytes()), is_canonical, "{time}");
+        let octets = time.as_bytes();
+        let is_right = utc_ok(octets) == of_grammar && utc_canonical(octets) == is_canonical;
+        assert!(rt; is_right, "{time}");
     }
     for (time, of_grammar, is_canonical) in [
         ("1992072213", true, false),
@@ -69,7 +74,9 @@ fn times(rt: HostRuntime) {
         ("19920722132100.50Z", true, false),
         ("19920721240000Z", true, false),
     ] {
-        assert_eq!(rt; general_ok(time.as_bytes()), of_grammar, "{time}");
-        assert_eq!(rt; general_canonical(time.as_bytes()), is_canonical, "{time}");
+        let octets = time.as_bytes();
+        let is_right = general_ok(octets) == of_grammar
+            && general_canonical(octets) == is_canonical;
+        assert!(rt; is_right, "{time}");
     }
 }

@@ -1,21 +1,13 @@
 //! Where lines stand, how many are written, and names behind object identifiers.
 use super::number_rows::LARGE_NUMBERS;
 use super::object_rows::LARGE_ARCS;
-use super::{OneName, PLAIN, are_lines, expect_lines, expect_lines_named, show};
+use super::{OneName, PLAIN, are_shown, expect_lines, expect_lines_named, show};
 use std::test::Fail;
 use tlv_value::{Layout, Names};
 use tlv_walk::MemSource;
 
 /// What stands for the rows that are left out.
 const DOTS: &str = "                   ...";
-
-/// The outermost level, with this limit.
-fn limited(limit: u32) -> Layout {
-    Layout {
-        limit: Some(limit),
-        ..PLAIN
-    }
-}
 
 /// An object identifier has its name behind it. A relative one has none, though its dotted text may be a name's.
 #[test]
@@ -62,41 +54,37 @@ fn places(rt: HostRuntime) {
         (b"\x04\x02es", 7, 1, "       7      2:   OCTET STRING 65 73"),
     ] {
         let layout = Layout { level, ..PLAIN };
-        match show(element, offset, layout, &OneName, 0, &mut room) {
-            Some(count) if count <= 64 => assert!(rt; are_lines(&room[..count], &[line])),
-            _ => assert!(rt; false, "not shown: {line}"),
-        }
+        let count = show(element, offset, layout, &OneName, 0, &mut room);
+        assert!(rt; are_shown(&room, count, &[line]), "{line}");
     }
 }
 
-/// Above the limit the first row is three dots, and those behind it are left out.
+/// Above the limit the first row is three dots, and those behind it are left out. As many rows as the limit are all
+/// written.
 #[test]
-fn rows_of_numbers_are_left_out(rt: HostRuntime) {
+fn rows_are_left_out(rt: HostRuntime) {
     let integer = LARGE_NUMBERS[2].element;
-    let row = "                   00 80 00 00 00 00 00 00 00 00 00 00 00 00 00 00";
-    expect_lines(
-        &rt,
-        integer,
-        limited(1),
-        &["       0     17: INTEGER", row, DOTS],
-    );
-    expect_lines(
-        &rt,
-        integer,
-        limited(0),
-        &["       0     17: INTEGER", DOTS],
-    );
-}
-
-/// So are those of an object identifier. As many rows as the limit are all written.
-#[test]
-fn rows_of_objects_are_left_out(rt: HostRuntime) {
+    let number = "                   00 80 00 00 00 00 00 00 00 00 00 00 00 00 00 00";
     let object = LARGE_ARCS[0].element;
     let line = "       0     19: OBJECT IDENTIFIER";
     let row = "                   ff ff ff ff ff ff ff ff ff ff ff ff ff ff ff ff";
-    expect_lines(&rt, object, limited(0), &[line, DOTS]);
-    expect_lines(&rt, object, limited(1), &[line, row, DOTS]);
-    expect_lines(&rt, object, limited(2), LARGE_ARCS[0].lines);
+    for (element, limit, lines) in [
+        (
+            integer,
+            1,
+            ["       0     17: INTEGER", number, DOTS].as_slice(),
+        ),
+        (integer, 0, &["       0     17: INTEGER", DOTS]),
+        (object, 0, &[line, DOTS]),
+        (object, 1, &[line, row, DOTS]),
+        (object, 2, LARGE_ARCS[0].lines),
+    ] {
+        let layout = Layout {
+            limit: Some(limit),
+            ..PLAIN
+        };
+        expect_lines(&rt, element, layout, lines);
+    }
 }
 
 /// Without the first columns nothing else changes.
@@ -106,15 +94,11 @@ fn columns_are_left_out(rt: HostRuntime) {
         (b"\x04\x03Jon".as_slice(), "  OCTET STRING 4a 6f 6e"),
         (b"\x04\x02es", "  OCTET STRING 65 73"),
     ] {
-        expect_lines(
-            &rt,
-            element,
-            Layout {
-                level: 1,
-                limit: None,
-                pure: true,
-            },
-            &[line],
-        );
+        let layout = Layout {
+            level: 1,
+            limit: None,
+            pure: true,
+        };
+        expect_lines(&rt, element, layout, &[line]);
     }
 }

@@ -9,98 +9,47 @@ use super::text_rows::{
 use super::{PLAIN, Row, expect_lines};
 use std::process::Abort;
 
-fn expect_rows(rt: &impl Abort, rows: &[Row<'_>]) {
-    for row in rows {
-        expect_lines(rt, row.element, PLAIN, row.lines);
+/// Expects the lines of each element of these tables.
+fn expect_rows(rt: &impl Abort, tables: &[&[Row<'_>]]) {
+    for rows in tables {
+        for row in *rows {
+            expect_lines(rt, row.element, PLAIN, row.lines);
+        }
     }
 }
 
 #[test]
-fn small_numbers_are_shown(rt: HostRuntime) {
-    expect_rows(&rt, &SMALL_NUMBERS);
+fn numbers_and_objects_are_shown(rt: HostRuntime) {
+    expect_rows(
+        &rt,
+        &[
+            &SMALL_NUMBERS,
+            &LARGE_NUMBERS,
+            &BOOLEANS_AND_NULLS,
+            &OCTETS,
+            &BITS,
+            &WRONG_BITS,
+            &FIRST_ARCS,
+            &LARGE_ARCS,
+            &RELATIVE,
+            &LENGTHS,
+        ],
+    );
 }
 
 #[test]
-fn large_numbers_are_shown(rt: HostRuntime) {
-    expect_rows(&rt, &LARGE_NUMBERS);
-}
-
-#[test]
-fn booleans_and_nulls_are_shown(rt: HostRuntime) {
-    expect_rows(&rt, &BOOLEANS_AND_NULLS);
-}
-
-#[test]
-fn octets_are_shown(rt: HostRuntime) {
-    expect_rows(&rt, &OCTETS);
-}
-
-#[test]
-fn bits_are_shown(rt: HostRuntime) {
-    expect_rows(&rt, &BITS);
-}
-
-#[test]
-fn wrong_bit_strings_are_shown(rt: HostRuntime) {
-    expect_rows(&rt, &WRONG_BITS);
-}
-
-#[test]
-fn first_arcs_are_shown(rt: HostRuntime) {
-    expect_rows(&rt, &FIRST_ARCS);
-}
-
-#[test]
-fn large_arcs_are_shown(rt: HostRuntime) {
-    expect_rows(&rt, &LARGE_ARCS);
-}
-
-#[test]
-fn relative_objects_are_shown(rt: HostRuntime) {
-    expect_rows(&rt, &RELATIVE);
-}
-
-#[test]
-fn objects_of_each_length_are_shown(rt: HostRuntime) {
-    expect_rows(&rt, &LENGTHS);
-}
-
-#[test]
-fn times_and_strings_of_octets_are_shown(rt: HostRuntime) {
-    expect_rows(&rt, &TIMES_AND_OCTETS);
-}
-
-#[test]
-fn characters_of_utf8_are_shown(rt: HostRuntime) {
-    expect_rows(&rt, &UTF8);
-}
-
-#[test]
-fn octets_that_are_no_utf8_are_shown(rt: HostRuntime) {
-    expect_rows(&rt, &NO_UTF8);
-}
-
-#[test]
-fn characters_of_two_octets_are_shown(rt: HostRuntime) {
-    expect_rows(&rt, &TWO_OCTETS);
-}
-
-#[test]
-fn characters_of_four_octets_are_shown(rt: HostRuntime) {
-    expect_rows(&rt, &FOUR_OCTETS);
-}
-
-#[test]
-fn rows_of_utf8_split_no_character(rt: HostRuntime) {
-    expect_rows(&rt, &UTF8_ROWS);
-}
-
-#[test]
-fn rows_end_between_octets_that_are_no_utf8(rt: HostRuntime) {
-    expect_rows(&rt, &NO_UTF8_ROWS);
-}
-
-#[test]
-fn rows_of_other_strings_split_no_character(rt: HostRuntime) {
-    expect_rows(&rt, &OTHER_ROWS);
+fn texts_and_times_are_shown(rt: HostRuntime) {
+    expect_rows(
+        &rt,
+        &[
+            &TIMES_AND_OCTETS,
+            &UTF8,
+            &NO_UTF8,
+            &TWO_OCTETS,
+            &FOUR_OCTETS,
+            &UTF8_ROWS,
+            &NO_UTF8_ROWS,
+            &OTHER_ROWS,
+        ],
+    );
 }

@@ -40,31 +40,15 @@ fn expect_types(rt: &impl Abort, types: &[Type<'_>]) {
 }
 
 #[test]
-fn simple_types_are_shown(rt: HostRuntime) {
-    expect_types(&rt, &SIMPLE);
-}
-
-#[test]
-fn string_types_are_shown(rt: HostRuntime) {
-    expect_types(&rt, &STRINGS);
-}
-
-#[test]
-fn wide_string_and_time_types_are_shown(rt: HostRuntime) {
-    expect_types(&rt, &WIDE_STRINGS_AND_TIMES);
-}
-
-#[test]
-fn compound_types_are_shown(rt: HostRuntime) {
-    expect_types(&rt, &COMPOUND);
-}
-
-#[test]
-fn date_and_iri_types_are_shown(rt: HostRuntime) {
-    expect_types(&rt, &DATES_AND_IRIS);
-}
-
-#[test]
-fn nameless_types_are_shown(rt: HostRuntime) {
-    expect_types(&rt, &NAMELESS);
+fn types_are_shown(rt: HostRuntime) {
+    for types in [
+        SIMPLE.as_slice(),
+        &STRINGS,
+        &WIDE_STRINGS_AND_TIMES,
+        &COMPOUND,
+        &DATES_AND_IRIS,
+        &NAMELESS,
+    ] {
+        expect_types(&rt, types);
+    }
 }
