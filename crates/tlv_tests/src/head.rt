@@ -5,9 +5,9 @@ mod texts;
 
 ghost use Rattle.std.specs.Prelude.{◌≤◌};
 
-use self::octets::{OFFSET, Place, REFUSALS, SHAPES, Shape, TOP};
+use self::octets::{OFFSET, Place, REFUSALS, Refusal, SHAPES, Shape, TOP};
 use std::process::Abort;
-use tlv_head::{Fault, FaultCode, Head, HeadReader, Header, Size, read_header, read_short};
+use tlv_head::{Class, Fault, FaultCode, Head, HeadReader, Header, Size, read_header, read_short};
 
 /// The header with which the octets begin, and its octets.
 fn front_header(octets: &[u8]) -> Option<Header> {
@@ -36,19 +36,44 @@ fn read(octets: &[u8], place: Place) -> Head
     Head::More
 }
 
-fn expect_shape(rt: &impl Abort, header: &Header, shape: &Shape) {
-    assert_eq!(rt; header.offset, OFFSET);
-    assert_eq!(rt; header.class, shape.class, "of {:?}", shape.octets);
-    assert_eq!(rt;
-        header.constructed,
-        shape.constructed,
-        "of {:?}",
-        shape.octets
-    );
-    assert_eq!(rt; header.number, shape.number, "of {:?}", shape.octets);
-    assert_eq!(rt; header.size, shape.size, "of {:?}", shape.octets);
-    assert_eq!(rt; header.raw(), shape.octets);
-    assert_eq!(rt; header.id_len, shape.id_len, "of {:?}", shape.octets);
+/// The header that the octets make one by one.
+fn whole(octets: &[u8], place: Place) -> Option<Header>
+    requires { place.depth ≤ 128 }
+{
+    match read(octets, place) {
+        Head::Whole(header) => Some(header),
+        _ => None,
+    }
+}
+
+/// The fault for which the last of the octets is refused.
+fn refused(octets: &[u8], place: Place) -> Option<Fault>
+    requires { place.depth ≤ 128 }
+{
+    match read(octets, place) {
+        Head::Refused(fault) => Some(fault),
+        _ => None,
+    }
+}
+
+/// Whether the header says what the shape says, and has its octets.
+fn is_of_shape(header: &Header, shape: &Shape<'_>) -> bool {
+    header.offset == OFFSET
+        && header.class == shape.class
+        && header.constructed == shape.constructed
+        && header.number == shape.number
+        && header.size == shape.size
+        && header.raw() == shape.octets
+        && header.id_len == shape.id_len
+}
+
+/// Expects a header, and that it is of the shape.
+fn expect_shape(rt: &impl Abort, found: &Option<Header>, shape: &Shape<'_>) {
+    let is_read = match found {
+        Some(header) => is_of_shape(header, shape),
+        None => false,
+    };
+    assert!(rt; is_read, "{:?} of {:?}", found, shape.octets);
 }
 
 /// Octet by octet, and all at once; with room for the contents, and without a bound.
@@ -68,16 +93,28 @@ fn headers_are_read(rt: HostRuntime) {
                 named: true,
             },
         ] {
-            let Head::Whole(header) = read(shape.octets, place) else {
-                panic!(rt; "{:?} is no header", shape.octets);
-            };
-            expect_shape(&rt, &header, shape);
+            expect_shape(&rt, &whole(shape.octets, place), shape);
         }
-        let Some(header) = front_header(shape.octets) else {
-            panic!(rt; "{:?} begins with no header", shape.octets);
-        };
-        expect_shape(&rt, &header, shape);
+        expect_shape(&rt, &front_header(shape.octets), shape);
     }
+}
+
+/// Whether the octets of the shape are read at once, if they are at most three and three, and otherwise are not.
+fn is_read_if_short(shape: &Shape<'_>) -> bool {
+    let lengths = shape.octets.len().saturating_sub(usize::from(shape.id_len));
+    let is_short = shape.id_len <= 3 && lengths <= 3;
+    match read_short(OFFSET, false, shape.octets) {
+        Some((fields, count)) => {
+            let header = Header::new(&fields, &shape.octets[..count]);
+            is_short && is_of_shape(&header, shape)
+        }
+        None => !is_short,
+    }
+}
+
+/// Expects no header to be read at once.
+fn expect_no_short(rt: &impl Abort, octets: &[u8]) {
+    assert!(rt; read_short(OFFSET, false, octets).is_none(), "{octets:?}");
 }
 
 /// A header of at most three identifier and three length octets is read at once, no longer one is, no front of one, and
@@ -85,37 +122,22 @@ fn headers_are_read(rt: HostRuntime) {
 #[test]
 fn short_headers_are_read_at_once(rt: HostRuntime) {
     for shape in &SHAPES {
-        let lengths = shape.octets.len().saturating_sub(usize::from(shape.id_len));
-        let found = read_short(OFFSET, false, shape.octets);
-        assert_eq!(rt;
-            found.is_some(),
-            shape.id_len <= 3 && lengths <= 3,
-            "of {:?}",
-            shape.octets
-        );
-        if let Some((fields, count)) = found {
-            assert_eq!(rt; count, shape.octets.len());
-            let header = Header::new(&fields, &shape.octets[..count]);
-            expect_shape(&rt, &header, shape);
-        }
+        assert!(rt; is_read_if_short(shape), "{:?}", shape.octets);
         for i in 0..shape.octets.len() {
-            assert!(rt; read_short(OFFSET, false, &shape.octets[..i]).is_none());
+            expect_no_short(&rt, &shape.octets[..i]);
         }
     }
     // Four identifier octets, and four length octets.
     for octets in [b"\x1f\x81\x80\x01\x00".as_slice(), b"\x04\x83\x00\x00\x01"] {
-        assert!(rt; read_header(OFFSET, false, octets).is_some());
-        assert!(rt; read_short(OFFSET, false, octets).is_none(), "{octets:?}");
+        assert!(rt; front_header(octets).is_some());
+        expect_no_short(&rt, octets);
     }
     for refusal in &REFUSALS {
-        let found = read_short(OFFSET, false, refusal.octets);
-        assert!(rt;
-            refusal.is_header || found.is_none(),
-            "{:?}",
-            refusal.octets
-        );
+        if !refusal.is_header {
+            expect_no_short(&rt, refusal.octets);
+        }
     }
-    assert!(rt; read_short(OFFSET, false, b"\x00\x00").is_none());
+    expect_no_short(&rt, b"\x00\x00");
 }
 
 /// An octet before the last is taken, and makes no header.
@@ -124,24 +146,28 @@ fn fronts_are_unfinished(rt: HostRuntime) {
     for shape in &SHAPES {
         for count in 0..shape.octets.len() {
             let front = &shape.octets[..count];
-            assert!(rt; matches!(read(front, TOP), Head::More), "{:?}", front);
-            assert!(rt; front_header(front).is_none(), "{:?}", front);
+            let unfinished = matches!(read(front, TOP), Head::More);
+            assert!(rt; unfinished && front_header(front).is_none(), "{:?}", front);
         }
     }
+}
+
+/// Whether the last of the octets is refused for the code.
+fn is_refused(refusal: &Refusal) -> bool {
+    let last = OFFSET
+        .saturating_add(refusal.octets.len() as u64)
+        .saturating_sub(1);
+    let fault = Fault {
+        code: refusal.code,
+        offset: last,
+    };
+    refusal.place.depth <= 128 && refused(refusal.octets, refusal.place) == Some(fault)
 }
 
 #[test]
 fn octets_are_refused(rt: HostRuntime) {
     for refusal in &REFUSALS {
-        assert!(rt; refusal.place.depth <= 128);
-        let Head::Refused(fault) = read(refusal.octets, refusal.place) else {
-            panic!(rt; "{:?} is not refused", refusal.octets);
-        };
-        assert_eq!(rt; fault.code, refusal.code, "of {:?}", refusal.octets);
-        let last = OFFSET
-            .saturating_add(refusal.octets.len() as u64)
-            .saturating_sub(1);
-        assert_eq!(rt; fault.offset, last, "of {:?}", refusal.octets);
+        assert!(rt; is_refused(refusal), "{:?}", refusal.octets);
     }
 }
 
@@ -149,14 +175,15 @@ fn octets_are_refused(rt: HostRuntime) {
 #[test]
 fn headers_begin_octets(rt: HostRuntime) {
     for refusal in &REFUSALS {
-        let header = front_header(refusal.octets);
-        assert_eq!(rt; header.is_some(), refusal.is_header, "{:?}", refusal.octets);
+        let found = front_header(refusal.octets).is_some();
+        assert!(rt; found == refusal.is_header, "{:?}", refusal.octets);
     }
     assert!(rt; front_header(b"\x00\x00").is_none());
-    let Some(header) = front_header(b"\x04\x81\x03\xaa\xbb\xcc\x05") else {
-        panic!(rt; "no header");
+    let is_front = match front_header(b"\x04\x81\x03\xaa\xbb\xcc\x05") {
+        Some(header) => header.raw() == b"\x04\x81\x03".as_slice(),
+        None => false,
     };
-    assert_eq!(rt; header.raw(), b"\x04\x81\x03".as_slice());
+    assert!(rt; is_front);
 }
 
 /// The longest header has ten identifier octets and 127 length octets.
@@ -167,18 +194,16 @@ fn the_longest_header_is_read(rt: HostRuntime) {
     octets[2..9].copy_from_slice(&[0x80; 7]);
     octets[10] = 0xfe;
     octets[136] = 1;
-    let Head::Whole(pushed) = read(&octets, TOP) else {
-        panic!(rt; "no header");
+    let shape = Shape {
+        octets: &octets,
+        class: Class::Context,
+        constructed: false,
+        number: 72_057_594_037_927_936,
+        size: Size::Definite(1),
+        id_len: 10,
     };
-    let Some(read) = front_header(&octets) else {
-        panic!(rt; "no header");
-    };
-    for header in [&pushed, &read] {
-        assert_eq!(rt; header.raw(), octets.as_slice());
-        assert_eq!(rt; header.id_len, 10);
-        assert_eq!(rt; header.number, 72_057_594_037_927_936);
-        assert_eq!(rt; header.size, Size::Definite(1));
-    }
+    expect_shape(&rt, &whole(&octets, TOP), &shape);
+    expect_shape(&rt, &front_header(&octets), &shape);
 }
 
 /// Of 126 length octets the sixth from the last may not be other than 00.
@@ -187,45 +212,42 @@ fn a_long_length_is_refused_early(rt: HostRuntime) {
     let mut octets = [0; 128];
     octets[..2].copy_from_slice(b"\x04\xfe");
     octets[122] = 1;
-    let Head::Refused(fault) = read(&octets, TOP) else {
-        panic!(rt; "not refused");
-    };
-    let want = Fault {
+    let fault = Fault {
         code: FaultCode::LengthTooLarge,
         offset: 222,
     };
-    assert_eq!(rt; fault, want);
+    assert!(rt; refused(&octets, TOP) == Some(fault));
     octets[122] = 0;
     octets[123] = 1;
-    let Head::Whole(header) = read(&octets, TOP) else {
-        panic!(rt; "no header");
+    let shape = Shape {
+        octets: &octets,
+        class: Class::Universal,
+        constructed: false,
+        number: 4,
+        size: Size::Definite(4_294_967_296),
+        id_len: 1,
     };
-    assert_eq!(rt; header.size, Size::Definite(4_294_967_296));
+    expect_shape(&rt, &whole(&octets, TOP), &shape);
 }
 
 /// A refused octet is not taken, and another may come in its place.
 #[test]
 fn a_refusal_leaves_the_reader(rt: HostRuntime) {
     let mut reader = HeadReader::new(OFFSET, false);
-    assert!(rt; !reader.done());
-    assert!(rt; matches!(reader.push(0x04, None, 0), Head::More));
+    assert!(rt; !reader.done() && matches!(reader.push(0x04, None, 0), Head::More));
     let Head::Refused(indefinite) = reader.push(0x80, None, 0) else {
         panic!(rt; "not refused");
     };
     let Head::Refused(reserved) = reader.push(0xff, None, 0) else {
         panic!(rt; "not refused");
     };
-    for (fault, code) in [
-        (indefinite, FaultCode::IndefinitePrimitive),
-        (reserved, FaultCode::ReservedLength),
-    ] {
-        let want = Fault { code, offset: 101 };
-        assert_eq!(rt; fault, want);
-    }
-    assert!(rt; !reader.done());
+    let is_left = !reader.done()
+        && indefinite.code == FaultCode::IndefinitePrimitive
+        && reserved.code == FaultCode::ReservedLength
+        && [indefinite.offset, reserved.offset] == [101, 101];
+    assert!(rt; is_left);
     let Head::Whole(header) = reader.push(0x00, None, 0) else {
         panic!(rt; "no header");
     };
-    assert_eq!(rt; header.raw(), b"\x04\x00".as_slice());
-    assert!(rt; reader.done());
+    assert!(rt; reader.done() && header.raw() == b"\x04\x00".as_slice());
 }

@@ -1,7 +1,6 @@
 //! What a whole header tells, and what is made of it.
 use super::octets::{OFFSET, SHAPES, Shape};
-use super::{expect_shape, front_header};
-use std::process::Abort;
+use super::{front_header, is_of_shape};
 use tlv_head::{Header, HeaderFields, read_header, spell_indefinite};
 
 /// The octets behind the first of the identifier and of the length.
@@ -16,24 +15,20 @@ fn headers_give_their_second_octets(rt: HostRuntime) {
             panic!(rt; "{octets:?} begins with no header");
         };
         let header = Header::new(&fields, &octets[..count]);
-        assert_eq!(rt; header.number_octet(), number, "of {octets:?}");
-        assert_eq!(rt; header.length_octet(), length, "of {octets:?}");
+        let seconds = (header.number_octet(), header.length_octet());
+        assert!(rt; seconds == (number, length), "{seconds:?} of {octets:?}");
     }
 }
 
-fn expect_fields(rt: &impl Abort, fields: &HeaderFields, shape: &Shape) {
-    assert_eq!(rt; fields.offset, OFFSET);
-    assert!(rt; fields.named);
-    assert_eq!(rt; fields.class, shape.class, "of {:?}", shape.octets);
-    assert_eq!(rt;
-        fields.constructed,
-        shape.constructed,
-        "of {:?}",
-        shape.octets
-    );
-    assert_eq!(rt; fields.number, shape.number, "of {:?}", shape.octets);
-    assert_eq!(rt; fields.size, shape.size, "of {:?}", shape.octets);
-    assert_eq!(rt; fields.id_len, shape.id_len, "of {:?}", shape.octets);
+/// Whether the fields say what the shape says, and that the offset is named.
+fn are_of_shape(fields: &HeaderFields, shape: &Shape<'_>) -> bool {
+    fields.offset == OFFSET
+        && fields.named
+        && fields.class == shape.class
+        && fields.constructed == shape.constructed
+        && fields.number == shape.number
+        && fields.size == shape.size
+        && fields.id_len == shape.id_len
 }
 
 /// A header is made of fields and octets, and gives the fields again.
@@ -43,14 +38,11 @@ fn fields_make_headers(rt: HostRuntime) {
         let Some((fields, count)) = read_header(OFFSET, true, shape.octets) else {
             panic!(rt; "{:?} begins with no header", shape.octets);
         };
-        assert_eq!(rt; count, shape.octets.len());
         let header = Header::new(&fields, &shape.octets[..count]);
-        expect_shape(&rt, &header, shape);
-        assert_eq!(rt;
-            header.identifier(),
-            &shape.octets[..usize::from(shape.id_len)]
-        );
-        expect_fields(&rt, &header.fields(), shape);
+        let is_made = is_of_shape(&header, shape)
+            && shape.octets.get(..usize::from(shape.id_len)) == Some(header.identifier())
+            && are_of_shape(&header.fields(), shape);
+        assert!(rt; is_made, "{:?} of {:?}", header, shape.octets);
     }
 }
 
@@ -69,7 +61,10 @@ fn lengths_become_indefinite(rt: HostRuntime) {
             panic!(rt; "{:?} begins with no header", octets);
         };
         assert!(rt; header.constructed);
-        assert_eq!(rt; spell_indefinite(&header).as_slice(), want);
+        assert!(rt;
+            spell_indefinite(&header).as_slice() == want,
+            "of {octets:?}"
+        );
     }
 }
 
@@ -93,10 +88,10 @@ fn strings_wrap(rt: HostRuntime) {
         let Some((named, _)) = read_header(OFFSET, true, octets) else {
             panic!(rt; "{:?} begins with no header", octets);
         };
-        assert_eq!(rt; named.wraps(), wraps, "{:?}", octets);
-        let Some(unnamed) = front_header(octets) else {
-            panic!(rt; "{:?} begins with no header", octets);
+        let unnamed_wraps = match front_header(octets) {
+            Some(unnamed) => unnamed.wraps(),
+            None => true,
         };
-        assert!(rt; !unnamed.wraps(), "{:?}", octets);
+        assert!(rt; named.wraps() == wraps && !unnamed_wraps, "{:?}", octets);
     }
 }

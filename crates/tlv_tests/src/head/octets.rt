@@ -5,8 +5,9 @@ use tlv_head::{Class, FaultCode, Size};
 pub(crate) const OFFSET: u64 = 100;
 
 /// What a header says.
-pub(crate) struct Shape {
-    pub octets: &'static [u8],
+#[derive(Drop)]
+pub(crate) struct Shape<'a> {
+    pub octets: &'a [u8],
     pub class: Class,
     pub constructed: bool,
     pub number: u64,
@@ -15,7 +16,7 @@ pub(crate) struct Shape {
 }
 
 /// Headers in the forms that there are.
-pub(crate) static SHAPES: [Shape; 14] = [
+pub(crate) static SHAPES: [Shape<'static>; 14] = [
     Shape {
         octets: b"\x02\x7f",
         class: Class::Universal,
