@@ -51,78 +51,57 @@ const PLAIN: Layout = Layout {
     pure: false,
 };
 
-/// Writes the lines of the element at this offset into the room. Its contents come in two pieces, cut at `cut`, or behind
-/// the last octet. Answers how many octets were written.
+/// How contents come, and a drain takes its octets.
+#[derive(Clone, Copy)]
+struct Pieces {
+    /// The most octets of the first piece.
+    first: usize,
+    /// The most octets of each piece behind it.
+    size: usize,
+    /// The most octets of a write.
+    most: usize,
+}
+
+/// Two pieces, cut here, or behind the last octet.
+fn cut_at(cut: usize) -> Pieces
+    ensures { 1 ≤ result.size }
+{
+    Pieces {
+        first: cut,
+        size: usize::MAX,
+        most: 4096,
+    }
+}
+
+/// Writes the lines of the element at this offset into the room. Answers how many octets were written.
 fn show<N: NameTable>(
     element: &[u8],
     offset: u64,
     layout: Layout,
     names: &N,
-    cut: usize,
+    pieces: Pieces,
     room: &mut [u8],
-) -> Option<usize> {
+) -> Option<usize>
+    requires { 1 ≤ pieces.size }
+{
     let (fields, count) = read_header(offset, false, element)?;
     let header = Header::new(&fields, &element[..count]);
     let contents = &element[count..];
     if header.size != Size::Definite(contents.len() as u64) {
         return None;
     }
-    let (front, back) = contents.split_at(cut.min(contents.len()));
-    let mut drain = MemDrain::new(room, 4096);
+    let (front, back) = contents.split_at(pieces.first.min(contents.len()));
+    let mut drain = MemDrain::new(room, pieces.most);
     {
         let mut out = Out::new(&mut drain);
         let mut text = ValueText::new(&header, layout);
-        put_two(&mut text, front, back, names, &mut out)?;
+        put_pieces(&mut text, front, back, pieces.size, names, &mut out)?;
         out.flush().ok()?;
     }
     Some(drain.written().len())
 }
 
-/// Puts the lines of a primitive whose contents come in two pieces.
-fn put_two<N: NameTable, D: Drain>(
-    text: &mut ValueText,
-    front: &[u8],
-    back: &[u8],
-    names: &N,
-    out: &mut Out<'_, D>,
-) -> Option<()>
-    requires { text.old.left ≡ length front.now + length back.now }
-{
-    text.begin(out).ok()?;
-    text.bytes(front, out).ok()?;
-    text.bytes(back, out).ok()?;
-    text.end(names, out).ok()
-}
-
-/// The same with contents that come in pieces of `size` octets, but for the first, which has at most `first`.
-fn show_pieces<N: NameTable>(
-    element: &[u8],
-    layout: Layout,
-    names: &N,
-    first: usize,
-    size: usize,
-    room: &mut [u8],
-) -> Option<usize>
-    requires { 1 ≤ size }
-{
-    let (fields, count) = read_header(0, false, element)?;
-    let header = Header::new(&fields, &element[..count]);
-    let contents = &element[count..];
-    if header.size != Size::Definite(contents.len() as u64) {
-        return None;
-    }
-    let mut drain = MemDrain::new(room, 7);
-    {
-        let mut out = Out::new(&mut drain);
-        let mut text = ValueText::new(&header, layout);
-        let (front, back) = contents.split_at(first.min(contents.len()));
-        put_pieces(&mut text, front, back, size, names, &mut out)?;
-        out.flush().ok()?;
-    }
-    Some(drain.written().len())
-}
-
-/// Puts the lines of a primitive whose contents come in pieces of `size` octets behind the first.
+/// Puts the lines of a primitive whose contents come in pieces of `size` octets behind the first. The last may be empty.
 fn put_pieces<N: NameTable, D: Drain>(
     text: &mut ValueText,
     front: &[u8],
@@ -137,10 +116,13 @@ fn put_pieces<N: NameTable, D: Drain>(
     text.begin(out).ok()?;
     text.bytes(front, out).ok()?;
     let mut rest = back;
-    while !rest.is_empty() {
+    loop {
         let (piece, more) = rest.split_at(size.min(rest.len()));
         rest = more;
         text.bytes(piece, out).ok()?;
+        if rest.is_empty() {
+            break;
+        }
     }
     text.end(names, out).ok()
 }
@@ -183,9 +165,14 @@ fn expect_lines_named<N: NameTable>(
 ) {
     let mut room = [0; 1024];
     for cut in 0..element.len() {
-        let count = show(element, 0, layout, names, cut, &mut room);
+        let count = show(element, 0, layout, names, cut_at(cut), &mut room);
         assert!(rt; are_shown(&room, count, lines), "cut at {cut}: {:?}", lines);
     }
-    let count = show_pieces(element, layout, names, 0, 1, &mut room);
+    let octets = Pieces {
+        first: 0,
+        size: 1,
+        most: 7,
+    };
+    let count = show(element, 0, layout, names, octets, &mut room);
     assert!(rt; are_shown(&room, count, lines), "by octets: {:?}", lines);
 }

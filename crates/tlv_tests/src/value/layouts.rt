@@ -1,8 +1,7 @@
 //! Where lines stand, how many are written, and names behind object identifiers.
 use super::number_rows::LARGE_NUMBERS;
 use super::object_rows::LARGE_ARCS;
-use super::{OneName, PLAIN, are_shown, expect_lines, expect_lines_named, show};
-use std::test::Fail;
+use super::{OneName, PLAIN, are_shown, cut_at, expect_lines, expect_lines_named, show};
 use tlv_value::{Layout, Names};
 use tlv_walk::MemSource;
 
@@ -11,9 +10,11 @@ const DOTS: &str = "                   ...";
 
 /// An object identifier has its name behind it. A relative one has none, though its dotted text may be a name's.
 #[test]
-fn names_of_a_file_are_shown(rt: HostRuntime) -> Result<(), Fail> {
+fn names_of_a_file_are_shown(rt: HostRuntime) {
     let mut source = MemSource::new(b"1.2.840 us\n", &[], None);
-    let names = Names::read(rt.alloc(), &mut source)?;
+    let Ok(names) = Names::read(rt.alloc(), &mut source) else {
+        panic!(rt; "names");
+    };
     for (element, line) in [
         (
             b"\x06\x03\x2a\x86\x48".as_slice(),
@@ -30,7 +31,6 @@ fn names_of_a_file_are_shown(rt: HostRuntime) -> Result<(), Fail> {
     ] {
         expect_lines_named(&rt, element, PLAIN, &names, &[line]);
     }
-    Ok(())
 }
 
 /// Elements inside others: the first column is the offset, and the tag text stands two columns further for each level.
@@ -54,7 +54,7 @@ fn places(rt: HostRuntime) {
         (b"\x04\x02es", 7, 1, "       7      2:   OCTET STRING 65 73"),
     ] {
         let layout = Layout { level, ..PLAIN };
-        let count = show(element, offset, layout, &OneName, 0, &mut room);
+        let count = show(element, offset, layout, &OneName, cut_at(0), &mut room);
         assert!(rt; are_shown(&room, count, &[line]), "{line}");
     }
 }

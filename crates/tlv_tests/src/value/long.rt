@@ -1,5 +1,5 @@
 //! A long value.
-use super::{OneName, PLAIN, are_lines, show, show_pieces};
+use super::{OneName, PLAIN, Pieces, are_lines, cut_at, show};
 
 /// 64 letters in quotation marks, behind the columns of a row.
 const ROW: &str =
@@ -38,11 +38,16 @@ fn letters_are_shown(rt: HostRuntime) {
     let mut room = [0; 12288];
     // Where 4096 octets are read at a time, the first four are the header's.
     for (first, size) in [(4092, 4096), (0, 1), (1, 63), (63, 64), (64, 65), (5, 1000)] {
-        let count = show_pieces(&element, PLAIN, &OneName, first, size, &mut room);
+        let pieces = Pieces {
+            first,
+            size,
+            most: 7,
+        };
+        let count = show(&element, 0, PLAIN, &OneName, pieces, &mut room);
         assert!(rt; are_shown(&room, count));
     }
     for i in 0..127 {
-        let count = show(&element, 0, PLAIN, &OneName, 65 * i, &mut room);
+        let count = show(&element, 0, PLAIN, &OneName, cut_at(65 * i), &mut room);
         assert!(rt; are_shown(&room, count));
     }
 }
