@@ -22,7 +22,7 @@ pub(crate) struct Row<'a> {
 }
 
 /// A row of the outermost element of an input, whole, read without options.
-const PLAIN: Row<'static> = Row {
+pub(crate) const PLAIN: Row<'static> = Row {
     name: "",
     inside: &[],
     padding: false,

@@ -1,9 +1,9 @@
 //! Extracts over memory: what they write and answer, in whatever pieces the octets come, and where a
 //! device fails.
-use super::extract_rows::{ELEMENTS, PADDED, Row, WRAPPED};
+use super::extract_rows::{ELEMENTS, PADDED, PLAIN, Row, WRAPPED};
 use std::process::Abort;
 use tlv_cut::{Cut, Extract, Indef, extract};
-use tlv_walk::{DeviceFault, Ending, Framing, Inside, MemDrain, MemSource, drive};
+use tlv_walk::{DeviceFault, Follow, Framing, Inside, MemDrain, MemSource, drive};
 
 /// Cuts into single octets: as many as the rows' inputs have, and more.
 const ONES: [u64; 16] = [1; 16];
@@ -23,17 +23,24 @@ fn tables() -> [&'static [Row<'static>]; 3] {
     [&ELEMENTS, &WRAPPED, &PADDED]
 }
 
-/// Extracts into the room what the row asks for, and expects these octets and this answer.
-fn expect_extract(
-    rt: &impl Abort,
+/// What an extract answers that comes to the row's end.
+fn answer_of(row: &Row<'_>) -> Result<Cut, DeviceFault> {
+    Ok(Cut {
+        ending: row.ending,
+        found: row.found,
+    })
+}
+
+/// Whether an extract of what the row asks for writes these octets into the room, and answers this.
+fn extracts(
     row: &Row<'_>,
     devices: Devices<'_>,
     room: &mut [u8],
     written: &[u8],
     answer: Result<Cut, DeviceFault>,
-) {
+) -> bool {
     let Some(inside) = Inside::new(row.inside) else {
-        panic!(rt; "{}: offsets", row.name);
+        return false;
     };
     let framing = Framing {
         inside,
@@ -48,23 +55,23 @@ fn expect_extract(
         row.contents_only,
         &framing,
     );
-    assert_eq!(rt; drain.written(), written, "{}", row.name);
-    assert_eq!(rt; cut, answer, "{}", row.name);
+    drain.written() == written && cut == answer
 }
 
-/// Expects the row's own octets and answer, of an input that comes in these pieces.
+/// Expects the row's own octets and answer, of devices that do not fail before.
+fn expect_whole(rt: &impl Abort, row: &Row<'_>, devices: Devices<'_>, room: &mut [u8]) {
+    let is_whole = extracts(row, devices, room, row.written, answer_of(row));
+    assert!(rt; is_whole, "{}", row.name);
+}
+
+/// Expects them of an input that comes in these pieces.
 fn expect_row(rt: &impl Abort, row: &Row<'_>, cuts: &[u64], fail_at: Option<u64>) {
-    let mut room = [0; 16];
     let devices = Devices {
         cuts,
         fail_at,
         most: 4096,
     };
-    let cut = Cut {
-        ending: row.ending,
-        found: row.found,
-    };
-    expect_extract(rt, row, devices, &mut room, row.written, Ok(cut));
+    expect_whole(rt, row, devices, &mut [0; 16]);
 }
 
 /// Whole, in single octets, and in every cut into two pieces.
@@ -81,24 +88,29 @@ fn pieces_do_not_show(rt: HostRuntime) {
     }
 }
 
+/// Expects the read of this number to fail, behind so many octets that are written.
+fn expect_failed_read(rt: &impl Abort, row: &Row<'_>, read: u64, come: usize) {
+    let devices = Devices {
+        cuts: &ONES,
+        fail_at: Some(read),
+        most: 4096,
+    };
+    let answer = Err(DeviceFault::ReadFailed);
+    let is_failed = match row.written.get(..come) {
+        Some(written) => extracts(row, devices, &mut [0; 16], written, answer),
+        None => false,
+    };
+    assert!(rt; is_failed, "{}", row.name);
+}
+
 /// Each read of one octet fails in turn. No read is made behind a whole element, nor behind an octet
 /// that is refused.
 #[test]
 fn reads_fail(rt: HostRuntime) {
-    let mut room = [0; 16];
     for rows in tables() {
         for row in rows {
             for (read, &come) in row.come.iter().enumerate() {
-                let Some(written) = row.written.get(..come) else {
-                    panic!(rt; "{}: octets", row.name);
-                };
-                let devices = Devices {
-                    cuts: &ONES,
-                    fail_at: Some(read as u64),
-                    most: 4096,
-                };
-                let answer = Err(DeviceFault::ReadFailed);
-                expect_extract(&rt, row, devices, &mut room, written, answer);
+                expect_failed_read(&rt, row, read as u64, come);
             }
             expect_row(&rt, row, &ONES, Some(row.come.len() as u64));
         }
@@ -109,16 +121,12 @@ fn reads_fail(rt: HostRuntime) {
 fn expect_too_little_room(rt: &impl Abort, row: &Row<'_>, devices: Devices<'_>) {
     for size in 0..row.written.len() {
         let mut room = [0; 16];
-        assert!(rt; size <= room.len());
         let answer = Err(DeviceFault::WriteFailed);
-        expect_extract(
-            rt,
-            row,
-            devices,
-            &mut room[..size],
-            &row.written[..size],
-            answer,
-        );
+        let is_failed = match room.get_mut(..size) {
+            Some(room) => extracts(row, devices, room, &row.written[..size], answer),
+            None => false,
+        };
+        assert!(rt; is_failed, "{}", row.name);
     }
 }
 
@@ -143,16 +151,14 @@ fn writes_fail(rt: HostRuntime) {
 /// The element is whole with the first read, and the second would fail.
 #[test]
 fn nothing_is_read_behind_the_element(rt: HostRuntime) {
-    let mut room = [0; 16];
-    let mut source = MemSource::new(b"\x30\x80\x02\x01\x05\x02", &[5], Some(1));
-    let mut drain = MemDrain::new(&mut room, 4096);
-    let cut = extract(&mut source, &mut drain, 2, false, &Framing::plain());
-    assert_eq!(rt; drain.written(), b"\x02\x01\x05".as_slice());
-    let whole = Cut {
-        ending: Ending::Done,
-        found: true,
+    let row = Row {
+        name: "an element that is whole with the first read",
+        input: b"\x30\x80\x02\x01\x05\x02",
+        offset: 2,
+        written: b"\x02\x01\x05",
+        ..PLAIN
     };
-    assert_eq!(rt; cut, Ok(whole));
+    expect_row(&rt, &row, &[5], Some(1));
 }
 
 /// A string of 8193 octets, which come with three reads.
@@ -160,16 +166,20 @@ fn nothing_is_read_behind_the_element(rt: HostRuntime) {
 fn contents_longer_than_a_piece(rt: HostRuntime) {
     let mut input = [0x61; 8199];
     input[..6].copy_from_slice(b"\x30\x80\x0c\x82\x20\x01");
-    let mut room = [0; 8200];
-    let mut source = MemSource::new(&input, &[], None);
-    let mut drain = MemDrain::new(&mut room, 8200);
-    let cut = extract(&mut source, &mut drain, 2, true, &Framing::plain());
-    assert_eq!(rt; drain.written(), &input[6..]);
-    let whole = Cut {
-        ending: Ending::Done,
-        found: true,
+    let row = Row {
+        name: "a string of 8193 octets",
+        input: &input,
+        offset: 2,
+        contents_only: true,
+        written: &input[6..],
+        ..PLAIN
     };
-    assert_eq!(rt; cut, Ok(whole));
+    let devices = Devices {
+        cuts: &[],
+        fail_at: None,
+        most: 8200,
+    };
+    expect_whole(&rt, &row, devices, &mut [0; 8200]);
 }
 
 /// Indefinite elements, 128 of them one in another, and a NULL in the innermost.
@@ -183,56 +193,51 @@ fn nested() -> [u8; 514] {
     input
 }
 
-/// Expects this element of them to be written, in whatever pieces the octets come.
-fn expect_nested(rt: &impl Abort, offset: u64, written: &[u8]) {
-    let input = nested();
+/// Expects the row's element to be written, in whatever pieces the octets come.
+fn expect_nested(rt: &impl Abort, row: &Row<'_>) {
     for cuts in [&[], [1; 514].as_slice()] {
-        let mut room = [0; 600];
-        let mut source = MemSource::new(&input, cuts, None);
-        let mut drain = MemDrain::new(&mut room, 7);
-        let cut = extract(&mut source, &mut drain, offset, false, &Framing::plain());
-        assert_eq!(rt; drain.written(), written);
-        let whole = Cut {
-            ending: Ending::Done,
-            found: true,
+        let devices = Devices {
+            cuts,
+            fail_at: None,
+            most: 7,
         };
-        assert_eq!(rt; cut, Ok(whole));
+        expect_whole(rt, row, devices, &mut [0; 600]);
     }
 }
 
 #[test]
 fn elements_128_deep(rt: HostRuntime) {
-    expect_nested(&rt, 0, &nested());
-    expect_nested(&rt, 254, b"\x30\x80\x05\x00\x00\x00");
-    expect_nested(&rt, 256, b"\x05\x00");
+    let input = nested();
+    for (name, offset, written) in [
+        ("the outermost", 0, input.as_slice()),
+        ("the innermost", 254, b"\x30\x80\x05\x00\x00\x00"),
+        ("the NULL", 256, b"\x05\x00"),
+    ] {
+        let row = Row {
+            name,
+            input: &input,
+            offset,
+            written,
+            ..PLAIN
+        };
+        expect_nested(&rt, &row);
+    }
 }
 
-/// A follower by itself: it finds its element, and writes the contents alone.
-#[test]
-fn a_follower_finds_its_element(rt: HostRuntime) {
+/// Whether the follower by itself writes these octets of a SEQUENCE that holds an INTEGER.
+fn writes<F: Follow>(follower: &mut F, written: &[u8]) -> bool {
     let mut room = [0; 8];
     let mut source = MemSource::new(b"\x30\x03\x02\x01\x05", &[], None);
     let mut drain = MemDrain::new(&mut room, 8);
+    let run = drive(&mut source, follower, &mut drain, &Framing::plain());
+    run.is_ok() && drain.written() == written
+}
+
+/// Followers by themselves: one finds its element, and writes the contents alone, and one writes the
+/// indefinite form.
+#[test]
+fn followers_write_by_themselves(rt: HostRuntime) {
     let mut follower = Extract::new(2, true);
-    assert!(rt; !follower.found());
-    let run = drive(&mut source, &mut follower, &mut drain, &Framing::plain());
-    assert!(rt; run.is_ok());
-    assert_eq!(rt; drain.written(), b"\x05".as_slice());
-    assert!(rt; follower.found());
-}
-
-/// A follower by itself writes the indefinite form.
-#[test]
-fn a_follower_writes_indefinite_lengths(rt: HostRuntime) {
-    let mut room = [0; 8];
-    let mut source = MemSource::new(b"\x30\x03\x02\x01\x05", &[], None);
-    let mut drain = MemDrain::new(&mut room, 8);
-    let run = drive(
-        &mut source,
-        &mut Indef::new(),
-        &mut drain,
-        &Framing::plain(),
-    );
-    assert!(rt; run.is_ok());
-    assert_eq!(rt; drain.written(), b"\x30\x80\x02\x01\x05\x00\x00".as_slice());
+    assert!(rt; !follower.found() && writes(&mut follower, b"\x05") && follower.found());
+    assert!(rt; writes(&mut Indef::new(), b"\x30\x80\x02\x01\x05\x00\x00"));
 }
