@@ -4,7 +4,7 @@ use Rattle.std.specs.List.{filter, list_any}
 use Rattle.tlv_head.specs.Header.{Heading}
 use Rattle.tlv_value.specs.declared.finding.Finding.{Finding}
 use Rattle.tlv_value.specs.Checks.{contents_findings as found_on_contents, held}
-use Rattle.tlv_value.specs.Finding.{code_of}
+use Rattle.tlv_value.specs.Finding.{wording_of}
 use Rattle.tlv_show.specs.declared.rules.Rules.{Rules}
 use Rattle.tlv_show.specs.declared.rules.Rules.TheVariants.{Ber, Der, Cer}
 use Rattle.tlv_show.specs.Conditions.{header_conditions}
@@ -17,7 +17,7 @@ letters Der = codes "BSD"
 letters Cer = codes "BSC"
 
 abbrev pub shows : Rules → Finding → Bool
-shows rules finding = list_any (eqb (slice_index (code_of finding) 0)) (letters rules)
+shows rules finding = list_any (eqb (slice_index (wording_of finding).0 0)) (letters rules)
 
 -- ---- Words of laws, proofs and private functions alone
 

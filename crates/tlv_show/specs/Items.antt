@@ -1,15 +1,15 @@
 -- What is told of elements, item by item. The lines of a dump and of a check and the number of findings are those of the
 -- items, so their order is this one.
-use Rattle.std.specs.Prelude.{ℕ, Bool, if◌then◌else◌, List, [], ◌∷◌, ◌++◌, filter, map, Option}
-use Rattle.tlv_head.specs.Header.{Heading}
+use Rattle.std.specs.Prelude.{ℕ, ◌+◌, Bool, if◌then◌else◌, List, [], ◌∷◌, ◌++◌, filter, length, map, None, Option, slice_get}
+use Rattle.tlv_head.specs.Header.{Heading, octets_of}
 use Rattle.tlv_value.specs.declared.finding.Finding.{Finding}
 use Rattle.tlv_value.specs.Checks.{contents_conditions, held}
-use Rattle.tlv_walk.specs.Forest.{Forest, Fill, Whole, Closed, Partial, Entered, Awaiting}
+use Rattle.tlv_walk.specs.Forest.{Forest, Fill, Whole, Closed, Partial, Entered, Awaiting, extent}
 use Rattle.tlv_show.specs.declared.rules.Rules.{Rules}
 use Rattle.tlv_show.specs.Conditions.{end_conditions, header_conditions}
 use Rattle.tlv_show.specs.DumpText.{end_place}
 use Rattle.tlv_show.specs.Found.{shows}
-use Rattle.tlv_show.specs.Site.{Site, behind, behind_holder, behind_padding, inside_of, is_padding}
+use Rattle.tlv_show.specs.Site.{Padding, Sibling, Site, inside_of, is_padding, onward}
 
 -- an item, with its level: how many elements hold what it is about
 pub data Item : Type 0 where
@@ -24,14 +24,11 @@ pub data Item : Type 0 where
   -- padding begins at this offset
   PaddingLine : (level offset : ℕ) → Item
 
--- the headers of elements one after another
+-- the headers of whole elements one after another
 abbrev pub heads : Forest → List Heading
 heads (Fill rest) = heads rest
 heads (Whole h c rest) = h ∷ heads rest
 heads (Closed h inside rest) = h ∷ heads rest
-heads (Partial h c) = h ∷ []
-heads (Entered h inside) = h ∷ []
-heads (Awaiting h) = h ∷ []
 heads _ = []
 
 module _ (rules : Rules) where
@@ -42,12 +39,12 @@ module _ (rules : Rules) where
   -- of elements from there on. What is found with the header comes before the element's first line, all else behind its last
   abbrev pub items : Site → Forest → List Item
   -- a run of padding has one line
-  items s (Fill rest) = (if is_padding s.before then [] else PaddingLine s.level s.at ∷ []) ++ items (behind_padding s) rest
-  items s (Whole h c rest) =
-      told s h (header_conditions s h) ++ (WholePrimitive s.level h c ∷ told s h (contents_conditions h c) ++ items (behind s h c) rest)
+  items s (Fill rest) = (if is_padding s.before then [] else PaddingLine s.level s.at ∷ []) ++ items (onward s 1 Padding) rest
+  items s (Whole h c rest) = told s h (header_conditions s h) ++ (WholePrimitive s.level h c ∷ told s h (contents_conditions h c)
+      ++ items (onward s (length (octets_of h) + length c) (Sibling h (slice_get c 0))) rest)
   items s (Closed h inside rest) =
       told s h (header_conditions s h) ++ (OpeningLine s.level h ∷ items (inside_of s h) inside
-      ++ (ClosingLine s.level (end_place h inside) ∷ told s h (end_conditions h (heads inside)) ++ items (behind_holder s h inside) rest))
+      ++ (ClosingLine s.level (end_place h inside) ∷ told s h (end_conditions h (heads inside)) ++ items (onward s (extent h inside) (Sibling h None)) rest))
   items s (Partial h c) = told s h (header_conditions s h) ++ OpenPrimitive s.level h c ∷ []
   items s (Entered h inside) = told s h (header_conditions s h) ++ OpeningLine s.level h ∷ items (inside_of s h) inside
   items s (Awaiting h) = told s h (header_conditions s h) ++ OpeningLine s.level h ∷ []

@@ -2,16 +2,14 @@
 use Rattle.std.specs.Prelude.{ℕ, List, ◌++◌, Option, codes, decimal}
 use Rattle.std.specs.Option.{option_map_or}
 use Rattle.tlv_head.specs.declared.header.Size.{Size}
-use Rattle.tlv_head.specs.declared.header.Size.TheVariants.{Definite, Indefinite}
-use Rattle.tlv_head.specs.Header.{Heading}
+use Rattle.tlv_head.specs.Header.{Heading, definite_length}
 use Rattle.tlv_head.specs.Tag.{tag_text_of}
 use Rattle.tlv_value.specs.declared.layout.Layout.{Layout}
 use Rattle.tlv_value.specs.Layout.{columns, line, no_columns}
 
 -- 8.1.3: a length, or the word for the indefinite form
 abbrev pub size_text : Size → List ℕ
-size_text (Definite n) = decimal n
-size_text Indefinite = codes "indef"
+size_text size = option_map_or decimal (definite_length size) (codes "indef")
 
 -- ---- Words of private functions and proofs alone
 

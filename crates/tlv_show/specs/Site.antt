@@ -27,20 +27,13 @@ pub record Site : Type 0 where
 abbrev pub top : Site
 top = record { at = 0; level = 0; holder = None; before = Start }
 
--- behind a primitive
-abbrev pub behind : Site → Heading → List ℕ → Site
-behind s h c = record s { at = s.at + (length (octets_of h) + length c); before = Sibling h (slice_get c 0) }
+-- so many octets on, behind this
+abbrev pub onward : Site → ℕ → Before → Site
+onward s octets before = record s { at = s.at + octets; before = before }
 
--- inside an element that holds others, and behind it
+-- inside an element that holds others
 abbrev pub inside_of : Site → Heading → Site
 inside_of s h = record { at = s.at + length (opening h); level = s.level + 1; holder = Some h; before = Start }
-
-abbrev pub behind_holder : Site → Heading → Forest → Site
-behind_holder s h inside = record s { at = s.at + extent h inside; before = Sibling h None }
-
--- behind an octet of padding
-abbrev pub behind_padding : Site → Site
-behind_padding s = record s { at = s.at + 1; before = Padding }
 
 abbrev pub is_padding : Before → Bool
 is_padding Padding = true
@@ -52,3 +45,15 @@ in_string s = option_map_or has_segments s.holder false
 
 abbrev pub in_bit_string : Site → Bool
 in_bit_string s = option_map_or (λ h. has_segments h && is_a bit_string h) s.holder false
+
+-- ---- Words of proofs alone
+
+-- behind a primitive, behind an element that holds others, and behind an octet of padding
+abbrev pub behind : Site → Heading → List ℕ → Site
+behind s h c = onward s (length (octets_of h) + length c) (Sibling h (slice_get c 0))
+
+abbrev pub behind_holder : Site → Heading → Forest → Site
+behind_holder s h inside = onward s (extent h inside) (Sibling h None)
+
+abbrev pub behind_padding : Site → Site
+behind_padding s = onward s 1 Padding

@@ -8,12 +8,9 @@ abbrev pub parts_of : List ℕ → List (List ℕ)
 parts_of [] = []
 parts_of (x ∷ xs) = if nat_lt x 128 then (x ∷ []) ∷ parts_of xs else onto_first x (parts_of xs)
 
--- bits 7 to 1 of the octets, put together
-abbrev pub subidentifier : List ℕ → ℕ
-subidentifier part = value_of 128 (map (λ x. x % 128) part)
-
+-- of each part bits 7 to 1 of its octets, put together
 abbrev pub subidentifiers : List ℕ → List ℕ
-subidentifiers octets = map subidentifier (parts_of octets)
+subidentifiers octets = map (λ part. value_of 128 (map (λ x. x % 128) part)) (parts_of octets)
 
 -- 8.19.3, 8.20.3: the arcs; those of a relative object identifier are the subidentifiers
 -- 8.19.4: else the first subidentifier stands for two arcs
@@ -32,3 +29,8 @@ dotted_text relative octets =
     if is_finished octets && nat_le (length octets) 64 && list_all (λ v. nat_lt v (2 ^ 128)) (subidentifiers octets)
     then Some (join_by decimal (codes ".") (arcs_of relative (subidentifiers octets)))
     else None
+
+-- ---- A word of private functions and of proofs
+
+abbrev pub subidentifier : List ℕ → ℕ
+subidentifier part = value_of 128 (map (λ x. x % 128) part)

@@ -9,33 +9,32 @@ use Rattle.tlv_value.specs.Kind.{is_text}
 abbrev pub row_size : Kind → ℕ
 row_size kind = if is_text kind then 64 else 16
 
--- RFC 3629, 4: of how many octets a character is that begins with this one
-abbrev pub utf8_length : ℕ → ℕ
-utf8_length x = if is_in_range 0xc2 0xdf x then 2 else if is_in_range 0xe0 0xef x then 3 else if is_in_range 0xf0 0xf4 x then 4 else 1
-
--- how many octets want to stand in one row, from this one on
+-- how many octets want to stand in one row, from this one on. RFC 3629, 4: those of a character, by its first octet
 abbrev pub announced : Kind → ℕ → ℕ
-announced Utf8 x = utf8_length x
+announced Utf8 x = if is_in_range 0xc2 0xdf x then 2 else if is_in_range 0xe0 0xef x then 3 else if is_in_range 0xf0 0xf4 x then 4 else 1
 announced _ x = 1
-
--- the octet has room in a row of so many octets
-abbrev pub has_room : Kind → ℕ → ℕ → Bool
-has_room kind octets x = nat_le (octets + announced kind x) (row_size kind)
 
 -- the rows of octets behind a row that has begun: a row is full with its last octet, or with the octet behind it that has no
 -- room in it. The last row stands among them where it is full, and where the contents are whole if it has octets
 abbrev pub rows_from : Kind → Bool → List ℕ → List ℕ → List (List ℕ)
 rows_from kind whole row [] = if whole && not (length row == 0) then row ∷ [] else []
 rows_from kind whole row (x ∷ xs) =
-    if has_room kind (length row) x
+    if nat_le (length row + announced kind x) (row_size kind)
     then (if eqb (length row + 1) (row_size kind) then (row ++ x ∷ []) ∷ rows_from kind whole [] xs else rows_from kind whole (row ++ x ∷ []) xs)
     else row ∷ rows_from kind whole (x ∷ []) xs
+
+-- ---- Words of laws, private functions and proofs: rows as they become full
 
 -- all rows of the contents
 abbrev pub rows_of : Kind → List ℕ → List (List ℕ)
 rows_of kind octets = rows_from kind true [] octets
 
--- ---- Words of private functions and of proofs: rows as they become full
+abbrev pub utf8_length : ℕ → ℕ
+utf8_length x = announced Utf8 x
+
+-- the octet has room in a row of so many octets
+abbrev pub has_room : Kind → ℕ → ℕ → Bool
+has_room kind octets x = nat_le (octets + announced kind x) (row_size kind)
 
 -- the rows that are full
 abbrev pub full_rows : Kind → List ℕ → List ℕ → List (List ℕ)

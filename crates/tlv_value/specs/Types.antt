@@ -30,10 +30,6 @@ is_a number h = is_universal h.class && h.number == number
 abbrev pub is_one_of : List ℕ → Heading → Bool
 is_one_of numbers h = is_universal h.class && list_any (eqb h.number) numbers
 
--- no type has the number
-abbrev pub is_unassigned : Heading → Bool
-is_unassigned h = is_universal h.class && (h.number == 0 || h.number == 15 || nat_le 37 h.number)
-
 -- 8.3, 8.4: INTEGER, ENUMERATED
 abbrev pub integer_types : List ℕ
 integer_types = 2 ∷ 10 ∷ []
@@ -63,3 +59,9 @@ is_primitive h = not h.constructed
 -- 8.6.4, 8.7.3: a constructed string, which holds segments
 abbrev pub has_segments : Heading → Bool
 has_segments h = h.constructed && is_string h
+
+-- ---- A word of private functions and proofs
+
+-- no type has the number
+abbrev pub is_unassigned : Heading → Bool
+is_unassigned h = is_universal h.class && (h.number == 0 || h.number == 15 || nat_le 37 h.number)

@@ -4,7 +4,7 @@ use Rattle.std.specs.Str.{is_utf8}
 use Rattle.hex.specs.Hex.{encode_lower}
 use Rattle.tlv_value.specs.declared.kind.Kind.{Kind}
 use Rattle.tlv_value.specs.declared.kind.Kind.TheVariants.{Utf8, Ucs2, Ucs4}
-use Rattle.tlv_value.specs.Rows.{utf8_length}
+use Rattle.tlv_value.specs.Rows.{announced}
 
 -- 22 is the quotation mark, 5c the reverse solidus
 abbrev pub printable_text : ℕ → List ℕ
@@ -15,10 +15,6 @@ is_printable x = nat_le 0x20 x && nat_le x 0x7e
 
 abbrev pub escaped_octet : ℕ → List ℕ
 escaped_octet x = codes "\\x" ++ encode_lower (x ∷ [])
-
--- a character of one octet
-abbrev pub octet_text : ℕ → List ℕ
-octet_text x = if is_printable x then printable_text x else escaped_octet x
 
 -- 30 is the digit 0
 abbrev pub without_zeros : List ℕ → List ℕ
@@ -45,7 +41,7 @@ three_octets n = n / 65536 % 256 ∷ n / 256 % 256 ∷ n % 256 ∷ []
 abbrev pub unit_size : Kind → List ℕ → ℕ
 unit_size Ucs2 octets = if nat_le 2 (length octets) then 2 else 1
 unit_size Ucs4 octets = if nat_le 4 (length octets) then 4 else 1
-unit_size Utf8 octets = if is_utf8 (take (utf8_length (slice_index octets 0)) octets) then length (take (utf8_length (slice_index octets 0)) octets) else 1
+unit_size Utf8 octets = if is_utf8 (take (announced Utf8 (slice_index octets 0)) octets) then length (take (announced Utf8 (slice_index octets 0)) octets) else 1
 unit_size _ octets = 1
 
 -- the units in order, behind octets that belong to one before them
@@ -65,8 +61,14 @@ unit_text Ucs4 (a ∷ b ∷ c ∷ d ∷ []) =
 unit_text Ucs4 (a ∷ more) = escaped_octet a
 unit_text Utf8 (a ∷ b ∷ more) = escaped_number (three_octets (utf8_number (a ∷ b ∷ more)))
 -- an octet that is a character by itself, or belongs to none
-unit_text kind (a ∷ more) = octet_text a
+unit_text kind (a ∷ more) = if is_printable a then printable_text a else escaped_octet a
 
 -- a row of characters, in quotation marks
 abbrev pub quoted : Kind → List ℕ → List ℕ
 quoted kind row = 0x22 ∷ flat_map (unit_text kind) (units kind 0 row) ++ 0x22 ∷ []
+
+-- ---- A word of private functions and proofs
+
+-- a character of one octet, or an octet that is none
+abbrev pub octet_text : ℕ → List ℕ
+octet_text x = if is_printable x then printable_text x else escaped_octet x

@@ -9,8 +9,8 @@ use Rattle.tlv_value.specs.declared.kind.Kind.TheVariants.{Boolean, Integer, Bit
 use Rattle.tlv_value.specs.Arcs.{dotted_text}
 use Rattle.tlv_value.specs.Bits.{bits_of}
 use Rattle.tlv_value.specs.Kind.{is_text}
-use Rattle.tlv_value.specs.Number.{twos_complement}
-use Rattle.tlv_value.specs.Rows.{row_size, rows_from, rows_of}
+use Rattle.tlv_value.specs.Number.{signed_sum}
+use Rattle.tlv_value.specs.Rows.{row_size, rows_from}
 use Rattle.tlv_value.specs.Units.{quoted}
 
 -- what the element's line has behind the tag text, and the octets of each row
@@ -32,7 +32,7 @@ spaced_pairs octets = flat_map (λ x. 0x20 ∷ encode_lower (x ∷ [])) octets
 -- up to 16 octets stand on the line
 abbrev pub octets_value : List ℕ → Value
 octets_value octets =
-    if nat_le (length octets) 16 then record { text = spaced_pairs octets; rows = [] } else record { text = []; rows = rows_of Octets octets }
+    if nat_le (length octets) 16 then record { text = spaced_pairs octets; rows = [] } else record { text = []; rows = rows_from Octets true [] octets }
 
 abbrev pub bit_count : ℕ → ℕ → List ℕ
 bit_count unused octets = decimal (8 * octets - unused) ++ codes " bits"
@@ -54,7 +54,7 @@ abbrev pub held_value : NameOf → Kind → List ℕ → Value
 -- 8.2.2: FALSE is zero
 held_value name_of Boolean (x ∷ []) = shown_with (if eqb x 0 then codes "FALSE" else codes "TRUE")
 -- 8.3.3, 8.4
-held_value name_of Integer (x ∷ xs) = shown_with (signed_decimal (twos_complement (x ∷ xs)))
+held_value name_of Integer (x ∷ xs) = shown_with (signed_decimal (signed_sum (bits_of (x ∷ xs))))
 -- 8.6.2: the first octet is the number of unused bits in the last one: at most 7, and none where there is no octet for them
 held_value name_of Bits (unused ∷ octets) =
     if nat_le unused 7 && (eqb unused 0 || not (eqb (length octets) 0))

@@ -29,7 +29,7 @@ use Rattle.tlv_walk.specs.Private.Follows.{Fails, Follows, FollowsTo, GoesOnIn, 
 use Rattle.tlv_walk.specs.Forest.{Forest, spell}
 use Rattle.tlv_walk.specs.Job.{IsFinalEnding}
 use Rattle.tlv_walk.specs.Laws.{AreOctets}
-use Rattle.tlv_walk.specs.Machine.{Machine, unused_in}
+use Rattle.tlv_walk.specs.Machine.{Machine}
 use Rattle.tlv_walk.specs.Out.{Puts, Sends, held_in, lender_of}
 use Rattle.tlv_walk.specs.Place.{top}
 use Rattle.tlv_walk.specs.Reading.{IsReading}
