@@ -1,5 +1,5 @@
 //! The follower that writes one element, or its contents.
-ghost use Rattle.std.specs.Prelude.{◌≡◌, OnOk};
+ghost use Rattle.std.specs.Prelude.{◌≡◌};
 ghost use Rattle.tlv_walk.specs.Follow.{IsFollowed, each_octet};
 ghost use Rattle.tlv_walk.specs.Out.{Puts};
 ghost use Rattle.tlv_cut.specs.Extracted.{begun, ended, has_begun, one_passed, waiting};
@@ -57,8 +57,8 @@ impl Extract {
     }
 
     /// An element begins.
-    fn begin<D: Drain>(&mut self, header: &Header, out: &mut Out<'_, D>) -> Result<(), WriteFault>
-        ensures state { OnOk result (self.new ≡ (begun self.old.stand self.old header.now).state) }
+    fn begin<D: Drain>(&mut self, header: &Header, out: &mut Out<'_, D>) -> Result<Go, WriteFault>
+        ensures state { IsFollowed (begun self.old.stand self.old header.now) self.new result }
         ensures puts { Puts D.told out.old out.new (begun self.old.stand self.old header.now).put result }
     {
         match self.stand {
@@ -74,10 +74,19 @@ impl Extract {
             }
             _ => {}
         }
-        Ok(())
+        Ok(Go::On)
     }
 
     /// Contents octets come.
+    fn contents<D: Drain>(&self, octets: &[u8], out: &mut Out<'_, D>) -> Result<Go, WriteFault>
+        ensures state { IsFollowed (each_octet one_passed self.now octets.now) self.now result }
+        ensures puts { Puts D.told out.old out.new (each_octet one_passed self.now octets.now).put result }
+    {
+        self.pass(octets, out)?;
+        Ok(Go::On)
+    }
+
+    /// Puts contents octets of the element wanted.
     fn pass<D: Drain>(&self, octets: &[u8], out: &mut Out<'_, D>) -> Result<(), WriteFault>
         ensures { Puts D.told out.old out.new (each_octet one_passed self.now octets.now).put result }
     {
@@ -133,14 +142,13 @@ impl Follow for Extract {
     fn on<D: Drain>(&mut self, event: &Event<'_>, out: &mut Out<'_, D>) -> Result<Go, WriteFault> {
         match event {
             Event::Open(header) | Event::Begin(header) | Event::Enter(header) => {
-                self.begin(header, out)?
+                self.begin(header, out)
             }
-            Event::Bytes(octets) => self.pass(octets, out)?,
-            Event::Unused => self.pass(&[0], out)?,
-            Event::Close(Some(_)) => return self.end(&[0, 0], out),
-            Event::Close(None) | Event::End | Event::Leave => return self.end(&[], out),
-            Event::Pad(_) => {}
+            Event::Bytes(octets) => self.contents(octets, out),
+            Event::Unused => self.contents(&[0], out),
+            Event::Close(Some(_)) => self.end(&[0, 0], out),
+            Event::Close(None) | Event::End | Event::Leave => self.end(&[], out),
+            Event::Pad(_) => Ok(Go::On),
         }
-        Ok(Go::On)
     }
 }

@@ -1,5 +1,8 @@
 //! The follower that writes indefinite lengths.
 ghost use Rattle.std.specs.Prelude.{◌≡◌};
+ghost use Rattle.tlv_walk.specs.Out.{Puts};
+ghost use Rattle.tlv_walk.specs.Tells.{told_of};
+ghost use Rattle.tlv_cut.specs.IndefNext.{respelled_event};
 ghost use Rattle.tlv_cut.specs.declared.indefinite.Indef.{Indef as IndefOf};
 
 use tlv_head::spell_indefinite;
@@ -43,18 +46,23 @@ impl Follow for Indef {
 
     #[inline(always)]
     fn on<D: Drain>(&mut self, event: &Event<'_>, out: &mut Out<'_, D>) -> Result<Go, WriteFault> {
-        match event {
-            Event::Open(header) if header.constructed => {
-                out.put(spell_indefinite(header).as_slice())?;
-            }
-            Event::Open(header) | Event::Begin(header) | Event::Enter(header) => {
-                out.put(header.raw())?;
-            }
-            Event::Bytes(octets) | Event::Pad(octets) => out.put(octets)?,
-            Event::Unused => out.put(&[0])?,
-            Event::Close(_) => out.put(&[0, 0])?,
-            Event::End | Event::Leave => {}
-        }
+        put_event(event, out)?;
         Ok(Go::On)
+    }
+}
+
+/// Puts the octets of an event: the header of a constructed element in the indefinite form, with end-of-contents octets for
+/// its end, and all else as it stands.
+#[inline(always)]
+fn put_event<D: Drain>(event: &Event<'_>, out: &mut Out<'_, D>) -> Result<(), WriteFault>
+    ensures { Puts D.told out.old out.new (respelled_event (told_of event.now)) result }
+{
+    match event {
+        Event::Open(header) if header.constructed => out.put(spell_indefinite(header).as_slice()),
+        Event::Open(header) | Event::Begin(header) | Event::Enter(header) => out.put(header.raw()),
+        Event::Bytes(octets) | Event::Pad(octets) => out.put(octets),
+        Event::Unused => out.put(&[0]),
+        Event::Close(_) => out.put(&[0, 0]),
+        Event::End | Event::Leave => Ok(()),
     }
 }

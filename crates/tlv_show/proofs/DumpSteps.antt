@@ -1,6 +1,6 @@
 -- What a dump makes of an event: what its lines and its finder make of it.
 use Rattle.std.proofs.Common.{◌≡◌, ℕ, Bool, true, false, if◌then◌else◌, List, [], ◌∷◌, ◌++◌, refl, sym, ap, ◌∙◌}
-use Rattle.std.specs.Prelude.{Err, IsErr, Ok, Result}
+use Rattle.std.specs.Prelude.{Err, IsErr, Ok, OnOk, Result}
 use Rattle.tlv_walk.specs.declared.out.Out.{Out}
 use Rattle.tlv_walk.specs.Device.{Taken}
 use Rattle.tlv_walk.specs.Out.{Puts}
@@ -89,3 +89,7 @@ module _ {D : Type 0} (taken : D → Taken) (s : Showing) (f told : Finds) (tell
     pub found_last : (a b c : Out D) (put : List ℕ) (x : T) (r : Result U E) → style ≡ Dump s.lines.layout.pure → Tells f told tells
         → Puts {T = T} {E = E} taken a b put (Ok x) → Puts taken b c (all_told style (heard tells told)) r → Puts taken a c (put ++ found_lines s f) r
     found_last a b c put x r is says lines found = puts_then taken a b c put _ x r lines (puts_text taken b c _ _ r (lines-told is says) found)
+
+pub where_ok : {T E P Q : Type 0} (r : Result T E) → (P → Q) → OnOk r P → OnOk r Q
+where_ok (Ok x) f p = f p
+where_ok (Err e) f p = tt

@@ -3,6 +3,7 @@ ghost use Rattle.std.specs.Prelude.{◌≡◌, OnOk, refl};
 ghost use Rattle.tlv_walk.proofs.Followed.{each_octet-goes_on, each_octet-joins};
 ghost use Rattle.tlv_walk.specs.Events.{Bytes, Close, End};
 ghost use Rattle.tlv_walk.specs.Out.{Puts};
+ghost use Rattle.tlv_walk.specs.Tells.{told_of};
 ghost use Rattle.tlv_show.specs.DumpStep.{dump_step, nothing_shown, one_filled, one_shown};
 ghost use Rattle.tlv_show.specs.Private.DumpStep.{beginning};
 ghost use Rattle.tlv_show.specs.Dumps.{top_layout};
@@ -80,24 +81,36 @@ impl Follow for Dump<'_> {
 
     #[inline(always)]
     fn on<D: Drain>(&mut self, event: &Event<'_>, out: &mut Out<'_, D>) -> Result<Go, WriteFault> {
-        match event {
-            Event::Open(header) | Event::Enter(header) | Event::Begin(header) => {
-                let is_value = matches!(event, Event::Begin(_));
-                let wraps = matches!(event, Event::Enter(_));
-                self.begin(header, is_value, wraps, out)?
-            }
-            Event::Bytes(octets) => self.bytes(octets, out)?,
-            Event::End => self.end(out)?,
-            Event::Close(at) => self.close(*at, out)?,
-            Event::Leave => self.close(None, out)?,
-            Event::Unused => self.lines.unused(),
-            Event::Pad(octets) => self.lines.pad(octets, out)?,
-        }
+        self.tell(event, out)?;
         Ok(Go::On)
     }
 }
 
 impl Dump<'_> {
+    /// Writes the lines that an event allows.
+    #[inline(always)]
+    fn tell<D: Drain>(&mut self, event: &Event<'_>, out: &mut Out<'_, D>) -> Result<(), WriteFault>
+        ensures state { OnOk result (self.new ≡ (dump_step self.old (told_of event.now)).state) }
+        ensures puts { Puts D.told out.old out.new (dump_step self.old (told_of event.now)).put result }
+    {
+        match event {
+            Event::Open(header) | Event::Enter(header) | Event::Begin(header) => {
+                let is_value = matches!(event, Event::Begin(_));
+                let wraps = matches!(event, Event::Enter(_));
+                self.begin(header, is_value, wraps, out)
+            }
+            Event::Bytes(octets) => self.bytes(octets, out),
+            Event::End => self.end(out),
+            Event::Close(at) => self.close(*at, out),
+            Event::Leave => self.close(None, out),
+            Event::Unused => {
+                self.lines.unused();
+                Ok(())
+            }
+            Event::Pad(octets) => self.lines.pad(octets, out),
+        }
+    }
+
     /// An element begins: a primitive, or one that holds others, as a constructed one or as a wrapper.
     #[inline(always)]
     fn begin<D: Drain>(

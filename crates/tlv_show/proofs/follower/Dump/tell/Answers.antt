@@ -1,0 +1,16 @@
+use Rattle.std.proofs.Common.{ap}
+use Rattle.tlv_show.specs.Dumped.{Dumping}
+use Rattle.tlv_show.specs.DumpStep.{Showing}
+use Rattle.tlv_show.proofs.DumpSteps.{each-filled, where_ok}
+use Rattle.tlv_show.proofs.follower.Dump.tell.Goals as goal
+
+pub returns-in-Pad-clause-state : goal.returns-in-Pad-clause-state
+returns-in-Pad-clause-state g c =
+    let s : Showing = record { lines = c.self-in-Pad.inside.lines; finder = c.self-in-Pad.inside.finder.state } in
+    rw (c.in-Pad.is, ← c.self-in-Pad.view_is, each-filled s c.in-Pad.octets.now)
+    (where_ok c.pad.result (ap (λ (l : Dumping). record { lines = l; finder = s.finder })) c.pad.ensures.state)
+
+pub returns-in-Pad-clause-puts : goal.returns-in-Pad-clause-puts
+returns-in-Pad-clause-puts g c =
+    let s : Showing = record { lines = c.self-in-Pad.inside.lines; finder = c.self-in-Pad.inside.finder.state } in
+    rw (c.in-Pad.is, ← c.self-in-Pad.view_is, each-filled s c.in-Pad.octets.now) c.pad.ensures.puts
