@@ -3,16 +3,14 @@ mod check_rows;
 mod checks;
 mod turns;
 
+use crate::expect::expect_eq;
 use crate::reads::{LENGTH, expect_again, expect_written};
 use std::process::Abort;
 use std::test::Fail;
 use tlv_head::{Header, read_header};
 use tlv_show::{Dump, Options, Rules};
 use tlv_value::Names;
-use tlv_walk::{
-    Drain, Ending, Event, Follow, Framing, MemDrain, MemSource, Out, Run, Turn, Walker, WriteFault,
-    turn,
-};
+use tlv_walk::{Drain, Event, Follow, Framing, MemDrain, MemSource, Out, Walker, WriteFault};
 
 /// The header with these octets, at this offset.
 fn header(offset: u64, octets: &[u8]) -> Result<Header, Fail> {
@@ -47,8 +45,8 @@ fn tell<D: Drain>(events: &[Event<'_>], drain: &mut D) -> Result<(), WriteFault>
 fn expect_text(rt: &impl Abort, events: &[Event<'_>], text: &[u8]) {
     let mut room = [0; 400];
     let mut drain = MemDrain::new(&mut room, 7);
-    assert_eq!(rt; tell(events, &mut drain), Ok(()));
-    assert_eq!(rt; drain.written(), text);
+    expect_eq(rt, tell(events, &mut drain), Ok(()));
+    expect_eq(rt, drain.written(), text);
 }
 
 #[test]
@@ -150,72 +148,9 @@ fn a_drain_without_room(rt: HostRuntime) -> Result<(), Fail> {
     let events = [Event::Begin(header(0, &[5, 0])?), Event::End];
     let mut room = [0; 10];
     let mut drain = MemDrain::new(&mut room, 400);
-    assert_eq!(rt; tell(&events, &mut drain), Err(WriteFault));
-    assert_eq!(rt; drain.written(), b"       0  ".as_slice());
+    expect_eq(&rt, tell(&events, &mut drain), Err(WriteFault));
+    expect_eq(&rt, drain.written(), b"       0  ".as_slice());
     Ok(())
-}
-
-/// Behind each read of four octets the lines are written that the octets so far allow: 1, 2, 4 and 4.
-#[test]
-fn lines_come_with_their_octets(rt: HostRuntime) {
-    let text = b"       0      9: VisibleString {
-       2      3:   OCTET STRING 4a 6f 6e
-       7      2:   OCTET STRING 65 73
-                 }
-";
-    let mut room = [0; 200];
-    let mut piece = [0; 4];
-    let mut walker = Walker::new(&Framing::plain());
-    let names = Names::empty();
-    let mut follower = Dump::new(&plain(), &names);
-    let mut source = MemSource::new(b"\x3a\x09\x04\x03Jon\x04\x02es", &[], None);
-    let mut drain = MemDrain::new(&mut room, 200);
-    expect_again(
-        &rt,
-        &mut walker,
-        &mut follower,
-        &mut source,
-        &mut drain,
-        &mut piece,
-        LENGTH,
-    );
-    expect_written(&rt, &drain, &text[..33]);
-    expect_again(
-        &rt,
-        &mut walker,
-        &mut follower,
-        &mut source,
-        &mut drain,
-        &mut piece,
-        LENGTH,
-    );
-    expect_written(&rt, &drain, &text[..74]);
-    expect_again(
-        &rt,
-        &mut walker,
-        &mut follower,
-        &mut source,
-        &mut drain,
-        &mut piece,
-        LENGTH,
-    );
-    expect_written(&rt, &drain, text.as_slice());
-    let end = turn(
-        &mut walker,
-        &mut follower,
-        &mut source,
-        &mut drain,
-        &mut piece,
-        LENGTH,
-    );
-    let run = Run {
-        ending: Ending::Done,
-        octets: 11,
-        enough: false,
-        unused: None,
-    };
-    assert_eq!(rt; end, Ok(Turn::Ended(run)));
-    expect_written(&rt, &drain, text.as_slice());
 }
 
 /// The lines that so many octets of the constructed string allow.

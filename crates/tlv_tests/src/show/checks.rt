@@ -1,5 +1,6 @@
 //! Checks over memory: what they list, and how many findings they count.
 use super::check_rows::{EXAMPLES, OTHERS, Row};
+use crate::expect::expect_eq;
 use std::process::Abort;
 use tlv_show::{Outcome, Rules, check};
 use tlv_walk::{Ending, Framing, Inside, MemDrain, MemSource};
@@ -36,8 +37,8 @@ fn expect_check(
         findings: row.findings,
         unused: None,
     };
-    assert_eq!(rt; drain.written(), text);
-    assert_eq!(rt; answer, Ok(outcome));
+    expect_eq(rt, drain.written(), text);
+    expect_eq(rt, answer, Ok(outcome));
 }
 
 fn expect_row(rt: &impl Abort, row: &Row, cuts: &[u64], wrapped: bool) {
@@ -76,8 +77,8 @@ fn expect_list(rt: &impl Abort, input: &[u8], text: &[u8], room: &mut [u8]) {
     let mut source = MemSource::new(input, &[], None);
     let mut drain = MemDrain::new(room, 100);
     let answer = check(&mut source, &mut drain, Rules::Cer, &framing);
-    assert_eq!(rt; drain.written(), text);
-    assert!(rt; answer.is_ok(), "{answer:?}");
+    expect_eq(rt, drain.written(), text);
+    expect_eq(rt, answer.is_ok(), true);
 }
 
 /// A primitive string of 1001 contents octets, and one of 1000.

@@ -1,6 +1,10 @@
 //! Dumps walked turn by turn, and up to a limit of octets.
+ghost use Rattle.std.specs.Prelude.{◌≤◌, ◌^◌};
+
 use super::plain;
-use crate::reads::{expect_again, expect_written};
+use crate::expect::expect_eq;
+use crate::reads::{LENGTH, expect_again, expect_written};
+use std::process::Abort;
 use tlv_show::Dump;
 use tlv_value::Names;
 use tlv_walk::{
@@ -10,67 +14,79 @@ use tlv_walk::{
 /// More octets than the input has.
 const LIMIT: u64 = 4096;
 
-#[test]
-fn turns_follow_one_read_each(rt: HostRuntime) {
-    let input = b"\x3a\x09\x04\x03\x4a\x6f\x6e\x04\x02\x65\x73";
-    let first: &[u8] = b"       0      9: VisibleString {\n";
-    let second: &[u8] =
-        b"       0      9: VisibleString {\n       2      3:   OCTET STRING 4a 6f 6e\n";
-    let all: &[u8] =
-        b"       0      9: VisibleString {\n       2      3:   OCTET STRING 4a 6f 6e\n       7      2:   OCTET STRING 65 73\n                 }\n";
-    let mut room = [0; 1024];
+/// The run over so many octets of whole elements.
+fn whole(octets: u64) -> Run {
+    Run {
+        ending: Ending::Done,
+        octets,
+        enough: false,
+        unused: None,
+    }
+}
+
+/// Expects the lines of the string read by read of four octets, each with its octets: 1 behind the first, then 2, 4 and 4.
+fn expect_reads(rt: &impl Abort, limit: u64)
+    requires { limit ≤ 2 ^ 40 }
+{
+    let text = b"       0      9: VisibleString {
+       2      3:   OCTET STRING 4a 6f 6e
+       7      2:   OCTET STRING 65 73
+                 }
+";
+    let mut room = [0; 200];
     let mut piece = [0; 4];
     let mut walker = Walker::new(&Framing::plain());
     let names = Names::empty();
     let mut dump = Dump::new(&plain(), &names);
-    let mut source = MemSource::new(input, &[], None);
+    let mut source = MemSource::new(b"\x3a\x09\x04\x03Jon\x04\x02es", &[], None);
     let mut drain = MemDrain::new(&mut room, 4096);
     expect_again(
-        &rt,
+        rt,
         &mut walker,
         &mut dump,
         &mut source,
         &mut drain,
         &mut piece,
-        LIMIT,
+        limit,
     );
-    expect_written(&rt, &drain, first);
+    expect_written(rt, &drain, &text[..33]);
     expect_again(
-        &rt,
+        rt,
         &mut walker,
         &mut dump,
         &mut source,
         &mut drain,
         &mut piece,
-        LIMIT,
+        limit,
     );
-    expect_written(&rt, &drain, second);
+    expect_written(rt, &drain, &text[..74]);
     expect_again(
-        &rt,
+        rt,
         &mut walker,
         &mut dump,
         &mut source,
         &mut drain,
         &mut piece,
-        LIMIT,
+        limit,
     );
-    expect_written(&rt, &drain, all);
+    expect_written(rt, &drain, text);
     let end = turn(
         &mut walker,
         &mut dump,
         &mut source,
         &mut drain,
         &mut piece,
-        LIMIT,
+        limit,
     );
-    let run = Run {
-        ending: Ending::Done,
-        octets: 11,
-        enough: false,
-        unused: None,
-    };
-    assert_eq!(rt; end, Ok(Turn::Ended(run)));
-    expect_written(&rt, &drain, all);
+    expect_eq(rt, end, Ok(Turn::Ended(whole(11))));
+    expect_written(rt, &drain, text);
+}
+
+/// The same up to a limit that the input reaches, and up to one that it does not.
+#[test]
+fn lines_come_with_their_octets(rt: HostRuntime) {
+    expect_reads(&rt, LENGTH);
+    expect_reads(&rt, LIMIT);
 }
 
 #[test]
@@ -87,8 +103,8 @@ fn octets_past_the_limit_are_not_followed(rt: HostRuntime) {
         3,
         &Framing::plain(),
     );
-    assert_eq!(rt; end, Err(DeviceFault::InputTooLong));
-    assert_eq!(rt; drain.written(), b"       0      0: NULL\n".as_slice());
+    expect_eq(&rt, end, Err(DeviceFault::InputTooLong));
+    expect_eq(&rt, drain.written(), b"       0      0: NULL\n".as_slice());
 }
 
 #[test]
@@ -105,15 +121,10 @@ fn octets_up_to_the_limit_are_followed(rt: HostRuntime) {
         4,
         &Framing::plain(),
     );
-    let run = Run {
-        ending: Ending::Done,
-        octets: 4,
-        enough: false,
-        unused: None,
-    };
-    assert_eq!(rt; end, Ok(run));
-    assert_eq!(rt;
+    expect_eq(&rt, end, Ok(whole(4)));
+    expect_eq(
+        &rt,
         drain.written(),
-        b"       0      0: NULL\n       2      0: NULL\n".as_slice()
+        b"       0      0: NULL\n       2      0: NULL\n".as_slice(),
     );
 }
