@@ -41,7 +41,7 @@ three_octets n = n / 65536 % 256 ∷ n / 256 % 256 ∷ n % 256 ∷ []
 abbrev pub unit_size : Kind → List ℕ → ℕ
 unit_size Ucs2 octets = if nat_le 2 (length octets) then 2 else 1
 unit_size Ucs4 octets = if nat_le 4 (length octets) then 4 else 1
-unit_size Utf8 octets = if is_utf8 (take (announced Utf8 (slice_index octets 0)) octets) then length (take (announced Utf8 (slice_index octets 0)) octets) else 1
+unit_size Utf8 xs = if is_utf8 (take (announced Utf8 (slice_index xs 0)) xs) then length (take (announced Utf8 (slice_index xs 0)) xs) else 1
 unit_size _ octets = 1
 
 -- the units in order, behind octets that belong to one before them
