@@ -1,4 +1,4 @@
-//! The tests of `tlv_head`, `tlv_walk`, `tlv_value`, `tlv_show` and `tlv_cut`, by what these crates make public.
+//! The tests of `tlv_head`, `tlv_walk`, `tlv_value`, `tlv_show`, `tlv_cut` and `tlv_run`, by what these crates make public.
 #![tactic(auto)]
 
 #[cfg(test)]
@@ -9,6 +9,8 @@ mod expect;
 mod head;
 #[cfg(test)]
 mod reads;
+#[cfg(test)]
+mod run;
 #[cfg(test)]
 mod show;
 #[cfg(test)]

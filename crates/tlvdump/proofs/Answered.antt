@@ -5,9 +5,9 @@ use Rattle.clap.specs.Kinds.{HasKind}
 use Rattle.clap.specs.Words.{Row, Text, is_simple, subcommand_of}
 use Rattle.clap.specs.declared.error.Error.{Error}
 use Rattle.clap.proofs.OnLiterals.{clap_on_literals}
-use Rattle.tlvdump.specs.declared.command.Command.{Command}
-use Rattle.tlvdump.specs.declared.command.UsageFault.{UsageFault}
-use Rattle.tlvdump.specs.declared.command.UsageFault.TheVariants.{Parser, Value, Memory}
+use Rattle.tlv_run.specs.declared.command.Command.{Command}
+use Rattle.tlvdump.specs.declared.usage.UsageFault.{UsageFault}
+use Rattle.tlvdump.specs.declared.usage.UsageFault.TheVariants.{Parser, Value, Memory}
 use Rattle.tlvdump.specs.Commands.{Answers, IsUsageFaultOf}
 use Rattle.tlvdump.specs.Private.Commands.{AnswersSubcommand, IsRefusal}
 use Rattle.tlvdump.specs.Line.{line_app}

@@ -11,10 +11,10 @@ use Rattle.tlv_show.specs.declared.rules.Rules.TheVariants.{Ber, Der}
 use Rattle.tlv_walk.specs.declared.framing.Framing.{Framing}
 use Rattle.tlvdump.specs.Line.{line_app}
 use Rattle.tlvdump.specs.Values.{Text, inside_of, limit_of, offset_of, rules_of}
-use Rattle.tlvdump.specs.declared.command.Command.{Command}
-use Rattle.tlvdump.specs.declared.command.Command.TheVariants.{Check, Dump, Extract, Indef}
-use Rattle.tlvdump.specs.declared.command.UsageFault.{UsageFault}
-use Rattle.tlvdump.specs.declared.command.UsageFault.TheVariants.{Parser, Value, Memory}
+use Rattle.tlv_run.specs.declared.command.Command.{Command}
+use Rattle.tlv_run.specs.declared.command.Command.TheVariants.{Check, Dump, Extract, Indef}
+use Rattle.tlvdump.specs.declared.usage.UsageFault.{UsageFault}
+use Rattle.tlvdump.specs.declared.usage.UsageFault.TheVariants.{Parser, Value, Memory}
 
 -- ---- the options of a command
 
@@ -82,19 +82,3 @@ IsUsageFaultOf words Memory = ⊤
 -- the answer to the words
 abbrev pub Answers : List Text → Result Command UsageFault → Type 0
 Answers words result = MatchResult result (λ command. IsCommandOf words (Ok command)) (IsUsageFaultOf words)
-
--- ---- parts of the answer
-
--- ---- the files of a command
-
-abbrev pub file_of : Command → Option Text
-file_of (Dump options names file) = file
-file_of (Check rules framing file) = file
-file_of (Extract offset contents framing file) = file
-file_of (Indef padding file) = file
-
-abbrev pub names_file_of : Command → Option Text
-names_file_of (Dump options names file) = names
-names_file_of (Check rules framing file) = None
-names_file_of (Extract offset contents framing file) = None
-names_file_of (Indef padding file) = None

@@ -1,9 +1,5 @@
 pub mod Commands
-pub mod Laws
 pub mod Line
-pub mod Octets
-pub mod Report
-pub mod Results
-pub mod Runs
+pub mod Usage
 pub mod Values
 pub mod Private

@@ -1,33 +1,22 @@
 //! `tlvdump` shows BER, CER and DER encodings without their ASN.1 module.
 #![tactic(auto)]
 
-mod command;
-mod held;
-pub mod laws;
 mod matches;
-mod message;
-pub mod octets;
 mod parser;
-mod report;
-mod runner;
 #[cfg(test)]
 mod tests;
-mod text;
+mod usage;
 mod values;
 mod words;
 
-use crate::command::{Command, UsageFault};
 use crate::matches::command_of;
-use crate::message::tell;
-use crate::report::{
-    Report, closed_report, names_report, unprinted_report, usage_report, words_report,
-};
-use crate::runner::run;
+use crate::usage::{UsageFault, unprinted_report, usage_report, words_report};
 use crate::words::Words;
 use std::env;
 use std::fs::File;
 use std::io::{ErrorKind, Read};
 use std::process::ExitCode;
+use tlv_run::{Command, Report, closed_report, names_report, run, tell};
 use tlv_value::{Names, NamesFault};
 use tlv_walk::{ReadSource, WriteDrain};
 

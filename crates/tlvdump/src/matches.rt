@@ -4,14 +4,14 @@ ghost use Rattle.clap.specs.Words.{first_of, found_of, rows_of, subcommand_rows_
 ghost use Rattle.tlvdump.specs.Commands.{Answers, check_from, dump_from, extract_from, indef_from, is_given as is_given_in};
 ghost use Rattle.tlvdump.specs.Private.Commands.{AnswersFrom, AnswersSubcommand, IsRefusal};
 
-use crate::command::{Command, UsageFault};
 use crate::parser::line_parser;
-use crate::text::Text;
+use crate::usage::UsageFault;
 use crate::values::{inside_of, limit_of, offset_of, rules_of};
 use crate::words::Words;
 use clap::ArgMatches;
 use clap::error::ErrorKind;
 use std::alloc::Global;
+use tlv_run::{Command, Text};
 use tlv_show::{Options, Rules};
 use tlv_walk::Framing;
 

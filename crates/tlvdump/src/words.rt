@@ -1,5 +1,5 @@
 //! The words of a command line.
-use crate::command::UsageFault;
+use crate::usage::UsageFault;
 use std::alloc::Global;
 use std::marker::Model;
 

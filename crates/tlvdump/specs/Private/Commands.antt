@@ -4,9 +4,9 @@ use Rattle.clap.specs.Words.{Row, kind_of}
 use Rattle.clap.specs.declared.error.Error.{Error}
 use Rattle.clap.specs.declared.error.kind.ErrorKind.TheVariants.{OutOfMemory}
 use Rattle.tlvdump.specs.Values.{Text}
-use Rattle.tlvdump.specs.declared.command.Command.{Command}
-use Rattle.tlvdump.specs.declared.command.UsageFault.{UsageFault}
-use Rattle.tlvdump.specs.declared.command.UsageFault.TheVariants.{Parser, Value, Memory}
+use Rattle.tlv_run.specs.declared.command.Command.{Command}
+use Rattle.tlvdump.specs.declared.usage.UsageFault.{UsageFault}
+use Rattle.tlvdump.specs.declared.usage.UsageFault.TheVariants.{Parser, Value, Memory}
 use Rattle.tlvdump.specs.Commands.{command_from}
 
 -- why a result that is none comes to nothing: a value, or memory

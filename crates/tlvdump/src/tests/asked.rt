@@ -2,16 +2,14 @@
 use super::ONES;
 use super::asked_rows::{Asked, CHECKS, DUMPS, EXTRACTS, FAILED_EXTRACTS, INDEFS};
 use super::expect::expect_eq;
-use crate::command::Command;
 use crate::matches::command_of;
-use crate::runner::run;
 use crate::words::Words;
 use std::alloc::Global;
 use std::process::Abort;
 use std::test::Fail;
-use tlv_show::Rules;
+use tlv_run::{Command, run};
 use tlv_value::Names;
-use tlv_walk::{Framing, MemDrain, MemSource};
+use tlv_walk::{MemDrain, MemSource};
 
 /// The command that these words ask for, behind the program's name.
 pub(crate) fn command_for(alloc: Global, list: &[&str]) -> Result<Command, Fail> {
@@ -35,35 +33,6 @@ fn expect(rt: &impl Abort, alloc: Global, row: &Asked<'_>, cuts: &[u64]) -> Resu
     expect_eq(rt, list, report.message.as_slice(), message.as_bytes());
     expect_eq(rt, list, report.status, status);
     Ok(())
-}
-
-/// The count of findings stays behind a fault and an offset without a string, and is 0 where a device fails.
-#[test]
-fn findings_are_counted(rt: HostRuntime) {
-    let input = b"\x02\x02\x00\x7f\x02\x00\x00";
-    for (fail_at, octets, findings, status) in [
-        (None, 6, 2, 1),
-        (None, 7, 2, 2),
-        (Some(1), 7, 0, 3),
-    ] {
-        let command = Command::Check {
-            rules: Rules::Ber,
-            framing: Framing::plain(),
-            file: None,
-        };
-        let mut room = [0; 128];
-        let mut source = MemSource::new(&input[..octets], &[6], fail_at);
-        let mut drain = MemDrain::new(&mut room, 4096);
-        let report = run(&command, &Names::empty(), &mut source, &mut drain);
-        expect_eq(&rt, octets, report.findings, findings);
-        expect_eq(&rt, octets, report.status, status);
-        expect_eq(
-            &rt,
-            octets,
-            drain.written(),
-            b"0 B08 integer is padded\n4 B07 no contents of an integer\n".as_slice(),
-        );
-    }
 }
 
 #[test]

@@ -1,11 +1,8 @@
 //! What is told where no input is read, and how it is told.
 use super::expect::expect_eq;
-use crate::command::UsageFault;
-use crate::message::tell;
-use crate::report::{
-    Report, closed_report, names_report, unprinted_report, usage_report, words_report,
-};
+use crate::usage::{UsageFault, unprinted_report, usage_report, words_report};
 use std::process::Abort;
+use tlv_run::{Report, closed_report, names_report, tell};
 use tlv_value::NamesFault;
 use tlv_walk::MemDrain;
 

@@ -3,10 +3,10 @@ use super::asked::command_for;
 use super::asked_rows::{Asked, CHECKS, DUMPS, EXTRACTS, FAILED_EXTRACTS, INDEFS, STRING};
 use super::expect::expect_eq;
 use super::{ONES, READ_FAILED, WRITE_FAILED};
-use crate::octets::{Shown, run_octets};
 use std::alloc::Global;
 use std::process::Abort;
 use std::test::Fail;
+use tlv_run::{Shown, run_octets};
 use tlv_value::Names;
 
 /// Expects these octets, this status and this message.

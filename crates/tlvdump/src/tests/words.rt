@@ -3,12 +3,13 @@ use super::expect::expect_eq;
 use super::words_rows::{
     CUTS, Comes, INSIDE, Judged, LIMITS, REFUSED_VALUES, RULES, SHOWN, WRONG_OPTIONS, WRONG_WORDS,
 };
-use crate::command::{Command, UsageFault};
 use crate::matches::command_of;
+use crate::usage::UsageFault;
 use crate::words::Words;
 use std::alloc::Global;
 use std::process::Abort;
 use std::test::Fail;
+use tlv_run::Command;
 
 fn command(alloc: Global, list: &[&str]) -> Result<Command, UsageFault> {
     let mut words = Words::new(alloc);

@@ -1,0 +1,167 @@
+-- What jobs, and commands, make of inputs.
+use Rattle.std.proofs.Common.{◌≡◌, inl, inr, ℕ, ◌^◌, ◌≤◌, Bool, true, false, List, ◌++◌, length, refl, sym, ap, ◌∙◌, subst}
+use Rattle.std.proofs.lemmas.Bool.{true≢false}
+use Rattle.tlv_cut.proofs.CutsGrow.{cut_grows, same_cut, same_found, same_whole}
+use Rattle.tlv_cut.proofs.IndefPrefixes.{respelled_on}
+use Rattle.tlv_cut.proofs.IndefReadings.{done_again, read_again}
+use Rattle.tlv_cut.specs.Cut.{cut, has_element_at}
+use Rattle.tlv_cut.specs.Indef.{indefinite}
+use Rattle.tlv_cut.specs.IndefRuns.{unnamed}
+use Rattle.tlv_cut.specs.Placed.{placed}
+use Rattle.tlv_show.proofs.Longer.{checks_on, dumps_on}
+use Rattle.tlv_value.specs.Names.{Table}
+use Rattle.tlv_walk.proofs.Endings.{ending, is-ending}
+use Rattle.tlv_walk.proofs.Readings.{is-reading, reading, reading-unique}
+use Rattle.tlv_walk.proofs.Unique.{ending-unique, refused-for-good}
+use Rattle.tlv_walk.specs.declared.ending.Ending.{Ending}
+use Rattle.tlv_walk.specs.declared.ending.Ending.TheVariants as ending
+use Rattle.tlv_walk.specs.declared.framing.Framing.{Framing}
+use Rattle.tlv_walk.specs.Ending.{IsEnding}
+use Rattle.tlv_walk.specs.Forest.{Forest, spell}
+use Rattle.tlv_walk.specs.Job.{EndsWith, IsFinalEnding, Job}
+use Rattle.tlv_walk.specs.Laws.{AreOctets}
+use Rattle.tlv_walk.specs.Reading.{IsPrefixOf, IsReading}
+use Rattle.tlv_run.specs.Laws.{InputsHaveOneResult, OutputsGoOn, SecondIndefIsTheFirst, SettledResultsStay}
+use Rattle.tlv_run.specs.Report.{Said, said_of_cut}
+use Rattle.tlv_run.specs.Private.Report.{said_of_indef}
+use Rattle.tlv_run.specs.Results.{IsSettled, Made, Makes, made_of, running}
+use Rattle.tlv_run.specs.declared.command.Command.{Command}
+use Rattle.tlv_run.specs.declared.command.Command.TheVariants.{Check, Dump, Extract, Indef}
+
+-- ---- endings
+
+abbrev pub end_of : Framing → List ℕ → Bool → Ending
+end_of framing b true = ending.Done
+end_of framing b false = ending framing b
+
+is_end : (framing : Framing) (b : List ℕ) → AreOctets b → (k : Bool) → EndsWith framing b k (end_of framing b k)
+is_end framing b octets true = refl
+is_end framing b octets false = is-ending framing b octets
+
+end_unique : (framing : Framing) (b : List ℕ) (k : Bool) (e d : Ending) → EndsWith framing b k e → EndsWith framing b k d → e ≡ d
+end_unique framing b true e d x y = x ∙ sym y
+end_unique framing b false e d x y = ending-unique framing b e d x y
+
+-- an octet that is refused is so whatever follows
+final_stays : (framing : Framing) (b c : List ℕ) (f : Forest) (k : Bool) (e : Ending) → IsFinalEnding e → IsReading framing b f → EndsWith framing b k e
+    → IsReading framing (b ++ c) f × EndsWith framing (b ++ c) k e
+final_stays framing b c f true e final r x = absurd (subst IsFinalEnding x final)
+final_stays framing b c f false ending.Done final r x = absurd final
+final_stays framing b c f false (ending.Fault k) final r x = refused-for-good framing b c k.code k.offset f final.0 final.1 x r
+
+-- ---- any job
+
+module _ (job : Job Said) where
+  -- octets have one result at most
+  pub makes_unique : (b : List ℕ) (m n : Made) → Makes job b m → Makes job b n → m ≡ n
+  makes_unique b m n x y =
+      let same : x.reading ≡ y.reading = reading-unique job.framing b x.reading y.reading x.is_reading y.is_reading in
+      let here : EndsWith job.framing b (job.is_enough y.reading) m.ending =
+      subst (λ (f : Forest). EndsWith job.framing b (job.is_enough f) m.ending) same x.ends in
+      let end : m.ending ≡ n.ending = end_unique job.framing b (job.is_enough y.reading) m.ending n.ending here y.ends in
+      x.is_made ∙ ap (λ (f : Forest). made_of job f m.ending) same ∙ ap (made_of job y.reading) end ∙ sym y.is_made
+
+  -- the result, computed
+  abbrev pub result_of : List ℕ → Made
+  result_of b = let f = reading job.framing b in made_of job f (end_of job.framing b (job.is_enough f))
+
+  pub is_result : (b : List ℕ) → AreOctets b → Makes job b (result_of b)
+  is_result b octets =
+      let f : Forest = reading job.framing b in
+      record { reading = f; is_reading = is-reading job.framing b octets; ends = is_end job.framing b octets (job.is_enough f); is_made = refl }
+
+  pub one_made : (b : List ℕ) → AreOctets b → (made : Made) × Makes job b made × ((other : Made) → Makes job b other → other ≡ made)
+  one_made b octets =
+      let x = is_result b octets in
+      (result_of b, x, λ (other : Made) y. makes_unique b other (result_of b) y x)
+
+  -- where nothing more is wanted, the same is made of every longer input
+  abbrev pub Stays : Type 0
+  Stays = (b c : List ℕ) (f g : Forest) → IsReading job.framing b f → IsReading job.framing (b ++ c) g → job.is_enough f ≡ true
+      → (job.is_enough g ≡ true) × ((e : Ending) → made_of job g e ≡ made_of job f e)
+
+  pub settled_stays : Stays → (b c : List ℕ) (made : Made) → AreOctets (b ++ c) → (x : Makes job b made)
+      → IsSettled x → (y : Makes job (b ++ c) made) × IsSettled y
+  settled_stays stays b c made octets x s = elim s [
+    | inl enough ↦
+        let g : Forest = reading job.framing (b ++ c) in
+        let r : IsReading job.framing (b ++ c) g = is-reading job.framing (b ++ c) octets in
+        let both = stays b c x.reading g x.is_reading r enough in
+        let done : made.ending ≡ ending.Done = subst (λ (k : Bool). EndsWith job.framing b k made.ending) enough x.ends in (
+          record {
+            reading = g;
+            is_reading = r;
+            ends = subst (λ (k : Bool). EndsWith job.framing (b ++ c) k made.ending) (sym both.0) done;
+            is_made = x.is_made ∙ sym (both.1 made.ending);
+          },
+          inl both.0,
+        )
+    | inr final ↦
+        let both = final_stays job.framing b c x.reading (job.is_enough x.reading) made.ending final x.is_reading x.ends in
+        (record { reading = x.reading; is_reading = both.0; ends = both.1; is_made = x.is_made }, inr final)
+  ]
+
+-- ---- commands
+
+pub one_result : InputsHaveOneResult
+one_result command names = one_made (running command names)
+
+abbrev made : List ℕ → Ending → Said → Made
+made t e said = record { output = t; ending = e; said = said }
+
+pub stays_for : (command : Command) (names : Table) → Stays (running command names)
+stays_for (Dump options names_file file) names b c f g r s e = absurd (true≢false (sym e))
+stays_for (Check rules framing file) names b c f g r s e = absurd (true≢false (sym e))
+stays_for (Extract offset contents framing file) names b c f g r s e =
+    let text : cut offset contents g ≡ cut offset contents f = same_cut framing b c f g r s offset contents e in
+    let found : has_element_at offset g ≡ has_element_at offset f = same_found framing b c f g r s offset contents e in (
+      same_whole framing b c f g r s offset contents e ∙ e,
+      λ (d : Ending). ap (λ (t : List ℕ). made t d (said_of_cut offset (record { ending = d; found = has_element_at offset g }))) text
+          ∙ ap (λ (k : Bool). made (cut offset contents f) d (said_of_cut offset (record { ending = d; found = k }))) found,
+    )
+stays_for (Indef padding file) names b c f g r s e = absurd (true≢false (sym e))
+
+pub settled_results : SettledResultsStay
+settled_results command names b c made octets x s = (settled_stays (running command names) (stays_for command names) b c made octets x s).0
+
+pub limit_is : (command : Command) (names : Table) → (running command names).limit ≡ 2 ^ 40
+limit_is (Dump options names_file file) names = refl
+limit_is (Check rules framing file) names = refl
+limit_is (Extract offset contents framing file) names = refl
+limit_is (Indef padding file) names = refl
+
+pub text_on : (command : Command) (names : Table) (b c : List ℕ) (f g : Forest) → length (b ++ c) ≤ (running command names).limit
+    → IsReading (running command names).framing b f → IsReading (running command names).framing (b ++ c) g
+    → IsPrefixOf ((running command names).text f) ((running command names).text g)
+text_on (Dump options names_file file) names b c f g few r s = dumps_on options names b c f g few r s
+text_on (Check rules framing file) names b c f g few r s = checks_on rules framing b c f g few r s
+text_on (Extract offset contents framing file) names b c f g few r s = cut_grows framing b c f g r s offset contents
+text_on (Indef padding file) names b c f g few r s = respelled_on _ b c f g r s
+
+pub outputs_on : OutputsGoOn
+outputs_on command names b c made more few x y =
+    let shorter : (running command names).text x.reading ≡ made.output = sym (ap (λ (m : Made). m.output) x.is_made) in
+    let longer : (running command names).text y.reading ≡ more.output = sym (ap (λ (m : Made). m.output) y.is_made) in
+    let front = text_on command names b c x.reading y.reading (subst (λ (n : ℕ). length (b ++ c) ≤ n) (sym (limit_is command names)) few) x.is_reading y.is_reading in
+    (front.0, ap (λ (l : List ℕ). l ++ front.0) (sym shorter) ∙ front.1 ∙ longer)
+
+abbrev respelled : Forest → List ℕ
+respelled f = spell (indefinite f)
+
+pub second_indef : SecondIndefIsTheFirst
+second_indef padding file names b m n x y =
+    let job : Job Said = running (Indef padding file) names in
+    let first : m.output ≡ respelled x.reading = ap (λ (m : Made). m.output) x.is_made in
+    let again = read_again padding b x.reading x.is_reading in
+    let z : IsReading (unnamed padding) (respelled x.reading) y.reading = subst (λ (o : List ℕ). IsReading (unnamed padding) o y.reading) first y.is_reading in
+    let same : y.reading ≡ placed 0 (indefinite x.reading) = reading-unique (unnamed padding) (respelled x.reading) y.reading (placed 0 (indefinite x.reading)) z again.0 in
+    let output : n.output ≡ m.output = ap (λ (m : Made). m.output) y.is_made ∙ ap respelled same ∙ again.1 ∙ sym first in (
+      output,
+      λ (done : m.ending ≡ ending.Done).
+          let e : IsEnding (unnamed padding) b ending.Done = subst (IsEnding (unnamed padding) b) done x.ends in
+          let d : IsEnding (unnamed padding) (respelled x.reading) ending.Done = done_again padding b x.reading x.is_reading e in
+          let d' : IsEnding (unnamed padding) (respelled x.reading) n.ending = subst (λ (o : List ℕ). IsEnding (unnamed padding) o n.ending) first y.ends in
+          let end : n.ending ≡ m.ending = ending-unique (unnamed padding) (respelled x.reading) n.ending ending.Done d' d ∙ sym done in
+          y.is_made ∙ ap (λ (e : Ending). made_of job y.reading e) end
+          ∙ ap (λ (o : List ℕ). made o m.ending (said_of_indef m.ending)) (ap respelled same ∙ again.1) ∙ sym x.is_made,
+    )

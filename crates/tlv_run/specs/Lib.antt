@@ -1,0 +1,7 @@
+pub mod Commands
+pub mod Laws
+pub mod Octets
+pub mod Report
+pub mod Results
+pub mod Runs
+pub mod Private

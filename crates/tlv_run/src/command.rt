@@ -1,0 +1,75 @@
+//! The commands.
+ghost use Rattle.std.specs.Prelude.{◌≡◌};
+ghost use Rattle.std.specs.Prelude.{option_map};
+ghost use Rattle.tlv_run.specs.Commands.{file_of, names_file_of};
+
+use crate::text::Text;
+use tlv_show::{Options, Rules};
+use tlv_walk::Framing;
+
+/// A command of the program, with its options.
+#[derive(Debug, Drop)]
+pub enum Command {
+    /// Writes each element on a line of its own.
+    Dump {
+        options: Options,
+        /// The file of names for object identifiers.
+        names: Option<Text>,
+        /// The file to read; without one it is standard input, as for each command.
+        file: Option<Text>,
+    },
+    /// Lists what violates the rules.
+    Check {
+        rules: Rules,
+        framing: Framing,
+        file: Option<Text>,
+    },
+    /// Writes the octets of one element, or its contents alone.
+    Extract {
+        /// Where the element's first identifier octet stands, in octets from the start of the input.
+        offset: u64,
+        contents: bool,
+        framing: Framing,
+        file: Option<Text>,
+    },
+    /// Writes the input with the indefinite form of each constructed length.
+    Indef {
+        padding: bool,
+        file: Option<Text>,
+    },
+}
+
+impl Command {
+    /// The name of the file to read, if the words have one.
+    pub fn file(&self) -> Option<&str>
+        ensures { option_map (λ name. name.now) result ≡ file_of self.now }
+    {
+        match self {
+            Command::Dump { file, .. } => name_in(file),
+            Command::Check { file, .. } => name_in(file),
+            Command::Extract { file, .. } => name_in(file),
+            Command::Indef { file, .. } => name_in(file),
+        }
+    }
+
+    /// The name of the file of names for object identifiers, if the words have one.
+    pub fn names_file(&self) -> Option<&str>
+        ensures { option_map (λ name. name.now) result ≡ names_file_of self.now }
+    {
+        match self {
+            Command::Dump { names, .. } => name_in(names),
+            Command::Check { .. } => None,
+            Command::Extract { .. } => None,
+            Command::Indef { .. } => None,
+        }
+    }
+}
+
+fn name_in(text: &Option<Text>) -> Option<&str>
+    ensures { option_map (λ name. name.now) result ≡ text.now }
+{
+    match text {
+        Some(name) => Some(name.as_str()),
+        None => None,
+    }
+}

@@ -1,0 +1,18 @@
+//! The commands of `tlvdump`, over any source and any drain: what each writes of an input, and what it reports.
+#![tactic(auto)]
+
+mod command;
+mod held;
+pub mod laws;
+mod message;
+mod octets;
+mod report;
+mod runner;
+mod text;
+
+pub use command::Command;
+pub use message::tell;
+pub use octets::{Shown, run_octets};
+pub use report::{Report, closed_report, device_report, names_report, saying, silent};
+pub use runner::run;
+pub use text::Text;

@@ -1,0 +1,43 @@
+//! How a message is told.
+ghost use Rattle.std.specs.Prelude.{◌≡◌, ◌≤◌, length};
+ghost use Rattle.tlv_walk.specs.Out.{Sends};
+ghost use Rattle.tlv_run.specs.Report.{IsTold, line_of};
+
+use crate::report::Report;
+use arrayvec::ArrayVec;
+use tlv_walk::{Drain, Out, WriteFault};
+
+/// Writes the message with a line feed behind it, where there is one, and returns the exit status. A failed write
+/// changes no status.
+pub fn tell<D: Drain>(report: &Report, drain: &mut D) -> u8
+    ensures status { result ≡ report.now.status }
+    ensures told { IsTold (line_of report.now.message.items) (D.told drain.old) (D.told drain.new) }
+{
+    let line = whole_line(report.message.as_slice());
+    let _ = send(line.as_slice(), drain);
+    report.status
+}
+
+/// The message with a line feed behind it, where there is one.
+fn whole_line(message: &[u8]) -> ArrayVec<u8, 129>
+    requires { length message.now ≤ 128 }
+    ensures { result.items ≡ line_of message.now }
+{
+    let mut line = ArrayVec::new();
+    if !message.is_empty() {
+        let _ = line.try_extend_from_slice(message);
+        let _ = line.try_push(b'\n');
+    }
+    line
+}
+
+/// Hands the octets to the drain.
+#[tactic(auto, using(tlv_walk::proofs::Puts::sends))]
+fn send<D: Drain>(octets: &[u8], drain: &mut D) -> Result<(), WriteFault>
+    ensures { Sends (D.told drain.old) (D.told drain.new) octets.now result }
+{
+    let mut out = Out::new(drain);
+    out.put(octets)?;
+    out.flush()?;
+    Ok(())
+}

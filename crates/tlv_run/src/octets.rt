@@ -1,0 +1,78 @@
+//! A run of a command over octets in memory.
+ghost use Rattle.std.specs.Prelude.{true, false};
+ghost use Rattle.tlv_run.specs.Octets.{RunsOctets};
+ghost use Rattle.tlv_run.specs.Report.{said_in};
+ghost use Rattle.tlv_run.specs.Results.{running};
+
+use crate::command::Command;
+use crate::held::{EndingSource, FailingSource, Room};
+use crate::report::Report;
+use crate::runner::run;
+use arrayvec::ArrayVec;
+use tlv_value::Names;
+
+/// What a run over octets in memory wrote, and its report.
+#[derive(Debug, Drop)]
+pub struct Shown<const N: usize> {
+    pub written: ArrayVec<u8, N>,
+    pub report: Report,
+}
+
+/// Runs the command over `octets`, with room for `N` octets of output.
+///
+/// Read `i`, counted from 0, gives at most `cuts[i]` octets, where 0 counts as 1, and past the end of `cuts` as many as there
+/// is room for. Behind the octets the input ends, or a read fails. Where there is room for all of the output, it is written,
+/// whatever the cuts; else the first `N` octets of it, and the report tells of a failed write.
+pub fn run_octets<const N: usize>(
+    command: &Command,
+    names: &Names,
+    octets: &[u8],
+    cuts: &[u64],
+    read_fails: bool,
+) -> Shown<N>
+    ensures { RunsOctets (running command.now names.now) octets.now read_fails N result.written.items (said_in result.report) }
+{
+    if read_fails {
+        run_until_failure(command, names, octets, cuts)
+    } else {
+        run_to_end(command, names, octets, cuts)
+    }
+}
+
+fn run_until_failure<const N: usize>(
+    command: &Command,
+    names: &Names,
+    octets: &[u8],
+    cuts: &[u64],
+) -> Shown<N>
+    ensures { RunsOctets (running command.now names.now) octets.now true N result.written.items (said_in result.report) }
+{
+    let mut room = Room::new();
+    let report = run(
+        command,
+        names,
+        &mut FailingSource::new(octets, cuts),
+        &mut room,
+    );
+    let written = room.into_octets();
+    Shown { written, report }
+}
+
+fn run_to_end<const N: usize>(
+    command: &Command,
+    names: &Names,
+    octets: &[u8],
+    cuts: &[u64],
+) -> Shown<N>
+    ensures { RunsOctets (running command.now names.now) octets.now false N result.written.items (said_in result.report) }
+{
+    let mut room = Room::new();
+    let report = run(
+        command,
+        names,
+        &mut EndingSource::new(octets, cuts),
+        &mut room,
+    );
+    let written = room.into_octets();
+    Shown { written, report }
+}

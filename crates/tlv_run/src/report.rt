@@ -1,0 +1,208 @@
+//! What is said of a run: the exit status and the message.
+ghost use Rattle.std.specs.Prelude.{◌≡◌, ◌+◌, ◌++◌, ◌≤◌, [], decimal, length};
+ghost use Rattle.tlv_run.specs.Report.{line_with, said_in, said_of, saying as saying_of};
+ghost use Rattle.tlv_run.specs.Private.Report.{fault_line};
+ghost use Rattle.tlv_run.specs.Report.{said_of_cut, said_of_ending, said_of_findings, said_of_outcome, said_of_unused};
+ghost use Rattle.tlv_run.specs.Private.Report.{said_of_found, said_of_indef};
+ghost use Rattle.tlv_run.specs.Report.{said_of_closed, said_of_device, said_of_names};
+
+use arrayvec::ArrayVec;
+use itoa::Buffer;
+use tlv_cut::Cut;
+use tlv_head::Fault;
+use tlv_show::Outcome;
+use tlv_value::NamesFault;
+use tlv_walk::{DeviceFault, Ending};
+
+/// What a run came to.
+#[derive(Debug, Drop)]
+pub struct Report {
+    /// The exit status: 0 clean, 1 findings or nothing at an offset that was asked for, 2 a fault of the encoding, 3 a device
+    /// failed or the input is too long, 4 the words or the names file are refused, 5 memory was refused.
+    pub status: u8,
+    /// The number of findings.
+    pub findings: u64,
+    /// One line of ASCII without its end, or nothing.
+    pub message: ArrayVec<u8, 128>,
+}
+
+/// The report of a dump or a check: a fault, else an offset without a string, else findings. Their count stays.
+pub(crate) fn shown_report(came: Result<Outcome, DeviceFault>) -> Report
+    ensures { said_in result ≡ said_of said_of_outcome came }
+{
+    match came {
+        Ok(outcome) => {
+            let unused = unused_report(outcome.unused, findings_report(outcome.findings));
+            let mut report = ending_report(outcome.ending, unused);
+            report.findings = outcome.findings;
+            report
+        }
+        Err(failed) => device_report(failed),
+    }
+}
+
+/// The report of an extract of the element at this offset.
+pub(crate) fn cut_report(offset: u64, came: Result<Cut, DeviceFault>) -> Report
+    ensures { said_in result ≡ said_of (said_of_cut offset) came }
+{
+    match came {
+        Ok(cut) => ending_report(cut.ending, found_report(offset, cut.found)),
+        Err(fault) => device_report(fault),
+    }
+}
+
+/// The report of an input written with indefinite lengths.
+pub(crate) fn indef_report(came: Result<Ending, DeviceFault>) -> Report
+    ensures { said_in result ≡ said_of said_of_indef came }
+{
+    match came {
+        Ok(ending) => ending_report(ending, silent(0)),
+        Err(fault) => device_report(fault),
+    }
+}
+
+/// A fault, or else what there is to say of an input without one.
+fn ending_report(ending: Ending, other: Report) -> Report
+    ensures { said_in result ≡ said_of_ending ending (said_in other) }
+{
+    match ending {
+        Ending::Fault(fault) => reporting(2, fault_message(fault)),
+        Ending::Done => other,
+    }
+}
+
+fn unused_report(unused: Option<u64>, other: Report) -> Report
+    ensures { said_in result ≡ said_of_unused unused (said_in other) }
+{
+    match unused {
+        Some(offset) => reporting(1, numbered(b"E7 no string to read at offset ", offset)),
+        None => other,
+    }
+}
+
+fn findings_report(findings: u64) -> Report
+    ensures { said_in result ≡ said_of_findings findings }
+{
+    if findings == 0 {
+        silent(0)
+    } else {
+        reporting(1, numbered(b"findings: ", findings))
+    }
+}
+
+fn found_report(offset: u64, found: bool) -> Report
+    ensures { said_in result ≡ said_of_found offset found }
+{
+    if found {
+        silent(0)
+    } else {
+        reporting(1, numbered(b"E4 no element at offset ", offset))
+    }
+}
+
+/// The report where a device failed, or the input is too long.
+pub fn device_report(fault: DeviceFault) -> Report
+    ensures { said_in result ≡ said_of_device fault }
+{
+    match fault {
+        DeviceFault::ReadFailed => saying(3, b"E1 read failed"),
+        DeviceFault::WriteFailed => saying(3, b"E2 write failed"),
+        DeviceFault::InputTooLong => saying(3, b"E3 input too long"),
+    }
+}
+
+/// The report where the file to read does not open.
+pub fn closed_report() -> Report
+    ensures { said_in result ≡ said_of_closed }
+{
+    saying(3, b"E5 cannot open the file")
+}
+
+/// The report where the names file is refused.
+pub fn names_report(fault: NamesFault) -> Report
+    ensures { said_in result ≡ said_of_names fault }
+{
+    match fault {
+        NamesFault::BadOid(line) => reporting(
+            4,
+            of_line(b"N1", line, b": not an object identifier"),
+        ),
+        NamesFault::BadName(line) => reporting(4, of_line(b"N2", line, b": no usable name")),
+        NamesFault::Repeated(line) => reporting(4, of_line(b"N3", line, b": repeated")),
+        NamesFault::TooLarge => saying(4, b"N4 names file too large"),
+        NamesFault::ReadFailed => saying(4, b"N5 names file not read"),
+        NamesFault::Memory => saying(5, b"N6 out of memory"),
+    }
+}
+
+/// A report without findings that says this line, or nothing.
+pub fn saying(status: u8, line: &[u8]) -> Report
+    requires { length line.now ≤ 128 }
+    ensures { said_in result ≡ saying_of status line.now }
+{
+    reporting(status, text(line))
+}
+
+/// A report without findings and without a message.
+pub fn silent(status: u8) -> Report
+    ensures { said_in result ≡ saying_of status [] }
+{
+    reporting(status, ArrayVec::new())
+}
+
+/// A report without findings.
+fn reporting(status: u8, message: ArrayVec<u8, 128>) -> Report
+    ensures { said_in result ≡ saying_of status message.items }
+{
+    Report {
+        status,
+        findings: 0,
+        message,
+    }
+}
+
+fn text(line: &[u8]) -> ArrayVec<u8, 128>
+    requires { length line.now ≤ 128 }
+    ensures { result.items ≡ line.now }
+{
+    let mut message = ArrayVec::new();
+    let _ = message.try_extend_from_slice(line);
+    message
+}
+
+/// A text and a number behind it.
+fn numbered(line: &[u8], number: u64) -> ArrayVec<u8, 128>
+    requires { length line.now ≤ 64 }
+    ensures text { result.items ≡ line.now ++ decimal number }
+    ensures short { length result.items ≤ length line.now + 40 }
+{
+    let mut message = text(line);
+    let mut digits = Buffer::new();
+    let _ = message.try_extend_from_slice(digits.format(number).as_bytes());
+    message
+}
+
+/// A code, the number of a line, and what is wrong with it.
+fn of_line(code: &[u8], line: u32, what: &[u8]) -> ArrayVec<u8, 128>
+    requires code { length code.now ≤ 2 }
+    requires what { length what.now ≤ 64 }
+    ensures { result.items ≡ line_with code.now line what.now }
+{
+    let mut message = text(code);
+    let mut digits = Buffer::new();
+    let _ = message.try_extend_from_slice(b" line ");
+    let _ = message.try_extend_from_slice(digits.format(line).as_bytes());
+    let _ = message.try_extend_from_slice(what);
+    message
+}
+
+fn fault_message(fault: Fault) -> ArrayVec<u8, 128>
+    ensures { result.items ≡ fault_line fault }
+{
+    let mut message = numbered(b"fault at ", fault.offset);
+    let _ = message.try_extend_from_slice(b": ");
+    let _ = message.try_extend_from_slice(fault.code.name());
+    let _ = message.try_extend_from_slice(b" ");
+    let _ = message.try_extend_from_slice(fault.text());
+    message
+}

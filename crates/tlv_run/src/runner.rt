@@ -1,0 +1,38 @@
+//! A run of a command over a source and a drain.
+ghost use Rattle.tlv_run.specs.Report.{said_in};
+ghost use Rattle.tlv_run.specs.Results.{running};
+ghost use Rattle.tlv_run.specs.Runs.{Ran};
+
+use crate::command::Command;
+use crate::report::{Report, cut_report, indef_report, shown_report};
+use tlv_cut::{extract, indef};
+use tlv_show::{check, dump};
+use tlv_value::Names;
+use tlv_walk::{Drain, Source};
+
+/// Runs the command over what the source gives, writes to the drain, and reports what it came to: a failed read or
+/// write by its own message and the status 3, and otherwise what the encodings came to. The files that the command
+/// names are not opened here. This takes no memory.
+pub fn run<S: Source, D: Drain>(
+    command: &Command,
+    names: &Names,
+    source: &mut S,
+    drain: &mut D,
+) -> Report
+    ensures { Ran (running command.now names.now) (S.told source.old) (S.told source.new)
+        (D.told drain.old) (D.told drain.new) (said_in result) }
+{
+    match command {
+        Command::Dump { options, .. } => shown_report(dump(source, drain, options, names)),
+        Command::Check { rules, framing, .. } => shown_report(check(
+            source, drain, *rules, framing,
+        )),
+        Command::Extract {
+            offset,
+            contents,
+            framing,
+            ..
+        } => cut_report(*offset, extract(source, drain, *offset, *contents, framing)),
+        Command::Indef { padding, .. } => indef_report(indef(source, drain, *padding)),
+    }
+}

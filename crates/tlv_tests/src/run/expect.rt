@@ -1,0 +1,14 @@
+//! What a test expects of two values.
+use std::fmt::Debug;
+use std::process::Abort;
+
+/// Expects both to be the same; else `what` is told with them. It stands apart since each `assert_eq!` is proved where it
+/// stands.
+pub(super) fn expect_eq<W: Copy + Debug, T: Copy + PartialEq + Debug>(
+    rt: &impl Abort,
+    what: W,
+    got: T,
+    want: T,
+) {
+    assert!(rt; got == want, "{:?}: {:?} in place of {:?}", what, got, want);
+}

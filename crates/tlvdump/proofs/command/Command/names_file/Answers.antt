@@ -1,5 +1,0 @@
-use Rattle.std.proofs.Common.{rules}
-use Rattle.tlvdump.proofs.command.Command.names_file.Goals as goal
-
-pub returns-in-Dump : goal.returns-in-Dump
-returns-in-Dump c = search rules

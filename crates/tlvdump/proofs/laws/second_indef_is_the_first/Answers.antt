@@ -1,5 +1,0 @@
-use Rattle.tlvdump.proofs.Results.{second_indef}
-use Rattle.tlvdump.proofs.laws.second_indef_is_the_first.Goals as goal
-
-pub returns : goal.returns
-returns c = second_indef

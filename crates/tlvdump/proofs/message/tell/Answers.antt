@@ -1,8 +1,0 @@
-use Rattle.std.proofs.Common.{rules}
-use Rattle.tlvdump.proofs.message.tell.Goals as goal
-
-pub returns-clause-told : goal.returns-clause-told
-returns-clause-told g c = (c.send.result, search rules)
-
-pub returns-clause-status : goal.returns-clause-status
-returns-clause-status g c = search rules

@@ -1,5 +1,0 @@
-use Rattle.std.proofs.Common.{rules}
-use Rattle.tlvdump.proofs.octets.run_octets.Goals as goal
-
-pub returns-else-read_fails : goal.returns-else-read_fails
-returns-else-read_fails g c = search rules

@@ -1,5 +1,0 @@
-use Rattle.std.proofs.Common.{rules}
-use Rattle.tlvdump.proofs.report.device_report.Goals as goal
-
-pub returns-in-WriteFailed : goal.returns-in-WriteFailed
-returns-in-WriteFailed c = search rules
