@@ -13,6 +13,6 @@ mod text;
 pub use command::Command;
 pub use message::tell;
 pub use octets::{Shown, run_octets};
-pub use report::{Report, closed_report, device_report, names_report, saying, silent};
+pub use report::{Report, closed_report, device_report, names_report};
 pub use runner::run;
 pub use text::Text;

@@ -26,6 +26,23 @@ pub struct Report {
     pub message: ArrayVec<u8, 128>,
 }
 
+impl Report {
+    /// A report with this status and this message, of at most 128 octets, and without findings.
+    pub fn saying(status: u8, line: &[u8]) -> Report
+        requires { length line.now ≤ 128 }
+        ensures { said_in result ≡ saying_of status line.now }
+    {
+        reporting(status, text(line))
+    }
+
+    /// A report with this status, without a message and without findings.
+    pub fn silent(status: u8) -> Report
+        ensures { said_in result ≡ saying_of status [] }
+    {
+        reporting(status, ArrayVec::new())
+    }
+}
+
 /// The report of a dump or a check: a fault, else an offset without a string, else findings. Their count stays.
 pub(crate) fn shown_report(came: Result<Outcome, DeviceFault>) -> Report
     ensures { said_in result ≡ said_of said_of_outcome came }
@@ -56,7 +73,7 @@ pub(crate) fn indef_report(came: Result<Ending, DeviceFault>) -> Report
     ensures { said_in result ≡ said_of said_of_indef came }
 {
     match came {
-        Ok(ending) => ending_report(ending, silent(0)),
+        Ok(ending) => ending_report(ending, Report::silent(0)),
         Err(fault) => device_report(fault),
     }
 }
@@ -84,7 +101,7 @@ fn findings_report(findings: u64) -> Report
     ensures { said_in result ≡ said_of_findings findings }
 {
     if findings == 0 {
-        silent(0)
+        Report::silent(0)
     } else {
         reporting(1, numbered(b"findings: ", findings))
     }
@@ -94,7 +111,7 @@ fn found_report(offset: u64, found: bool) -> Report
     ensures { said_in result ≡ said_of_found offset found }
 {
     if found {
-        silent(0)
+        Report::silent(0)
     } else {
         reporting(1, numbered(b"E4 no element at offset ", offset))
     }
@@ -105,9 +122,9 @@ pub fn device_report(fault: DeviceFault) -> Report
     ensures { said_in result ≡ said_of_device fault }
 {
     match fault {
-        DeviceFault::ReadFailed => saying(3, b"E1 read failed"),
-        DeviceFault::WriteFailed => saying(3, b"E2 write failed"),
-        DeviceFault::InputTooLong => saying(3, b"E3 input too long"),
+        DeviceFault::ReadFailed => Report::saying(3, b"E1 read failed"),
+        DeviceFault::WriteFailed => Report::saying(3, b"E2 write failed"),
+        DeviceFault::InputTooLong => Report::saying(3, b"E3 input too long"),
     }
 }
 
@@ -115,7 +132,7 @@ pub fn device_report(fault: DeviceFault) -> Report
 pub fn closed_report() -> Report
     ensures { said_in result ≡ said_of_closed }
 {
-    saying(3, b"E5 cannot open the file")
+    Report::saying(3, b"E5 cannot open the file")
 }
 
 /// The report where the names file is refused.
@@ -129,25 +146,10 @@ pub fn names_report(fault: NamesFault) -> Report
         ),
         NamesFault::BadName(line) => reporting(4, of_line(b"N2", line, b": no usable name")),
         NamesFault::Repeated(line) => reporting(4, of_line(b"N3", line, b": repeated")),
-        NamesFault::TooLarge => saying(4, b"N4 names file too large"),
-        NamesFault::ReadFailed => saying(4, b"N5 names file not read"),
-        NamesFault::Memory => saying(5, b"N6 out of memory"),
+        NamesFault::TooLarge => Report::saying(4, b"N4 names file too large"),
+        NamesFault::ReadFailed => Report::saying(4, b"N5 names file not read"),
+        NamesFault::Memory => Report::saying(5, b"N6 out of memory"),
     }
-}
-
-/// A report without findings that says this line, or nothing.
-pub fn saying(status: u8, line: &[u8]) -> Report
-    requires { length line.now ≤ 128 }
-    ensures { said_in result ≡ saying_of status line.now }
-{
-    reporting(status, text(line))
-}
-
-/// A report without findings and without a message.
-pub fn silent(status: u8) -> Report
-    ensures { said_in result ≡ saying_of status [] }
-{
-    reporting(status, ArrayVec::new())
 }
 
 /// A report without findings.

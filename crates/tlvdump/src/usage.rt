@@ -4,7 +4,7 @@ ghost use Rattle.tlv_run.specs.Report.{said_in};
 ghost use Rattle.tlvdump.specs.Usage.{said_of_unprinted, said_of_usage, said_of_words};
 
 use arrayvec::ArrayVec;
-use tlv_run::{Report, device_report, saying, silent};
+use tlv_run::{Report, device_report};
 use tlv_walk::DeviceFault;
 
 /// Why the words of a command line are refused.
@@ -23,13 +23,13 @@ pub(crate) fn usage_report(fault: &UsageFault) -> Report
     ensures { said_in result ≡ said_of_usage fault.now }
 {
     match fault {
-        UsageFault::Parser(error) => silent(if error.use_stderr() { 4 } else { 0 }),
+        UsageFault::Parser(error) => Report::silent(if error.use_stderr() { 4 } else { 0 }),
         UsageFault::Value(name) => {
             let octets = name.as_bytes();
             let shown = &octets[..64.min(octets.len())];
-            saying(4, out_of_range(shown).as_slice())
+            Report::saying(4, out_of_range(shown).as_slice())
         }
-        UsageFault::Memory => saying(5, b"U3 out of memory"),
+        UsageFault::Memory => Report::saying(5, b"U3 out of memory"),
     }
 }
 
@@ -44,7 +44,7 @@ pub(crate) fn unprinted_report() -> Report
 pub(crate) fn words_report() -> Report
     ensures { said_in result ≡ said_of_words }
 {
-    saying(4, b"U1 an argument is not UTF-8")
+    Report::saying(4, b"U1 an argument is not UTF-8")
 }
 
 /// The message of U2, for the option of this name.

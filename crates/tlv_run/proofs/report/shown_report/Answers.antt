@@ -3,3 +3,6 @@ use Rattle.tlv_run.proofs.report.shown_report.Goals as goal
 
 pub returns-in-Err : goal.returns-in-Err
 returns-in-Err c = search rules
+
+pub returns-in-Ok : goal.returns-in-Ok
+returns-in-Ok c = search rules
