@@ -1,4 +1,3 @@
-use Rattle.std.proofs.Common.{rules}
 use Rattle.tlv_head.proofs.header.HeaderFields.wraps.Goals as goal
 
 pub returns : goal.returns

@@ -58,15 +58,14 @@ completes c =
     (made_whole _ _ _ _ _ (c.in-Finished.ensures c.self.inside.raw.items c.self.invariant) refl)
 
 pub returns-else-not-fits-clause-answer : goal.returns-else-not-fits-clause-answer
-returns-else-not-fits-clause-answer c =
-    (
-      completes c,
-      rw (c.with_raw.ensures, c.fields_of-fields.ensures) (record {
-        shallow = elim c.else-depth-ge128.branch [ else-depth-ge128-via-then-depth-ge128+else-holds w ↦ λ h. absurd (false≢true (sym w.if-holds.false ∙ w.holds.ensures ∙ h)) | else-depth-ge128-via-else-depth-ge128 w ↦ λ _. w.if-depth-ge128.false ];
-        within = c.fits.ensures.0 c.if-not-fits.false;
-      }),
-      refl,
-    )
+returns-else-not-fits-clause-answer c = (
+  completes c,
+  rw (c.with_raw.ensures, c.fields_of-fields.ensures) (record {
+    shallow = elim c.else-depth-ge128.branch [ else-depth-ge128-via-then-depth-ge128+else-holds w ↦ λ h. absurd (false≢true (sym w.if-holds.false ∙ w.holds.ensures ∙ h)) | else-depth-ge128-via-else-depth-ge128 w ↦ λ _. w.if-depth-ge128.false ];
+    within = c.fits.ensures.0 c.if-not-fits.false;
+  }),
+  refl,
+)
 
 pub returns-else-not-fits-clause-whole : goal.returns-else-not-fits-clause-whole
 returns-else-not-fits-clause-whole c = λ h d n f. ap (λ g. Whole g) (completes_unique _ _ _ _ (completes c) d)
