@@ -6,3 +6,6 @@ returns-clause-puts g c = search rules
 
 pub returns-clause-empty : goal.returns-clause-empty
 returns-clause-empty g c = search rules
+
+pub returns-in_err-send-clause-puts : goal.returns-in_err-send-clause-puts
+returns-in_err-send-clause-puts g c = search rules

@@ -28,3 +28,6 @@ returns-clause-tells c =
 
 pub padding-requires-clause-top : goal.padding-requires-clause-top
 padding-requires-clause-top c = search rules
+
+pub header-requires-clause-begins : goal.header-requires-clause-begins
+header-requires-clause-begins c = search rules
