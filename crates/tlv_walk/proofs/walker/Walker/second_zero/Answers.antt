@@ -14,6 +14,3 @@ returns-then-octet-ne0-clause-tells c =
 
 pub returns-clause-tells : goal.returns-clause-tells
 returns-clause-tells c = (0 ∷ [], grind (arith, common_steps), rw (← c.self.view_is, c.pop.ensures.rest) (tells_second _ (search rules) (grind arith)))
-
-pub returns-then-octet-ne0-clause-steps : goal.returns-then-octet-ne0-clause-steps
-returns-then-octet-ne0-clause-steps c = search rules
