@@ -89,9 +89,3 @@ returns-then-eq-clause-stops g c =
       | in-None+in-Some-quick_event+in_ok-go-in-Some-quick_event w ↦ rw (w.out-is, w.follower-is, w.walker-is, ← enough, w.go-is) (_, follows_as g.F.Follow.next g.D.Drain.told _ _ _ _ _ _ _ _ _ _ (follows_event g.F.Follow.next g.D.Drain.told _ _ _ _ _ _ _ _ _ _ _ _ _ _ c.events.invariant.follows (unmoved_event _ _ _ _ _ _ _ w.in-None.ensures.steps.0 w.in-None.ensures.steps.1 (stands_behind _ _ _ _ _ w.in-Some-quick_event.ensures.tells)) w.in_ok-go-in-Some-quick_event.ensures.state _ w.in_ok-go-in-Some-quick_event.ensures.puts), w.in-Some-quick_event.ensures.steps.0.3)
       | in-None+in-None-quick_event+in-Event+in_ok-go-in-Event w ↦ rw (w.out-is, w.follower-is, w.walker-is, ← enough, w.go-is) (_, follows_as g.F.Follow.next g.D.Drain.told _ _ _ _ _ _ _ _ _ _ (follows_event g.F.Follow.next g.D.Drain.told _ _ _ _ _ _ _ _ _ _ _ _ _ _ c.events.invariant.follows (unmoved_event _ _ _ _ _ _ _ (w.in-None-quick_event.ensures.steps.0 ∙ w.in-None.ensures.steps.0) (w.in-None-quick_event.ensures.steps.1 ∙ w.in-None.ensures.steps.1) w.in-Event.ensures.stands) w.in_ok-go-in-Event.ensures.state _ w.in_ok-go-in-Event.ensures.puts), w.in-Event.ensures.steps.0.3)
     ]
-
-pub returns-in_err-go-in-Some-quick_event-clause-failed : goal.returns-in_err-go-in-Some-quick_event-clause-failed
-returns-in_err-go-in-Some-quick_event-clause-failed g c = search rules
-
-pub returns-then-eq-clause-failed : goal.returns-then-eq-clause-failed
-returns-then-eq-clause-failed g c = search rules
