@@ -1,4 +1,5 @@
-use Rattle.std.proofs.Common.{drop, arith, ◌∙◌}
+use Rattle.std.proofs.Common.{rules, drop, arith, ◌∙◌}
+use Rattle.std.proofs.lemmas.Grind.{common_steps}
 use Rattle.std.proofs.lemmas.List.{take_all}
 use Rattle.std.specs.Prelude.{Err}
 use Rattle.std.proofs.lemmas.Result.{err_from_is_err_and}
@@ -17,3 +18,9 @@ pub returns-in_err-sent : goal.returns-in_err-sent
 returns-in_err-sent g c =
     let p = err_from_is_err_and c.from_residual.result c.from_residual.ensures.1 in rw p.1
     (sends_part (Err p.0) _ _ _ c.args.octets.now c.loop-sent.sent c.loop-sent.invariant.took c.loop-sent.invariant.failures c.in_err-sent.ensures.octets c.in_err-sent.ensures.failures tt c.loop-sent-test.true)
+
+pub returns : goal.returns
+returns g c = grind (arith, common_steps)
+
+pub write-requires : goal.write-requires
+write-requires g c = search rules

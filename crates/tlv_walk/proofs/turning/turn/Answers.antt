@@ -31,3 +31,12 @@ returns-clause-octets g c = grind (arith, elements)
 
 pub returns-clause-again : goal.returns-clause-again
 returns-clause-again g c = again_answered c.in-Ok.count c.min-walked.result c.args.limit c.args.walker.now _ _ _ _ c.answer.ensures c.in-Ok-follow_and_flush.ensures.used_up (search rules) (search rules) c.requires.taken
+
+pub returns-in_default-clause-calls : goal.returns-in_default-clause-calls
+returns-in_default-clause-calls g c = search rules
+
+pub returns-in_default-clause-turned : goal.returns-in_default-clause-turned
+returns-in_default-clause-turned g c = search rules
+
+pub follow_and_flush-requires : goal.follow_and_flush-requires
+follow_and_flush-requires g c = search rules

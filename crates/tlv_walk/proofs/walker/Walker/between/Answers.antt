@@ -28,3 +28,9 @@ returns-clause-tells c =
 
 pub padding-requires-clause-top : goal.padding-requires-clause-top
 padding-requires-clause-top c = search rules
+
+pub header-requires-clause-begins : goal.header-requires-clause-begins
+header-requires-clause-begins c = search rules
+
+pub padding-requires-clause-zero : goal.padding-requires-clause-zero
+padding-requires-clause-zero c = search rules

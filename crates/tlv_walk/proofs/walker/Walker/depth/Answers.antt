@@ -11,3 +11,9 @@ returns-clause-open_elements c = λ b told none st.
     let w = c.args.self.now in
     (search rules) ∙ state-depth w b told st.state st.has_state (idle w none)
     ∙ ap open_count (reading-unique w.framing b _ st.reading (state-reading w b told st.state st.has_state) st.is_reading)
+
+pub returns-clause-value : goal.returns-clause-value
+returns-clause-value c = search rules
+
+pub returns-clause-refused : goal.returns-clause-refused
+returns-clause-refused c = search rules

@@ -7,3 +7,9 @@ returns-in-Failed c = search rules
 
 pub returns-then-is_empty-2 : goal.returns-then-is_empty-2
 returns-then-is_empty-2 c = grind (arith, common_steps)
+
+pub end_filled-requires : goal.end_filled-requires
+end_filled-requires c = search rules
+
+pub between-requires : goal.between-requires
+between-requires c = search rules

@@ -1,0 +1,5 @@
+use Rattle.std.proofs.Common.{rules}
+use Rattle.tlv_walk.proofs.framing.Inside.none.Goals as goal
+
+pub returns : goal.returns
+returns c = search rules
