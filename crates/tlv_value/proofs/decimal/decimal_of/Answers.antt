@@ -40,3 +40,6 @@ loop-octet-preserved c =
 
 pub loop-octet-init : goal.loop-octet-init
 loop-octet-init c = search rules
+
+pub returns : goal.returns
+returns c = grind (arith, common_steps)
