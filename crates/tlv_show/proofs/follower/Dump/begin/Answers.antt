@@ -14,3 +14,6 @@ returns-clause-puts g c =
     let s : Showing = record { lines = c.self.inside.lines; finder = c.self.inside.finder.state } in
     rw (← c.self.view_is, beginning-is s c.args.is_value c.args.wraps c.args.header.now)
     (found_first g.D.Drain.told s _ c.begin-tells.new.self c.begin-tells.result _ _ _ _ _ _ _ c.style-style.ensures c.begin-tells.ensures c.in_ok-put_findings.ensures c.head.ensures.puts)
+
+pub returns-clause-state : goal.returns-clause-state
+returns-clause-state g c = search rules

@@ -1,4 +1,4 @@
-use Rattle.std.proofs.Common.{ap}
+use Rattle.std.proofs.Common.{ap, rules}
 use Rattle.tlv_show.specs.Dumped.{Dumping}
 use Rattle.tlv_show.specs.DumpStep.{Showing}
 use Rattle.tlv_show.proofs.DumpSteps.{each-filled, where_ok}
@@ -14,3 +14,15 @@ pub returns-in-Pad-clause-puts : goal.returns-in-Pad-clause-puts
 returns-in-Pad-clause-puts g c =
     let s : Showing = record { lines = c.self-in-Pad.inside.lines; finder = c.self-in-Pad.inside.finder.state } in
     rw (c.in-Pad.is, ← c.self-in-Pad.view_is, each-filled s c.in-Pad.octets.now) c.pad.ensures.puts
+
+pub returns-in-End-clause-state : goal.returns-in-End-clause-state
+returns-in-End-clause-state g c = search rules
+
+pub returns-in-End-clause-puts : goal.returns-in-End-clause-puts
+returns-in-End-clause-puts g c = search rules
+
+pub returns-after-matches-2-clause-state : goal.returns-after-matches-2-clause-state
+returns-after-matches-2-clause-state g c = search rules
+
+pub returns-after-matches-2-clause-puts : goal.returns-after-matches-2-clause-puts
+returns-after-matches-2-clause-puts g c = search rules

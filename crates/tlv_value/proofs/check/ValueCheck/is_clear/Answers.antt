@@ -7,3 +7,6 @@ returns-in-5 c = search rules
 
 pub returns-in_default : goal.returns-in_default
 returns-in_default c = grind (arith, common_steps)
+
+pub returns-then-self-ne0 : goal.returns-then-self-ne0
+returns-then-self-ne0 c = search rules

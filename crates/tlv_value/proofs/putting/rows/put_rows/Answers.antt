@@ -91,3 +91,12 @@ loop-rest-init g c = record {
   rows = refl;
   put = ([], puts_nothing g.D.Drain.told _ tt, refl);
 }
+
+pub returns-clause-row : goal.returns-clause-row
+returns-clause-row g c = grind (arith, common_steps)
+
+pub returns-clause-rows : goal.returns-clause-rows
+returns-clause-rows g c = grind (arith, common_steps)
+
+pub returns-clause-puts : goal.returns-clause-puts
+returns-clause-puts g c = grind (arith, common_steps)

@@ -1,5 +1,6 @@
-use Rattle.std.proofs.Common.{rules, ◌≡◌, ◌++◌, ◌∷◌, [], List, ℕ, sym, ap, ◌∙◌}
+use Rattle.std.proofs.Common.{rules, ◌≡◌, ◌++◌, ◌∷◌, [], List, ℕ, sym, ap, ◌∙◌, arith}
 use Rattle.std.specs.Prelude.{true, false}
+use Rattle.std.proofs.lemmas.Grind.{common_steps}
 use Rattle.tlv_walk.proofs.Puts.{puts_failed_in, puts_text, puts_then_as}
 use Rattle.tlv_value.specs.declared.kind.Kind.{Kind}
 use Rattle.tlv_value.specs.declared.kind.Kind.TheVariants.{Bits}
@@ -41,3 +42,6 @@ returns-clause-puts g c =
     let same = rows-first t.kind t.layout t.rows c.begin_row.new.row.items (in_rows Bits (x ∷ [])) rest u.0 u.2 c.begin_row.ensures in
     let told = g.D.Drain.told in
     puts_then_as told _ _ _ _ _ _ _ _ c.in_ok-put_bits.ensures (puts_text told _ _ _ _ _ same c.put_rows-2.ensures.puts) all
+
+pub returns-then-not-is_long-clause-puts : goal.returns-then-not-is_long-clause-puts
+returns-then-not-is_long-clause-puts g c = grind (arith, common_steps)

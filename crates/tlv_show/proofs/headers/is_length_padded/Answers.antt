@@ -1,0 +1,6 @@
+use Rattle.std.proofs.Common.{arith}
+use Rattle.std.proofs.lemmas.Grind.{common_steps}
+use Rattle.tlv_show.proofs.headers.is_length_padded.Goals as goal
+
+pub returns-else-size_of-lt128 : goal.returns-else-size_of-lt128
+returns-else-size_of-lt128 c = grind (arith, common_steps)

@@ -1,0 +1,5 @@
+use Rattle.std.proofs.Common.{rules}
+use Rattle.tlv_show.proofs.line_follower.Lines.unused.Goals as goal
+
+pub returns : goal.returns
+returns c = search rules
