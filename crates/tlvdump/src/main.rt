@@ -1,17 +1,6 @@
 //! `tlvdump` shows BER, CER and DER encodings without their ASN.1 module.
 #![tactic(auto)]
 
-mod matches;
-mod parser;
-#[cfg(test)]
-mod tests;
-mod usage;
-mod values;
-mod words;
-
-use crate::matches::command_of;
-use crate::usage::{UsageFault, unprinted_report, usage_report, words_report};
-use crate::words::Words;
 use std::env;
 use std::fs::File;
 use std::io::{ErrorKind, Read};
@@ -19,6 +8,7 @@ use std::process::ExitCode;
 use tlv_run::{Command, Report, closed_report, names_report, run, tell};
 use tlv_value::{Names, NamesFault};
 use tlv_walk::{ReadSource, WriteDrain};
+use tlv_words::{UsageFault, Words, command_of, unprinted_report, usage_report, words_report};
 
 fn main(rt: HostRuntime) -> ExitCode {
     let report = match started(&rt) {

@@ -1,0 +1,14 @@
+//! The words of `tlvdump`'s command line: the command that they ask for, or why they are refused.
+#![tactic(auto)]
+
+mod matches;
+mod parser;
+#[cfg(test)]
+mod tests;
+mod usage;
+mod values;
+mod words;
+
+pub use matches::command_of;
+pub use usage::{UsageFault, unprinted_report, usage_report, words_report};
+pub use words::Words;
