@@ -73,7 +73,7 @@ fn expect_shape(rt: &impl Abort, found: &Option<Header>, shape: &Shape<'_>) {
         Some(header) => is_of_shape(header, shape),
         None => false,
     };
-    assert!(rt; is_read, "{:?} of {:?}", found, shape.octets);
+    assert!(rt; is_read, "{:?}", shape.octets);
 }
 
 /// Octet by octet, and all at once; with room for the contents, and without a bound.

@@ -1,5 +1,5 @@
 //! `indef` over memory.
-use super::indef_rows::{CHANGED, CLEAN, ENDED, KEPT, PADDED, REFUSED, Row};
+use super::indef_rows::{CHANGED, ENDED, KEPT, PADDED, REFUSED, Row};
 use std::process::Abort;
 use std::test::Fail;
 use tlv_cut::indef;
@@ -66,8 +66,10 @@ pub(crate) fn expect_in_pieces(rt: &impl Abort, row: &Row<'_>, room: &mut [u8]) 
 pub(crate) fn kept(input: &[u8]) -> Row<'_> {
     Row {
         input,
+        cuts: &[],
+        padding: false,
         written: input,
-        ..CLEAN
+        fault: None,
     }
 }
 

@@ -1,5 +1,7 @@
 //! Texts of tags and of faults.
 use super::octets::OFFSET;
+use crate::expect::expect_eq;
+use std::process::Abort;
 use tlv_head::{Class, Fault, FaultCode, tag_text, type_name};
 
 /// The texts of the universal tags, by their numbers.
@@ -44,89 +46,111 @@ static UNIVERSAL: [&str; 38] = [
     "[UNIVERSAL 37]",
 ];
 
+/// Tags by class and number, and their texts.
+static TAGS: [(Class, u64, &str); 6] = [
+    (
+        Class::Universal,
+        9_223_372_036_854_775_807,
+        "[UNIVERSAL 9223372036854775807]",
+    ),
+    (Class::Application, 31, "[APPLICATION 31]"),
+    (
+        Class::Application,
+        9_223_372_036_854_775_807,
+        "[APPLICATION 9223372036854775807]",
+    ),
+    (Class::Context, 0, "[0]"),
+    (
+        Class::Context,
+        72_057_594_037_927_936,
+        "[72057594037927936]",
+    ),
+    (Class::Private, 2, "[PRIVATE 2]"),
+];
+
+/// Faults, their codes and texts.
+static FAULTS: [(FaultCode, &str, &str); 12] = [
+    (FaultCode::Empty, "F01", "empty input"),
+    (FaultCode::Short, "F02", "input ends inside an encoding"),
+    (
+        FaultCode::StrayEnd,
+        "F03",
+        "end-of-contents outside an indefinite element",
+    ),
+    (FaultCode::BadEnd, "F04", "octet 00 not followed by 00"),
+    (
+        FaultCode::MissingEnd,
+        "F05",
+        "no end-of-contents inside the enclosing length",
+    ),
+    (
+        FaultCode::TagTooLong,
+        "F06",
+        "more than nine octets of tag number",
+    ),
+    (
+        FaultCode::ReservedLength,
+        "F07",
+        "length octet ff is reserved",
+    ),
+    (
+        FaultCode::IndefinitePrimitive,
+        "F08",
+        "indefinite length of a primitive",
+    ),
+    (FaultCode::LengthTooLarge, "F09", "length of 2^40 or more"),
+    (FaultCode::TooDeep, "F10", "more than 128 open elements"),
+    (
+        FaultCode::Overrun,
+        "F11",
+        "element runs past the enclosing length",
+    ),
+    (
+        FaultCode::BadInside,
+        "F12",
+        "first octet of a wrapped BIT STRING is not 00",
+    ),
+];
+
+/// Expects the text of a universal tag, which is its name where the number has one.
+fn expect_universal(rt: &impl Abort, number: u64, text: &str) {
+    expect_eq(
+        rt,
+        tag_text(Class::Universal, number).as_slice(),
+        text.as_bytes(),
+    );
+    let has_name = !text.starts_with("[UNIVERSAL ");
+    let name = if has_name {
+        Some(text.as_bytes())
+    } else {
+        None
+    };
+    expect_eq(rt, type_name(number), name);
+}
+
 #[test]
 fn tags_have_texts(rt: HostRuntime) {
-    for (number, text) in UNIVERSAL.iter().enumerate() {
-        let tag = tag_text(Class::Universal, number as u64);
-        assert_eq!(rt; tag.as_slice(), text.as_bytes(), "{}", number);
-        match type_name(number as u64) {
-            Some(name) => assert_eq!(rt; name, text.as_bytes()),
-            None => assert!(rt; text.starts_with("[UNIVERSAL "), "{}", number),
-        }
+    for number in 0..UNIVERSAL.len() {
+        expect_universal(&rt, number as u64, UNIVERSAL[number]);
     }
-    for (class, number, text) in [
-        (
-            Class::Universal,
-            9_223_372_036_854_775_807,
-            "[UNIVERSAL 9223372036854775807]",
-        ),
-        (Class::Application, 31, "[APPLICATION 31]"),
-        (
-            Class::Application,
-            9_223_372_036_854_775_807,
-            "[APPLICATION 9223372036854775807]",
-        ),
-        (Class::Context, 0, "[0]"),
-        (
-            Class::Context,
-            72_057_594_037_927_936,
-            "[72057594037927936]",
-        ),
-        (Class::Private, 2, "[PRIVATE 2]"),
-    ] {
-        assert_eq!(rt; tag_text(class, number).as_slice(), text.as_bytes());
+    for (class, number, text) in &TAGS {
+        expect_eq(&rt, tag_text(*class, *number).as_slice(), text.as_bytes());
     }
+}
+
+/// Expects the code and the text of a fault.
+fn expect_fault(rt: &impl Abort, code: FaultCode, name: &str, text: &str) {
+    let fault = Fault {
+        code,
+        offset: OFFSET,
+    };
+    expect_eq(rt, code.name(), name.as_bytes());
+    expect_eq(rt, fault.text(), text.as_bytes());
 }
 
 #[test]
 fn faults_have_texts(rt: HostRuntime) {
-    for (code, name, text) in [
-        (FaultCode::Empty, "F01", "empty input"),
-        (FaultCode::Short, "F02", "input ends inside an encoding"),
-        (
-            FaultCode::StrayEnd,
-            "F03",
-            "end-of-contents outside an indefinite element",
-        ),
-        (FaultCode::BadEnd, "F04", "octet 00 not followed by 00"),
-        (
-            FaultCode::MissingEnd,
-            "F05",
-            "no end-of-contents inside the enclosing length",
-        ),
-        (
-            FaultCode::TagTooLong,
-            "F06",
-            "more than nine octets of tag number",
-        ),
-        (
-            FaultCode::ReservedLength,
-            "F07",
-            "length octet ff is reserved",
-        ),
-        (
-            FaultCode::IndefinitePrimitive,
-            "F08",
-            "indefinite length of a primitive",
-        ),
-        (FaultCode::LengthTooLarge, "F09", "length of 2^40 or more"),
-        (FaultCode::TooDeep, "F10", "more than 128 open elements"),
-        (
-            FaultCode::Overrun,
-            "F11",
-            "element runs past the enclosing length",
-        ),
-        (
-            FaultCode::BadInside,
-            "F12",
-            "first octet of a wrapped BIT STRING is not 00",
-        ),
-    ] {
-        assert_eq!(rt; code.name(), name.as_bytes());
-        let fault = Fault {
-            code,
-            offset: OFFSET,
-        };
-        assert_eq!(rt; fault.text(), text.as_bytes());
+    for (code, name, text) in &FAULTS {
+        expect_fault(&rt, *code, name, text);
     }
 }
