@@ -6,3 +6,13 @@ use std::process::Abort;
 pub(crate) fn expect_eq<T: Copy + PartialEq + Debug>(rt: &impl Abort, got: T, want: T) {
     assert!(rt; got == want, "{:?} in place of {:?}", got, want);
 }
+
+/// The same, and tells `what` they are of where they differ.
+pub(crate) fn expect_eq_of<W: Copy + Debug, T: Copy + PartialEq + Debug>(
+    rt: &impl Abort,
+    what: W,
+    got: T,
+    want: T,
+) {
+    assert!(rt; got == want, "{:?}: {:?} in place of {:?}", what, got, want);
+}

@@ -1,7 +1,6 @@
 //! Runs over memory: what they write and report, in whatever pieces the octets come, and where a device fails.
 mod deep;
 mod encodings;
-mod expect;
 mod failures;
 mod framed;
 mod layouts;
@@ -11,12 +10,12 @@ mod runs;
 mod values;
 
 use self::encodings::{ENCODINGS, ENDED};
-use self::expect::expect_eq;
 use self::framed::{NO_STRINGS, PADDED, WRAPPED, WRAPPED_FAULTS};
 use self::layouts::{LAYOUTS, LONG};
 use self::refused::{REFUSED_ENDS, REFUSED_HEADERS};
 use self::rows::Row;
 use self::values::{BITS_AND_ARCS, NUMBERS, TEXTS, UNIVERSAL_NUMBERS};
+use crate::expect::expect_eq_of;
 use std::alloc::Global;
 use std::process::Abort;
 use std::test::Fail;
@@ -126,15 +125,15 @@ fn expect_dump(
     let mut source = MemSource::new(row.input, devices.cuts, devices.fail_at);
     let mut drain = MemDrain::new(room, devices.most);
     let report = run(&command, &Names::empty(), &mut source, &mut drain);
-    expect_eq(rt, row.name, drain.written(), answer.written);
-    expect_eq(
+    expect_eq_of(rt, row.name, drain.written(), answer.written);
+    expect_eq_of(
         rt,
         row.name,
         report.message.as_slice(),
         answer.message.as_bytes(),
     );
-    expect_eq(rt, row.name, report.status, answer.status);
-    expect_eq(rt, row.name, report.findings, answer.findings);
+    expect_eq_of(rt, row.name, report.status, answer.status);
+    expect_eq_of(rt, row.name, report.findings, answer.findings);
 }
 
 /// Expects the row's own answer, with all its lines, of a dump whose octets come in these pieces.

@@ -3,8 +3,6 @@
 
 mod matches;
 mod parser;
-#[cfg(test)]
-mod tests;
 mod usage;
 mod values;
 mod words;

@@ -1,10 +1,10 @@
 //! Reads and writes that fail, and what is written before.
-use super::expect::expect_eq;
 use super::rows::Row;
 use super::{
     Answer, Devices, ONES, READ_FAILED, WRITE_FAILED, dump_command, expect_dump, expect_row, plain,
     tables, text_of,
 };
+use crate::expect::expect_eq_of;
 use std::alloc::Global;
 use std::process::Abort;
 use std::test::Fail;
@@ -110,17 +110,17 @@ fn lines_before_a_failed_read_are_written(rt: HostRuntime) {
     let mut drain = MemDrain::new(&mut room, 4096);
     let command = dump_command(plain());
     let report = run(&command, &Names::empty(), &mut source, &mut drain);
-    expect_eq(
+    expect_eq_of(
         &rt,
         "written",
         drain.written(),
         b"       0      9: VisibleString {\n".as_slice(),
     );
-    expect_eq(
+    expect_eq_of(
         &rt,
         "message",
         report.message.as_slice(),
         READ_FAILED.as_bytes(),
     );
-    expect_eq(&rt, "status", report.status, 3);
+    expect_eq_of(&rt, "status", report.status, 3);
 }

@@ -1,7 +1,7 @@
 //! Runs of a dump: in whatever pieces the octets come, without memory, and with names.
-use super::expect::expect_eq;
 use super::rows::Row;
 use super::{dump_command, expect_in_pieces, plain, tables, text_of};
+use crate::expect::expect_eq_of;
 use std::alloc::Global;
 use std::process::Abort;
 use std::test::Fail;
@@ -52,8 +52,8 @@ fn runs_take_no_memory(rt: HostRuntime) {
         let mut source = MemSource::new(input, &[], None);
         let mut drain = MemDrain::new(&mut room, 4096);
         let report = run(&command, &Names::empty(), &mut source, &mut drain);
-        expect_eq(&rt, "written", drain.written(), written);
-        expect_eq(&rt, "status", report.status, 0);
+        expect_eq_of(&rt, "written", drain.written(), written);
+        expect_eq_of(&rt, "status", report.status, 0);
     }
 }
 
@@ -73,9 +73,9 @@ fn names_of_object_identifiers_are_shown(rt: HostRuntime) -> Result<(), Fail> {
     let text = b"       0      3: OBJECT IDENTIFIER 1.2.840 (us)
        5      4: RELATIVE-OID 1.2.840
 ";
-    expect_eq(&rt, "written", drain.written(), text.as_slice());
-    expect_eq(&rt, "message", report.message.as_slice(), b"".as_slice());
-    expect_eq(&rt, "status", report.status, 0);
+    expect_eq_of(&rt, "written", drain.written(), text.as_slice());
+    expect_eq_of(&rt, "message", report.message.as_slice(), b"".as_slice());
+    expect_eq_of(&rt, "status", report.status, 0);
     Ok(())
 }
 
@@ -97,9 +97,9 @@ fn findings_are_counted(rt: HostRuntime) {
         let mut source = MemSource::new(&input[..octets], &[6], fail_at);
         let mut drain = MemDrain::new(&mut room, 4096);
         let report = run(&command, &Names::empty(), &mut source, &mut drain);
-        expect_eq(&rt, octets, report.findings, findings);
-        expect_eq(&rt, octets, report.status, status);
-        expect_eq(
+        expect_eq_of(&rt, octets, report.findings, findings);
+        expect_eq_of(&rt, octets, report.status, status);
+        expect_eq_of(
             &rt,
             octets,
             drain.written(),

@@ -4,7 +4,7 @@ use std::process::Abort;
 
 /// Expects both to be the same; else `what` is told with them. It stands apart since each `assert_eq!` is proved where it
 /// stands.
-pub(super) fn expect_eq<W: Copy + Debug, T: Copy + PartialEq + Debug>(
+pub(crate) fn expect_eq<W: Copy + Debug, T: Copy + PartialEq + Debug>(
     rt: &impl Abort,
     what: W,
     got: T,

@@ -1,15 +1,14 @@
 //! What is written and reported of an input, by the words that ask for it.
 use super::ONES;
 use super::asked_rows::{Asked, CHECKS, DUMPS, EXTRACTS, FAILED_EXTRACTS, INDEFS};
-use super::expect::expect_eq;
-use crate::matches::command_of;
-use crate::words::Words;
+use crate::expect::expect_eq;
 use std::alloc::Global;
 use std::process::Abort;
 use std::test::Fail;
 use tlv_run::{Command, run};
 use tlv_value::Names;
 use tlv_walk::{MemDrain, MemSource};
+use tlv_words::{Words, command_of};
 
 /// The command that these words ask for, behind the program's name.
 pub(crate) fn command_for(alloc: Global, list: &[&str]) -> Result<Command, Fail> {

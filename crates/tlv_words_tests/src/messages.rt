@@ -1,10 +1,10 @@
 //! What is told where no input is read, and how it is told.
-use super::expect::expect_eq;
-use crate::usage::{UsageFault, unprinted_report, usage_report, words_report};
+use crate::expect::expect_eq;
 use std::process::Abort;
 use tlv_run::{Report, closed_report, names_report, tell};
 use tlv_value::NamesFault;
 use tlv_walk::MemDrain;
+use tlv_words::{UsageFault, unprinted_report, usage_report, words_report};
 
 /// Expects this status, and this line with a line feed behind it.
 fn expect_told(rt: &impl Abort, report: &Report, status: u8, line: &[u8]) {

@@ -1,8 +1,8 @@
 //! Runs over octets in memory, which `run_octets` makes with devices of its own.
 use super::asked::command_for;
 use super::asked_rows::{Asked, CHECKS, DUMPS, EXTRACTS, FAILED_EXTRACTS, INDEFS, STRING};
-use super::expect::expect_eq;
 use super::{ONES, READ_FAILED, WRITE_FAILED};
+use crate::expect::expect_eq;
 use std::alloc::Global;
 use std::process::Abort;
 use std::test::Fail;

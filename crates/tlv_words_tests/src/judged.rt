@@ -1,15 +1,13 @@
 //! What words ask for, and why words are refused.
-use super::expect::expect_eq;
-use super::words_rows::{
+use super::judged_rows::{
     CUTS, Comes, INSIDE, Judged, LIMITS, REFUSED_VALUES, RULES, SHOWN, WRONG_OPTIONS, WRONG_WORDS,
 };
-use crate::matches::command_of;
-use crate::usage::UsageFault;
-use crate::words::Words;
+use crate::expect::expect_eq;
 use std::alloc::Global;
 use std::process::Abort;
 use std::test::Fail;
 use tlv_run::Command;
+use tlv_words::{UsageFault, Words, command_of};
 
 fn command(alloc: Global, list: &[&str]) -> Result<Command, UsageFault> {
     let mut words = Words::new(alloc);
