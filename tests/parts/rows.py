@@ -1,95 +1,19 @@
-"""Rows of tests/rows: words, octets, and what is written.
-
-A row is some lines, and ends before an empty line. The first character of a line tells what it is:
-
-    $ dump --limit 1   the words, as a shell reads them (names: the row's names file)
-    @ 1.2.840 us       a line of that names file
-    < 30 80 (00)*3 "a" octets of the input: in hexadecimal, text in quotation marks, repeated
-    | text             a line that is written
-    > 30 80            octets that are written
-    ! text             the message on standard error
-    = 2                the status (0 where the row has no such line)
-    # text             a comment
+"""The rows of tests/rows: words, octets, and what is written and reported (parts/row_files.py reads them).
 
 Each row is run four times: on a pipe, octet by octet through a pipe (up to 64 octets), on a file as
-standard input, and on FILE.
+standard input, and on FILE. And what `tests/make-rows` writes of the rows must be what the repository has.
 """
 import fcntl
+import importlib.machinery
+import importlib.util
 import os
-import re
-import shlex
 import struct
 import subprocess
 import termios
 import time
 
 from parts.harness import SECONDS, Done, message
-
-TOKEN = re.compile(r'\s+|(?P<octet>[0-9a-f]{2})|"(?P<text>[^"]*)"|(?P<open>\()|\)\*(?P<times>\d+)')
-
-
-def octets_of(text):
-    """Reads octets as a row writes them."""
-    stack, at = [b""], 0
-    while at < len(text):
-        it = TOKEN.match(text, at)
-        if not it:
-            raise ValueError(f"no octets: {text[at:]}")
-        at = it.end()
-        if it["octet"]:
-            stack[-1] += bytes.fromhex(it["octet"])
-        elif it["text"] is not None:
-            stack[-1] += it["text"].encode()
-        elif it["open"]:
-            stack.append(b"")
-        elif it["times"]:
-            group = stack.pop()
-            stack[-1] += group * int(it["times"])
-    return stack[0]
-
-
-class Row:
-    def __init__(self, place):
-        self.place, self.words, self.names = place, None, None
-        self.given, self.out, self.message, self.status = b"", b"", "", 0
-
-    def read(self, line):
-        kind, rest = line[0], line[2:]
-        if kind == "$":
-            self.words = shlex.split(rest)
-        elif kind == "@":
-            self.names = (self.names or b"") + rest.encode() + b"\n"
-        elif kind == "<":
-            self.given += octets_of(rest)
-        elif kind == "|":
-            self.out += rest.encode() + b"\n"
-        elif kind == ">":
-            self.out += octets_of(rest)
-        elif kind == "!":
-            self.message = rest
-        elif kind == "=":
-            self.status = int(rest)
-        elif kind != "#":
-            raise ValueError(f"{self.place}: {line}")
-
-    def wanted(self):
-        return Done(self.status, self.out, message(self.message))
-
-
-def rows_of(path):
-    """The rows of a file."""
-    rows, row = [], None
-    with open(path, encoding="utf-8") as file:
-        for number, line in enumerate(file, 1):
-            line = line.rstrip("\n")
-            if not line:
-                row = None
-                continue
-            if row is None:
-                row = Row(f"{os.path.basename(path)}:{number}")
-                rows.append(row)
-            row.read(line)
-    return [row for row in rows if row.words]
+from parts.row_files import files
 
 
 def waiting(pipe):
@@ -112,10 +36,14 @@ def in_single_octets(part, row):
     return Done(child.returncode, out, err)
 
 
+def wanted_of(row):
+    return Done(row.status, row.out, message(row.message))
+
+
 def run_row(part, row):
     if row.names is not None:
         part.write("names", row.names)
-    what, wanted = f"{row.place} {' '.join(row.words)}", row.wanted()
+    what, wanted = f"{row.place} {' '.join(row.words)}", wanted_of(row)
     part.same(f"{what}, a pipe", part.run(row.words, row.given), wanted)
     path = part.write("input", row.given)
     with open(path, "rb") as file:
@@ -126,8 +54,17 @@ def run_row(part, row):
         part.same(f"{what}, single octets", in_single_octets(part, row), wanted)
 
 
+def stale_files(part):
+    """The files that `tests/make-rows` would write otherwise than they are."""
+    loader = importlib.machinery.SourceFileLoader("make_rows", os.path.join(part.root, "tests", "make-rows"))
+    script = importlib.util.module_from_spec(importlib.util.spec_from_loader("make_rows", loader))
+    loader.exec_module(script)
+    return script.stale(part.root)
+
+
 def test(part):
-    folder = os.path.join(part.root, "tests", "rows")
-    for name in sorted(os.listdir(folder)):
-        for row in rows_of(os.path.join(folder, name)):
+    stale = stale_files(part)
+    part.expect("tests/make-rows would write these files as they are", not stale, *stale)
+    for rows in files(part.root).values():
+        for row in rows:
             run_row(part, row)

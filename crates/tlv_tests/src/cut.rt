@@ -1,6 +1,71 @@
-//! What is written over memory, in whatever pieces the octets come, and where a device fails.
-mod extract_rows;
-mod extracts;
-mod indef;
-mod indef_long;
-mod indef_rows;
+//! The calls of `tlv_cut` by themselves: what they write and answer.
+use crate::expect::expect_eq;
+use std::process::Abort;
+use tlv_cut::{Cut, Extract, Indef, extract, indef};
+use tlv_walk::{DeviceFault, Ending, Follow, Framing, MemDrain, MemSource, drive};
+
+/// A SEQUENCE that holds an INTEGER.
+const INPUT: &[u8] = b"\x30\x03\x02\x01\x05";
+
+/// What `indef` writes of it.
+const INDEFINITE: &[u8] = b"\x30\x80\x02\x01\x05\x00\x00";
+
+/// Whether the follower by itself writes these octets of the input.
+fn writes<F: Follow>(follower: &mut F, written: &[u8]) -> bool {
+    let mut room = [0; 8];
+    let mut source = MemSource::new(INPUT, &[], None);
+    let mut drain = MemDrain::new(&mut room, 8);
+    let run = drive(&mut source, follower, &mut drain, &Framing::plain());
+    run.is_ok() && drain.written() == written
+}
+
+/// Followers by themselves: one finds its element, and writes the contents alone, and one writes the
+/// indefinite form.
+#[test]
+fn followers_write_by_themselves(rt: HostRuntime) {
+    let mut follower = Extract::new(2, true);
+    assert!(rt; !follower.found() && writes(&mut follower, b"\x05") && follower.found());
+    assert!(rt; writes(&mut Indef::new(), INDEFINITE));
+}
+
+/// Expects the extract of the element at the offset to write these octets and answer this.
+fn expect_extract(
+    rt: &impl Abort,
+    offset: u64,
+    fail_at: Option<u64>,
+    written: &[u8],
+    answer: Result<Cut, DeviceFault>,
+) {
+    let mut room = [0; 8];
+    let mut source = MemSource::new(INPUT, &[4], fail_at);
+    let mut drain = MemDrain::new(&mut room, 8);
+    let cut = extract(&mut source, &mut drain, offset, false, &Framing::plain());
+    expect_eq(rt, drain.written(), written);
+    expect_eq(rt, cut, answer);
+}
+
+#[test]
+fn elements_are_extracted(rt: HostRuntime) {
+    for (offset, found, written) in [
+        (0, true, INPUT),
+        (2, true, b"\x02\x01\x05"),
+        (3, false, b""),
+    ] {
+        let answer = Cut {
+            ending: Ending::Done,
+            found,
+        };
+        expect_extract(&rt, offset, None, written, Ok(answer));
+    }
+    expect_extract(&rt, 2, Some(1), b"\x02\x01", Err(DeviceFault::ReadFailed));
+}
+
+#[test]
+fn lengths_become_indefinite(rt: HostRuntime) {
+    let mut room = [0; 8];
+    let mut source = MemSource::new(INPUT, &[], None);
+    let mut drain = MemDrain::new(&mut room, 8);
+    let ending = indef(&mut source, &mut drain, false);
+    expect_eq(&rt, drain.written(), INDEFINITE);
+    expect_eq(&rt, ending, Ok(Ending::Done));
+}

@@ -1,6 +1,5 @@
 //! Dumps of events, told one by one.
-mod check_rows;
-mod checks;
+mod calls;
 mod turns;
 
 use crate::expect::expect_eq;

@@ -1,24 +1,37 @@
-//! The tests of `tlv_words`, by what it makes public: what words ask for, and what is written and reported then.
+//! The tests from words to octets, by what `tlv_words` and `tlv_run` make public: what words ask for, and what is written and
+//! reported then. Each row of tests/rows is run here in every way.
 #![tactic(auto)]
 
 #[cfg(test)]
-mod asked;
-#[cfg(test)]
-mod asked_rows;
+mod broken;
 #[cfg(test)]
 mod expect;
+#[cfg(test)]
+mod framings;
 #[cfg(test)]
 mod judged;
 #[cfg(test)]
 mod judged_rows;
 #[cfg(test)]
+mod long;
+#[cfg(test)]
+mod long_rows;
+#[cfg(test)]
 mod messages;
 #[cfg(test)]
 mod octets;
+#[cfg(test)]
+mod row;
+#[cfg(test)]
+mod rows;
+#[cfg(test)]
+mod runs;
+#[cfg(test)]
+mod table;
 
 /// Cuts into single octets: as many as the inputs of these tests have, and more.
 #[cfg(test)]
-const ONES: [u64; 64] = [1; 64];
+const ONES: [u64; 9000] = [1; 9000];
 
 #[cfg(test)]
 const READ_FAILED: &str = "E1 read failed";

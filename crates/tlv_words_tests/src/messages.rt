@@ -1,9 +1,9 @@
 //! What is told where no input is read, and how it is told.
 use crate::expect::expect_eq;
 use std::process::Abort;
-use tlv_run::{Report, closed_report, names_report, tell};
+use tlv_run::{Report, closed_report, device_report, names_report, tell};
 use tlv_value::NamesFault;
-use tlv_walk::MemDrain;
+use tlv_walk::{DeviceFault, MemDrain};
 use tlv_words::{UsageFault, unprinted_report, usage_report, words_report};
 
 /// Expects this status, and this line with a line feed behind it.
@@ -15,47 +15,76 @@ fn expect_told(rt: &impl Abort, report: &Report, status: u8, line: &[u8]) {
 }
 
 #[test]
-fn lines_are_told(rt: HostRuntime) {
+fn lines_of_devices_are_told(rt: HostRuntime) {
+    expect_told(
+        &rt,
+        &device_report(DeviceFault::ReadFailed),
+        3,
+        b"E1 read failed\n",
+    );
+    expect_told(
+        &rt,
+        &device_report(DeviceFault::WriteFailed),
+        3,
+        b"E2 write failed\n",
+    );
+    expect_told(
+        &rt,
+        &device_report(DeviceFault::InputTooLong),
+        3,
+        b"E3 input too long\n",
+    );
+    expect_told(&rt, &closed_report(), 3, b"E5 cannot open the file\n");
+    expect_told(&rt, &unprinted_report(), 3, b"E2 write failed\n");
+}
+
+#[test]
+fn lines_of_words_are_told(rt: HostRuntime) {
     let value = UsageFault::Value("--inside");
-    for (report, status, line) in [
-        (closed_report(), 3, b"E5 cannot open the file\n".as_slice()),
-        (unprinted_report(), 3, b"E2 write failed\n"),
-        (words_report(), 4, b"U1 an argument is not UTF-8\n"),
-        (
-            usage_report(&value),
-            4,
-            b"U2 value out of range: --inside\n",
-        ),
-        (usage_report(&UsageFault::Memory), 5, b"U3 out of memory\n"),
-        (
-            names_report(NamesFault::BadOid(3)),
-            4,
-            b"N1 line 3: not an object identifier\n",
-        ),
-        (
-            names_report(NamesFault::BadName(3)),
-            4,
-            b"N2 line 3: no usable name\n",
-        ),
-        (
-            names_report(NamesFault::Repeated(3)),
-            4,
-            b"N3 line 3: repeated\n",
-        ),
-        (
-            names_report(NamesFault::TooLarge),
-            4,
-            b"N4 names file too large\n",
-        ),
-        (
-            names_report(NamesFault::ReadFailed),
-            4,
-            b"N5 names file not read\n",
-        ),
-        (names_report(NamesFault::Memory), 5, b"N6 out of memory\n"),
-    ] {
-        expect_told(&rt, &report, status, line);
-    }
+    expect_told(&rt, &words_report(), 4, b"U1 an argument is not UTF-8\n");
+    expect_told(
+        &rt,
+        &usage_report(&value),
+        4,
+        b"U2 value out of range: --inside\n",
+    );
+    expect_told(
+        &rt,
+        &usage_report(&UsageFault::Memory),
+        5,
+        b"U3 out of memory\n",
+    );
+}
+
+/// Expects the line of a names file that is refused.
+fn expect_refused(rt: &impl Abort, fault: NamesFault, status: u8, line: &[u8]) {
+    expect_told(rt, &names_report(fault), status, line);
+}
+
+#[test]
+fn lines_of_names_are_told(rt: HostRuntime) {
+    expect_refused(
+        &rt,
+        NamesFault::BadOid(3),
+        4,
+        b"N1 line 3: not an object identifier\n",
+    );
+    expect_refused(
+        &rt,
+        NamesFault::BadName(3),
+        4,
+        b"N2 line 3: no usable name\n",
+    );
+    expect_refused(&rt, NamesFault::Repeated(3), 4, b"N3 line 3: repeated\n");
+    expect_refused(&rt, NamesFault::TooLarge, 4, b"N4 names file too large\n");
+    expect_refused(&rt, NamesFault::ReadFailed, 4, b"N5 names file not read\n");
+    expect_refused(&rt, NamesFault::Memory, 5, b"N6 out of memory\n");
+}
+
+#[test]
+fn reports_are_told(rt: HostRuntime) {
+    expect_told(&rt, &Report::silent(0), 0, b"");
+    expect_told(&rt, &Report::saying(1, b"findings: 3"), 1, b"findings: 3\n");
 }
 
 /// A line that is not taken whole changes no status.

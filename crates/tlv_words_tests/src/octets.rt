@@ -1,8 +1,8 @@
 //! Runs over octets in memory, which `run_octets` makes with devices of its own.
-use super::asked::command_for;
-use super::asked_rows::{Asked, CHECKS, DUMPS, EXTRACTS, FAILED_EXTRACTS, INDEFS, STRING};
 use super::{ONES, READ_FAILED, WRITE_FAILED};
 use crate::expect::expect_eq;
+use crate::row::{Case, case_of, command_for};
+use crate::table::tables;
 use std::alloc::Global;
 use std::process::Abort;
 use std::test::Fail;
@@ -27,41 +27,44 @@ fn expect<const N: usize>(
     expect_eq(rt, "status", shown.report.status, status);
 }
 
-/// Runs the command of the row over its input in these pieces.
-fn expect_row(rt: &impl Abort, alloc: Global, row: &Asked<'_>, cuts: &[u64]) -> Result<(), Fail> {
-    let (list, input, written, status, message) = *row;
-    let command = command_for(alloc, list)?;
-    let shown = run_octets::<256>(&command, &Names::empty(), input, cuts, false);
-    expect(rt, &shown, written, status, message);
-    Ok(())
+/// Expects what the case says of its input in these pieces.
+fn expect_shown(rt: &impl Abort, case: &Case<'_>, cuts: &[u64]) {
+    let input = case.input.as_slice();
+    let shown = run_octets::<2048>(&case.command, &case.names, input, cuts, false);
+    expect(
+        rt,
+        &shown,
+        case.output.as_slice(),
+        case.status,
+        case.message,
+    );
+    expect_eq(rt, case.place, shown.report.findings, case.findings);
 }
 
 #[test]
 fn cuts_do_not_show(rt: HostRuntime) -> Result<(), Fail> {
-    for rows in [
-        EXTRACTS.as_slice(),
-        &FAILED_EXTRACTS,
-        &INDEFS,
-        &DUMPS,
-        &CHECKS,
-    ] {
+    for rows in tables() {
         for row in rows {
-            expect_row(&rt, rt.alloc(), row, &[])?;
-            expect_row(&rt, rt.alloc(), row, &ONES)?;
-            for cut in 1..row.1.len() {
-                expect_row(&rt, rt.alloc(), row, &[cut as u64])?;
+            let case = case_of(rt.alloc(), row)?;
+            expect_shown(&rt, &case, &[]);
+            expect_shown(&rt, &case, &ONES);
+            for cut in 1..case.input.len() {
+                expect_shown(&rt, &case, &[cut as u64]);
             }
         }
     }
     Ok(())
 }
 
+/// Words, an input, what is written of it before a read fails, the status and the message.
+type Broken<'a> = (&'a [&'a str], &'a [u8], &'a [u8], u8, &'a str);
+
 /// Behind these inputs a read fails.
-static BROKEN: [Asked<'static>; 6] = [
+static BROKEN: [Broken<'static>; 6] = [
     (&["indef"], b"\x30\x03\x02", b"\x30\x80", 3, READ_FAILED),
     (
         &["check"],
-        STRING,
+        b"\x3a\x80\x04\x03Jon\x04\x02es\x00\x00",
         b"0 D01 indefinite length\n0 D02 constructed string\n",
         3,
         READ_FAILED,

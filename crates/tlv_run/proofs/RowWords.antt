@@ -1,0 +1,116 @@
+-- The words of the proof files that `tests/make-rows` writes from tests/rows: commands, and what is made of an input. Each result is the only one of its
+-- input, by `is_result` and `makes_unique` of Results.
+use Rattle.std.proofs.Common.{◌≡◌, ℕ, ◌+◌, ◌-◌, ◌*◌, false, Bool, List, [], ◌∷◌, ◌++◌, None, Option, codes, ap}
+use Rattle.std.specs.Prelude.{flat_map, if◌then◌else◌, nat_le}
+use Rattle.std.specs.Cmp.Lexicographic.{nat_list_cmp_total, slice_cmp}
+use Rattle.std.specs.FinMap as finite
+use Rattle.std.specs.Ordering.{nat_cmp}
+use Prim.Native.String.{String}
+use Rattle.tlv_head.specs.declared.fault.FaultCode.{FaultCode}
+use Rattle.tlv_show.specs.Dumps.{top_layout}
+use Rattle.tlv_show.specs.Texts.{dump_text}
+use Rattle.tlv_show.specs.declared.options.Options.{Options}
+use Rattle.tlv_show.specs.declared.rules.Rules.{Rules}
+use Rattle.tlv_value.specs.Names.{Table}
+use Rattle.tlv_value.specs.Value.{NameOf, no_names}
+use Rattle.tlv_walk.proofs.Readings.{reading}
+use Rattle.tlv_walk.specs.Ending.{fault}
+use Rattle.tlv_walk.specs.declared.ending.Ending.TheVariants.{Done}
+use Rattle.tlv_walk.specs.declared.framing.Framing.{Framing}
+use Rattle.tlv_run.proofs.Results.{result_of}
+use Rattle.tlv_run.specs.Private.Report.{clean}
+use Rattle.tlv_run.specs.Results.{Made, running}
+use Rattle.tlv_run.specs.declared.command.Command.{Command}
+use Rattle.tlv_run.specs.declared.command.Command.TheVariants.{Check, Dump, Extract, Indef}
+
+-- ---- octets
+
+abbrev digit : ℕ → ℕ
+digit code = if nat_le code 57 then code - 48 else (code - 87)
+
+-- the octets of a text of pairs of hexadecimal digits, with a space between two of them
+abbrev octets_in : List ℕ → List ℕ
+octets_in (high ∷ low ∷ []) = (16 * digit high + digit low) ∷ []
+octets_in (high ∷ low ∷ space ∷ rest) = (16 * digit high + digit low) ∷ octets_in rest
+octets_in codes = []
+
+abbrev pub octets : String → List ℕ
+octets text = octets_in (codes text)
+
+-- ---- commands
+
+abbrev pub plain : Framing
+plain = record { inside = []; padding = false }
+
+-- what the strings at these offsets hold is read as encodings; whether octets 00 may stand between encodings
+abbrev pub framed : List ℕ → Bool → Framing
+framed inside padding = record { inside = inside; padding = padding }
+
+-- the most rows of each value, and whether the first columns are left out
+abbrev pub options_of : Rules → Option ℕ → Bool → Framing → Options
+options_of rules limit pure framing = record { rules = rules; limit = limit; pure = pure; framing = framing }
+
+abbrev pub dump : Rules → Option ℕ → Bool → Framing → Command
+dump rules limit pure framing = Dump (options_of rules limit pure framing) None None
+
+abbrev pub check : Rules → Framing → Command
+check rules framing = Check rules framing None
+
+-- the element at the offset, and whether its contents alone
+abbrev pub extract : ℕ → Bool → Framing → Command
+extract offset contents framing = Extract offset contents framing None
+
+abbrev pub indef : Bool → Command
+indef padding = Indef padding None
+
+-- ---- what is made of an input
+
+abbrev pub result_with : Table → Command → List ℕ → Made
+result_with names command octets = result_of (running command names) octets
+
+abbrev pub result : Command → List ℕ → Made
+result command octets = result_with finite.empty command octets
+
+abbrev pub lines : List String → List ℕ
+lines texts = flat_map (λ text. codes text ++ 10 ∷ []) texts
+
+-- status 0, and no message
+abbrev pub clean_with : List ℕ → Made
+clean_with output = record { output = output; ending = Done; said = clean }
+
+-- status 1 with so many findings and this message
+abbrev pub noted : ℕ → String → List ℕ → Made
+noted findings message output = record { output = output; ending = Done; said = record { status = 1; findings = findings; message = codes message } }
+
+-- status 2: so many findings, and a fault of this code at this offset, with this message
+abbrev pub faulty : ℕ → FaultCode → ℕ → String → List ℕ → Made
+faulty findings code offset message output =
+    record { output = output; ending = fault code offset; said = record { status = 2; findings = findings; message = codes message } }
+
+-- ---- names of object identifiers
+
+-- a dump, by the names themselves in place of the table of names
+abbrev dumped_by : Rules → Option ℕ → Bool → Framing → NameOf → List ℕ → Made
+dumped_by rules limit pure framing name_of octets =
+    record (result (dump rules limit pure framing) octets) { output = dump_text name_of (top_layout (options_of rules limit pure framing)) rules (reading framing octets) }
+
+by_names : (rules : Rules) (limit : Option ℕ) (pure : Bool) (framing : Framing) (names : Table) (name_of : NameOf) →
+    finite.get names ≡ name_of → (octets : List ℕ) → result_with names (dump rules limit pure framing) octets ≡ dumped_by rules limit pure framing name_of octets
+by_names rules limit pure framing names name_of e octets = ap (λ (by : NameOf). dumped_by rules limit pure framing by octets) e
+
+-- without a names file nothing has a name
+pub nameless : (rules : Rules) (limit : Option ℕ) (pure : Bool) (framing : Framing) (octets : List ℕ) →
+    result (dump rules limit pure framing) octets ≡ dumped_by rules limit pure framing no_names octets
+nameless rules limit pure framing = by_names rules limit pure framing finite.empty no_names (λ i text. finite.get-empty (slice_cmp nat_cmp) text i)
+
+-- the table of a names file with these entries
+abbrev pub names_in : List (List ℕ × List ℕ) → Table
+names_in entries = finite.from_entries entries
+
+abbrev name_in : List (List ℕ × List ℕ) → NameOf
+name_in entries text = finite.find (slice_cmp nat_cmp) text entries
+
+pub named : (entries : List (List ℕ × List ℕ)) (rules : Rules) (limit : Option ℕ) (pure : Bool) (framing : Framing) (octets : List ℕ) →
+    result_with (names_in entries) (dump rules limit pure framing) octets ≡ dumped_by rules limit pure framing (name_in entries) octets
+named entries rules limit pure framing =
+    by_names rules limit pure framing (names_in entries) (name_in entries) (λ i text. finite.get-from_entries nat_list_cmp_total entries text i)

@@ -1,0 +1,117 @@
+//! Reads that fail after the first piece: what it held is written, and no read is made after an octet that is refused or a whole
+//! element.
+use crate::READ_FAILED;
+use crate::row::{Case, command_for};
+use crate::runs::{Answer, Devices, expect_run};
+use std::alloc::Global;
+use std::process::Abort;
+use std::test::Fail;
+use tlv_value::Names;
+
+/// Words, an input, how many octets of it come before the second read fails, and what is written and reported.
+struct Broken<'a> {
+    words: &'a [&'a str],
+    input: &'a [u8],
+    first: u64,
+    written: &'a [u8],
+    status: u8,
+    message: &'a str,
+}
+
+static BROKEN: [Broken<'static>; 7] = [
+    Broken {
+        words: &["dump"],
+        input: b"\x3a\x09\x04\x03Jon\x04\x02es",
+        first: 4,
+        written: b"       0      9: VisibleString {\n",
+        status: 3,
+        message: READ_FAILED,
+    },
+    Broken {
+        words: &["dump", "--rules", "der"],
+        input: b"\x3a\x80\x04\x03Jon\x04\x02es\x00\x00",
+        first: 2,
+        written: b"       0    D01: indefinite length\n       0    D02: constructed string\n       0  indef: VisibleString {\n",
+        status: 3,
+        message: READ_FAILED,
+    },
+    Broken {
+        words: &["check"],
+        input: b"\x3a\x80\x04\x03Jon\x04\x02es\x00\x00",
+        first: 2,
+        written: b"0 D01 indefinite length\n0 D02 constructed string\n",
+        status: 3,
+        message: READ_FAILED,
+    },
+    Broken {
+        words: &["indef"],
+        input: b"\x30\x03\x02\x01\x05",
+        first: 3,
+        written: b"\x30\x80",
+        status: 3,
+        message: READ_FAILED,
+    },
+    Broken {
+        words: &["dump"],
+        input: b"\x30\x03\x02\x02\x01",
+        first: 4,
+        written: b"       0      3: SEQUENCE {\n",
+        status: 2,
+        message: "fault at 3: F11 element runs past the enclosing length",
+    },
+    Broken {
+        words: &["indef"],
+        input: b"\x30\x03\x02\x02\x01",
+        first: 4,
+        written: b"\x30\x80",
+        status: 2,
+        message: "fault at 3: F11 element runs past the enclosing length",
+    },
+    Broken {
+        words: &["extract", "--offset", "2"],
+        input: b"\x30\x80\x02\x01\x05\x02",
+        first: 5,
+        written: b"\x02\x01\x05",
+        status: 0,
+        message: "",
+    },
+];
+
+fn case_of<'a>(alloc: Global, broken: &Broken<'a>) -> Result<Case<'a>, Fail> {
+    Ok(Case {
+        place: "a second read that fails",
+        command: command_for(alloc, broken.words)?,
+        names: Names::empty(),
+        input: Vec::new(alloc),
+        output: Vec::new(alloc),
+        parts: &[],
+        status: broken.status,
+        findings: 0,
+        message: broken.message,
+    })
+}
+
+fn expect_broken(rt: &impl Abort, alloc: Global, broken: &Broken<'_>) -> Result<(), Fail> {
+    let case = case_of(alloc, broken)?;
+    let devices = Devices {
+        cuts: &[broken.first],
+        fail_at: Some(1),
+        most: 4096,
+    };
+    let answer = Answer {
+        written: broken.written,
+        status: broken.status,
+        findings: 0,
+        message: broken.message.as_bytes(),
+    };
+    expect_run(rt, &case, broken.input, devices, &mut [0; 256], answer);
+    Ok(())
+}
+
+#[test]
+fn a_second_read_fails(rt: HostRuntime) -> Result<(), Fail> {
+    for broken in &BROKEN {
+        expect_broken(&rt, rt.alloc(), broken)?;
+    }
+    Ok(())
+}

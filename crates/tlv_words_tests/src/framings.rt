@@ -1,0 +1,94 @@
+//! How words have an input read: the strings that they name, and whether it may have padding.
+use crate::expect::expect_eq;
+use crate::row::command_for;
+use std::alloc::Global;
+use std::process::Abort;
+use std::test::Fail;
+use tlv_run::Command;
+use tlv_walk::{Framing, Inside};
+
+/// Words, the offsets that they name, and whether they allow padding.
+type Framed<'a> = (&'a [&'a str], &'a [u64], bool);
+
+static FRAMED: [Framed<'static>; 9] = [
+    (&["dump"], &[], false),
+    (&["dump", "--inside", "0,5"], &[0, 5], false),
+    (&["dump", "--padding"], &[], true),
+    (
+        &["dump", "--inside=1099511627776", "--padding"],
+        &[1099511627776],
+        true,
+    ),
+    (&["check"], &[], false),
+    (&["check", "--padding", "--inside", "007"], &[7], true),
+    (&["extract", "--offset", "0"], &[], false),
+    (
+        &[
+            "extract",
+            "--offset",
+            "0",
+            "--inside",
+            "1,2,3,4,5,6,7,8,9,10,11,12,13,14,15,16",
+        ],
+        &[1, 2, 3, 4, 5, 6, 7, 8, 9, 10, 11, 12, 13, 14, 15, 16],
+        false,
+    ),
+    (&["extract", "--padding", "--offset", "0"], &[], true),
+];
+
+/// Expects the words to have an input read so. Both are compared as they are shown for debugging.
+fn expect_framing(rt: &impl Abort, alloc: Global, row: &Framed<'_>) -> Result<(), Fail> {
+    let (list, offsets, padding) = *row;
+    let Some(inside) = Inside::new(offsets) else {
+        panic!(rt; "{list:?}: offsets");
+    };
+    let wanted = Framing { inside, padding };
+    let command = command_for(alloc, list)?;
+    let got = match &command {
+        Command::Dump { options, .. } => &options.framing,
+        Command::Check { framing, .. } => framing,
+        Command::Extract { framing, .. } => framing,
+        Command::Indef { .. } => {
+            panic!(rt; "{list:?}: indef names no strings");
+        }
+    };
+    let got = format!(in alloc; "{got:?}")?;
+    let wanted = format!(in alloc; "{wanted:?}")?;
+    expect_eq(rt, list, got.as_str(), wanted.as_str());
+    Ok(())
+}
+
+#[test]
+fn strings_and_padding_are_named(rt: HostRuntime) -> Result<(), Fail> {
+    for row in &FRAMED {
+        expect_framing(&rt, rt.alloc(), row)?;
+    }
+    Ok(())
+}
+
+/// Whether the words are those of `indef`, and allow padding.
+fn is_padded(alloc: Global, list: &[&str]) -> Result<Option<bool>, Fail> {
+    match command_for(alloc, list)? {
+        Command::Indef { padding, .. } => Ok(Some(padding)),
+        Command::Dump { .. } => Ok(None),
+        Command::Check { .. } => Ok(None),
+        Command::Extract { .. } => Ok(None),
+    }
+}
+
+#[test]
+fn padding_is_asked_of_indef(rt: HostRuntime) -> Result<(), Fail> {
+    expect_eq(
+        &rt,
+        "plain",
+        is_padded(rt.alloc(), &["indef"])?,
+        Some(false),
+    );
+    expect_eq(
+        &rt,
+        "padded",
+        is_padded(rt.alloc(), &["indef", "--padding"])?,
+        Some(true),
+    );
+    Ok(())
+}

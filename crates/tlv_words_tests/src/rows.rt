@@ -1,0 +1,128 @@
+//! Each row of tests/rows, and each long input, run in each way.
+use crate::long::{self, Long};
+use crate::long_rows::{DEEP, LONG};
+use crate::row::{Case, Row, case_of};
+use crate::runs::{
+    expect_failed_reads, expect_failed_writes, expect_final_fault, expect_fronts,
+    expect_same_again, expect_whole,
+};
+use crate::table::tables;
+use std::alloc::Global;
+use std::process::Abort;
+use std::test::Fail;
+
+/// The most octets that an input has, or makes a run write.
+const ROOM: usize = 50_000;
+
+/// A way to run a case.
+#[derive(Clone, Copy)]
+pub(crate) enum Way {
+    /// Its whole input, in whatever pieces.
+    Whole,
+    /// Each front of its input.
+    Fronts,
+    /// Each read fails in turn.
+    FailedReads,
+    /// Too little room.
+    FailedWrites,
+    /// Another octet after one that is refused.
+    FinalFault,
+    /// `indef`, and `indef` again.
+    SameAgain,
+}
+
+/// Runs the case in this way. The rooms hold what its runs write.
+pub(crate) fn expect_case(
+    rt: &impl Abort,
+    way: Way,
+    case: &Case<'_>,
+    room: &mut [u8],
+    other: &mut [u8],
+) {
+    match way {
+        Way::Whole => expect_whole(rt, case, room),
+        Way::Fronts => expect_fronts(rt, case, room, other),
+        Way::FailedReads => expect_failed_reads(rt, case, room, other),
+        Way::FailedWrites => expect_failed_writes(rt, case, room),
+        Way::FinalFault => expect_final_fault(rt, case, room, other),
+        Way::SameAgain => expect_same_again(rt, case, room, other),
+    }
+}
+
+/// Where runs write.
+#[derive(Drop)]
+struct Rooms {
+    room: [u8; ROOM],
+    other: [u8; ROOM],
+}
+
+fn expect_rows(
+    rt: &impl Abort,
+    alloc: Global,
+    way: Way,
+    rows: &[Row<'_>],
+    rooms: &mut Rooms,
+) -> Result<(), Fail> {
+    for row in rows {
+        let case = case_of(alloc, row)?;
+        expect_case(rt, way, &case, &mut rooms.room, &mut rooms.other);
+    }
+    Ok(())
+}
+
+fn expect_long(
+    rt: &impl Abort,
+    alloc: Global,
+    way: Way,
+    rows: &[Long<'_>],
+    rooms: &mut Rooms,
+) -> Result<(), Fail> {
+    for row in rows {
+        let case = long::case_of(alloc, row)?;
+        expect_case(rt, way, &case, &mut rooms.room, &mut rooms.other);
+    }
+    Ok(())
+}
+
+/// Runs each row, and each long input, in this way.
+fn expect_all(rt: &impl Abort, alloc: Global, way: Way) -> Result<(), Fail> {
+    let mut rooms = Rooms {
+        room: [0; ROOM],
+        other: [0; ROOM],
+    };
+    for rows in tables() {
+        expect_rows(rt, alloc, way, rows, &mut rooms)?;
+    }
+    expect_long(rt, alloc, way, &DEEP, &mut rooms)?;
+    expect_long(rt, alloc, way, &LONG, &mut rooms)
+}
+
+#[test]
+fn rows_are_written_in_whatever_pieces(rt: HostRuntime) -> Result<(), Fail> {
+    expect_all(&rt, rt.alloc(), Way::Whole)
+}
+
+#[test]
+fn fronts_of_rows_are_written(rt: HostRuntime) -> Result<(), Fail> {
+    expect_all(&rt, rt.alloc(), Way::Fronts)
+}
+
+#[test]
+fn reads_fail(rt: HostRuntime) -> Result<(), Fail> {
+    expect_all(&rt, rt.alloc(), Way::FailedReads)
+}
+
+#[test]
+fn writes_fail(rt: HostRuntime) -> Result<(), Fail> {
+    expect_all(&rt, rt.alloc(), Way::FailedWrites)
+}
+
+#[test]
+fn faults_are_final(rt: HostRuntime) -> Result<(), Fail> {
+    expect_all(&rt, rt.alloc(), Way::FinalFault)
+}
+
+#[test]
+fn a_second_indef_changes_nothing(rt: HostRuntime) -> Result<(), Fail> {
+    expect_all(&rt, rt.alloc(), Way::SameAgain)
+}

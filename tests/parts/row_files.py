@@ -1,0 +1,148 @@
+"""Reads the rows of tests/rows: words, octets, and what is written and reported.
+
+A row is some lines, and ends before an empty line. The first character of a line tells what it is:
+
+    # text             a comment; the last one before the words is the title of the row
+    $ dump --limit 1   the words, as a shell reads them (names: the row's names file)
+    @ 1.2.840 us       a line of that names file
+    < 30 80 (00)*3 "a" octets of the input: in hexadecimal, text in quotation marks, repeated
+    | text             a line that is written
+    > 30 80            octets that are written
+    ! text             the message on standard error
+    % 1                the number of findings, where neither the lines nor the message have it
+    = 2                the status (0 where the row has no such line)
+
+A number in front of `|` or `>`, as in `7| text`, is the number of octets of the input with which the line, or the octets,
+have come: before the last of these octets nothing of it is written. Either all such lines of a row have one, or none.
+Lines without words are a heading, and have comments alone.
+"""
+import os
+import re
+import shlex
+
+TOKEN = re.compile(r'\s+|(?P<octet>[0-9a-f]{2})|"(?P<text>[^"]*)"|(?P<open>\()|\)\*(?P<times>\d+)')
+WRITTEN = re.compile(r"(?P<come>\d*)(?P<kind>[|>]) ?(?P<rest>.*)")
+FINDING = re.compile(rb" *\d+ +[BSDC]\d\d: ")
+
+
+def parts_of(text):
+    """Reads octets as a row writes them, and returns them as pairs: octets, and how often they stand there."""
+    parts, group, at = [], None, 0
+    while at < len(text):
+        it = TOKEN.match(text, at)
+        if not it:
+            raise ValueError(f"no octets: {text[at:]}")
+        at = it.end()
+        if it["open"]:
+            if group is not None:
+                raise ValueError(f"a group inside a group: {text}")
+            group = b""
+        elif it["times"]:
+            parts.append((group, int(it["times"])))
+            group = None
+        elif it["octet"] or it["text"] is not None:
+            octets = bytes.fromhex(it["octet"]) if it["octet"] else it["text"].encode()
+            if group is None:
+                parts.append((octets, 1))
+            else:
+                group += octets
+    if group is not None:
+        raise ValueError(f"a group without an end: {text}")
+    return parts
+
+
+def octets_of(text):
+    """Reads octets as a row writes them."""
+    return b"".join(octets * times for octets, times in parts_of(text))
+
+
+class Row:
+    """A row. `written` has a pair for each of its lines: the number in front (or None), and the octets."""
+
+    def __init__(self, place):
+        self.place, self.title, self.words, self.names = place, "", None, None
+        self.parts, self.written, self.message = [], [], ""
+        self.counted, self.status = None, 0
+
+    def read(self, line):
+        """Reads a line of the row."""
+        kind, rest = line[0], line[2:]
+        written = WRITTEN.fullmatch(line)
+        if written:
+            octets = written["rest"].encode() + b"\n" if written["kind"] == "|" else octets_of(written["rest"])
+            self.written.append((int(written["come"]) if written["come"] else None, octets))
+        elif kind == "$":
+            self.words = shlex.split(rest)
+        elif kind == "@":
+            self.names = (self.names or b"") + rest.encode() + b"\n"
+        elif kind == "<":
+            self.parts += parts_of(rest)
+        elif kind == "!":
+            self.message = rest
+        elif kind == "%":
+            self.counted = int(rest)
+        elif kind == "=":
+            self.status = int(rest)
+        elif kind == "#" and self.words is None:
+            self.title = rest
+        elif kind != "#":
+            raise ValueError(f"{self.place}: {line}")
+
+    @property
+    def given(self):
+        """The octets of the input."""
+        return b"".join(octets * times for octets, times in self.parts)
+
+    @property
+    def out(self):
+        """The octets that are written."""
+        return b"".join(octets for _, octets in self.written)
+
+    def is_timed(self):
+        """Whether each line that is written has the number of octets with which it has come."""
+        return all(come is not None for come, _ in self.written)
+
+    def findings(self):
+        """The number of findings that the run reports."""
+        told = re.fullmatch(r"findings: (\d+)", self.message)
+        if self.counted is not None:
+            return self.counted
+        if told:
+            return int(told[1])
+        if self.words[0] == "check":
+            return len(self.out.splitlines())
+        return sum(FINDING.match(line) is not None for line in self.out.splitlines()) if self.words[0] == "dump" else 0
+
+
+def finished(row, lines):
+    """Returns the row in a list, or an empty list where the lines are a heading; stops where they are neither."""
+    if row.words is None:
+        if any(not line.startswith("#") for line in lines):
+            raise ValueError(f"{row.place}: a row without words")
+        return []
+    if not row.is_timed() and any(come is not None for come, _ in row.written):
+        raise ValueError(f"{row.place}: some lines have no number of octets")
+    return [row]
+
+
+def rows_of(path):
+    """The rows of a file."""
+    with open(path, encoding="utf-8") as file:
+        text = file.read().split("\n")
+    rows, lines, row = [], [], None
+    for number, line in enumerate([*text, ""], 1):
+        if line:
+            row = row or Row(f"{os.path.basename(path)}:{number}")
+            row.read(line)
+            lines.append(line)
+        elif row:
+            rows += finished(row, lines)
+            row, lines = None, []
+    return rows
+
+
+def files(root):
+    """Returns the files of rows, by name, and the rows of each."""
+    folder = os.path.join(root, "tests", "rows")
+    names = sorted(os.listdir(folder))
+    return {name.removesuffix(".rows"): rows_of(os.path.join(folder, name)) for name in names}

@@ -1,0 +1,191 @@
+"""Writes the rows of tests/rows as statements that the prover shows by computing: what the definitions make of each input."""
+import re
+
+# How many octets a row may have whose result the prover computes.
+MOST_OCTETS = 1100
+
+HEAD = """-- What commands make of the inputs of tests/rows/{file}.rows, shown by computing.
+-- `tests/make-rows` writes this file.
+"""
+# The most columns of a line.
+WIDTH = 118
+# What the statements may name, by the module that has it.
+NAMES = {
+    "Rattle.std.proofs.Common": "◌≡◌ false true [] ◌∷◌ ◌++◌ None Some codes refl",
+    "Rattle.std.specs.Prelude": "Ok replicate",
+    "Rattle.std.specs.Fmt": "digits",
+    "Rattle.std.specs.Str": "chars is_utf8",
+    "Rattle.hex.specs.Hex": "encode_with",
+    "lib.Utf8": "encode",
+    "Rattle.tlv_head.specs.declared.fault.FaultCode.TheVariants": "Empty Short StrayEnd BadEnd MissingEnd TagTooLong "
+    "ReservedLength IndefinitePrimitive LengthTooLarge TooDeep Overrun BadInside",
+    "Rattle.tlv_show.specs.declared.rules.Rules.TheVariants": "Ber Der Cer",
+    "Rattle.tlv_value.specs.Names": "names_of",
+    "Rattle.tlv_run.proofs.RowWords": "check clean_with dump extract faulty framed indef lines named nameless names_in noted "
+    "octets plain result result_with",
+}
+CODES = {
+    "F01": "Empty",
+    "F02": "Short",
+    "F03": "StrayEnd",
+    "F04": "BadEnd",
+    "F05": "MissingEnd",
+    "F06": "TagTooLong",
+    "F07": "ReservedLength",
+    "F08": "IndefinitePrimitive",
+    "F09": "LengthTooLarge",
+    "F10": "TooDeep",
+    "F11": "Overrun",
+    "F12": "BadInside",
+}
+FAULT = re.compile(r"fault at (\d+): (F\d\d) .*")
+
+
+def module(name):
+    """The name of the proof file for a file of rows."""
+    return "".join(word.capitalize() for word in name.split("_")) + "Rows"
+
+
+def list_of(items):
+    return " ∷ ".join([*items, "[]"])
+
+
+def in_brackets(text):
+    return f"({text})" if " " in text else text
+
+
+def octets(parts):
+    """Octets, from pairs of octets and how often they stand there."""
+    texts, plain = [], b""
+    for group, times in parts:
+        if times > 16 and len(group) == 1:
+            texts += [f'octets "{plain.hex(" ")}"'] * bool(plain) + [f"replicate {times} 0x{group.hex()}"]
+            plain = b""
+        else:
+            plain += group * times
+    texts += [f'octets "{plain[at : at + 32].hex(" ")}"' for at in range(0, len(plain), 32)]
+    whole = " ++ ".join(texts) or "[]"
+    return whole if len(whole) < WIDTH - 40 else " ++\n    ".join(texts)
+
+
+def joined(first, second):
+    """Both texts, in one line where there is room."""
+    is_short = len(first) + len(second.partition("\n")[0]) < WIDTH and "\n" not in first
+    return f"{first} {second}" if is_short else f"{first}\n    {second}"
+
+
+def string(text):
+    return '"' + text.replace("\\", "\\\\").replace('"', '\\"') + '"'
+
+
+def written(row):
+    """The octets that the row writes: lines of a dump or a check, and else octets."""
+    if not row.out:
+        return "[]"
+    if row.words[0] in ("dump", "check"):
+        lines = " ∷\n    ".join([*map(string, row.out.decode().splitlines()), "[]"])
+        return f"(lines (\n    {lines}))".replace(" ∷\n    []", " ∷ []")
+    return in_brackets(octets([(row.out, 1)]))
+
+
+def options(words):
+    """The options of words, by name: their values, or True for a flag."""
+    found, at = {}, 1
+    while at < len(words):
+        name, sign, value = words[at].partition("=")
+        if name in ("--pure", "--padding", "--contents"):
+            value = True
+        elif not sign:
+            at += 1
+            value = words[at]
+        found[name] = value
+        at += 1
+    return found
+
+
+def truth(value):
+    return "true" if value else "false"
+
+
+def framing(given):
+    """How the input is read."""
+    if not {"--inside", "--padding"} & set(given):
+        return "plain"
+    offsets = [str(int(offset)) for offset in given.get("--inside", "").split(",") if offset]
+    return f"(framed {in_brackets(list_of(offsets))} {truth(given.get('--padding'))})"
+
+
+def command(words):
+    """The command of the words."""
+    given = options(words)
+    rules = given.get("--rules", "der" if words[0] == "check" else "ber").capitalize()
+    if words[0] == "dump":
+        limit = f"(Some {int(given['--limit'])})" if "--limit" in given else "None"
+        return f"dump {rules} {limit} {truth(given.get('--pure'))} {framing(given)}"
+    if words[0] == "check":
+        return f"check {rules} {framing(given)}"
+    if words[0] == "extract":
+        return f"extract {int(given['--offset'])} {truth(given.get('--contents'))} {framing(given)}"
+    return f"indef {truth(given.get('--padding'))}"
+
+
+def made(row):
+    """What the row says that is made of its input."""
+    fault = FAULT.fullmatch(row.message)
+    if fault:
+        said = f"faulty {row.findings()} {CODES[fault[2]]} {fault[1]} {string(row.message)}"
+    elif row.status:
+        said = f"noted {row.findings()} {string(row.message)}"
+    else:
+        said = "clean_with"
+    return f"{said} {written(row)}"
+
+
+def entries(row):
+    """The entries of the row's names file."""
+    pairs = [line.split(" ", 1) for line in row.names.decode().splitlines()]
+    return in_brackets(list_of(f"(codes {string(dotted)}, codes {string(name)})" for dotted, name in pairs))
+
+
+def read_names(name, row):
+    """That the table of these entries is what the row's names file gives."""
+    text = "lines " + in_brackets(list_of(string(line) for line in row.names.decode().splitlines()))
+    return joined(f"{name}-names : names_of ({text})", f"≡ Ok (names_in {entries(row)})\n{name}-names = refl\n")
+
+
+def statement(number, row):
+    """The row as a statement with its proof."""
+    name, asked, given = f"row-{number}", command(row.words), in_brackets(octets(row.parts))
+    proof, result = "refl", "result"
+    if row.names is not None:
+        proof, result = joined(f"named {entries(row)}", f"{asked[5:]} {given}"), f"result_with (names_in {entries(row)})"
+    elif b"OBJECT IDENTIFIER" in row.out:
+        proof = joined(f"nameless {asked[5:]}", given)
+    title = f"-- {row.title}\n" if row.title else ""
+    stated = joined(joined(f"{name} : {result}", f"({asked})"), given)
+    shown = f"unfolding digits encode_with is_utf8 chars encode\n{name} = {proof}\n"
+    names = f"\n{read_names(name, row)}" if row.names is not None else ""
+    return f"{title}{stated}\n    ≡ {made(row)}\n{shown}{names}"
+
+
+def use(module, names):
+    """The lines that bring in names of a module."""
+    line = f"use {module}.{{{', '.join(names)}}}\n"
+    half = len(names) // 2
+    return line if len(line) <= WIDTH else use(module, names[:half]) + use(module, names[half:])
+
+
+def uses(body):
+    """The lines that bring in what the statements name."""
+    words = set(re.findall(r"[^\s(){},;]+", re.sub(r'"(?:\\.|[^"\\])*"|--.*', "", body)))
+    for module, names in NAMES.items():
+        named = [name for name in names.split() if name.strip("◌") in words]
+        if named:
+            yield use(module, named)
+
+
+def text(name, rows):
+    """The proof file of a file of rows."""
+    shown = [row for row in rows if len(row.given) <= MOST_OCTETS]
+    body = "\n".join(statement(number, row) for number, row in enumerate(shown, 1))
+    return f"{HEAD.format(file=name)}{''.join(uses(body))}\n{body}"
