@@ -1,8 +1,9 @@
 """Each request for memory refused in turn: the program answers U3 or N6 and does nothing else.
 
-tests/parts/refuse.c stands in front of the C library. It numbers the requests that the program makes, refuses some, and
-tells after how many of them each file is opened. So the tests know which requests are those of the words, and which are
-those of the names file: the words come first, then the names file is read, then FILE is opened, and a run takes none.
+tests/parts/refuse.c stands in front of the C library. It numbers the requests that the program makes,
+refuses some, and tells after how many of them each file is opened. So the tests know which requests are
+those of the words, and which are those of the names file: the words come first, then the names file is
+read, then FILE is opened, and a run takes no memory.
 """
 import os
 import subprocess
@@ -12,11 +13,18 @@ from parts.harness import Done, message
 HERE = os.path.dirname(os.path.realpath(__file__))
 # An OCTET STRING with an INTEGER, an empty one at offset 5, and an OBJECT IDENTIFIER at offset 7.
 OCTETS = bytes.fromhex("0403020105 0400 0603550403")
-LINES = b"       0      3: OCTET STRING 02 01 05\n       5      0: OCTET STRING\n       7      3: OBJECT IDENTIFIER 2.5.4.3%s\n"
+LINES = (
+    b"       0      3: OCTET STRING 02 01 05\n"
+    b"       5      0: OCTET STRING\n"
+    b"       7      3: OBJECT IDENTIFIER 2.5.4.3%s\n"
+)
 PLAIN, NAMED = LINES % b"", LINES % b" (commonName)"
 INSIDE = (
-    b"       0      3: OCTET STRING wraps {\n       2      1:   INTEGER 5\n                 }\n"
-    b"       5      0: OCTET STRING wraps {\n                 }\n"
+    b"       0      3: OCTET STRING wraps {\n"
+    b"       2      1:   INTEGER 5\n"
+    b"                 }\n"
+    b"       5      0: OCTET STRING wraps {\n"
+    b"                 }\n"
     b"       7      3: OBJECT IDENTIFIER 2.5.4.3 (commonName)\n"
 )
 NO_WORDS = Done(5, b"", b"U3 out of memory\n")
@@ -24,7 +32,7 @@ NO_NAMES = Done(5, b"", b"N6 out of memory\n")
 LAST = 1_000_000_000
 OPEN, UNREAD, VALUE = "E5 cannot open the file", "N5 names file not read", "U2 value out of range: --limit"
 
-# Lines of words that `clap` takes, what comes of them where no request is refused, and the files that are opened.
+# Lines that `clap` takes, what comes of them if no request is refused, and the files that are opened.
 TAKEN = [
     ("dump --limit 4294967295", 0, PLAIN, "", ""),
     ("dump --rules der", 0, PLAIN, "", ""),
@@ -33,7 +41,9 @@ TAKEN = [
     ("indef a.der", 0, OCTETS, "", "a.der"),
     ("dump --names names", 0, NAMED, "", "names"),
     ("dump --inside 0,5 --padding --names names a.der", 0, INSIDE, "", "names a.der"),
-    # Where a file is missing too, or a value is out of range, want of memory is told where it comes.
+    ("dump --names many", 0, NAMED, "", "many"),
+    ("dump --rules=der --limit 9 --inside 0,5 --padding --names names -- a.der", 0, INSIDE, "", "names a.der"),
+    # If a file is missing too, or a value is out of range, whatever comes first is told.
     ("dump --names names missing", 3, b"", OPEN, "names missing"),
     ("dump --names missing missing", 4, b"", UNREAD, "missing"),
     ("dump --names wrong missing", 4, b"", "N1 line 2: not an object identifier", "wrong"),
@@ -41,9 +51,11 @@ TAKEN = [
     ("dump --limit x --names missing missing", 4, b"", VALUE, ""),
 ]
 # Lines of words that `clap` answers itself: with help, or with what it says on standard error.
-ANSWERED = ["--help", "extract --help", "--version", "", "dump a b", "dump --limit", "extract a.der", "dump --pure --pure"]
-# Lines where it looks for words that are alike. A single request that is refused there may pass: it then says the same.
-ALIKE = ["dump --lim 1", "nonsense", "extrac --offset 0"]
+ANSWERED = ["--help", "extract --help", "--version", "", "dump a b", "dump --limit", "extract a.der"]
+ANSWERED += ["dump --pure --pure", "indef --padding=1"]
+# Lines where it looks for words that are alike. If one request alone is refused there, it may say what it
+# says otherwise.
+ALIKE = ["dump --lim 1", "nonsense", "extrac --offset 0", "check --limit 1"]
 
 
 class Program:
@@ -58,7 +70,7 @@ class Program:
         self.is_made = got.returncode == 0
 
     def run(self, words, first=0, last=0):
-        """Runs it with the requests from `first` to `last` refused. Returns what it did, and what refuse.c told."""
+        """Runs it with requests `first` to `last` refused. Returns what it did, and what was told."""
         env = dict(os.environ, LD_PRELOAD="./refuse.so", REFUSE_TOLD=self.told)
         env |= {"REFUSE_FIRST": str(first), "REFUSE_LAST": str(last)}
         if os.path.exists(self.told):
@@ -68,7 +80,7 @@ class Program:
 
 
 class Told:
-    """What refuse.c told: the files that were opened and the requests before each, all requests, those refused."""
+    """What refuse.c told: the files that were opened, with the requests before each, and all requests."""
 
     def __init__(self, path):
         self.opened, self.requests, self.refused = [], None, None
@@ -88,7 +100,7 @@ class Told:
 
 
 class Line:
-    """A line of words: what comes of it where no request is refused, and which requests are whose."""
+    """A line of words: what comes of it if no request is refused, and which requests are whose."""
 
     def __init__(self, program, text, may_pass=False):
         self.program, self.text, self.may_pass = program, text or "no words", may_pass
@@ -99,7 +111,7 @@ class Line:
         self.of_words = told.opened[0][1] if told.opened else self.requests
 
     def wanted(self, number, is_alone):
-        """What may come of it where this request is refused, and the files that are opened then."""
+        """Returns what may come of it if this request is refused, and the files that are opened then."""
         if number > self.requests:
             return [self.own], self.files
         if number > self.of_words:
@@ -133,8 +145,9 @@ def taken(part, program):
         part.expect(f"{text}: the files", line.files == files.split(), str(line.files))
         # The names file takes memory where it is read. A run takes none.
         behind = line.requests - line.of_words
-        reads_names = "names" in line.files or "wrong" in line.files
-        part.expect(f"{text}: the requests behind the words", behind > 0 if reads_names else behind == 0, str(behind))
+        reads_names = not {"names", "many", "wrong"}.isdisjoint(line.files)
+        fine = behind > 0 if reads_names else behind == 0
+        part.expect(f"{text}: {behind} requests behind the words", fine)
         line.refuse_each()
 
 
@@ -154,6 +167,8 @@ def test(part):
         return
     part.write("a.der", OCTETS)
     part.write("names", b"# x\n2.5.4.3 commonName\n")
+    entries = [b"2.5.4.%d %s\n" % (number, b"n" * 300) for number in range(4, 44)]
+    part.write("many", b"2.5.4.3 commonName\n" + b"".join(entries))
     part.write("wrong", b"2.5.4.3 commonName\n1.40 x\n")
     taken(part, program)
     answered(part, program)

@@ -105,7 +105,7 @@ class Part:
         return Done(child.returncode, out or b"", err or b"")
 
     def has(self, tool):
-        """Returns whether the machine has this tool. Where it has not, that fails or is told in a note."""
+        """Returns whether the machine has this tool. If it has not, that is a failure, or told in a note."""
         if shutil.which(tool):
             return True
         if tool in self.suite.may_be_missing:

@@ -10,10 +10,11 @@ def whole(part, words, name):
     """The program with these words writes the file, and nothing else."""
     with open(os.path.join(part.root, "tests", "help", name), "rb") as file:
         text = file.read()
-    got = part.run(words)
-    wanted, lines = Done(0, text, b""), got.out.split(b"\n")
-    differ = [f"line {number}: {got_line}" for number, (got_line, line) in enumerate(zip(lines, text.split(b"\n")), 1) if got_line != line]
-    part.expect(f"{' '.join(words)} is tests/help/{name}", got == wanted, *differ[:3], f"status {got.status}", f"errors {got.err}")
+    got, wanted = part.run(words), Done(0, text, b"")
+    pairs = enumerate(zip(got.out.splitlines(), text.splitlines()), 1)
+    differ = [f"line {number}: {one}, wanted {other}" for number, (one, other) in pairs if one != other]
+    said = [*differ[:3], f"status {got.status}", f"errors {got.err}", f"{len(got.out)} octets of {len(text)}"]
+    part.expect(f"{' '.join(words)} is tests/help/{name}", got == wanted, *said)
     return wanted
 
 
@@ -21,8 +22,9 @@ def before_all_else(part, name, wanted):
     """Help passes before words that are refused, values out of range and files, and reads nothing."""
     part.same(f"{name} --help --nonsense", part.run([name, "--help", "--nonsense"]), wanted)
     part.same(f"{name} missing --help", part.run([name, "missing", "--help"]), wanted)
-    part.same(f"{name} --padding --help --padding", part.run([name, "--padding", "--help", "--padding"]), wanted)
-    part.same(f"{name} --help, another word behind", part.run([name, "--help", "a", "b"]), wanted)
+    twice = part.run([name, "--padding", "--help", "--padding"])
+    part.same(f"{name} --padding --help --padding", twice, wanted)
+    part.same(f"{name} --help a b", part.run([name, "--help", "a", "b"]), wanted)
 
 
 def devices(part, top):

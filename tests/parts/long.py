@@ -9,7 +9,7 @@ NAMED = b"       0      3: OBJECT IDENTIFIER 2.5.4.3 (commonName)\n"
 NAMES = b"# x\n2.5.4.3 commonName\n"
 OPEN = "E5 cannot open the file"
 UNREAD = "N5 names file not read"
-# The octets of the longest name of a file, of the longest path, and of the longest word that the system passes on.
+# The most octets of a file's name, of a path, and of a word that the system passes on.
 LONGEST_NAME, LONGEST_PATH, LONGEST_WORD = 255, 4095, 131_071
 LENGTHS = (31, 32, 63, 64, 99, 100, 101, 127, 128, 199, 200, 201, 254, 255)
 
@@ -65,12 +65,12 @@ def names_of_no_file(part):
     good = name_of(200, "n")
     missing = [name_of(200, "m"), name_of(LONGEST_NAME, "m"), "m" * 256, "m" * 300, "m" * 1000]
     missing += [path_of(name_of(200), LONGEST_PATH + 1), "m" * 4096, "m" * 70_000, "m" * LONGEST_WORD]
+    closed, unread = Done(3, b"", message(OPEN)), Done(4, b"", message(UNREAD))
     for name in missing:
-        for words in (["dump"], ["dump", "--names", good], ["check"], ["extract", "--offset", "0"], ["indef"]):
-            got = part.run([*words, name], OBJECT)
-            part.same(f"{' '.join(words)[:20]}, no FILE of {len(name)} characters", got, Done(3, b"", message(OPEN)))
-        got = part.run(["dump", "--names", name, good])
-        part.same(f"no NAMES of {len(name)} characters", got, Done(4, b"", message(UNREAD)))
+        what = f"a name of {len(name)} characters"
+        for words in (["dump"], ["dump", "--names", good], ["check"], ["extract", "--offset=0"], ["indef"]):
+            part.same(f"{' '.join(words)[:20]}, {what}", part.run([*words, name], OBJECT), closed)
+        part.same(f"no NAMES, {what}", part.run(["dump", "--names", name, good]), unread)
 
 
 def values(part):
@@ -86,35 +86,44 @@ def values(part):
             (["check", "--inside", "1," * (octets // 2)], "--inside"),
             (["indef", "--padding", "--", "x" * octets], None),
         ]:
-            wanted = Done(4, b"", message(f"U2 value out of range: {name}")) if name else Done(3, b"", message(OPEN))
-            part.same(f"{' '.join(words)[:30]}, {octets} octets", part.run(words, OBJECT), wanted)
+            status, said = (4, f"U2 value out of range: {name}") if name else (3, OPEN)
+            got = part.run(words, OBJECT)
+            part.same(f"{' '.join(words)[:30]}, {octets} octets", got, Done(status, b"", message(said)))
 
 
 def is_refused(part, what, words, said):
     """The parser refuses the words, and names the word that it stops at."""
     got = part.run(words, OBJECT)
-    fine = (got.status, got.out) == (4, b"") and got.err.startswith(said.encode()) and got.err.endswith(b"'--help'.\n")
-    part.expect(what, fine, *got.lines())
+    said_so = got.err.startswith(f"error: {said}\n".encode()) and got.err.endswith(b"'--help'.\n")
+    part.expect(what, (got.status, got.out) == (4, b"") and said_so, *got.lines())
 
 
-def refused(part):
-    """Long words that the parser refuses, and lines of many words."""
+def unexpected(word):
+    return f"unexpected argument '{word}' found"
+
+
+def long_words_refused(part):
+    """Long words that the parser refuses: each is told whole."""
     for octets in (200, 256, 300, 5000):
-        long = "x" * octets
-        is_refused(part, f"a command of {octets} octets", [long], f"error: unrecognized subcommand '{long}'\n")
-        for words in (["dump", "--" + long], ["dump", "--limit", "1", f"--{long}"], ["indef", f"--{long}=1"]):
-            said = f"error: unexpected argument '--{long}' found\n"
-            is_refused(part, f"{' '.join(words)[:20]}.., {octets} octets", words, said)
-        is_refused(part, f"FILE and a word of {octets} octets", ["dump", "a", long], f"error: unexpected argument '{long}' found\n")
-        said = f"error: unexpected value '{long}' for '--pure' found; no more were expected\n"
-        is_refused(part, f"--pure with a value of {octets} octets", ["dump", f"--pure={long}"], said)
+        word, size = "x" * octets, f"{octets} octets"
+        is_refused(part, f"a command of {size}", [word], f"unrecognized subcommand '{word}'")
+        is_refused(part, f"a second FILE of {size}", ["dump", "a", word], unexpected(word))
+        word = "--" + word
+        is_refused(part, f"an option of {size}", ["dump", word], unexpected(word))
+        is_refused(part, f"another option of {size}", ["dump", "--limit", "1", word], unexpected(word))
+        is_refused(part, f"an option of {size} with a value", ["indef", f"{word}=1"], unexpected(word))
+        said = f"unexpected value '{word}' for '--pure' found; no more were expected"
+        is_refused(part, f"--pure with a value of {size}", ["dump", f"--pure={word}"], said)
+
+
+def many_words_refused(part):
+    """Lines of many words."""
+    again = "the argument '--pure' cannot be used multiple times"
     for count in (20, 255, 256, 257, 2000, 20_000):
-        second = "error: unexpected argument 'b' found\n"
-        is_refused(part, f"{count} words", ["dump", "a"] + ["b"] * (count - 2), second)
-        is_refused(part, f"{count} words behind --", ["indef", "--", "a"] + ["b"] * (count - 3), second)
-        again = "error: the argument '--pure' cannot be used multiple times\n"
+        is_refused(part, f"{count} words", ["dump", "a"] + ["b"] * (count - 2), unexpected("b"))
+        is_refused(part, f"{count} words, --", ["indef", "--", "a"] + ["b"] * (count - 3), unexpected("b"))
         is_refused(part, f"--pure {count} times", ["dump"] + ["--pure"] * count, again)
-    is_refused(part, "2,000 words of 300 octets", ["dump"] + ["y" * 300] * 2000, f"error: unexpected argument '{'y' * 300}' found\n")
+    is_refused(part, "2,000 words of 300 octets", ["dump"] + ["y" * 300] * 2000, unexpected("y" * 300))
 
 
 def longest_lines(part):
@@ -124,7 +133,8 @@ def longest_lines(part):
     part.write(name_of(200, "s"), b"\x05\x00\x05\x00\x04\x05" + OBJECT)
     path, names = path_of(name_of(200, "s"), LONGEST_PATH), path_of(name_of(200, "n"), LONGEST_PATH)
     framing = ["--padding", "--inside", "0000000000004"]
-    dump = ["dump", "--rules", "cer", "--limit", "0004294967295", "--pure", "--names", names, *framing, "--", path]
+    dump = ["dump", "--rules", "cer", "--limit", "0004294967295", "--pure"]
+    dump += ["--names", names, *framing, "--", path]
     named = b"NULL\nNULL\nOCTET STRING wraps {\n  OBJECT IDENTIFIER 2.5.4.3 (commonName)\n}\n"
     part.same("a longest line of dump", part.run(dump), Done(0, named, b""))
     none = Done(1, b"", b"E7 no string to read at offset 1099511627761\n")
@@ -145,5 +155,6 @@ def test(part):
     names_of_files(part)
     names_of_no_file(part)
     values(part)
-    refused(part)
+    long_words_refused(part)
+    many_words_refused(part)
     longest_lines(part)

@@ -1,7 +1,8 @@
 """Want of memory: with less and less of it the program answers U3 or N6, and nothing else.
 
-Where there is too little even to load the program, it answers nothing, and that is no fault of its own. A copy of the
-program tells where that is: its first instructions, to which the loader hands over, end it with a status of their own.
+If there is too little even to load the program, it answers nothing, and that is no fault of its own. A copy
+of the program tells where that is: its first instructions, to which the loader hands over, end it with a
+status of their own. Where the copy ends so, the program has been loaded as well, and must answer.
 """
 import os
 import resource
@@ -21,7 +22,7 @@ STEPS = [*range(0, 512, 8), *range(512, 16384, 48)]
 
 
 def place_of(octets, address):
-    """Where in the file the octet stands that is loaded to this address."""
+    """Returns where in the file the octet stands that is loaded to this address."""
     table, size, count = struct.unpack_from("<Q", octets, 32)[0], *struct.unpack_from("<HH", octets, 54)
     for number in range(count):
         kind, _, offset, start, _, length = struct.unpack_from("<IIQQQQ", octets, table + number * size)
@@ -34,8 +35,8 @@ def ended_at_once(part):
     """Writes the copy of the program, and returns its path."""
     with open(part.program, "rb") as file:
         octets = bytearray(file.read())
-    kind, machine, _, entry = struct.unpack_from("<HHIQ", octets, 16)
-    part.expect("a program for x86-64", octets[:6] == b"\x7fELF\x02\x01" and machine == X86_64, f"kind {kind}, machine {machine}")
+    _, machine, _, entry = struct.unpack_from("<HHIQ", octets, 16)
+    part.expect("a program for x86-64", octets[:6] == b"\x7fELF\x02\x01" and machine == X86_64, str(machine))
     place = place_of(octets, entry)
     octets[place : place + len(ENDS)] = ENDS
     path = part.write("ends", octets)
@@ -58,18 +59,19 @@ def test(part):
     part.write("names", b"1.2.840 us\n" + entries)
     copy = ended_at_once(part)
     part.expect("with all memory", run_with(part, resource.RLIM_INFINITY) == RIGHT)
-    part.expect("the copy, with all memory", run_with(part, resource.RLIM_INFINITY, copy) == (LOADED, b"", b""))
+    loaded = (LOADED, b"", b"")
+    part.expect("the copy, with all memory", run_with(part, resource.RLIM_INFINITY, copy) == loaded)
     answers, unloaded = [], 0
     for kilobytes in STEPS:
-        if run_with(part, kilobytes * 1024, copy) != (LOADED, b"", b""):
+        if run_with(part, kilobytes * 1024, copy) != loaded:
+            part.expect(f"{kilobytes} kB load no less than fewer do", not answers)
             unloaded += 1
-            part.expect(f"{kilobytes} kB: less loads no more than more", not answers)
             continue
         answers.append(run_with(part, kilobytes * 1024))
         fine = answers[-1] in (NO_WORDS, NO_NAMES, RIGHT)
         part.expect(f"with {kilobytes} kB", fine, str(answers[-1]))
         if answers[-1] == RIGHT:
             break
-    part.note(f"with {unloaded} limits the program was not loaded, and {len(answers)} times it answered")
+    part.note(f"the program was not loaded at {unloaded} limits, and answered at {len(answers)}")
     for wanted in (NO_WORDS, NO_NAMES, RIGHT):
         part.expect(f"with less memory: {wanted}", wanted in answers, f"{len(answers)} answers, not this")

@@ -2,12 +2,13 @@
  * Refuses requests for memory that the program makes, and counts them.
  *
  * It is loaded in front of the C library (LD_PRELOAD). A request is a call of malloc, calloc, realloc,
- * reallocarray, aligned_alloc or posix_memalign by the program itself; what the loader and the C library take for
- * themselves is not counted and not refused. The environment says what to do:
+ * reallocarray, aligned_alloc or posix_memalign by the program itself; what the loader and the C library
+ * take for themselves is not counted and not refused. The environment says what to do:
  *
- *   REFUSE_FIRST, REFUSE_LAST   the requests with these numbers and those between them are refused, from 1 on
- *   REFUSE_TOLD                 a file to which lines are added: "open N NAME" where the program opens a file after N
- *                               requests, and "end N M" where it ends after N requests of which M were refused
+ *   REFUSE_FIRST, REFUSE_LAST   the requests with these numbers and those between are refused, from 1 on
+ *   REFUSE_TOLD                 a file to which lines are added: "open N NAME" when the program opens a
+ *                               file after N requests, and "end N M" when it ends after N requests, of
+ *                               which M were refused
  */
 #define _GNU_SOURCE
 #include <errno.h>
@@ -76,8 +77,8 @@ static int is_refused(const void *caller) {
 
 static void tell(const char *line) {
     const char *name = getenv("REFUSE_TOLD");
-    int before = errno;
-    int file = name ? (int)syscall(SYS_openat, AT_FDCWD, name, O_WRONLY | O_APPEND | O_CREAT | O_CLOEXEC, 0600) : -1;
+    int before = errno, how = O_WRONLY | O_APPEND | O_CREAT | O_CLOEXEC;
+    int file = name ? (int)syscall(SYS_openat, AT_FDCWD, name, how, 0600) : -1;
     if (file >= 0) {
         syscall(SYS_write, file, line, strlen(line));
         syscall(SYS_close, file);

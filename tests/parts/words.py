@@ -148,8 +148,9 @@ def taken(part):
 
 
 # Octets that are no UTF-8, by themselves or within a word.
-NO_TEXTS = [b"\xff", b"\xff\xfe", b"\xc3", b"\x80", b"\xc0\x80", b"\xe2\x82", b"\xed\xa0\x80", b"\xf0\x9f\x98"]
-NO_TEXTS += [b"\xf4\x90\x80\x80", b"a\xffb", b"ab\xe9", b"\xc3\xa9\xff", b"x" * 299 + b"\xff", b"\xff" * 300]
+NO_TEXTS = [b"\xff", b"\xff\xfe", b"\xc3", b"\x80", b"\xc0\x80", b"\xe2\x82", b"\xed\xa0\x80"]
+NO_TEXTS += [b"\xf0\x9f\x98", b"\xf4\x90\x80\x80", b"a\xffb", b"ab\xe9", b"\xc3\xa9\xff"]
+NO_TEXTS += [b"x" * 299 + b"\xff", b"\xff" * 300]
 
 # Where such a word can stand: * is the place.
 PLACES = [
