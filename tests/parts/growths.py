@@ -42,7 +42,7 @@ TAKEN = [
     ("dump --names names", 0, NAMED, "", "names"),
     ("dump --inside 0,5 --padding --names names a.der", 0, INSIDE, "", "names a.der"),
     ("dump --names many", 0, NAMED, "", "many"),
-    ("dump --rules=der --limit 9 --inside 0,5 --padding --names names -- a.der", 0, INSIDE, "", "names a.der"),
+    ("dump --rules=der --limit 9 --inside 0,5 --padding --names names a.der", 0, INSIDE, "", "names a.der"),
     # If a file is missing too, or a value is out of range, whatever comes first is told.
     ("dump --names names missing", 3, b"", OPEN, "names missing"),
     ("dump --names missing missing", 4, b"", UNREAD, "missing"),

@@ -7,7 +7,7 @@ COMMANDS = ("dump", "check", "extract", "indef")
 
 
 def whole(part, words, name):
-    """The program with these words writes the file, and nothing else."""
+    """The program with these words writes the file, and nothing else. Returns what it did."""
     with open(os.path.join(part.root, "tests", "help", name), "rb") as file:
         text = file.read()
     got, wanted = part.run(words), Done(0, text, b"")
@@ -15,7 +15,7 @@ def whole(part, words, name):
     differ = [f"line {number}: {one}, wanted {other}" for number, (one, other) in pairs if one != other]
     said = [*differ[:3], f"status {got.status}", f"errors {got.err}", f"{len(got.out)} octets of {len(text)}"]
     part.expect(f"{' '.join(words)} is tests/help/{name}", got == wanted, *said)
-    return wanted
+    return got
 
 
 def before_all_else(part, name, wanted):
