@@ -38,9 +38,10 @@ def devices(part, top):
 def test(part):
     version = whole(part, ["--version"], "version.txt")
     top = whole(part, ["--help"], "tlvdump.txt")
-    for name in COMMANDS:
-        before_all_else(part, name, whole(part, [name, "--help"], f"{name}.txt"))
-    dump = whole(part, ["dump", "--help"], "dump.txt")
+    of_commands = {name: whole(part, [name, "--help"], f"{name}.txt") for name in COMMANDS}
+    for name, text in of_commands.items():
+        before_all_else(part, name, text)
+    dump = of_commands["dump"]
     part.same("dump --limit x --help", part.run(["dump", "--limit", "x", "--help"]), dump)
     part.same("dump --names missing --help", part.run(["dump", "--names", "missing", "--help"]), dump)
     part.same("--version --help", part.run(["--version", "--help"]), version)
