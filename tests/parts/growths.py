@@ -62,7 +62,7 @@ class Program:
     """The program with refuse.c in front of the C library."""
 
     def __init__(self, part):
-        self.part, self.told = part, part.path("told")
+        self.part, self.told, self.runs = part, part.path("told"), 0
         source = os.path.join(HERE, "refuse.c")
         made = ["cc", "-O1", "-U_FORTIFY_SOURCE", "-shared", "-fPIC", "-o", "refuse.so", source]
         got = subprocess.run(made, cwd=part.folder, capture_output=True, text=True)
@@ -75,6 +75,7 @@ class Program:
         env |= {"REFUSE_FIRST": str(first), "REFUSE_LAST": str(last)}
         if os.path.exists(self.told):
             os.remove(self.told)
+        self.runs += 1
         got = self.part.run(words, OCTETS, env=env)
         return got, Told(self.told)
 
@@ -119,23 +120,30 @@ class Line:
         return [NO_WORDS, self.own] if self.may_pass and is_alone else [NO_WORDS], []
 
     def refuse(self, number, is_alone):
-        """Refuses this request, alone or with all behind it. Returns how many were refused."""
+        """Refuses this request, alone or with all behind it.
+
+        Returns whether one was refused, and what came of it if that may not be.
+        """
         got, told = self.program.run(self.words, number, number if is_alone else LAST)
         wanted, files = self.wanted(number, is_alone)
-        fine = got in wanted and told.files() == files
-        what = f"{self.text}: request {number}" + ("" if is_alone else " and all behind it")
-        said = [f"wanted {done.lines()}" for done in wanted] + [f"opened {told.files()}, wanted {files}"]
-        self.program.part.expect(what, fine, *got.lines(), *said)
-        return told.refused
+        if got in wanted and told.files() == files:
+            return told.refused, []
+        lines = [f"request {number}: wanted {done.lines()}" for done in wanted]
+        lines += [f"got {got.lines()}", f"opened {told.files()}, wanted {files}"]
+        return told.refused, lines
 
     def refuse_each(self):
         """Refuses each request in turn, until a run passes in which none was refused."""
         for is_alone in (True, False):
-            number = 1
-            while self.refuse(number, is_alone):
+            refused, number, wrong = 1, 0, []
+            while refused:
                 number += 1
-            what = f"{self.text}: {self.requests} requests are refused, one by one"
-            self.program.part.expect(what, number == self.requests + 1 > 1, f"the last was {number - 1}")
+                refused, lines = self.refuse(number, is_alone)
+                wrong += lines
+            how = "alone" if is_alone else "and all behind it"
+            what = f"{self.text}: each of {self.requests} requests refused, {how}"
+            is_last = number == self.requests + 1 > 1
+            self.program.part.expect(what, is_last and not wrong, f"{number} runs", *wrong[:12])
 
 
 def taken(part, program):
@@ -172,3 +180,4 @@ def test(part):
     part.write("wrong", b"2.5.4.3 commonName\n1.40 x\n")
     taken(part, program)
     answered(part, program)
+    part.note(f"{len(TAKEN) + len(ANSWERED + ALIKE)} lines of words, {program.runs} runs")
