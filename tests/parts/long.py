@@ -129,7 +129,7 @@ def many_words_refused(part):
 def longest_lines(part):
     """Each option once, with the longest values that are in range."""
     rising = ",".join(str(1099511627761 + number) for number in range(16))
-    # An OBJECT IDENTIFIER in an OCTET STRING at offset 4, the last of two elements.
+    # An OBJECT IDENTIFIER in an OCTET STRING at offset 4, behind two elements.
     part.write(name_of(200, "s"), b"\x05\x00\x05\x00\x04\x05" + OBJECT)
     path, names = path_of(name_of(200, "s"), LONGEST_PATH), path_of(name_of(200, "n"), LONGEST_PATH)
     framing = ["--padding", "--inside", "0000000000004"]

@@ -139,8 +139,8 @@ WRONG = {
     "missing": (None, "N5 names file not read"),
     "": (None, "N5 names file not read"),
 }
-# What is wrong with FILE: it does not open, it gives nothing, it has a fault; and a pipe that nobody writes to.
-FILES = ("also-missing", "folder", "", "input/below", "fault", "pipe")
+# What is wrong with FILE: it does not open, it gives nothing, it has a fault.
+FILES = ("also-missing", "folder", "", "input/below", "fault")
 
 
 def words_first(part, names, file):
@@ -156,16 +156,19 @@ def words_first(part, names, file):
 def order(part):
     """The words are judged first, then the names file is read, then FILE is opened."""
     part.write("fault", b"\x04\xff")
-    os.mkfifo(part.path("pipe"))
     for names, (octets, said) in WRONG.items():
         if octets:
             part.write(names, octets)
         for file in FILES:
             part.gives(["dump", "--names", names, file], OBJECT, 4, err=said)
         part.gives(["dump", "fault", f"--names={names}"], OBJECT, 4, err=said)
-    for names in (*WRONG, "pipe"):
-        for file in ("also-missing", "folder", "fault", "pipe"):
+    for names in WRONG:
+        for file in ("also-missing", "folder", "fault"):
             words_first(part, names, file)
+    # Whoever opens a pipe that nobody writes to waits.
+    os.mkfifo(part.path("pipe"))
+    words_first(part, "pipe", "pipe")
+    part.gives(["dump", "--names", "no-name", "pipe"], b"", 4, err="N2 line 2: no usable name")
     part.write("names", b"1.2.840 us\n")
     part.gives(["dump", "--names", "names", "folder"], OBJECT, 3, err="E1 read failed")
     part.gives(["dump", "--names", "names", "fault"], OBJECT, 2, err="fault at 1: F07 length octet ff is reserved")
