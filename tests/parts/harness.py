@@ -46,8 +46,8 @@ def message(text):
 class Suite:
     """Counts over all parts, and owns the temporary folder."""
 
-    def __init__(self, program, root):
-        self.program, self.root = program, root
+    def __init__(self, program, root, may_be_missing):
+        self.program, self.root, self.may_be_missing = program, root, may_be_missing
         self.passed = self.failed = 0
 
     def __enter__(self):
@@ -79,10 +79,14 @@ class Part:
             file.write(octets)
         return self.path(name)
 
-    def start(self, words, **how):
-        """Starts the program. Its signals are those of a program that a shell starts."""
+    def start(self, words, program=None, called=None, **how):
+        """Starts the program, or the one at another path, by its path or the name `called`.
+
+        Its signals are those of a program that a shell starts.
+        """
         how.setdefault("cwd", self.folder)
-        return subprocess.Popen([self.program, *words], **how)
+        path = program or self.program
+        return subprocess.Popen([called or path, *words], executable=path, **how)
 
     def run(self, words, given=b"", **how):
         """Runs the program on these octets, by a pipe, or on `stdin`, and returns what it did."""
@@ -99,6 +103,16 @@ class Part:
             child.communicate()
             return Done("none: it did not end", b"", b"")
         return Done(child.returncode, out or b"", err or b"")
+
+    def has(self, tool):
+        """Returns whether the machine has this tool. If it has not, that is a failure, or told in a note."""
+        if shutil.which(tool):
+            return True
+        if tool in self.suite.may_be_missing:
+            self.note(f"no {tool}: what needs it is not run")
+        else:
+            self.expect(f"the tool {tool}", False, "this machine does not have it")
+        return False
 
     def expect(self, what, fine, *lines):
         """Counts one test, and tells of it where it fails."""

@@ -90,14 +90,14 @@ def clone(part, name, built):
 
 def builds(part):
     """Without TLVDUMP the program of the clone is taken; where it cannot be built nothing is put."""
-    env = {"PATH": "/usr/bin:/bin"}
+    # The kit of this machine stands behind one that builds nothing.
+    part.write("rt", b"#!/bin/sh\nexit 1\n")
+    os.chmod(part.path("rt"), 0o755)
+    env = {"PATH": f"{part.folder}:{os.environ['PATH']}"}
     how = {"cwd": part.folder, "env": env, "capture_output": True, "text": True, "timeout": 60}
     got = subprocess.run([clone(part, "built", True), "from-clone"], **how)
     part.expect("the program of a clone", got.returncode == 0 and got.stderr == "", got.stderr)
     places(part, "from-clone")
-    if shutil.which("rt", path=env["PATH"]):
-        part.note("rt is in /usr/bin: a build that fails is not tried")
-        return
     got = subprocess.run([clone(part, "unbuilt", False), "nowhere"], **how)
     fine = got.returncode == 70 and "tlvdump: not built" in got.stderr and not os.path.exists(part.path("nowhere"))
     part.expect("a program that cannot be built", fine, str(got.returncode), got.stderr)
@@ -125,6 +125,9 @@ def words_of(part):
 
 
 def bash(part, options):
+    if not part.has("bash"):
+        return
+
     def completed(*words):
         script = 'source "$1"; shift; COMP_WORDS=("$@"); COMP_CWORD=$(($# - 1)); _tlvdump; printf "%s\\n" "${COMPREPLY[@]}"'
         path = os.path.join(part.root, "completions", "tlvdump.bash")
@@ -142,8 +145,7 @@ def bash(part, options):
 
 def zsh(part, options):
     """The function is run with commands in place of zsh's, which write what they are given."""
-    if not shutil.which("zsh"):
-        part.note("no zsh: its completion is not run")
+    if not part.has("zsh"):
         return
     stubs = '_arguments() { print -rl -- "$@" }; _describe() { print -rl -- "${(P@)2}" }; _files() { }\n'
     path = os.path.join(part.root, "completions", "_tlvdump")

@@ -1,7 +1,6 @@
 """man/tlvdump.1: it renders without a warning, names what the program has, and its recipes work word for word."""
 import os
 import re
-import shutil
 import subprocess
 
 from parts.inside import command, element, expected
@@ -19,8 +18,7 @@ def rendered(part, page):
     """The tools that know mdoc have nothing to say."""
     tools = [["mandoc", "-T", "lint", "-W", "warning"], ["groff", "-ww", "-mdoc", "-Tascii", "-z"]]
     for tool in tools:
-        if not shutil.which(tool[0]):
-            part.note(f"no {tool[0]}")
+        if not part.has(tool[0]):
             continue
         got = subprocess.run([*tool, page], capture_output=True, text=True)
         # mandoc also tells which pages the machine lacks; that is no fault of this one.
@@ -119,16 +117,14 @@ def wanted_of(part, record):
 
 
 def recipes(part, text):
-    if not shutil.which("openssl"):
-        part.note("no openssl: the recipes are not run")
+    if not part.has("openssl"):
         return
     record = prepared(part)
     blocks, wanted = recipes_of(text), wanted_of(part, record)
     part.expect("each recipe has its test", len(blocks) == len(wanted), f"{len(blocks)} recipes, {len(wanted)} tests")
     env = {"PATH": part.path("there/bin") + ":" + os.environ["PATH"], "NAMES": part.path("there/share/tlvdump/names.txt")}
     for block, (status, out, held) in zip(blocks, wanted):
-        if "\npv " in block and not shutil.which("pv"):
-            part.note("no pv: that line is not run")
+        if "\npv " in block and not part.has("pv"):
             block = block.split("pv ")[0]
         got = subprocess.run(["sh", "-c", block], cwd=part.folder, env=env, stdin=subprocess.DEVNULL, capture_output=True)
         fine = (got.returncode, got.stdout) == (status, out)
@@ -152,8 +148,7 @@ def replacements(part, text):
     part.write("plain", NULL)
     null = b"       0      0: NULL\n"
     for line in commands:
-        if "xxd" in line and not shutil.which("xxd"):
-            part.note("no xxd: echo is not run")
+        if "xxd" in line and not part.has("xxd"):
             continue
         inner = "--contents" in line
         file = "bits" if "tail -c +2" in line else "octets" if inner else "plain"

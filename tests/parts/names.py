@@ -129,7 +129,59 @@ def unread(part):
     part.gives(by_pipe, b"1.40 x\n", 4, err="N1 line 1: not an object identifier")
 
 
+# Names files that are refused, and what is said of them.
+WRONG = {
+    "no-identifier": (b"1.40 x\n", "N1 line 1: not an object identifier"),
+    "no-name": (b"1.2.840 us\n2.5.4.3\n", "N2 line 2: no usable name"),
+    "repeated": (b"1.2.840 us\n1.2.840 us\n", "N3 line 2: repeated"),
+    "too-large": (b"#" * 401 + b"\n", "N4 names file too large"),
+    "folder": (None, "N5 names file not read"),
+    "missing": (None, "N5 names file not read"),
+    "": (None, "N5 names file not read"),
+}
+# What is wrong with FILE: it does not open, it gives nothing, it has a fault.
+FILES = ("also-missing", "folder", "", "input/below", "fault")
+
+
+def words_first(part, names, file):
+    """Words that are refused pass before the names file and FILE, whatever those are."""
+    said = "U2 value out of range:"
+    part.gives(["dump", "--names", names, file, "--limit", "x"], b"", 4, err=f"{said} --limit")
+    part.gives(["dump", file, "--inside=x", "--names", names], b"", 4, err=f"{said} --inside")
+    got = part.run(["dump", "--names", names, file, "--nonsense"])
+    fine = (got.status, got.out) == (4, b"") and got.err.startswith(b"error: unexpected argument '--nonsense'")
+    part.expect(f"--nonsense behind names in {names} and FILE {file}", fine, *got.lines())
+
+
+def order(part):
+    """The words are judged first, then the names file is read, then FILE is opened."""
+    part.write("fault", b"\x04\xff")
+    for names, (octets, said) in WRONG.items():
+        if octets:
+            part.write(names, octets)
+        for file in FILES:
+            part.gives(["dump", "--names", names, file], OBJECT, 4, err=said)
+        part.gives(["dump", "fault", f"--names={names}"], OBJECT, 4, err=said)
+    for names in WRONG:
+        for file in ("also-missing", "folder", "fault"):
+            words_first(part, names, file)
+    # Whoever opens a pipe that nobody writes to waits.
+    os.mkfifo(part.path("pipe"))
+    words_first(part, "pipe", "pipe")
+    part.gives(["dump", "--names", "no-name", "pipe"], b"", 4, err="N2 line 2: no usable name")
+    part.write("names", b"1.2.840 us\n")
+    part.gives(["dump", "--names", "names", "folder"], OBJECT, 3, err="E1 read failed")
+    part.gives(["dump", "--names", "names", "fault"], OBJECT, 2, err="fault at 1: F07 length octet ff is reserved")
+    # Where both are the same pipe, the names file takes all that comes.
+    empty = "fault at 0: F01 empty input"
+    part.gives(["dump", "--names", "/dev/stdin"], b"1.2.840 us\n", 2, err=empty)
+    twice = ["dump", "--names", "/dev/stdin", "/dev/stdin"]
+    part.gives(twice, b"1.2.840 us\n", 2, err=empty)
+    part.gives(twice, OBJECT, 4, err="N1 line 1: not an object identifier")
+
+
 def test(part):
     lines(part)
     limits(part)
     unread(part)
+    order(part)

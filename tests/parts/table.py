@@ -133,9 +133,7 @@ def strings_of(lines):
 def anchors(part, path):
     """Each object identifier in the certificates of ca-certificates has a name, also within extensions."""
     files = sorted(glob.glob(os.path.join(ANCHORS, "*.crt")))
-    if not files:
-        part.note("no certificates in " + ANCHORS)
-        return
+    part.expect("ca-certificates", files, f"there are no certificates in {ANCHORS}")
     count, without = 0, set()
     for name in files:
         with open(name, encoding="ascii") as file:

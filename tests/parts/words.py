@@ -1,6 +1,5 @@
-"""The command line: which words are refused, and how; help and version."""
-import os
-
+"""The command line: which words are refused, and how."""
+from parts.harness import Done, message
 
 NULL = b"\x05\x00"
 NULL_LINE = b"       0      0: NULL\n"
@@ -131,13 +130,6 @@ TAKEN = [
     ("indef --", NULL),
 ]
 
-# Options that help has to name, for each command.
-OPTIONS = {
-    "dump": ["--limit", "--pure", "--names", "--inside", "--padding", "--help"],
-    "extract": ["--offset", "--contents", "--inside", "--padding", "--help"],
-    "indef": ["--padding", "--help"],
-}
-
 
 def refused(part):
     for text in REFUSED:
@@ -146,9 +138,6 @@ def refused(part):
         part.expect(f"refused: {text or 'no words'}", fine and got.err.endswith(b"\n"), *got.lines())
     for name, words in VALUES:
         part.gives(words, NULL, 4, err=f"U2 value out of range: {name}")
-    got = part.run([b"dump", b"\xff\xfe"], NULL)
-    fine = got.status == 4 and got.out == b"" and got.err.count(b"\n") == 1 and got.err.endswith(b"\n")
-    part.expect("a word that is not UTF-8", fine, *got.lines())
 
 
 def taken(part):
@@ -156,6 +145,61 @@ def taken(part):
         part.gives(text.split(), NULL, 0, out)
     far = "E4 no element at offset 1099511627776"
     part.gives(["extract", "--offset", "1099511627776"], NULL, 1, err=far)
+
+
+# Octets that are no UTF-8, by themselves or within a word.
+NO_TEXTS = [b"\xff", b"\xff\xfe", b"\xc3", b"\x80", b"\xc0\x80", b"\xe2\x82", b"\xed\xa0\x80"]
+NO_TEXTS += [b"\xf0\x9f\x98", b"\xf4\x90\x80\x80", b"a\xffb", b"ab\xe9", b"\xc3\xa9\xff"]
+NO_TEXTS += [b"x" * 299 + b"\xff", b"\xff" * 300]
+
+# Where such a word can stand: * is the place.
+PLACES = [
+    "*",
+    "* dump",
+    "dump *",
+    "dump null *",
+    "dump * null",
+    "dump -- *",
+    "dump --limit *",
+    "dump --limit=*",
+    "dump --rules *",
+    "dump --names * null",
+    "dump --names=* null",
+    "dump --inside * null",
+    "dump --*",
+    "dump --pure=*",
+    "check *",
+    "check --rules=* null",
+    "extract --offset *",
+    "extract --offset 0 *",
+    "extract --offset=0 --inside=* null",
+    "indef *",
+    "indef --padding -- *",
+    # It passes before all that is refused for another reason, and before help.
+    "nonsense *",
+    "dump --nonsense *",
+    "dump a b *",
+    "dump --limit x *",
+    "dump --names missing missing *",
+    "dump missing *",
+    "--help *",
+    "--version *",
+    "dump --help *",
+]
+
+
+def not_utf_8(part):
+    part.write("null", NULL)
+    said = "U1 an argument is not UTF-8"
+    for place in PLACES:
+        for octets in NO_TEXTS if place in ("dump *", "dump --names=* null") else NO_TEXTS[:1]:
+            words = [word.encode().replace(b"*", octets) for word in place.split()]
+            got = part.run(words, NULL)
+            part.same(f"{place} with {octets[:20]}", got, Done(4, b"", message(said)))
+    # A file of such a name is not opened.
+    with open(part.path("f").encode() + b"\xff", "wb") as file:
+        file.write(NULL)
+    part.same("a file whose name is not UTF-8", part.run([b"dump", b"f\xff"]), Done(4, b"", message(said)))
 
 
 def files(part):
@@ -173,36 +217,8 @@ def files(part):
     part.gives(["dump", ""], NULL, 3, err="E5 cannot open the file")
 
 
-def help_and_version(part):
-    top = part.run(["--help"])
-    asked = ["dump", "extract", "indef", "--help", "--version"]
-    part.expect("--help", has_all(top, asked), *top.lines())
-    for name, options in OPTIONS.items():
-        got = part.run([name, "--help"])
-        part.expect(f"{name} --help", has_all(got, options), *got.lines())
-        got_later = part.run([name, "--help", "--nonsense"])
-        part.same(f"{name} --help passes before what follows", got_later, got)
-    got = part.run(["dump", "--limit", "x", "--help"])
-    part.same("dump --limit x --help", got, part.run(["dump", "--help"]))
-    version = part.run(["--version"])
-    fine = version.status == 0 and version.err == b"" and version.out.startswith(b"tlvdump ")
-    part.expect("--version", fine and version.out.count(b"\n") == 1, *version.lines())
-    with open("/dev/full", "wb") as full:
-        for words in (["--help"], ["--version"], ["extract", "--help"]):
-            part.gives(words, b"", 3, err="E2 write failed", stdout=full)
-    # Help reads nothing: a closed standard input does no harm.
-    got = part.run(["--help"], stdin=None, preexec_fn=lambda: os.close(0))
-    part.same("--help with a closed standard input", got, top)
-
-
-def has_all(got, texts):
-    """Whether the run ended well, and wrote all of these to standard output alone, in ASCII."""
-    said = all(text.encode() in got.out for text in texts)
-    return got.status == 0 and got.err == b"" and said and got.out.isascii()
-
-
 def test(part):
     refused(part)
     taken(part)
+    not_utf_8(part)
     files(part)
-    help_and_version(part)

@@ -1,0 +1,183 @@
+"""Each request for memory refused in turn: the program answers U3 or N6 and does nothing else.
+
+tests/parts/refuse.c stands in front of the C library. It numbers the requests that the program makes,
+refuses some, and tells after how many of them each file is opened. So the tests know which requests are
+those of the words, and which are those of the names file: the words come first, then the names file is
+read, then FILE is opened, and a run takes no memory.
+"""
+import os
+import subprocess
+
+from parts.harness import Done, message
+
+HERE = os.path.dirname(os.path.realpath(__file__))
+# An OCTET STRING with an INTEGER, an empty one at offset 5, and an OBJECT IDENTIFIER at offset 7.
+OCTETS = bytes.fromhex("0403020105 0400 0603550403")
+LINES = (
+    b"       0      3: OCTET STRING 02 01 05\n"
+    b"       5      0: OCTET STRING\n"
+    b"       7      3: OBJECT IDENTIFIER 2.5.4.3%s\n"
+)
+PLAIN, NAMED = LINES % b"", LINES % b" (commonName)"
+INSIDE = (
+    b"       0      3: OCTET STRING wraps {\n"
+    b"       2      1:   INTEGER 5\n"
+    b"                 }\n"
+    b"       5      0: OCTET STRING wraps {\n"
+    b"                 }\n"
+    b"       7      3: OBJECT IDENTIFIER 2.5.4.3 (commonName)\n"
+)
+NO_WORDS = Done(5, b"", b"U3 out of memory\n")
+NO_NAMES = Done(5, b"", b"N6 out of memory\n")
+LAST = 1_000_000_000
+OPEN, UNREAD, VALUE = "E5 cannot open the file", "N5 names file not read", "U2 value out of range: --limit"
+
+# Lines that `clap` takes, what comes of them if no request is refused, and the files that are opened.
+TAKEN = [
+    ("dump --limit 4294967295", 0, PLAIN, "", ""),
+    ("dump --rules der", 0, PLAIN, "", ""),
+    ("check", 0, b"", "", ""),
+    ("extract --offset 007 --contents a.der", 0, OCTETS[9:], "", "a.der"),
+    ("indef a.der", 0, OCTETS, "", "a.der"),
+    ("dump --names names", 0, NAMED, "", "names"),
+    ("dump --inside 0,5 --padding --names names a.der", 0, INSIDE, "", "names a.der"),
+    ("dump --names many", 0, NAMED, "", "many"),
+    ("dump --rules=der --limit 9 --inside 0,5 --padding --names names a.der", 0, INSIDE, "", "names a.der"),
+    # If a file is missing too, or a value is out of range, whatever comes first is told.
+    ("dump --names names missing", 3, b"", OPEN, "names missing"),
+    ("dump --names missing missing", 4, b"", UNREAD, "missing"),
+    ("dump --names wrong missing", 4, b"", "N1 line 2: not an object identifier", "wrong"),
+    ("indef missing", 3, b"", OPEN, "missing"),
+    ("dump --limit x --names missing missing", 4, b"", VALUE, ""),
+]
+# Lines of words that `clap` answers itself: with help, or with what it says on standard error.
+ANSWERED = ["--help", "extract --help", "--version", "", "dump a b", "dump --limit", "extract a.der"]
+ANSWERED += ["dump --pure --pure", "indef --padding=1"]
+# Lines where it looks for words that are alike. If one request alone is refused there, it may say what it
+# says otherwise.
+ALIKE = ["dump --lim 1", "nonsense", "extrac --offset 0", "check --limit 1"]
+
+
+class Program:
+    """The program with refuse.c in front of the C library."""
+
+    def __init__(self, part):
+        self.part, self.told, self.runs = part, part.path("told"), 0
+        source = os.path.join(HERE, "refuse.c")
+        made = ["cc", "-O1", "-U_FORTIFY_SOURCE", "-shared", "-fPIC", "-o", "refuse.so", source]
+        got = subprocess.run(made, cwd=part.folder, capture_output=True, text=True)
+        part.expect("refuse.c compiles", got.returncode == 0, got.stdout, got.stderr)
+        self.is_made = got.returncode == 0
+
+    def run(self, words, first=0, last=0):
+        """Runs it with requests `first` to `last` refused. Returns what it did, and what was told."""
+        env = dict(os.environ, LD_PRELOAD="./refuse.so", REFUSE_TOLD=self.told)
+        env |= {"REFUSE_FIRST": str(first), "REFUSE_LAST": str(last)}
+        if os.path.exists(self.told):
+            os.remove(self.told)
+        self.runs += 1
+        got = self.part.run(words, OCTETS, env=env)
+        return got, Told(self.told)
+
+
+class Told:
+    """What refuse.c told: the files that were opened, with the requests before each, and all requests."""
+
+    def __init__(self, path):
+        self.opened, self.requests, self.refused = [], None, None
+        lines = []
+        if os.path.exists(path):
+            with open(path, encoding="utf-8") as file:
+                lines = file.read().splitlines()
+        for line in lines:
+            kind, count, rest = line.split(" ", 2)
+            if kind == "open":
+                self.opened.append((rest, int(count)))
+            else:
+                self.requests, self.refused = int(count), int(rest)
+
+    def files(self):
+        return [name for name, _ in self.opened]
+
+
+class Line:
+    """A line of words: what comes of it if no request is refused, and which requests are whose."""
+
+    def __init__(self, program, text, may_pass=False):
+        self.program, self.text, self.may_pass = program, text or "no words", may_pass
+        self.words = text.split()
+        self.own, told = program.run(self.words)
+        self.files, self.requests = told.files(), told.requests or 0
+        # Those of the words end where the first file is opened.
+        self.of_words = told.opened[0][1] if told.opened else self.requests
+
+    def wanted(self, number, is_alone):
+        """Returns what may come of it if this request is refused, and the files that are opened then."""
+        if number > self.requests:
+            return [self.own], self.files
+        if number > self.of_words:
+            return [NO_NAMES], self.files[:1]
+        return [NO_WORDS, self.own] if self.may_pass and is_alone else [NO_WORDS], []
+
+    def refuse(self, number, is_alone):
+        """Refuses this request, alone or with all behind it.
+
+        Returns whether one was refused, and what came of it if that may not be.
+        """
+        got, told = self.program.run(self.words, number, number if is_alone else LAST)
+        wanted, files = self.wanted(number, is_alone)
+        if got in wanted and told.files() == files:
+            return told.refused, []
+        lines = [f"request {number}: wanted {done.lines()}" for done in wanted]
+        lines += [f"got {got.lines()}", f"opened {told.files()}, wanted {files}"]
+        return told.refused, lines
+
+    def refuse_each(self):
+        """Refuses each request in turn, until a run passes in which none was refused."""
+        for is_alone in (True, False):
+            refused, number, wrong = 1, 0, []
+            while refused:
+                number += 1
+                refused, lines = self.refuse(number, is_alone)
+                wrong += lines
+            how = "alone" if is_alone else "and all behind it"
+            what = f"{self.text}: each of {self.requests} requests refused, {how}"
+            is_last = number == self.requests + 1 > 1
+            self.program.part.expect(what, is_last and not wrong, f"{number} runs", *wrong[:12])
+
+
+def taken(part, program):
+    for text, status, out, err, files in TAKEN:
+        line = Line(program, text)
+        part.same(f"{text}: no request refused", line.own, Done(status, out, message(err)))
+        part.expect(f"{text}: the files", line.files == files.split(), str(line.files))
+        # The names file takes memory where it is read. A run takes none.
+        behind = line.requests - line.of_words
+        reads_names = not {"names", "many", "wrong"}.isdisjoint(line.files)
+        fine = behind > 0 if reads_names else behind == 0
+        part.expect(f"{text}: {behind} requests behind the words", fine)
+        line.refuse_each()
+
+
+def answered(part, program):
+    for text in ANSWERED + ALIKE:
+        line = Line(program, text, text in ALIKE)
+        fine = line.own == part.run(line.words) and line.own.status in (0, 4) and not line.files
+        part.expect(f"{text or 'no words'}: no request refused", fine, *line.own.lines())
+        line.refuse_each()
+
+
+def test(part):
+    if not part.has("cc"):
+        return
+    program = Program(part)
+    if not program.is_made:
+        return
+    part.write("a.der", OCTETS)
+    part.write("names", b"# x\n2.5.4.3 commonName\n")
+    entries = [b"2.5.4.%d %s\n" % (number, b"n" * 300) for number in range(4, 44)]
+    part.write("many", b"2.5.4.3 commonName\n" + b"".join(entries))
+    part.write("wrong", b"2.5.4.3 commonName\n1.40 x\n")
+    taken(part, program)
+    answered(part, program)
+    part.note(f"{len(TAKEN) + len(ANSWERED + ALIKE)} lines of words, {program.runs} runs")
