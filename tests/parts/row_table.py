@@ -18,33 +18,43 @@ def string(octets):
     return "".join(plain.get(it) or (chr(it) if 0x20 <= it < 0x7F else f"\\x{it:02x}") for it in octets)
 
 
-def parts(row):
-    """The row's input as pairs of octets and how often they stand there, as few as may be."""
-    joined = []
-    for group, times in row.parts:
-        is_short = len(group) * times <= 16
-        if is_short and joined and joined[-1][1] == 1:
-            joined[-1] = (joined[-1][0] + group * times, 1)
-        else:
-            joined.append((group * times, 1) if is_short else (group, times))
-    return ", ".join(f'(b"{hexadecimal(group)}", {times})' for group, times in joined)
+def pieces(row):
+    """The row's input as octets, an octet and how often it comes after them, and octets after that."""
+    long = [at for at, (group, times) in enumerate(row.parts) if len(group) * times > 64]
+    if not long:
+        return row.given, (0, 0), b""
+    if len(long) > 1 or len(row.parts[long[0]][0]) > 1:
+        raise ValueError(f"{row.place}: more than one octet that comes more than 64 times")
+    joined = [b"".join(group * times for group, times in part) for part in (row.parts[: long[0]], row.parts[long[0] + 1 :])]
+    group, times = row.parts[long[0]]
+    return joined[0], (group[0], times), joined[1]
 
 
 def hexadecimal(octets):
     return "".join(f"\\x{it:02x}" for it in octets)
 
 
+def come(row):
+    """How many octets of the input must have come for so many octets of the output, line by line."""
+    pairs, count = [], 0
+    for number, octets in row.written:
+        count += len(octets)
+        pairs.append(f"({number}, {count})")
+    return ", ".join(pairs) if row.is_timed() else ""
+
+
 def entry(row):
     """The row as a value of Rust."""
-    words = ", ".join(f'"{string(word.encode())}"' for word in row.words)
-    written = ", ".join(f'({come or 0}, b"{string(octets)}")' for come, octets in row.written)
+    front, (octet, times), back = pieces(row)
     return f"""    Row {{
         place: "{row.place}",
-        words: &[{words}],
+        words: "{string(" ".join(row.words).encode())}",
         names: b"{string(row.names or b"")}",
-        input: &[{parts(row)}],
-        written: &[{written}],
-        is_timed: {str(row.is_timed()).lower()},
+        front: b"{hexadecimal(front)}",
+        filler: (0x{octet:02x}, {times}),
+        back: b"{hexadecimal(back)}",
+        written: b"{string(row.out)}",
+        come: &[{come(row)}],
         status: {row.status},
         findings: {row.findings()},
         message: "{string(row.message.encode())}",

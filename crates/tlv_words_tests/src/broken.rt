@@ -10,7 +10,7 @@ use tlv_value::Names;
 
 /// Words, an input, how many octets of it come before the second read fails, and what is written and reported.
 struct Broken<'a> {
-    words: &'a [&'a str],
+    words: &'a str,
     input: &'a [u8],
     first: u64,
     written: &'a [u8],
@@ -20,7 +20,7 @@ struct Broken<'a> {
 
 static BROKEN: [Broken<'static>; 7] = [
     Broken {
-        words: &["dump"],
+        words: "dump",
         input: b"\x3a\x09\x04\x03Jon\x04\x02es",
         first: 4,
         written: b"       0      9: VisibleString {\n",
@@ -28,7 +28,7 @@ static BROKEN: [Broken<'static>; 7] = [
         message: READ_FAILED,
     },
     Broken {
-        words: &["dump", "--rules", "der"],
+        words: "dump --rules der",
         input: b"\x3a\x80\x04\x03Jon\x04\x02es\x00\x00",
         first: 2,
         written: b"       0    D01: indefinite length\n       0    D02: constructed string\n       0  indef: VisibleString {\n",
@@ -36,7 +36,7 @@ static BROKEN: [Broken<'static>; 7] = [
         message: READ_FAILED,
     },
     Broken {
-        words: &["check"],
+        words: "check",
         input: b"\x3a\x80\x04\x03Jon\x04\x02es\x00\x00",
         first: 2,
         written: b"0 D01 indefinite length\n0 D02 constructed string\n",
@@ -44,7 +44,7 @@ static BROKEN: [Broken<'static>; 7] = [
         message: READ_FAILED,
     },
     Broken {
-        words: &["indef"],
+        words: "indef",
         input: b"\x30\x03\x02\x01\x05",
         first: 3,
         written: b"\x30\x80",
@@ -52,7 +52,7 @@ static BROKEN: [Broken<'static>; 7] = [
         message: READ_FAILED,
     },
     Broken {
-        words: &["dump"],
+        words: "dump",
         input: b"\x30\x03\x02\x02\x01",
         first: 4,
         written: b"       0      3: SEQUENCE {\n",
@@ -60,7 +60,7 @@ static BROKEN: [Broken<'static>; 7] = [
         message: "fault at 3: F11 element runs past the enclosing length",
     },
     Broken {
-        words: &["indef"],
+        words: "indef",
         input: b"\x30\x03\x02\x02\x01",
         first: 4,
         written: b"\x30\x80",
@@ -68,7 +68,7 @@ static BROKEN: [Broken<'static>; 7] = [
         message: "fault at 3: F11 element runs past the enclosing length",
     },
     Broken {
-        words: &["extract", "--offset", "2"],
+        words: "extract --offset 2",
         input: b"\x30\x80\x02\x01\x05\x02",
         first: 5,
         written: b"\x02\x01\x05",
@@ -84,7 +84,7 @@ fn case_of<'a>(alloc: Global, broken: &Broken<'a>) -> Result<Case<'a>, Fail> {
         names: Names::empty(),
         input: Vec::new(alloc),
         output: Vec::new(alloc),
-        parts: &[],
+        come: &[],
         status: broken.status,
         findings: 0,
         message: broken.message,

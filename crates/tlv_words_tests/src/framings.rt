@@ -8,32 +8,26 @@ use tlv_run::Command;
 use tlv_walk::{Framing, Inside};
 
 /// Words, the offsets that they name, and whether they allow padding.
-type Framed<'a> = (&'a [&'a str], &'a [u64], bool);
+type Framed<'a> = (&'a str, &'a [u64], bool);
 
 static FRAMED: [Framed<'static>; 9] = [
-    (&["dump"], &[], false),
-    (&["dump", "--inside", "0,5"], &[0, 5], false),
-    (&["dump", "--padding"], &[], true),
+    ("dump", &[], false),
+    ("dump --inside 0,5", &[0, 5], false),
+    ("dump --padding", &[], true),
     (
-        &["dump", "--inside=1099511627776", "--padding"],
+        "dump --inside=1099511627776 --padding",
         &[1099511627776],
         true,
     ),
-    (&["check"], &[], false),
-    (&["check", "--padding", "--inside", "007"], &[7], true),
-    (&["extract", "--offset", "0"], &[], false),
+    ("check", &[], false),
+    ("check --padding --inside 007", &[7], true),
+    ("extract --offset 0", &[], false),
     (
-        &[
-            "extract",
-            "--offset",
-            "0",
-            "--inside",
-            "1,2,3,4,5,6,7,8,9,10,11,12,13,14,15,16",
-        ],
+        "extract --offset 0 --inside 1,2,3,4,5,6,7,8,9,10,11,12,13,14,15,16",
         &[1, 2, 3, 4, 5, 6, 7, 8, 9, 10, 11, 12, 13, 14, 15, 16],
         false,
     ),
-    (&["extract", "--padding", "--offset", "0"], &[], true),
+    ("extract --padding --offset 0", &[], true),
 ];
 
 /// Expects the words to have an input read so. Both are compared as they are shown for debugging.
@@ -67,7 +61,7 @@ fn strings_and_padding_are_named(rt: HostRuntime) -> Result<(), Fail> {
 }
 
 /// Whether the words are those of `indef`, and allow padding.
-fn is_padded(alloc: Global, list: &[&str]) -> Result<Option<bool>, Fail> {
+fn is_padded(alloc: Global, list: &str) -> Result<Option<bool>, Fail> {
     match command_for(alloc, list)? {
         Command::Indef { padding, .. } => Ok(Some(padding)),
         Command::Dump { .. } => Ok(None),
@@ -78,16 +72,11 @@ fn is_padded(alloc: Global, list: &[&str]) -> Result<Option<bool>, Fail> {
 
 #[test]
 fn padding_is_asked_of_indef(rt: HostRuntime) -> Result<(), Fail> {
-    expect_eq(
-        &rt,
-        "plain",
-        is_padded(rt.alloc(), &["indef"])?,
-        Some(false),
-    );
+    expect_eq(&rt, "plain", is_padded(rt.alloc(), "indef")?, Some(false));
     expect_eq(
         &rt,
         "padded",
-        is_padded(rt.alloc(), &["indef", "--padding"])?,
+        is_padded(rt.alloc(), "indef --padding")?,
         Some(true),
     );
     Ok(())

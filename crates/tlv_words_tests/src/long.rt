@@ -19,7 +19,7 @@ pub(crate) enum Part<'a> {
 #[derive(Clone, Copy)]
 pub(crate) struct Long<'a> {
     pub place: &'a str,
-    pub words: &'a [&'a str],
+    pub words: &'a str,
     /// Octets of the input, and how often they stand there.
     pub input: &'a [(&'a [u8], usize)],
     pub written: &'a [Part<'a>],
@@ -98,7 +98,7 @@ pub(crate) fn case_of<'a>(alloc: Global, long: &Long<'a>) -> Result<Case<'a>, Fa
         names: Names::empty(),
         input: input_of(alloc, long)?,
         output: output_of(alloc, long)?,
-        parts: &[],
+        come: &[],
         status: long.status,
         findings: 0,
         message: long.message,

@@ -5,7 +5,7 @@ use crate::long::{Long, Part};
 pub(crate) static DEEP: [Long<'static>; 11] = [
     Long {
         place: "128 elements",
-        words: &["dump"],
+        words: "dump",
         input: &[(b"\x30\x80", 128), (b"\x00", 256)],
         written: &[Part::Openings(0, 0, 128), Part::Closings(256, 128)],
         status: 0,
@@ -13,7 +13,7 @@ pub(crate) static DEEP: [Long<'static>; 11] = [
     },
     Long {
         place: "129 elements",
-        words: &["dump"],
+        words: "dump",
         input: &[(b"\x30\x80", 129)],
         written: &[Part::Openings(0, 0, 128)],
         status: 2,
@@ -21,7 +21,7 @@ pub(crate) static DEEP: [Long<'static>; 11] = [
     },
     Long {
         place: "a string that is read inside 128 elements",
-        words: &["dump", "--inside", "256"],
+        words: "dump --inside 256",
         input: &[(b"\x30\x80", 128), (b"\x04\x00", 1)],
         written: &[Part::Openings(0, 0, 128)],
         status: 2,
@@ -29,7 +29,7 @@ pub(crate) static DEEP: [Long<'static>; 11] = [
     },
     Long {
         place: "a string that is not read inside 128 elements",
-        words: &["dump"],
+        words: "dump",
         input: &[(b"\x30\x80", 128), (b"\x04\x00", 1)],
         written: &[
             Part::Openings(0, 0, 128),
@@ -42,7 +42,7 @@ pub(crate) static DEEP: [Long<'static>; 11] = [
     },
     Long {
         place: "an element that is too deep, and ends past the bound",
-        words: &["dump"],
+        words: "dump",
         input: &[
             (b"\x30\x82\x01\x00", 1),
             (b"\x30\x80", 127),
@@ -57,7 +57,7 @@ pub(crate) static DEEP: [Long<'static>; 11] = [
     },
     Long {
         place: "an unfinished header at the bound, inside 128 elements",
-        words: &["dump"],
+        words: "dump",
         input: &[
             (b"\x30\x81\xff", 1),
             (b"\x30\x80", 127),
@@ -72,7 +72,7 @@ pub(crate) static DEEP: [Long<'static>; 11] = [
     },
     Long {
         place: "indef of 128 elements",
-        words: &["indef"],
+        words: "indef",
         input: &[(b"\x30\x80", 128), (b"\x00", 256)],
         written: &[Part::Octets(b"\x30\x80", 128), Part::Octets(b"\x00", 256)],
         status: 0,
@@ -80,7 +80,7 @@ pub(crate) static DEEP: [Long<'static>; 11] = [
     },
     Long {
         place: "indef of 129 elements",
-        words: &["indef"],
+        words: "indef",
         input: &[(b"\x30\x80", 129)],
         written: &[Part::Octets(b"\x30\x80", 128)],
         status: 2,
@@ -88,7 +88,7 @@ pub(crate) static DEEP: [Long<'static>; 11] = [
     },
     Long {
         place: "the innermost of 128 elements",
-        words: &["extract", "--offset", "254"],
+        words: "extract --offset 254",
         input: &[(b"\x30\x80", 128), (b"\x05\x00", 1), (b"\x00", 256)],
         written: &[Part::Octets(b"\x30\x80\x05\x00\x00\x00", 1)],
         status: 0,
@@ -96,7 +96,7 @@ pub(crate) static DEEP: [Long<'static>; 11] = [
     },
     Long {
         place: "the outermost of 128 elements",
-        words: &["extract", "--offset", "0"],
+        words: "extract --offset 0",
         input: &[(b"\x30\x80", 128), (b"\x05\x00", 1), (b"\x00", 256)],
         written: &[
             Part::Octets(b"\x30\x80", 128),
@@ -108,7 +108,7 @@ pub(crate) static DEEP: [Long<'static>; 11] = [
     },
     Long {
         place: "indef of the longest header of a constructed element",
-        words: &["indef"],
+        words: "indef",
         input: &[
             (b"\xbf\x81\x80\x80\x80\x80\x80\x80\x80\x00\xfe", 1),
             (b"\x00", 125),
@@ -127,7 +127,7 @@ pub(crate) static DEEP: [Long<'static>; 11] = [
 pub(crate) static LONG: [Long<'static>; 5] = [
     Long {
         place: "5000 octets of padding",
-        words: &["dump", "--padding"],
+        words: "dump --padding",
         input: &[(b"\x00", 5000), (b"\x05\x00", 1)],
         written: &[Part::Octets(b"       0    pad: padding\n    5000      0: NULL\n", 1)],
         status: 0,
@@ -135,7 +135,7 @@ pub(crate) static LONG: [Long<'static>; 5] = [
     },
     Long {
         place: "an OCTET STRING of 8193 octets",
-        words: &["dump"],
+        words: "dump",
         input: &[(b"\x04\x82\x20\x01", 1), (b"a", 8193)],
         written: &[
             Part::Octets(b"       0   8193: OCTET STRING\n", 1),
@@ -150,7 +150,7 @@ pub(crate) static LONG: [Long<'static>; 5] = [
     },
     Long {
         place: "a UTF8String of 8193 octets",
-        words: &["dump"],
+        words: "dump",
         input: &[(b"\x0c\x82\x20\x01", 1), (b"a", 8193)],
         written: &[
             Part::Octets(b"       0   8193: UTF8String\n", 1),
@@ -165,7 +165,7 @@ pub(crate) static LONG: [Long<'static>; 5] = [
     },
     Long {
         place: "the contents of a string of 8193 octets",
-        words: &["extract", "--offset", "2", "--contents"],
+        words: "extract --offset 2 --contents",
         input: &[(b"\x30\x80\x0c\x82\x20\x01", 1), (b"a", 8193)],
         written: &[Part::Octets(b"a", 8193)],
         status: 0,
@@ -173,7 +173,7 @@ pub(crate) static LONG: [Long<'static>; 5] = [
     },
     Long {
         place: "indef of a string of 8193 octets",
-        words: &["indef"],
+        words: "indef",
         input: &[(b"\x30\x82\x20\x05\x0c\x82\x20\x01", 1), (b"a", 8193)],
         written: &[
             Part::Octets(b"\x30\x80\x0c\x82\x20\x01", 1),

@@ -27,18 +27,20 @@ fn expect<const N: usize>(
     expect_eq(rt, "status", shown.report.status, status);
 }
 
-/// Expects what the case says of its input in these pieces.
+/// Expects what the case says of its input in these pieces, or a failed write where its output is longer than the room.
 fn expect_shown(rt: &impl Abort, case: &Case<'_>, cuts: &[u64]) {
-    let input = case.input.as_slice();
-    let shown = run_octets::<2048>(&case.command, &case.names, input, cuts, false);
-    expect(
-        rt,
-        &shown,
-        case.output.as_slice(),
-        case.status,
-        case.message,
+    let shown = run_octets::<256>(
+        &case.command,
+        &case.names,
+        case.input.as_slice(),
+        cuts,
+        false,
     );
-    expect_eq(rt, case.place, shown.report.findings, case.findings);
+    let output = case.output.as_slice();
+    match output.get(..256) {
+        Some(front) if output.len() > 256 => expect(rt, &shown, front, 3, WRITE_FAILED),
+        _ => expect(rt, &shown, output, case.status, case.message),
+    }
 }
 
 #[test]
@@ -57,21 +59,21 @@ fn cuts_do_not_show(rt: HostRuntime) -> Result<(), Fail> {
 }
 
 /// Words, an input, what is written of it before a read fails, the status and the message.
-type Broken<'a> = (&'a [&'a str], &'a [u8], &'a [u8], u8, &'a str);
+type Broken<'a> = (&'a str, &'a [u8], &'a [u8], u8, &'a str);
 
 /// Behind these inputs a read fails.
 static BROKEN: [Broken<'static>; 6] = [
-    (&["indef"], b"\x30\x03\x02", b"\x30\x80", 3, READ_FAILED),
+    ("indef", b"\x30\x03\x02", b"\x30\x80", 3, READ_FAILED),
     (
-        &["check"],
+        "check",
         b"\x3a\x80\x04\x03Jon\x04\x02es\x00\x00",
         b"0 D01 indefinite length\n0 D02 constructed string\n",
         3,
         READ_FAILED,
     ),
-    (&["extract", "--offset", "9"], b"", b"", 3, READ_FAILED),
+    ("extract --offset 9", b"", b"", 3, READ_FAILED),
     (
-        &["dump"],
+        "dump",
         b"\x05\x00",
         b"       0      0: NULL\n",
         3,
@@ -79,19 +81,13 @@ static BROKEN: [Broken<'static>; 6] = [
     ),
     // No read is made behind a refused octet, or behind the element.
     (
-        &["dump"],
+        "dump",
         b"\x05\x00\x00",
         b"       0      0: NULL\n",
         2,
         "fault at 2: F03 end-of-contents outside an indefinite element",
     ),
-    (
-        &["extract", "--offset", "0"],
-        b"\x05\x00",
-        b"\x05\x00",
-        0,
-        "",
-    ),
+    ("extract --offset 0", b"\x05\x00", b"\x05\x00", 0, ""),
 ];
 
 #[test]
@@ -112,7 +108,7 @@ fn octets_before_a_failed_read_are_shown(rt: HostRuntime) -> Result<(), Fail> {
 fn octets_past_the_room_are_not_written(rt: HostRuntime) -> Result<(), Fail> {
     let input = b"\x30\x05\x02\x03\x01\x02\x03";
     let output = b"\x30\x80\x02\x03\x01\x02\x03\x00\x00";
-    let command = command_for(rt.alloc(), &["indef"])?;
+    let command = command_for(rt.alloc(), "indef")?;
     let names = Names::empty();
     for cuts in [&[], ONES.as_slice()] {
         let none = run_octets::<0>(&command, &names, input, cuts, false);
@@ -132,7 +128,7 @@ fn octets_past_the_room_are_not_written(rt: HostRuntime) -> Result<(), Fail> {
 fn room_for_the_output_is_enough(rt: HostRuntime) -> Result<(), Fail> {
     let input = b"\x05\x00";
     let output = b"       0      0: NULL\n";
-    let command = command_for(rt.alloc(), &["dump"])?;
+    let command = command_for(rt.alloc(), "dump")?;
     let names = Names::empty();
     for cuts in [&[], ONES.as_slice()] {
         for (read_fails, status, message) in [(false, 0, ""), (true, 3, READ_FAILED)] {
@@ -148,7 +144,7 @@ fn room_for_the_output_is_enough(rt: HostRuntime) -> Result<(), Fail> {
 /// What writes nothing needs no room.
 #[test]
 fn no_output_needs_no_room(rt: HostRuntime) -> Result<(), Fail> {
-    let command = command_for(rt.alloc(), &["check"])?;
+    let command = command_for(rt.alloc(), "check")?;
     let shown = run_octets::<0>(&command, &Names::empty(), b"\x05\x00", &[], false);
     expect(&rt, &shown, b"", 0, "");
     Ok(())

@@ -11,16 +11,17 @@ use tlv_words::{Words, command_of};
 pub(crate) struct Row<'a> {
     /// The file and the line where it stands.
     pub place: &'a str,
-    /// The words after the program's name.
-    pub words: &'a [&'a str],
+    /// The words after the program's name, with a space between two of them.
+    pub words: &'a str,
     /// The octets of the names file.
     pub names: &'a [u8],
-    /// Octets of the input, and how often they stand there.
-    pub input: &'a [(&'a [u8], usize)],
-    /// What is written, each part with the number of octets of the input with which it has come.
-    pub written: &'a [(usize, &'a [u8])],
-    /// Whether these numbers are said.
-    pub is_timed: bool,
+    /// The octets of the input: these, an octet that comes so many times, and these.
+    pub front: &'a [u8],
+    pub filler: (u8, usize),
+    pub back: &'a [u8],
+    pub written: &'a [u8],
+    /// With so many octets of the input so many octets have come of what is written; empty where that is not said.
+    pub come: &'a [(usize, usize)],
     pub status: u8,
     pub findings: u64,
     pub message: &'a str,
@@ -35,18 +36,18 @@ pub(crate) struct Case<'a> {
     pub names: Names,
     pub input: Vec<u8>,
     pub output: Vec<u8>,
-    /// What is written, each part with the number of octets with which it has come; empty where that is not said.
-    pub parts: &'a [(usize, &'a [u8])],
+    /// With so many octets of the input so many octets of the output have come; empty where that is not said.
+    pub come: &'a [(usize, usize)],
     pub status: u8,
     pub findings: u64,
     pub message: &'a str,
 }
 
 /// The command that these words ask for, after the program's name.
-pub(crate) fn command_for(alloc: Global, list: &[&str]) -> Result<Command, Fail> {
+pub(crate) fn command_for(alloc: Global, text: &str) -> Result<Command, Fail> {
     let mut words = Words::new(alloc);
     words.push("tlvdump")?;
-    for word in list {
+    for word in text.split(' ') {
         words.push(word)?;
     }
     Ok(command_of(alloc, &words)?)
@@ -71,29 +72,24 @@ pub(crate) fn push_times(octets: &mut Vec<u8>, group: &[u8], times: usize) -> Re
 
 fn input_of(alloc: Global, row: &Row<'_>) -> Result<Vec<u8>, Fail> {
     let mut input = Vec::new(alloc);
-    for (group, times) in row.input {
-        push_times(&mut input, group, *times)?;
-    }
+    let (octet, times) = row.filler;
+    input.extend_from_slice(row.front)?;
+    push_times(&mut input, &[octet], times)?;
+    input.extend_from_slice(row.back)?;
     Ok(input)
-}
-
-fn output_of(alloc: Global, row: &Row<'_>) -> Result<Vec<u8>, Fail> {
-    let mut output = Vec::new(alloc);
-    for (_, part) in row.written {
-        output.extend_from_slice(part)?;
-    }
-    Ok(output)
 }
 
 /// The case of a row.
 pub(crate) fn case_of<'a>(alloc: Global, row: &Row<'a>) -> Result<Case<'a>, Fail> {
+    let mut output = Vec::new(alloc);
+    output.extend_from_slice(row.written)?;
     Ok(Case {
         place: row.place,
         command: command_for(alloc, row.words)?,
         names: names_in(alloc, row.names)?,
         input: input_of(alloc, row)?,
-        output: output_of(alloc, row)?,
-        parts: if row.is_timed { row.written } else { &[] },
+        output,
+        come: row.come,
         status: row.status,
         findings: row.findings,
         message: row.message,

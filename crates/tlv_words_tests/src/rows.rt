@@ -52,8 +52,8 @@ pub(crate) fn expect_case(
 /// Where runs write.
 #[derive(Drop)]
 struct Rooms {
-    room: [u8; ROOM],
-    other: [u8; ROOM],
+    room: Vec<u8>,
+    other: Vec<u8>,
 }
 
 fn expect_rows(
@@ -65,7 +65,8 @@ fn expect_rows(
 ) -> Result<(), Fail> {
     for row in rows {
         let case = case_of(alloc, row)?;
-        expect_case(rt, way, &case, &mut rooms.room, &mut rooms.other);
+        let (room, other) = (rooms.room.as_mut_slice(), rooms.other.as_mut_slice());
+        expect_case(rt, way, &case, room, other);
     }
     Ok(())
 }
@@ -79,7 +80,8 @@ fn expect_long(
 ) -> Result<(), Fail> {
     for row in rows {
         let case = long::case_of(alloc, row)?;
-        expect_case(rt, way, &case, &mut rooms.room, &mut rooms.other);
+        let (room, other) = (rooms.room.as_mut_slice(), rooms.other.as_mut_slice());
+        expect_case(rt, way, &case, room, other);
     }
     Ok(())
 }
@@ -87,8 +89,8 @@ fn expect_long(
 /// Runs each row, and each long input, in this way.
 fn expect_all(rt: &impl Abort, alloc: Global, way: Way) -> Result<(), Fail> {
     let mut rooms = Rooms {
-        room: [0; ROOM],
-        other: [0; ROOM],
+        room: Vec::from_elem(alloc, 0, ROOM)?,
+        other: Vec::from_elem(alloc, 0, ROOM)?,
     };
     for rows in tables() {
         expect_rows(rt, alloc, way, rows, &mut rooms)?;

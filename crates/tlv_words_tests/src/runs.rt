@@ -122,13 +122,13 @@ pub(crate) fn expect_whole(rt: &impl Abort, case: &Case<'_>, room: &mut [u8]) {
 
 /// How many octets of the output have come with so many octets of the input, where the case says so.
 fn count_with(case: &Case<'_>, octets: usize) -> Option<usize> {
-    let mut count = 0_usize;
-    for (come, part) in case.parts {
+    let mut count = 0;
+    for (come, written) in case.come {
         if *come <= octets {
-            count = count.saturating_add(part.len());
+            count = *written;
         }
     }
-    if case.parts.is_empty() {
+    if case.come.is_empty() {
         None
     } else {
         Some(count)
