@@ -84,7 +84,7 @@ fn case_of<'a>(alloc: Global, broken: &Broken<'a>) -> Result<Case<'a>, Fail> {
         names: Names::empty(),
         input: Vec::new(alloc),
         output: Vec::new(alloc),
-        come: &[],
+        come: "",
         status: broken.status,
         findings: 0,
         message: broken.message,

@@ -15,8 +15,6 @@ mod judged_rows;
 #[cfg(test)]
 mod long;
 #[cfg(test)]
-mod long_rows;
-#[cfg(test)]
 mod messages;
 #[cfg(test)]
 mod octets;

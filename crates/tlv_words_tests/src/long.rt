@@ -1,40 +1,35 @@
-//! Long and deep inputs, whose octets and lines are made by counting.
-use crate::row::{Case, command_for, push_times};
+//! Long and deep inputs as rows, and the lines of nested elements.
+use crate::row::{number, push_times};
 use std::alloc::Global;
 use std::test::Fail;
-use tlv_value::Names;
 
-/// What is written, in parts.
-#[derive(Clone, Copy)]
-pub(crate) enum Part<'a> {
-    /// These octets, so many times.
-    Octets(&'a [u8], usize),
-    /// The opening lines of SEQUENCEs of indefinite length, one in another: the offset and the level of the first, and how many.
-    Openings(u64, u64, u64),
-    /// The closing lines of so many of them, outermost at level 0: the offset of the first end-of-contents octets.
-    Closings(u64, u64),
+/// Rows of inputs that are 128 elements deep, or longer than one read.
+pub(crate) static LONG: &str = "\
+128 elements|dump||3080*128 00*256|openings,0,0,128 closings,256,128||0|0|
+129 elements|dump||3080*129|openings,0,0,128||2|0|fault at 257: F10 more than 128 open elements
+a string that is read inside 128 elements|dump --inside 256||3080*128 0400|openings,0,0,128||2|0|fault at 257: F10 more than 128 open elements
+a string that is not read inside 128 elements|dump||3080*128 0400|openings,0,0,128 2020202020323536202020202020303a20 2020*128 4f4354455420535452494e470a||2|0|fault at 258: F02 input ends inside an encoding
+too deep, and past the bound|dump||30820100 3080*127 300100|2020202020202030202020203235363a2053455155454e4345207b0a openings,4,1,127||2|0|fault at 259: F10 more than 128 open elements
+an unfinished header at the bound, inside 128 elements|dump||3081ff 3080*127 300100|2020202020202030202020203235353a2053455155454e4345207b0a openings,3,1,127||2|0|fault at 258: F11 element runs past the enclosing length
+indef of 128 elements|indef||3080*128 00*256|3080*128 00*256||0|0|
+indef of 129 elements|indef||3080*129|3080*128||2|0|fault at 257: F10 more than 128 open elements
+the innermost of 128 elements|extract --offset 254||3080*128 0500 00*256|308005000000||0|0|
+the NULL in 128 elements|extract --offset 256||3080*128 0500 00*256|0500||0|0|
+the outermost of 128 elements|extract --offset 0||3080*128 0500 00*256|3080*128 0500 00*256||0|0|
+the longest header of a constructed element|indef||bf818080808080808000fe 00*125 020500|bf8180808080808080008005000000||0|0|
+5000 octets of padding|dump --padding||00*5000 0500|2020202020202030202020207061643a2070616464696e670a2020202035303030202020202020303a204e554c4c0a||0|0|
+an OCTET STRING of 8193 octets|dump||04822001 61*8193|2020202020202030202020383139333a204f4354455420535452494e470a 2020202020202020202020202020202020202036312036312036312036312036312036312036312036312036312036312036312036312036312036312036312036310a*512 2020202020202020202020202020202020202036310a||0|0|
+a UTF8String of 8193 octets|dump||0c822001 61*8193|2020202020202030202020383139333a2055544638537472696e670a 202020202020202020202020202020202020202261616161616161616161616161616161616161616161616161616161616161616161616161616161616161616161616161616161616161616161616161616161220a*128 202020202020202020202020202020202020202261220a||0|0|
+the contents of a string of 8193 octets|extract --offset 2 --contents||30800c822001 61*8193|61*8193||0|0|
+indef of a string of 8193 octets|indef||308220050c822001 61*8193|30800c822001 61*8193 0000||0|0|
+";
+
+/// Adds spaces, two for each level.
+fn push_indentation(text: &mut Vec<u8>, level: u64) -> Result<(), Fail> {
+    push_times(text, b"  ", level)
 }
 
-/// A long input, and what is written and reported of it.
-#[derive(Clone, Copy)]
-pub(crate) struct Long<'a> {
-    pub place: &'a str,
-    pub words: &'a str,
-    /// Octets of the input, and how often they stand there.
-    pub input: &'a [(&'a [u8], usize)],
-    pub written: &'a [Part<'a>],
-    pub status: u8,
-    pub message: &'a str,
-}
-
-fn push_opening(alloc: Global, text: &mut Vec<u8>, offset: u64, level: usize) -> Result<(), Fail> {
-    let columns = format!(in alloc; "{offset:>8}  indef: ")?;
-    text.extend_from_slice(columns.as_bytes())?;
-    push_times(text, b"  ", level)?;
-    text.extend_from_slice(b"SEQUENCE {\n")?;
-    Ok(())
-}
-
+/// Adds the opening lines of SEQUENCEs of indefinite length, one in another: the first has this offset and this level.
 fn push_openings(
     alloc: Global,
     text: &mut Vec<u8>,
@@ -44,63 +39,40 @@ fn push_openings(
 ) -> Result<(), Fail> {
     for i in 0..count {
         let at = offset.saturating_add(i.saturating_mul(2));
-        push_opening(alloc, text, at, level.saturating_add(i) as usize)?;
+        let columns = format!(in alloc; "{at:>8}  indef: ")?;
+        text.extend_from_slice(columns.as_bytes())?;
+        push_indentation(text, level.saturating_add(i))?;
+        text.extend_from_slice(b"SEQUENCE {\n")?;
     }
     Ok(())
 }
 
-fn push_closing(alloc: Global, text: &mut Vec<u8>, offset: u64, level: usize) -> Result<(), Fail> {
-    let columns = format!(in alloc; "{offset:>8}    end: ")?;
-    text.extend_from_slice(columns.as_bytes())?;
-    push_times(text, b"  ", level)?;
-    text.extend_from_slice(b"}\n")?;
-    Ok(())
-}
-
+/// Adds the closing lines of so many elements, of which the outermost is at level 0: the first end-of-contents octets have this
+/// offset.
 fn push_closings(alloc: Global, text: &mut Vec<u8>, offset: u64, count: u64) -> Result<(), Fail> {
     for i in 0..count {
         let at = offset.saturating_add(i.saturating_mul(2));
-        let level = count.saturating_sub(i).saturating_sub(1);
-        push_closing(alloc, text, at, level as usize)?;
+        let columns = format!(in alloc; "{at:>8}    end: ")?;
+        text.extend_from_slice(columns.as_bytes())?;
+        push_indentation(text, count.saturating_sub(i).saturating_sub(1))?;
+        text.extend_from_slice(b"}\n")?;
     }
     Ok(())
 }
 
-fn push_part(alloc: Global, text: &mut Vec<u8>, part: Part<'_>) -> Result<(), Fail> {
-    match part {
-        Part::Octets(octets, times) => push_times(text, octets, times),
-        Part::Openings(offset, level, count) => push_openings(alloc, text, offset, level, count),
-        Part::Closings(offset, count) => push_closings(alloc, text, offset, count),
+/// Adds the lines that a group asks for: `openings,0,1,128` the opening lines of 128 elements, the first at offset 0 and level 1;
+/// `closings,256,128` their closing lines. Returns whether it is such a group.
+pub(crate) fn push_lines(alloc: Global, text: &mut Vec<u8>, group: &str) -> Result<bool, Fail> {
+    let (word, numbers) = group.split_once(',').unwrap_or((group, ""));
+    let (first, rest) = numbers.split_once(',').unwrap_or((numbers, ""));
+    if word == "openings" {
+        let (level, count) = rest.split_once(',').unwrap_or((rest, ""));
+        push_openings(alloc, text, number(first)?, number(level)?, number(count)?)?;
+        return Ok(true);
     }
-}
-
-fn input_of(alloc: Global, long: &Long<'_>) -> Result<Vec<u8>, Fail> {
-    let mut input = Vec::new(alloc);
-    for (octets, times) in long.input {
-        push_times(&mut input, octets, *times)?;
+    if word == "closings" {
+        push_closings(alloc, text, number(first)?, number(rest)?)?;
+        return Ok(true);
     }
-    Ok(input)
-}
-
-fn output_of(alloc: Global, long: &Long<'_>) -> Result<Vec<u8>, Fail> {
-    let mut output = Vec::new(alloc);
-    for part in long.written {
-        push_part(alloc, &mut output, *part)?;
-    }
-    Ok(output)
-}
-
-/// The case of a long input.
-pub(crate) fn case_of<'a>(alloc: Global, long: &Long<'a>) -> Result<Case<'a>, Fail> {
-    Ok(Case {
-        place: long.place,
-        command: command_for(alloc, long.words)?,
-        names: Names::empty(),
-        input: input_of(alloc, long)?,
-        output: output_of(alloc, long)?,
-        come: &[],
-        status: long.status,
-        findings: 0,
-        message: long.message,
-    })
+    Ok(false)
 }

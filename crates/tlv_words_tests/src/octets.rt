@@ -43,16 +43,20 @@ fn expect_shown(rt: &impl Abort, case: &Case<'_>, cuts: &[u64]) {
     }
 }
 
+fn expect_cuts(rt: &impl Abort, case: &Case<'_>) {
+    expect_shown(rt, case, &[]);
+    expect_shown(rt, case, &ONES);
+    for cut in 1..case.input.len() {
+        expect_shown(rt, case, &[cut as u64]);
+    }
+}
+
 #[test]
 fn cuts_do_not_show(rt: HostRuntime) -> Result<(), Fail> {
-    for rows in tables() {
-        for row in rows {
-            let case = case_of(rt.alloc(), row)?;
-            expect_shown(&rt, &case, &[]);
-            expect_shown(&rt, &case, &ONES);
-            for cut in 1..case.input.len() {
-                expect_shown(&rt, &case, &[cut as u64]);
-            }
+    for text in tables() {
+        for line in text.lines() {
+            let case = case_of(rt.alloc(), line)?;
+            expect_cuts(&rt, &case);
         }
     }
     Ok(())

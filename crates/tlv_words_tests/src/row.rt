@@ -1,31 +1,23 @@
-//! A row of tests/rows, and the case that it makes.
+//! A row as the tests have it, a line of text, and the case that it makes.
+//!
+//! A line has nine fields, with `|` between two of them:
+//!
+//! 1. where the row stands;
+//! 2. the words after the program's name;
+//! 3. the octets of the names file, 4. of the input, and 5. of what is written;
+//! 6. pairs as `7:33`, with a comma between two of them: with 7 octets of the input 33 of the output have come; nothing where
+//!    that is not said;
+//! 7. the status, 8. the number of findings, and 9. the message.
+//!
+//! Octets are groups with a space between two of them. A group is pairs of hexadecimal digits, and where they stand there more
+//! than once `*` and how often. Groups of the output may also be lines of nested elements, as `long.rt` makes them.
+use crate::long::push_lines;
 use std::alloc::Global;
 use std::test::Fail;
 use tlv_run::Command;
 use tlv_value::Names;
 use tlv_walk::MemSource;
 use tlv_words::{Words, command_of};
-
-/// A row of tests/rows: words, octets, and what is written and reported.
-#[derive(Clone, Copy)]
-pub(crate) struct Row<'a> {
-    /// The file and the line where it stands.
-    pub place: &'a str,
-    /// The words after the program's name, with a space between two of them.
-    pub words: &'a str,
-    /// The octets of the names file.
-    pub names: &'a [u8],
-    /// The octets of the input: these, an octet that comes so many times, and these.
-    pub front: &'a [u8],
-    pub filler: (u8, usize),
-    pub back: &'a [u8],
-    pub written: &'a [u8],
-    /// With so many octets of the input so many octets have come of what is written; empty where that is not said.
-    pub come: &'a [(usize, usize)],
-    pub status: u8,
-    pub findings: u64,
-    pub message: &'a str,
-}
 
 /// A command, an input, and what a run of it writes and reports.
 #[derive(Drop)]
@@ -36,8 +28,8 @@ pub(crate) struct Case<'a> {
     pub names: Names,
     pub input: Vec<u8>,
     pub output: Vec<u8>,
-    /// With so many octets of the input so many octets of the output have come; empty where that is not said.
-    pub come: &'a [(usize, usize)],
+    /// With so many octets of the input so many octets of the output have come, as a row has it.
+    pub come: &'a str,
     pub status: u8,
     pub findings: u64,
     pub message: &'a str,
@@ -53,45 +45,77 @@ pub(crate) fn command_for(alloc: Global, text: &str) -> Result<Command, Fail> {
     Ok(command_of(alloc, &words)?)
 }
 
-/// The table of a names file. One without a line has no entries, and takes no memory.
-fn names_in(alloc: Global, file: &[u8]) -> Result<Names, Fail> {
-    if file.is_empty() {
-        return Ok(Names::empty());
+/// The number that the text has in decimal.
+pub(crate) fn number(text: &str) -> Result<u64, Fail> {
+    match text.parse::<u64>() {
+        Ok(number) => Ok(number),
+        Err(_) => Err(Fail::from("a row has no number where one must stand")),
     }
-    let mut source = MemSource::new(file, &[], None);
-    Ok(Names::read(alloc, &mut source)?)
 }
 
 /// Adds octets so many times.
-pub(crate) fn push_times(octets: &mut Vec<u8>, group: &[u8], times: usize) -> Result<(), Fail> {
+pub(crate) fn push_times(octets: &mut Vec<u8>, group: &[u8], times: u64) -> Result<(), Fail> {
     for _ in 0..times {
         octets.extend_from_slice(group)?;
     }
     Ok(())
 }
 
-fn input_of(alloc: Global, row: &Row<'_>) -> Result<Vec<u8>, Fail> {
-    let mut input = Vec::new(alloc);
-    let (octet, times) = row.filler;
-    input.extend_from_slice(row.front)?;
-    push_times(&mut input, &[octet], times)?;
-    input.extend_from_slice(row.back)?;
-    Ok(input)
+/// Adds the octets of a group.
+fn push_group(alloc: Global, octets: &mut Vec<u8>, group: &str) -> Result<(), Fail> {
+    if push_lines(alloc, octets, group)? {
+        return Ok(());
+    }
+    let (digits, times) = group.split_once('*').unwrap_or((group, "1"));
+    match hex::decode(alloc, digits) {
+        Ok(part) => push_times(octets, part.as_slice(), number(times)?),
+        Err(_) => Err(Fail::from("a row has no octets where they must stand")),
+    }
+}
+
+/// The octets of these groups.
+fn octets_of(alloc: Global, groups: &str) -> Result<Vec<u8>, Fail> {
+    let mut octets = Vec::new(alloc);
+    for group in groups.split(' ') {
+        push_group(alloc, &mut octets, group)?;
+    }
+    Ok(octets)
+}
+
+/// The table of a names file. One without a line has no entries, and takes no memory.
+fn names_in(alloc: Global, groups: &str) -> Result<Names, Fail> {
+    let file = octets_of(alloc, groups)?;
+    if file.is_empty() {
+        return Ok(Names::empty());
+    }
+    let mut source = MemSource::new(file.as_slice(), &[], None);
+    Ok(Names::read(alloc, &mut source)?)
+}
+
+/// The first field of the text, and the others.
+fn cut(text: &str) -> (&str, &str) {
+    text.split_once('|').unwrap_or((text, ""))
 }
 
 /// The case of a row.
-pub(crate) fn case_of<'a>(alloc: Global, row: &Row<'a>) -> Result<Case<'a>, Fail> {
-    let mut output = Vec::new(alloc);
-    output.extend_from_slice(row.written)?;
+pub(crate) fn case_of<'a>(alloc: Global, line: &'a str) -> Result<Case<'a>, Fail> {
+    let (place, rest) = cut(line);
+    let (words, rest) = cut(rest);
+    let (names, rest) = cut(rest);
+    let (input, rest) = cut(rest);
+    let (output, rest) = cut(rest);
+    let (come, rest) = cut(rest);
+    let (status, rest) = cut(rest);
+    let (findings, message) = cut(rest);
     Ok(Case {
-        place: row.place,
-        command: command_for(alloc, row.words)?,
-        names: names_in(alloc, row.names)?,
-        input: input_of(alloc, row)?,
-        output,
-        come: row.come,
-        status: row.status,
-        findings: row.findings,
-        message: row.message,
+        place,
+        command: command_for(alloc, words)?,
+        names: names_in(alloc, names)?,
+        input: octets_of(alloc, input)?,
+        output: octets_of(alloc, output)?,
+        come,
+        status: number(status)? as u8,
+        findings: number(findings)?,
+        message,
     })
 }

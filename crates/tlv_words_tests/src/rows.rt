@@ -1,7 +1,6 @@
-//! Each row of tests/rows, and each long input, run in each way.
-use crate::long::{self, Long};
-use crate::long_rows::{DEEP, LONG};
-use crate::row::{Case, Row, case_of};
+//! Each row of tests/rows, and of long inputs, run in each way.
+use crate::long::LONG;
+use crate::row::{Case, case_of};
 use crate::runs::{
     expect_failed_reads, expect_failed_writes, expect_final_fault, expect_fronts,
     expect_same_again, expect_whole,
@@ -31,24 +30,6 @@ pub(crate) enum Way {
     SameAgain,
 }
 
-/// Runs the case in this way. The rooms hold what its runs write.
-pub(crate) fn expect_case(
-    rt: &impl Abort,
-    way: Way,
-    case: &Case<'_>,
-    room: &mut [u8],
-    other: &mut [u8],
-) {
-    match way {
-        Way::Whole => expect_whole(rt, case, room),
-        Way::Fronts => expect_fronts(rt, case, room, other),
-        Way::FailedReads => expect_failed_reads(rt, case, room, other),
-        Way::FailedWrites => expect_failed_writes(rt, case, room),
-        Way::FinalFault => expect_final_fault(rt, case, room, other),
-        Way::SameAgain => expect_same_again(rt, case, room, other),
-    }
-}
-
 /// Where runs write.
 #[derive(Drop)]
 struct Rooms {
@@ -56,32 +37,31 @@ struct Rooms {
     other: Vec<u8>,
 }
 
-fn expect_rows(
-    rt: &impl Abort,
-    alloc: Global,
-    way: Way,
-    rows: &[Row<'_>],
-    rooms: &mut Rooms,
-) -> Result<(), Fail> {
-    for row in rows {
-        let case = case_of(alloc, row)?;
-        let (room, other) = (rooms.room.as_mut_slice(), rooms.other.as_mut_slice());
-        expect_case(rt, way, &case, room, other);
+/// Runs the case in this way.
+fn expect_case(rt: &impl Abort, way: Way, case: &Case<'_>, rooms: &mut Rooms) -> Result<(), Fail> {
+    let (room, other) = (rooms.room.as_mut_slice(), rooms.other.as_mut_slice());
+    match way {
+        Way::Whole => expect_whole(rt, case, room),
+        Way::Fronts => expect_fronts(rt, case, room, other)?,
+        Way::FailedReads => expect_failed_reads(rt, case, room, other),
+        Way::FailedWrites => expect_failed_writes(rt, case, room),
+        Way::FinalFault => expect_final_fault(rt, case, room, other),
+        Way::SameAgain => expect_same_again(rt, case, room, other),
     }
     Ok(())
 }
 
-fn expect_long(
+/// Runs each row of the text in this way.
+fn expect_rows(
     rt: &impl Abort,
     alloc: Global,
     way: Way,
-    rows: &[Long<'_>],
+    text: &str,
     rooms: &mut Rooms,
 ) -> Result<(), Fail> {
-    for row in rows {
-        let case = long::case_of(alloc, row)?;
-        let (room, other) = (rooms.room.as_mut_slice(), rooms.other.as_mut_slice());
-        expect_case(rt, way, &case, room, other);
+    for line in text.lines() {
+        let case = case_of(alloc, line)?;
+        expect_case(rt, way, &case, rooms)?;
     }
     Ok(())
 }
@@ -92,11 +72,10 @@ fn expect_all(rt: &impl Abort, alloc: Global, way: Way) -> Result<(), Fail> {
         room: Vec::from_elem(alloc, 0, ROOM)?,
         other: Vec::from_elem(alloc, 0, ROOM)?,
     };
-    for rows in tables() {
-        expect_rows(rt, alloc, way, rows, &mut rooms)?;
+    for text in tables() {
+        expect_rows(rt, alloc, way, text, &mut rooms)?;
     }
-    expect_long(rt, alloc, way, &DEEP, &mut rooms)?;
-    expect_long(rt, alloc, way, &LONG, &mut rooms)
+    expect_rows(rt, alloc, way, LONG, &mut rooms)
 }
 
 #[test]

@@ -1,8 +1,9 @@
 //! Runs of a case over memory: in whatever pieces its octets come, over each front of them, and where a device fails.
 use crate::expect::expect_eq;
-use crate::row::Case;
+use crate::row::{Case, number};
 use crate::{ONES, READ_FAILED, WRITE_FAILED};
 use std::process::Abort;
+use std::test::Fail;
 use tlv_run::{Command, Report, run};
 use tlv_value::Names;
 use tlv_walk::{MemDrain, MemSource};
@@ -121,42 +122,53 @@ pub(crate) fn expect_whole(rt: &impl Abort, case: &Case<'_>, room: &mut [u8]) {
 }
 
 /// How many octets of the output have come with so many octets of the input, where the case says so.
-fn count_with(case: &Case<'_>, octets: usize) -> Option<usize> {
+fn count_with(case: &Case<'_>, octets: u64) -> Result<Option<u64>, Fail> {
     let mut count = 0;
-    for (come, written) in case.come {
-        if *come <= octets {
-            count = *written;
+    for pair in case.come.split(',') {
+        let Some((come, written)) = pair.split_once(':') else {
+            return Ok(None);
+        };
+        if number(come)? <= octets {
+            count = number(written)?;
         }
     }
-    if case.come.is_empty() {
-        None
-    } else {
-        Some(count)
-    }
+    Ok(Some(count))
 }
 
 /// Expects what was written of so many octets to be what the case says has come with them, and a front of its output.
-fn expect_front(rt: &impl Abort, case: &Case<'_>, octets: usize, written: &[u8]) {
+fn expect_front(
+    rt: &impl Abort,
+    case: &Case<'_>,
+    octets: usize,
+    written: &[u8],
+) -> Result<(), Fail> {
     let output = case.output.as_slice();
     expect_eq(rt, case.place, output.starts_with(written), true);
-    if let Some(count) = count_with(case, octets) {
-        expect_eq(rt, case.place, written.len(), count);
+    if let Some(count) = count_with(case, octets as u64)? {
+        expect_eq(rt, case.place, written.len() as u64, count);
     }
+    Ok(())
 }
 
 /// Expects of each front of the input a front of the output; of a short input the same answer in whatever pieces.
-pub(crate) fn expect_fronts(rt: &impl Abort, case: &Case<'_>, room: &mut [u8], other: &mut [u8]) {
+pub(crate) fn expect_fronts(
+    rt: &impl Abort,
+    case: &Case<'_>,
+    room: &mut [u8],
+    other: &mut [u8],
+) -> Result<(), Fail> {
     for count in 0..case.input.len() {
         let front = &case.input[..count];
         let mut source = MemSource::new(front, &[], None);
         let mut drain = MemDrain::new(room, 4096);
         let report = run(&case.command, &case.names, &mut source, &mut drain);
         let answer = answer_in(&report, drain.written());
-        expect_front(rt, case, count, answer.written);
+        expect_front(rt, case, count, answer.written)?;
         if case.input.len() <= SHORT {
             expect_in_pieces(rt, case, front, other, answer);
         }
     }
+    Ok(())
 }
 
 /// Expects a failed read behind these octets of output.

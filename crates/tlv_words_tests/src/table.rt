@@ -13,23 +13,21 @@ mod padding;
 mod times;
 mod values;
 
-use crate::row::Row;
-
-/// The tables of rows, one for each file.
-pub(crate) fn tables() -> [&'static [Row<'static>]; 13] {
+/// The rows, a text for each file, with a line for each row.
+pub(crate) fn tables() -> [&'static str; 13] {
     [
-        &characters::CHARACTERS,
-        &each_finding::EACH_FINDING,
-        &elements::ELEMENTS,
-        &extract::EXTRACT,
-        &faults::FAULTS,
-        &findings::FINDINGS,
-        &indef::INDEF,
-        &indef_kept::INDEF_KEPT,
-        &inside::INSIDE,
-        &layouts::LAYOUTS,
-        &padding::PADDING,
-        &times::TIMES,
-        &values::VALUES,
+        characters::CHARACTERS,
+        each_finding::EACH_FINDING,
+        elements::ELEMENTS,
+        extract::EXTRACT,
+        faults::FAULTS,
+        findings::FINDINGS,
+        indef::INDEF,
+        indef_kept::INDEF_KEPT,
+        inside::INSIDE,
+        layouts::LAYOUTS,
+        padding::PADDING,
+        times::TIMES,
+        values::VALUES,
     ]
 }
