@@ -53,6 +53,13 @@ pub(crate) fn number(text: &str) -> Result<u64, Fail> {
     }
 }
 
+fn status_of(text: &str) -> Result<u8, Fail> {
+    match text.parse::<u8>() {
+        Ok(status) => Ok(status),
+        Err(_) => Err(Fail::from("a row has no status where one must stand")),
+    }
+}
+
 /// Adds octets so many times.
 pub(crate) fn push_times(octets: &mut Vec<u8>, group: &[u8], times: u64) -> Result<(), Fail> {
     for _ in 0..times {
@@ -114,7 +121,7 @@ pub(crate) fn case_of<'a>(alloc: Global, line: &'a str) -> Result<Case<'a>, Fail
         input: octets_of(alloc, input)?,
         output: octets_of(alloc, output)?,
         come,
-        status: number(status)? as u8,
+        status: status_of(status)?,
         findings: number(findings)?,
         message,
     })

@@ -66,15 +66,25 @@ fn expect_rows(
     Ok(())
 }
 
-/// Runs each row, and each long input, in this way.
-fn expect_all(rt: &impl Abort, alloc: Global, way: Way) -> Result<(), Fail> {
-    let mut rooms = Rooms {
+fn new_rooms(alloc: Global) -> Result<Rooms, Fail> {
+    Ok(Rooms {
         room: Vec::from_elem(alloc, 0, ROOM)?,
         other: Vec::from_elem(alloc, 0, ROOM)?,
-    };
+    })
+}
+
+/// Runs each row of tests/rows in this way.
+fn expect_all(rt: &impl Abort, alloc: Global, way: Way) -> Result<(), Fail> {
+    let mut rooms = new_rooms(alloc)?;
     for text in tables() {
         expect_rows(rt, alloc, way, text, &mut rooms)?;
     }
+    Ok(())
+}
+
+/// Runs each long input in this way.
+fn expect_long(rt: &impl Abort, alloc: Global, way: Way) -> Result<(), Fail> {
+    let mut rooms = new_rooms(alloc)?;
     expect_rows(rt, alloc, way, LONG, &mut rooms)
 }
 
@@ -106,4 +116,22 @@ fn faults_are_final(rt: HostRuntime) -> Result<(), Fail> {
 #[test]
 fn a_second_indef_changes_nothing(rt: HostRuntime) -> Result<(), Fail> {
     expect_all(&rt, rt.alloc(), Way::SameAgain)
+}
+
+#[test]
+fn long_inputs_are_written(rt: HostRuntime) -> Result<(), Fail> {
+    for way in [Way::Whole, Way::Fronts, Way::FinalFault, Way::SameAgain] {
+        expect_long(&rt, rt.alloc(), way)?;
+    }
+    Ok(())
+}
+
+#[test]
+fn reads_of_long_inputs_fail(rt: HostRuntime) -> Result<(), Fail> {
+    expect_long(&rt, rt.alloc(), Way::FailedReads)
+}
+
+#[test]
+fn writes_of_long_outputs_fail(rt: HostRuntime) -> Result<(), Fail> {
+    expect_long(&rt, rt.alloc(), Way::FailedWrites)
 }
