@@ -46,6 +46,7 @@ KNOWN = """
 1.2.840.10045.4.3.2 ecdsa-with-SHA256
 1.2.840.10040.4.1 id-dsa
 1.2.840.113554.1.2.2 krb5
+1.2.840.113635.100.1.18 APPLE_TP_APPLEID_SHARING
 1.3.132.0.34 secp384r1
 1.3.101.112 id-Ed25519
 1.3.36.3.3.2.8.1.1.7 brainpoolP256r1
@@ -54,16 +55,25 @@ KNOWN = """
 1.3.6.1.5.5.7.1.1 id-pe-authorityInfoAccess
 1.3.6.1.5.5.7.3.1 id-kp-serverAuth
 1.3.6.1.5.5.7.3.9 id-kp-OCSPSigning
+1.3.6.1.5.5.7.6.40 id-MLDSA44-ECDSA-P256-SHA256
+1.3.6.1.5.5.7.7.33 id-cmc-popLinkWitnessV2
+1.3.6.1.5.5.7.7.34 id-cmc-identityProofV2
 1.3.6.1.5.5.7.48.1 id-ad-ocsp
 1.3.6.1.5.5.7.48.1.1 id-pkix-ocsp-basic
 1.3.6.1.4.1.311.2.1.4 SPC_INDIRECT_DATA_OBJID
+1.3.6.1.4.1.311.2.1.30 SPC_SIGINFO_OBJID
+1.3.6.1.4.1.1466.101.119.1 refreshRequest
+1.3.6.1.4.1.1466.101.119.2 dynamicObject
+1.3.6.1.4.1.8072.3.2.7 netbsd
 1.3.6.1.2.1.1.1 sysDescr
+1.3.6.1.2.1.1.3.0 sysUpTime.0
 1.3.6.1.6.3.1.1.4.1 snmpTrapOID
 2.16.840.1.101.3.4.1.42 id-aes256-CBC
 2.16.840.1.101.3.4.2.1 id-sha256
 2.16.840.1.101.3.4.3.18 id-ml-dsa-65
 2.16.840.1.101.3.4.4.2 id-alg-ml-kem-768
 2.23.140.1.2.1 domain-validated
+2.23.146.1.2.1.1 id-rspRole-euicc
 0.4.0.1862.1.1 id-etsi-qcs-QcCompliance
 0.4.0.0.1.0.1.3 networkLocUpContext-v3
 0.0.17.773.1.1.1 dialogue-as-id
@@ -155,6 +165,6 @@ def test(part):
     pairs = form(part, path)
     named(part, path, "every entry is named by the program", list(pairs.items()))
     known = pairs_of(KNOWN.split("\n"))
-    part.expect("60 well-known pairs", len(known) == 60)
+    part.expect("70 well-known pairs", len(known) == 70)
     named(part, path, "the well-known pairs", known)
     anchors(part, path)

@@ -1,0 +1,228 @@
+"""Lists of object identifiers that Debian's packages carry, each as a dictionary from arcs to names.
+
+Each reader takes the folder that the packages are unpacked in, `/` where they are installed, and
+returns pairs of dotted arcs and a name. A list that is not there has no pairs.
+"""
+import ast
+import glob
+import os
+import re
+import shutil
+import struct
+import subprocess
+import tempfile
+
+from .classes import Classes
+
+PYTHON = "usr/lib/python3/dist-packages"
+DOTTED = r"[012](?:\.\d+)+"
+ROOTS = {"iso": "1", "ccitt": "0", "itu-t": "0", "joint-iso-ccitt": "2", "joint-iso-itu-t": "2", "zeroDotZero": "0.0"}
+ROOTS |= {"org": "1.3", "internet": "1.3.6.1", "mgmt": "1.3.6.1.2", "mib-2": "1.3.6.1.2.1", "private": "1.3.6.1.4"}
+ROOTS |= {"enterprises": "1.3.6.1.4.1", "experimental": "1.3.6.1.3", "snmpModules": "1.3.6.1.6.3"}
+MACROS = "OBJECT IDENTIFIER|OBJECT-TYPE|OBJECT-IDENTITY|MODULE-IDENTITY|NOTIFICATION-TYPE|OBJECT-GROUP"
+
+
+def texts(folder, *patterns):
+    """Yields the texts of the files that the patterns name."""
+    for pattern in patterns:
+        for path in sorted(glob.glob(os.path.join(folder, pattern), recursive=True)):
+            with open(path, encoding="utf-8", errors="replace") as file:
+                yield file.read()
+
+
+def dotted_of(numbers):
+    """Returns `1.3.6` of `1, 3, 6`, and nothing of a list that is none of numbers."""
+    arcs = [arc.strip() for arc in numbers.split(",") if arc.strip()]
+    return ".".join(arcs) if all(arc.isdigit() for arc in arcs) else ""
+
+
+def openssl(folder):
+    """The objects of the command `openssl`, which is run where the folder is that of the machine."""
+    if folder != "/" or not shutil.which("openssl"):
+        return
+    words = ["openssl", "list", "-objects"]
+    got = subprocess.run(words, stdout=subprocess.PIPE, stderr=subprocess.DEVNULL, text=True, check=False)
+    for names, arcs in re.findall(rf"^(.*?)(?: =|,) ({DOTTED})$", got.stdout, re.M):
+        for name in re.split(r" = ", names):
+            yield arcs, name
+
+
+def dumpasn1(folder):
+    for text in texts(folder, "etc/dumpasn1/dumpasn1.cfg"):
+        for arcs, name in re.findall(r"^OID = ([0-9 ]+?)\s*\n(?:Comment.*\n)?Description = (.*)", text, re.M):
+            yield arcs.replace(" ", "."), name
+
+
+def asn1crypto(folder):
+    for text in texts(folder, f"{PYTHON}/asn1crypto/*.py"):
+        yield from re.findall(rf"'({DOTTED})':\s*'([^']+)'", text)
+
+
+def pyasn1_modules(folder):
+    """The assignments of the modules, as `id_pe = _OID(id_pkix, 1)` and `id = univ.ObjectIdentifier('1.2')`."""
+    for text in texts(folder, f"{PYTHON}/pyasn1_modules/rfc*.py"):
+        known = {}
+        for name, right in re.findall(r"^(\w+)\s*=\s*((?:univ\.ObjectIdentifier|_OID|_buildOid)\(.*|\w+ \+ \(.*)", text, re.M):
+            arcs = arcs_of_python(right, known)
+            if arcs:
+                known[name] = arcs
+                yield ".".join(arcs), name
+
+
+def arcs_of_python(right, known):
+    arcs = []
+    for word in re.findall(r"'[\d.]+'|\b\w+\b", re.sub(r"univ\.ObjectIdentifier|_OID|_buildOid", "", right.split("#")[0])):
+        if word.isdigit():
+            arcs.append(word)
+        elif word[0] == "'":
+            arcs += word.strip("'").split(".")
+        elif word in known:
+            arcs += known[word]
+        else:
+            return []
+    return arcs
+
+
+def cryptography(folder):
+    for text in texts(folder, f"{PYTHON}/cryptography/hazmat/_oid.py"):
+        yield from ((arcs, name) for name, arcs in re.findall(rf'(\w+) = ObjectIdentifier\(\s*"({DOTTED})"', text))
+
+
+def ldap3(folder):
+    for text in texts(folder, f"{PYTHON}/ldap3/protocol/oid.py"):
+        for arcs, names in re.findall(rf"\('({DOTTED})', OID_\w+, (\[.*?\]|'(?:[^'\\]|\\.)*'|\"[^\"]*\")", text):
+            found = ast.literal_eval(names)
+            for name in [found] if isinstance(found, str) else found:
+                yield arcs, name
+
+
+def schemas(folder):
+    """The schemas of OpenLDAP and of 389 Directory Server."""
+    where = ("etc/ldap/schema/*.schema", "usr/share/dirsrv/schema/*.ldif")
+    for text in texts(folder, *where):
+        for arcs, names in re.findall(rf"\(\s*({DOTTED})\s+NAME\s+(\([^)]*\)|'[^']*')", text):
+            yield from ((arcs, name) for name in re.findall(r"'([^']+)'", names))
+
+
+def ldap_header(folder):
+    for text in texts(folder, "usr/include/ldap.h"):
+        yield from ((arcs, name) for name, arcs in re.findall(rf'#define\s+(LDAP_\w+)\s+"({DOTTED})"', text))
+
+
+def bouncy_castle(folder):
+    """The classes ..ObjectIdentifiers of the archives bcprov and bcutil."""
+    classes = Classes(glob.glob(os.path.join(folder, "usr/share/java/bc*.jar")))
+    for name in sorted(classes.places):
+        if name.endswith("ObjectIdentifiers"):
+            yield from ((arcs, field) for field, arcs in classes.fields(name).items())
+
+
+def heimdal(folder):
+    for text in texts(folder, "usr/include/heimdal/*_asn1.h"):
+        for name, right in re.findall(r"OBJECT IDENTIFIER ([\w-]+) ::= \{([^}]*)\}", text):
+            yield ".".join(re.findall(r"\((\d+)\)", right)), name
+
+
+def assigned(all_texts):
+    """The values that ASN.1 modules and MIBs assign, each resolved by the names of the others."""
+    pending = {}
+    for text in all_texts:
+        text = re.sub(r'"[^"]*"|--.*', "", text)
+        pattern = rf"^\s*([a-z][\w-]*)\s+(?:{MACROS})\b(?:(?!::=).)*?::=\s*\{{([^}}]*)\}}"
+        for name, right in re.findall(pattern, text, re.M | re.S):
+            pending.setdefault(name, right)
+    known = dict(ROOTS)
+    while found := {name: arcs for name, right in pending.items() if (arcs := resolved(right, known))}:
+        known |= found
+        pending = {name: right for name, right in pending.items() if name not in found}
+        yield from ((arcs, name) for name, arcs in found.items())
+
+
+def resolved(right, known):
+    """Returns the arcs of `{ id-pkix 3 }` or `{ iso(1) org(3) }`, or nothing where a name is not known."""
+    arcs = []
+    for word in re.findall(r"[\w-]+\s*\(\s*\d+\s*\)|[\w-]+", right):
+        number = re.search(r"\((\s*\d+\s*)\)|^(\d+)$", word)
+        if number:
+            arcs.append((number.group(1) or number.group(2)).strip())
+        elif not arcs and word in known:
+            arcs.append(known[word])
+        else:
+            return ""
+    return ".".join(arcs)
+
+
+def erlang(folder):
+    return assigned(texts(folder, "usr/lib/erlang/lib/public_key-*/asn1/*.asn1"))
+
+
+def erlang_headers(folder):
+    for text in texts(folder, "usr/lib/erlang/lib/*/include/*.hrl"):
+        for name, numbers in re.findall(r"-define\('([\w-]+)', *\{([\d,\s]+)\}\)", text):
+            yield dotted_of(numbers), name
+
+
+def mibs(folder):
+    """The MIBs of libsnmp-base and of snmp-mibs-downloader."""
+    where = ("usr/share/snmp/mibs/*.txt", "var/lib/snmp/mibs/**/*", "usr/share/mibs/**/*")
+    return assigned(texts(folder, *(f"{pattern}" for pattern in where)))
+
+
+def pysnmp(folder):
+    """The MIBs of python3-pysnmp4-mibs and python3-pysnmp4, which are compiled to Python."""
+    pattern = r"^(\w+) = (Mib\w+|ModuleIdentity|ObjectIdentity|NotificationType|ObjectGroup)\(\(([\d, ]+)\)"
+    where = (f"{PYTHON}/pysnmp_mibs/*.py", f"{PYTHON}/pysnmp/smi/mibs/*.py")
+    for text in texts(folder, *where):
+        labels = dict(re.findall(r"(\w+)\.setLabel\('([^']+)'\)", text))
+        for name, _, numbers in re.findall(pattern, text, re.M):
+            yield dotted_of(numbers), labels.get(name, name)
+
+
+def zlint(folder):
+    """The object identifiers of zlint and Fulcio, which are written in Go."""
+    where = ("usr/share/gocode/src/github.com/zmap/z*/**/*.go", "usr/share/gocode/src/github.com/sigstore/fulcio/**/*.go")
+    for text in texts(folder, *where):
+        for name, numbers in re.findall(r"(\w+)\s*=\s*asn1\.ObjectIdentifier\{([\d, ]+)\}", text):
+            yield dotted_of(numbers), name
+
+
+def encoded(dotted):
+    """The element of an object identifier (X.690 8.19)."""
+    first, second, *rest = (int(arc) for arc in dotted.split("."))
+    octets = b""
+    for number in (40 * first + second, *rest):
+        parts = [number & 0x7F]
+        while number := number >> 7:
+            parts.insert(0, number & 0x7F | 0x80)
+        octets += bytes(parts)
+    return bytes([6, len(octets)]) + octets
+
+
+def capture(wanted):
+    """Returns a capture file whose packets are SEQUENCEs of object identifiers."""
+    octets = struct.pack("<IHHIIII", 0xA1B2C3D4, 2, 4, 0, 0, 65535, 147)
+    for start in range(0, len(wanted), 100):
+        body = b"".join(encoded(dotted) for dotted in wanted[start:start + 100])
+        packet = b"\x30\x82" + len(body).to_bytes(2, "big") + body
+        octets += struct.pack("<IIII", 0, 0, len(packet), len(packet)) + packet
+    return octets
+
+
+def wireshark(folder, wanted=()):
+    """The names that tshark shows for the object identifiers of a capture file made of them."""
+    if folder != "/" or not shutil.which("tshark"):
+        return
+    kind = 'uat:user_dlts:"User 0 (DLT=147)","ber","0","","0",""'
+    with tempfile.TemporaryDirectory(prefix="tlvdump-names-") as room:
+        path = os.path.join(room, "names.pcap")
+        with open(path, "wb") as file:
+            file.write(capture(wanted))
+        words = ["tshark", "-o", kind, "-r", path, "-V"]
+        got = subprocess.run(words, stdout=subprocess.PIPE, stderr=subprocess.DEVNULL, text=True, check=False)
+    for arcs, name in re.findall(rf"OID: ({DOTTED}) \((.*)\)", got.stdout):
+        if not re.search(r"\.\d+$", name):
+            yield arcs, name
+
+
+READERS = (openssl, dumpasn1, asn1crypto, pyasn1_modules, cryptography, ldap3, schemas, ldap_header, bouncy_castle)
+READERS += (heimdal, erlang, erlang_headers, mibs, pysnmp, zlint, wireshark)
