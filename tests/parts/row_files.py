@@ -12,9 +12,9 @@ A row is some lines, and ends before an empty line. The first character of a lin
     % 1                the number of findings, where neither the lines nor the message have it
     = 2                the status (0 where the row has no such line)
 
-A number in front of `|` or `>`, as in `7| text`, is the number of octets of the input with which the line, or the octets,
-have come: before the last of these octets nothing of it is written. Either all such lines of a row have one, or none.
-Lines without words are a heading, and have comments alone.
+A number in front of `|` or `>`, as in `7| text`, is the number of octets of the input with which the line,
+or the octets, have come: before the last of these octets nothing of it is written. Either all such lines of a
+row have one, or none. Lines without words are a heading, and have comments alone.
 """
 import os
 import re
@@ -69,7 +69,8 @@ class Row:
         kind, rest = line[0], line[2:]
         written = WRITTEN.fullmatch(line)
         if written:
-            octets = written["rest"].encode() + b"\n" if written["kind"] == "|" else octets_of(written["rest"])
+            is_line, rest = written["kind"] == "|", written["rest"]
+            octets = rest.encode() + b"\n" if is_line else octets_of(rest)
             self.written.append((int(written["come"]) if written["come"] else None, octets))
         elif kind == "$":
             self.words = shlex.split(rest)
@@ -109,13 +110,12 @@ class Row:
             return self.counted
         if told:
             return int(told[1])
-        if self.words[0] == "check":
-            return len(self.out.splitlines())
-        return sum(FINDING.match(line) is not None for line in self.out.splitlines()) if self.words[0] == "dump" else 0
+        lines = self.out.splitlines() if self.words[0] in ("dump", "check") else []
+        return sum(self.words[0] == "check" or FINDING.match(line) is not None for line in lines)
 
 
 def finished(row, lines):
-    """Returns the row in a list, or an empty list where the lines are a heading; stops where they are neither."""
+    """Returns the row in a list, or an empty list if the lines are a heading; stops if they are neither."""
     if row.words is None:
         if any(not line.startswith("#") for line in lines):
             raise ValueError(f"{row.place}: a row without words")

@@ -1,8 +1,8 @@
-"""Writes the rows of tests/rows as statements that the prover shows by computing: what the definitions make of each input."""
-import re
+"""Writes the rows of tests/rows as statements that the prover shows by computing.
 
-# How many octets a row may have whose result the prover computes.
-MOST_OCTETS = 1100
+Each says what the definitions make of an input.
+"""
+import re
 
 HEAD = """-- What commands make of the inputs of tests/rows/{file}.rows, shown by computing.
 -- `tests/make-rows` writes this file.
@@ -17,12 +17,12 @@ NAMES = {
     "Rattle.std.specs.Str": "chars is_utf8",
     "Rattle.hex.specs.Hex": "encode_with",
     "lib.Utf8": "encode",
-    "Rattle.tlv_head.specs.declared.fault.FaultCode.TheVariants": "Empty Short StrayEnd BadEnd MissingEnd TagTooLong "
-    "ReservedLength IndefinitePrimitive LengthTooLarge TooDeep Overrun BadInside",
+    "Rattle.tlv_head.specs.declared.fault.FaultCode.TheVariants": "Empty Short StrayEnd BadEnd MissingEnd "
+    "TagTooLong ReservedLength IndefinitePrimitive LengthTooLarge TooDeep Overrun BadInside",
     "Rattle.tlv_show.specs.declared.rules.Rules.TheVariants": "Ber Der Cer",
     "Rattle.tlv_value.specs.Names": "names_of",
-    "Rattle.tlv_run.proofs.RowWords": "check clean_with dump extract faulty framed indef lines named nameless names_in noted "
-    "octets plain result result_with",
+    "Rattle.tlv_run.proofs.RowWords": "check clean_with dump extract faulty framed indef lines named nameless "
+    "names_in noted octets plain result result_with",
 }
 CODES = {
     "F01": "Empty",
@@ -150,7 +150,8 @@ def entries(row):
 def read_names(name, row):
     """That the table of these entries is what the row's names file gives."""
     text = "lines " + in_brackets(list_of(string(line) for line in row.names.decode().splitlines()))
-    return joined(f"{name}-names : names_of ({text})", f"≡ Ok (names_in {entries(row)})\n{name}-names = refl\n")
+    proof = f"{name}-names = refl\n"
+    return joined(f"{name}-names : names_of ({text})", f"≡ Ok (names_in {entries(row)})\n{proof}")
 
 
 def statement(number, row):
@@ -158,7 +159,8 @@ def statement(number, row):
     name, asked, given = f"row-{number}", command(row.words), in_brackets(octets(row.parts))
     proof, result = "refl", "result"
     if row.names is not None:
-        proof, result = joined(f"named {entries(row)}", f"{asked[5:]} {given}"), f"result_with (names_in {entries(row)})"
+        proof = joined(f"named {entries(row)}", f"{asked[5:]} {given}")
+        result = f"result_with (names_in {entries(row)})"
     elif b"OBJECT IDENTIFIER" in row.out:
         proof = joined(f"nameless {asked[5:]}", given)
     title = f"-- {row.title}\n" if row.title else ""
@@ -186,6 +188,5 @@ def uses(body):
 
 def text(name, rows):
     """The proof file of a file of rows."""
-    shown = [row for row in rows if len(row.given) <= MOST_OCTETS]
-    body = "\n".join(statement(number, row) for number, row in enumerate(shown, 1))
+    body = "\n".join(statement(number, row) for number, row in enumerate(rows, 1))
     return f"{HEAD.format(file=name)}{''.join(uses(body))}\n{body}"

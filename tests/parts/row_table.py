@@ -40,8 +40,8 @@ def come(row):
 
 def line(row):
     """The row as a line of text."""
-    fields = [row.place, " ".join(row.words), (row.names or b"").hex(), groups(row.parts), row.out.hex(), come(row)]
-    fields += [str(row.status), str(row.findings()), row.message]
+    fields = [row.place, " ".join(row.words), (row.names or b"").hex(), groups(row.parts), row.out.hex()]
+    fields += [come(row), str(row.status), str(row.findings()), row.message]
     if any(character in field for field in fields for character in '|"\\\\'):
         raise ValueError(f"{row.place}: a character that the table has for itself")
     return "|".join(fields)
