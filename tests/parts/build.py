@@ -5,6 +5,7 @@ In the place of the kit's rt stands a script that writes the lines of a build, s
 import os
 import pty
 import re
+import shutil
 import signal
 import subprocess
 import time
@@ -141,11 +142,19 @@ def on_a_terminal(part):
 
 
 def failing(part):
-    """Status 70, with the end of the log; an interrupt ends all."""
+    """Status 70, with the end of the log, or where there is no rt; an interrupt ends all."""
     script = cloned(part, "failing")
     got = run(part, script, ["dump"], RT_FAILS="yes")
     end = "two\nfn tlv_low::f: not proved\nrt: the library tlv_low did not build\ntlvdump: not built\n"
     part.expect("a build that fails", got == (70, b"", begin_of(script) + end), *map(str, got))
+    # A machine without the kit: a PATH with the script's tools alone.
+    tools = part.path("tools")
+    os.mkdir(tools)
+    for name in ("sh", "dirname", "readlink", "find"):
+        os.symlink(shutil.which(name), os.path.join(tools, name))
+    got = subprocess.run([script], env={"PATH": tools}, capture_output=True, text=True, timeout=60)
+    message = "tlvdump: not built: rt, the command of the Rattle kit, is not on the PATH\n"
+    part.expect("no kit", (got.returncode, got.stdout, got.stderr) == (70, "", message), str(got))
     how = {"env": environment(part, RT_WAITS="yes"), "stdout": subprocess.PIPE, "stderr": subprocess.PIPE}
     usual = lambda: signal.signal(signal.SIGINT, signal.SIG_DFL)
     child = subprocess.Popen([script], stdin=subprocess.DEVNULL, start_new_session=True, preexec_fn=usual, **how)
