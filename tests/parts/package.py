@@ -102,7 +102,7 @@ def judged(part, made):
     part.expect("lintian", got.returncode == 0, got.stdout, got.stderr)
 
 
-def refused(part):
+def refused(part, version):
     for words in (["--nonsense"], ["-x"], ["a", "b"], [""]):
         status, out, err = package(part, *words)
         part.expect(f"refused: {words}", (status, out) == (4, "") and err.startswith("usage: "), err)
@@ -113,7 +113,7 @@ def refused(part):
     other = part.write("other", b"#!/bin/sh\necho tlvdump 99.9\n")
     os.chmod(other, 0o755)
     got = package(part, program=other)
-    wanted = "package: the program is version 99.9, and packaging/changelog begins with 0.1.0\n"
+    wanted = f"package: the program is version 99.9, and packaging/changelog begins with {version}\n"
     part.expect("another version", got == (1, "", wanted), *map(str, got))
     # A clone whose program cannot be built.
     root = os.path.dirname(clone(part, "unbuilt", False))
@@ -144,4 +144,4 @@ def test(part):
     part.expect("the same package", content(made) == content(part.path(name)))
     installs(part, made)
     judged(part, made)
-    refused(part)
+    refused(part, version)
