@@ -7,7 +7,7 @@ from parts.inside import command, element, expected
 from parts.install import install, words_of
 
 NULL = b"\x05\x00"
-# The texts of README and of X.690's faults, as the program writes them.
+# The codes of docs/USE.md and docs/FINDINGS.md, as the program writes them.
 MESSAGES = [f"F{number:02}" for number in range(1, 13)] + [f"E{number}" for number in (1, 2, 3, 4, 5, 7)]
 MESSAGES += [f"B{number:02}" for number in range(1, 20)] + [f"S{number:02}" for number in range(1, 5)]
 MESSAGES += ["D01", "D02"] + [f"C{number:02}" for number in range(1, 7)]

@@ -1,16 +1,86 @@
-"""README.md: what each command of the examples writes, and the kit that it names."""
+"""README.md: its examples word for word, the options of its synopsis, its links, and the kit that it names; the faults of
+docs/USE.md.
+
+The examples run one after another at the top of a copy of this repository in which the program is built.
+"""
 import os
 import re
+import shutil
 import subprocess
 
+from parts.install import clone, words_of
 
-def examples(part, text):
-    blocks = re.findall(r"^```console\n\$ (.*?)\n(.*?)^```$", text, re.M | re.S)
-    part.expect("examples", len(blocks) >= 3)
-    for words, wanted in blocks:
-        script = words.replace("./tlvdump", f"'{part.program}'")
-        got = subprocess.run(["sh", "-c", script + " 2>&1"], cwd=part.root, capture_output=True)
-        part.expect(words, got.stdout.decode() == wanted, got.stdout.decode())
+# What is not run: the gate, of which this is a part; and what puts files into the system, which has tests of its own.
+NOT_RUN = [".ci/run", "./install", "./install", "./package"]
+TOOLS = ("openssl", "xxd")
+# An input for each fault, F01 first, in hexadecimal; the last is read with --inside 0.
+FAULTS = ["", "30", "00", "3080 0001", "3002 3080 05", "1f" + "81" * 9, "04ff", "0480", "048601", "3080" * 129, "3003 020201", "030201"]
+
+
+def blocks_of(text):
+    """The language and the lines of each block of code."""
+    return [(name, lines.splitlines()) for name, lines in re.findall(r"^```(\w*)\n(.*?)^```$", text, re.M | re.S)]
+
+
+def commands_of(lines):
+    """Each command of an example, the line after "$ ", with the lines that it writes."""
+    commands = []
+    for line in lines:
+        if line.startswith("$ "):
+            commands.append((line[2:], []))
+        else:
+            commands[-1][1].append(line)
+    return commands
+
+
+def examples(part, blocks):
+    root = os.path.dirname(clone(part, "copy", True))
+    shown = [lines for name, lines in blocks if name == "console"]
+    part.expect("examples", len(shown) >= 6, f"{len(shown)} examples")
+    part.expect("an example begins with a command", all(lines[0].startswith("$ ") for lines in shown))
+    for words, wanted in [command for lines in shown for command in commands_of(lines)]:
+        how = {"cwd": root, "stdin": subprocess.DEVNULL, "stdout": subprocess.PIPE, "stderr": subprocess.STDOUT}
+        got = subprocess.run(["sh", "-c", words], timeout=120, **how)
+        part.expect(words, got.stdout.decode().splitlines() == wanted, got.stdout.decode())
+    shutil.rmtree(root)
+
+
+def not_run(part, blocks):
+    """What stands in the other blocks of the shell: commands that are there."""
+    named = [line.split()[0] for name, lines in blocks if name == "sh" for line in lines]
+    part.expect("commands that are not run", named == NOT_RUN, *named)
+    for name in set(named):
+        part.expect(f"{name} is there", os.access(os.path.join(part.root, name), os.X_OK))
+    languages = {name for name, _ in blocks}
+    part.expect("languages of blocks", languages == {"", "sh", "console"}, *languages)
+
+
+def synopsis(part, blocks, text):
+    """The commands and options are those of the program's help."""
+    lines = [line.split() for name, block in blocks if not name for line in block]
+    told = {words[1]: {word.strip("[]") for word in words if word.strip("[]").startswith("--")} for words in lines}
+    wanted = {name: options - {"--help"} for name, options in words_of(part).items()}
+    part.expect("the synopsis", told == wanted, str(told), str(wanted))
+    table = re.findall(r"^\| `(--[a-z]+)", text, re.M)
+    part.expect("the table of options", sorted(table) == sorted(set().union(*wanted.values())), *table)
+
+
+def links(part, text):
+    for path in re.findall(r"\]\(([^)#]*)\)", text):
+        part.expect(f"the link {path}", os.path.exists(os.path.join(part.root, path)))
+    documents = [f"docs/{name}" for name in sorted(os.listdir(os.path.join(part.root, "docs")))]
+    missing = [path for path in documents if f"]({path})" not in text]
+    part.expect("README names each document", not missing, *missing)
+
+
+def faults(part):
+    """The table of docs/USE.md has the texts that the program writes."""
+    with open(os.path.join(part.root, "docs", "USE.md"), encoding="utf-8") as file:
+        told = re.findall(r"^\| (F\d\d) \| `(.*)` \|$", file.read(), re.M)
+    inputs = [bytes.fromhex(octets) for octets in FAULTS]
+    messages = [part.run(["check", *["--inside", "0"] * (at == 11)], octets).err.decode() for at, octets in enumerate(inputs)]
+    written = [tuple(message.rstrip("\n").split(": ", 1)[-1].split(" ", 1)) for message in messages]
+    part.expect("the faults of docs/USE.md", told == written, *map(str, zip(told, written)))
 
 
 def kit(part, text):
@@ -26,5 +96,11 @@ def kit(part, text):
 def test(part):
     with open(os.path.join(part.root, "README.md"), encoding="utf-8") as file:
         text = file.read()
-    examples(part, text)
+    blocks = blocks_of(text)
+    if all([part.has(tool) for tool in TOOLS]):
+        examples(part, blocks)
+    not_run(part, blocks)
+    synopsis(part, blocks, text)
+    links(part, text)
+    faults(part)
     kit(part, text)

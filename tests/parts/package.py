@@ -1,0 +1,147 @@
+"""package: what the Debian package holds, that it installs and goes away cleanly, and what lintian says of it."""
+import gzip
+import hashlib
+import os
+import shutil
+import stat
+import subprocess
+
+from parts.install import clone, content, files_below, install
+
+TOOLS = ("dpkg-deb", "dpkg", "gzip", "strip", "readelf")
+DOCUMENTS = ["usr/share/doc/tlvdump/changelog.gz", "usr/share/doc/tlvdump/copyright"]
+
+
+def package(part, *words, program=None):
+    """Runs the script with the program of the tests, and returns its status, its output and its errors."""
+    env = dict(os.environ, TLVDUMP=program or part.program)
+    how = {"cwd": part.folder, "env": env, "capture_output": True, "text": True, "timeout": 120}
+    got = subprocess.run([os.path.join(part.root, "package"), *words], **how)
+    return got.returncode, got.stdout, got.stderr
+
+
+def said_by(*words):
+    return subprocess.run(words, capture_output=True, text=True, check=True).stdout
+
+
+def place_of(path):
+    """Where the package has what ./install puts there below its PREFIX."""
+    path = path.replace("zsh/site-functions", "zsh/vendor-completions")
+    return f"usr/{path}" + ".gz" * path.startswith("share/man/")
+
+
+def holds(part, made):
+    """The files of ./install, the manual compressed and with the paths of the package; modes, owners and sums."""
+    said_by("dpkg-deb", "-R", made, part.path("tree"))
+    install(part, part.path("there"))
+    put = files_below(part.path("there"))
+    wanted = sorted([*map(place_of, put), *DOCUMENTS])
+    found = [path for path in files_below(part.path("tree")) if not path.startswith("DEBIAN/")]
+    part.expect("the files of the package", found == wanted, *sorted({*found} ^ {*wanted}))
+    for path in put:
+        if path == "bin/tlvdump":
+            continue
+        octets, other = content(part.path(f"there/{path}")), content(part.path(f"tree/{place_of(path)}"))
+        if path.startswith("share/man/"):
+            octets = octets.replace(part.path("there").encode(), b"/usr").replace(b"/usr/local/", b"/usr/")
+            other = gzip.decompress(other)
+        part.expect(f"{path} in the package", octets == other)
+    page = gzip.decompress(content(part.path("tree/usr/share/man/man1/tlvdump.1.gz")))
+    part.expect("the manual of the package names its files", b"/usr/share/tlvdump/names.txt" in page and b"/usr/local" not in page)
+    for path in found:
+        mode = stat.S_IMODE(os.stat(part.path(f"tree/{path}")).st_mode)
+        part.expect(f"the mode of {path}", mode == (0o755 if path.startswith("usr/bin/") else 0o644), oct(mode))
+    owners = {line.split()[1] for line in said_by("dpkg-deb", "-c", made).splitlines()}
+    part.expect("owners", owners == {"root/root"}, *owners)
+    sums = [f"{hashlib.md5(content(part.path(f'tree/{path}'))).hexdigest()}  {path}\n" for path in found]
+    part.expect("sums", content(part.path("tree/DEBIAN/md5sums")).decode() == "".join(sums))
+
+
+def control(part, made, version):
+    fields = dict(line.split(": ", 1) for line in said_by("dpkg-deb", "-f", made).splitlines() if not line.startswith(" "))
+    wanted = {"Package": "tlvdump", "Version": version, "Architecture": "amd64"}
+    part.expect("fields of the package", {key: fields[key] for key in wanted} == wanted, str(fields))
+    part.expect("the C library that it needs", fields["Depends"].startswith("libc6 (>= 2."), fields["Depends"])
+
+
+def works(part):
+    """The program of the package, from which strip took the symbols, does what that of the tests does."""
+    path = part.path("tree/usr/bin/tlvdump")
+    for words, octets in ((["--help"], b""), (["dump"], b"\x30\x05\x02\x01\x05\x05\x00"), (["check"], b"\x30\x80\x00\x00"), (["dump"], b"\x30\x03\x02")):
+        part.same(f"the package: {' '.join(words)}", part.run(words, octets, program=path), part.run(words, octets))
+
+
+def installs(part, made):
+    """dpkg puts it in a system of its own that has libc6 alone, and takes all of it away."""
+    if os.geteuid():
+        part.note("not root: the package is not installed")
+        return
+    for folder in ("system/var/lib/dpkg/info", "system/var/lib/dpkg/updates", "system/etc"):
+        os.makedirs(part.path(folder))
+    libc = "Package: libc6\nStatus: install ok installed\nArchitecture: amd64\nVersion: 2.36\nMaintainer: x\nDescription: x\n"
+    part.write("system/var/lib/dpkg/status", libc.encode())
+    part.write("system/var/lib/dpkg/info/libc6.list", b"/.\n")
+    how = {"capture_output": True, "text": True, "timeout": 120, "env": dict(os.environ, PATH=os.environ["PATH"] + ":/usr/sbin:/sbin")}
+    words = ["dpkg", f"--root={part.path('system')}", "--force-script-chrootless", "--log=/dev/null"]
+    got = subprocess.run([*words, "--install", made], **how)
+    part.expect("dpkg --install", got.returncode == 0, got.stdout, got.stderr)
+    found = files_below(part.path("system/usr"))
+    wanted = [path[4:] for path in files_below(part.path("tree")) if path.startswith("usr/")]
+    part.expect("what dpkg puts", found == wanted, *sorted({*found} ^ {*wanted}))
+    got = subprocess.run([*words, "--verify", "tlvdump"], **how)
+    part.expect("dpkg --verify", (got.returncode, got.stdout) == (0, ""), got.stdout, got.stderr)
+    got = subprocess.run([*words, "--purge", "tlvdump"], **how)
+    part.expect("dpkg --purge", got.returncode == 0 and "warning" not in got.stderr, got.stdout, got.stderr)
+    part.expect("what dpkg leaves", not os.path.exists(part.path("system/usr")), *files_below(part.path("system")))
+
+
+def judged(part, made):
+    if not part.has("lintian"):
+        return
+    got = subprocess.run(["lintian", "--fail-on", "error", made], capture_output=True, text=True, timeout=300)
+    part.expect("lintian", got.returncode == 0, got.stdout, got.stderr)
+
+
+def refused(part, version):
+    for words in (["--nonsense"], ["-x"], ["a", "b"], [""]):
+        status, out, err = package(part, *words)
+        part.expect(f"refused: {words}", (status, out) == (4, "") and err.startswith("usage: "), err)
+    status, out, err = package(part, "--help")
+    part.expect("--help", status == 0 and out.startswith("usage: ./package [FOLDER]") and not err)
+    status, out, err = package(part, "missing")
+    part.expect("a FOLDER that is not there", (status, out) == (1, "") and err and not os.path.exists(part.path("missing")))
+    other = part.write("other", b"#!/bin/sh\necho tlvdump 99.9\n")
+    os.chmod(other, 0o755)
+    got = package(part, program=other)
+    wanted = f"package: the program is version 99.9, and packaging/changelog begins with {version}\n"
+    part.expect("another version", got == (1, "", wanted), *map(str, got))
+    # A clone whose program cannot be built.
+    root = os.path.dirname(clone(part, "unbuilt", False))
+    shutil.copy(os.path.join(part.root, "package"), root)
+    os.chmod(part.write("rt", b"#!/bin/sh\nexit 1\n"), 0o755)
+    env = {"PATH": f"{part.folder}:{os.environ['PATH']}"}
+    got = subprocess.run([os.path.join(root, "package")], cwd=root, env=env, capture_output=True, text=True, timeout=60)
+    part.expect("a program that cannot be built", (got.returncode, got.stdout) == (70, ""), str(got))
+
+
+def test(part):
+    if not all([part.has(tool) for tool in TOOLS]):
+        return
+    version = part.run(["--version"]).out.decode().split()[1]
+    name = f"tlvdump_{version}_amd64.deb"
+    os.mkdir(part.path("a folder"))
+    got = package(part, "a folder")
+    part.expect("package", got == (0, f"a folder/{name}\n", ""), *map(str, got))
+    made = part.path(f"a folder/{name}")
+    part.expect("what package leaves", files_below(part.path("a folder")) == [name])
+    holds(part, made)
+    control(part, made, version)
+    works(part)
+    usual = os.umask(0o077)
+    got = package(part)
+    os.umask(usual)
+    part.expect("package, again", got == (0, f"./{name}\n", ""), *map(str, got))
+    part.expect("the same package", content(made) == content(part.path(name)))
+    installs(part, made)
+    judged(part, made)
+    refused(part, version)
