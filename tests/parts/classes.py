@@ -5,7 +5,9 @@ import zipfile
 MADE = "(Ljava/lang/String;)V"
 # How many octets follow each opcode that the constants are made with.
 FOLLOW = {0x12: 1, 0x13: 2, 0x59: 0, 0xB1: 0, 0xB2: 2, 0xB3: 2, 0xB6: 2, 0xB7: 2, 0xBB: 2}
-SIZES = {3: 4, 4: 4, 5: 8, 6: 8, 7: 2, 8: 2, 9: 4, 10: 4, 11: 4, 12: 4, 15: 3, 16: 2, 17: 4, 18: 4, 19: 2, 20: 2}
+# How many octets each kind of constant has.
+SIZES = {3: 4, 4: 4, 5: 8, 6: 8, 7: 2, 8: 2, 9: 4, 10: 4, 11: 4, 12: 4, 15: 3, 16: 2, 17: 4, 18: 4}
+SIZES |= {19: 2, 20: 2}
 
 
 class Reader:

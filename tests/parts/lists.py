@@ -1,7 +1,7 @@
-"""Lists of object identifiers that Debian's packages carry, each as a dictionary from arcs to names.
+"""Readers of the lists of object identifiers that Debian's packages carry.
 
-Each reader takes the folder that the packages are unpacked in, `/` where they are installed, and
-returns pairs of dotted arcs and a name. A list that is not there has no pairs.
+Each takes the folder that the packages are unpacked in, `/` where they are installed, and returns
+pairs of dotted arcs and a name. A list that is not there has no pairs.
 """
 import ast
 import glob
@@ -13,12 +13,12 @@ import subprocess
 import tempfile
 
 from .classes import Classes
+from .table import encoded
 
 PYTHON = "usr/lib/python3/dist-packages"
 DOTTED = r"[012](?:\.\d+)+"
-ROOTS = {"iso": "1", "ccitt": "0", "itu-t": "0", "joint-iso-ccitt": "2", "joint-iso-itu-t": "2", "zeroDotZero": "0.0"}
-ROOTS |= {"org": "1.3", "internet": "1.3.6.1", "mgmt": "1.3.6.1.2", "mib-2": "1.3.6.1.2.1", "private": "1.3.6.1.4"}
-ROOTS |= {"enterprises": "1.3.6.1.4.1", "experimental": "1.3.6.1.3", "snmpModules": "1.3.6.1.6.3"}
+ROOTS = {"iso": "1", "ccitt": "0", "itu-t": "0", "joint-iso-ccitt": "2", "joint-iso-itu-t": "2"}
+ROOTS |= {"internet": "1.3.6.1", "mib-2": "1.3.6.1.2.1", "enterprises": "1.3.6.1.4.1"}
 MACROS = "OBJECT IDENTIFIER|OBJECT-TYPE|OBJECT-IDENTITY|MODULE-IDENTITY|NOTIFICATION-TYPE|OBJECT-GROUP"
 
 
@@ -26,8 +26,9 @@ def texts(folder, *patterns):
     """Yields the texts of the files that the patterns name."""
     for pattern in patterns:
         for path in sorted(glob.glob(os.path.join(folder, pattern), recursive=True)):
-            with open(path, encoding="utf-8", errors="replace") as file:
-                yield file.read()
+            if os.path.isfile(path):
+                with open(path, encoding="utf-8", errors="replace") as file:
+                    yield file.read()
 
 
 def dotted_of(numbers):
@@ -36,20 +37,25 @@ def dotted_of(numbers):
     return ".".join(arcs) if all(arc.isdigit() for arc in arcs) else ""
 
 
+def output_of(*words):
+    quiet = {"stdout": subprocess.PIPE, "stderr": subprocess.DEVNULL, "text": True, "check": False}
+    return subprocess.run(words, **quiet).stdout
+
+
 def openssl(folder):
     """The objects of the command `openssl`, which is run where the folder is that of the machine."""
     if folder != "/" or not shutil.which("openssl"):
         return
-    words = ["openssl", "list", "-objects"]
-    got = subprocess.run(words, stdout=subprocess.PIPE, stderr=subprocess.DEVNULL, text=True, check=False)
-    for names, arcs in re.findall(rf"^(.*?)(?: =|,) ({DOTTED})$", got.stdout, re.M):
+    shown = output_of("openssl", "list", "-objects")
+    for names, arcs in re.findall(rf"^(.*?)(?: =|,) ({DOTTED})$", shown, re.M):
         for name in re.split(r" = ", names):
             yield arcs, name
 
 
 def dumpasn1(folder):
     for text in texts(folder, "etc/dumpasn1/dumpasn1.cfg"):
-        for arcs, name in re.findall(r"^OID = ([0-9 ]+?)\s*\n(?:Comment.*\n)?Description = (.*)", text, re.M):
+        pattern = r"^OID = ([0-9 ]+?)\s*\n(?:Comment.*\n)?Description = (.*)"
+        for arcs, name in re.findall(pattern, text, re.M):
             yield arcs.replace(" ", "."), name
 
 
@@ -59,11 +65,12 @@ def asn1crypto(folder):
 
 
 def pyasn1_modules(folder):
-    """The assignments of the modules, as `id_pe = _OID(id_pkix, 1)` and `id = univ.ObjectIdentifier('1.2')`."""
+    """The assignments of the modules, as `a = univ.ObjectIdentifier('1.2')` and `b = _OID(a, 3)`."""
+    made = r"(?:univ\.ObjectIdentifier|_OID|_buildOid)"
     for text in texts(folder, f"{PYTHON}/pyasn1_modules/rfc*.py"):
         known = {}
-        for name, right in re.findall(r"^(\w+)\s*=\s*((?:univ\.ObjectIdentifier|_OID|_buildOid)\(.*|\w+ \+ \(.*)", text, re.M):
-            arcs = arcs_of_python(right, known)
+        for name, right in re.findall(rf"^(\w+)\s*=\s*({made}\(.*|\w+ \+ \(.*)", text, re.M):
+            arcs = arcs_of_python(re.sub(made, "", right.split("#")[0]), known)
             if arcs:
                 known[name] = arcs
                 yield ".".join(arcs), name
@@ -71,7 +78,7 @@ def pyasn1_modules(folder):
 
 def arcs_of_python(right, known):
     arcs = []
-    for word in re.findall(r"'[\d.]+'|\b\w+\b", re.sub(r"univ\.ObjectIdentifier|_OID|_buildOid", "", right.split("#")[0])):
+    for word in re.findall(r"'[\d.]+'|\w+", right):
         if word.isdigit():
             arcs.append(word)
         elif word[0] == "'":
@@ -85,12 +92,14 @@ def arcs_of_python(right, known):
 
 def cryptography(folder):
     for text in texts(folder, f"{PYTHON}/cryptography/hazmat/_oid.py"):
-        yield from ((arcs, name) for name, arcs in re.findall(rf'(\w+) = ObjectIdentifier\(\s*"({DOTTED})"', text))
+        for name, arcs in re.findall(rf'(\w+) = ObjectIdentifier\(\s*"({DOTTED})"', text):
+            yield arcs, name
 
 
 def ldap3(folder):
     for text in texts(folder, f"{PYTHON}/ldap3/protocol/oid.py"):
-        for arcs, names in re.findall(rf"\('({DOTTED})', OID_\w+, (\[.*?\]|'(?:[^'\\]|\\.)*'|\"[^\"]*\")", text):
+        quoted = r"""'(?:[^'\\]|\\.)*'|"[^"]*\""""
+        for arcs, names in re.findall(rf"\('({DOTTED})', OID_\w+, (\[.*?\]|{quoted})", text):
             found = ast.literal_eval(names)
             for name in [found] if isinstance(found, str) else found:
                 yield arcs, name
@@ -104,16 +113,28 @@ def schemas(folder):
             yield from ((arcs, name) for name in re.findall(r"'([^']+)'", names))
 
 
-def ldap_header(folder):
-    for text in texts(folder, "usr/include/ldap.h"):
-        yield from ((arcs, name) for name, arcs in re.findall(rf'#define\s+(LDAP_\w+)\s+"({DOTTED})"', text))
+def active_directory(folder):
+    """The schema of Active Directory, as samba-ad-provision has it."""
+    for text in texts(folder, "usr/share/samba/setup/ad-schema/*"):
+        for block in re.split(r"\n\s*\n", text):
+            fields = {key.lower(): value for key, value in re.findall(r"^(\w+): (\S+)", block, re.M)}
+            arcs = fields.get("attributeid") or fields.get("governsid")
+            if arcs and "ldapdisplayname" in fields:
+                yield arcs, fields["ldapdisplayname"]
+
+
+def headers(folder):
+    """The header of OpenLDAP, and those of Windows that mingw-w64-common has."""
+    for text in texts(folder, "usr/include/ldap.h", "usr/share/mingw-w64/include/win*.h"):
+        for name, arcs in re.findall(rf'#define\s+(\w+)\s+"({DOTTED})"', text):
+            yield arcs, name
 
 
 def bouncy_castle(folder):
-    """The classes ..ObjectIdentifiers of the archives bcprov and bcutil."""
+    """The fields of the classes in the archives bcprov and bcutil."""
     classes = Classes(glob.glob(os.path.join(folder, "usr/share/java/bc*.jar")))
     for name in sorted(classes.places):
-        if name.endswith("ObjectIdentifiers"):
+        if "/asn1/" in name:
             yield from ((arcs, field) for field, arcs in classes.fields(name).items())
 
 
@@ -165,7 +186,7 @@ def erlang_headers(folder):
 def mibs(folder):
     """The MIBs of libsnmp-base and of snmp-mibs-downloader."""
     where = ("usr/share/snmp/mibs/*.txt", "var/lib/snmp/mibs/**/*", "usr/share/mibs/**/*")
-    return assigned(texts(folder, *(f"{pattern}" for pattern in where)))
+    return assigned(texts(folder, *where))
 
 
 def pysnmp(folder):
@@ -178,31 +199,20 @@ def pysnmp(folder):
             yield dotted_of(numbers), labels.get(name, name)
 
 
-def zlint(folder):
-    """The object identifiers of zlint and Fulcio, which are written in Go."""
-    where = ("usr/share/gocode/src/github.com/zmap/z*/**/*.go", "usr/share/gocode/src/github.com/sigstore/fulcio/**/*.go")
-    for text in texts(folder, *where):
+def go(folder):
+    """The object identifiers of zlint, Fulcio and step, which are written in Go."""
+    where = ("github.com/zmap/z*/**/*.go", "github.com/sigstore/fulcio/**/*.go", "go.step.sm/crypto/**/*.go")
+    for text in texts(folder, *(f"usr/share/gocode/src/{pattern}" for pattern in where)):
         for name, numbers in re.findall(r"(\w+)\s*=\s*asn1\.ObjectIdentifier\{([\d, ]+)\}", text):
             yield dotted_of(numbers), name
-
-
-def encoded(dotted):
-    """The element of an object identifier (X.690 8.19)."""
-    first, second, *rest = (int(arc) for arc in dotted.split("."))
-    octets = b""
-    for number in (40 * first + second, *rest):
-        parts = [number & 0x7F]
-        while number := number >> 7:
-            parts.insert(0, number & 0x7F | 0x80)
-        octets += bytes(parts)
-    return bytes([6, len(octets)]) + octets
 
 
 def capture(wanted):
     """Returns a capture file whose packets are SEQUENCEs of object identifiers."""
     octets = struct.pack("<IHHIIII", 0xA1B2C3D4, 2, 4, 0, 0, 65535, 147)
     for start in range(0, len(wanted), 100):
-        body = b"".join(encoded(dotted) for dotted in wanted[start:start + 100])
+        every = [encoded(dotted) for dotted in wanted[start:start + 100]]
+        body = b"".join(bytes([6, len(contents)]) + contents for contents in every)
         packet = b"\x30\x82" + len(body).to_bytes(2, "big") + body
         octets += struct.pack("<IIII", 0, 0, len(packet), len(packet)) + packet
     return octets
@@ -217,12 +227,11 @@ def wireshark(folder, wanted=()):
         path = os.path.join(room, "names.pcap")
         with open(path, "wb") as file:
             file.write(capture(wanted))
-        words = ["tshark", "-o", kind, "-r", path, "-V"]
-        got = subprocess.run(words, stdout=subprocess.PIPE, stderr=subprocess.DEVNULL, text=True, check=False)
-    for arcs, name in re.findall(rf"OID: ({DOTTED}) \((.*)\)", got.stdout):
+        shown = output_of("tshark", "-o", kind, "-r", path, "-V")
+    for arcs, name in re.findall(rf"OID: ({DOTTED}) \((.*)\)", shown):
         if not re.search(r"\.\d+$", name):
             yield arcs, name
 
 
-READERS = (openssl, dumpasn1, asn1crypto, pyasn1_modules, cryptography, ldap3, schemas, ldap_header, bouncy_castle)
-READERS += (heimdal, erlang, erlang_headers, mibs, pysnmp, zlint, wireshark)
+READERS = (openssl, dumpasn1, asn1crypto, pyasn1_modules, cryptography, ldap3, schemas, headers)
+READERS += (active_directory, bouncy_castle, heimdal, erlang, erlang_headers, mibs, pysnmp, go, wireshark)
