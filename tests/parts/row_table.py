@@ -3,6 +3,9 @@
 Each row is a line of text, as crates/tlv_words_tests/src/row.rt has it.
 """
 
+# The most characters of a line in the file, but for the backslash at its end.
+WIDTH = 110
+
 HEAD = """//! The rows of tests/rows/{file}.rows. `tests/make-rows` writes this file.
 
 pub(crate) static {name}: &str = "\\
@@ -38,6 +41,16 @@ def come(row):
     return ",".join(pairs) if row.is_timed() else ""
 
 
+def wrapped(text):
+    """The line as a string of Rust has it, in pieces of which each but the last ends with a backslash."""
+    pieces = []
+    while len(text) > WIDTH:
+        at = max(place for place in range(WIDTH) if text[place] != " ")
+        pieces.append(text[:at] + "\\\n")
+        text = text[at:]
+    return "".join([*pieces, text, "\n"])
+
+
 def line(row):
     """The row as a line of text."""
     fields = [row.place, " ".join(row.words), (row.names or b"").hex(), groups(row.parts), row.out.hex()]
@@ -49,7 +62,7 @@ def line(row):
 
 def text(name, rows):
     """The table of a file of rows."""
-    return HEAD.format(file=name, name=name.upper(), lines="".join(f"{line(row)}\n" for row in rows))
+    return HEAD.format(file=name, name=name.upper(), lines="".join(wrapped(line(row)) for row in rows))
 
 
 def list_text(names):

@@ -22,13 +22,17 @@ extract.rows:95|extract --offset 5||050004ff|||2|0|fault at 3: F07 length octet 
 extract.rows:100|extract --offset 0|||||2|0|fault at 0: F01 empty input
 extract.rows:105|extract --offset 4||04053003020107|||1|0|E4 no element at offset 4
 extract.rows:111|extract --offset 0||040530|040530|2:2,3:3|2|0|fault at 3: F02 input ends inside an encoding
-extract.rows:119|extract --offset 1||00050000|||2|0|fault at 0: F03 end-of-contents outside an indefinite element
+extract.rows:119|extract --offset 1||00050000|||2|0|fault at 0: F03 end-of-contents outside an indefinite ele\
+ment
 extract.rows:124|extract --offset 0||3080308005000000000001|30803080050000000000|2:2,4:4,6:6,8:8,10:10|0|0|
 extract.rows:133|extract --offset 0 --contents||3080308005000000000001|308005000000|4:2,6:4,8:6|0|0|
 extract.rows:140|extract --offset 2||308002|||2|0|fault at 3: F02 input ends inside an encoding
-extract.rows:146|extract --offset 0||3003020201|3003|2:2|2|0|fault at 3: F11 element runs past the enclosing length
-extract.rows:153|extract --offset 4||300200000500|||2|0|fault at 2: F03 end-of-contents outside an indefinite element
-extract.rows:159|extract --offset 0 --contents||0403aabb|aabb|3:1,4:2|2|0|fault at 4: F02 input ends inside an encoding
+extract.rows:146|extract --offset 0||3003020201|3003|2:2|2|0|fault at 3: F11 element runs past the enclosing \
+length
+extract.rows:153|extract --offset 4||300200000500|||2|0|fault at 2: F03 end-of-contents outside an indefinit\
+e element
+extract.rows:159|extract --offset 0 --contents||0403aabb|aabb|3:1,4:2|2|0|fault at 4: F02 input ends inside a\
+n encoding
 extract.rows:167|extract --offset 9||3003020201|||2|0|fault at 3: F11 element runs past the enclosing length
 extract.rows:172|extract --offset 0 --contents||308005000000|0500||0|0|
 extract.rows:177|extract --offset 2||308005000000|0500||0|0|
