@@ -36,4 +36,4 @@ _tlvdump() {
 }
 
 complete -F _tlvdump tlvdump
-complete -o filenames -A file -W "--help" tlvdump-inside
+complete -o filenames -A file -W "--option --padding --help" tlvdump-inside

@@ -31,7 +31,7 @@ def complete(part, text):
     options = words_of(part)
     for name in options:
         part.expect(f"the command {name}", f".Cm {name}" in text and f".Ss {name}\n" in text)
-    known = set().union(*options.values()) | {"--version"}
+    known = set().union(*options.values()) | {"--version", "--option"}
     shown = {f"-{option}" for option in re.findall(r"Fl (-[a-z]+)", text)}
     part.expect("the options", shown == known, *sorted(shown ^ known))
     for name, wanted in options.items():
@@ -151,12 +151,13 @@ def replacements(part, text):
         if "xxd" in line and not part.has("xxd"):
             continue
         inner = "--contents" in line
-        file = "bits" if "tail -c +2" in line else "octets" if inner else "plain"
+        opened = "tlvdump-inside" in line
+        file = "bits" if "tail -c +2" in line else "octets" if inner or opened else "plain"
         values = {"F": file, "N": "2" if line.startswith("head") else "0", "M": "1", "hex": "0500"}
         script = re.sub(r"\b(F|N|M|hex)\b", lambda it: values[it[0]], line)
         env = {"PATH": part.path("there/bin") + ":" + os.environ["PATH"]}
         got = subprocess.run(["sh", "-c", script], cwd=part.folder, env=env, stdin=subprocess.DEVNULL, capture_output=True)
-        wanted = b"" if ">" in line else null
+        wanted = b"" if ">" in line else dumped(part, element(4, NULL), "--inside", "0") if opened else null
         part.expect(line, (got.returncode, got.stdout, got.stderr) == (0, wanted, b""), script, str(got))
     part.expect("what extract wrote", read(part, "out") == NULL)
 
