@@ -15,7 +15,7 @@ _tlvdump_value() {
     case $before in
     --names) _tlvdump_files ;;
     --rules) _tlvdump_words "ber der cer" ;;
-    --as) _tlvdump_words "ber pem base64 hex" ;;
+    --as) _tlvdump_words "ber pem base64 hex dump" ;;
     --limit | --offset | --inside) ;;
     *) return 1 ;;
     esac

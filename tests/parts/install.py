@@ -184,7 +184,7 @@ def bash(part, options):
         told = completed_by(name, "--")
         part.expect(f"bash: options of {name}", told == script_options(part, name), str(told))
         part.expect(f"bash: FILE of {name}", completed_by(name, "str") == {"string"})
-    part.expect("bash: --as", completed_by("tlvdump-show", "--as", "") == {"ber", "pem", "base64", "hex"})
+    part.expect("bash: --as", completed_by("tlvdump-show", "--as", "") == {"ber", "pem", "base64", "hex", "dump"})
 
 
 def zsh(part, options):

@@ -148,7 +148,7 @@ def wanted_of(part, record):
     long = ("long.txt", dumped(part, record * 300_000))
     fault = b"certs/a.der: fault at 3: F11 element runs past the enclosing length\n"
     return [
-        (0, shown * 4, None),
+        (0, shown * 5, None),
         (0, b"", None),
         (2, WHY.encode(), None),
         (0, shown, None),
@@ -254,6 +254,23 @@ def by_task(part, octets, offset):
             dumped(part, cut), b"", shown, example], cut
 
 
+def made(part):
+    """tests/make-data makes the files of tests/data: what openssl has no part in octet by octet."""
+    if not part.has("openssl"):
+        return
+    folder, kept = part.path("made"), os.path.join(part.root, "tests", "data")
+    got = subprocess.run([os.path.join(part.root, "tests", "make-data"), folder], capture_output=True, timeout=120)
+    names = sorted(os.listdir(kept))
+    part.expect("make-data", got.returncode == 0 and sorted(os.listdir(folder)) == names == sorted(DATA), str(got))
+    for name in ("snmp.ber", "ldap.ber", "tap.ber"):
+        with open(os.path.join(kept, name), "rb") as file:
+            part.expect(f"make-data: {name}", file.read() == read(part, f"made/{name}"))
+    for name in names:
+        got = part.run(["dump", f"made/{name}"])
+        part.expect(f"made: {name}", got.status == 0 and got.out, *got.lines())
+    part.expect("the indefinite lengths", part.run(["check", "made/signed.ber"]).out.count(b" D01 ") >= 6)
+
+
 def coming(part, text):
     """For each task the commands of other programs, where they are installed, and the one here, on each kind of input."""
     section = re.split(r"\n\.S[hs] ", text.split("\n.Ss Coming from dumpasn1, openssl asn1parse, unber\n")[1])[0]
@@ -311,5 +328,6 @@ def test(part):
     install(part, "there")
     recipes(part, text)
     replacements(part, text)
+    made(part)
     coming(part, text)
     remarks(part, text)

@@ -83,6 +83,51 @@ def forms(script):
     script.gives("each octet", ["--raw"], (string(octets)).hex().encode(), 0, string(octets), HEX)
 
 
+def rows(octets, line, end=""):
+    """A hex dump: `line` makes each line of an offset, pairs and text."""
+    made = ""
+    for offset in range(0, len(octets), 16):
+        part = octets[offset : offset + 16]
+        text = "".join(chr(octet) if 32 <= octet < 127 else "." for octet in part)
+        made += line(offset, [f"{octet:02x}" for octet in part], text) + "\n"
+    return (made + end).encode()
+
+
+def dumps(script):
+    """Hex dumps with offsets, as the usual programs write them, and what only looks so."""
+    part = script.part
+    octets = element(0x30, b"\x06\x03\x55\x04\x03" + string(b"  |a<>  :  be ef  |") + b"\x02\x01\x05" * 20)
+    said = "taken for a hex dump"
+
+    def xxd(offset, pairs, text):
+        return f"{offset:08x}: {' '.join(''.join(pairs[at : at + 2]) for at in range(0, 16, 2)):39}  {text}"
+
+    def hexdump(offset, pairs, text):
+        return f"{offset:08x}  {' '.join(pairs[:8]) + '  ' + ' '.join(pairs[8:]):48}  |{text}|"
+
+    for what, given in [
+        ("xxd", rows(octets, xxd)),
+        ("hexdump -C", rows(octets, hexdump, f"{len(octets):08x}\n")),
+        ("od -tx1", rows(octets, lambda offset, pairs, _: f"{offset:07o} {' '.join(pairs)}", f"{len(octets):07o}\n")),
+        ("od -Ax -tx1z", rows(octets, lambda at, pairs, text: f"{at:06x} {' '.join(pairs):47}  >{text}<", f"{len(octets):06x}\n")),
+        ("Wireshark", rows(octets, lambda offset, pairs, text: f"{offset:04x}   {' '.join(pairs):47}   {text}")),
+    ]:
+        script.gives(what, ["--raw"], given, 0, octets, said)
+        script.gives(f"{what}, with CR", ["--raw"], given.replace(b"\n", b"\r\n"), 0, octets, said)
+    same = element(4, b"\0" * 14) * 5 + NULL
+    for tool in (["od", "-tx1"], ["od", "-Ax", "-tx1"]):
+        given = subprocess.run(tool, input=same, capture_output=True, check=True).stdout
+        part.expect("lines that are left out", b"\n*\n" in given)
+        script.gives(" ".join(tool), ["--raw"], given, 0, same, said)
+    words = subprocess.run(["od", "-Ax", "-tx2"], input=octets, capture_output=True, check=True).stdout
+    got = script.run(["--raw"], words)
+    part.expect("16-bit words are not taken for octets", said.encode() not in got.err, *got.lines())
+    missing = b"".join(rows(octets, xxd).splitlines(True)[1:])
+    got = script.run(["--raw"], missing)
+    part.expect("a dump that does not begin at 0", said.encode() not in got.err, *got.lines())
+    script.gives("--as dump", ["--raw", "--as", "dump"], b"0000 05 00", 0, NULL, said)
+
+
 def choices(script):
     """Where several forms fit: what parses is taken, and what else parses is told; --as decides."""
     part = script.part
@@ -328,6 +373,7 @@ def test(part):
     script = Script(part)
     os.mkdir(part.path("temporary"))
     forms(script)
+    dumps(script)
     choices(script)
     shown(script)
     refused(script)
