@@ -146,7 +146,7 @@ def script_options(part, name):
     got = subprocess.run([os.path.join(part.root, name), "--help"], capture_output=True, text=True)
     options = set(re.findall(r"--[a-z]+", got.stdout)) - {"--inside"} | {"--help"}
     if name == "tlvdump-show":
-        options |= {"--rules", "--limit", "--pure", "--names", "--inside", "--padding"}
+        options |= words_of(part)["dump"]
     return options
 
 

@@ -7,6 +7,7 @@ import subprocess
 
 from parts.harness import Done
 from parts.inside import command, element, expected, string
+from parts.install import words_of
 
 NULL = b"\x05\x00"
 PLAIN = "taken for octets as they stand"
@@ -188,6 +189,18 @@ def shown(script):
     part.expect("no file is left behind", os.listdir(part.path("temporary")) == [], *os.listdir(part.path("temporary")))
 
 
+def handed_on(script):
+    """Each option of dump is one of the script too."""
+    values = {"--rules": "ber", "--limit": "1", "--names": script.names, "--inside": "0"}
+    for option in words_of(script.part)["dump"] - {"--help"}:
+        words = [option, values[option]] if option in values else [option]
+        octets = string(NULL) if option == "--inside" else NULL
+        wanted = script.part.run(["dump", *words], octets)
+        got = script.run(words, octets)
+        fine = (got.status, got.out) == (0, wanted.out) and wanted.status == 0
+        script.part.expect(f"handed on: {option}", fine, *got.lines())
+
+
 def refused(script):
     part = script.part
     for words in (["--nothing"], ["-x"], ["a", "b"], ["--as"], ["--as", "xml"], ["--raw", "--why"], ["--raw", "--pure"],
@@ -209,6 +222,8 @@ def header(offset, octets, contents):
 CUT = "Try: fetch the input anew, since the copy was cut; or, where it is whole, look for a length that is too great."
 WRONG = "One of the two lengths is wrong, or octets between them are missing or were put in."
 INDEFINITE = "an indefinite number of octets"
+ANEW = "Try: fetch the input anew, in binary; or go on at the next record, with tail -c +M FILE, where M is its offset and 1."
+START = "No encoding begins so. Try: file FILE, which knows files of other kinds."
 WHOLE = "Try: head -c {0} FILE, for the whole encodings."
 # For each fault: the octets, the words, and the sentences behind "It does not parse".
 FAULTS = [
@@ -236,7 +251,7 @@ FAULTS = [
     ("F11", "04 04 05 00 04 05", ["--inside", "0"],
      ["The octet at offset 5 completes the header of the OCTET STRING at offset 4. " + header(4, "04 05", "5 octets"),
       "It would end at offset 11, but the OCTET STRING at offset 0 ends at offset 6. Missing there: 5 octets. "
-      + header(0, "04 04", "4 octets"), WRONG]),
+      + header(0, "04 04", "4 octets"), WRONG, ANEW]),
     ("F03", "05 00 00 00 00", [],
      ["Whole encodings end at offset 2. Octets 00 follow: 3. Left over: 3 octets.",
       "Try: --padding, which allows octets 00 between the encodings.", "Try: head -c 2 FILE, for what stands in front of them."]),
@@ -245,29 +260,32 @@ FAULTS = [
       "Try: --padding, which allows octets 00 between the encodings."]),
     ("F03", "30 04 05 00 00 00", [],
      ["Inside the SEQUENCE at offset 0, which ends at offset 6, an element should begin at offset 4. There is an octet 00, with which"
-      " none begins. " + header(0, "30 04", "4 octets"), "Left over: 2 octets. Its length, or one in front of that offset, is wrong."]),
+      " none begins. " + header(0, "30 04", "4 octets"), "Left over: 2 octets. Its length, or one in front of that offset, is wrong.",
+      ANEW]),
     ("F04", "30 80 00 05", [],
-     ["At offset 2 the octets 00 00 should end the SEQUENCE at offset 0, but the second is 05. " + header(0, "30 80", INDEFINITE)]),
+     ["At offset 2 the octets 00 00 should end the SEQUENCE at offset 0, but the second is 05. " + header(0, "30 80", INDEFINITE), ANEW]),
     ("F05", "30 05 a1 80 02 01 05 00", [],
      ["The [1] at offset 2 is not ended where the SEQUENCE at offset 0 ends, at offset 7. Missing there: 2 octets, 00 00. "
-      + header(2, "a1 80", INDEFINITE) + " " + header(0, "30 05", "5 octets")]),
+      + header(2, "a1 80", INDEFINITE) + " " + header(0, "30 05", "5 octets"), ANEW]),
     ("F06", "3f" + " ff" * 9 + " 01", [],
-     ["The header at offset 0 has more than nine octets of tag number: 3f" + " ff" * 9 + "."]),
-    ("F07", "04 ff", [], ["The header at offset 0 has the first length octet ff, which X.690 reserves: 04 ff."]),
+     ["The header at offset 0 has more than nine octets of tag number: 3f" + " ff" * 9 + ".", START]),
+    ("F07", "04 ff", [], ["The header at offset 0 has the first length octet ff, which X.690 reserves: 04 ff.", START]),
     ("F08", "30 02 04 80", [],
-     ["The header at offset 2 is that of a primitive, which cannot have the indefinite length: 04 80."]),
-    ("F09", "04 86 01", [], ["The header at offset 0 tells a length of 2^40 or more: 04 86 01."]),
-    ("F10", "30 80 " * 129, [], ["At offset 256 element 129 would be open. The program holds 128."]),
+     ["The header at offset 2 is that of a primitive, which cannot have the indefinite length: 04 80.",
+      "Try: look at the element that ends at offset 2, or begins there: its length may be wrong; or fetch the input anew, in binary."]),
+    ("F09", "04 86 01", [], ["The header at offset 0 tells a length of 2^40 or more: 04 86 01.", START]),
+    ("F10", "30 80 " * 129, [], ["At offset 256 element 129 would be open. The program holds 128.",
+      "Try: tail -c +M FILE, where M is 1 and the offset of an element some levels deep."]),
     ("F11", "30 03 02 02 01", [],
      ["The octet at offset 3 completes the header of the INTEGER at offset 2. " + header(2, "02 02", "2 octets"),
       "It would end at offset 6, but the SEQUENCE at offset 0 ends at offset 5. Missing there: 1 octet. "
-      + header(0, "30 03", "3 octets"), WRONG]),
+      + header(0, "30 03", "3 octets"), WRONG, ANEW]),
     ("F11", "30 02 30 82 01 01", [],
      ["The header at offset 2 runs past the end of the SEQUENCE at offset 0, which ends at offset 4. " + header(0, "30 02", "2 octets"),
-      "Left over: 2 octets, 30 82.", WRONG]),
+      "Left over: 2 octets, 30 82.", WRONG, ANEW]),
     ("F12", "03 02 01 05", ["--inside", "0"],
      ["The BIT STRING that --inside names, the BIT STRING at offset 0, begins with 01 and not with 00: it has unused bits, and so"
-      " holds no encodings."]),
+      " holds no encodings.", "Try: leave this offset out of the list."]),
 ]
 
 
@@ -376,6 +394,7 @@ def test(part):
     dumps(script)
     choices(script)
     shown(script)
+    handed_on(script)
     refused(script)
     reasons(script)
     hints(script)
