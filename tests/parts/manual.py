@@ -114,7 +114,8 @@ One of the two lengths is wrong, or octets between them are missing or were put 
 Try: fetch the input anew, in binary; or go on at the next record, with tail -c +M FILE, where M is its offset and 1.
 Whole encodings end at offset 7. Left over: 13 octets.
 Try: head -c 7 FILE, for the whole encodings.
-From offset 12 on it parses, whole or for the most part: the octets in front may be a header of the file or of the record. \
+From offset 12 on it parses, whole or for the most part: what stands in front may be a header of the file or of the record, or \
+damaged. \
 Try: tail -c +13 FILE | tlvdump-show
 """
 
