@@ -31,10 +31,10 @@ def string(contents):
     return element(4, contents)
 
 
-def elements(octets, offset):
+def elements(octets, offset, segments=False):
     """The strings of a list of elements with short tags and definite lengths: (offset, start of contents, contents).
 
-    Segments of a constructed string are left out."""
+    Segments, which a constructed string holds directly, are left out."""
     place = 0
     found = []
     while place < len(octets):
@@ -53,9 +53,8 @@ def elements(octets, offset):
             raise Unsound
         contents = octets[place : place + length]
         if tag & 0x20:
-            inner = elements(contents, offset + place)
-            found += inner if tag - 0x20 not in STRINGS else []
-        elif tag in (3, 4):
+            found += elements(contents, offset + place, tag - 0x20 in STRINGS)
+        elif tag in (3, 4) and not segments:
             found.append((offset + start, tag, offset + place, contents))
         place += length
     return found
@@ -138,6 +137,7 @@ def by_hand(script):
         ("segments", element(0x24, string(NULL) + string(b"\x05"))),
         ("segments of a text", element(0x2C, string(NULL))),
         ("segments of segments", element(0x24, element(0x24, string(NULL))) + string(NULL)),
+        ("a string in what is no segment", element(0x24, element(0x30, string(NULL)))),
         ("a string in a tag of its own", element(0xA0, string(NULL))),
         ("a length that is not the shortest", string(b"\x30\x81\x03\x02\x01\x05")),
         ("a length of its own that is not the shortest", b"\x04\x81\x02" + NULL),
