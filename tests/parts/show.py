@@ -135,7 +135,8 @@ def choices(script):
     both = element(0xA0, string(b"\0" * 21)).hex().upper().encode()
     plain = part.run(["dump"], both)
     part.expect("digits that parse as they stand", plain.status == 0 and len(both) == 50, *plain.lines())
-    script.gives("both parse", ["--raw"], both, 0, bytes.fromhex(both.decode()), HEX, "it parses as octets as they stand too: --as ber")
+    too = "it parses as octets as they stand too: --as ber"
+    script.gives("both parse", ["--raw"], both, 0, bytes.fromhex(both.decode()), HEX, too)
     script.gives("--as ber", ["--raw", "--as", "ber"], both, 0, both, PLAIN)
     script.gives("--as=ber", ["--as=ber", "--raw"], both, 0, both, PLAIN)
     script.gives("--as base64", ["--raw", "--as", "base64"], b"0500", 0, b"\xd3\x9d\x34", "taken for base64")
@@ -161,9 +162,10 @@ def shown(script):
         part.run([*SHOWN, script.names], SOUND).out, part.run(["dump"], element(0x30, b"\x02\x02\x00\x05")).out,
         part.run(["dump"], NULL).out,
     ])
-    script.gives("three blocks", [], blocks, 1, out, "taken for PEM, blocks: 3", "block 1: A", "block 2: B", ":findings: 1", "block 3: C")
+    said = ["taken for PEM, blocks: 3", "block 1: A", "block 2: B", ":findings: 1", "block 3: C"]
+    script.gives("three blocks", [], blocks, 1, out, *said)
     raw = SOUND + element(0x30, b"\x02\x02\x00\x05") + NULL
-    script.gives("three blocks, --raw", ["--raw"], blocks, 0, raw, "taken for PEM, blocks: 3", "block 1: A", "block 2: B", "block 3: C")
+    script.gives("three blocks, --raw", ["--raw"], blocks, 0, raw, *said[:3], said[4])
     part.write("mine", b"2.5.4.3 cn\n")
     long = element(0x30, b"\x06\x03\x55\x04\x03" + string(b"\x05" * 99))
     wanted = part.run(["dump", "--limit", "2", "--rules", "cer", "--pure", "--names", "mine"], long)
@@ -176,10 +178,12 @@ def shown(script):
     padded = b"\0\0" + named + b"\0"
     wanted = part.run(["dump", "--padding", "--inside", "4,8"], padded).out
     script.gives("--padding", ["--padding"], padded, 0, wanted, PLAIN)
-    script.gives("a fault", [], NULL + b"\x04", 2, part.run(["dump"], NULL).out, PLAIN, ":fault at 3: F02 input ends inside an encoding", MORE)
+    fault = ":fault at 3: F02 input ends inside an encoding"
+    script.gives("a fault", [], NULL + b"\x04", 2, part.run(["dump"], NULL).out, PLAIN, fault, MORE)
     many = string(NULL) * 20
     got = script.run([], many)
-    part.expect("what is left out is told", got.out.count(b" wraps {") == 16 and b"left out: 64,68,72,76\n" in got.err, *got.lines())
+    fine = got.out.count(b" wraps {") == 16 and b"left out: 64,68,72,76\n" in got.err
+    part.expect("what is left out is told", fine, *got.lines())
     part.write(b"caf\xe9".decode("utf-8", "surrogateescape"), NULL)
     script.gives("a name that is not UTF-8", [b"caf\xe9"], b"", 0, b"       0      0: NULL\n", PLAIN)
     part.write("-x", NULL)
@@ -208,7 +212,8 @@ def refused(script):
         got = script.run(words)
         part.expect(f"refused: {words}", got.status == 4 and not got.out and got.err.startswith(b"usage: "), *got.lines())
     got = script.run(["--limit", "x"], NULL)
-    part.expect("refused by the program", got.status == 4 and not got.out and b"U2 value out of range: --limit" in got.err, *got.lines())
+    fine = got.status == 4 and not got.out and b"U2 value out of range: --limit" in got.err
+    part.expect("refused by the program", fine, *got.lines())
     got = script.run(["--help"])
     part.expect("--help", got.status == 0 and not got.err and got.out.startswith(b"usage: "), *got.lines())
     got = script.run([], NULL, TLVDUMP="/nowhere/tlvdump")
@@ -259,11 +264,12 @@ FAULTS = [
      ["The input begins with octets 00: 1. No element begins with such an octet.",
       "Try: --padding, which allows octets 00 between the encodings."]),
     ("F03", "30 04 05 00 00 00", [],
-     ["Inside the SEQUENCE at offset 0, which ends at offset 6, an element should begin at offset 4. There is an octet 00, with which"
-      " none begins. " + header(0, "30 04", "4 octets"), "Left over: 2 octets. Its length, or one in front of that offset, is wrong.",
-      ANEW]),
+     ["Inside the SEQUENCE at offset 0, which ends at offset 6, an element should begin at offset 4."
+      " There is an octet 00, with which none begins. " + header(0, "30 04", "4 octets"),
+      "Left over: 2 octets. Its length, or one in front of that offset, is wrong.", ANEW]),
     ("F04", "30 80 00 05", [],
-     ["At offset 2 the octets 00 00 should end the SEQUENCE at offset 0, but the second is 05. " + header(0, "30 80", INDEFINITE), ANEW]),
+     ["At offset 2 the octets 00 00 should end the SEQUENCE at offset 0, but the second is 05. "
+      + header(0, "30 80", INDEFINITE), ANEW]),
     ("F05", "30 05 a1 80 02 01 05 00", [],
      ["The [1] at offset 2 is not ended where the SEQUENCE at offset 0 ends, at offset 7. Missing there: 2 octets, 00 00. "
       + header(2, "a1 80", INDEFINITE) + " " + header(0, "30 05", "5 octets"), ANEW]),
@@ -281,7 +287,8 @@ FAULTS = [
       "It would end at offset 6, but the SEQUENCE at offset 0 ends at offset 5. Missing there: 1 octet. "
       + header(0, "30 03", "3 octets"), WRONG, ANEW]),
     ("F11", "30 02 30 82 01 01", [],
-     ["The header at offset 2 runs past the end of the SEQUENCE at offset 0, which ends at offset 4. " + header(0, "30 02", "2 octets"),
+     ["The header at offset 2 runs past the end of the SEQUENCE at offset 0, which ends at offset 4. "
+      + header(0, "30 02", "2 octets"),
       "Left over: 2 octets, 30 82.", WRONG, ANEW]),
     ("F12", "03 02 01 05", ["--inside", "0"],
      ["The BIT STRING that --inside names, the BIT STRING at offset 0, begins with 01 and not with 00: it has unused bits, and so"
@@ -333,7 +340,8 @@ def hints(script):
     got = script.run(["--why"], pem(b"CMS", SOUND) + pem(b"A", SOUND[:-1]))
     lines = got.out.decode().splitlines()
     fine = got.status == 2 and lines[0].startswith("The input is PEM and not an encoding as it stands. Try: tlvdump-show FILE")
-    fine = fine and lines[1:3] == ["block 1: CMS", f"It parses: {len(SOUND)} octets, which are whole encodings. By the rules of BER: findings: 0."]
+    whole = f"It parses: {len(SOUND)} octets, which are whole encodings. By the rules of BER: findings: 0."
+    fine = fine and lines[1:3] == ["block 1: CMS", whole]
     fine = fine and lines[3] == "block 2: A" and "Missing there: 1 octet." in lines
     part.expect("why, of PEM", fine, *lines)
     got = script.run(["--why"], SOUND.hex().encode())
