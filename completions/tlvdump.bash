@@ -1,39 +1,81 @@
-# Completion of tlvdump and tlvdump-inside for bash.
+# Completion of tlvdump, tlvdump-inside and tlvdump-show for bash.
+
+# The words of $1 that begin with the word that is completed, or the files.
+_tlvdump_words() {
+    mapfile -t COMPREPLY < <(compgen -W "$1" -- "$word")
+}
+
+_tlvdump_files() {
+    compopt -o filenames 2>/dev/null
+    mapfile -t COMPREPLY < <(compgen -f -- "$word")
+}
+
+# Completes the value of the option $before, if it has one. An option with "=" is one word, or three where "=" splits words.
+_tlvdump_value() {
+    case $before in
+    --names) _tlvdump_files ;;
+    --rules) _tlvdump_words "ber der cer" ;;
+    --as) _tlvdump_words "ber pem base64 hex dump" ;;
+    --limit | --offset | --inside) ;;
+    *) return 1 ;;
+    esac
+}
+
+# Completes a value behind "=", with what stands in front of it where that is the same word.
+_tlvdump_assigned() {
+    local front=
+    case $word in
+    --*=*)
+        before=${word%%=*}
+        front=$before=
+        word=${word#*=}
+        ;;
+    =)
+        word=
+        ;;
+    *)
+        [ "$before" = = ] || return 1
+        before=${COMP_WORDS[COMP_CWORD - 2]}
+        ;;
+    esac
+    _tlvdump_value && COMPREPLY=("${COMPREPLY[@]/#/$front}")
+}
+
+_tlvdump_complete() {
+    if _tlvdump_assigned || _tlvdump_value; then
+        return
+    fi
+    if [ "${word#-}" != "$word" ]; then
+        _tlvdump_words "$1"
+    else
+        _tlvdump_files
+    fi
+}
 
 _tlvdump() {
     local word=${COMP_WORDS[COMP_CWORD]} before=${COMP_WORDS[COMP_CWORD - 1]} options=
     COMPREPLY=()
     if [ "$COMP_CWORD" -eq 1 ]; then
-        mapfile -t COMPREPLY < <(compgen -W "dump check extract indef --help --version" -- "$word")
+        _tlvdump_words "dump check extract indef --help --version"
         return
     fi
-    case $before in
-    --names)
-        compopt -o filenames 2>/dev/null
-        mapfile -t COMPREPLY < <(compgen -f -- "$word")
-        return
-        ;;
-    --rules)
-        mapfile -t COMPREPLY < <(compgen -W "ber der cer" -- "$word")
-        return
-        ;;
-    --limit | --offset | --inside)
-        return
-        ;;
-    esac
     case ${COMP_WORDS[1]} in
     dump) options="--rules --limit --pure --names --inside --padding --help" ;;
     check) options="--rules --inside --padding --help" ;;
     extract) options="--offset --contents --inside --padding --help" ;;
     indef) options="--padding --help" ;;
     esac
-    if [ "${word#-}" != "$word" ]; then
-        mapfile -t COMPREPLY < <(compgen -W "$options" -- "$word")
-    else
-        compopt -o filenames 2>/dev/null
-        mapfile -t COMPREPLY < <(compgen -f -- "$word")
-    fi
+    _tlvdump_complete "$options"
+}
+
+_tlvdump_script() {
+    local word=${COMP_WORDS[COMP_CWORD]} before=${COMP_WORDS[COMP_CWORD - 1]}
+    COMPREPLY=()
+    case ${COMP_WORDS[0]##*/} in
+    tlvdump-inside) _tlvdump_complete "--option --padding --help" ;;
+    *) _tlvdump_complete "--as --raw --why --rules --limit --pure --names --inside --padding --help" ;;
+    esac
 }
 
 complete -F _tlvdump tlvdump
-complete -o filenames -A file -W "--help" tlvdump-inside
+complete -F _tlvdump_script tlvdump-inside tlvdump-show

@@ -8,8 +8,10 @@ import subprocess
 PLACES = {
     "bin/tlvdump": None,
     "bin/tlvdump-inside": "tlvdump-inside",
+    "bin/tlvdump-show": "tlvdump-show",
     "share/man/man1/tlvdump.1": "man/tlvdump.1",
     "share/man/man1/tlvdump-inside.1": "man/tlvdump-inside.1",
+    "share/man/man1/tlvdump-show.1": "man/tlvdump-show.1",
     "share/tlvdump/names.txt": "data/names.txt",
     "share/bash-completion/completions/tlvdump": "completions/tlvdump.bash",
     "share/zsh/site-functions/_tlvdump": "completions/_tlvdump",
@@ -61,6 +63,9 @@ def installed(part):
     part.write("string", b"\x04\x02\x05\x00")
     got = subprocess.run(["tlvdump-inside", "string"], cwd=part.folder, env=env, capture_output=True)
     part.expect("the installed script", (got.returncode, got.stdout, got.stderr) == (0, b"0\n", b""))
+    got = subprocess.run(["tlvdump-show", octets], cwd=part.folder, env=env, capture_output=True)
+    fine = got.returncode == 0 and b"2.5.4.3 (commonName)" in got.stdout and got.stderr.count(b"\n") == 1
+    part.expect("tlvdump-show, installed", fine, str(got))
     part.write("there/share/tlvdump/mine.txt", b"2.5.4.3 cn\n")
     got = install(part, "--remove", "there")
     told = "".join(f"removed there/{place}\n" for place in PLACES)
@@ -74,12 +79,24 @@ def installed(part):
     part.expect("no folder of its own stays", not os.path.exists(part.path("a place/share/tlvdump")))
 
 
+def masked(part):
+    """Under umask 077 others can still read what was put, and the folders too."""
+    before = os.umask(0o077)
+    got = install(part, "masked/prefix")
+    os.umask(before)
+    part.expect("install, umask 077", got[0] == 0, *map(str, got))
+    places(part, "masked/prefix")
+    folders = [path for path, *_ in os.walk(part.path("masked"))]
+    closed = [path for path in folders if stat.S_IMODE(os.stat(path).st_mode) != 0o755]
+    part.expect("folders that others can read", len(folders) > 9 and not closed, *closed)
+
+
 def clone(part, name, built):
     """A clone with what the script needs; its program is newer than its sources, or missing."""
     root = part.path(name)
     for place in ("crates/tlvdump/src", "crates/tlvdump/specs", "crates/tlvdump/proofs", "crates/tlvdump/out"):
         os.makedirs(os.path.join(root, place))
-    for place in ("install", "tlvdump", "tlvdump-inside", "crates.txt"):
+    for place in ("install", "tlvdump", "tlvdump-inside", "tlvdump-show", "crates.txt"):
         shutil.copy(os.path.join(part.root, place), root)
     for place in ("man", "data", "completions"):
         shutil.copytree(os.path.join(part.root, place), os.path.join(root, place))
@@ -124,15 +141,28 @@ def words_of(part):
     return options
 
 
+def script_options(part, name):
+    """The options of a script, by its help."""
+    got = subprocess.run([os.path.join(part.root, name), "--help"], capture_output=True, text=True)
+    options = set(re.findall(r"--[a-z]+", got.stdout)) - {"--inside"} | {"--help"}
+    if name == "tlvdump-show":
+        options |= words_of(part)["dump"]
+    return options
+
+
 def bash(part, options):
     if not part.has("bash"):
         return
 
-    def completed(*words):
-        script = 'source "$1"; shift; COMP_WORDS=("$@"); COMP_CWORD=$(($# - 1)); _tlvdump; printf "%s\\n" "${COMPREPLY[@]}"'
+    def completed_by(name, *words):
+        function = "_tlvdump" if name == "tlvdump" else "_tlvdump_script"
+        script = f'source "$1"; shift; COMP_WORDS=("$@"); COMP_CWORD=$(($# - 1)); {function}; printf "%s\\n" "${{COMPREPLY[@]}}"'
         path = os.path.join(part.root, "completions", "tlvdump.bash")
-        got = subprocess.run(["bash", "-c", script, "bash", path, "tlvdump", *words], cwd=part.folder, capture_output=True, text=True)
+        got = subprocess.run(["bash", "-c", script, "bash", path, name, *words], cwd=part.folder, capture_output=True, text=True)
         return set(got.stdout.split())
+
+    def completed(*words):
+        return completed_by("tlvdump", *words)
 
     part.expect("bash: commands", completed("") == {*options, "--help", "--version"}, str(completed("")))
     part.expect("bash: d", completed("d") == {"dump"})
@@ -141,6 +171,20 @@ def bash(part, options):
         part.expect(f"bash: FILE of {name}", completed(name, "str") == {"string"})
     part.expect("bash: --names", completed("dump", "--names", "str") == {"string"})
     part.expect("bash: --limit", completed("dump", "--limit", "") == set())
+    rules = {"ber", "der", "cer"}
+    part.expect("bash: --rules", completed("dump", "--rules", "") == rules)
+    # Bash splits words at "=", if it is not told otherwise.
+    part.expect("bash: --rules=", completed("dump", "--rules", "=") == rules)
+    part.expect("bash: --rules=d", completed("dump", "--rules", "=", "d") == {"der"})
+    part.expect("bash: --rules=d, one word", completed("dump", "--rules=d") == {"--rules=der"})
+    part.expect("bash: --rules=, one word", completed("dump", "--rules=") == {f"--rules={it}" for it in rules})
+    part.expect("bash: --names=", completed("dump", "--names", "=", "str") == {"string"})
+    part.expect("bash: --limit=", completed("dump", "--limit", "=") == set())
+    for name in ("tlvdump-inside", "tlvdump-show"):
+        told = completed_by(name, "--")
+        part.expect(f"bash: options of {name}", told == script_options(part, name), str(told))
+        part.expect(f"bash: FILE of {name}", completed_by(name, "str") == {"string"})
+    part.expect("bash: --as", completed_by("tlvdump-show", "--as", "") == {"ber", "pem", "base64", "hex", "dump"})
 
 
 def zsh(part, options):
@@ -160,11 +204,15 @@ def zsh(part, options):
     for name, wanted in options.items():
         told = completed("tlvdump", name, "--")
         part.expect(f"zsh: options of {name}", set(re.findall(r"--[a-z]+", told)) == wanted and "1:file:_files" in told, told)
-    part.expect("zsh: tlvdump-inside", "1:file:_files" in completed("tlvdump-inside", ""))
+    for name in ("tlvdump-inside", "tlvdump-show"):
+        told = completed(name, "--")
+        fine = set(re.findall(r"--[a-z]+", told)) == script_options(part, name) and "1:file:_files" in told
+        part.expect(f"zsh: options of {name}", fine, told)
 
 
 def test(part):
     installed(part)
+    masked(part)
     builds(part)
     refused(part)
     options = words_of(part)

@@ -1,12 +1,17 @@
 """man/tlvdump.1: it renders without a warning, names what the program has, and its recipes work word for word."""
+import base64
 import os
 import re
+import shutil
 import subprocess
 
 from parts.inside import command, element, expected
 from parts.install import install, words_of
 
 NULL = b"\x05\x00"
+SCRIPTS = {"tlvdump-inside": {"--option", "--padding"}, "tlvdump-show": {"--as", "--raw", "--why"}}
+# What the manual has for other programs: inputs that tests/make-data makes, and the offset of an element in each.
+DATA = {"certificate.der": 4, "signed.ber": 20, "keys.p12": 4, "revoked.der": 4, "snmp.ber": 13, "ldap.ber": 7, "tap.ber": 58}
 # The codes of docs/USE.md and docs/FINDINGS.md, as the program writes them.
 MESSAGES = [f"F{number:02}" for number in range(1, 13)] + [f"E{number}" for number in (1, 2, 3, 4, 5, 7)]
 MESSAGES += [f"B{number:02}" for number in range(1, 20)] + [f"S{number:02}" for number in range(1, 5)]
@@ -31,21 +36,28 @@ def complete(part, text):
     options = words_of(part)
     for name in options:
         part.expect(f"the command {name}", f".Cm {name}" in text and f".Ss {name}\n" in text)
-    known = set().union(*options.values()) | {"--version"}
+    known = set().union(*options.values(), *SCRIPTS.values()) | {"--version"}
     shown = {f"-{option}" for option in re.findall(r"Fl (-[a-z]+)", text)}
     part.expect("the options", shown == known, *sorted(shown ^ known))
     for name, wanted in options.items():
         section = text.split(f".Ss {name}\n")[1].split("\n.Ss ")[0]
         listed = {f"-{option}" for option in re.findall(r"^\.It Fl (-[a-z]+)", section, re.M)}
         part.expect(f"the options of {name}", listed == wanted - {"--help"}, str(listed))
-    codes = re.findall(r"^\.It ([A-Z]\d+)$", text, re.M)
+    for name, wanted in SCRIPTS.items():
+        section = re.split(r"\n\.S[sh] ", text.split(f".Ss {name}\n")[1])[0]
+        listed = {f"-{option}" for option in re.findall(r"^\.It Fl (-[a-z]+)", section, re.M)}
+        part.expect(f"the options of {name}", listed == wanted, str(listed))
+    codes = re.findall(r"^\.It ([A-Z]\d+)$", text.split(".Sh DIAGNOSTICS\n")[1], re.M)
     part.expect("the codes", sorted(codes) == sorted(MESSAGES), *codes)
+    section = text.split(".Sh WHEN AN INPUT DOES NOT PARSE\n")[1].split("\n.Sh ")[0]
+    codes = re.findall(r"^\.It ([A-Z]\d+)$", section, re.M)
+    part.expect("what to do about each fault", codes == MESSAGES[:12], *codes)
     statuses = text.split(".Sh EXIT STATUS")[1].split(".Sh ")[0]
     part.expect("the statuses", re.findall(r"^\.It (\d+)$", statuses, re.M) == list("012345"))
 
 
 def recipes_of(text):
-    section = text.split("\n.Sh EXAMPLES\n")[1].split("\n.Sh ")[0]
+    section = re.split(r"\n\.S[hs] ", text.split("\n.Sh EXAMPLES\n")[1])[0]
     return [block.replace("\\e", "\\") for block in re.findall(r"^\.Bd -literal.*?\n(.*?)^\.Ed", section, re.M | re.S)]
 
 
@@ -75,6 +87,7 @@ def prepared(part):
     command(part, "openssl x509 -in cert.pem -outform DER -out cert.der")
     command(part, "openssl pkcs12 -export -in cert.pem -inkey key.pem -passout pass:x -out file.p12")
     record = element(0x30, b"\x02\x01\x05\x02\x01\x06")
+    shutil.copy(os.path.join(part.root, "tests", "data", "signed.ber"), part.folder)
     part.write("cert.ber", indefinite(read(part, "cert.der")))
     part.write("damaged.ber", element(0x30, b"\x02\x01\x01" + NULL) + b"\x30\x03\x02\x02\x01" + record)
     part.write("calls.ber", (record + b"\0" * 8) * 3)
@@ -92,19 +105,61 @@ def dumped(part, octets, *words):
     return part.run(["dump", *words], octets).out
 
 
+WHY = """\
+It does not parse: fault at 10: F11 element runs past the enclosing length.
+The octet at offset 10 completes the header of the INTEGER at offset 9. The header at offset 9, 02 02, says that its contents are 2 octets.
+It would end at offset 13, but the SEQUENCE at offset 7 ends at offset 12. Missing there: 1 octet. \
+The header at offset 7, 30 03, says that its contents are 3 octets.
+One of the two lengths is wrong, or octets between them are missing or were put in.
+Try: fetch the input anew, in binary; or go on at the next record, with tail -c +M FILE, where M is its offset and 1.
+Whole encodings end at offset 7. Left over: 13 octets.
+Try: head -c 7 FILE, for the whole encodings.
+From offset 12 on it parses, whole or for the most part: what stands in front may be a header of the file or of the record, or \
+damaged. \
+Try: tail -c +13 FILE | tlvdump-show
+"""
+
+
+class Server:
+    """A server with the certificate of the recipes, which says on which port it listens."""
+
+    def __init__(self, part):
+        line = "openssl s_server -accept 127.0.0.1:0 -cert cert.pem -key key.pem"
+        how = {"cwd": part.folder, "stdin": subprocess.PIPE, "stdout": subprocess.PIPE, "stderr": subprocess.DEVNULL}
+        self.child = subprocess.Popen(line.split(), **how)
+
+    def __enter__(self):
+        for line in self.child.stdout:
+            if line.startswith(b"ACCEPT "):
+                return "127.0.0.1:" + line.decode().strip().rsplit(":", 1)[1]
+        return "127.0.0.1:0"
+
+    def __exit__(self, *_):
+        self.child.kill()
+        self.child.communicate()
+
+
 def wanted_of(part, record):
     """What each recipe comes to, in their order: its status, its output, and what a file then holds."""
     cert, p12 = read(part, "cert.der"), read(part, "file.p12")
     data = p12[30 : 30 + int.from_bytes(p12[28:30], "big")]
     inside, _ = expected(cert)
     names = part.path("there/share/tlvdump/names.txt")
+    shown = dumped(part, cert, "--names", names, "--inside", inside)
+    lines = b"".join(b"line %03d of the content\n" % number for number in range(210))
     long = ("long.txt", dumped(part, record * 300_000))
     fault = b"certs/a.der: fault at 3: F11 element runs past the enclosing length\n"
     return [
+        (0, shown * 5, None),
+        (0, b"", None),
+        (2, WHY.encode(), None),
+        (0, shown, None),
         (0, dumped(part, cert) * 2, None),
         (0, dumped(part, cert, "--names", names, "--limit", "2"), None),
         (0, dumped(part, cert, "--inside", inside), None),
         (0, dumped(part, data) + dumped(part, p12, "--inside", "26"), None),
+        (0, b"", ("joined", lines)),
+        (0, dumped(part, record), None),
         (0, dumped(part, record), None),
         (0, dumped(part, (record + b"\0" * 8) * 3, "--padding"), None),
         (0, b"", ("record.ber", record)),
@@ -126,7 +181,12 @@ def recipes(part, text):
     for block, (status, out, held) in zip(blocks, wanted):
         if "\npv " in block and not part.has("pv"):
             block = block.split("pv ")[0]
-        got = subprocess.run(["sh", "-c", block], cwd=part.folder, env=env, stdin=subprocess.DEVNULL, capture_output=True)
+        how = {"cwd": part.folder, "env": env, "stdin": subprocess.DEVNULL, "capture_output": True, "timeout": 120}
+        if "$SERVER" in block:
+            with Server(part) as env["SERVER"]:
+                got = subprocess.run(["sh", "-c", block], **how)
+        else:
+            got = subprocess.run(["sh", "-c", block], **how)
         fine = (got.returncode, got.stdout) == (status, out)
         part.expect(block.strip(), fine, f"status {got.returncode}", str(got.stdout[:300]), str(got.stderr[:300]))
         if held:
@@ -134,31 +194,131 @@ def recipes(part, text):
     before = part.run(["dump", "damaged.ber"])
     part.expect("the damage that the manual tells of", before.status == 2 and before.err.startswith(b"fault at 10: F11"))
     name = b"OBJECT IDENTIFIER 2.5.4.3 (commonName)"
-    part.expect("the names that the manual tells of", name in wanted[1][1])
+    part.expect("the names that the manual tells of", name in wanted[5][1])
+
+
+def in_shell(part, script):
+    env = {"PATH": part.path("there/bin") + ":" + os.environ["PATH"]}
+    how = {"cwd": part.folder, "env": env, "stdin": subprocess.DEVNULL, "capture_output": True, "timeout": 120}
+    return subprocess.run(["sh", "-c", script], **how)
+
+
+def replaced(line, **values):
+    return re.sub(r"\b(F|N|M|hex)\b", lambda it: values[it[0]], line)
 
 
 def replacements(part, text):
     """The commands that take the place of other programs' options, with F, N, M, out and hex put in."""
     section = text.split("\n.Ss Options of other programs\n")[1].split("\n.Sh ")[0]
-    commands = [line[4:].removesuffix(" ,") for line in section.splitlines() if line.startswith(".Li ")]
-    commands = [line for line in commands if line.startswith(("tlvdump", "tail", "head", "echo"))]
-    part.expect("commands in place of options", len(commands) >= 8, *commands)
+    commands = [line[4:].removesuffix(" ,").replace("\\e", "\\") for line in section.splitlines() if line.startswith(".Li ")]
+    commands = [line for line in commands if line.startswith(("tlvdump", "tail", "head", "echo", "xxd"))]
+    part.expect("commands in place of options", len(commands) >= 16, *commands)
     part.write("octets", element(4, NULL))
     part.write("bits", element(3, b"\0" + NULL))
     part.write("plain", NULL)
+    part.write("nested", element(0x30, element(0x30, NULL)))
     null = b"       0      0: NULL\n"
+    # What those write that do not show a NULL: the file, N and M, and the output.
+    special = {
+        "tlvdump dump $(tlvdump-inside --option F) F": ("octets", "0", "1", dumped(part, element(4, NULL), "--inside", "0")),
+        "tlvdump dump --limit 0 F | grep '[{}]$'": ("nested", "0", "1", dumped(part, element(0x30, element(0x30, NULL))).replace(
+            b"       4      0:     NULL\n", b"")),
+        "xxd -s N -l 16 F": ("plain", "0", "1", b"00000000: 0500" + b" " * 37 + b"..\n"),
+        r"tlvdump dump F | grep -v '^.\{17\} \{M\}'": ("nested", "1", "2", b"       0      4: SEQUENCE {\n                 }\n"),
+        "tlvdump extract --offset N --contents F | xxd": ("octets", "0", "1", b"00000000: 0500" + b" " * 37 + b"..\n"),
+        "tlvdump dump F | cut -c -N": ("plain", "21", "1", null),
+    }
+    part.expect("the special ones are there", set(special) <= set(commands), *sorted(set(special) - set(commands)))
     for line in commands:
         if "xxd" in line and not part.has("xxd"):
             continue
         inner = "--contents" in line
         file = "bits" if "tail -c +2" in line else "octets" if inner else "plain"
-        values = {"F": file, "N": "2" if line.startswith("head") else "0", "M": "1", "hex": "0500"}
-        script = re.sub(r"\b(F|N|M|hex)\b", lambda it: values[it[0]], line)
-        env = {"PATH": part.path("there/bin") + ":" + os.environ["PATH"]}
-        got = subprocess.run(["sh", "-c", script], cwd=part.folder, env=env, stdin=subprocess.DEVNULL, capture_output=True)
-        wanted = b"" if ">" in line else null
-        part.expect(line, (got.returncode, got.stdout, got.stderr) == (0, wanted, b""), script, str(got))
+        plain = (file, "2" if line.startswith("head") else "0", "1", b"" if ">" in line else null)
+        file, number, more, wanted = special.get(line, plain)
+        script = replaced(line, F=file, N=number, M=more, hex="0500")
+        got = in_shell(part, script)
+        said = b"tlvdump-show: taken for octets as they stand\n" if "tlvdump-show" in line else b""
+        part.expect(line, (got.returncode, got.stdout, got.stderr) == (0, wanted, said), script, str(got))
     part.expect("what extract wrote", read(part, "out") == NULL)
+
+
+def by_task(part, octets, offset):
+    """What the command here gives for each task, in their order, from the program itself."""
+    inside, names = in_shell(part, "tlvdump-inside --option F").stdout.decode().split(), part.path("there/share/tlvdump/names.txt")
+    shown, short = dumped(part, octets, "--names", names, *inside), dumped(part, octets, "--limit", "0")
+    cut = part.run(["extract", "--offset", str(offset)], octets).out
+    outline = b"".join(line for line in short.splitlines(True) if line.endswith((b"{\n", b"}\n")))
+    plain = dumped(part, octets)
+    example = b"       0      3: SEQUENCE {\n       2      1:   INTEGER 5\n                 }\n"
+    violated = part.run(["check"], octets).out
+    return [shown, plain, plain, dumped(part, octets, "--pure"), dumped(part, octets, "--limit", "2"), outline, b"", violated,
+            dumped(part, cut), b"", shown, example], cut
+
+
+def made(part):
+    """tests/make-data makes the files of tests/data: what openssl has no part in octet by octet."""
+    if not part.has("openssl"):
+        return
+    folder, kept = part.path("made"), os.path.join(part.root, "tests", "data")
+    got = subprocess.run([os.path.join(part.root, "tests", "make-data"), folder], capture_output=True, timeout=120)
+    names = sorted(os.listdir(kept))
+    part.expect("make-data", got.returncode == 0 and sorted(os.listdir(folder)) == names == sorted(DATA), str(got))
+    for name in ("snmp.ber", "ldap.ber", "tap.ber"):
+        with open(os.path.join(kept, name), "rb") as file:
+            part.expect(f"make-data: {name}", file.read() == read(part, f"made/{name}"))
+    for name in names:
+        got = part.run(["dump", f"made/{name}"])
+        part.expect(f"made: {name}", got.status == 0 and got.out, *got.lines())
+    part.expect("the indefinite lengths", part.run(["check", "made/signed.ber"]).out.count(b" D01 ") >= 6)
+
+
+def coming(part, text):
+    """For each task the commands of other programs, where they are installed, and the one here, on each kind of input."""
+    section = re.split(r"\n\.S[hs] ", text.split("\n.Ss Coming from dumpasn1, openssl asn1parse, unber\n")[1])[0]
+    blocks = [block.splitlines() for block in re.findall(r"^\.Bd -literal.*?\n(.*?)^\.Ed", section, re.M | re.S)]
+    there = [tool for tool in ("openssl", "dumpasn1", "unber") if part.has(tool)]
+    for name, offset in DATA.items():
+        with open(os.path.join(part.root, "tests", "data", name), "rb") as file:
+            octets = file.read()
+        part.write("F", octets)
+        part.write("F.pem", b"-----BEGIN CMS-----\n" + base64.encodebytes(octets) + b"-----END CMS-----\n")
+        wanted, cut = by_task(part, octets, offset)
+        part.expect(f"{name}: tasks", len(blocks) == len(wanted), f"{len(blocks)} tasks, {len(wanted)} tests")
+        for block, out in zip(blocks, wanted):
+            for line in block:
+                script = re.sub(r"\bN\b", str(offset), line)
+                tool = re.search(r"\b(dumpasn1|openssl|unber|tlvdump)\b", line)[1]
+                if tool != "tlvdump" and tool not in there:
+                    continue
+                got = in_shell(part, script)
+                # dumpasn1 counts what it finds, and takes a file of telephony records for base64.
+                fine = got.returncode == 0 or tool == "dumpasn1"
+                if tool == "tlvdump":
+                    # A check that finds something, and a grep that finds nothing, end with 1.
+                    fine = got.stdout == out and got.returncode == (1 if "check" in line and out else 0)
+                part.expect(f"{name}: {line}", fine, f"status {got.returncode}", str(got.stdout[:200]), str(got.stderr[:200]))
+                if line.endswith("> out"):
+                    part.expect(f"{name}: the element", read(part, "out") == cut)
+
+
+def remarks(part, text):
+    """What the manual says in passing."""
+    got = part.run(["dump", "--version"])
+    part.expect("dump --version is refused", got.status == 4 and b"tlvdump dump --version" in text.encode())
+    part.write("many", NULL * 200_000)
+    got = in_shell(part, "tlvdump dump many | head -n 2")
+    fine = (got.stdout, got.stderr) == (b"       0      0: NULL\n       2      0: NULL\n", b"E2 write failed\n")
+    part.expect("a write that fails before head has all", fine, str(got))
+    part.write(b"caf\xe9".decode("utf-8", "surrogateescape"), NULL)
+    got = in_shell(part, b"tlvdump dump caf\xe9")
+    part.expect("a name that is not UTF-8", (got.returncode, got.stderr) == (4, b"U1 an argument is not UTF-8\n"), str(got))
+    got = in_shell(part, b"tlvdump dump < caf\xe9")
+    part.expect("it as standard input", (got.returncode, got.stdout) == (0, b"       0      0: NULL\n"), str(got))
+    # What indef does not make alike, dump --pure shows alike.
+    padded, plain = element(0x30, b"\x04\x81\x01\x07"), element(0x30, b"\x04\x01\x07")
+    unlike = part.run(["indef"], padded).out != part.run(["indef"], plain).out
+    part.expect("padded lengths of primitives", unlike and dumped(part, padded, "--pure") == dumped(part, plain, "--pure"))
 
 
 def test(part):
@@ -170,3 +330,6 @@ def test(part):
     install(part, "there")
     recipes(part, text)
     replacements(part, text)
+    made(part)
+    coming(part, text)
+    remarks(part, text)
