@@ -7,6 +7,7 @@ from second_opinion.commands import Options
 from second_opinion.reading import BIT_STRING, OCTET_STRING, Reading
 
 MOST_NAMED, LARGEST_OFFSET = 16, 1 << 40
+LIMITS = ("0", "1", "2", "3", "5", "62", "256", "007", "0000000000001", "4294967295")
 
 
 @dataclass
@@ -47,7 +48,7 @@ def run_of(rng, command, octets, padding):
     if command == "dump":
         options.pure, options.names = rng.random() < 0.2, rng.random() < 0.4
         if rng.random() < 0.4:
-            options.limit = rng.choice(["0", "1", "2", "3", "5", "62", "256", "007", "4294967295"])
+            options.limit = rng.choice(LIMITS)
     if command == "extract":
         options.offset, options.contents = offset(rng, octets, options), rng.random() < 0.5
     if rng.random() < 0.02:
@@ -92,9 +93,9 @@ def out_of_range(rng, options):
     if options.command in ("dump", "check") and rng.random() < 0.5:
         options.rules = rng.choice(["BER", "xer", "de", ""])
     if options.command == "dump" and rng.random() < 0.5:
-        options.limit = rng.choice(["4294967296", "x", "1x", "", "0x1", "1" * 40])
+        options.limit = rng.choice(["4294967296", "x", "1x", "", "0x1", "+1", "0" * 13 + "1"])
     if options.command == "extract" and rng.random() < 0.5:
-        options.offset = rng.choice(["1099511627777", "", "1 ", "a"])
+        options.offset = rng.choice(["1099511627777", "", "1 ", "a", "0" * 14])
     if options.command != "indef" and rng.random() < 0.5:
         many = ",".join(map(str, range(17)))
         options.inside = rng.choice(["", "1,", ",1", "2,2", "3,1", "1099511627777", many, "0;1"])

@@ -1,4 +1,5 @@
 """The four commands and their endings: "Use" in README.md, docs/FORMAT.md from "What a dump writes" on."""
+import re
 from dataclasses import dataclass
 
 from second_opinion import findings, values
@@ -60,8 +61,8 @@ class Result:
 
 
 def in_range(text, largest):
-    """Returns whether this is a number in decimal up to the largest."""
-    return text.isascii() and text.isdigit() and int(text) <= largest
+    """Returns whether this is a number up to the largest, in 1 to 13 decimal digits (docs/DECISIONS.md)."""
+    return re.fullmatch("[0-9]{1,13}", text) is not None and int(text) <= largest
 
 
 def values_of(options):

@@ -84,8 +84,8 @@ def identifier(rng, relative):
         if not relative:
             numbers[:2] = [40 * numbers[0] + numbers[1]]
     else:
-        widths = [1, 6, 7, 8, 14, 31, 32, 63, 64, 65, 100]
-        count = rng.choice([0, 1, 1, 2, 3, 8, 20, 40, 70])
+        count = rng.choice([0, 1, 1, 2, 3, 8, 15, 16, 17, 63, 64, 65])
+        widths = [1, 6, 7] if count > 8 else [6, 7, 8, 14, 31, 32, 63, 64, 65, 100]
         numbers = [rng.getrandbits(rng.choice(widths)) for _ in range(count)]
         if numbers and rng.random() < 0.3:
             numbers[0] = rng.choice([0, 39, 40, 79, 80, 119, 120])

@@ -24,9 +24,9 @@ def identifier(rng, number, tag_class=0, constructed=False, odd=0.03):
 
 
 def length_octets(rng, length, odd=0.04):
-    """Returns the shortest form, or rarely one that is longer."""
+    """Returns the shortest form, or a longer one: rarely, but oftener where forms change."""
     fewest = shortest(length)
-    if rng.random() >= odd:
+    if rng.random() >= (0.3 if odd and length in (127, 128, 255, 256) else odd):
         return fewest
     more = fewest[1:] if length > 127 else fewest
     more = b"\0" * rng.choice([0, 1, 1, 2, 3, 4, 126 - len(more)]) + more
