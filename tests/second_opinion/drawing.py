@@ -194,6 +194,15 @@ def header(rng):
     return first + bytes([0x80 | count]) + length + rng.randbytes(rng.randrange(8))
 
 
+def cramped(rng):
+    """Returns a definite element or a string, mostly too short for the indefinite elements in it."""
+    octets = several(rng, 3, 1)
+    for _ in range(rng.choice([1, 1, 2, 3])):
+        octets = b"\x30\x80" + octets + b"\0\0"
+    length = max(0, len(octets) - rng.choice([0, 1, 2, 3, 3, 4, 5, 6, 7]))
+    return rng.choice([b"\x30", b"\x30", b"\x04"]) + length_octets(rng, length) + octets
+
+
 def input_octets(rng):
     """Returns an input, and whether it is one for `--padding`."""
     choice = rng.random()
@@ -207,9 +216,11 @@ def input_octets(rng):
         octets = segments(rng)
     elif choice < 0.77:
         octets = b"".join(leaf(rng) for _ in range(rng.randrange(1, 16)))
-    elif choice < 0.82:
-        octets = several(rng, 3, rng.choice([0, 1])) + header(rng)
+    elif choice < 0.81:
+        octets = cramped(rng)
     elif choice < 0.85:
+        octets = several(rng, 3, rng.choice([0, 1])) + header(rng)
+    elif choice < 0.87:
         octets = rng.randbytes(rng.randrange(12))
     else:
         octets = wrapping(rng, 1)
