@@ -68,9 +68,14 @@ def leaf(rng):
     return primitive(rng, rng.randrange(1, 39), contents.any_octets(rng, 20))
 
 
+# Sizes of segments that have about 1000 octets in all, as octets or as bits.
+NEAR_1000 = ((1000,), (1001,), (1000, 0), (1000, 1), (1000, 2), (1000, 3), (999, 1), (999, 2), (1000, 1, 2))
+NEAR_1000 += ((500, 500), (500, 501), (500, 502), (400, 301, 301))
+
+
 def segments(rng):
     """Returns a string in segments: for CER of 1000 octets, and for others of few."""
-    number = rng.choice(STRING_TYPES + (BITS, OCTETS))
+    number = rng.choice(STRING_TYPES + (BITS, BITS, BITS, OCTETS))
     kind = BITS if number == BITS else OCTETS
     sizes = [rng.choice([0, 1, 2, 5, 17, 70]) for _ in range(rng.randrange(5))]
     if rng.random() < 0.6:
@@ -78,6 +83,8 @@ def segments(rng):
         sizes = [1000] * rng.choice([0, 1, 1, 2, 3]) + [last]
         if rng.random() < 0.4:
             sizes[rng.randrange(len(sizes))] = rng.choice([999, 1001, 0, 1, 998, 1000])
+    elif rng.random() < 0.5:
+        sizes = list(rng.choice(NEAR_1000))
     parts = [segment(rng, kind, size) for size in sizes]
     if parts and rng.random() < 0.25:
         parts[rng.randrange(len(parts))] = odd_segment(rng, kind)
