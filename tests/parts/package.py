@@ -2,6 +2,7 @@
 import gzip
 import hashlib
 import os
+import re
 import shutil
 import stat
 import subprocess
@@ -30,6 +31,12 @@ def place_of(path):
     return f"usr/{path}" + ".gz" * path.startswith("share/man/")
 
 
+def with_paths(page):
+    """The manual page with the paths of the package, and without the sentence on PREFIX."""
+    page = re.sub(rb"\.Pa PREFIX\n.*?\.Pa /usr/local \.\n", b"", page, flags=re.S)
+    return page.replace(b"PREFIX/", b"/usr/")
+
+
 def holds(part, made):
     """The files of ./install, the manual compressed and with the paths of the package; modes, owners and sums."""
     said_by("dpkg-deb", "-R", made, part.path("tree"))
@@ -43,11 +50,12 @@ def holds(part, made):
             continue
         octets, other = content(part.path(f"there/{path}")), content(part.path(f"tree/{place_of(path)}"))
         if path.startswith("share/man/"):
-            octets = octets.replace(part.path("there").encode(), b"/usr").replace(b"/usr/local/", b"/usr/")
+            octets = with_paths(octets)
             other = gzip.decompress(other)
         part.expect(f"{path} in the package", octets == other)
     page = gzip.decompress(content(part.path("tree/usr/share/man/man1/tlvdump.1.gz")))
-    part.expect("the manual of the package names its files", b"/usr/share/tlvdump/names.txt" in page and b"/usr/local" not in page)
+    named = b"/usr/share/tlvdump/names.txt" in page and b"PREFIX" not in page
+    part.expect("the manual of the package names its files", named)
     for path in found:
         mode = stat.S_IMODE(os.stat(part.path(f"tree/{path}")).st_mode)
         part.expect(f"the mode of {path}", mode == (0o755 if path.startswith("usr/bin/") else 0o644), oct(mode))

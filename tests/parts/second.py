@@ -1,0 +1,15 @@
+"""A second reading of docs/FORMAT.md and docs/FINDINGS.md (tests/second_opinion) agrees with the program.
+
+By hand, with any seeds: tests/second.
+"""
+from second_opinion.running import Runner
+
+FIRST, COUNT = 1, 3000
+
+
+def test(part):
+    """Counts a test for each seed."""
+    runner = Runner(part.program, part.folder)
+    for seed in range(FIRST, FIRST + COUNT):
+        told = runner.differences(seed)
+        part.expect(f"tests/second --seed {seed} --count 1", not told, *"\n".join(told).splitlines())

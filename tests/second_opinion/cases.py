@@ -1,0 +1,139 @@
+"""Draws a case from a seed: an input, a names file, and the commands that are run on them."""
+import random
+from dataclasses import dataclass
+
+from second_opinion import contents, drawing
+from second_opinion.commands import Options
+from second_opinion.reading import BIT_STRING, OCTET_STRING, Reading
+
+MOST_NAMED, LARGEST_OFFSET = 16, 1 << 40
+LIMITS = ("0", "1", "2", "3", "5", "62", "256", "007", "0000000000001", "4294967295")
+
+
+@dataclass
+class Run:
+    """The options of a run, its words (its files are "names" and "input"), and whether it reads a pipe."""
+
+    options: Options
+    words: list
+    by_pipe: bool
+
+
+@dataclass
+class Case:
+    """An input and the runs on it."""
+
+    seed: int
+    octets: bytes
+    names: bytes
+    runs: list
+
+
+def case_of(seed):
+    """Returns the case of a seed; it is the same at each call."""
+    rng = random.Random(f"tlvdump {seed}")
+    octets, padding = drawing.input_octets(rng)
+    commands = ["dump", "check", "extract", "indef", rng.choice(["dump", "dump", "check"])]
+    runs = [run_of(rng, command, octets, padding) for command in commands]
+    return Case(seed, octets, names_file(rng), runs)
+
+
+def run_of(rng, command, octets, padding):
+    """Returns a run of this command with drawn options."""
+    options = Options(command, padding=padding if rng.random() < 0.95 else not padding)
+    if command != "indef" and rng.random() < 0.6:
+        options.inside = inside(rng, octets, options.padding)
+    if command in ("dump", "check") and rng.random() < 0.8:
+        options.rules = rng.choice(["ber", "der", "cer", "cer"])
+    if command == "dump":
+        options.pure, options.names = rng.random() < 0.2, rng.random() < 0.4
+        if rng.random() < 0.4:
+            options.limit = rng.choice(LIMITS)
+    if command == "extract":
+        options.offset, options.contents = offset(rng, octets, options), rng.random() < 0.5
+    if rng.random() < 0.02:
+        out_of_range(rng, options)
+    by_pipe = rng.random() < 0.2
+    return Run(options, words(rng, options, by_pipe), by_pipe)
+
+
+def inside(rng, octets, padding):
+    """Returns a list of offsets, mostly of strings that hold encodings; None where there is none."""
+    named = set()
+    for _ in range(rng.choice([1, 2, 3, 9])):
+        elements = [it for it in Reading(octets, named, padding).elements() if it.offset not in named]
+        strings = [it for it in elements if it.is_universal(BIT_STRING, OCTET_STRING)]
+        likely = [it.offset for it in strings if not it.constructed and holds_elements(rng, it)]
+        if not likely:
+            break
+        named.update(offset for offset in likely if rng.random() < 0.8)
+        named.update(it.offset for it in strings if rng.random() < 0.03)
+    if rng.random() < 0.08:
+        named.add(rng.choice([0, 2, rng.randrange(len(octets) + 1), LARGEST_OFFSET]))
+    return ",".join(map(str, sorted(named)[:MOST_NAMED])) if named else None
+
+
+def holds_elements(rng, string):
+    """Returns whether the contents of a string are encodings, or now and then whether they begin so."""
+    held = Reading(string.contents[1:] if string.is_universal(BIT_STRING) else string.contents)
+    return len(held.items) > 0 and (held.fault is None or rng.random() < 0.2)
+
+
+def offset(rng, octets, options):
+    """Returns the offset of an element, mostly; or another."""
+    named = [int(text) for text in options.inside.split(",")] if options.inside else []
+    elements = Reading(octets, named, options.padding).elements()
+    if elements and rng.random() < 0.9:
+        return str(rng.choice(elements).offset)
+    return str(rng.choice([0, rng.randrange(len(octets) + 1), len(octets), LARGEST_OFFSET]))
+
+
+def out_of_range(rng, options):
+    """Gives some options of a run values that are out of range."""
+    if options.command in ("dump", "check") and rng.random() < 0.5:
+        options.rules = rng.choice(["BER", "xer", "de", ""])
+    if options.command == "dump" and rng.random() < 0.5:
+        options.limit = rng.choice(["4294967296", "x", "1x", "", "0x1", "+1", "0" * 13 + "1"])
+    if options.command == "extract" and rng.random() < 0.5:
+        options.offset = rng.choice(["1099511627777", "", "1 ", "a", "0" * 14])
+    if options.command != "indef" and rng.random() < 0.5:
+        many = ",".join(map(str, range(17)))
+        options.inside = rng.choice(["", "1,", ",1", "2,2", "3,1", "1099511627777", many, "0;1"])
+
+
+def words(rng, options, by_pipe):
+    """Returns the words: the command, the options in any order, and FILE where the input is no pipe."""
+    given = []
+    for name in ("rules", "limit", "offset", "inside"):
+        value = getattr(options, name)
+        if value is not None:
+            given.append([f"--{name}={value}"] if rng.random() < 0.5 else [f"--{name}", value])
+    for name in ("pure", "contents", "padding"):
+        if getattr(options, name):
+            given.append([f"--{name}"])
+    if options.names:
+        given.append(["--names", "names"])
+    if not by_pipe:
+        given.append(["input"])
+    rng.shuffle(given)
+    return [options.command, *(word for group in given for word in group)]
+
+
+OTHER_LINES = (
+    "# 2.5.4.3 no", "", " \t", "2.47.1 \t deep(name)", "\t1.39 x~", "0.39.1 !", "2.5.4.99 y \t\r",
+    "2.340282366920938463463374607431768211455 most", "2.340282366920938463463374607431768211376 z",
+)
+REFUSED_LINES = (
+    "1.40 x", "3.1 x", "1 x", "2.5.04 x", "2..5 x", "x", "1.2.3.", "2.5.8", "2.5.8 \x7f",
+    "2.5.8 a\tb", "2.5.8 \xe9", "1.2.9 x\n1.2.9 y", "2.5.8x y", f"2.5.8 {'x' * 395}",
+)
+
+
+def names_file(rng):
+    """Returns a names file: comments, known object identifiers and others; rarely a line that is refused."""
+    lines = [f"{arcs} name of {arcs}" for arcs in contents.KNOWN if rng.random() < 0.7]
+    lines += rng.sample(OTHER_LINES, 5)
+    if rng.random() < 0.05:
+        lines.append(rng.choice(REFUSED_LINES))
+    rng.shuffle(lines)
+    return "\n".join(lines).encode() + b"\n" * (rng.random() < 0.8)
