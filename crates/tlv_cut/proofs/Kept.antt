@@ -105,10 +105,11 @@ module _ (n : ℕ) (only : Bool) where
       }
 
   -- one more is open; the count does not stop
-  one_more : (level : ℕ) (h : Heading) → level ≤ 128 → begun (stand.Inside level) (held level) h ≡ puts (held (suc level)) (octets_of h)
+  one_more : (level : ℕ) (h : Heading) → level ≤ 254 → begun (stand.Inside level) (held level) h ≡ puts (held (suc level)) (octets_of h)
   one_more level h low = ap (λ (m : ℕ). puts (held m) (octets_of h)) (omega (arith, low))
 
-  whole_kept : (level : ℕ) (h : Heading) (c : List ℕ) → level ≤ 128
+  -- a primitive
+  pub whole_kept : (level : ℕ) (h : Heading) (c : List ℕ) → level ≤ 254
       → followed extracted (held level) (Begin h ∷ Bytes c ∷ End ∷ []) ≡ puts (held level) (octets_of h ++ c)
   whole_kept level h c low =
       then_more (held level) (held (suc level)) (octets_of h ++ c) (Begin h ∷ Bytes c ∷ []) (End ∷ [])
@@ -120,7 +121,7 @@ module _ (n : ℕ) (only : Bool) where
       ≡ puts (held level) (opening h ++ (kept inside ++ end_octets h.size))
   closed_kept level h inside low allowed whole k =
       then_more (held level) (held (suc level)) (opening h) (opens h) (events inside ++ closes h inside ∷ [])
-      (opens_told (held level) (held (suc level)) (octets_of h) h (one_more level h low))
+      (opens_told (held level) (held (suc level)) (octets_of h) h (one_more level h (omega (arith, low))))
       ∙ ap (λ (t : Following Extracting). record t { put = opening h ++ t.put })
       (then_more (held (suc level)) (held (suc level)) (kept inside) (events inside) (closes h inside ∷ []) (all_kept (suc level) inside whole k)
       ∙ ap (λ (t : Following Extracting). record t { put = kept inside ++ t.put }) (closes_told (held (suc level)) h inside allowed))

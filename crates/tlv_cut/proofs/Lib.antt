@@ -6,6 +6,7 @@ pub mod IndefRules
 pub mod IndefReadings
 pub mod IndefRows
 pub mod Extracted
+pub mod Wholes
 pub mod Kept
 pub mod Cuts
 pub mod Extracts

@@ -151,4 +151,23 @@ impl Follow for Extract {
             Event::Pad(_) => Ok(Go::On),
         }
     }
+
+    #[inline(always)]
+    fn whole<D: Drain>(
+        &mut self,
+        header: &Header,
+        octets: &[u8],
+        out: &mut Out<'_, D>,
+    ) -> Result<bool, WriteFault> {
+        match self.stand {
+            Stand::Before => Ok(header.offset != self.offset),
+            Stand::Inside(level) if level < 255 => {
+                out.put(octets)?;
+                Ok(true)
+            }
+            // The count of elements stops at 255.
+            Stand::Inside(_) => Ok(false),
+            Stand::Behind => Ok(true),
+        }
+    }
 }

@@ -5,7 +5,7 @@ ghost use Rattle.tlv_walk.specs.Tells.{told_of};
 ghost use Rattle.tlv_cut.specs.IndefNext.{respelled_event};
 ghost use Rattle.tlv_cut.specs.declared.indefinite.Indef.{Indef as IndefOf};
 
-use tlv_head::spell_indefinite;
+use tlv_head::{Header, spell_indefinite};
 use tlv_walk::{Drain, Event, Follow, Go, Out, WriteFault};
 
 /// Writes the octets that are walked over, with the indefinite form of the length in each
@@ -48,6 +48,17 @@ impl Follow for Indef {
     fn on<D: Drain>(&mut self, event: &Event<'_>, out: &mut Out<'_, D>) -> Result<Go, WriteFault> {
         put_event(event, out)?;
         Ok(Go::On)
+    }
+
+    #[inline(always)]
+    fn whole<D: Drain>(
+        &mut self,
+        _header: &Header,
+        octets: &[u8],
+        out: &mut Out<'_, D>,
+    ) -> Result<bool, WriteFault> {
+        out.put(octets)?;
+        Ok(true)
     }
 }
 

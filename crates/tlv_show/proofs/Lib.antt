@@ -1,11 +1,13 @@
 pub mod Dumped
 pub mod Always
 pub mod DumpTexts
+pub mod WholeShown
 pub mod Rows
 pub mod CheckLaws
 pub mod HeaderNotes
 pub mod FinderFolds
 pub mod FinderTold
+pub mod Passing
 pub mod Shows
 pub mod CheckFolds
 pub mod DumpSteps

@@ -1,41 +1,41 @@
 -- How long the wordings of findings are.
-use Rattle.std.proofs.Common.{◌≤◌, length, arith}
+use Rattle.std.proofs.Common.{◌≡◌, ◌≤◌, length, refl, arith}
 use Rattle.tlv_value.specs.declared.finding.Finding.{Finding}
 use Rattle.tlv_value.specs.declared.finding.Finding.TheVariants.{B01, B02, B03, B04, B05, B06, B07, B08, B09, B10, B11, B12, B13, B14, B15, B16, B17, B18, B19, S01, S02, S03, S04, D01, D02, C01, C02, C03, C04, C05, C06}
 use Rattle.tlv_value.specs.Finding.{code_of, text_of}
 
-pub short_code : (finding : Finding) → length (code_of finding) ≤ 3
-short_code B01 = omega arith
-short_code B02 = omega arith
-short_code B03 = omega arith
-short_code B04 = omega arith
-short_code B05 = omega arith
-short_code B06 = omega arith
-short_code B07 = omega arith
-short_code B08 = omega arith
-short_code B09 = omega arith
-short_code B10 = omega arith
-short_code B11 = omega arith
-short_code B12 = omega arith
-short_code B13 = omega arith
-short_code B14 = omega arith
-short_code B15 = omega arith
-short_code B16 = omega arith
-short_code B17 = omega arith
-short_code B18 = omega arith
-short_code B19 = omega arith
-short_code S01 = omega arith
-short_code S02 = omega arith
-short_code S03 = omega arith
-short_code S04 = omega arith
-short_code D01 = omega arith
-short_code D02 = omega arith
-short_code C01 = omega arith
-short_code C02 = omega arith
-short_code C03 = omega arith
-short_code C04 = omega arith
-short_code C05 = omega arith
-short_code C06 = omega arith
+pub code_size : (finding : Finding) → length (code_of finding) ≡ 3
+code_size B01 = refl
+code_size B02 = refl
+code_size B03 = refl
+code_size B04 = refl
+code_size B05 = refl
+code_size B06 = refl
+code_size B07 = refl
+code_size B08 = refl
+code_size B09 = refl
+code_size B10 = refl
+code_size B11 = refl
+code_size B12 = refl
+code_size B13 = refl
+code_size B14 = refl
+code_size B15 = refl
+code_size B16 = refl
+code_size B17 = refl
+code_size B18 = refl
+code_size B19 = refl
+code_size S01 = refl
+code_size S02 = refl
+code_size S03 = refl
+code_size S04 = refl
+code_size D01 = refl
+code_size D02 = refl
+code_size C01 = refl
+code_size C02 = refl
+code_size C03 = refl
+code_size C04 = refl
+code_size C05 = refl
+code_size C06 = refl
 
 pub short_text : (finding : Finding) → length (text_of finding) ≤ 40
 short_text B01 = omega arith

@@ -5,10 +5,11 @@ ghost use Rattle.tlv_show.specs.CheckStep.{check_step, one_checked};
 ghost use Rattle.tlv_show.specs.FinderState.{no_findings};
 
 use crate::Rules;
+use crate::contents::contents_in;
 use crate::finder::Finder;
 use crate::style::{Style, put_findings};
 use std::marker::Model;
-use tlv_value::Line;
+use tlv_head::Header;
 use tlv_walk::{Drain, Event, Follow, Go, Out, WriteFault};
 
 /// Lists what violates the rules, a line for each finding: the offset of the element, the code, and the text. A finding
@@ -17,7 +18,6 @@ use tlv_walk::{Drain, Event, Follow, Go, Out, WriteFault};
 #[derive(Drop)]
 pub struct Check {
     finder: Finder,
-    line: Line,
 }
 
 impl Model for Check {
@@ -35,7 +35,6 @@ impl Check {
     {
         Check {
             finder: Finder::new(rules),
-            line: Line::new(),
         }
     }
 
@@ -65,7 +64,17 @@ impl Follow for Check {
     #[inline(always)]
     fn on<D: Drain>(&mut self, event: &Event<'_>, out: &mut Out<'_, D>) -> Result<Go, WriteFault> {
         let tells = self.finder.find(event);
-        put_findings(tells, &mut self.line, Style::Check, &self.finder, out)?;
+        put_findings(tells, Style::Check, &self.finder, out)?;
         Ok(Go::On)
+    }
+
+    #[inline(always)]
+    fn whole<D: Drain>(
+        &mut self,
+        header: &Header,
+        octets: &[u8],
+        _out: &mut Out<'_, D>,
+    ) -> Result<bool, WriteFault> {
+        Ok(self.finder.passes(header, contents_in(header, octets)))
     }
 }

@@ -1,10 +1,11 @@
 //! What is found in elements, event by event.
 ghost use Rattle.std.specs.Prelude.{◌≡◌, [], if◌then◌else◌, length};
 ghost use Rattle.std.specs.List.{filter};
+ghost use Rattle.tlv_head.specs.Header.{announced};
 ghost use Rattle.tlv_value.specs.CheckState.{found_in};
 ghost use Rattle.tlv_walk.specs.Tells.{told_of};
 ghost use Rattle.tlv_show.specs.FinderState.{begun_in, entered_in, find_begin, find_bytes, find_close, find_end, find_open, finds, finds_nothing, header_notes, no_findings};
-ghost use Rattle.tlv_show.specs.Private.FinderState.{Tells, find as find_in, stands};
+ghost use Rattle.tlv_show.specs.Private.FinderState.{PassesOrStays, Tells, find as find_in, stands};
 ghost use Rattle.tlv_show.specs.Found.{shows};
 
 use crate::Rules;
@@ -13,7 +14,7 @@ use crate::header_findings::{is_plain, note_end, note_header};
 use arrayvec::ArrayVec;
 use std::marker::Model;
 use tlv_head::Header;
-use tlv_value::{Finding, ValueCheck};
+use tlv_value::{Finding, ValueCheck, is_clear};
 use tlv_walk::Event;
 
 /// Finds what violates the rules, event by event. It keeps a frame for each open element that holds others, and what it
@@ -148,6 +149,23 @@ impl Finder {
         }
     }
 
+    /// Takes a primitive of which all contents are at hand: its header, its contents and its end. Returns whether nothing is
+    /// found with them, as far as a short look tells. Where there may be findings, it takes nothing.
+    #[inline(always)]
+    pub fn passes(&mut self, header: &Header, contents: &[u8]) -> bool
+        requires { announced header.now.size ≡ length contents.now }
+        ensures { PassesOrStays self.old self.new header.now contents.now result }
+    {
+        if self.frame.has_segments
+            || !is_plain(self.rules, &self.frame, header)
+            || !is_clear(header, contents)
+        {
+            return false;
+        }
+        self.is_open = false;
+        true
+    }
+
     /// Tells what is found with a header. Answers whether there may be findings.
     #[inline(always)]
     fn header(&mut self, header: &Header) -> bool
@@ -222,7 +240,7 @@ impl Finder {
         let check = &self.check;
         self.is_open = false;
         note_element(&mut self.frame, true, check.size(), check.has_unused_bits());
-        if check.left() != 0 || check.is_clear() {
+        if check.left() != 0 {
             return false;
         }
         let level = self.outer.len();

@@ -9,12 +9,13 @@ ghost use Rattle.tlv_show.specs.Private.DumpStep.{beginning};
 ghost use Rattle.tlv_show.specs.Dumps.{top_layout};
 
 use crate::Options;
+use crate::contents::contents_in;
 use crate::finder::Finder;
 use crate::line_follower::Lines;
 use crate::style::put_findings;
 use std::marker::Model;
 use tlv_head::Header;
-use tlv_value::{Layout, Line, Names};
+use tlv_value::{Layout, Names, is_on_line};
 use tlv_walk::{Drain, Event, Follow, Go, Out, WriteFault};
 
 /// Writes the lines that each event allows. The line of an element that holds others comes with its header, and that
@@ -24,7 +25,6 @@ use tlv_walk::{Drain, Event, Follow, Go, Out, WriteFault};
 pub struct Dump<'n> {
     lines: Lines<'n>,
     finder: Finder,
-    line: Line,
 }
 
 impl<'n> Model for Dump<'n> {
@@ -52,7 +52,6 @@ impl<'n> Dump<'n> {
         Dump {
             lines: Lines::new(layout, names),
             finder: Finder::new(options.rules),
-            line: Line::new(),
         }
     }
 
@@ -83,6 +82,24 @@ impl Follow for Dump<'_> {
     fn on<D: Drain>(&mut self, event: &Event<'_>, out: &mut Out<'_, D>) -> Result<Go, WriteFault> {
         self.tell(event, out)?;
         Ok(Go::On)
+    }
+
+    #[inline(always)]
+    fn whole<D: Drain>(
+        &mut self,
+        header: &Header,
+        octets: &[u8],
+        out: &mut Out<'_, D>,
+    ) -> Result<bool, WriteFault> {
+        if !is_on_line(header) {
+            return Ok(false);
+        }
+        let contents = contents_in(header, octets);
+        if !self.finder.passes(header, contents) {
+            return Ok(false);
+        }
+        self.lines.whole(header, contents, out)?;
+        Ok(true)
     }
 }
 
@@ -125,7 +142,7 @@ impl Dump<'_> {
     {
         let tells = self.finder.begin(header, is_value);
         let style = self.lines.style();
-        put_findings(tells, &mut self.line, style, &self.finder, out)?;
+        put_findings(tells, style, &self.finder, out)?;
         self.lines.head(header, is_value, wraps, out)
     }
 
@@ -148,7 +165,7 @@ impl Dump<'_> {
         let tells = self.finder.end();
         self.lines.end(out)?;
         let style = self.lines.style();
-        put_findings(tells, &mut self.line, style, &self.finder, out)
+        put_findings(tells, style, &self.finder, out)
     }
 
     /// An element that holds others ends: `at` is where its end-of-contents octets stand.
@@ -160,6 +177,6 @@ impl Dump<'_> {
         let tells = self.finder.close();
         self.lines.close(at, out)?;
         let style = self.lines.style();
-        put_findings(tells, &mut self.line, style, &self.finder, out)
+        put_findings(tells, style, &self.finder, out)
     }
 }

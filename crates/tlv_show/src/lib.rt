@@ -3,6 +3,7 @@
 
 mod checker;
 mod checking;
+mod contents;
 mod dumping;
 mod finder;
 mod follower;

@@ -16,11 +16,13 @@ ghost use Rattle.tlv_show.specs.Dumped.{
   one_padded,
 };
 
-use crate::lines::{write_closing, write_opening, write_padding};
+mod whole;
+
+use crate::lines::{put_closing, put_opening, put_padding};
 use crate::style::Style;
 use std::marker::Model;
 use tlv_head::Header;
-use tlv_value::{Layout, Line, Names, ValueText};
+use tlv_value::{Layout, Names, ValueText};
 use tlv_walk::{Drain, Out, WriteFault};
 
 /// Writes the lines that each event allows. The line of an element that holds others comes with its header, and that
@@ -36,10 +38,8 @@ pub(crate) struct Lines<'n> {
     in_padding: bool,
     /// Whether a primitive is open.
     is_open: bool,
-    /// The primitive that is open, or the last one. It is used again for the next one, so its room is not filled anew
-    /// each time.
+    /// The primitive that is open, or the last one.
     value: Option<ValueText>,
-    line: Line,
 }
 
 impl<'n> Model for Lines<'n> {
@@ -73,7 +73,6 @@ impl<'n> Lines<'n> {
             in_padding: false,
             is_open: false,
             value: None,
-            line: Line::new(),
         }
     }
 
@@ -134,8 +133,7 @@ impl<'n> Lines<'n> {
         ensures state { OnOk result (self.new ≡ (dumped_open self.old header.now word.now).state) }
         ensures puts { Puts D.told out.old out.new (dumped_open self.old header.now word.now).put result }
     {
-        write_opening(&mut self.line, self.layout, header, word);
-        out.put(self.line.as_slice())?;
+        put_opening(self.layout, header, word, out)?;
         self.layout.level = self.layout.level.saturating_add(1);
         self.enter(header);
         Ok(())
@@ -154,8 +152,7 @@ impl<'n> Lines<'n> {
         if let Some(at) = at {
             self.offset = at.saturating_add(2);
         }
-        write_closing(&mut self.line, self.layout, at);
-        out.put(self.line.as_slice())
+        put_closing(self.layout, at, out)
     }
 
     /// A primitive begins.
@@ -203,8 +200,7 @@ impl<'n> Lines<'n> {
             return Ok(());
         }
         self.in_padding = true;
-        write_padding(&mut self.line, self.layout, offset);
-        out.put(self.line.as_slice())
+        put_padding(self.layout, offset, out)
     }
 }
 
@@ -218,10 +214,7 @@ ghost use Rattle.tlv_show.specs.Private.Dumped.{if_open};
 fn restart(value: &mut Option<ValueText>, header: &Header, layout: Layout)
     ensures { value.new ≡ Some (start header.now layout) }
 {
-    match value {
-        Some(value) => value.restart(header, layout),
-        None => *value = Some(ValueText::new(header, layout)),
-    }
+    *value = Some(ValueText::new(header, layout));
 }
 
 /// Puts what the header tells of a primitive that begins.

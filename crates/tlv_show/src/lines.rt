@@ -1,53 +1,115 @@
 //! The lines of a dump that are not those of primitives.
-ghost use Rattle.std.specs.Prelude.{◌≡◌, ◌≤◌, length};
-ghost use Rattle.tlv_value.specs.Layout.{columns, margin};
+ghost use Rattle.std.specs.Prelude.{◌≡◌, ◌+◌, ◌≤◌, ◌++◌, codes, length};
+ghost use Rattle.std.specs.Option.{option_map_or};
+ghost use Rattle.tlv_walk.specs.Out.{Puts};
+ghost use Rattle.tlv_value.specs.Layout.{columns, margin, no_columns};
 ghost use Rattle.tlv_show.specs.Lines.{close_line, opening_line, padding_line, size_text};
 
-use itoa::Buffer;
 use tlv_head::{Header, Size};
-use tlv_value::{Layout, Line};
+use tlv_value::{Layout, begin_blank, begin_sized, begin_word, write_tag};
+use tlv_walk::{Drain, Held, Out, WriteFault};
 
-/// Makes the line of an element that holds others, with a word behind its tag.
+/// Puts the line of an element that holds others, with a word behind its tag.
+#[tactic(auto, using(tlv_walk::proofs::Puts::lines))]
 #[inline(always)]
-pub(crate) fn write_opening(line: &mut Line, layout: Layout, header: &Header, word: &[u8])
+pub(crate) fn put_opening<D: Drain>(
+    layout: Layout,
+    header: &Header,
+    word: &[u8],
+    out: &mut Out<'_, D>,
+) -> Result<(), WriteFault>
     requires { length word.now ≤ 16 }
-    ensures { line.new ≡ opening_line layout header.now word.now }
+    ensures { Puts D.told out.old out.new (opening_line layout header.now word.now) result }
 {
-    begin_with_size(line, layout, header.offset, header.size);
-    line.add_tag(header.class, header.number);
-    line.add(word);
-    line.add(b"\n");
+    out.make_room()?;
+    write_opening(&mut out.held, layout, header, word);
+    Ok(())
 }
 
-/// Makes the line of the end of an element that holds others, which has end-of-contents octets at this offset, or none.
-pub(crate) fn write_closing(line: &mut Line, layout: Layout, at: Option<u64>)
-    ensures { line.new ≡ close_line layout at }
+/// Puts the line of the end of an element that holds others, which has end-of-contents octets at this offset, or none.
+#[tactic(auto, using(tlv_walk::proofs::Puts::lines))]
+#[inline(always)]
+pub(crate) fn put_closing<D: Drain>(
+    layout: Layout,
+    at: Option<u64>,
+    out: &mut Out<'_, D>,
+) -> Result<(), WriteFault>
+    ensures { Puts D.told out.old out.new (close_line layout at) result }
 {
-    match at {
-        Some(at) => line.begin(layout, at, b"end"),
-        None => line.begin_blank(layout),
-    }
-    line.add(b"}\n");
+    out.make_room()?;
+    write_closing(&mut out.held, layout, at);
+    Ok(())
 }
 
-/// Makes the line of a run of padding.
-pub(crate) fn write_padding(line: &mut Line, layout: Layout, at: u64)
-    ensures { line.new ≡ padding_line layout at }
+/// Puts the line of a run of padding.
+#[tactic(auto, using(tlv_walk::proofs::Puts::lines))]
+pub(crate) fn put_padding<D: Drain>(
+    layout: Layout,
+    at: u64,
+    out: &mut Out<'_, D>,
+) -> Result<(), WriteFault>
+    ensures { Puts D.told out.old out.new (padding_line layout at) result }
 {
-    line.begin(layout, at, b"pad");
-    line.add(b"padding\n");
+    out.make_room()?;
+    write_padding(&mut out.held, layout, at);
+    Ok(())
+}
+
+/// Adds the line of an element that holds others, with a word behind its tag.
+#[inline(always)]
+fn write_opening(held: &mut Held, layout: Layout, header: &Header, word: &[u8])
+    requires room { length held.old + 1024 ≤ 4096 }
+    requires short { length word.now ≤ 16 }
+    ensures { held.new ≡ held.old ++ opening_line layout header.now word.now }
+{
+    begin_opening(held, layout, header.offset, header.size);
+    write_tag(held, header.class, header.number);
+    held.add(word);
+    held.add(b"\n");
 }
 
 /// Begins a line with an offset and a length, or the word for the indefinite form.
-fn begin_with_size(line: &mut Line, layout: Layout, offset: u64, size: Size)
-    ensures text { line.new ≡ margin layout.pure (columns offset (size_text size)) layout.level }
-    ensures short { length line.new ≤ 573 }
+#[inline(always)]
+fn begin_opening(held: &mut Held, layout: Layout, offset: u64, size: Size)
+    requires { length held.old + 592 ≤ 4096 }
+    ensures text { held.new ≡ held.old ++ margin layout.pure (columns offset (size_text size)) layout.level }
+    ensures bound { length held.new ≤ length held.old + 553 }
 {
     match size {
-        Size::Definite(length) => {
-            let mut digits = Buffer::new();
-            line.begin(layout, offset, digits.format(length).as_bytes());
-        }
-        Size::Indefinite => line.begin(layout, offset, b"indef"),
+        Size::Definite(length) => begin_sized(held, layout, offset, length),
+        Size::Indefinite => begin_word(held, layout, offset, b" indef"),
     }
+}
+
+/// Adds the line of the end of an element that holds others.
+#[inline(always)]
+fn write_closing(held: &mut Held, layout: Layout, at: Option<u64>)
+    requires { length held.old + 1024 ≤ 4096 }
+    ensures { held.new ≡ held.old ++ close_line layout at }
+{
+    begin_closing(held, layout, at);
+    held.add(b"}\n");
+}
+
+/// Begins a line with an offset and the word for an end, or without an offset.
+#[inline(always)]
+fn begin_closing(held: &mut Held, layout: Layout, at: Option<u64>)
+    requires { length held.old + 592 ≤ 4096 }
+    ensures text { held.new
+        ≡ held.old ++ margin layout.pure (option_map_or (λ at. columns at (codes "end")) at no_columns) layout.level }
+    ensures bound { length held.new ≤ length held.old + 553 }
+{
+    match at {
+        Some(at) => begin_word(held, layout, at, b"   end"),
+        None => begin_blank(held, layout),
+    }
+}
+
+/// Adds the line of a run of padding.
+fn write_padding(held: &mut Held, layout: Layout, at: u64)
+    requires { length held.old + 1024 ≤ 4096 }
+    ensures { held.new ≡ held.old ++ padding_line layout at }
+{
+    begin_word(held, layout, at, b"   pad");
+    held.add(b"padding\n");
 }

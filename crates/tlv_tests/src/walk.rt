@@ -4,6 +4,7 @@ mod deep;
 mod devices;
 mod enough;
 mod fault_rows;
+mod held;
 mod lines;
 mod memory;
 mod naming;

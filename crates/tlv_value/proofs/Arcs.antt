@@ -1,14 +1,13 @@
 -- Subidentifiers, read octet by octet.
 use Rattle.std.proofs.Common.{◌≡◌, ℕ, suc, ◌+◌, ◌-◌, ◌*◌, ◌%◌, ◌^◌, ◌<◌, ◌≤◌, Bool, true, false, not, ◌&&◌, List, [], ◌∷◌, ◌++◌, length, map, refl, sym, ap, ◌∙◌, arith, append_assoc, append-nil, length-append, drop, get_or, add-one}
 use Rattle.std.proofs.Math.Seq.{drop-cons}
-use Rattle.std.proofs.lemmas.Bool.{ltb-true}
 use Rattle.std.proofs.lemmas.Nat.{pow-add}
 use Rattle.std.proofs.lemmas.List.{length-map, nil_from_length}
 use Rattle.std.proofs.Math.ListN.{length-drop}
-use Rattle.std.specs.Prelude.{Option, Some, None, unwrap_or, decimal, nat_lt, nat_le, if◌then◌else◌}
+use Rattle.std.specs.Prelude.{Option, Some, None, decimal, nat_lt, nat_le, if◌then◌else◌}
 use Rattle.std.specs.List.{onto_first}
 use Rattle.std.proofs.lemmas.Bool.Decides.{nat_tests}
-use Rattle.std.proofs.lemmas.Fmt.{length-decimal-le_wide}
+use Rattle.std.proofs.lemmas.Fmt.{decimal_digit, length-decimal-le_wide}
 use Rattle.std.proofs.Math.Nat.{pow-suc}
 use Rattle.tlv_value.specs.Arcs.{parts_of, subidentifier, subidentifiers, arcs_of, is_finished, dotted_text}
 use Rattle.tlv_value.specs.Private.Arcs.{part_text, first_arcs, behind_dots, dotted, all_below}
@@ -193,28 +192,6 @@ thousand n x k h =
     let e : 10 ^ (3 * suc k) ≡ 10 ^ (3 * k) * 1000 = ap (λ m. 10 ^ m) (let l : 3 * suc k ≡ 3 * k + 3 = omega arith in l) ∙ pow-add 10 (3 * k) 3 in
     rw e (omega arith)
 
-and_left : (a b : Bool) → (a && b) ≡ true → a ≡ true
-and_left true b e = refl
-and_left false b e = cc
-
-behind-long-at : (n x k : ℕ) (xs : List ℕ) (last : Bool) → n < 10 ^ (3 * k)
-    → all_below (2 ^ 128) (if last then (n * 128 + x % 128) ∷ carry 0 xs else carry (n * 128 + x % 128) xs) ≡ true
-    → ((m j : ℕ) → m < 10 ^ (3 * j) → all_below (2 ^ 128) (carry m xs) ≡ true → length (behind_dots (carry m xs)) ≤ 4 * (j + length xs))
-    → length (behind_dots (if last then (n * 128 + x % 128) ∷ carry 0 xs else carry (n * 128 + x % 128) xs)) ≤ 4 * (k + length (x ∷ xs))
-behind-long-at n x k xs true h all more =
-    let v : ℕ = n * 128 + x % 128 in
-    let small : v < 2 ^ 128 = ltb-true v (2 ^ 128) (and_left (nat_lt v (2 ^ 128)) (all_below (2 ^ 128) (carry 0 xs)) all) in
-    let l : length (decimal v) ≤ 3 * suc k = long v (3 * suc k) small (thousand n x k h) (omega arith) in
-    let r = more 0 0 (omega arith) (and_right (nat_lt v (2 ^ 128)) (all_below (2 ^ 128) (carry 0 xs)) all) in
-    omega (arith, length-append (46 ∷ decimal v) (behind_dots (carry 0 xs)), l, r)
-behind-long-at n x k xs false h all more =
-    let r = more (n * 128 + x % 128) (suc k) (thousand n x k h) all in
-    omega (arith, r)
-
-behind-long : (n k : ℕ) (xs : List ℕ) → n < 10 ^ (3 * k) → all_below (2 ^ 128) (carry n xs) ≡ true → length (behind_dots (carry n xs)) ≤ 4 * (k + length xs)
-behind-long n k [] h all = omega arith
-behind-long n k (x ∷ xs) h all = behind-long-at n x k xs (nat_lt x 128) h all (λ m j. behind-long m j xs)
-
 two-long : (a b k : ℕ) (vs : List ℕ) → length (decimal a) ≤ 1 → length (decimal b) ≤ 3 * k → length (dotted (a ∷ b ∷ vs)) ≤ 3 * k + 2 + length (behind_dots vs)
 two-long a b k vs e h = omega (arith, length-append (decimal a) (behind_dots (b ∷ vs)), length-append (46 ∷ decimal b) (behind_dots vs))
 
@@ -223,47 +200,6 @@ first-long-at : (v k : ℕ) (p q : Bool) (vs : List ℕ) → 1 ≤ k → v < 2 ^
 first-long-at v k true q vs s h g = two-long 0 v k vs (long 0 1 (omega arith) (omega arith) (omega arith)) (long v (3 * k) h g (omega arith))
 first-long-at v k false true vs s h g = two-long 1 (v - 40) k vs (long 1 1 (omega arith) (omega arith) (omega arith)) (long (v - 40) (3 * k) (omega arith) (omega (arith, g)) (omega arith))
 first-long-at v k false false vs s h g = two-long 2 (v - 80) k vs (long 2 1 (omega arith) (omega arith) (omega arith)) (long (v - 80) (3 * k) (omega arith) (omega (arith, g)) (omega arith))
-
-first-long : (relative : Bool) (v k : ℕ) (vs : List ℕ) → 1 ≤ k → v < 2 ^ 128 → v < 10 ^ (3 * k) → length (dotted (arcs_of relative (v ∷ vs))) ≤ 3 * k + 2 + length (behind_dots vs)
-first-long true v k vs s h g = omega (arith, length-append (decimal v) (behind_dots vs), long v (3 * k) h g (omega arith))
-first-long false v k vs s h g = first-long-at v k (nat_lt v 40) (nat_lt v 80) vs s h g
-
-dotted-long-at : (relative : Bool) (n x k : ℕ) (xs : List ℕ) (last : Bool) → n < 10 ^ (3 * k)
-    → all_below (2 ^ 128) (if last then (n * 128 + x % 128) ∷ carry 0 xs else carry (n * 128 + x % 128) xs) ≡ true
-    → ((m j : ℕ) → m < 10 ^ (3 * j) → all_below (2 ^ 128) (carry m xs) ≡ true → length (dotted (arcs_of relative (carry m xs))) ≤ 4 * (j + length xs) + 2)
-    → length (dotted (arcs_of relative (if last then (n * 128 + x % 128) ∷ carry 0 xs else carry (n * 128 + x % 128) xs))) ≤ 4 * (k + length (x ∷ xs)) + 2
-dotted-long-at relative n x k xs true h all more =
-    let v : ℕ = n * 128 + x % 128 in
-    let small : v < 2 ^ 128 = ltb-true v (2 ^ 128) (and_left (nat_lt v (2 ^ 128)) (all_below (2 ^ 128) (carry 0 xs)) all) in
-    let r = behind-long 0 0 xs (omega arith) (and_right (nat_lt v (2 ^ 128)) (all_below (2 ^ 128) (carry 0 xs)) all) in
-    omega (arith, first-long relative v (suc k) (carry 0 xs) (omega arith) small (thousand n x k h), r)
-dotted-long-at relative n x k xs false h all more =
-    let r = more (n * 128 + x % 128) (suc k) (thousand n x k h) all in
-    omega (arith, r)
-
-arcs-nil : (relative : Bool) → dotted (arcs_of relative []) ≡ []
-arcs-nil true = refl
-arcs-nil false = refl
-
-dotted-long : (relative : Bool) (n k : ℕ) (xs : List ℕ) → n < 10 ^ (3 * k) → all_below (2 ^ 128) (carry n xs) ≡ true → length (dotted (arcs_of relative (carry n xs))) ≤ 4 * (k + length xs) + 2
-dotted-long relative n k [] h all = rw (arcs-nil relative) (omega arith)
-dotted-long relative n k (x ∷ xs) h all = dotted-long-at relative n x k xs (nat_lt x 128) h all (λ m j. dotted-long relative m j xs)
-
-dotted-short-at : (relative : Bool) (c : List ℕ) (all : Bool) → length c ≤ 64 → ends false c ≡ true → all_below (2 ^ 128) (subidentifiers c) ≡ all
-    → length (unwrap_or (if all then Some (dotted (arcs_of relative (subidentifiers c))) else None) []) ≤ 258
-dotted-short-at relative c false l e h = omega arith
-dotted-short-at relative c true l e h =
-    let s = carry-subidentifiers c e in
-    rw (← s) (omega (arith, dotted-long relative 0 0 c (omega arith) (ap (all_below (2 ^ 128)) s ∙ h)))
-
-short-at : (relative : Bool) (c : List ℕ) (f l : Bool) → is_finished c ≡ f → nat_le (length c) 64 ≡ l
-    → length (unwrap_or (if f && l && all_below (2 ^ 128) (subidentifiers c) then Some (dotted (arcs_of relative (subidentifiers c))) else None) []) ≤ 258
-short-at relative c false l e g = omega arith
-short-at relative c true false e g = omega arith
-short-at relative c true true e g = dotted-short-at relative c (all_below (2 ^ 128) (subidentifiers c)) (grind (arith, nat_tests)) (ends-finished c e) refl
-
-pub dotted-short : (relative : Bool) (c : List ℕ) → length (unwrap_or (dotted_text relative c) []) ≤ 258
-dotted-short relative c = short-at relative c (is_finished c) (nat_le (length c) 64) refl refl
 
 -- what the loop's end has
 pub run-end : (relative : Bool) (c t : List ℕ) (first : Bool) (n i : ℕ) → is_finished c ≡ true → length c ≤ 64 → length c ≤ i
@@ -277,3 +213,50 @@ pub run-none : (relative : Bool) (c t : List ℕ) (first : Bool) (n i : ℕ) →
     → run t first relative n (drop i c) ≡ run [] true relative 0 c → dotted_text relative c ≡ None
 run-none relative c t first n i f l o h e =
     sym (run-dotted relative c f (grind (arith, nat_tests))) ∙ sym e ∙ run-over t first relative n (drop i c) (omega (arith, length-drop i c)) h
+
+-- so many octets of the contents were read, and there is room for what those to come may add: n has up to three digits for each of its octets
+abbrev pub HasRoom : List ℕ → Bool → ℕ → ℕ → Type 0
+HasRoom t first n i = (k : ℕ) × (n < 10 ^ (3 * k)) × (length t + 4 * k + (if first then 2 else 0) ≤ 4 * i + 2)
+
+part-long : (first relative : Bool) (v k : ℕ) → 1 ≤ k → v < 2 ^ 128 → v < 10 ^ (3 * k) → length (part_text first relative v) ≤ 3 * k + 1 + (if first then 2 else 0)
+part-long true true v k s h g = omega (arith, long v (3 * k) h g (omega arith))
+part-long true false v k s h g =
+    omega (arith, ap (λ (l : List ℕ). length (dotted l)) (append-nil (first_arcs v)), first-long-at v k (nat_lt v 40) (nat_lt v 80) [] s h g)
+part-long false relative v k s h g = omega (arith, long v (3 * k) h g (omega arith))
+
+-- an octet that does not end a subidentifier
+pub room-within : (t : List ℕ) (first : Bool) (n x v i : ℕ) → v ≡ n * 128 + x % 128 → HasRoom t first n i → HasRoom t first v (i + 1)
+room-within t first n x v i e (k, h, g) = (suc k, rw e (thousand n x k h), omega (arith, g))
+
+-- one that does
+pub room-last : (t : List ℕ) (first relative : Bool) (n x v i : ℕ) → v ≡ n * 128 + x % 128 → v < 2 ^ 128 → HasRoom t first n i
+    → HasRoom (t ++ part_text first relative v) false 0 (i + 1)
+room-last t first relative n x v i e small (k, h, g) =
+    let l = part-long first relative v (suc k) (omega arith) small (rw e (thousand n x k h)) in
+    (0, omega arith, omega (arith, g, l, length-append t (part_text first relative v)))
+
+-- the arcs of the first subidentifier
+pub first-text : (held added all : List ℕ) (v a b : ℕ) → a < 10 → first_arcs v ≡ a ∷ b ∷ [] → added ≡ held ++ (48 + a) ∷ 46 ∷ [] → all ≡ added ++ decimal b
+    → all ≡ held ++ dotted (first_arcs v)
+first-text held added all v a b h e f g =
+    let d : dotted (a ∷ b ∷ []) ≡ (48 + a) ∷ 46 ∷ decimal b =
+    ap (λ (t : List ℕ). t ++ ((46 ∷ decimal b) ++ [])) (decimal_digit a h) ∙ append-nil ((48 + a) ∷ 46 ∷ decimal b) in
+    g ∙ ap (λ (t : List ℕ). t ++ decimal b) f ∙ append_assoc held ((48 + a) ∷ 46 ∷ []) (decimal b)
+    ∙ ap (λ (t : List ℕ). held ++ t) (sym d) ∙ ap (λ (l : List ℕ). held ++ dotted l) (sym e)
+
+pub arcs-0 : (v : ℕ) → v < 40 → first_arcs v ≡ 0 ∷ v ∷ []
+arcs-0 v h =
+    let p : nat_lt v 40 ≡ true = grind (arith, nat_tests) in
+    rw p refl
+
+pub arcs-1 : (v : ℕ) → 40 ≤ v → v < 80 → first_arcs v ≡ 1 ∷ (v - 40) ∷ []
+arcs-1 v h g =
+    let p : nat_lt v 40 ≡ false = grind (arith, nat_tests) in
+    let q : nat_lt v 80 ≡ true = grind (arith, nat_tests) in
+    rw (p, q) refl
+
+pub arcs-2 : (v : ℕ) → 80 ≤ v → first_arcs v ≡ 2 ∷ (v - 80) ∷ []
+arcs-2 v h =
+    let p : nat_lt v 40 ≡ false = grind (arith, nat_tests) in
+    let q : nat_lt v 80 ≡ false = grind (arith, nat_tests) in
+    rw (p, q) refl

@@ -9,22 +9,14 @@ use Rattle.tlv_value.specs.declared.kind.Kind.TheVariants.{Octets, Boolean, Inte
 use Rattle.tlv_value.specs.declared.layout.Layout.{Layout}
 use Rattle.tlv_value.specs.Kind.{kind_of}
 use Rattle.tlv_value.specs.Layout.{columns, margin, row_line}
-use Rattle.tlv_value.specs.Private.ObjectLines.{object_lines}
+use Rattle.tlv_value.specs.Private.ObjectLines.{object_lines, value_behind}
+use Rattle.tlv_value.specs.Private.State.{front_of, line_of, shown}
+use Rattle.tlv_value.specs.declared.primitive.Primitive.{Primitive}
 use Rattle.tlv_value.specs.Rows.{full_rows, last_rows}
-use Rattle.tlv_value.specs.State.{TextState, ended, line_in, row_lines, told}
+use Rattle.tlv_value.specs.State.{Kept, TextState, ended, line_in, row_lines, told}
 use Rattle.tlv_value.specs.KindValues.{bits_value, boolean_value, in_rows, integer_value, is_long, is_readable, kind_value, long_text}
 use Rattle.tlv_value.specs.Private.KindValues.{plain_text}
 use Rattle.tlv_value.specs.Value.{NameOf, Value, bit_count, most_held, no_names, octets_value, row_text, shown_with, used_digits}
-
--- what an element's line begins with
-abbrev pub start_in : TextState → List ℕ
-start_in s = margin s.layout.pure (columns s.offset (decimal s.size)) s.layout.level ++ tag_text_of s.class s.number
-
-line-start : (m tag text : List ℕ) → (m ++ (tag ++ text)) ++ 10 ∷ [] ≡ ((m ++ tag) ++ text) ++ 10 ∷ []
-line-start m tag text = ap (λ (t : List ℕ). t ++ 10 ∷ []) (sym (append_assoc m tag text))
-
-line_in-start : (s : TextState) (text : List ℕ) → line_in s text ≡ (start_in s ++ text) ++ 10 ∷ []
-line_in-start s text = line-start (margin s.layout.pure (columns s.offset (decimal s.size)) s.layout.level) (tag_text_of s.class s.number) text
 
 -- rows of octets are the same for an object identifier
 object-rows : (layout : Layout) (i : ℕ) (rows : List (List ℕ)) → row_lines Object layout i rows ≡ row_lines Octets layout i rows
@@ -35,29 +27,29 @@ relative-rows : (layout : Layout) (i : ℕ) (rows : List (List ℕ)) → row_lin
 relative-rows layout i [] = refl
 relative-rows layout i (row ∷ rows) = ap (λ (t : List ℕ). row_line layout i (row_text Octets row) ++ t) (relative-rows layout (i + 1) rows)
 
-module _ (name_of : NameOf) (size : ℕ) (layout : Layout) (line : List ℕ → List ℕ) (start : List ℕ) (rows : ℕ) (row : List ℕ) where
-  abbrev ended_by : Kind → List ℕ
-  ended_by kind =
-      if is_long kind size then row_lines kind layout rows (last_rows row)
-      else line (kind_value name_of kind row).text ++ row_lines kind layout 0 (kind_value name_of kind row).rows
+-- a line with its front apart, and rows behind it
+line-front : (margin tag text rows : List ℕ) → (margin ++ tag) ++ ((text ++ 10 ∷ []) ++ rows) ≡ ((margin ++ (tag ++ text)) ++ 10 ∷ []) ++ rows
+line-front margin tag text rows =
+    sym (append_assoc (margin ++ tag) (text ++ 10 ∷ []) rows) ∙ ap (λ (t : List ℕ). t ++ rows) (sym (append_assoc (margin ++ tag) text (10 ∷ [])) ∙ ap (λ (t : List ℕ). t ++ 10 ∷ []) (append_assoc margin tag text))
 
-  ended-object_at : (kind : Kind) → kind ≡ Object → is_long kind size ≡ false → ((text : List ℕ) → line text ≡ (start ++ text) ++ 10 ∷ []) → ended_by kind ≡ object_lines name_of layout start false row
-  ended-object_at kind e l f =
-      let h : is_long Object size ≡ false = rw e at l in
-      let v = kind_value name_of Object row in
-      rw e (rw h (ap (λ (t : List ℕ). line v.text ++ t) (object-rows layout 0 v.rows) ∙ ap (λ (t : List ℕ). t ++ row_lines Octets layout 0 v.rows) (f v.text)))
+front-line : (p : Primitive) (v : Value) → front_of p ++ value_behind p.layout [] v ≡ line_of p v.text ++ row_lines Octets p.layout 0 v.rows
+front-line p v = line-front (margin p.layout.pure (columns p.offset (decimal p.size)) p.layout.level) (tag_text_of p.class p.number) v.text (row_lines Octets p.layout 0 v.rows)
 
-  ended-relative_at : (kind : Kind) → kind ≡ Relative → is_long kind size ≡ false → ((text : List ℕ) → line text ≡ (start ++ text) ++ 10 ∷ []) → ended_by kind ≡ object_lines no_names layout start true row
-  ended-relative_at kind e l f =
-      let h : is_long Relative size ≡ false = rw e at l in
-      let v = kind_value name_of Relative row in
-      rw e (rw h (ap (λ (t : List ℕ). line v.text ++ t) (relative-rows layout 0 v.rows) ∙ ap (λ (t : List ℕ). t ++ row_lines Octets layout 0 v.rows) (f v.text)))
+module _ (name_of : NameOf) (layout : Layout) (line : List ℕ → List ℕ) (octets : List ℕ) where
+  abbrev shown_by : Kind → List ℕ
+  shown_by kind = line (kind_value name_of kind octets).text ++ row_lines kind layout 0 (kind_value name_of kind octets).rows
 
-pub ended-object : (name_of : NameOf) (s : TextState) → kind_of s.class s.number ≡ Object → is_long (kind_of s.class s.number) s.size ≡ false → ended name_of s ≡ object_lines name_of s.layout (start_in s) false s.kept.row
-ended-object name_of s e l = ended-object_at name_of s.size s.layout (line_in s) (start_in s) s.kept.rows s.kept.row (kind_of s.class s.number) e l (line_in-start s)
+  object_at : (kind : Kind) → kind ≡ Object → line (kind_value name_of Object octets).text ++ row_lines Octets layout 0 (kind_value name_of Object octets).rows ≡ shown_by kind
+  object_at kind e = rw e (ap (λ (t : List ℕ). line (kind_value name_of Object octets).text ++ t) (sym (object-rows layout 0 (kind_value name_of Object octets).rows)))
 
-pub ended-relative : (name_of : NameOf) (s : TextState) → kind_of s.class s.number ≡ Relative → is_long (kind_of s.class s.number) s.size ≡ false → ended name_of s ≡ object_lines no_names s.layout (start_in s) true s.kept.row
-ended-relative name_of s e l = ended-relative_at name_of s.size s.layout (line_in s) (start_in s) s.kept.rows s.kept.row (kind_of s.class s.number) e l (line_in-start s)
+  relative_at : (kind : Kind) → kind ≡ Relative → line (kind_value name_of Relative octets).text ++ row_lines Octets layout 0 (kind_value name_of Relative octets).rows ≡ shown_by kind
+  relative_at kind e = rw e (ap (λ (t : List ℕ). line (kind_value name_of Relative octets).text ++ t) (sym (relative-rows layout 0 (kind_value name_of Relative octets).rows)))
+
+pub shown-object : (name_of : NameOf) (p : Primitive) (octets : List ℕ) → p.kind ≡ Object → front_of p ++ object_lines name_of p.layout [] false octets ≡ shown name_of p octets
+shown-object name_of p octets e = front-line p (kind_value name_of Object octets) ∙ object_at name_of p.layout (line_of p) octets p.kind e
+
+pub shown-relative : (name_of : NameOf) (p : Primitive) (octets : List ℕ) → p.kind ≡ Relative → front_of p ++ object_lines no_names p.layout [] true octets ≡ shown name_of p octets
+shown-relative name_of p octets e = front-line p (kind_value name_of Relative octets) ∙ relative_at name_of p.layout (line_of p) octets p.kind e
 
 -- held values without rows
 
@@ -100,29 +92,39 @@ held-plain name_of Utf8 row o r h = (refl, refl)
 held-plain name_of Ucs2 row o r h = (refl, refl)
 held-plain name_of Ucs4 row o r h = (refl, refl)
 
-ended-plain_at : (name_of : NameOf) (kind : Kind) (size : ℕ) (layout : Layout) (line : List ℕ → List ℕ) (start : List ℕ) (rows : ℕ) (row : List ℕ) → IsPlain name_of kind row → is_long kind size ≡ false
-    → ((text : List ℕ) → line text ≡ (start ++ text) ++ 10 ∷ [])
-    → (if is_long kind size then row_lines kind layout rows (last_rows row) else line (kind_value name_of kind row).text ++ row_lines kind layout 0 (kind_value name_of kind row).rows)
-    ≡ (start ++ plain_text kind row) ++ 10 ∷ []
-ended-plain_at name_of kind size layout line start rows row p l f = rw (l, p.0, p.1, append-nil) (f (plain_text kind row))
+plain_at : (name_of : NameOf) (kind : Kind) (layout : Layout) (line : List ℕ → List ℕ) (row : List ℕ) → IsPlain name_of kind row
+    → line (plain_text kind row) ≡ line (kind_value name_of kind row).text ++ row_lines kind layout 0 (kind_value name_of kind row).rows
+plain_at name_of kind layout line row p = rw (p.0, p.1) (sym (append-nil (line (plain_text kind row))))
 
-pub ended-plain : (name_of : NameOf) (s : TextState) → IsPlain name_of (kind_of s.class s.number) s.kept.row → is_long (kind_of s.class s.number) s.size ≡ false
-    → ended name_of s ≡ (start_in s ++ plain_text (kind_of s.class s.number) s.kept.row) ++ 10 ∷ []
-ended-plain name_of s p l = ended-plain_at name_of (kind_of s.class s.number) s.size s.layout (line_in s) (start_in s) s.kept.rows s.kept.row p l (line_in-start s)
+pub shown-plain : (name_of : NameOf) (p : Primitive) (octets : List ℕ) → (p.kind ≡ Object → ⊥) → (p.kind ≡ Relative → ⊥) → length octets ≤ most_held p.kind
+    → line_of p (plain_text p.kind octets) ≡ shown name_of p octets
+shown-plain name_of p octets o r h = plain_at name_of p.kind p.layout (line_of p) octets (held-plain name_of p.kind octets o r h)
+
+abbrev pub state_by : Primitive → ℕ → Kept → TextState
+state_by p left kept = record { offset = p.offset; class = p.class; number = p.number; size = p.size; layout = p.layout; left = left; kept = kept }
+
+-- with its end a primitive that is not long has all its lines
+ended_at : (name_of : NameOf) (k kind : Kind) (size : ℕ) (layout : Layout) (line : List ℕ → List ℕ) (rows : List ℕ) (row : List ℕ) → kind ≡ k → is_long kind size ≡ false
+    → (if is_long k size then rows else line (kind_value name_of k row).text ++ row_lines k layout 0 (kind_value name_of k row).rows)
+    ≡ line (kind_value name_of kind row).text ++ row_lines kind layout 0 (kind_value name_of kind row).rows
+ended_at name_of k kind size layout line rows row e l = rw (← e, l) refl
+
+pub ended-shown : (name_of : NameOf) (p : Primitive) (left : ℕ) (kept : Kept) → p.kind ≡ kind_of p.class p.number → is_long p.kind p.size ≡ false
+    → ended name_of (state_by p left kept) ≡ shown name_of p kept.row
+ended-shown name_of p left kept e l =
+    ended_at name_of (kind_of p.class p.number) p.kind p.size p.layout (line_of p) (row_lines (kind_of p.class p.number) p.layout kept.rows (last_rows kept.row)) kept.row e l
 
 -- the first contents octet of a long BIT STRING
 
-told-first_at : (kind : Kind) (lined : Bool) (size : ℕ) (layout : Layout) (line : List ℕ → List ℕ) (start : List ℕ) (x : ℕ) (rest rows_part : List ℕ) → kind ≡ Bits → lined ≡ false → is_long kind size ≡ true
-    → ((text : List ℕ) → line text ≡ (start ++ text) ++ 10 ∷ [])
+told-first_at : (kind : Kind) (lined : Bool) (size : ℕ) (layout : Layout) (line : List ℕ → List ℕ) (x : ℕ) (rest rows_part : List ℕ) → kind ≡ Bits → lined ≡ false → is_long kind size ≡ true
     → (if is_long kind size then (if lined then rows_part else (line (long_text kind size (x ∷ [])) ++ row_lines kind layout 0 (full_rows kind (in_rows kind (x ∷ [])) rest))) else [])
-    ≡ ((start ++ long_text Bits size (x ∷ [])) ++ 10 ∷ []) ++ row_lines Bits layout 0 (full_rows Bits (in_rows Bits (x ∷ [])) rest)
-told-first_at kind lined size layout line start x rest rows_part e u l f =
-    rw (l, u, e) (ap (λ (t : List ℕ). t ++ row_lines Bits layout 0 (full_rows Bits (in_rows Bits (x ∷ [])) rest)) (f (long_text Bits size (x ∷ []))))
+    ≡ line (long_text Bits size (x ∷ [])) ++ row_lines Bits layout 0 (full_rows Bits (in_rows Bits (x ∷ [])) rest)
+told-first_at kind lined size layout line x rest rows_part e u l = rw (l, u, e) refl
 
 pub told-first : (s : TextState) (x : ℕ) (rest : List ℕ) → kind_of s.class s.number ≡ Bits → s.kept.lined ≡ false → is_long (kind_of s.class s.number) s.size ≡ true
-    → told s (x ∷ rest) ≡ ((start_in s ++ long_text Bits s.size (x ∷ [])) ++ 10 ∷ []) ++ row_lines Bits s.layout 0 (full_rows Bits (in_rows Bits (x ∷ [])) rest)
+    → told s (x ∷ rest) ≡ line_in s (long_text Bits s.size (x ∷ [])) ++ row_lines Bits s.layout 0 (full_rows Bits (in_rows Bits (x ∷ [])) rest)
 told-first s x rest e u l =
-    told-first_at (kind_of s.class s.number) s.kept.lined s.size s.layout (line_in s) (start_in s) x rest (row_lines (kind_of s.class s.number) s.layout s.kept.rows (full_rows (kind_of s.class s.number) s.kept.row (x ∷ rest))) e u l (line_in-start s)
+    told-first_at (kind_of s.class s.number) s.kept.lined s.size s.layout (line_in s) x rest (row_lines (kind_of s.class s.number) s.layout s.kept.rows (full_rows (kind_of s.class s.number) s.kept.row (x ∷ rest))) e u l
 
 -- the rows behind it
 pub rows-first : (kind : Kind) (layout : Layout) (n : ℕ) (row begun rest : List ℕ) → kind ≡ Bits → n ≡ 0 → row ≡ begun → row_lines kind layout n (full_rows kind row rest) ≡ row_lines Bits layout 0 (full_rows Bits begun rest)

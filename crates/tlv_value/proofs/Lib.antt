@@ -9,6 +9,7 @@ pub mod KindValues
 pub mod RowSteps
 pub mod Short
 pub mod Puts
+pub mod ObjectLines
 pub mod Ends
 pub mod Pieces
 pub mod Noting
@@ -23,7 +24,6 @@ pub mod Cutting
 pub mod OneCut
 pub mod NamesRows
 pub mod Worked
-pub mod PairSteps
 pub mod PlainUnits
 pub mod EachNoted
 pub mod Within

@@ -5,11 +5,13 @@ use Rattle.tlv_head.specs.Header.{Heading, announced as size_of}
 use Rattle.tlv_value.specs.declared.kind.Kind.{Kind}
 use Rattle.tlv_value.specs.declared.kind.Kind.TheVariants.{Octets, Boolean, Integer, Bits, Object, Relative, Text, Utf8, Ucs2, Ucs4}
 use Rattle.tlv_value.specs.declared.layout.Layout.{Layout}
+use Rattle.tlv_value.specs.declared.primitive.Primitive.{Primitive}
 use Rattle.tlv_value.specs.Kind.{kind_of}
 use Rattle.tlv_value.specs.Laws.{LinesBegin, LinesEnd, LinesGoOn, PiecesJoin, state_for}
 use Rattle.tlv_value.specs.Rows.{full_rows, has_room, last_rows, open_row, row_size}
 use Rattle.tlv_value.specs.Private.Rows.{cut_rows}
-use Rattle.tlv_value.specs.State.{Kept, TextState, after, begun, ended, first_kept, has_line, kept_after, kind_in, line_in, open_lines, row_lines, rows_after, rows_told, start, told, unlined_after}
+use Rattle.tlv_value.specs.Private.State.{primitive_of, shown}
+use Rattle.tlv_value.specs.State.{Kept, TextState, after, begun, ended, first_kept, has_line, kept_after, kind_in, line_in, open_lines, row_lines, rows_after, rows_told, start, told, unlined_after, whole_lines}
 use Rattle.tlv_value.specs.KindValues.{in_rows, is_long, kind_value, long_text}
 use Rattle.tlv_value.specs.Value.{NameOf}
 use Rattle.std.proofs.lemmas.Bool.Decides.{nat_tests}
@@ -223,3 +225,20 @@ lines-end name_of h layout octets e =
     let w = whole-ended layout (line_for h layout) (size_of h.size) name_of kind (is_long kind (size_of h.size)) octets (long-some kind (length octets) (size_of h.size) e) in
     whole-lines name_of h layout octets ∙ ap (λ (n : ℕ). whole_by layout (line_for h layout) name_of kind n octets) e ∙ w
     ∙ ap (λ (t : List ℕ). t ++ ended name_of (state_for h layout octets)) (sym (open-lines-by h layout octets))
+
+-- a primitive told with its header, its contents and its end has the lines of the whole
+pub whole-told : (name_of : NameOf) (h : Heading) (layout : Layout) (c : List ℕ) → length c ≡ size_of h.size
+    → begun (start h layout) ++ (told (start h layout) c ++ ended name_of (after (start h layout) c)) ≡ whole_lines name_of h layout c
+whole-told name_of h layout c e =
+    let t : TextState = start h layout in
+    sym (append_assoc (begun t) (told t c) (ended name_of (after t c)))
+    ∙ ap (λ (l : List ℕ). l ++ ended name_of (after t c)) (sym (open-lines h layout c))
+    ∙ sym (lines-end name_of h layout c e)
+
+-- one whose value stands on its line is told with its end
+pub shown-told : (name_of : NameOf) (h : Heading) (layout : Layout) (p : Primitive) (c : List ℕ) → p ≡ primitive_of h layout → is_long (kind_of h.class h.number) (size_of h.size) ≡ false
+    → length c ≡ size_of h.size → shown name_of p c ≡ whole_lines name_of h layout c
+shown-told name_of h layout p c is short e = ap (λ (q : Primitive). shown name_of q c) is ∙ at-end ∙ whole-told name_of h layout c e
+  where
+    at-end : shown name_of (primitive_of h layout) c ≡ begun (start h layout) ++ (told (start h layout) c ++ ended name_of (after (start h layout) c))
+    at-end = rw short refl

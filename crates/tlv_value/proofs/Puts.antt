@@ -24,7 +24,3 @@ rows-split kind layout octets =
     ap (λ (n : ℕ). row_lines kind layout 0 (full_rows kind [] octets) ++ row_lines kind layout n (last_rows (open_row kind [] octets))) (sym e)
     ∙ sym (row_lines-append kind layout 0 (full_rows kind [] octets) (last_rows (open_row kind [] octets)))
     ∙ ap (row_lines kind layout 0) (sym (rows-whole kind octets))
-
--- the line feed behind the text
-pub line_end : (line text s : List ℕ) → s ≡ line ++ text → s ++ 10 ∷ [] ≡ line ++ (text ++ 10 ∷ [])
-line_end line text s e = ap (λ (t : List ℕ). t ++ 10 ∷ []) e ∙ append_assoc line text (10 ∷ [])

@@ -1,5 +1,5 @@
 -- No text of a row is longer than its line has room.
-use Rattle.std.proofs.Common.{◌≡◌, ℕ, zero, suc, ◌+◌, ◌-◌, ◌*◌, ◌^◌, ◌<◌, ◌≤◌, Bool, true, false, List, [], ◌∷◌, ◌++◌, length, take, refl, ◌∙◌, arith, length-append}
+use Rattle.std.proofs.Common.{◌≡◌, ℕ, zero, suc, ◌+◌, ◌-◌, ◌*◌, ◌^◌, ◌<◌, ◌≤◌, Bool, true, false, List, [], ◌∷◌, ◌++◌, length, take, refl, ap, ◌∙◌, arith, length-append}
 use Rattle.std.proofs.lemmas.Bool.Decides.{nat_tests}
 use Rattle.std.proofs.lemmas.Bool.{leb-true}
 use Rattle.std.proofs.lemmas.Fmt.{length-decimal-le_wide}
@@ -20,10 +20,13 @@ use Rattle.tlv_value.specs.declared.kind.Kind.{Kind}
 use Rattle.tlv_value.specs.declared.kind.Kind.TheVariants.{Octets, Boolean, Integer, Bits, Object, Relative, Text, Utf8, Ucs2, Ucs4}
 use Rattle.tlv_value.specs.Rows.{utf8_length}
 use Rattle.tlv_value.specs.Units.{escaped_number, escaped_octet, is_printable, octet_text, printable_text, quoted, three_octets, unit_size, unit_text, units, utf8_number, without_zeros}
-use Rattle.tlv_value.specs.Kind.{is_text}
-use Rattle.tlv_value.specs.KindValues.{bits_value, boolean_value, integer_value, is_readable, long_text}
-use Rattle.tlv_value.specs.Private.KindValues.{joined_pairs, plain_text}
-use Rattle.tlv_value.specs.Value.{Value, bit_count, most_held, octets_value, row_text, shown_with, spaced_pairs, used_digits}
+use Rattle.tlv_value.specs.KindValues.{bits_value, boolean_value, integer_value, is_readable}
+use Rattle.tlv_value.specs.Private.KindValues.{joined_pairs}
+use Rattle.tlv_value.specs.Value.{Value, bit_count, octets_value, shown_with, spaced_pairs, used_digits}
+
+-- what was added is at most so long
+pub grown : (old new text : List ℕ) (n : ℕ) → new ≡ old ++ text → length text ≤ n → length new ≤ length old + n
+grown old new text n e h = omega (arith, ap length e, length-append old text, h)
 
 abbrev value_with : List ℕ → List (List ℕ) → Value
 value_with text rows = record { text = text; rows = rows }
@@ -133,21 +136,9 @@ pub spaced-short : (octets : List ℕ) → length (spaced_pairs octets) ≡ 3 * 
 spaced-short [] = refl
 spaced-short (x ∷ xs) = omega (arith, length-append (32 ∷ encode_lower (x ∷ [])) (spaced_pairs xs), pair-length x, spaced-short xs)
 
-joined-short : (octets : List ℕ) → length (joined_pairs octets) ≤ 5 * length octets + 2
+pub joined-short : (octets : List ℕ) → length (joined_pairs octets) ≤ 5 * length octets + 2
 joined-short [] = omega arith
 joined-short (x ∷ xs) = omega (arith, length-append (encode_lower (x ∷ [])) (spaced_pairs xs), pair-length x, spaced-short xs)
-
-pub row-short : (kind : Kind) (row : List ℕ) → length (row_text kind row) ≤ 5 * length row + 2
-row-short Octets row = joined-short row
-row-short Boolean row = joined-short row
-row-short Integer row = joined-short row
-row-short Bits row = joined-short row
-row-short Object row = joined-short row
-row-short Relative row = joined-short row
-row-short Text row = quoted-short Text row
-row-short Utf8 row = quoted-short Utf8 row
-row-short Ucs2 row = quoted-short Ucs2 row
-row-short Ucs4 row = quoted-short Ucs4 row
 
 -- held values
 
@@ -158,19 +149,19 @@ octets-text-short octets =
       | false ↦ λ e. omega arith
     ] refl
 
-digits-short : (n : ℕ) → n < 2 ^ 128 → length (decimal n) ≤ 39
+pub digits-short : (n : ℕ) → n < 2 ^ 128 → length (decimal n) ≤ 39
 digits-short n h = length-decimal-le_wide 39 n (omega arith) (omega arith) (omega arith)
 
 signed-short : (z : ℤ) → mag z < 2 ^ 127 → length (signed_decimal z) ≤ 40
 signed-short (pos n) h = omega (arith, digits-short n (omega arith))
 signed-short (negsuc n) h = omega (arith, digits-short (suc n) (omega arith))
 
-boolean-short : (octets : List ℕ) → length octets ≤ 16 → length (boolean_value octets).text ≤ 330
+pub boolean-short : (octets : List ℕ) → length octets ≤ 16 → length (boolean_value octets).text ≤ 330
 boolean-short [] h = omega arith
 boolean-short (x ∷ []) h = elim (eqb x 0) as (λ b. length (32 ∷ (if b then codes "FALSE" else codes "TRUE")) ≤ 330) [ true ↦ omega arith | false ↦ omega arith ]
 boolean-short (x ∷ y ∷ octets) h = octets-text-short (x ∷ y ∷ octets)
 
-integer-short : (octets : List ℕ) → length octets ≤ 16 → length (integer_value octets).text ≤ 330
+pub integer-short : (octets : List ℕ) → length octets ≤ 16 → length (integer_value octets).text ≤ 330
 integer-short [] h = omega arith
 integer-short (x ∷ xs) h =
     let f : FitsSigned w128 (twos_complement (x ∷ xs)) = twos-fits_all (x ∷ xs) h in
@@ -185,7 +176,7 @@ used-short unused (x ∷ octets) h =
 pub count-short : (unused octets : ℕ) → octets < 2 ^ 64 → length (bit_count unused octets) ≤ 44
 count-short unused octets h = omega (arith, length-append (decimal (8 * octets - unused)) (codes " bits"), digits-short (8 * octets - unused) (omega arith))
 
-bits-short : (octets : List ℕ) → length octets ≤ 9 → length (bits_value octets).text ≤ 330
+pub bits-short : (octets : List ℕ) → length octets ≤ 9 → length (bits_value octets).text ≤ 330
 bits-short [] h = omega arith
 bits-short (unused ∷ octets) h =
     elim (is_readable unused (length octets)) as (λ b. length (if b then shown_with (bit_count unused (length octets) ++ used_digits unused octets) else octets_value (unused ∷ octets)).text ≤ 330) [
@@ -193,37 +184,8 @@ bits-short (unused ∷ octets) h =
       | false ↦ octets-text-short (unused ∷ octets)
     ]
 
-text-short : (kind : Kind) (octets : List ℕ) → length octets ≤ 64 → length (32 ∷ quoted kind octets) ≤ 330
+pub text-short : (kind : Kind) (octets : List ℕ) → length octets ≤ 64 → length (32 ∷ quoted kind octets) ≤ 330
 text-short kind octets h = omega (arith, quoted-short kind octets)
 
-pairs-short : (octets : List ℕ) → length octets ≤ 64 → length (spaced_pairs octets) ≤ 330
+pub pairs-short : (octets : List ℕ) → length octets ≤ 64 → length (spaced_pairs octets) ≤ 330
 pairs-short octets h = omega (arith, spaced-short octets)
-
--- a string of characters
-pub text-plain : (kind : Kind) (octets : List ℕ) → is_text kind ≡ true → plain_text kind octets ≡ 32 ∷ quoted kind octets
-text-plain Octets octets e = absurd (cc)
-text-plain Boolean octets e = absurd (cc)
-text-plain Integer octets e = absurd (cc)
-text-plain Bits octets e = absurd (cc)
-text-plain Object octets e = absurd (cc)
-text-plain Relative octets e = absurd (cc)
-text-plain Text octets e = refl
-text-plain Utf8 octets e = refl
-text-plain Ucs2 octets e = refl
-text-plain Ucs4 octets e = refl
-
-pub plain-short : (kind : Kind) (octets : List ℕ) → length octets ≤ most_held kind → length (plain_text kind octets) ≤ 330
-plain-short Octets octets h = pairs-short octets (omega arith)
-plain-short Boolean octets h = boolean-short octets h
-plain-short Integer octets h = integer-short octets h
-plain-short Bits octets h = bits-short octets h
-plain-short Object octets h = pairs-short octets h
-plain-short Relative octets h = pairs-short octets h
-plain-short Text octets h = text-short Text octets h
-plain-short Utf8 octets h = text-short Utf8 octets h
-plain-short Ucs2 octets h = text-short Ucs2 octets h
-plain-short Ucs4 octets h = text-short Ucs4 octets h
-
-pub long-short : (size unused : ℕ) → size < 2 ^ 64 → length (long_text Bits size (unused ∷ [])) ≤ 330
-long-short size unused h =
-    elim (nat_le unused 7) as (λ b. length (if b then 32 ∷ bit_count unused (size - 1) else []) ≤ 330) [ true ↦ omega (arith, count-short unused (size - 1) (omega arith)) | false ↦ omega arith ]

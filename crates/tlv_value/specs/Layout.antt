@@ -1,14 +1,8 @@
 -- The lines of a value: what begins them, and what is left out.
-use Rattle.std.specs.Prelude.{ℕ, ◌+◌, ◌-◌, ◌*◌, Bool, eqb, nat_lt, if◌then◌else◌, List, [], ◌∷◌, ◌++◌, length, replicate, Option, Some, None, codes, decimal}
+use Rattle.std.specs.Prelude.{ℕ, ◌+◌, ◌*◌, Bool, eqb, nat_lt, if◌then◌else◌, List, [], ◌∷◌, ◌++◌, Option, Some, None, codes, decimal}
 use Rattle.std.specs.Option.{option_map_or}
 use Rattle.tlv_value.specs.declared.layout.Layout.{Layout}
-
-abbrev pub spaces : ℕ → List ℕ
-spaces n = replicate n 0x20
-
--- at the right end of so many places; what is longer takes as many as it needs
-abbrev pub right : ℕ → List ℕ → List ℕ
-right places text = spaces (places - length text) ++ text
+pub use Rattle.tlv_walk.specs.Held.{right, spaces}
 
 -- the first columns of a line: where an element stands, and how many contents octets it has, or a word
 abbrev pub columns : ℕ → List ℕ → List ℕ

@@ -9,21 +9,21 @@ use Rattle.tlv_value.specs.KindValues.{is_long}
 
 abbrev pub state_of : Inside → TextState
 state_of t = record {
-  offset = t.offset;
-  class = t.class;
-  number = t.number;
-  size = t.size;
-  layout = t.layout;
+  offset = t.value.offset;
+  class = t.value.class;
+  number = t.value.number;
+  size = t.value.size;
+  layout = t.value.layout;
   left = t.left;
   kept = record { lined = t.has_line; rows = t.rows; row = t.row.items };
 }
 
 pub record HangTogether (t : Inside) : Type 0 where
-  pub kind : t.kind ≡ kind_of t.class t.number
-  pub counted : t.rows + length t.row.items + t.left ≤ t.size
+  pub kind : t.value.kind ≡ kind_of t.value.class t.value.number
+  pub counted : t.rows + length t.row.items + t.left ≤ t.value.size
   -- of a long value the row that has begun is not full
-  pub begun : is_long t.kind t.size ≡ true → length t.row.items < row_size t.kind
+  pub begun : is_long t.value.kind t.value.size ≡ true → length t.row.items < row_size t.value.kind
   -- of any other all octets that have come
-  pub held : is_long t.kind t.size ≡ false → length t.row.items + t.left ≡ t.size
+  pub held : is_long t.value.kind t.value.size ≡ false → length t.row.items + t.left ≡ t.value.size
   -- before the first octet of a long BIT STRING
-  pub unlined : is_long t.kind t.size ≡ true → t.has_line ≡ false → (t.kind ≡ Bits) × (t.row.items ≡ []) × (t.rows ≡ 0)
+  pub unlined : is_long t.value.kind t.value.size ≡ true → t.has_line ≡ false → (t.value.kind ≡ Bits) × (t.row.items ≡ []) × (t.rows ≡ 0)

@@ -1,9 +1,10 @@
 -- The text of a value on its element's line, and its rows.
-use Rattle.std.specs.Prelude.{ℕ, ◌+◌, ◌-◌, ◌*◌, Bool, true, false, ◌&&◌, ◌||◌, not, eqb, nat_le, nat_lt, if◌then◌else◌, List, [], ◌∷◌, ◌++◌, length, map, flat_map, take, Option, None, codes, decimal}
+use Rattle.std.specs.Prelude.{ℕ, ◌+◌, ◌-◌, ◌*◌, Bool, true, false, ◌&&◌, ◌||◌, not, eqb, nat_le, nat_lt, if◌then◌else◌, List, [], ◌∷◌, ◌++◌, length, map, take, Option, None, codes, decimal}
 use Rattle.std.specs.Fmt.{signed_decimal}
 use Rattle.std.specs.List.{join_by}
 use Rattle.std.specs.Option.{option_map_or}
 use Rattle.hex.specs.Hex.{encode_lower}
+pub use Rattle.tlv_walk.specs.Held.{spaced_pairs}
 use Rattle.tlv_value.specs.declared.kind.Kind.{Kind}
 use Rattle.tlv_value.specs.declared.kind.Kind.TheVariants.{Boolean, Integer, Bits, Object, Octets, Relative}
 use Rattle.tlv_value.specs.Arcs.{dotted_text}
@@ -24,10 +25,6 @@ NameOf = List ℕ → Option (List ℕ)
 
 abbrev pub shown_with : List ℕ → Value
 shown_with text = record { text = 0x20 ∷ text; rows = [] }
-
--- pairs of hexadecimal digits, each behind a space
-abbrev pub spaced_pairs : List ℕ → List ℕ
-spaced_pairs octets = flat_map (λ x. 0x20 ∷ encode_lower (x ∷ [])) octets
 
 -- up to 16 octets stand on the line
 abbrev pub octets_value : List ℕ → Value

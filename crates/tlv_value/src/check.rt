@@ -1,5 +1,5 @@
 //! What is found on the contents of a primitive.
-ghost use Rattle.std.specs.Prelude.{◌≡◌, ◌+◌, ◌≤◌, ◌&&◌, ℕ, List, eqb, length, slice_index};
+ghost use Rattle.std.specs.Prelude.{◌≡◌, ◌+◌, ◌≤◌, ◌&&◌, ℕ, List, length, slice_index};
 ghost use Rattle.tlv_head.specs.Header.{Heading, announced};
 ghost use Rattle.tlv_value.specs.CheckState.{allowed_in, checked, each_noted, found_in, front_noted, has_unused, type_noted, unchecked, unchecked_of};
 ghost use Rattle.tlv_value.specs.Checks.{contents_findings, is_padded_integer};
@@ -12,11 +12,14 @@ mod times;
 
 use crate::Finding;
 use arrayvec::ArrayVec;
-use characters::are_allowed;
-use noting::{is_each_noted, is_front_noted, is_time, last_octet, padded_after};
-use rows::{is_well_formed, take_rows};
+pub(crate) use characters::are_allowed;
+pub(crate) use findings::are_set;
+use noting::{is_each_noted, is_front_noted, is_time, padded_after};
+pub(crate) use noting::{is_padded, last_octet};
+pub(crate) use rows::is_well_formed;
+use rows::take_rows;
 use std::marker::Model;
-use times::{extend_time, is_general_clear, is_utc_clear};
+use times::extend_time;
 use tlv_head::{Class, Header, Size};
 
 /// Finds what is wrong with the contents of a primitive, in whatever pieces they come.
@@ -190,34 +193,6 @@ impl ValueCheck {
         ensures whole { (h : Heading) (c : List ℕ) → self.now ≡ checked (unchecked h) c → length c ≡ announced h.size → result.items ≡ contents_findings h c }
     {
         self.found()
-    }
-
-    /// Whether nothing is found on the contents. For most types a short look tells.
-    #[inline(always)]
-    pub fn is_clear(&self) -> bool
-        ensures { result ≡ eqb (length (found_in self.now)) 0 }
-    {
-        match self.number {
-            1 => self.size == 1 && (self.first() == 0 || self.first() == 255),
-            2 | 10 => self.size != 0 && !self.is_number_padded(),
-            3 if self.size != 0 && self.first() == 0 => true,
-            5 => self.size == 0,
-            6 => self.size != 0 && !self.padded && self.last < 128,
-            13 => !self.padded && self.last < 128,
-            3 => self.has_none(),
-            23 => self.size > 64 || is_utc_clear(self.time.as_slice()),
-            24 => self.size > 64 || is_general_clear(self.time.as_slice()),
-            12 | 28 | 30 => self.is_allowed(),
-            _ => self.allowed,
-        }
-    }
-
-    /// Whether nothing is found on the contents.
-    #[inline(never)]
-    fn has_none(&self) -> bool
-        ensures { result ≡ eqb (length (found_in self.now)) 0 }
-    {
-        self.found().is_empty()
     }
 
     /// The first octet, where the type asks for it; 0 before the first.

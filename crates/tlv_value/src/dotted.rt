@@ -1,34 +1,54 @@
 //! Object identifiers as dotted texts.
-ghost use Rattle.std.specs.Prelude.{◌≡◌, ◌+◌, ◌<◌, ◌≤◌, ◌^◌, ◌++◌, [], is_some, length, unwrap_or};
+ghost use Rattle.std.specs.Prelude.{◌≡◌, ◌+◌, ◌<◌, ◌≤◌, ◌^◌, ◌++◌, ◌∷◌, [], if◌then◌else◌, is_some, length, unwrap_or};
 ghost use Rattle.tlv_value.specs.Arcs.{dotted_text, is_finished as is_finished_list};
-ghost use Rattle.tlv_value.specs.Private.Arcs.{arc_text, part_text};
+ghost use Rattle.tlv_value.specs.Private.Arcs.{dotted, first_arcs, part_text};
 
 use arrayvec::ArrayVec;
-use itoa::Buffer;
+use tlv_walk::Held;
 
 /// Leaves in `to` the arcs of an object identifier in decimal, with dots between them (8.19), or those of a relative
 /// one (8.20). What `to` held before is dropped.
 ///
-/// Answers whether there is such a text. There is none, and `to` is empty, where the contents are empty, end inside
+/// Returns whether there is such a text. There is none, and `to` is empty, where the contents are empty, end inside
 /// a subidentifier, have more than 64 octets, or have a subidentifier of 2^128 or more.
 pub fn dotted_of(contents: &[u8], relative: bool, to: &mut ArrayVec<u8, 320>) -> bool
     ensures exists { result ≡ is_some (dotted_text relative contents.now) }
     ensures text { to.new.items ≡ unwrap_or (dotted_text relative contents.now) [] }
 {
     to.clear();
-    if contents.len() > 64 || !is_finished(contents) {
+    let mut held = Held::new();
+    if contents.len() > 64 || !write_dotted(&mut held, contents, relative) {
         return false;
     }
+    let _ = to.try_extend_from_slice(&held.as_slice()[1..]);
+    true
+}
+
+/// Adds the dotted text of an object identifier, or of a relative one, behind a space. Returns whether there is such a
+/// text. Where there is none, nothing is added.
+pub(crate) fn write_dotted(held: &mut Held, contents: &[u8], relative: bool) -> bool
+    requires short { length contents.now ≤ 64 }
+    requires room { length held.old + 320 ≤ 4096 }
+    ensures exists { result ≡ is_some (dotted_text relative contents.now) }
+    ensures text { held.new
+        ≡ (if result then held.old ++ 32 ∷ unwrap_or (dotted_text relative contents.now) [] else held.old) }
+    ensures bound { length held.new ≤ length held.old + 259 }
+{
+    if !is_finished(contents) {
+        return false;
+    }
+    let start = held.len();
+    held.add(b" ");
     let mut first = true;
     let mut number: u128 = 0;
     for octet in contents {
         if number >= 1 << 121 {
-            to.clear();
+            held.truncate(start);
             return false;
         }
         number = number * 128 + u128::from(*octet % 128);
         if *octet < 128 {
-            put_part(number, first, relative, to);
+            write_arcs(held, number, first, relative);
             first = false;
             number = 0;
         }
@@ -43,31 +63,36 @@ fn is_finished(contents: &[u8]) -> bool
     matches!(contents.last(), Some(octet) if *octet < 128)
 }
 
-/// Adds the arc or arcs that a subidentifier stands for.
-fn put_part(number: u128, first: bool, relative: bool, to: &mut ArrayVec<u8, 320>)
-    ensures { length to.old.items + length (part_text first relative number) ≤ 320 → to.new.items ≡ to.old.items ++ part_text first relative number }
+/// Adds the arc or arcs that a subidentifier stands for, behind a dot where they are not the first.
+#[inline(always)]
+fn write_arcs(held: &mut Held, number: u128, first: bool, relative: bool)
+    requires { length held.old + 42 ≤ 4096 }
+    ensures { held.new ≡ held.old ++ part_text first relative number }
 {
-    if !first || relative {
-        put_arc(number, first, to);
-    } else if number < 40 {
-        put_arc(0, true, to);
-        put_arc(number, false, to);
-    } else if number < 80 {
-        put_arc(1, true, to);
-        put_arc(number - 40, false, to);
+    if !first {
+        held.add(b".");
+        held.wide(number);
+    } else if relative {
+        held.wide(number);
     } else {
-        put_arc(2, true, to);
-        put_arc(number - 80, false, to);
+        write_first_arcs(held, number);
     }
 }
 
-/// Adds an arc, behind a dot where it is not the first.
-fn put_arc(arc: u128, first: bool, to: &mut ArrayVec<u8, 320>)
-    ensures { length to.old.items + length (arc_text first arc) ≤ 320 → to.new.items ≡ to.old.items ++ arc_text first arc }
+/// Adds the two arcs that the first subidentifier stands for.
+#[inline(always)]
+fn write_first_arcs(held: &mut Held, number: u128)
+    requires { length held.old + 42 ≤ 4096 }
+    ensures { held.new ≡ held.old ++ dotted (first_arcs number) }
 {
-    if !first {
-        let _ = to.try_push(b'.');
+    if number < 40 {
+        held.add(b"0.");
+        held.wide(number);
+    } else if number < 80 {
+        held.add(b"1.");
+        held.wide(number - 40);
+    } else {
+        held.add(b"2.");
+        held.wide(number - 80);
     }
-    let mut digits = Buffer::new();
-    let _ = to.try_extend_from_slice(digits.format(arc).as_bytes());
 }

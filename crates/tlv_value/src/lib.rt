@@ -3,6 +3,7 @@
 #![tactic(auto)]
 
 mod check;
+mod clear;
 mod decimal;
 mod dotted;
 mod finding;
@@ -12,6 +13,7 @@ mod layout;
 mod line;
 mod names;
 mod naming;
+mod primitive;
 mod putting;
 mod rows;
 mod text;
@@ -20,12 +22,14 @@ mod units;
 mod value;
 
 pub use check::ValueCheck;
+pub use clear::is_clear;
 pub use decimal::decimal_of;
 pub use dotted::dotted_of;
 pub use finding::Finding;
 pub use layout::Layout;
-pub use line::Line;
+pub use line::{begin_blank, begin_sized, begin_word, write_element, write_tag};
 pub use names::{Names, NamesFault};
 pub use naming::NameTable;
+pub use primitive::{is_on_line, put_whole};
 pub use text::ValueText;
 pub use time::{general_canonical, general_ok, utc_canonical, utc_ok};

@@ -1,163 +1,84 @@
-//! Lines on their way to an [`Out`].
-ghost use Rattle.std.specs.Prelude.{◌+◌, ◌<◌, ◌≤◌, ◌++◌, ◌∷◌, [], codes, false, length, true};
-ghost use Rattle.tlv_walk.specs.Out.{Puts};
+//! The rest of lines on their way to an [`Out`], behind the tag texts.
+ghost use Rattle.std.specs.Prelude.{◌+◌, ◌≤◌, ◌++◌, [], codes, false, length, true};
+ghost use Rattle.tlv_walk.specs.Out.{Puts, held_in};
 ghost use Rattle.tlv_value.specs.Private.ObjectLines.{object_lines, octets_lines};
-ghost use Rattle.tlv_value.specs.KindValues.{long_text};
-ghost use Rattle.tlv_value.specs.Private.KindValues.{plain_text};
-ghost use Rattle.tlv_value.specs.Value.{most_held, no_names};
+ghost use Rattle.tlv_value.specs.Value.{no_names};
 
 mod rows;
 
-use crate::dotted::dotted_of;
-use crate::kind::Kind;
-use crate::line::Line;
+use crate::dotted::write_dotted;
 use crate::{Layout, NameTable};
-use arrayvec::ArrayVec;
 use rows::put_all_rows;
 pub(crate) use rows::{put_last, put_rows};
 use tlv_walk::{Drain, Out, WriteFault};
 
-/// Puts a line that lacks its line feed alone.
-pub(crate) fn put_line<D: Drain>(line: &mut Line, out: &mut Out<'_, D>) -> Result<(), WriteFault>
-    requires { length line.old + 1 ≤ 1024 }
-    ensures { Puts D.told out.old out.new (line.old ++ 10 ∷ []) result }
-{
-    line.push(b"\n");
-    out.put(line.as_slice())
-}
-
-/// Puts a line of an element with a held value that is no object identifier.
-pub(crate) fn put_value<D: Drain>(
-    line: &mut Line,
-    kind: Kind,
-    contents: &[u8],
-    out: &mut Out<'_, D>,
-) -> Result<(), WriteFault>
-    requires short { length line.old ≤ 613 }
-    requires held { length contents.now ≤ most_held kind }
-    ensures { Puts D.told out.old out.new (line.old ++ plain_text kind contents.now ++ 10 ∷ []) result }
-{
-    line.value(kind, contents);
-    put_line(line, out)
-}
-
-/// Puts a line of a long BIT STRING of this size, whose first contents octet is known.
-pub(crate) fn put_bits<D: Drain>(
-    line: &mut Line,
-    size: u64,
-    unused: u8,
-    out: &mut Out<'_, D>,
-) -> Result<(), WriteFault>
-    requires short { length line.old ≤ 613 }
-    requires long { 9 < size }
-    ensures { Puts D.told out.old out.new (line.old ++ long_text Kind.Bits size (unused ∷ []) ++ 10 ∷ []) result }
-{
-    line.long_bits(size, unused);
-    put_line(line, out)
-}
-
-/// Puts the lines of an object identifier: its dotted text, with its name where it has one, or its octets.
+/// Puts the rest of the lines of an object identifier: its dotted text, with its name where it has one, or its octets.
 pub(crate) fn put_object<N: NameTable, D: Drain>(
-    line: &mut Line,
     layout: Layout,
     contents: &[u8],
     names: &N,
     out: &mut Out<'_, D>,
 ) -> Result<(), WriteFault>
-    requires short { length line.old ≤ 613 }
-    requires held { length contents.now ≤ 64 }
-    ensures { Puts D.told out.old out.new
-        (object_lines (N.name_of names.now) layout line.old false contents.now) result }
+    requires room { length (held_in out.old) + 400 ≤ 4096 }
+    requires short { length contents.now ≤ 64 }
+    ensures { Puts D.told out.old out.new (object_lines (N.name_of names.now) layout [] false contents.now) result }
 {
-    let mut dotted = ArrayVec::new();
-    if !dotted_of(contents, false, &mut dotted) {
-        return put_octets(line, layout, contents, out);
+    let start = out.held.len() + 1;
+    if !write_dotted(&mut out.held, contents, false) {
+        return put_octets(layout, contents, out);
     }
-    match names.get(dotted.as_slice()) {
-        Some(name) => put_named(line, dotted.as_slice(), name, out),
-        None => put_dotted(line, dotted.as_slice(), out),
+    match names.get(&out.held.as_slice()[start..]) {
+        Some(name) => put_name(name, out),
+        None => {
+            out.held.add(b"\n");
+            Ok(())
+        }
     }
 }
 
-/// Puts the lines of a relative object identifier: its dotted text, or its octets.
+/// Puts a name, which may be of any length, and ends the line.
+fn put_name<D: Drain>(name: &[u8], out: &mut Out<'_, D>) -> Result<(), WriteFault>
+    requires { length (held_in out.old) + 2 ≤ 4096 }
+    ensures { Puts D.told out.old out.new ((codes " (" ++ name.now) ++ codes ")\n") result }
+{
+    out.held.add(b" (");
+    out.put(name)?;
+    out.put(b")\n")
+}
+
+/// Puts the rest of the lines of a relative object identifier: its dotted text, or its octets.
 pub(crate) fn put_relative<D: Drain>(
-    line: &mut Line,
     layout: Layout,
     contents: &[u8],
     out: &mut Out<'_, D>,
 ) -> Result<(), WriteFault>
-    requires short { length line.old ≤ 613 }
-    requires held { length contents.now ≤ 64 }
-    ensures { Puts D.told out.old out.new (object_lines no_names layout line.old true contents.now) result }
+    requires room { length (held_in out.old) + 400 ≤ 4096 }
+    requires short { length contents.now ≤ 64 }
+    ensures { Puts D.told out.old out.new (object_lines no_names layout [] true contents.now) result }
 {
-    let mut dotted = ArrayVec::new();
-    if !dotted_of(contents, true, &mut dotted) {
-        return put_octets(line, layout, contents, out);
+    if !write_dotted(&mut out.held, contents, true) {
+        return put_octets(layout, contents, out);
     }
-    put_dotted(line, dotted.as_slice(), out)
+    out.held.add(b"\n");
+    Ok(())
 }
 
-/// Puts a line of an element with a dotted text.
-fn put_dotted<D: Drain>(
-    line: &mut Line,
-    dotted: &[u8],
-    out: &mut Out<'_, D>,
-) -> Result<(), WriteFault>
-    requires short { length line.old ≤ 613 }
-    requires held { length dotted.now ≤ 320 }
-    ensures { Puts D.told out.old out.new (line.old ++ 32 ∷ dotted.now ++ 10 ∷ []) result }
-{
-    line.push(b" ");
-    line.push(dotted);
-    put_line(line, out)
-}
-
-/// Puts a line of an element with a dotted text and its name, which may be of any length.
-fn put_named<D: Drain>(
-    line: &mut Line,
-    dotted: &[u8],
-    name: &[u8],
-    out: &mut Out<'_, D>,
-) -> Result<(), WriteFault>
-    requires short { length line.old ≤ 613 }
-    requires held { length dotted.now ≤ 320 }
-    ensures { Puts D.told out.old out.new
-        (((line.old ++ 32 ∷ dotted.now ++ codes " (") ++ name.now) ++ codes ")\n") result }
-{
-    line.push(b" ");
-    line.push(dotted);
-    line.push(b" (");
-    put_three(line.as_slice(), name, b")\n", out)
-}
-
-/// Puts three texts, one behind another.
-fn put_three<D: Drain>(
-    first: &[u8],
-    second: &[u8],
-    third: &[u8],
-    out: &mut Out<'_, D>,
-) -> Result<(), WriteFault>
-    ensures { Puts D.told out.old out.new ((first.now ++ second.now) ++ third.now) result }
-{
-    out.put(first)?;
-    out.put(second)?;
-    out.put(third)
-}
-
-/// Puts the lines of up to 64 octets: on the element's line, or in rows below it.
+/// Puts the rest of the lines of up to 64 octets: they stand on the line, or in rows below it.
+#[inline(never)]
 fn put_octets<D: Drain>(
-    line: &mut Line,
     layout: Layout,
     contents: &[u8],
     out: &mut Out<'_, D>,
 ) -> Result<(), WriteFault>
-    requires short { length line.old ≤ 613 }
-    requires held { length contents.now ≤ 64 }
-    ensures { Puts D.told out.old out.new (octets_lines layout line.old contents.now) result }
+    requires room { length (held_in out.old) + 400 ≤ 4096 }
+    requires short { length contents.now ≤ 64 }
+    ensures { Puts D.told out.old out.new (octets_lines layout [] contents.now) result }
 {
     if contents.len() <= 16 {
-        return put_value(line, Kind::Octets, contents, out);
+        out.held.spaced_pairs(contents);
+        out.held.add(b"\n");
+        return Ok(());
     }
-    put_line(line, out)?;
-    put_all_rows(layout, contents, line, out)
+    out.held.add(b"\n");
+    put_all_rows(layout, contents, out)
 }

@@ -15,142 +15,149 @@ ghost use Rattle.tlv_value.specs.Units.{
 };
 
 use crate::kind::Kind;
-use crate::line::Line;
 use crate::rows::utf8_length;
+use tlv_walk::Held;
 
-impl Line {
-    /// Adds a row of characters, in quotation marks.
-    pub(crate) fn quoted(&mut self, kind: Kind, row: &[u8])
-        ensures { length self.old + length (quoted_row kind row.now) ≤ 1024 → self.new ≡ self.old ++ quoted_row kind row.now }
-    {
-        self.push(b"\"");
-        let mut rest = row;
-        while !rest.is_empty() {
-            let (_, more) = rest.split_at(self.part(kind, rest));
-            rest = more;
-        }
-        self.push(b"\"");
+/// Adds a row of characters, in quotation marks.
+pub(crate) fn write_quoted(held: &mut Held, kind: Kind, row: &[u8])
+    ensures { length held.old + length (quoted_row kind row.now) ≤ 4096
+        → held.new ≡ held.old ++ quoted_row kind row.now }
+{
+    held.push(b"\"");
+    let mut rest = row;
+    while !rest.is_empty() {
+        let (_, more) = rest.split_at(write_part(held, kind, rest));
+        rest = more;
     }
+    held.push(b"\"");
+}
 
-    /// Adds the octets in front that stand as they are, or else a unit. Answers how many octets these are.
-    fn part(&mut self, kind: Kind, octets: &[u8]) -> usize
-        requires { 1 ≤ length octets.now }
-        ensures some { 1 ≤ result }
-        ensures within { result ≤ length octets.now }
-        ensures text { IsPart kind octets.now self.old self.new result }
-    {
-        let plain = plain_size(kind, octets);
-        if plain > 0 {
-            self.push(&octets[..plain]);
-            return plain;
-        }
-        let size = unit_size(kind, octets);
-        self.unit(kind, &octets[..size]);
-        size
+/// Adds the octets in front that stand as they are, or else a unit. Returns how many octets these are.
+fn write_part(held: &mut Held, kind: Kind, octets: &[u8]) -> usize
+    requires { 1 ≤ length octets.now }
+    ensures some { 1 ≤ result }
+    ensures within { result ≤ length octets.now }
+    ensures text { IsPart kind octets.now held.old held.new result }
+{
+    let plain = plain_size(kind, octets);
+    if plain > 0 {
+        held.push(&octets[..plain]);
+        return plain;
     }
+    let size = unit_size(kind, octets);
+    write_unit(held, kind, &octets[..size]);
+    size
+}
 
-    /// Adds a unit: a character, or an octet that belongs to none.
-    fn unit(&mut self, kind: Kind, unit: &[u8])
-        ensures { length self.old + length (unit_text kind unit.now) ≤ 1024 → self.new ≡ self.old ++ unit_text kind unit.now }
-    {
-        match kind {
-            Kind::Ucs2 => self.ucs2(unit),
-            Kind::Ucs4 => self.ucs4(unit),
-            Kind::Utf8 => self.utf8(unit),
-            _ => {
-                if let [octet, ..] = unit {
-                    self.octet(*octet);
-                }
+/// Adds a unit: a character, or an octet that belongs to none.
+fn write_unit(held: &mut Held, kind: Kind, unit: &[u8])
+    ensures { length held.old + length (unit_text kind unit.now) ≤ 4096
+        → held.new ≡ held.old ++ unit_text kind unit.now }
+{
+    match kind {
+        Kind::Ucs2 => write_ucs2(held, unit),
+        Kind::Ucs4 => write_ucs4(held, unit),
+        Kind::Utf8 => write_utf8(held, unit),
+        _ => {
+            if let [octet, ..] = unit {
+                write_octet(held, *octet);
             }
         }
     }
+}
 
-    /// Adds a unit of BMPString.
-    fn ucs2(&mut self, unit: &[u8])
-        ensures { length self.old + length (unit_text Kind.Ucs2 unit.now) ≤ 1024 → self.new ≡ self.old ++ unit_text Kind.Ucs2 unit.now }
-    {
-        match unit {
-            [0, octet] if is_printable(*octet) => self.printable(*octet),
-            [_, _] => self.escaped_number(unit),
-            [octet, ..] => self.escaped_octet(*octet),
-            [] => {}
-        }
+/// Adds a unit of BMPString.
+fn write_ucs2(held: &mut Held, unit: &[u8])
+    ensures { length held.old + length (unit_text Kind.Ucs2 unit.now) ≤ 4096
+        → held.new ≡ held.old ++ unit_text Kind.Ucs2 unit.now }
+{
+    match unit {
+        [0, octet] if is_printable(*octet) => write_printable(held, *octet),
+        [_, _] => write_escaped_number(held, unit),
+        [octet, ..] => write_escaped_octet(held, *octet),
+        [] => {}
     }
+}
 
-    /// Adds a unit of UniversalString.
-    fn ucs4(&mut self, unit: &[u8])
-        ensures { length self.old + length (unit_text Kind.Ucs4 unit.now) ≤ 1024 → self.new ≡ self.old ++ unit_text Kind.Ucs4 unit.now }
-    {
-        match unit {
-            [0, 0, 0, octet] if is_printable(*octet) => self.printable(*octet),
-            [_, _, _, _] => self.escaped_number(unit),
-            [octet, ..] => self.escaped_octet(*octet),
-            [] => {}
-        }
+/// Adds a unit of UniversalString.
+fn write_ucs4(held: &mut Held, unit: &[u8])
+    ensures { length held.old + length (unit_text Kind.Ucs4 unit.now) ≤ 4096
+        → held.new ≡ held.old ++ unit_text Kind.Ucs4 unit.now }
+{
+    match unit {
+        [0, 0, 0, octet] if is_printable(*octet) => write_printable(held, *octet),
+        [_, _, _, _] => write_escaped_number(held, unit),
+        [octet, ..] => write_escaped_octet(held, *octet),
+        [] => {}
     }
+}
 
-    /// Adds a unit of UTF8String.
-    fn utf8(&mut self, unit: &[u8])
-        ensures { length self.old + length (unit_text Kind.Utf8 unit.now) ≤ 1024 → self.new ≡ self.old ++ unit_text Kind.Utf8 unit.now }
-    {
-        match unit {
-            [] => {}
-            [octet] => self.octet(*octet),
-            _ => {
-                let number = utf8_number(unit);
-                self.escaped_number(&[
+/// Adds a unit of UTF8String.
+fn write_utf8(held: &mut Held, unit: &[u8])
+    ensures { length held.old + length (unit_text Kind.Utf8 unit.now) ≤ 4096
+        → held.new ≡ held.old ++ unit_text Kind.Utf8 unit.now }
+{
+    match unit {
+        [] => {}
+        [octet] => write_octet(held, *octet),
+        _ => {
+            let number = utf8_number(unit);
+            write_escaped_number(
+                held,
+                &[
                     (number / 65536 % 256) as u8,
                     (number / 256 % 256) as u8,
                     (number % 256) as u8,
-                ]);
-            }
+                ],
+            );
         }
     }
+}
 
-    /// Adds a character of one octet, or the octet's number.
-    fn octet(&mut self, octet: u8)
-        ensures { length self.old + length (octet_text octet) ≤ 1024 → self.new ≡ self.old ++ octet_text octet }
-    {
-        if is_printable(octet) {
-            self.printable(octet);
-        } else {
-            self.escaped_octet(octet);
-        }
+/// Adds a character of one octet, or the octet's number.
+fn write_octet(held: &mut Held, octet: u8)
+    ensures { length held.old + length (octet_text octet) ≤ 4096 → held.new ≡ held.old ++ octet_text octet }
+{
+    if is_printable(octet) {
+        write_printable(held, octet);
+    } else {
+        write_escaped_octet(held, octet);
     }
+}
 
-    /// Adds a printable character; a quotation mark or a reverse solidus stands behind a reverse solidus.
-    fn printable(&mut self, octet: u8)
-        ensures { length self.old + length (printable_text octet) ≤ 1024 → self.new ≡ self.old ++ printable_text octet }
-    {
-        if octet == b'"' || octet == b'\\' {
-            self.push(&[b'\\', octet]);
-        } else {
-            self.push(&[octet]);
-        }
+/// Adds a printable character; a quotation mark or a reverse solidus stands behind a reverse solidus.
+fn write_printable(held: &mut Held, octet: u8)
+    ensures { length held.old + length (printable_text octet) ≤ 4096 → held.new ≡ held.old ++ printable_text octet }
+{
+    if octet == b'"' || octet == b'\\' {
+        held.push(&[b'\\', octet]);
+    } else {
+        held.push(&[octet]);
     }
+}
 
-    /// Adds the number of an octet.
-    fn escaped_octet(&mut self, octet: u8)
-        ensures { length self.old + length (escaped_octet octet) ≤ 1024 → self.new ≡ self.old ++ escaped_octet octet }
-    {
-        let mut pair = [0; 2];
-        let _ = hex::encode_to_slice([octet], &mut pair);
-        self.push(b"\\x");
-        self.push(&pair);
-    }
+/// Adds the number of an octet.
+fn write_escaped_octet(held: &mut Held, octet: u8)
+    ensures { length held.old + length (escaped_octet octet) ≤ 4096 → held.new ≡ held.old ++ escaped_octet octet }
+{
+    let mut pair = [0; 2];
+    let _ = hex::encode_to_slice([octet], &mut pair);
+    held.push(b"\\x");
+    held.push(&pair);
+}
 
-    /// Adds the number that up to four octets make, without leading zeros.
-    fn escaped_number(&mut self, octets: &[u8])
-        requires { length octets.now ≤ 4 }
-        ensures { length self.old + length (escaped_number octets.now) ≤ 1024 → self.new ≡ self.old ++ escaped_number octets.now }
-    {
-        let mut digits = [0; 8];
-        let digits = &mut digits[..2 * octets.len()];
-        let _ = hex::encode_to_slice(octets, digits);
-        self.push(b"\\u{");
-        self.push(significant(digits));
-        self.push(b"}");
-    }
+/// Adds the number that up to four octets make, without leading zeros.
+fn write_escaped_number(held: &mut Held, octets: &[u8])
+    requires { length octets.now ≤ 4 }
+    ensures { length held.old + length (escaped_number octets.now) ≤ 4096
+        → held.new ≡ held.old ++ escaped_number octets.now }
+{
+    let mut digits = [0; 8];
+    let digits = &mut digits[..2 * octets.len()];
+    let _ = hex::encode_to_slice(octets, digits);
+    held.push(b"\\u{");
+    held.push(significant(digits));
+    held.push(b"}");
 }
 
 /// Digits without the zeros in front of them, but for the last.

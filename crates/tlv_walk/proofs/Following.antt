@@ -153,16 +153,16 @@ module _ {S : Type 0} (next : S → Told → Following S) where
       walked = walked_both w u v piece mid after x.more (e ∷ []) x.walked (walked_event u v mid after e y);
     }
 
-    -- the same was put, and a stop is answered
-    pub follows_as : (w v : Machine) (s t : S) (a b : Out D) (piece after : List ℕ) (goes : Go) (why : Stop) → Follows next w v s t piece after (HasPut told a b) goes
-        → Follows next w v s t piece after (λ text. Puts {T = Stop} {E = WriteFault} told a b text (Ok why)) goes
+    -- the same was put, with another answer
+    pub follows_as : {T : Type 0} (w v : Machine) (s t : S) (a b : Out D) (piece after : List ℕ) (goes : Go) (why : T) → Follows next w v s t piece after (HasPut told a b) goes
+        → Follows next w v s t piece after (λ text. Puts {T = T} {E = WriteFault} told a b text (Ok why)) goes
     follows_as w v s t a b piece after goes why x =
         record { more = x.more; made = x.made; put = puts_as told a b (followed next s x.more).put (followed next s x.more).put tt why x.put refl; walked = x.walked }
 
     -- the drain failed at an event
-    pub fails_event : (w u v : Machine) (s t : S) (a b c : Out D) (piece mid after : List ℕ) (e : Told) → Follows next w u s t piece mid (HasPut told a b) go.On
+    pub fails_event : {T : Type 0} (w u v : Machine) (s t : S) (a b c : Out D) (piece mid after : List ℕ) (e : Told) → Follows next w u s t piece mid (HasPut told a b) go.On
         → StandsBehind u v mid after e → (x y : WriteFault) → Puts {T = Go} {E = WriteFault} told b c (next t e).put (Err x)
-        → Fails next w s piece (λ text. Puts {T = Stop} {E = WriteFault} told a c text (Err y))
+        → Fails next w s piece (λ text. Puts {T = T} {E = WriteFault} told a c text (Err y))
     fails_event w u v s t a b c piece mid after e x y i j p = record {
       more = x.more ++ e ∷ [];
       put = puts_failed_last told a c _ i (Err j) (puts_then_as told a b c (followed next s x.more).put (next t e).put (followed next s (x.more ++ e ∷ [])).put tt (Err i) x.put p (one_put s t x.more e x.made)) refl;

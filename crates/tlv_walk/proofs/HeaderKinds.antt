@@ -1,10 +1,11 @@
 -- What a header begins, on a walker's state.
 use Rattle.std.proofs.Common.{◌≡◌, ℕ, ◌+◌, ◌^◌, ◌<◌, ◌≤◌, Bool, true, false, ◌||◌, eqb, if◌then◌else◌, List, [], ◌∷◌, ◌++◌, length, take, Option, refl, sym, ap, ◌∙◌, subst, arith, length-take}
+use Rattle.std.proofs.lemmas.Bool.{true≢false}
 use Rattle.std.proofs.lemmas.List.{take-append-drop}
 use Rattle.tlv_head.specs.declared.header.HeaderFields.{HeaderFields}
 use Rattle.tlv_head.specs.declared.header.Size.TheVariants.{Definite}
 use Rattle.tlv_head.specs.Fields.{heading_with}
-use Rattle.tlv_head.specs.Header.{Heading, announced, holds, octets_of}
+use Rattle.tlv_head.specs.Header.{Heading, announced, holds, is_wrapper, octets_of}
 use Rattle.tlv_head.specs.Progress.{Progress}
 use Rattle.tlv_walk.specs.declared.event.Kind.{Kind}
 use Rattle.tlv_walk.specs.declared.event.Kind.TheVariants as kind
@@ -167,3 +168,10 @@ fast_may_enter w piece named f count o begins front fewer limit shallow fits =
       shallow = shallow;
       fits = subst (λ (x : List ℕ). Within (bound_of w.stack) (f.offset + length x + announced f.size)) (sym whole) fits;
     }
+
+-- a header of a primitive that is not named begins a primitive
+pub primitive_kind : (w v : Machine) (f : HeaderFields) (at : ℕ) (k : Kind) → f.constructed ≡ false → f.named ≡ false → Enters w v f at k → k ≡ kind.Primitive
+primitive_kind w v f at kind.Primitive c n e = refl
+primitive_kind w v f at kind.Constructed c n e = absurd (true≢false (sym e.0 ∙ c))
+primitive_kind w v f at kind.Wrapper c n e =
+    absurd (true≢false (sym e.1 ∙ ap (λ (k : Bool). is_wrapper k f.class f.constructed f.number f.size) n))

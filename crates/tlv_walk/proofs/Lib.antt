@@ -36,6 +36,7 @@ pub mod HeaderRefusals
 pub mod Standing
 pub mod Rows
 pub mod Puts
+pub mod HeldTexts
 pub mod Followed
 pub mod Finals
 pub mod Unused
@@ -43,6 +44,7 @@ pub mod ToldOctets
 pub mod Pieces
 pub mod Waiting
 pub mod Following
+pub mod Parts
 pub mod Turns
 pub mod Enough
 pub mod SoFar

@@ -239,3 +239,33 @@ tells_zero w e i f = record {
           zero_state w b told s l ls has (indefinite-size l.head.size _ inside)
               (subst (λ (n : ℕ). Within (place_in w.framing (l ∷ ls)).bound n) (omega (arith, at)) fits),
         )
+
+-- all contents that are to come, and the end
+counted_state : (w : Machine) (n : ℕ) (b : List ℕ) (told : List Told) (s : State) → HasState w b told s → HasState (record w { events = n }) b told s
+counted_state w n b told s has = record {
+  spelled = has.spelled;
+  offset = has.offset;
+  stack = has.stack;
+  layers = has.layers;
+  here = has.here;
+  phase = has.phase;
+  told_of = has.told_of;
+  element = has.element;
+}
+
+pub tells_passed : (w : Machine) (t : List ℕ) (n : ℕ) → w.phase ≡ phase.InContents (length t)
+    → Continues w (record w { phase = phase.Between; offset = w.offset + length t; events = n }) t (Bytes t ∷ End ∷ [])
+tells_passed w t n e =
+    let left : ℕ = length t in
+    let u : Machine = record w { phase = phase.InContents (left - left); offset = w.offset + left; events = w.events + 1 } in
+    let none : left - left ≡ 0 = omega arith in
+    let one : Continues w u t (Bytes t ∷ []) = tells_contents w left t left e (omega arith) refl in
+    let two : Continues u (record u { phase = phase.Between; events = u.events + 1 }) [] (End ∷ []) = tells_end u (ap phase.InContents none) in
+    let both = subst (λ (o : List ℕ). Continues w (record u { phase = phase.Between; events = u.events + 1 }) o (Bytes t ∷ End ∷ [])) (append-nil t) (continues_both w u _ t [] (Bytes t ∷ []) (End ∷ []) one two) in
+    record {
+      framing = both.framing;
+      found = both.found;
+      goes = λ b told s has.
+          let g = both.goes b told s has in
+          (g.0, counted_state _ n _ _ g.0 g.1);
+    }

@@ -8,6 +8,7 @@ use Rattle.std.proofs.Math.Seq.{take-add}
 use Rattle.std.proofs.lemmas.Grind.{flat_map-append}
 use Rattle.std.proofs.lemmas.List.{length-drop, take_more}
 use Rattle.std.proofs.lemmas.Result.{on_err_weaker, on_ok_weaker}
+use Rattle.std.specs.Borrow.{MutBor}
 use Rattle.tlv_walk.specs.declared.out.Out.{Out}
 use Rattle.tlv_walk.specs.declared.drain.WriteFault.{WriteFault}
 use Rattle.tlv_walk.specs.Device.{Taken, failures_after}
@@ -123,6 +124,10 @@ module _ {D : Type 0} (told : D → Taken) where
     pub puts_failed_last : (a b : Out D) (xs : List ℕ) (e : E) (r : Result U E) → Puts {T = T} {E = E} told a b xs (Err e) → IsErr r → Puts told a b xs r
     puts_failed_last a b xs e r p h = puts_failed_in a b xs xs e r p h (front_all xs)
 
+    -- nothing was to be put yet
+    pub puts_no_room : (a b : Out D) (xs : List ℕ) (e : E) (r : Result U E) → Puts {T = T} {E = E} told a b [] (Err e) → IsErr r → Puts told a b xs r
+    puts_no_room a b xs e r p h = puts_failed_in a b [] xs e r p h (front_none xs)
+
     -- the same was put, and another answer is given
     pub puts_as : (a b : Out D) (xs zs : List ℕ) (x : T) (y : U) → Puts {T = T} {E = E} told a b xs (Ok x) → xs ≡ zs → Puts {T = U} {E = E} told a b zs (Ok y)
     puts_as a b xs zs x y p z = record {
@@ -154,6 +159,19 @@ module _ {D : Type 0} (told : D → Taken) where
       failures = refl;
     }
 
+    -- octets were added to those that are held
+    pub puts_held : (a b : Out D) (xs : List ℕ) (x : T) → lender_of b ≡ lender_of a → held_in b ≡ held_in a ++ xs → Puts {T = T} {E = E} told a b xs (Ok x)
+    puts_held a b xs x same more = record {
+      same_reference = ap (λ (l : MutBor D). l.ghost_name) same;
+      sent = [];
+      left = held_in b;
+      front = more;
+      took = subst (λ (l : MutBor D). Appends (told (lender_of a).now).octets (told l.now).octets []) (sym same) (Appends-nil (told (lender_of a).now).octets);
+      held = refl;
+      lost = tt;
+      failures = ap (λ (l : MutBor D). (told l.now).failures) same;
+    }
+
     -- nothing was held, and octets are handed to the drain
     pub puts_sent : (a b : Out D) (xs : List ℕ) (r : Result T E) → held_in a ≡ [] → held_in b ≡ [] → (lender_of b).ghost_name ≡ (lender_of a).ghost_name
         → Sends (told (lender_of a).now) (told (lender_of b).now) xs r → Puts told a b xs r
@@ -167,6 +185,14 @@ module _ {D : Type 0} (told : D → Taken) where
       lost = q.not_all;
       failures = q.failures;
     }
+
+  module _ {T U E : Type 0} where
+    -- room was made, and then octets were added
+    pub puts_line : (a b c : Out D) (xs : List ℕ) (x : T) (y : U) → Puts {T = T} {E = E} told a b [] (Ok x) → lender_of c ≡ lender_of b → held_in c ≡ held_in b ++ xs → Puts {T = U} {E = E} told a c xs (Ok y)
+    puts_line a b c xs x y p same more = puts_then_as {T = T} {U = U} {E = E} a b c [] xs xs x (Ok y) p (puts_held {T = U} {E = E} b c xs y same more) refl
+
+-- what a function that makes a line where an `Out` holds it needs
+pub ruleset lines = (puts_line, puts_no_room)
 
 -- what a function that puts several times needs, as `#[tactic(auto, using(crate::proofs::Puts::puts))]`
 pub ruleset puts = (puts_then, puts_failed, puts_failed_last)

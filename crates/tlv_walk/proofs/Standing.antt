@@ -17,7 +17,7 @@ use Rattle.tlv_walk.specs.Reading.{IsReading}
 use Rattle.tlv_walk.specs.Place.{IsOpen, top}
 use Rattle.tlv_walk.specs.State.{Stands, waiting_of}
 use Rattle.tlv_walk.specs.Tells.{IsRefused, IsRefusedBehind, StandsBehind, StandsRefused, StandsStep, told_of}
-use Rattle.tlv_walk.specs.Private.Tells.{RefusesOctet, TellsEvent, TellsFault, TellsStep}
+use Rattle.tlv_walk.specs.Private.Tells.{RefusesOctet, TellsAll, TellsEvent, TellsFault, TellsStep}
 use Rattle.std.specs.Prelude.{slice_get}
 use Rattle.tlv_walk.proofs.Endings.{refused-reading}
 use Rattle.tlv_walk.proofs.OpenCounts.{state-depth}
@@ -37,14 +37,18 @@ found_on old new told more same p q =
     ∙ sym (ap (found_in old.framing.inside 0) (enters-append told more) ∙ found_in-append old.framing.inside 0 (enters told) (enters more))
     ∙ ap (λ (f : Framing). found_in f.inside 0 (enters (told ++ more))) (sym same)
 
-pub stands_behind : (old new : Machine) (before after : List ℕ) (e : Told) → TellsEvent old new before after e → StandsBehind old new before after e
-stands_behind old new before after e t = (
+pub stands_all : (old new : Machine) (before after : List ℕ) (es : List Told) → TellsAll old new before after es
+    → (taken : List ℕ) × (before ≡ taken ++ after) × (new.framing ≡ old.framing) × ((b : List ℕ) (told : List Told) → Stands old b told → Stands new (b ++ taken) (told ++ es))
+stands_all old new before after es t = (
   t.0,
   t.1,
   t.2.framing,
   λ b told st. let u = t.2.goes b told st.state st.has_state in
-      stands new (b ++ t.0) (told ++ e ∷ []) u.0 u.1 (subst (λ (f : Framing). CanName f.inside) (sym t.2.framing) st.named) (found_on old new told (e ∷ []) t.2.framing st.found t.2.found),
+      stands new (b ++ t.0) (told ++ es) u.0 u.1 (subst (λ (f : Framing). CanName f.inside) (sym t.2.framing) st.named) (found_on old new told es t.2.framing st.found t.2.found),
 )
+
+pub stands_behind : (old new : Machine) (before after : List ℕ) (e : Told) → TellsEvent old new before after e → StandsBehind old new before after e
+stands_behind old new before after e t = stands_all old new before after (e ∷ []) t
 
 -- the reading behind which the octet is refused
 abbrev refused_reading : (old : Machine) (g : Framing) (before after : List ℕ) (f : Fault) → g ≡ old.framing → (r : RefusesOctet old before after f) → (b : List ℕ) (told : List Told) → Stands old b told

@@ -1,8 +1,9 @@
 -- What a follower makes of events.
-use Rattle.std.specs.Prelude.{◌≡◌, ℕ, Bool, true, false, List, [], ◌∷◌, ◌++◌, Result, IfOk}
+use Rattle.std.specs.Prelude.{◌≡◌, ℕ, Bool, true, false, List, [], ◌∷◌, ◌++◌, drop, length, Result, Ok, Err, IfOk}
+use Rattle.tlv_head.specs.Header.{Heading, announced, octets_of}
 use Rattle.tlv_walk.specs.declared.follow.Go.{Go}
 use Rattle.tlv_walk.specs.declared.follow.Go.TheVariants as go
-use Rattle.tlv_walk.specs.Events.{Told}
+use Rattle.tlv_walk.specs.Events.{Told, Begin, Bytes, End}
 
 -- by whether it had enough: whether it wants more
 abbrev pub goes_of : Bool → Go
@@ -45,6 +46,31 @@ followed_events next s (e ∷ es) = e ∷ if_more (next s e).goes (followed_even
 -- a call in which this was made leaves that state, and returns whether more is wanted
 abbrev pub IsFollowed : {S E : Type 0} → Following S → S → Result Go E → Type 0
 IsFollowed made new result = IfOk result (λ go. (new ≡ made.state) × (go ≡ made.goes))
+
+-- of the octets of an element, those behind its header
+abbrev pub contents_in : Heading → List ℕ → List ℕ
+contents_in h octets = drop (length (octets_of h)) octets
+
+-- the octets are a header and all contents that it announces (8.1.3.3)
+pub record IsWhole (h : Heading) (octets : List ℕ) : Type 0 where
+  pub header : octets_of h ++ contents_in h octets ≡ octets
+  pub contents : announced h.size ≡ length (contents_in h octets)
+
+-- a primitive of these octets: its header, its contents and its end
+abbrev pub whole_events : Heading → List ℕ → List Told
+whole_events h octets = Begin h ∷ Bytes (contents_in h octets) ∷ End ∷ []
+
+-- what is put by a call that may leave its events to others: nothing where it does
+abbrev pub put_or_left : {E : Type 0} → Result Bool E → List ℕ → List ℕ
+put_or_left (Ok false) octets = []
+put_or_left (Ok true) octets = octets
+put_or_left (Err e) octets = octets
+
+-- the state that such a call leaves: nothing changes where it leaves its events to others, and else more is wanted
+abbrev pub IsFollowedOrLeft : {S E : Type 0} → Following S → S → S → Result Bool E → Type 0
+IsFollowedOrLeft made old new (Ok false) = new ≡ old
+IsFollowedOrLeft made old new (Ok true) = (new ≡ made.state) × (made.goes ≡ go.On)
+IsFollowedOrLeft made old new (Err e) = Unit {0}
 
 -- what octets make in two parts they make in one
 abbrev pub Joins : {S : Type 0} → (S → Told → Following S) → (List ℕ → Told) → Type 0

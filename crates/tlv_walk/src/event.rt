@@ -36,6 +36,7 @@ pub enum Step<'a> {
 }
 
 /// What a header begins.
+#[derive(Clone, Copy)]
 pub(crate) enum Kind {
     /// A constructed element.
     Constructed,

@@ -1,10 +1,11 @@
 //! What follows a walk.
 ghost use Rattle.tlv_walk.specs.Events.{Bytes, Pad, Told};
-ghost use Rattle.tlv_walk.specs.Follow.{Following, GoesOn, IsFollowed, Joins, Rests};
+ghost use Rattle.tlv_walk.specs.Follow.{Following, GoesOn, IsFollowed, IsFollowedOrLeft, IsWhole, Joins, Rests, followed, put_or_left, whole_events};
 ghost use Rattle.tlv_walk.specs.Out.{Puts};
 ghost use Rattle.tlv_walk.specs.Tells.{told_of};
 
 use crate::{Drain, Event, Out, WriteFault};
+use tlv_head::Header;
 
 /// Whether a follower wants more.
 #[derive(Clone, Copy, Debug, PartialEq, Eq)]
@@ -31,6 +32,28 @@ pub trait Follow {
     fn on<D: Drain>(&mut self, event: &Event<'_>, out: &mut Out<'_, D>) -> Result<Go, WriteFault>
         ensures puts { Puts D.told out.old out.new (next self.old (told_of event.now)).put result }
         ensures state { IsFollowed (next self.old (told_of event.now)) self.new result };
+
+    /// Follows a primitive of which all octets are at hand, header and contents: its header, its contents and its end, one after
+    /// another, and wants more behind each. Returns whether it did. It may always leave them to [`Follow::on`]: then nothing was
+    /// put, and nothing changed.
+    ///
+    /// # Errors
+    ///
+    /// As for [`Follow::on`].
+    #[inline(always)]
+    fn whole<D: Drain>(
+        &mut self,
+        header: &Header,
+        octets: &[u8],
+        out: &mut Out<'_, D>,
+    ) -> Result<bool, WriteFault>
+        requires whole { IsWhole header.now octets.now }
+        ensures puts { Puts D.told out.old out.new
+            (put_or_left result (followed next self.old (whole_events header.now octets.now)).put) result }
+        ensures state { IsFollowedOrLeft (followed next self.old (whole_events header.now octets.now)) self.old self.new result }
+    {
+        Ok(false)
+    }
 
     // Contents in two parts are followed as in one, no octets as no event, and octets are never
     // enough. So it is for padding.

@@ -4,10 +4,10 @@ ghost use Rattle.std.specs.Prelude.{◌≡◌, ◌+◌, ◌≤◌, ◌++◌, [],
 ghost use Rattle.tlv_walk.specs.Out.{Puts, Sends, held_in, lender_of};
 
 use crate::drain::{Drain, WriteFault};
-use std::marker::Model;
+use crate::held::{CAPACITY, Held};
 
-/// As many octets as an `Out` holds at most.
-const CAPACITY: usize = 4096;
+/// Room for the longest line: an element's, at level 255, with 64 octets of contents.
+const LINE: usize = 1024;
 
 /// Gathers octets, so that a drain takes many with each write.
 ///
@@ -16,7 +16,8 @@ const CAPACITY: usize = 4096;
 #[derive(Drop)]
 pub struct Out<'d, D> {
     drain: &'d mut D,
-    held: Held,
+    /// The octets that are held. A line is made at their end, behind [`Out::make_room`].
+    pub held: Held,
 }
 
 impl<'d, D: Drain> Out<'d, D> {
@@ -32,6 +33,22 @@ impl<'d, D: Drain> Out<'d, D> {
         }
     }
 
+    /// Makes room for a line of up to 1024 octets behind those that are held.
+    ///
+    /// # Errors
+    ///
+    /// As for [`Out::flush`].
+    #[inline(always)]
+    pub fn make_room(&mut self) -> Result<(), WriteFault>
+        ensures puts { Puts D.told self.old self.new [] result }
+        ensures room { OnOk result (length (held_in self.new) + 1024 ≤ 4096) }
+    {
+        if self.held.room() < LINE {
+            return self.flush();
+        }
+        Ok(())
+    }
+
     /// Puts the octets behind those that were put before: they are held, or handed to the drain.
     ///
     /// # Errors
@@ -43,7 +60,7 @@ impl<'d, D: Drain> Out<'d, D> {
         ensures bound { length (held_in self.new) ≤ 4096 }
     {
         if octets.len() < self.held.room() {
-            self.held.push(octets);
+            self.held.add(octets);
             return Ok(());
         }
         self.put_past_room(octets)
@@ -63,7 +80,7 @@ impl<'d, D: Drain> Out<'d, D> {
         if octets.len() >= CAPACITY {
             return send(self.drain, octets);
         }
-        self.held.push(octets);
+        self.held.add(octets);
         Ok(())
     }
 
@@ -72,6 +89,7 @@ impl<'d, D: Drain> Out<'d, D> {
     /// # Errors
     ///
     /// `WriteFault` where a write failed. The drain then has a prefix of what was put.
+    #[inline(never)]
     pub fn flush(&mut self) -> Result<(), WriteFault>
         ensures puts { Puts D.told self.old self.new [] result }
         ensures empty { OnOk result (held_in self.new ≡ []) }
@@ -92,64 +110,4 @@ fn send<D: Drain>(drain: &mut D, octets: &[u8]) -> Result<(), WriteFault>
         sent += drain.write(&octets[sent..])?;
     }
     Ok(())
-}
-
-/// At most `CAPACITY` octets. Where an `ArrayVec` is cleared it is filled with blanks, which an `Out` would pay for at
-/// each flush.
-#[derive(Drop)]
-struct Held {
-    octets: [u8; CAPACITY],
-    len: usize,
-}
-
-impl Model for Held {
-    ghost use Rattle.std.specs.Prelude.{◌≤◌, ℕ, List, take};
-
-    ghost Value = { List ℕ };
-
-    ghost view = { λ held. take held.len held.octets };
-
-    ghost invariant = { λ held. held.len ≤ 4096 };
-}
-
-impl Held {
-    fn new() -> Held
-        ensures { result ≡ [] }
-    {
-        Held {
-            octets: [0; CAPACITY],
-            len: 0,
-        }
-    }
-
-    fn as_slice(&self) -> &[u8]
-        ensures octets { result.now ≡ self.now }
-        ensures bound { length self.now ≤ 4096 }
-    {
-        &self.octets[..self.len]
-    }
-
-    /// How many octets more can be held.
-    #[inline]
-    fn room(&self) -> usize
-        ensures { result + length self.now ≡ 4096 }
-    {
-        CAPACITY - self.len
-    }
-
-    #[inline]
-    fn push(&mut self, octets: &[u8])
-        requires { length self.old + length octets.now ≤ 4096 }
-        ensures { self.new ≡ self.old ++ octets.now }
-    {
-        let end = self.len + octets.len();
-        self.octets[self.len..end].copy_from_slice(octets);
-        self.len = end;
-    }
-
-    fn clear(&mut self)
-        ensures { self.new ≡ [] }
-    {
-        self.len = 0;
-    }
 }

@@ -3,7 +3,7 @@ use super::found_rows::{BITS, Found, NUMBERS, OBJECTS, STRINGS, TIMES};
 use arrayvec::ArrayVec;
 use std::process::Abort;
 use tlv_head::{Header, Size, read_header};
-use tlv_value::{Finding, ValueCheck};
+use tlv_value::{Finding, ValueCheck, is_clear};
 
 /// What is found on the contents of an element, which come in two pieces, cut at `cut`, or behind the last octet, if
 /// `is_clear` says whether that is nothing.
@@ -22,7 +22,7 @@ fn check(element: &[u8], cut: usize) -> Option<ArrayVec<Finding, 16>> {
     check.bytes(front);
     check.bytes(back);
     let found = check.end();
-    if check.is_clear() != found.is_empty() {
+    if is_clear(&header, contents) != found.is_empty() {
         return None;
     }
     Some(found)
@@ -41,7 +41,7 @@ fn check_octets(element: &[u8]) -> Option<ArrayVec<Finding, 16>> {
         check.bytes(&contents[i..=i]);
     }
     let found = check.end();
-    if check.is_clear() != found.is_empty() {
+    if is_clear(&header, contents) != found.is_empty() {
         return None;
     }
     Some(found)

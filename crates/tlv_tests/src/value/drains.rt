@@ -62,14 +62,16 @@ const LINES: &[u8] = b"       0     17: INTEGER
                    00
 ";
 
-/// An `Out` holds 4096 octets. So it depends on how many were put before, which call is the one whose octets it has no
-/// room for. Whichever it is, the drain has then as much of what was put as it has room for.
+/// An `Out` holds 4096 octets, and hands them to the drain before a line where room for fewer than 1024 is left. So it
+/// depends on how many were put before, which call fails. Whichever it is, the drain has then as much of what was put as
+/// it has room for.
 #[test]
 fn drains_without_room(rt: HostRuntime) {
     let mut room = [0; 4300];
     let mut seen = [false; 5];
-    for letters in 3900..4100 {
-        for size in [0, 1, 3899, 3950, 4000, 4050, 4095, 4150, 4300] {
+    for i in 0..140 {
+        let letters = if i < 130 { 2960 + i } else { 3960 + i };
+        for size in [0, 1, 2959, 3010, 3060, 3072, 3110, 4095, 4150, 4300] {
             let mut drain = MemDrain::new(&mut room[..size], 100);
             let at = failing_call(INTEGER, letters, &mut drain);
             let written = drain.written();

@@ -1,8 +1,8 @@
-//! Values and lines that are used again, and the parts of a line.
+//! A primitive in pieces and at once, and the parts of a line.
 use super::{OneName, PLAIN};
 use tlv_head::{Class, Header, read_header};
-use tlv_value::{Layout, Line, ValueText};
-use tlv_walk::{MemDrain, Out};
+use tlv_value::{Layout, ValueText, begin_blank, begin_word, is_on_line, put_whole, write_tag};
+use tlv_walk::{Held, MemDrain, Out};
 
 /// The header with which these octets begin, at this offset.
 fn header_at(offset: u64, octets: &[u8]) -> Option<Header> {
@@ -25,36 +25,46 @@ fn put_five(text: &mut ValueText, drain: &mut MemDrain<'_>) -> Option<()> {
     out.flush().ok()
 }
 
-/// A second primitive, an INTEGER of one octet, in the room of a first, of which nothing is left.
+/// The same, told at once.
+fn put_five_whole(header: &Header, drain: &mut MemDrain<'_>) -> Option<()> {
+    let octets = b"\x05";
+    if !matches!(header.size, tlv_head::Size::Definite(1)) || !is_on_line(header) {
+        return None;
+    }
+    let mut out = Out::new(drain);
+    put_whole(header, PLAIN, octets, &OneName, &mut out).ok()?;
+    out.flush().ok()
+}
+
 #[test]
-fn a_text_is_used_again(rt: HostRuntime) {
-    let (Some(first), Some(second)) = (header_at(0, b"\x0c\x03"), header_at(5, b"\x02\x01")) else {
-        panic!(rt; "headers");
+fn a_primitive_is_told_in_pieces_and_at_once(rt: HostRuntime) {
+    let Some(header) = header_at(5, b"\x02\x01") else {
+        panic!(rt; "header");
     };
     let mut room = [0; 64];
     let mut drain = MemDrain::new(&mut room, 64);
-    let mut text = ValueText::new(&first, PLAIN);
-    assert!(rt; text.left() == 3);
-    text.restart(&second, PLAIN);
-    assert!(rt; text.left() == 1);
+    let mut text = ValueText::new(&header, PLAIN);
     assert!(rt; put_five(&mut text, &mut drain).is_some());
+    assert!(rt; drain.written() == b"       5      1: INTEGER 5\n".as_slice());
+    let mut room = [0; 64];
+    let mut drain = MemDrain::new(&mut room, 64);
+    assert!(rt; put_five_whole(&header, &mut drain).is_some());
     assert!(rt; drain.written() == b"       5      1: INTEGER 5\n".as_slice());
 }
 
 #[test]
 fn lines_are_made(rt: HostRuntime) {
     let layout = Layout { level: 1, ..PLAIN };
-    let mut line = Line::new();
-    assert!(rt; line.as_slice().is_empty());
-    line.begin(layout, 11, b"end");
-    line.add(b"}\n");
-    assert!(rt; line.as_slice() == b"      11    end:   }\n".as_slice());
-    line.begin_blank(layout);
-    line.add(b"}\n");
-    assert!(rt; line.as_slice() == b"                   }\n".as_slice());
-    line.begin_blank(layout);
-    line.add_tag(Class::Context, 5);
-    line.add_tag(Class::Universal, 4);
-    line.add_tag(Class::Universal, 15);
-    assert!(rt; line.as_slice() == b"                   [5]OCTET STRING[UNIVERSAL 15]".as_slice());
+    let mut held = Held::new();
+    assert!(rt; held.as_slice().is_empty());
+    begin_word(&mut held, layout, 11, b"   end");
+    held.add(b"}\n");
+    begin_blank(&mut held, layout);
+    write_tag(&mut held, Class::Context, 5);
+    write_tag(&mut held, Class::Universal, 4);
+    write_tag(&mut held, Class::Universal, 15);
+    assert!(rt;
+        held.as_slice()
+            == b"      11    end:   }\n                   [5]OCTET STRING[UNIVERSAL 15]".as_slice()
+    );
 }

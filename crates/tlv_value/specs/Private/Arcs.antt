@@ -15,11 +15,6 @@ behind_dots arcs = flat_map (λ arc. codes "." ++ decimal arc) arcs
 abbrev pub dotted : List ℕ → List ℕ
 dotted arcs = join_by decimal (codes ".") arcs
 
--- an arc in decimal, behind a dot where it is not the first
-abbrev pub arc_text : Bool → ℕ → List ℕ
-arc_text true arc = decimal arc
-arc_text false arc = 46 ∷ decimal arc
-
 -- the arcs of a subidentifier, as they stand in the dotted text
 abbrev pub part_text : Bool → Bool → ℕ → List ℕ
 part_text true true v = decimal v

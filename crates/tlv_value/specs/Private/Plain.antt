@@ -25,8 +25,14 @@ is_ascii Ucs4 = false
 abbrev pub ArePlain : Kind → List ℕ → ℕ → Type 0
 ArePlain kind octets n = (0 < n → is_ascii kind ≡ true) × ((i : ℕ) → i < n → is_plain (slice_index octets i) ≡ true)
 
--- the first n of the octets were written behind a line, where there is room
+-- the first n of the octets were written behind what was held, where there is room
 abbrev pub IsPart : Kind → List ℕ → List ℕ → List ℕ → ℕ → Type 0
-IsPart kind octets line line' n =
+IsPart kind octets held held' n =
+    (text : List ℕ) × (length held + length text ≤ 4096 → held' ≡ held ++ text)
+    × (flat_map (unit_text kind) (units kind 0 octets) ≡ text ++ flat_map (unit_text kind) (units kind 0 (drop n octets)))
+
+-- the first n of the octets were written behind a line, where there is room
+abbrev pub IsLinePart : Kind → List ℕ → List ℕ → List ℕ → ℕ → Type 0
+IsLinePart kind octets line line' n =
     (text : List ℕ) × (length line + length text ≤ 1024 → line' ≡ line ++ text)
     × (flat_map (unit_text kind) (units kind 0 octets) ≡ text ++ flat_map (unit_text kind) (units kind 0 (drop n octets)))

@@ -6,7 +6,7 @@ use super::both;
 
 /// Whether the type with this universal number has all of the octets.
 #[inline(never)]
-pub(super) fn are_allowed(number: u64, octets: &[u8]) -> bool
+pub(crate) fn are_allowed(number: u64, octets: &[u8]) -> bool
     ensures { result ≡ every (allows_octet_of number) octets.now }
 {
     // A call for each type: where it is inlined, the type is then not asked for again at each octet.

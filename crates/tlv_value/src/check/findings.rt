@@ -106,7 +106,7 @@ fn note_time(of_grammar: bool, is_canonical: bool, found: &mut ArrayVec<Finding,
 }
 
 /// Whether so many of the last bits of an octet are not all 0.
-fn are_set(bits: u8, octet: u8) -> bool
+pub(crate) fn are_set(bits: u8, octet: u8) -> bool
     requires { bits ≤ 7 }
     ensures { result ≡ not (eqb (octet % 2 ^ bits) 0) }
 {

@@ -35,7 +35,7 @@ pub(super) fn is_time(number: u64) -> bool
 }
 
 /// The last of the octets, or the one before them.
-pub(super) fn last_octet(before: u8, octets: &[u8]) -> u8
+pub(crate) fn last_octet(before: u8, octets: &[u8]) -> u8
     ensures { result ≡ last_of before octets.now }
 {
     match octets {
@@ -52,7 +52,7 @@ pub(super) fn padded_after(padded: bool, before: u8, octets: &[u8]) -> bool
 }
 
 /// Whether a subidentifier begins with `80`, behind this octet.
-fn is_padded(before: u8, octets: &[u8]) -> bool
+pub(crate) fn is_padded(before: u8, octets: &[u8]) -> bool
     ensures { result ≡ is_padded_behind before octets.now }
 {
     let mut before = before;

@@ -45,7 +45,7 @@ fn is_full_formed(row: &mut ArrayVec<u8, 64>, part: &[u8]) -> bool
 }
 
 /// Whether the octets are UTF-8.
-pub(super) fn is_well_formed(octets: &[u8]) -> bool
+pub(crate) fn is_well_formed(octets: &[u8]) -> bool
     ensures { result ≡ is_utf8 octets.now }
 {
     simdutf8::is_utf8(octets)

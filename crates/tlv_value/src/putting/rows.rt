@@ -1,23 +1,23 @@
 //! Rows on their way to an [`Out`].
-ghost use Rattle.std.specs.Prelude.{◌≡◌, ◌+◌, ◌<◌, ◌≤◌, ◌^◌, ◌++◌, [], if◌then◌else◌, length, OnOk};
+ghost use Rattle.std.specs.Prelude.{◌≡◌, ◌+◌, ◌<◌, ◌≤◌, ◌^◌, ◌++◌, [], codes, if◌then◌else◌, length, OnOk};
 ghost use Rattle.tlv_walk.specs.Out.{Puts};
-ghost use Rattle.tlv_value.specs.Layout.{row_line as row_line_of};
+ghost use Rattle.tlv_value.specs.Layout.{line, no_columns, row_line as row_line_of};
 ghost use Rattle.tlv_value.specs.Rows.{full_rows, last_rows, open_row, row_size as row_size_of, rows_of};
 ghost use Rattle.tlv_value.specs.State.{row_lines};
 ghost use Rattle.tlv_value.specs.Value.{row_text};
 
 use crate::Layout;
 use crate::kind::Kind;
-use crate::line::Line;
+use crate::line::row_indent;
 use crate::rows::{fitting, row_size};
+use crate::value::write_row;
 use arrayvec::ArrayVec;
-use tlv_walk::{Drain, Out, WriteFault};
+use tlv_walk::{Drain, Held, Out, WriteFault};
 
 /// Puts rows of all of the octets.
 pub(super) fn put_all_rows<D: Drain>(
     layout: Layout,
     contents: &[u8],
-    line: &mut Line,
     out: &mut Out<'_, D>,
 ) -> Result<(), WriteFault>
     requires { length contents.now ≤ 64 }
@@ -26,16 +26,8 @@ pub(super) fn put_all_rows<D: Drain>(
 {
     let mut row = ArrayVec::new();
     let mut rows = 0;
-    put_rows(
-        Kind::Octets,
-        layout,
-        &mut row,
-        &mut rows,
-        contents,
-        line,
-        out,
-    )?;
-    put_last(Kind::Octets, layout, rows, row.as_slice(), line, out)
+    put_rows(Kind::Octets, layout, &mut row, &mut rows, contents, out)?;
+    put_last(Kind::Octets, layout, rows, row.as_slice(), out)
 }
 
 /// Puts the rows that are full, of the octets of the row that has begun and those behind them. What is left begins a row.
@@ -45,7 +37,6 @@ pub(crate) fn put_rows<D: Drain>(
     row: &mut ArrayVec<u8, 64>,
     rows: &mut u64,
     octets: &[u8],
-    line: &mut Line,
     out: &mut Out<'_, D>,
 ) -> Result<(), WriteFault>
     requires begun { length row.old.items < row_size_of kind }
@@ -68,7 +59,7 @@ pub(crate) fn put_rows<D: Drain>(
         }
         let index = *rows;
         *rows += 1;
-        put_full(kind, layout, index, row, part, line, out)?;
+        put_full(kind, layout, index, row, part, out)?;
     }
     Ok(())
 }
@@ -80,7 +71,6 @@ fn put_full<D: Drain>(
     index: u64,
     row: &mut ArrayVec<u8, 64>,
     part: &[u8],
-    line: &mut Line,
     out: &mut Out<'_, D>,
 ) -> Result<(), WriteFault>
     requires { length row.old.items + length part.now ≤ 64 }
@@ -89,10 +79,10 @@ fn put_full<D: Drain>(
         (row_line_of layout index (row_text kind (row.old.items ++ part.now))) result }
 {
     if row.is_empty() {
-        return put_row(kind, layout, index, part, line, out);
+        return put_row(kind, layout, index, part, out);
     }
     let _ = row.try_extend_from_slice(part);
-    let put = put_row(kind, layout, index, row.as_slice(), line, out);
+    let put = put_row(kind, layout, index, row.as_slice(), out);
     row.clear();
     put
 }
@@ -103,7 +93,6 @@ pub(crate) fn put_last<D: Drain>(
     layout: Layout,
     index: u64,
     row: &[u8],
-    line: &mut Line,
     out: &mut Out<'_, D>,
 ) -> Result<(), WriteFault>
     requires { length row.now ≤ 64 }
@@ -112,43 +101,68 @@ pub(crate) fn put_last<D: Drain>(
     if row.is_empty() {
         return Ok(());
     }
-    put_row(kind, layout, index, row, line, out)
+    put_row(kind, layout, index, row, out)
 }
 
 /// Puts a row, unless that is past the limit.
+#[tactic(auto, using(tlv_walk::proofs::Puts::lines))]
+#[inline(always)]
 fn put_row<D: Drain>(
     kind: Kind,
     layout: Layout,
     index: u64,
     row: &[u8],
-    line: &mut Line,
     out: &mut Out<'_, D>,
 ) -> Result<(), WriteFault>
     requires { length row.now ≤ 64 }
     ensures { Puts D.told out.old out.new (row_line_of layout index (row_text kind row.now)) result }
 {
-    if !write_row(kind, layout, index, row, line) {
-        return Ok(());
+    if let Some(limit) = layout.limit
+        && index >= u64::from(limit)
+    {
+        return put_dots(layout, index == u64::from(limit), out);
     }
-    out.put(line.as_slice())
+    out.make_room()?;
+    write_line(&mut out.held, layout, kind, row);
+    Ok(())
 }
 
-/// Makes the line of a row, unless that is past the limit. Answers whether there is one.
-fn write_row(kind: Kind, layout: Layout, index: u64, row: &[u8], line: &mut Line) -> bool
-    requires { length row.now ≤ 64 }
-    ensures { (if result then line.new else []) ≡ row_line_of layout index (row_text kind row.now) }
+/// Puts three dots in place of the first row past the limit.
+#[tactic(auto, using(tlv_walk::proofs::Puts::lines))]
+#[inline(never)]
+fn put_dots<D: Drain>(
+    layout: Layout,
+    is_first: bool,
+    out: &mut Out<'_, D>,
+) -> Result<(), WriteFault>
+    ensures { Puts D.told out.old out.new
+        (if is_first then line layout.pure no_columns (layout.level + 1) (codes "...") else []) result }
 {
-    match layout.limit {
-        Some(limit) if index > u64::from(limit) => return false,
-        Some(limit) if index == u64::from(limit) => {
-            line.begin_row(layout);
-            line.push(b"...");
-        }
-        _ => {
-            line.begin_row(layout);
-            line.row(kind, row);
-        }
+    if !is_first {
+        return Ok(());
     }
-    line.push(b"\n");
-    true
+    out.make_room()?;
+    write_dots(&mut out.held, layout);
+    Ok(())
+}
+
+/// Adds the line of a row.
+#[inline(always)]
+fn write_line(held: &mut Held, layout: Layout, kind: Kind, row: &[u8])
+    requires room { length held.old + 1024 ≤ 4096 }
+    requires short { length row.now ≤ 64 }
+    ensures { held.new ≡ held.old ++ line layout.pure no_columns (layout.level + 1) (row_text kind row.now) }
+{
+    held.spaces(row_indent(layout) - 1);
+    write_row(held, kind, row);
+    held.add(b"\n");
+}
+
+/// Adds the line of three dots.
+fn write_dots(held: &mut Held, layout: Layout)
+    requires { length held.old + 1024 ≤ 4096 }
+    ensures { held.new ≡ held.old ++ line layout.pure no_columns (layout.level + 1) (codes "...") }
+{
+    held.spaces(row_indent(layout));
+    held.add(b"...\n");
 }

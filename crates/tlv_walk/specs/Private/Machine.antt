@@ -4,7 +4,11 @@ use Rattle.tlv_head.specs.declared.fault.Fault.{Fault as FaultOf}
 use Rattle.tlv_head.specs.declared.fault.FaultCode.{FaultCode}
 use Rattle.tlv_head.specs.Header.{Heading, IsHeading, announced, holds, is_wrapper, octets_of}
 use Rattle.tlv_head.specs.Progress.{Progress}
+use Rattle.std.specs.Borrow.{Bor}
+use Rattle.std.specs.Option.{option_map}
+use Rattle.tlv_head.specs.Fields.{heading_with}
 use Rattle.tlv_walk.specs.declared.event.Event.{Event}
+use Rattle.tlv_walk.specs.declared.event.Event.TheVariants as event
 use Rattle.tlv_walk.specs.declared.event.Kind.{Kind}
 use Rattle.tlv_walk.specs.declared.event.Kind.TheVariants as kind
 use Rattle.tlv_head.specs.declared.header.HeaderFields.{HeaderFields}
@@ -97,3 +101,14 @@ Enters old new f at kind.Wrapper =
       stack = frame_with at (bound_of old.stack) f.size f.constructed ∷ old.stack;
       wrappers = next_wrapper old.framing.inside old.wrappers f.offset;
     })
+
+-- the event of a header that was taken, if one was
+abbrev pub begins : Option (HeaderFields × Bor (List ℕ)) → Option Event
+begins found = option_map (λ f. event.Begin (heading_with f.0 f.1.now)) found
+
+-- some octets were taken from the front of a piece, and some events told
+pub record Passes (old new : Machine) (before after : List ℕ) : Type 0 where
+  pub taken : new.offset + length after ≡ old.offset + length before
+  pub more : old.events < new.events
+  pub within : new.events ≤ new.offset
+  pub told : IsTold new.phase

@@ -24,6 +24,10 @@ pub record Continues (old new : Machine) (taken : List ℕ) (more : List Told) :
 abbrev pub TellsEvent : Machine → Machine → List ℕ → List ℕ → Told → Type 0
 TellsEvent old new before after e = (taken : List ℕ) × (before ≡ taken ++ after) × Continues old new taken (e ∷ [])
 
+-- octets were taken from the front of a piece, and these events were told
+abbrev pub TellsAll : Machine → Machine → List ℕ → List ℕ → List Told → Type 0
+TellsAll old new before after es = (taken : List ℕ) × (before ≡ taken ++ after) × Continues old new taken es
+
 -- the octet behind those that were taken is refused, whatever follows it
 abbrev pub RefusesOctet : Machine → List ℕ → List ℕ → Fault → Type 0
 RefusesOctet old before after f = (taken : List ℕ) × (x : ℕ) × (rest : List ℕ) × (before ≡ taken ++ x ∷ rest) × (after ≡ x ∷ rest)

@@ -147,7 +147,7 @@ impl Walker {
 
     /// Stands behind a header, whose octets have left the piece.
     #[inline(always)]
-    fn enter(&mut self, fields: &HeaderFields, octets: &[u8]) -> Kind
+    pub(super) fn enter(&mut self, fields: &HeaderFields, octets: &[u8]) -> Kind
         requires phase { self.old.phase ≡ phases.Between }
         requires suits { Suits fields.now octets.now }
         requires enter { CanEnter self.old (heading_with fields.now octets.now) }
@@ -198,7 +198,7 @@ impl Walker {
     /// Whether an element with this header may stand here: it is not too deep, and its contents end
     /// within the bound.
     #[inline(always)]
-    fn may_stand(&self, fields: &HeaderFields, octets: &[u8]) -> bool
+    pub(super) fn may_stand(&self, fields: &HeaderFields, octets: &[u8]) -> bool
         requires place { fields.now.offset ≡ self.now.offset }
         requires limit { fields.now.offset + length octets.now ≤ 2 ^ 40 }
         requires length { announced fields.now.size < 2 ^ 40 }

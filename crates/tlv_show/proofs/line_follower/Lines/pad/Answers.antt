@@ -29,14 +29,14 @@ returns-clause-state g c =
     let some : 0 < length c.args.octets.now = search arith in
     let there : c.saturating_add-self-inside.result ≡ further s.offset (length c.args.octets.now) = omega (arith, c.saturating_add-self-inside.ensures, within) in
     let is = ap (λ (s : Dumping). each_octet one_padded s c.args.octets.now) (sym c.self.view_is) ∙ padded_first _ c.args.octets.now some c.if-self.false in
-    on_ok_weaker c.put.result
+    on_ok_weaker c.put_padding.result
     (λ _. ap (λ (o : ℕ). record { layout = s.layout; names = s.names.now; offset = o; in_padding = true; value = if_open s.is_open s.value }) there
     ∙ sym (ap (λ (t : Following Dumping). t.state) is))
-    c.put.ensures.puts.held
+    c.put_padding.ensures.held
 
 pub returns-clause-puts : goal.returns-clause-puts
 returns-clause-puts g c =
     let s = c.self.inside in
     let some : 0 < length c.args.octets.now = search arith in
     let is = ap (λ (s : Dumping). each_octet one_padded s c.args.octets.now) (sym c.self.view_is) ∙ padded_first _ c.args.octets.now some c.if-self.false in
-    puts_text g.D.Drain.told _ _ _ _ _ (sym (ap (λ (t : Following Dumping). t.put) is ∙ sym (c.as_slice.ensures ∙ c.write_padding.ensures))) c.put.ensures.puts
+    puts_text g.D.Drain.told _ _ _ _ _ (sym (ap (λ (t : Following Dumping). t.put) is)) c.put_padding.ensures

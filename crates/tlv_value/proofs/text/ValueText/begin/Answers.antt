@@ -27,7 +27,7 @@ returns-then-not-is_long g c =
     let t = c.self.inside in
     let told = g.D.Drain.told in
     let none : [] ≡ begun c.args.self.now = elim c.then-not-is_long.branch [
-      | then-not-is_long-via-then-not-is_long w ↦ begun-short (state_of t) c.args.self.now t.kind c.self.view_is c.self.invariant.kind (sym c.is_long.ensures ∙ w.if-not-is_long.true)
+      | then-not-is_long-via-then-not-is_long w ↦ begun-short (state_of t) c.args.self.now t.value.kind c.self.view_is c.self.invariant.kind (sym c.is_long.ensures ∙ w.if-not-is_long.true)
       | then-not-is_long-via-else-not-is_long+then-not-self w ↦ begun-unlined (state_of t) c.args.self.now c.self.view_is w.if-not-self.true
     ] in
     puts_text told _ _ _ _ _ none (puts_nothing told _ _)

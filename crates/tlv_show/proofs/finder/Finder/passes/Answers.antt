@@ -1,0 +1,8 @@
+use Rattle.std.proofs.Common.{rules, refl}
+use Rattle.tlv_show.proofs.Passing.{passes}
+use Rattle.tlv_show.proofs.finder.Finder.passes.Goals as goal
+
+pub returns : goal.returns
+returns c =
+    rw (← c.self.view_is)
+    (passes _ _ c.args.header.now c.args.contents.now c.requires c.if-self.false (c.is_plain.ensures (search rules)) (c.is_clear.ensures (search rules)) refl)

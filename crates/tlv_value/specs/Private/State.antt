@@ -1,0 +1,33 @@
+-- The lines of a primitive, by what its header says of it.
+use Rattle.std.specs.Prelude.{ℕ, List, ◌++◌, decimal}
+use Rattle.tlv_head.specs.Header.{Heading, announced}
+use Rattle.tlv_head.specs.Tag.{tag_text_of}
+use Rattle.tlv_value.specs.declared.layout.Layout.{Layout}
+use Rattle.tlv_value.specs.declared.primitive.Primitive.{Primitive}
+use Rattle.tlv_value.specs.Kind.{kind_of}
+use Rattle.tlv_value.specs.KindValues.{kind_value}
+use Rattle.tlv_value.specs.Layout.{columns, margin}
+use Rattle.tlv_value.specs.State.{element_line, row_lines}
+use Rattle.tlv_value.specs.Value.{NameOf}
+
+abbrev pub primitive_of : Heading → Layout → Primitive
+primitive_of h layout = record {
+  offset = h.offset;
+  class = h.class;
+  number = h.number;
+  size = announced h.size;
+  kind = kind_of h.class h.number;
+  layout = layout;
+}
+
+-- what its line begins with
+abbrev pub front_of : Primitive → List ℕ
+front_of p = margin p.layout.pure (columns p.offset (decimal p.size)) p.layout.level ++ tag_text_of p.class p.number
+
+-- its line, with this text behind its tag
+abbrev pub line_of : Primitive → List ℕ → List ℕ
+line_of p text = element_line p.layout p.offset p.class p.number p.size text
+
+-- its lines, where its value stands on its line
+abbrev pub shown : NameOf → Primitive → List ℕ → List ℕ
+shown name_of p octets = line_of p (kind_value name_of p.kind octets).text ++ row_lines p.kind p.layout 0 (kind_value name_of p.kind octets).rows

@@ -1,0 +1,113 @@
+//! A short look at all of the contents of a primitive.
+ghost use Rattle.std.specs.Prelude.{◌≡◌, ◌%◌, ◌^◌, ◌&&◌, ◌||◌, ◌==◌, [], IsTrue, eqb, false, length, nat_le, nat_lt, not, true};
+ghost use Rattle.tlv_value.specs.CheckNotes.{time_findings};
+ghost use Rattle.tlv_value.specs.Checks.{contents_findings, first, is_padded_behind, is_padded_integer, last_of};
+ghost use Rattle.tlv_value.specs.Private.Checks.{findings_of};
+ghost use Rattle.tlv_value.specs.Times.{canonical_general_time, canonical_utc_time, general_time, has_form, utc_time};
+
+use crate::check::{are_allowed, are_set, is_padded, is_well_formed, last_octet};
+use crate::time::{general_canonical, utc_canonical};
+use tlv_head::{Class, Header};
+
+/// Whether nothing is found on these contents of a primitive with this header, as far as a short look tells.
+#[inline(always)]
+pub fn is_clear(header: &Header, contents: &[u8]) -> bool
+    ensures { IsTrue result → contents_findings header.now contents.now ≡ [] }
+{
+    !matches!(header.class, Class::Universal) || is_type_clear(header.number, contents)
+}
+
+/// Whether nothing is found on these contents of the universal type with this number, as far as a short look tells.
+#[inline(always)]
+fn is_type_clear(number: u64, contents: &[u8]) -> bool
+    ensures { IsTrue result → findings_of number contents.now ≡ [] }
+{
+    match number {
+        1 => is_truth(contents),
+        2 | 10 => is_shortest(contents),
+        3 => has_clear_bits(contents),
+        5 => contents.is_empty(),
+        6 => !contents.is_empty() && are_arcs(contents),
+        12 => is_well_formed(contents),
+        13 => are_arcs(contents),
+        18 => are_allowed(18, contents),
+        19 => are_allowed(19, contents),
+        22 => are_allowed(22, contents),
+        23 => contents.len() > 64 || is_utc_clear(contents),
+        24 => contents.len() > 64 || is_general_clear(contents),
+        26 => are_allowed(26, contents),
+        28 => contents.len() % 4 == 0,
+        30 => contents.len() % 2 == 0,
+        _ => true,
+    }
+}
+
+/// Whether there is one octet, that of FALSE or of TRUE (8.2.1, 11.1).
+#[inline(always)]
+fn is_truth(contents: &[u8]) -> bool
+    ensures one { IsTrue result → (length contents.now == 1) ≡ true }
+    ensures truth { IsTrue result → (first contents.now == 0 || first contents.now == 255) ≡ true }
+{
+    matches!(contents, [0 | 255])
+}
+
+/// Whether there is a number of the fewest octets: its first nine bits are not all equal (8.3.1, 8.3.2).
+#[inline(always)]
+fn is_shortest(contents: &[u8]) -> bool
+    ensures some { IsTrue result → (length contents.now == 0) ≡ false }
+    ensures shortest { IsTrue result → is_padded_integer contents.now ≡ false }
+{
+    match contents {
+        [0, second, ..] => *second >= 128,
+        [255, second, ..] => *second < 128,
+        [_, ..] => true,
+        [] => false,
+    }
+}
+
+/// Whether there is a number of unused bits, and so many bits, which are 0 (8.6.2, 11.2.1).
+#[inline(always)]
+fn has_clear_bits(contents: &[u8]) -> bool
+    ensures some { IsTrue result → (length contents.now == 0) ≡ false }
+    ensures few { IsTrue result → nat_lt 7 (first contents.now) ≡ false }
+    ensures there { IsTrue result →
+        (length contents.now == 1 && nat_le 1 (first contents.now) && nat_le (first contents.now) 7) ≡ false }
+    ensures zero { IsTrue result →
+        (nat_le 2 (length contents.now) && nat_le (first contents.now) 7
+        && not (last_of 0 contents.now % 2 ^ first contents.now == 0)) ≡ false }
+{
+    match contents {
+        [0, ..] => true,
+        [unused, _, ..] => *unused <= 7 && !are_set(*unused, last_octet(0, contents)),
+        _ => false,
+    }
+}
+
+/// Whether each subidentifier begins and ends as it has to (8.19.2, 8.20.2).
+#[inline(always)]
+fn are_arcs(contents: &[u8]) -> bool
+    ensures begun { IsTrue result → is_padded_behind 0 contents.now ≡ false }
+    ensures ended { IsTrue result → nat_le 128 (last_of 0 contents.now) ≡ false }
+{
+    last_octet(0, contents) < 128 && !is_padded(0, contents)
+}
+
+/// Whether nothing is found on a UTCTime.
+#[inline(never)]
+#[tactic(auto, using(crate::proofs::Within::utc_clear))]
+fn is_utc_clear(time: &[u8]) -> bool
+    ensures { result ≡ eqb (length (time_findings (has_form utc_time time.now) (has_form canonical_utc_time time.now))) 0 }
+{
+    // A canonical time is of its grammar.
+    utc_canonical(time)
+}
+
+/// Whether nothing is found on a GeneralizedTime.
+#[inline(never)]
+#[tactic(auto, using(crate::proofs::Within::general_clear))]
+fn is_general_clear(time: &[u8]) -> bool
+    ensures { result ≡ eqb (length (time_findings (has_form general_time time.now) (has_form canonical_general_time time.now))) 0 }
+{
+    // A canonical time is of its grammar.
+    general_canonical(time)
+}

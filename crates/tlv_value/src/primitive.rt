@@ -1,0 +1,217 @@
+//! A primitive by what its header says.
+ghost use Rattle.std.specs.Prelude.{◌≡◌, ◌+◌, ◌<◌, ◌≤◌, ◌++◌, ◌∷◌, [], OnOk, false, length, not};
+ghost use Rattle.tlv_head.specs.Header.{announced};
+ghost use Rattle.tlv_walk.specs.Out.{Puts, held_in};
+ghost use Rattle.tlv_value.specs.KindValues.{is_long as is_long_value, long_text};
+ghost use Rattle.tlv_value.specs.Private.KindValues.{plain_text};
+ghost use Rattle.tlv_value.specs.Private.State.{front_of, line_of, primitive_of, shown};
+ghost use Rattle.tlv_value.specs.State.{kind_by, whole_lines};
+ghost use Rattle.tlv_value.specs.Value.{most_held};
+
+use crate::kind::{Kind, kind_of};
+use crate::line::write_element;
+use crate::putting::{put_object, put_relative};
+use crate::value::{write_long_bits, write_value};
+use crate::{Layout, NameTable};
+use tlv_head::{Class, Header, Size};
+use tlv_walk::{Drain, Held, Out, WriteFault};
+
+/// What a header says of a primitive, and how its lines are laid out.
+#[derive(Clone, Copy)]
+pub(crate) struct Primitive {
+    pub offset: u64,
+    pub class: Class,
+    pub number: u64,
+    /// How many contents octets it has.
+    pub size: u64,
+    pub kind: Kind,
+    pub layout: Layout,
+}
+
+impl Primitive {
+    /// The primitive with this header.
+    #[inline(always)]
+    pub fn new(header: &Header, layout: Layout) -> Primitive
+        ensures { result ≡ primitive_of header.now layout }
+    {
+        let size = match header.size {
+            Size::Definite(size) => size,
+            Size::Indefinite => 0,
+        };
+        Primitive {
+            offset: header.offset,
+            class: header.class,
+            number: header.number,
+            size,
+            kind: kind_of(header.class, header.number),
+            layout,
+        }
+    }
+
+    /// Whether it has too many contents octets for them to stand on its line.
+    #[inline(always)]
+    pub fn is_long(&self) -> bool
+        ensures { result ≡ is_long_value self.now.kind self.now.size }
+    {
+        let most = match self.kind {
+            Kind::Octets | Kind::Boolean | Kind::Integer => 16,
+            Kind::Bits => 9,
+            _ => 64,
+        };
+        self.size > most
+    }
+
+    /// Begins its line, up to its tag text.
+    #[inline(always)]
+    fn write(&self, held: &mut Held)
+        requires { length held.old + 640 ≤ 4096 }
+        ensures text { held.new ≡ held.old ++ front_of self.now }
+        ensures bound { length held.new ≤ length held.old + 593 }
+    {
+        write_element(
+            held,
+            self.layout,
+            self.offset,
+            self.class,
+            self.number,
+            self.size,
+        );
+    }
+
+    /// Adds its line without a value.
+    #[inline(always)]
+    fn write_bare(&self, held: &mut Held)
+        requires { length held.old + 1024 ≤ 4096 }
+        ensures { held.new ≡ held.old ++ line_of self.now [] }
+    {
+        self.write(held);
+        held.add(b"\n");
+    }
+
+    /// Adds its line with the number of its bits, where it is a long BIT STRING.
+    fn write_bits(&self, held: &mut Held, unused: u8)
+        requires room { length held.old + 1024 ≤ 4096 }
+        requires long { 9 < self.now.size }
+        ensures { held.new ≡ held.old ++ line_of self.now (long_text Kind.Bits self.now.size (unused ∷ [])) }
+    {
+        self.write(held);
+        write_long_bits(held, self.size, unused);
+        held.add(b"\n");
+    }
+
+    /// Adds its line with a held value that is no object identifier.
+    #[inline(always)]
+    fn write_plain(&self, held: &mut Held, contents: &[u8])
+        requires room { length held.old + 1024 ≤ 4096 }
+        requires held { length contents.now ≤ most_held self.now.kind }
+        ensures { held.new ≡ held.old ++ line_of self.now (plain_text self.now.kind contents.now) }
+    {
+        self.write(held);
+        write_value(held, self.kind, contents);
+        held.add(b"\n");
+    }
+
+    /// Puts its line without a value.
+    #[tactic(auto, using(tlv_walk::proofs::Puts::lines))]
+    #[inline(always)]
+    pub fn put_bare<D: Drain>(&self, out: &mut Out<'_, D>) -> Result<(), WriteFault>
+        ensures { Puts D.told out.old out.new (line_of self.now []) result }
+    {
+        out.make_room()?;
+        self.write_bare(&mut out.held);
+        Ok(())
+    }
+
+    /// Puts its line with the number of its bits, where it is a long BIT STRING.
+    #[tactic(auto, using(tlv_walk::proofs::Puts::lines))]
+    pub fn put_bits<D: Drain>(&self, unused: u8, out: &mut Out<'_, D>) -> Result<(), WriteFault>
+        requires { 9 < self.now.size }
+        ensures { Puts D.told out.old out.new
+            (line_of self.now (long_text Kind.Bits self.now.size (unused ∷ []))) result }
+    {
+        out.make_room()?;
+        self.write_bits(&mut out.held, unused);
+        Ok(())
+    }
+
+    /// Puts its line with a held value that is no object identifier.
+    #[tactic(auto, using(tlv_walk::proofs::Puts::lines))]
+    #[inline(always)]
+    fn put_plain<D: Drain>(&self, contents: &[u8], out: &mut Out<'_, D>) -> Result<(), WriteFault>
+        requires { length contents.now ≤ most_held self.now.kind }
+        ensures { Puts D.told out.old out.new (line_of self.now (plain_text self.now.kind contents.now)) result }
+    {
+        out.make_room()?;
+        self.write_plain(&mut out.held, contents);
+        Ok(())
+    }
+
+    /// Begins its line where an `Out` holds it, up to its tag text, and leaves room for the rest.
+    #[tactic(auto, using(tlv_walk::proofs::Puts::lines))]
+    fn put_front<D: Drain>(&self, out: &mut Out<'_, D>) -> Result<(), WriteFault>
+        ensures puts { Puts D.told out.old out.new (front_of self.now) result }
+        ensures room { OnOk result (length (held_in out.new) + 400 ≤ 4096) }
+    {
+        out.make_room()?;
+        self.write(&mut out.held);
+        Ok(())
+    }
+
+    /// Puts its lines, where its value stands on its line.
+    #[inline(always)]
+    pub fn put<N: NameTable, D: Drain>(
+        &self,
+        contents: &[u8],
+        names: &N,
+        out: &mut Out<'_, D>,
+    ) -> Result<(), WriteFault>
+        requires { length contents.now ≤ most_held self.now.kind }
+        ensures { Puts D.told out.old out.new (shown (N.name_of names.now) self.now contents.now) result }
+    {
+        match self.kind {
+            Kind::Object => {
+                self.put_front(out)?;
+                put_object(self.layout, contents, names, out)
+            }
+            Kind::Relative => {
+                self.put_front(out)?;
+                put_relative(self.layout, contents, out)
+            }
+            _ => self.put_plain(contents, out),
+        }
+    }
+}
+
+/// Puts the lines of a primitive of which all contents are at hand, and whose value stands on its line: as a
+/// [`ValueText`](crate::ValueText) does with its header, its contents and its end.
+///
+/// # Errors
+///
+/// `WriteFault` exactly where the drain's failures rose in the call.
+#[inline(always)]
+pub fn put_whole<N: NameTable, D: Drain>(
+    header: &Header,
+    layout: Layout,
+    contents: &[u8],
+    names: &N,
+    out: &mut Out<'_, D>,
+) -> Result<(), WriteFault>
+    requires on_line { is_long_value (kind_by header.now) (announced header.now.size) ≡ false }
+    requires whole { announced header.now.size ≡ length contents.now }
+    ensures { Puts D.told out.old out.new (whole_lines (N.name_of names.now) header.now layout contents.now) result }
+{
+    Primitive::new(header, layout).put(contents, names, out)
+}
+
+/// Whether the value of a primitive with this header stands on its line.
+#[inline(always)]
+pub fn is_on_line(header: &Header) -> bool
+    ensures { result ≡ not (is_long_value (kind_by header.now) (announced header.now.size)) }
+{
+    let layout = Layout {
+        level: 0,
+        limit: None,
+        pure: false,
+    };
+    !Primitive::new(header, layout).is_long()
+}
