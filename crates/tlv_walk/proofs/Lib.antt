@@ -27,6 +27,7 @@ pub mod Calls
 pub mod Closing
 pub mod Entering
 pub mod HeaderKinds
+pub mod Passing
 pub mod Padding
 pub mod Refusals
 pub mod Behind

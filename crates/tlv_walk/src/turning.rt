@@ -1,13 +1,10 @@
 //! One read of a source, followed.
-ghost use Rattle.std.specs.Prelude.{◌≡◌, ℕ, List, ◌+◌, ◌<◌, ◌≤◌, ◌^◌, ◌++◌, IfOk, None, length};
-ghost use Rattle.tlv_head.specs.Fields.{Suits, heading_with};
-ghost use Rattle.tlv_head.specs.Header.{announced};
+ghost use Rattle.std.specs.Prelude.{◌≡◌, ℕ, List, ◌+◌, ◌<◌, ◌≤◌, ◌^◌, IfOk, length};
 ghost use Rattle.tlv_walk.specs.Device.{failures_after};
 ghost use Rattle.tlv_walk.specs.Events.{Told};
 ghost use Rattle.tlv_walk.specs.Follow.{IsFollowed};
 ghost use Rattle.tlv_walk.specs.Private.Answers.{Answers, IsRun};
-ghost use Rattle.tlv_walk.specs.Phase as phases;
-ghost use Rattle.tlv_walk.specs.Private.Follows.{FollowsContents, Parts, Stops};
+ghost use Rattle.tlv_walk.specs.Private.Follows.{Parts, Stops};
 ghost use Rattle.tlv_walk.specs.Laws.{AreOctets};
 ghost use Rattle.tlv_walk.specs.Machine.{IsReady};
 ghost use Rattle.tlv_walk.specs.Out.{Puts, Sends, lender_of};
@@ -18,7 +15,7 @@ ghost use Rattle.tlv_walk.specs.Turns.{Calls, Turns, given};
 use crate::{
     DeviceFault, Drain, Ending, Event, Follow, Go, Out, Run, Source, Step, Turn, Walker, WriteFault,
 };
-use tlv_head::{Fault, Header, HeaderFields};
+use tlv_head::{Fault, Header};
 
 /// Why a piece is not followed any further.
 #[derive(Clone, Copy)]
@@ -137,15 +134,15 @@ fn follow<F: Follow, D: Drain>(
 {
     let mut rest = piece;
     'events: loop {
-        let go = match follow_primitive(walker, follower, &mut rest, out)? {
-            Some(go) => go,
-            None => match walker.quick_event(&mut rest) {
-                Some(event) => follower.on(&event, out)?,
-                None => match walker.step(&mut rest) {
-                    Step::Event(event) => follow_event(follower, &event, out)?,
-                    Step::NeedMore => return Ok(Stop::UsedUp),
-                    Step::Fault(fault) => return Ok(Stop::Fault(fault)),
-                },
+        if follow_primitive(walker, follower, &mut rest, out)? {
+            continue;
+        }
+        let go = match walker.quick_event(&mut rest) {
+            Some(event) => follower.on(&event, out)?,
+            None => match walker.step(&mut rest) {
+                Step::Event(event) => follow_event(follower, &event, out)?,
+                Step::NeedMore => return Ok(Stop::UsedUp),
+                Step::Fault(fault) => return Ok(Stop::Fault(fault)),
             },
         };
         if go == Go::Enough {
@@ -154,66 +151,31 @@ fn follow<F: Follow, D: Drain>(
     }
 }
 
-/// Follows a primitive with a header of few octets, with which the piece begins: at once, where all of its contents are at hand
-/// and the follower takes it so, and else its header alone. Where no such header comes next, nothing is taken.
+/// Follows a primitive with which the piece begins, at once: where its header has few octets, all of it is at hand, and the
+/// follower takes it so. Returns whether it was followed; otherwise nothing is taken.
 #[inline(always)]
 fn follow_primitive<F: Follow, D: Drain>(
     walker: &mut Walker,
     follower: &mut F,
     piece: &mut &[u8],
     out: &mut Out<'_, D>,
-) -> Result<Option<Go>, WriteFault>
+) -> Result<bool, WriteFault>
     requires { walker.old.offset + length piece.old.now ≤ 2 ^ 40 }
     ensures parts { Parts F.next walker.old walker.new follower.old follower.new piece.old.now piece.new.now
         (λ text. Puts D.told out.old out.new text result) result }
-    ensures left { IfOk result (λ go. go ≡ None → out.new ≡ out.old) }
     ensures same_reference { (lender_of out.new).ghost_name ≡ (lender_of out.old).ghost_name }
     ensures failed { (D.told (lender_of out.new).now).failures
         ≡ failures_after result (D.told (lender_of out.old).now).failures }
 {
-    let before = *piece;
-    let Some((fields, octets)) = walker.primitive(piece) else {
-        return Ok(None);
-    };
-    if follow_contents(walker, follower, &fields, octets, before, piece, out)? {
-        return Ok(Some(Go::On));
-    }
-    // The header is made anew, so that none is made before for a follower that does not look at its octets.
-    let go = follower.on(&Event::Begin(Header::new(&fields, octets)), out)?;
-    Ok(Some(go))
-}
-
-/// Follows a primitive whose header was taken and not followed yet, where all of its contents are at hand and the follower takes
-/// it so. Returns whether it did; otherwise nothing is taken. The header's octets stand at the front of `before`, and the piece
-/// behind them.
-#[inline(always)]
-fn follow_contents<F: Follow, D: Drain>(
-    walker: &mut Walker,
-    follower: &mut F,
-    fields: &HeaderFields,
-    octets: &[u8],
-    before: &[u8],
-    piece: &mut &[u8],
-    out: &mut Out<'_, D>,
-) -> Result<bool, WriteFault>
-    requires limit { walker.old.offset + length piece.old.now ≤ 2 ^ 40 }
-    requires phase { walker.old.phase ≡ phases.InContents (announced fields.now.size) }
-    requires suits { Suits fields.now octets.now }
-    requires front { before.now ≡ octets.now ++ piece.old.now }
-    ensures contents { FollowsContents F.next walker.old walker.new follower.old follower.new (heading_with fields.now octets.now)
-        piece.old.now piece.new.now (λ text. Puts D.told out.old out.new text result) result }
-    ensures same_reference { (lender_of out.new).ghost_name ≡ (lender_of out.old).ghost_name }
-    ensures failed { (D.told (lender_of out.new).now).failures
-        ≡ failures_after result (D.told (lender_of out.old).now).failures }
-{
-    let Some(contents) = walker.contents_at_hand(*piece) else {
+    let octets = *piece;
+    let Some(primitive) = walker.primitive(octets) else {
         return Ok(false);
     };
-    let whole = &before[..octets.len() + contents.len()];
-    if !follower.whole(&Header::new(fields, octets), whole, out)? {
+    let header = Header::new(&primitive.fields, &octets[..primitive.header]);
+    if !follower.whole(&header, &octets[..primitive.octets], out)? {
         return Ok(false);
     }
-    walker.pass(contents, piece);
+    walker.pass(&primitive, piece);
     Ok(true)
 }
 

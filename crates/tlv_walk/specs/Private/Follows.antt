@@ -1,5 +1,5 @@
 -- What a follower comes to that follows a walker over a piece.
-use Rattle.std.specs.Prelude.{◌≡◌, ℕ, Bool, true, false, List, [], ◌∷◌, ◌++◌, Option, Some, None, Result, Ok, Err, length}
+use Rattle.std.specs.Prelude.{◌≡◌, ℕ, Bool, true, false, List, [], ◌∷◌, ◌++◌, Result, Ok, Err, length}
 use Rattle.tlv_head.specs.declared.fault.Fault.{Fault}
 use Rattle.tlv_walk.specs.declared.drain.WriteFault.{WriteFault}
 use Rattle.tlv_walk.specs.declared.follow.Go.{Go}
@@ -7,9 +7,8 @@ use Rattle.tlv_walk.specs.declared.follow.Go.TheVariants as go
 use Rattle.tlv_walk.specs.declared.framing.Framing.{Framing}
 use Rattle.tlv_walk.specs.declared.turning.Stop.{Stop}
 use Rattle.tlv_walk.specs.declared.turning.Stop.TheVariants as stop
-use Rattle.tlv_head.specs.Header.{Heading}
-use Rattle.tlv_walk.specs.Events.{AreEqualJoined, Bytes, End, Told, events}
-use Rattle.tlv_walk.specs.Follow.{Following, contents_in, followed, whole_events}
+use Rattle.tlv_walk.specs.Events.{AreEqualJoined, Told, events}
+use Rattle.tlv_walk.specs.Follow.{Following, followed}
 use Rattle.tlv_walk.specs.Forest.{Forest}
 use Rattle.tlv_walk.specs.Machine.{IsTold, Machine, unused_in}
 use Rattle.tlv_walk.specs.Private.Machine.{Passes}
@@ -70,33 +69,13 @@ module _ {S : Type 0} (next : S → Told → Following S) where
   Stops w v s t piece puts (Ok stop.Enough) = (after : List ℕ) × Follows w v s t piece after puts go.Enough × IsTold v.phase
   Stops w v s t piece puts (Err e) = Fails w s piece puts
 
-  -- what was made of one part of a piece: nothing, where it is left to others, and else of one event or more
-  pub record FollowsPart (w v : Machine) (s t : S) (before after : List ℕ) (puts : List ℕ → Type 0) (goes : Go) : Type 0 where
-    pub follows : Follows w v s t before after puts goes
+  -- what was made of the front of a piece, where that has one event or more, and more is wanted
+  pub record FollowsPart (w v : Machine) (s t : S) (before after : List ℕ) (puts : List ℕ → Type 0) : Type 0 where
+    pub follows : Follows w v s t before after puts go.On
     pub passes : Passes w v before after
 
-  abbrev pub Parts : Machine → Machine → S → S → List ℕ → List ℕ → (List ℕ → Type 0) → Result (Option Go) WriteFault → Type 0
-  Parts w v s t before after puts (Ok None) = (v ≡ w) × (t ≡ s) × (after ≡ before)
-  Parts w v s t before after puts (Ok (Some goes)) = FollowsPart w v s t before after puts goes
+  -- it is followed, or nothing of it is taken
+  abbrev pub Parts : Machine → Machine → S → S → List ℕ → List ℕ → (List ℕ → Type 0) → Result Bool WriteFault → Type 0
+  Parts w v s t before after puts (Ok false) = (v ≡ w) × (t ≡ s) × (after ≡ before) × puts []
+  Parts w v s t before after puts (Ok true) = FollowsPart w v s t before after puts
   Parts w v s t before after puts (Err e) = Fails w s before puts
-
-  -- of a primitive with this header its octets were made, of which the contents begin the piece; or it is left to others
-  pub record PassesContents (w v : Machine) (s t : S) (h : Heading) (before after : List ℕ) (puts : List ℕ → Type 0) : Type 0 where
-    pub octets : List ℕ
-    pub made : Made next s t (whole_events h octets) go.On
-    pub put : puts (followed next s (whole_events h octets)).put
-    pub walked : Walked w v before after (Bytes (contents_in h octets) ∷ End ∷ [])
-    pub passes : Passes w v before after
-
-  -- the drain failed at what is put at these events, or before
-  pub record FailsContents (w : Machine) (s : S) (h : Heading) (before : List ℕ) (puts : List ℕ → Type 0) : Type 0 where
-    pub octets : List ℕ
-    pub put : puts (followed next s (whole_events h octets)).put
-    pub there : Machine
-    pub after : List ℕ
-    pub walked : Walked w there before after (Bytes (contents_in h octets) ∷ End ∷ [])
-
-  abbrev pub FollowsContents : Machine → Machine → S → S → Heading → List ℕ → List ℕ → (List ℕ → Type 0) → Result Bool WriteFault → Type 0
-  FollowsContents w v s t h before after puts (Ok false) = (v ≡ w) × (t ≡ s) × (after ≡ before) × puts []
-  FollowsContents w v s t h before after puts (Ok true) = PassesContents w v s t h before after puts
-  FollowsContents w v s t h before after puts (Err e) = FailsContents w s h before puts

@@ -1,18 +1,18 @@
 -- What the walker's own functions ask for and answer.
-use Rattle.std.specs.Prelude.{◌≡◌, ◌≢◌, ◌⊎◌, ℕ, ◌+◌, ◌^◌, ◌<◌, ◌≤◌, true, false, ◌||◌, eqb, if◌then◌else◌, List, [], ◌∷◌, length, Option, Some, None}
+use Rattle.std.specs.Prelude.{◌≡◌, ◌≢◌, ◌⊎◌, ℕ, ◌+◌, ◌^◌, ◌<◌, ◌≤◌, true, false, ◌||◌, eqb, if◌then◌else◌, List, [], ◌∷◌, length, take, Option, Some, None}
 use Rattle.tlv_head.specs.declared.fault.Fault.{Fault as FaultOf}
 use Rattle.tlv_head.specs.declared.fault.FaultCode.{FaultCode}
 use Rattle.tlv_head.specs.Header.{Heading, IsHeading, announced, holds, is_wrapper, octets_of}
 use Rattle.tlv_head.specs.Progress.{Progress}
-use Rattle.std.specs.Borrow.{Bor}
-use Rattle.std.specs.Option.{option_map}
 use Rattle.tlv_head.specs.Fields.{heading_with}
+use Rattle.tlv_head.specs.Read.{BeginsWithFields}
 use Rattle.tlv_walk.specs.declared.event.Event.{Event}
-use Rattle.tlv_walk.specs.declared.event.Event.TheVariants as event
 use Rattle.tlv_walk.specs.declared.event.Kind.{Kind}
 use Rattle.tlv_walk.specs.declared.event.Kind.TheVariants as kind
 use Rattle.tlv_head.specs.declared.header.HeaderFields.{HeaderFields}
 use Rattle.tlv_walk.specs.declared.stack.Frame.{Frame}
+use Rattle.tlv_walk.specs.declared.walker.quick.WholePrimitive.{WholePrimitive}
+use Rattle.tlv_walk.specs.Inside.{is_among}
 use Rattle.tlv_walk.specs.Phase.{Phase, Between, InHeader, InContents, BeforeUnused, InEnd, Failed}
 use Rattle.tlv_walk.specs.Stack.{IsFilled, Within, bound_of}
 use Rattle.tlv_walk.specs.Private.Stack.{room_of}
@@ -102,9 +102,19 @@ Enters old new f at kind.Wrapper =
       wrappers = next_wrapper old.framing.inside old.wrappers f.offset;
     })
 
--- the event of a header that was taken, if one was
-abbrev pub begins : Option (HeaderFields × Bor (List ℕ)) → Option Event
-begins found = option_map (λ f. event.Begin (heading_with f.0 f.1.now)) found
+-- a primitive that is not named, lies whole at the front of a piece, and may stand there
+pub record CanPass (w : Machine) (piece : List ℕ) (p : WholePrimitive) : Type 0 where
+  pub phase : w.phase ≡ Between
+  pub unnamed : is_among w.offset w.framing.inside ≡ false
+  pub begins : BeginsWithFields piece w.offset false p.fields p.header
+  pub primitive : p.fields.constructed ≡ false
+  pub octets : p.octets ≡ p.header + announced p.fields.size
+  pub within : p.octets ≤ length piece
+  pub fits : Within (bound_of w.stack) (w.offset + p.octets)
+
+-- its header
+abbrev pub heading_at : WholePrimitive → List ℕ → Heading
+heading_at p piece = heading_with p.fields (take p.header piece)
 
 -- some octets were taken from the front of a piece, and some events told
 pub record Passes (old new : Machine) (before after : List ℕ) : Type 0 where

@@ -1,79 +1,81 @@
 //! How a walker finds the next event where few instructions do.
-ghost use Rattle.std.specs.Prelude.{◌≡◌, ◌+◌, ◌^◌, ◌≤◌, ◌++◌, ◌∷◌, [], IfSome, length, take};
-ghost use Rattle.tlv_head.specs.Fields.{Suits};
-ghost use Rattle.tlv_head.specs.Header.{announced};
-ghost use Rattle.tlv_walk.specs.Events.{Bytes, End};
-ghost use Rattle.tlv_walk.specs.Phase as phases;
-ghost use Rattle.tlv_walk.specs.Private.Machine.{Passes, StepsAtOnce, begins};
+ghost use Rattle.std.specs.Prelude.{◌≡◌, ◌+◌, ◌^◌, ◌≤◌, IfSome, length, take};
+ghost use Rattle.tlv_walk.specs.Follow.{whole_events};
+ghost use Rattle.tlv_walk.specs.Private.Machine.{CanPass, Passes, StepsAtOnce, heading_at};
 ghost use Rattle.tlv_walk.specs.Private.Tells.{TellsAll, TellsAtOnce};
 
 use super::{Phase, Walker};
 use crate::Event;
-use tlv_head::{HeaderFields, read_short};
+use tlv_head::{HeaderFields, Size, read_short};
+
+/// A primitive that lies whole at the front of a piece.
+#[derive(Clone, Copy)]
+pub(crate) struct WholePrimitive {
+    pub fields: HeaderFields,
+    /// How many octets its header has.
+    pub header: usize,
+    /// How many octets it has, contents and all.
+    pub octets: usize,
+}
 
 impl Walker {
-    /// Takes the header with which the piece begins, where it is one of few octets, of a primitive that is not named, and may
-    /// stand here. Otherwise nothing is taken.
+    /// The primitive with which these octets begin, where all of it is among them, its header has few octets, it is not named,
+    /// and it may stand here.
     #[inline(always)]
-    pub(crate) fn primitive<'a>(&mut self, piece: &mut &'a [u8]) -> Option<(HeaderFields, &'a [u8])>
-        requires { self.old.offset + length piece.old.now ≤ 2 ^ 40 }
-        ensures steps { StepsAtOnce self.old self.new piece.old.now piece.new.now (begins result) }
-        ensures tells { TellsAtOnce self.old self.new piece.old.now piece.new.now (begins result) }
-        ensures contents { IfSome result (λ found. self.new.phase ≡ phases.InContents (announced found.0.size)) }
-        ensures suits { IfSome result (λ found. Suits found.0 found.1.now) }
-        ensures front { IfSome result (λ found. piece.old.now ≡ found.1.now ++ piece.new.now) }
+    pub(crate) fn primitive(&self, octets: &[u8]) -> Option<WholePrimitive>
+        requires { self.now.offset + length octets.now ≤ 2 ^ 40 }
+        ensures { IfSome result (λ p. CanPass self.now octets.now p) }
     {
         if !matches!(self.phase, Phase::Between) || self.framing.inside.contains(self.offset) {
             return None;
         }
-        let octets: &'a [u8] = *piece;
         let [first, ..] = octets else {
             return None;
         };
         if *first & 0x20 != 0 {
             return None;
         }
-        let (fields, count) = read_short(self.offset, false, octets)?;
+        let (fields, header) = read_short(self.offset, false, octets)?;
         if fields.constructed {
             return None;
         }
-        let (front, rest) = octets.split_at(count);
-        if !self.may_stand(&fields, front) {
+        let Size::Definite(length) = fields.size else {
+            return None;
+        };
+        if length > (octets.len() - header) as u64 {
             return None;
         }
-        *piece = rest;
-        self.enter(&fields, front);
-        Some((fields, front))
-    }
-
-    /// All contents that are still to come of the primitive that is open, where the piece has them.
-    #[inline(always)]
-    pub(crate) fn contents_at_hand<'a>(&self, piece: &'a [u8]) -> Option<&'a [u8]>
-        ensures { IfSome result (λ c. (self.now.phase ≡ phases.InContents (length c.now)) × (c.now ≡ take (length c.now) piece.now)) }
-    {
-        if let Phase::InContents(left) = self.phase
-            && left <= piece.len() as u64
-        {
-            return Some(&piece[..left as usize]);
+        let octets = header + length as usize;
+        if !self.stack.reaches(self.offset + octets as u64) {
+            return None;
         }
-        None
+        Some(WholePrimitive {
+            fields,
+            header,
+            octets,
+        })
     }
 
-    /// Takes all contents that are still to come of the primitive that is open, and its end.
+    /// Takes the primitive with which the piece begins: its header, its contents and its end.
     #[inline(always)]
-    pub(crate) fn pass<'a>(&mut self, contents: &[u8], piece: &mut &'a [u8])
-        requires phase { self.old.phase ≡ phases.InContents (length contents.now) }
-        requires octets { contents.now ≡ take (length contents.now) piece.old.now }
+    pub(crate) fn pass<'a>(&mut self, primitive: &WholePrimitive, piece: &mut &'a [u8])
+        requires can { CanPass self.old piece.old.now primitive.now }
         requires limit { self.old.offset + length piece.old.now ≤ 2 ^ 40 }
         ensures passes { Passes self.old self.new piece.old.now piece.new.now }
-        ensures tells { TellsAll self.old self.new piece.old.now piece.new.now (Bytes contents.now ∷ End ∷ []) }
+        ensures tells { TellsAll self.old self.new piece.old.now piece.new.now
+            (whole_events (heading_at primitive.now piece.old.now) (take primitive.now.octets piece.old.now)) }
     {
         let octets: &'a [u8] = *piece;
-        let (_, rest) = octets.split_at(contents.len());
+        let (_, rest) = octets.split_at(primitive.octets);
         *piece = rest;
-        self.offset += contents.len() as u64;
-        self.events += if contents.is_empty() { 1 } else { 2 };
-        self.phase = Phase::Between;
+        self.offset += primitive.octets as u64;
+        // The header, the contents unless there are none, and the end.
+        self.events += if primitive.header == primitive.octets {
+            2
+        } else {
+            3
+        };
+        self.has_element = true;
     }
 
     /// The next event, where few instructions find it: an end that waits, contents, end-of-contents octets, or a header of

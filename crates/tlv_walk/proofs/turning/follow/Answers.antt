@@ -11,7 +11,7 @@ use Rattle.tlv_walk.specs.Tells.{StandsBehind, StandsStep}
 use Rattle.tlv_walk.proofs.Following.{fails_event, follows_as, follows_event, follows_none, stops_fault, stops_used_up}
 use Rattle.tlv_walk.proofs.Parts.{fails_both, follows_left, follows_part, left_walked, part_passes}
 use Rattle.tlv_walk.proofs.Standing.{stands_behind}
-use Rattle.tlv_walk.proofs.turning.follow.Goals.{in-Some, in-None+in-Some-quick_event+in_ok-go-in-Some-quick_event, in-None+in-None-quick_event+in-Event+in_ok-go-in-Event}
+use Rattle.tlv_walk.proofs.turning.follow.Goals.{in-Some+in_ok-go-in-Some, in-None+in-Event+in_ok-go-in-Event}
 use Rattle.tlv_walk.proofs.turning.follow.Goals as goal
 
 -- nothing was taken
@@ -39,58 +39,58 @@ not_on go.Enough n = refl
 pub events-init : goal.events-init
 events-init g c = record { follows = follows_none g.F.Follow.next g.D.Drain.told _ _ _ _; walked = refl }
 
+pub events-preserved-then-branch : goal.events-preserved-then-branch
+events-preserved-then-branch g c = record {
+  follows = follows_part g.F.Follow.next g.D.Drain.told _ _ _ _ _ _ _ _ _ _ _ _ _ c.events.invariant.follows c.if-branch.true c.in_ok-follow_primitive.ensures.parts;
+  walked = (part_passes g.F.Follow.next g.D.Drain.told _ _ _ _ _ _ _ _ _ c.if-branch.true c.in_ok-follow_primitive.ensures.parts).taken ∙ c.events.invariant.walked;
+}
+
 pub events-preserved : goal.events-preserved
 events-preserved g c =
-    let on : c.match-branch-2.go ≡ go.On = not_enough _ (search rules) in
-    elim c.match-branch-2.branch [
-      | in-Some w ↦ record {
-        follows = rw (w.out-is, w.follower-is, w.walker-is, w.rest-is, ← on, w.go-is) (follows_part g.F.Follow.next g.D.Drain.told _ _ _ _ _ _ _ _ _ _ _ _ _ _ c.events.invariant.follows w.in-Some.is c.in_ok-go.ensures.parts);
-        walked = rw (w.walker-is, w.rest-is) ((part_passes g.F.Follow.next g.D.Drain.told _ _ _ _ _ _ _ _ _ _ w.in-Some.is c.in_ok-go.ensures.parts).taken ∙ c.events.invariant.walked);
+    let on : c.match-quick_event.go ≡ go.On = not_enough _ (search rules) in
+    elim c.match-quick_event.branch [
+      | in-Some+in_ok-go-in-Some w ↦ record {
+        follows = rw (w.out-is, w.follower-is, w.walker-is, w.rest-is, ← on, w.go-is) (follows_event g.F.Follow.next g.D.Drain.told _ _ _ _ _ _ _ _ _ _ _ _ _ _ (follows_left g.F.Follow.next g.D.Drain.told _ _ _ _ _ _ _ _ _ _ _ _ _ c.events.invariant.follows c.if-branch.false c.in_ok-follow_primitive.ensures.parts) (stands_behind _ _ _ _ _ w.in-Some.ensures.tells) w.in_ok-go-in-Some.ensures.state _ w.in_ok-go-in-Some.ensures.puts);
+        walked = rw (w.walker-is, w.rest-is) (w.in-Some.ensures.steps.0.0 ∙ left_walked g.F.Follow.next g.D.Drain.told _ _ _ _ _ _ _ _ _ c.if-branch.false c.in_ok-follow_primitive.ensures.parts ∙ c.events.invariant.walked);
       }
-      | in-None+in-Some-quick_event+in_ok-go-in-Some-quick_event w ↦ record {
-        follows = rw (w.out-is, w.follower-is, w.walker-is, w.rest-is, ← on, w.go-is) (follows_event g.F.Follow.next g.D.Drain.told _ _ _ _ _ _ _ _ _ _ _ _ _ _ (follows_left g.F.Follow.next g.D.Drain.told _ _ _ _ _ _ _ _ _ _ _ _ _ c.events.invariant.follows w.in-None.is c.in_ok-go.ensures.parts c.in_ok-go.ensures.left) (stands_behind _ _ _ _ _ w.in-Some-quick_event.ensures.tells) w.in_ok-go-in-Some-quick_event.ensures.state _ w.in_ok-go-in-Some-quick_event.ensures.puts);
-        walked = rw (w.walker-is, w.rest-is) (w.in-Some-quick_event.ensures.steps.0.0 ∙ left_walked g.F.Follow.next g.D.Drain.told _ _ _ _ _ _ _ _ _ w.in-None.is c.in_ok-go.ensures.parts ∙ c.events.invariant.walked);
-      }
-      | in-None+in-None-quick_event+in-Event+in_ok-go-in-Event w ↦ record {
-        follows = rw (w.out-is, w.follower-is, w.walker-is, w.rest-is, ← on, w.go-is) (follows_event g.F.Follow.next g.D.Drain.told _ _ _ _ _ _ _ _ _ _ _ _ _ _ (follows_left g.F.Follow.next g.D.Drain.told _ _ _ _ _ _ _ _ _ _ _ _ _ c.events.invariant.follows w.in-None.is c.in_ok-go.ensures.parts c.in_ok-go.ensures.left) (unmoved_event _ _ _ _ _ _ _ w.in-None-quick_event.ensures.steps.0 w.in-None-quick_event.ensures.steps.1 w.in-Event.ensures.stands) w.in_ok-go-in-Event.ensures.state _ w.in_ok-go-in-Event.ensures.puts);
-        walked = rw (w.walker-is, w.rest-is) (w.in-Event.ensures.steps.0.0 ∙ unmoved _ _ _ _ w.in-None-quick_event.ensures.steps.0 w.in-None-quick_event.ensures.steps.1 ∙ left_walked g.F.Follow.next g.D.Drain.told _ _ _ _ _ _ _ _ _ w.in-None.is c.in_ok-go.ensures.parts ∙ c.events.invariant.walked);
+      | in-None+in-Event+in_ok-go-in-Event w ↦ record {
+        follows = rw (w.out-is, w.follower-is, w.walker-is, w.rest-is, ← on, w.go-is) (follows_event g.F.Follow.next g.D.Drain.told _ _ _ _ _ _ _ _ _ _ _ _ _ _ (follows_left g.F.Follow.next g.D.Drain.told _ _ _ _ _ _ _ _ _ _ _ _ _ c.events.invariant.follows c.if-branch.false c.in_ok-follow_primitive.ensures.parts) (unmoved_event _ _ _ _ _ _ _ w.in-None.ensures.steps.0 w.in-None.ensures.steps.1 w.in-Event.ensures.stands) w.in_ok-go-in-Event.ensures.state _ w.in_ok-go-in-Event.ensures.puts);
+        walked = rw (w.walker-is, w.rest-is) (w.in-Event.ensures.steps.0.0 ∙ unmoved _ _ _ _ w.in-None.ensures.steps.0 w.in-None.ensures.steps.1 ∙ left_walked g.F.Follow.next g.D.Drain.told _ _ _ _ _ _ _ _ _ c.if-branch.false c.in_ok-follow_primitive.ensures.parts ∙ c.events.invariant.walked);
       }
     ]
 
-pub returns-in_err-go-clause-stops : goal.returns-in_err-go-clause-stops
-returns-in_err-go-clause-stops g c =
+pub returns-in_err-follow_primitive-clause-stops : goal.returns-in_err-follow_primitive-clause-stops
+returns-in_err-follow_primitive-clause-stops g c =
     let p = err_from_is_err_and c.from_residual.result c.from_residual.ensures.1 in rw p.1
-    (fails_both g.F.Follow.next g.D.Drain.told _ _ _ _ _ _ _ _ _ _ _ c.events.invariant.follows c.in_err-go.ensures.parts)
+    (fails_both g.F.Follow.next g.D.Drain.told _ _ _ _ _ _ _ _ _ _ _ c.events.invariant.follows c.in_err-follow_primitive.ensures.parts)
 
-pub returns-in_err-go-in-Some-quick_event-clause-stops : goal.returns-in_err-go-in-Some-quick_event-clause-stops
-returns-in_err-go-in-Some-quick_event-clause-stops g c =
-    let p = err_from_is_err_and c.from_residual-in_err-go-in-Some-quick_event.result c.from_residual-in_err-go-in-Some-quick_event.ensures.1 in rw p.1
-    (fails_event g.F.Follow.next g.D.Drain.told _ _ _ _ _ _ _ _ _ _ _ _ (follows_left g.F.Follow.next g.D.Drain.told _ _ _ _ _ _ _ _ _ _ _ _ _ c.events.invariant.follows c.in-None.is c.in_ok-go.ensures.parts c.in_ok-go.ensures.left) (stands_behind _ _ _ _ _ c.in-Some-quick_event.ensures.tells) _ _ c.in_err-go-in-Some-quick_event.ensures.puts)
+pub returns-in_err-go-in-Some-clause-stops : goal.returns-in_err-go-in-Some-clause-stops
+returns-in_err-go-in-Some-clause-stops g c =
+    let p = err_from_is_err_and c.from_residual-in_err-go-in-Some.result c.from_residual-in_err-go-in-Some.ensures.1 in rw p.1
+    (fails_event g.F.Follow.next g.D.Drain.told _ _ _ _ _ _ _ _ _ _ _ _ (follows_left g.F.Follow.next g.D.Drain.told _ _ _ _ _ _ _ _ _ _ _ _ _ c.events.invariant.follows c.if-branch.false c.in_ok-follow_primitive.ensures.parts) (stands_behind _ _ _ _ _ c.in-Some.ensures.tells) _ _ c.in_err-go-in-Some.ensures.puts)
 
 pub returns-in_err-go-in-Event-clause-stops : goal.returns-in_err-go-in-Event-clause-stops
 returns-in_err-go-in-Event-clause-stops g c =
     let p = err_from_is_err_and c.from_residual-in_err-go-in-Event.result c.from_residual-in_err-go-in-Event.ensures.1 in rw p.1
-    (fails_event g.F.Follow.next g.D.Drain.told _ _ _ _ _ _ _ _ _ _ _ _ (follows_left g.F.Follow.next g.D.Drain.told _ _ _ _ _ _ _ _ _ _ _ _ _ c.events.invariant.follows c.in-None.is c.in_ok-go.ensures.parts c.in_ok-go.ensures.left) (unmoved_event _ _ _ _ _ _ _ c.in-None-quick_event.ensures.steps.0 c.in-None-quick_event.ensures.steps.1 c.in-Event.ensures.stands) _ _ c.in_err-go-in-Event.ensures.puts)
+    (fails_event g.F.Follow.next g.D.Drain.told _ _ _ _ _ _ _ _ _ _ _ _ (follows_left g.F.Follow.next g.D.Drain.told _ _ _ _ _ _ _ _ _ _ _ _ _ c.events.invariant.follows c.if-branch.false c.in_ok-follow_primitive.ensures.parts) (unmoved_event _ _ _ _ _ _ _ c.in-None.ensures.steps.0 c.in-None.ensures.steps.1 c.in-Event.ensures.stands) _ _ c.in_err-go-in-Event.ensures.puts)
 
 pub returns-in-NeedMore-clause-stops : goal.returns-in-NeedMore-clause-stops
 returns-in-NeedMore-clause-stops g c =
-    stops_used_up g.F.Follow.next g.D.Drain.told _ _ _ _ _ _ _ _ _ c.step.new.piece.now (follows_left g.F.Follow.next g.D.Drain.told _ _ _ _ _ _ _ _ _ _ _ _ _ c.events.invariant.follows c.in-None.is c.in_ok-go.ensures.parts c.in_ok-go.ensures.left)
-    (unmoved_stands c.quick_event.new.self _ c.step.new.self c.quick_event.new.piece.now _ c.step.new.piece.now step.NeedMore c.in-None-quick_event.ensures.steps.0 c.in-None-quick_event.ensures.steps.1 c.in-NeedMore.ensures.stands)
+    stops_used_up g.F.Follow.next g.D.Drain.told _ _ _ _ _ _ _ _ _ c.step.new.piece.now (follows_left g.F.Follow.next g.D.Drain.told _ _ _ _ _ _ _ _ _ _ _ _ _ c.events.invariant.follows c.if-branch.false c.in_ok-follow_primitive.ensures.parts)
+    (unmoved_stands c.quick_event.new.self _ c.step.new.self c.quick_event.new.piece.now _ c.step.new.piece.now step.NeedMore c.in-None.ensures.steps.0 c.in-None.ensures.steps.1 c.in-NeedMore.ensures.stands)
 
 pub returns-in-Fault-clause-stops : goal.returns-in-Fault-clause-stops
 returns-in-Fault-clause-stops g c =
-    stops_fault g.F.Follow.next g.D.Drain.told _ _ _ _ _ _ _ _ _ _ _ (follows_left g.F.Follow.next g.D.Drain.told _ _ _ _ _ _ _ _ _ _ _ _ _ c.events.invariant.follows c.in-None.is c.in_ok-go.ensures.parts c.in_ok-go.ensures.left)
-    (unmoved_stands c.quick_event.new.self _ c.step.new.self c.quick_event.new.piece.now _ c.step.new.piece.now (step.Fault c.in-Fault.fault) c.in-None-quick_event.ensures.steps.0 c.in-None-quick_event.ensures.steps.1 c.in-Fault.ensures.stands)
-    (unmoved_refuses c.quick_event.new.self _ c.step.new.self c.quick_event.new.piece.now _ c.step.new.piece.now c.in-Fault.fault c.in-None-quick_event.ensures.steps.0 c.in-None-quick_event.ensures.steps.1 c.in-Fault.ensures.steps)
+    stops_fault g.F.Follow.next g.D.Drain.told _ _ _ _ _ _ _ _ _ _ _ (follows_left g.F.Follow.next g.D.Drain.told _ _ _ _ _ _ _ _ _ _ _ _ _ c.events.invariant.follows c.if-branch.false c.in_ok-follow_primitive.ensures.parts)
+    (unmoved_stands c.quick_event.new.self _ c.step.new.self c.quick_event.new.piece.now _ c.step.new.piece.now (step.Fault c.in-Fault.fault) c.in-None.ensures.steps.0 c.in-None.ensures.steps.1 c.in-Fault.ensures.stands)
+    (unmoved_refuses c.quick_event.new.self _ c.step.new.self c.quick_event.new.piece.now _ c.step.new.piece.now c.in-Fault.fault c.in-None.ensures.steps.0 c.in-None.ensures.steps.1 c.in-Fault.ensures.steps)
 
 pub returns-then-eq-clause-stops : goal.returns-then-eq-clause-stops
 returns-then-eq-clause-stops g c =
-    let enough : c.match-branch-2.go ≡ go.Enough = not_on _ (search rules) in
-    elim c.match-branch-2.branch [
-      | in-Some w ↦ rw (w.out-is, w.follower-is, w.walker-is, ← enough, w.go-is)
-          (_, follows_as g.F.Follow.next g.D.Drain.told _ _ _ _ _ _ _ _ _ _ (follows_part g.F.Follow.next g.D.Drain.told _ _ _ _ _ _ _ _ _ _ _ _ _ _ c.events.invariant.follows w.in-Some.is c.in_ok-go.ensures.parts), (part_passes g.F.Follow.next g.D.Drain.told _ _ _ _ _ _ _ _ _ _ w.in-Some.is c.in_ok-go.ensures.parts).told)
-      | in-None+in-Some-quick_event+in_ok-go-in-Some-quick_event w ↦ rw (w.out-is, w.follower-is, w.walker-is, ← enough, w.go-is)
-          (_, follows_as g.F.Follow.next g.D.Drain.told _ _ _ _ _ _ _ _ _ _ (follows_event g.F.Follow.next g.D.Drain.told _ _ _ _ _ _ _ _ _ _ _ _ _ _ (follows_left g.F.Follow.next g.D.Drain.told _ _ _ _ _ _ _ _ _ _ _ _ _ c.events.invariant.follows w.in-None.is c.in_ok-go.ensures.parts c.in_ok-go.ensures.left) (stands_behind _ _ _ _ _ w.in-Some-quick_event.ensures.tells) w.in_ok-go-in-Some-quick_event.ensures.state _ w.in_ok-go-in-Some-quick_event.ensures.puts), w.in-Some-quick_event.ensures.steps.0.3)
-      | in-None+in-None-quick_event+in-Event+in_ok-go-in-Event w ↦ rw (w.out-is, w.follower-is, w.walker-is, ← enough, w.go-is)
-          (_, follows_as g.F.Follow.next g.D.Drain.told _ _ _ _ _ _ _ _ _ _ (follows_event g.F.Follow.next g.D.Drain.told _ _ _ _ _ _ _ _ _ _ _ _ _ _ (follows_left g.F.Follow.next g.D.Drain.told _ _ _ _ _ _ _ _ _ _ _ _ _ c.events.invariant.follows w.in-None.is c.in_ok-go.ensures.parts c.in_ok-go.ensures.left) (unmoved_event _ _ _ _ _ _ _ w.in-None-quick_event.ensures.steps.0 w.in-None-quick_event.ensures.steps.1 w.in-Event.ensures.stands) w.in_ok-go-in-Event.ensures.state _ w.in_ok-go-in-Event.ensures.puts), w.in-Event.ensures.steps.0.3)
+    let enough : c.match-quick_event.go ≡ go.Enough = not_on _ (search rules) in
+    elim c.match-quick_event.branch [
+      | in-Some+in_ok-go-in-Some w ↦ rw (w.out-is, w.follower-is, w.walker-is, ← enough, w.go-is)
+          (_, follows_as g.F.Follow.next g.D.Drain.told _ _ _ _ _ _ _ _ _ _ (follows_event g.F.Follow.next g.D.Drain.told _ _ _ _ _ _ _ _ _ _ _ _ _ _ (follows_left g.F.Follow.next g.D.Drain.told _ _ _ _ _ _ _ _ _ _ _ _ _ c.events.invariant.follows c.if-branch.false c.in_ok-follow_primitive.ensures.parts) (stands_behind _ _ _ _ _ w.in-Some.ensures.tells) w.in_ok-go-in-Some.ensures.state _ w.in_ok-go-in-Some.ensures.puts), w.in-Some.ensures.steps.0.3)
+      | in-None+in-Event+in_ok-go-in-Event w ↦ rw (w.out-is, w.follower-is, w.walker-is, ← enough, w.go-is)
+          (_, follows_as g.F.Follow.next g.D.Drain.told _ _ _ _ _ _ _ _ _ _ (follows_event g.F.Follow.next g.D.Drain.told _ _ _ _ _ _ _ _ _ _ _ _ _ _ (follows_left g.F.Follow.next g.D.Drain.told _ _ _ _ _ _ _ _ _ _ _ _ _ c.events.invariant.follows c.if-branch.false c.in_ok-follow_primitive.ensures.parts) (unmoved_event _ _ _ _ _ _ _ w.in-None.ensures.steps.0 w.in-None.ensures.steps.1 w.in-Event.ensures.stands) w.in_ok-go-in-Event.ensures.state _ w.in_ok-go-in-Event.ensures.puts), w.in-Event.ensures.steps.0.3)
     ]

@@ -1,6 +1,10 @@
-use Rattle.std.proofs.Common.{rules}
-use Rattle.tlv_walk.proofs.Moves.{tells_passed}
+use Rattle.std.proofs.Common.{rules, take, sym, subst}
+use Rattle.tlv_walk.specs.Machine.{Machine}
+use Rattle.tlv_walk.specs.Private.Machine.{CanPass}
+use Rattle.tlv_walk.proofs.Passing.{tells_primitive}
 use Rattle.tlv_walk.proofs.walker.Walker.pass.Goals as goal
 
 pub returns-clause-tells : goal.returns-clause-tells
-returns-clause-tells c = (c.args.contents.now, search rules, rw (← c.self.view_is) (tells_passed _ c.args.contents.now _ (search rules)))
+returns-clause-tells c =
+    let can = subst (λ (m : Machine). CanPass m c.args.piece.now.now c.args.primitive.now) (sym c.self.view_is) c.requires.can in
+    (take c.args.primitive.now.octets c.args.piece.now.now, search rules, rw (← c.self.view_is) (tells_primitive _ c.args.piece.now.now c.args.primitive.now _ can))
