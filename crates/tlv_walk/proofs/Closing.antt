@@ -5,7 +5,6 @@ use Rattle.tlv_head.specs.declared.header.Size.{Size}
 use Rattle.tlv_head.specs.declared.header.Size.TheVariants.{Definite, Indefinite}
 use Rattle.tlv_head.specs.Header.{Heading, announced, octets_of}
 use Rattle.tlv_head.specs.Private.Header.{AllowsSize}
-use Rattle.tlv_walk.specs.declared.stack.Frame.{Frame}
 use Rattle.tlv_walk.specs.Phase as phase
 use Rattle.tlv_walk.specs.Events.{AreEqualJoined, Told, Close, Leave, apart, closes, end_offset, events, opens}
 use Rattle.tlv_walk.specs.Forest.{Forest, Stop, Closed, Zero, end_octets, extent, is_whole, opening, spell}
@@ -15,8 +14,8 @@ use Rattle.std.proofs.lemmas.Bool.{cases_Bool}
 use Rattle.tlv_walk.specs.Machine.{found_in, Machine, bound_in}
 use Rattle.tlv_walk.specs.Place.{Fits, IsEntry, IsOpen, Place, after, is_indefinite}
 use Rattle.tlv_walk.proofs.Lengths.{HasLength}
-use Rattle.tlv_walk.specs.Stack.{IsFilled, IsInIndefinite, Within, bound_of}
-use Rattle.tlv_walk.specs.Private.Stack.{innermost_of}
+use Rattle.tlv_walk.specs.Stack.{Frame, IsFilled, IsInIndefinite, Within, bound_of}
+use Rattle.tlv_walk.specs.Private.Stack.{wraps_of}
 use Rattle.tlv_walk.specs.Private.Tells.{Continues}
 use Rattle.tlv_walk.specs.State.{AreWhole, HasState, Layer, Tail, Between, InEnd, State, ending_of, events_layers, events_tail, frame_of, frames_of, place_in, place_of, spell_layers, spell_tail}
 use Rattle.tlv_walk.proofs.Moves.{began, between_tail, closed_here, continues_both, lone_tail, phase_at, tail_state, tells_zero, told_more, with_layers, with_tail}
@@ -175,23 +174,26 @@ tells_filled w e f fs is full = record {
       filled_from w b told s s.layers (tail_state w b told s _ t has) e f fs is full;
 }
 
-innermost_cons : (fs : List Frame) (f : Frame) → innermost_of fs ≡ Some f → fs ≡ f ∷ drop 1 fs
-innermost_cons [] f e = absurd (cc)
-innermost_cons (g ∷ fs) f e = ap (λ (k : Frame). k ∷ fs) (cc)
+-- a stack of which the innermost frame says so
+record IsInnermost (stack : List Frame) (k : Bool) : Type 0 where
+  frame : Frame
+  stack_is : stack ≡ frame ∷ drop 1 stack
+  wraps : frame.wrapper ≡ k
+
+innermost : (stack : List Frame) (k : Bool) → wraps_of stack ≡ Some k → IsInnermost stack k
+innermost [] k e = absurd (cc)
+innermost (f ∷ fs) k e = record { frame = f; stack_is = refl; wraps = cc }
 
 filled_end : (stack : List Frame) (f : Frame) (fs : List Frame) (at : ℕ) → stack ≡ f ∷ fs → IsFilled stack at → f.end ≡ Some at
 filled_end stack f fs at e full = subst (λ (s : List Frame). IsFilled s at) e full
 
--- the same, by the frame that was popped
-pub tells_popped : (w : Machine) (f : Frame) (t : Told) → w.phase ≡ phase.Between → IsFilled w.stack w.offset → innermost_of w.stack ≡ Some f → ending_of f ≡ t
-    → Continues w (record w { stack = drop 1 w.stack; events = w.events + 1 }) [] (t ∷ [])
-tells_popped w f t e full is same =
-    let stack : w.stack ≡ f ∷ drop 1 w.stack = innermost_cons w.stack f is in
-    subst (λ (x : Told). Continues w (record w { stack = drop 1 w.stack; events = w.events + 1 }) [] (x ∷ [])) same
-    (tells_filled w e f (drop 1 w.stack) stack (filled_end w.stack f (drop 1 w.stack) w.offset stack full))
-
-pub ending_by : (f : Frame) (k : Bool) → f.wrapper ≡ k → ending_of f ≡ (if k then Leave else Close None)
-ending_by f k e = ap (λ (w : Bool). if w then Leave else Close None) e
+-- the same, by what the frame says that was popped
+pub tells_popped : (w : Machine) (k : Bool) → w.phase ≡ phase.Between → IsFilled w.stack w.offset → wraps_of w.stack ≡ Some k
+    → Continues w (record w { stack = drop 1 w.stack; events = w.events + 1 }) [] ((if k then Leave else Close None) ∷ [])
+tells_popped w k e full is =
+    let i : IsInnermost w.stack k = innermost w.stack k is in
+    subst (λ (x : Told). Continues w (record w { stack = drop 1 w.stack; events = w.events + 1 }) [] (x ∷ [])) (ap (λ (b : Bool). if b then Leave else Close None) i.wraps)
+    (tells_filled w e i.frame (drop 1 w.stack) i.stack_is (filled_end w.stack i.frame (drop 1 w.stack) w.offset i.stack_is full))
 
 -- an end before the bound
 within_less : (b : Option ℕ) (m n : ℕ) → m ≤ n → Within b n → Within b m

@@ -4,7 +4,6 @@ use Rattle.tlv_head.specs.declared.header.Size.TheVariants.{Definite}
 use Rattle.tlv_head.specs.Header.{Heading, IsHeading, announced, holds, octets_of}
 use Rattle.tlv_head.specs.Progress.{Progress}
 use Rattle.tlv_head.specs.Refusal.{IsFront}
-use Rattle.tlv_walk.specs.declared.stack.Frame.{Frame}
 use Rattle.tlv_walk.specs.Phase as phase
 use Rattle.tlv_walk.specs.Events.{AreEqualJoined, Told, Open, Begin, Bytes, Enter, Unused, apart, events, opens}
 use Rattle.tlv_walk.specs.Forest.{Forest, Stop, Awaiting, lead, opening, spell}
@@ -12,7 +11,7 @@ use Rattle.tlv_walk.specs.Inside.{is_among}
 use Rattle.tlv_walk.specs.Machine.{Machine}
 use Rattle.tlv_walk.specs.Private.Machine.{behind_header}
 use Rattle.tlv_walk.specs.Place.{Fits, IsEntry, IsHeadAt, IsOpen, Place}
-use Rattle.tlv_walk.specs.Stack.{Within, bound_of}
+use Rattle.tlv_walk.specs.Stack.{Frame, Within, bound_of}
 use Rattle.tlv_walk.specs.State.{HasState, IsPhaseOf, Layer, Tail, Between, InContents, BeforeUnused, InHeader, InEnd, State, events_layers, events_tail, frame_of, frames_of, place_in, place_of, spell_layers, spell_tail}
 use Rattle.tlv_walk.specs.Private.Tells.{Continues}
 use Rattle.tlv_walk.proofs.Moves.{between_tail, phase_at, spelled_behind, tail_state, told_behind, with_tail}

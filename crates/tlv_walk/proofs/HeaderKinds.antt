@@ -9,7 +9,6 @@ use Rattle.tlv_head.specs.Header.{Heading, announced, holds, is_wrapper, octets_
 use Rattle.tlv_head.specs.Progress.{Progress}
 use Rattle.tlv_walk.specs.declared.event.Kind.{Kind}
 use Rattle.tlv_walk.specs.declared.event.Kind.TheVariants as kind
-use Rattle.tlv_walk.specs.declared.stack.Frame.{Frame}
 use Rattle.tlv_walk.specs.Phase.{Phase}
 use Rattle.tlv_walk.specs.Phase as phase
 use Rattle.tlv_walk.specs.Events.{Told, Open, Begin, Enter}
@@ -18,7 +17,7 @@ use Rattle.tlv_walk.specs.Machine.{Machine, found_in, frame_with, next_wrapper}
 use Rattle.tlv_walk.specs.Private.Machine.{CanEnter, Enters, behind_header}
 use Rattle.tlv_walk.specs.Wrappers.{enters}
 use Rattle.tlv_walk.specs.Inside.{is_among}
-use Rattle.tlv_walk.specs.Stack.{Within, bound_of}
+use Rattle.tlv_walk.specs.Stack.{Frame, Within, bound_of}
 use Rattle.tlv_walk.specs.Private.Tells.{Continues}
 use Rattle.tlv_head.specs.Read.{BeginsWithFields}
 use Rattle.tlv_head.specs.Refusal.{BeginsWith}

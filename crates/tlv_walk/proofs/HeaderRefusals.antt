@@ -11,7 +11,6 @@ use Rattle.tlv_head.specs.Refusal.{IsRefusedOctet, tag_too_long, reserved_length
 use Rattle.tlv_head.specs.Progress.{Fits, Progress}
 use Rattle.tlv_head.specs.Push.{Completes, IsRefused}
 use Rattle.tlv_head.proofs.Front.{header-two}
-use Rattle.tlv_walk.specs.declared.stack.Frame.{Frame}
 use Rattle.tlv_walk.specs.Phase as phase
 use Rattle.tlv_walk.specs.Ending.{IsEnding, IsFault, fault, no_room, overrun, refused_octet, too_deep}
 use Rattle.tlv_walk.specs.Forest.{Begun}
@@ -20,7 +19,7 @@ use Rattle.tlv_walk.specs.Inside.{is_among}
 use Rattle.tlv_walk.specs.Machine.{Machine}
 use Rattle.tlv_walk.specs.Place.{Fits as FitsAt, IsHeadAt, Place}
 use Rattle.tlv_walk.specs.Private.ReadsOn.{HandsOver}
-use Rattle.tlv_walk.specs.Stack.{Within, bound_of}
+use Rattle.tlv_walk.specs.Stack.{Frame, Within, bound_of}
 use Rattle.tlv_walk.specs.Private.Stack.{left_to}
 use Rattle.tlv_walk.specs.State.{HasState, InHeader, State, place_of}
 use Rattle.tlv_walk.specs.Private.Tells.{RefusesOctet}

@@ -13,8 +13,7 @@ use Rattle.tlv_walk.specs.Machine.{Machine, found_in, next_wrapper}
 use Rattle.tlv_walk.specs.Wrappers.{enters}
 use Rattle.tlv_walk.proofs.Wrappers.{enters-append}
 use Rattle.tlv_walk.specs.Place.{Fits, IsOpen, Place, after, is_indefinite}
-use Rattle.tlv_walk.specs.declared.stack.Frame.{Frame}
-use Rattle.tlv_walk.specs.Stack.{IsInIndefinite, Within, bound_of}
+use Rattle.tlv_walk.specs.Stack.{Frame, IsInIndefinite, Within, bound_of}
 use Rattle.tlv_walk.specs.State.{AreWhole, HasState, IsContents, IsPhaseOf, Layer, Tail, Between, InContents, BeforeUnused, InHeader, InEnd, State, begins_among, events_layers, frames_of, place_in, place_of, spell_layers}
 use Rattle.tlv_walk.specs.Private.Tells.{Continues}
 use Rattle.tlv_walk.proofs.Joined.{apart-before, apart-from_joined, apart-more, joined-from_apart}

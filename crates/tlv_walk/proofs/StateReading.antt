@@ -3,8 +3,8 @@ use Rattle.std.proofs.Common.{◌≡◌, inl, inr, ℕ, ◌+◌, true, false, eq
 use Rattle.std.proofs.lemmas.Bool.{cases_eq}
 use Rattle.tlv_head.specs.declared.header.Size.TheVariants.{Definite}
 use Rattle.tlv_head.specs.Header.{Heading, announced, octets_of}
+use Rattle.tlv_walk.specs.Stack.{Frame}
 use Rattle.tlv_walk.specs.declared.framing.Framing.{Framing}
-use Rattle.tlv_walk.specs.declared.stack.Frame.{Frame}
 use Rattle.tlv_walk.specs.Phase.{Phase}
 use Rattle.tlv_walk.specs.Phase as phase
 use Rattle.tlv_walk.specs.Events.{Told, AreEqualJoined, Begin, Bytes, End, apart, events}

@@ -1,12 +1,11 @@
 -- Whether an event waits, by the code's tests and by the list of those that do.
 use Rattle.std.proofs.Common.{◌≡◌, ℕ, Bool, true, false, eqb, if◌then◌else◌, List, [], ◌∷◌, Option, Some, None, refl, ap, ◌∙◌, ne_eqb, eq-eqb, IsTrue, ◌↔◌}
-use Rattle.tlv_walk.specs.declared.stack.Frame.{Frame}
 use Rattle.tlv_walk.specs.Phase.{Phase}
 use Rattle.tlv_walk.specs.Phase as phase
 use Rattle.tlv_walk.specs.Events.{Told, End}
 use Rattle.tlv_walk.specs.Machine.{IsReady, Machine}
 use Rattle.tlv_walk.specs.Private.Machine.{IsWaiting, IsWaitingIn}
-use Rattle.tlv_walk.specs.Stack.{IsFilled}
+use Rattle.tlv_walk.specs.Stack.{Frame, IsFilled}
 use Rattle.tlv_walk.specs.State.{NothingWaits, ending_of, endings_at, is_end, waiting_in, waiting_of}
 use Rattle.tlv_walk.proofs.StateEndings.{ready-waits}
 

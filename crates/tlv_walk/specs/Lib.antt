@@ -12,6 +12,7 @@ pub mod Events
 pub mod Ending
 pub mod Wrappers
 pub mod Stack
+pub mod FrameFields
 pub mod Phase
 pub mod Machine
 pub mod WalkerFields

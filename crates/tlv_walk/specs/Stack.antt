@@ -1,6 +1,14 @@
 -- The open elements that hold others, innermost first.
-use Rattle.std.specs.Prelude.{◌≡◌, ℕ, ◌≤◌, true, List, [], ◌∷◌, Option, Some, None, IfSome}
-use Rattle.tlv_walk.specs.declared.stack.Frame.{Frame}
+use Rattle.std.specs.Prelude.{◌≡◌, ℕ, ◌≤◌, Bool, true, List, [], ◌∷◌, Option, Some, None, IfSome}
+
+-- an open element that holds others
+pub record Frame : Type 0 where
+  -- where its contents end, if its length is definite
+  pub end : Option ℕ
+  -- where the innermost definite element ends that is this one or holds it
+  pub bound : Option ℕ
+  -- it is a string that wraps encodings
+  pub wrapper : Bool
 
 -- the end of the innermost definite element
 abbrev pub bound_of : List Frame → Option ℕ

@@ -10,11 +10,10 @@ use Rattle.tlv_walk.specs.declared.event.Event.{Event}
 use Rattle.tlv_walk.specs.declared.event.Kind.{Kind}
 use Rattle.tlv_walk.specs.declared.event.Kind.TheVariants as kind
 use Rattle.tlv_head.specs.declared.header.HeaderFields.{HeaderFields}
-use Rattle.tlv_walk.specs.declared.stack.Frame.{Frame}
 use Rattle.tlv_walk.specs.declared.walker.quick.WholePrimitive.{WholePrimitive}
 use Rattle.tlv_walk.specs.Inside.{is_among}
 use Rattle.tlv_walk.specs.Phase.{Phase, Between, InHeader, InContents, BeforeUnused, InEnd, Failed}
-use Rattle.tlv_walk.specs.Stack.{IsFilled, Within, bound_of}
+use Rattle.tlv_walk.specs.Stack.{Frame, IsFilled, Within, bound_of}
 use Rattle.tlv_walk.specs.Private.Stack.{room_of}
 use Rattle.tlv_walk.specs.Machine.{Machine, IsTold, TellsOne, HasOctets, next_wrapper, frame_with}
 

@@ -53,10 +53,10 @@ impl Walker {
         ensures octets { HasOctets result }
     {
         self.events += 1;
-        let Some(frame) = self.stack.pop() else {
+        let Some(wrapper) = self.stack.pop() else {
             unreachable!();
         };
-        if frame.wrapper {
+        if wrapper {
             return Event::Leave;
         }
         Event::Close(None)

@@ -14,7 +14,7 @@ ghost use Rattle.tlv_walk.specs.Private.Tells.{TellsAtOnce, TellsStep};
 
 use super::{Phase, Walker};
 use crate::event::Kind;
-use crate::stack::{Frame, room_to};
+use crate::stack::room_to;
 use crate::{Event, Step};
 use std::mem::replace;
 use tlv_head::{Head, HeadReader, Header, HeaderFields, Size, read_header, read_short};
@@ -165,12 +165,7 @@ impl Walker {
             self.phase = Phase::InContents(length);
             return Kind::Primitive;
         }
-        let bound = end.or(self.stack.bound());
-        self.stack.push(Frame {
-            end,
-            bound,
-            wrapper: !fields.constructed,
-        });
+        self.stack.push(end, !fields.constructed);
         if fields.constructed {
             return Kind::Constructed;
         }

@@ -45,14 +45,14 @@ impl Walker {
         if length > (octets.len() - header) as u64 {
             return None;
         }
-        let octets = header + length as usize;
-        if !self.stack.reaches(self.offset + octets as u64) {
+        let count = header + length as usize;
+        if !self.stack.reaches(self.offset + count as u64) {
             return None;
         }
         Some(WholePrimitive {
             fields,
             header,
-            octets,
+            octets: count,
         })
     }
 
