@@ -12,7 +12,6 @@ pub mod Events
 pub mod Ending
 pub mod Wrappers
 pub mod Stack
-pub mod FrameFields
 pub mod Phase
 pub mod Machine
 pub mod WalkerFields

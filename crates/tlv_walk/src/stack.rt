@@ -22,7 +22,7 @@ impl Model for Frame {
 
     ghost Value = { Seen };
 
-    ghost use Rattle.tlv_walk.specs.FrameFields.{HasEnd, frame_from};
+    ghost use Rattle.tlv_walk.specs.Private.FrameFields.{HasEnd, frame_from};
 
     ghost view = { frame_from };
 
