@@ -20,9 +20,9 @@ use std::mem::replace;
 use tlv_head::{Head, HeadReader, Header, HeaderFields, Size, read_header, read_short};
 
 impl Walker {
-    /// Takes a header of few octets that lies whole in the piece, if it may stand here.
+    /// Takes a constructed header of few octets that lies whole in the piece, if it may stand here.
     #[inline(always)]
-    pub(super) fn short_header<'a>(&mut self, piece: &mut &'a [u8]) -> Option<Event<'a>>
+    pub(super) fn constructed_header<'a>(&mut self, piece: &mut &'a [u8]) -> Option<Event<'a>>
         requires phase { self.old.phase ≡ phases.Between }
         requires limit { self.old.offset + length piece.old.now ≤ 2 ^ 40 }
         ensures steps { StepsAtOnce self.old self.new piece.old.now piece.new.now result }
@@ -30,6 +30,9 @@ impl Walker {
     {
         let named = self.framing.inside.contains(self.offset);
         let (fields, count) = read_short(self.offset, named, *piece)?;
+        if !fields.constructed {
+            return None;
+        }
         self.take_header(&fields, count, piece)
     }
 

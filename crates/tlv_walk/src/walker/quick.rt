@@ -78,8 +78,8 @@ impl Walker {
         self.has_element = true;
     }
 
-    /// The next event, where few instructions find it: an end that waits, contents, end-of-contents octets, or a header of
-    /// few octets that may stand here. Otherwise nothing is taken, and [`Walker::step`] says what comes next.
+    /// The next event, where few instructions find it: an end that waits, contents, end-of-contents octets, or a constructed
+    /// header of few octets that may stand here. Otherwise nothing is taken, and [`Walker::step`] says what comes next.
     #[inline(always)]
     pub(crate) fn quick_event<'a>(&mut self, piece: &mut &'a [u8]) -> Option<Event<'a>>
         requires { self.old.offset + length piece.old.now ≤ 2 ^ 40 }
@@ -98,19 +98,13 @@ impl Walker {
         if !matches!(self.phase, Phase::Between) {
             return None;
         }
-        let octets: &'a [u8] = *piece;
-        if let [first, ..] = octets
-            && *first & 0x1f == 0x1f
-        {
-            // No end comes before such an octet unless the innermost element is filled, and then no header fits in it.
-            return self.short_header(piece);
-        }
         if self.stack.is_filled(self.offset) {
             return Some(self.end_filled());
         }
-        if let Some(event) = self.end_octets(piece) {
-            return Some(event);
+        match *piece {
+            [0, ..] => self.end_octets(piece),
+            [first, ..] if *first & 0x20 != 0 => self.constructed_header(piece),
+            _ => None,
         }
-        self.short_header(piece)
     }
 }
