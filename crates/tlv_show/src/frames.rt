@@ -9,7 +9,7 @@ use std::marker::Model;
 use tlv_head::Header;
 
 /// What is kept of an element that holds others, and of those that it holds so far.
-#[derive(Clone, Copy, Debug, Default)]
+#[derive(Clone, Copy, Default)]
 pub(crate) struct Frame {
     /// Where the holder begins.
     pub at: u64,
@@ -78,7 +78,7 @@ pub(crate) fn note_element(frame: &mut Frame, is_primitive: bool, size: u64, is_
 }
 
 /// A frame, and how many elements are open inside its element that have none.
-#[derive(Clone, Copy, Debug, Default)]
+#[derive(Clone, Copy, Default)]
 pub(crate) struct Kept {
     pub frame: Frame,
     pub plain: u8,
