@@ -126,15 +126,6 @@ noted-by Cer w h =
     (where_it (h.constructed && w.has_segments) C03)
     (where_it (w.has_segments && w.is_not_full) C04)
 
--- outside of strings a frame does not matter
-pub notes-outside : (rules : Rules) (w t : Frame) (h : Heading) → w.has_segments ≡ false → t.has_segments ≡ false → header_notes rules w h ≡ header_notes rules t h
-notes-outside rules w t h e f = nothing w e ∙ sym (nothing t f)
-  where
-    nothing : (v : Frame) → v.has_segments ≡ false → header_notes rules v h ≡ shown rules (rows_by false false (h.constructed && false) false h)
-    nothing v e =
-        sym (noted-by rules v h)
-        ∙ ap (λ (k : Bool). shown rules (rows_by (k && v.has_bits && v.is_unused) (k && not (is_a (if v.has_bits then bit_string else octet_string) h)) (h.constructed && k) (k && v.is_not_full) h)) e
-
 in-bits : (holder : Option Heading) (u : Bool)
     → ((is_held_by has_segments holder && is_held_by (λ h. has_segments h && is_a bit_string h) holder) && (is_held_by has_segments holder && u))
     ≡ (is_held_by (λ h. has_segments h && is_a bit_string h) holder && u)

@@ -33,7 +33,7 @@ loop-finding-preserved c =
     let l = c.as_slice-finding-items.result.now in
     let old = c.loop-finding.invariant in
     elim c.if-is_shown.branch [
-      then-is_shown w ↦
+      | then-is_shown w ↦
           rw w.found-is
           (record {
             kept = kept (shows c.args.rules) l _ c.loop-finding.finding-index _ c.loop-finding-test.true old.kept _ (sym c.is_shown.ensures ∙ w.if-is_shown.true) w.push.ensures.items;

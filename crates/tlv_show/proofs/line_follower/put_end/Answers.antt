@@ -8,7 +8,7 @@ pub returns-then-not-is_open : goal.returns-then-not-is_open
 returns-then-not-is_open g c =
     let told = g.D.Drain.told in
     elim c.then-not-is_open.branch [
-      then-not-is_open-via-then-not-is_open w ↦ rw w.if-not-is_open.true (puts_nothing told _ tt)
+      | then-not-is_open-via-then-not-is_open w ↦ rw w.if-not-is_open.true (puts_nothing told _ tt)
       | then-not-is_open-via-else-not-is_open+then-left-ne0 w ↦
           let some : eqb c.args.value.now.left 0 ≡ false = grind (arith, nat_tests, w.left.ensures, w.if-left-ne0.true) in
           rw (w.if-not-is_open.false, some) (puts_nothing told _ tt)
