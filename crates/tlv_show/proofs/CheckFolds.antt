@@ -24,7 +24,7 @@ use Rattle.tlv_show.specs.declared.style.Style.TheVariants.{Check}
 use Rattle.tlv_show.specs.CheckStep.{all_written, check_step}
 use Rattle.tlv_show.specs.Conditions.{end_conditions, header_conditions}
 use Rattle.tlv_show.specs.DumpText.{end_place}
-use Rattle.tlv_show.specs.FinderState.{FinderState, Finds, OpenValue, checked_by, closed_by, count_up, ended_by, find_open, frame_of, header_notes, no_findings, top_frame}
+use Rattle.tlv_show.specs.FinderState.{FinderState, Finds, OpenValue, checked_by, closed_by, count_up, ended_by, find_open, frame_under, header_notes, no_findings, top_frame}
 use Rattle.tlv_show.specs.Private.FinderState.{find}
 use Rattle.tlv_show.specs.Found.{contents_findings, header_findings, shows}
 use Rattle.tlv_show.specs.Private.Found.{end_findings}
@@ -87,7 +87,7 @@ by-frames s (w ∷ outer) = refl
 
 opened-count : (s : FinderState) (h : Heading) → (find_open s h).state.count ≡ count_up s.count (length (find_open s h).found)
 opened-count s h =
-    ap (λ (n : ℕ). count_up n (length (header_notes s.rules s.frame h))) (either-count s (record s { frame = frame_of h; outer = s.frame ∷ s.outer }) (nat_lt (length s.outer) 128) refl)
+    ap (λ (n : ℕ). count_up n (length (header_notes s.rules s.frame h))) (either-count s (record s { frame = frame_under s.frame h; outer = s.frame ∷ s.outer }) (nat_lt (length s.outer) 128) refl)
 
 -- an event's findings are counted
 counted-one : (s : FinderState) (e : Told) → (find s e).state.count ≡ count_up s.count (length (find s e).found)

@@ -13,7 +13,7 @@ use Rattle.tlv_value.specs.Types.{is_primitive}
 use Rattle.tlv_walk.specs.declared.follow.Go.{Go}
 use Rattle.tlv_walk.specs.Events.{Told, Begin, Bytes, End, Pad, closes, end_offset, events, opens}
 use Rattle.tlv_walk.specs.Follow.{Following, followed}
-use Rattle.tlv_walk.specs.Forest.{Forest, Stop, Fill, Whole, Closed, Partial, Entered, Awaiting, Begun, Zero, extent, is_whole, lead, opening, spell}
+use Rattle.tlv_walk.specs.Forest.{Forest, Stop, Fill, Whole, Closed, Partial, Entered, Awaiting, Begun, Zero, end_octets, extent, is_whole, lead, opening, spell}
 use Rattle.tlv_walk.specs.Place.{IsOpen, Place, after, inside_of as place_inside}
 use Rattle.tlv_walk.proofs.Spellings.{length-closed, length-whole}
 use Rattle.tlv_show.specs.declared.frames.Frame.{Frame}
@@ -23,7 +23,7 @@ use Rattle.tlv_show.specs.CheckStep.{all_written}
 use Rattle.tlv_show.specs.Dumped.{Dumping}
 use Rattle.tlv_show.specs.DumpStep.{Showing, dump_step}
 use Rattle.tlv_show.specs.DumpText.{end_place}
-use Rattle.tlv_show.specs.FinderState.{Finds, frame_of, header_notes, noted}
+use Rattle.tlv_show.specs.FinderState.{Finds, frame_under, header_notes, noted}
 use Rattle.tlv_show.specs.Found.{contents_findings, header_findings}
 use Rattle.tlv_show.specs.Private.Found.{end_findings}
 use Rattle.tlv_show.specs.Items.{Item, FindingAt, OpeningLine, ClosingLine, WholePrimitive, OpenPrimitive, PaddingLine, heads, items}
@@ -35,7 +35,7 @@ use Rattle.tlv_show.specs.Private.Site.{first_octet}
 use Rattle.tlv_show.specs.Texts.{item_text}
 use Rattle.tlv_show.proofs.DumpSteps.{all_on}
 use Rattle.tlv_show.proofs.DumpTexts.{standing as lines_at, at_level, closer_told, fill_told, holder_told, no_padding, padded_behind, part_told, primitive_told}
-use Rattle.tlv_show.proofs.FinderFolds.{knows-behind, knows-inside, knows-padding, not-constructed, noted_all, unused-of}
+use Rattle.tlv_show.proofs.FinderFolds.{at-under, knows-behind, knows-inside, knows-padding, not-constructed, noted_all, unused-of}
 use Rattle.tlv_show.proofs.FinderTold.{behind_contents, behind_end, behind_header, behind_primitive, closed-find, opened-find, primitive-find, standing}
 use Rattle.tlv_show.proofs.HeaderNotes.{Knows, header-same}
 use Rattle.tlv_show.proofs.DumpEvents.{pair, shows, then_shown, texts, opens-by, closes-by, primitive-by, part-by}
@@ -92,7 +92,7 @@ module _ (style : Layout) (names : Table) (rules : Rules) where
   opened-shown : (p : Place) (holder : Option Heading) (before : Before) (w : Frame) (outer : List Frame) (n : ℕ) (h : Heading) → Known p holder before w outer
       → h.offset ≡ p.at → p.depth < 128 → p.at + length (opening h) ≤ 2 ^ 64 - 1
       → followed dump_step (start p (is_padding before) w outer n) (opens h)
-      ≡ shows (start (place_inside p h) false (frame_of h) (w ∷ outer) (behind_header rules w h n)) (all_written (Dump style.pure) (length outer) h.offset (header_notes rules w h) ++ holder_line (at_level style names p.depth) h)
+      ≡ shows (start (place_inside p h) false (frame_under w h) (w ∷ outer) (behind_header rules w h n)) (all_written (Dump style.pure) (length outer) h.offset (header_notes rules w h) ++ holder_line (at_level style names p.depth) h)
   opened-shown p holder before w outer n h k there low far =
       opens-by (lines_at style names p.depth p.at (is_padding before)) (standing rules w outer n) h h.constructed (h.number == 3)
       ∙ ap₂ (λ (d : Following Dumping) (f : Finds). shows (pair d.state f.state) (texts style f ++ d.put))
@@ -167,7 +167,7 @@ module _ (style : Layout) (names : Table) (rules : Rules) where
       let q : Place = after p (extent h inside) in
       let i_place : Place = place_inside p h in
       let size = length-closed h inside rest in
-      let i = told i_place (Some h) Start (frame_of h) (w ∷ outer) inside v.1 (omega (arith, b, size)) (knows-inside s h, omega (arith, k.1), λ e. absurd (cc (e))) in
+      let i = told i_place (Some h) Start (frame_under w h) (w ∷ outer) inside v.1 (omega (arith, b, size)) (knows-inside w s h, omega (arith, k.1), λ e. absurd (cc (e))) in
       let t = told q holder (Sibling h None) (noted w (is_primitive h) (announced h.size) false) outer rest v.2 (omega (arith, b, size))
       (knows-behind w s (behind_holder s h inside) h None false k.0 refl refl refl, k.1, k.2) in
       let end : ℕ = p.at + length (opening h) + length (spell inside) in
@@ -176,21 +176,23 @@ module _ (style : Layout) (names : Table) (rules : Rules) where
       let first : List ℕ = all_written (Dump style.pure) (length outer) h.offset (header_notes rules w h) in
       let last : List ℕ = all_written (Dump style.pure) (length outer) h.offset (end_findings rules h (heads inside)) in
       let held : List ℕ = texts_of (items rules (inside_of s h) inside) in
-      let closes-shown : (m : ℕ) → followed dump_step (pair (lines_at style names (p.depth + 1) end false) (standing rules (noted_all (frame_of h) inside) (w ∷ outer) m)) (closes h inside ∷ [])
+      let closes-shown : (m : ℕ) → followed dump_step (pair (lines_at style names (p.depth + 1) end false) (standing rules (noted_all (frame_under w h) inside) (w ∷ outer) m)) (closes h inside ∷ [])
       ≡ shows (start q false (noted w (is_primitive h) (announced h.size) false) outer (behind_end rules h inside m)) (close ++ last) =
       λ m.
-      closes-by (lines_at style names (p.depth + 1) end false) (standing rules (noted_all (frame_of h) inside) (w ∷ outer) m) (end_offset h.size (h.offset + length (opening h) + length (spell inside))) h.constructed
+      closes-by (lines_at style names (p.depth + 1) end false) (standing rules (noted_all (frame_under w h) inside) (w ∷ outer) m) (end_offset h.size (h.offset + length (opening h) + length (spell inside))) h.constructed
       ∙ ap₂ (λ (d : Following Dumping) (f : Finds). shows (pair d.state f.state) (d.put ++ texts style f))
       (closer_told style names p.depth end h inside (omega (arith, v.0.0.header.offset)) v.0.0.header.valid.allowed (omega (arith, b, size)))
       (closed-find rules i_place w outer m h inside v.1 v.0.1)
+      ∙ ap (λ (l : List ℕ). shows (pair (lines_at style names p.depth (end + length (end_octets h.size)) false) (standing rules (noted w (is_primitive h) (announced h.size) false) outer (behind_end rules h inside m))) (close ++ l))
+      (at-under rules i_place w h inside v.1 v.0.1 (all_written (Dump style.pure) (length outer)) (λ at. refl))
       ∙ ap (λ (at : ℕ). shows (pair (lines_at style names p.depth at false) (standing rules (noted w (is_primitive h) (announced h.size) false) outer (behind_end rules h inside m))) (close ++ last)) (omega arith) in
-      let held-shown : (m : ℕ) → (r : ℕ) × (followed dump_step (start i_place false (frame_of h) (w ∷ outer) m) (events inside)
-      ≡ shows (pair (lines_at style names (p.depth + 1) end false) (standing rules (noted_all (frame_of h) inside) (w ∷ outer) r)) held) =
+      let held-shown : (m : ℕ) → (r : ℕ) × (followed dump_step (start i_place false (frame_under w h) (w ∷ outer) m) (events inside)
+      ≡ shows (pair (lines_at style names (p.depth + 1) end false) (standing rules (noted_all (frame_under w h) inside) (w ∷ outer) r)) held) =
       λ m.
       let r = i.stands m v.0.1 in (
         r.0,
-        as_shows (start i_place false (frame_of h) (w ∷ outer) m) _ (events inside) held
-            (r.1 ∙ ap (λ (x : Bool). pair (lines_at style names (p.depth + 1) end x) (standing rules (noted_all (frame_of h) inside) (w ∷ outer) r.0)) (no_padding style names i_place inside refl v.1)) (i.text m),
+        as_shows (start i_place false (frame_under w h) (w ∷ outer) m) _ (events inside) held
+            (r.1 ∙ ap (λ (x : Bool). pair (lines_at style names (p.depth + 1) end x) (standing rules (noted_all (frame_under w h) inside) (w ∷ outer) r.0)) (no_padding style names i_place inside refl v.1)) (i.text m),
       ) in
       let element : (n : ℕ) → (m : ℕ) × (followed dump_step (start p (is_padding before) w outer n) (opens h ++ (events inside ++ closes h inside ∷ []))
       ≡ shows (start q false (noted w (is_primitive h) (announced h.size) false) outer m) ((first ++ line) ++ (held ++ (close ++ last)))) =
@@ -198,10 +200,10 @@ module _ (style : Layout) (names : Table) (rules : Rules) where
       let a : ℕ = behind_header rules w h n in
       let r = held-shown a in (
         behind_end rules h inside r.0,
-        then_shown (start p (is_padding before) w outer n) (start i_place false (frame_of h) (w ∷ outer) a) (first ++ line) (opens h) (events inside ++ closes h inside ∷ [])
+        then_shown (start p (is_padding before) w outer n) (start i_place false (frame_under w h) (w ∷ outer) a) (first ++ line) (opens h) (events inside ++ closes h inside ∷ [])
             (opened-shown p holder before w outer n h k v.0.0.header.offset (v.0.0.depth refl) (omega (arith, b, size)))
             ∙ ap (λ (x : Following Showing). record x { put = (first ++ line) ++ x.put })
-            (then_shown (start i_place false (frame_of h) (w ∷ outer) a) (pair (lines_at style names (p.depth + 1) end false) (standing rules (noted_all (frame_of h) inside) (w ∷ outer) r.0)) held (events inside) (closes h inside ∷ []) r.1
+            (then_shown (start i_place false (frame_under w h) (w ∷ outer) a) (pair (lines_at style names (p.depth + 1) end false) (standing rules (noted_all (frame_under w h) inside) (w ∷ outer) r.0)) held (events inside) (closes h inside ∷ []) r.1
             ∙ ap (λ (x : Following Showing). record x { put = held ++ x.put }) (closes-shown r.0)),
       ) in
       let es : List Told = opens h ++ (events inside ++ closes h inside ∷ []) in
@@ -244,13 +246,13 @@ module _ (style : Layout) (names : Table) (rules : Rules) where
   told p holder before w outer (Entered h inside) v b k =
       let s : Site = site p holder before in
       let size = length-append (opening h) (spell inside) in
-      let i = told (place_inside p h) (Some h) Start (frame_of h) (w ∷ outer) inside v.1 (omega (arith, b, size)) (knows-inside s h, omega (arith, k.1), λ e. absurd (cc (e))) in
+      let i = told (place_inside p h) (Some h) Start (frame_under w h) (w ∷ outer) inside v.1 (omega (arith, b, size)) (knows-inside w s h, omega (arith, k.1), λ e. absurd (cc (e))) in
       let first : List ℕ = all_written (Dump style.pure) (length outer) h.offset (header_notes rules w h) in
       let line : List ℕ = holder_line (at_level style names p.depth) h in
       record {
         text = λ n.
             ap (λ (x : Following Showing). x.put)
-            (then_shown (start p (is_padding before) w outer n) (start (place_inside p h) false (frame_of h) (w ∷ outer) (behind_header rules w h n)) (first ++ line) (opens h) (events inside)
+            (then_shown (start p (is_padding before) w outer n) (start (place_inside p h) false (frame_under w h) (w ∷ outer) (behind_header rules w h n)) (first ++ line) (opens h) (events inside)
             (opened-shown p holder before w outer n h k v.0.0.header.offset (v.0.0.depth refl) (omega (arith, b, size))))
             ∙ ap (λ (l : List ℕ). (first ++ line) ++ l) (i.text (behind_header rules w h n))
             ∙ append_assoc first line (texts_of (items rules (inside_of s h) inside))

@@ -5,6 +5,7 @@ use Rattle.std.proofs.lemmas.Bool.{eqb-true, true≢false}
 use Rattle.std.specs.List.{fold, list_all}
 use Rattle.std.specs.Prelude.{Option, None, eqb}
 use Rattle.tlv_head.specs.Header.{Heading, announced, is_universal, octets_of, wraps}
+use Rattle.tlv_value.specs.declared.finding.Finding.{Finding}
 use Rattle.tlv_value.specs.CheckState.{checked, has_unused, is_not_zero, type_noted, unchecked, unchecked_of}
 use Rattle.tlv_value.specs.Types.{bit_string, has_segments, is_a, is_primitive, octet_string}
 use Rattle.tlv_value.proofs.CheckPieces.{checked-none}
@@ -14,7 +15,7 @@ use Rattle.tlv_show.specs.declared.frames.Frame.{Frame}
 use Rattle.tlv_show.specs.declared.rules.Rules.{Rules}
 use Rattle.tlv_show.specs.declared.rules.Rules.TheVariants.{Ber, Der, Cer}
 use Rattle.tlv_show.specs.Conditions.{end_conditions, ends_empty, has_unused_bits, is_not_full}
-use Rattle.tlv_show.specs.FinderState.{end_notes, frame_of, noted, segment_noted}
+use Rattle.tlv_show.specs.FinderState.{end_notes, frame_of, frame_under, noted, segment_noted, top_frame}
 use Rattle.tlv_show.specs.Private.Found.{end_findings}
 use Rattle.tlv_show.specs.Items.{heads}
 use Rattle.tlv_show.specs.Site.{Sibling, Site, behind_padding, in_bit_string, in_string, inside_of}
@@ -27,8 +28,21 @@ never : (k : Bool) → false ≡ (k && false)
 never true = refl
 never false = refl
 
-pub knows-inside : (s : Site) (h : Heading) → Knows (frame_of h) (inside_of s h)
-knows-inside s h = record { segments = refl; bits = refl; unused = never (has_segments h); not_full = never (has_segments h) }
+pub knows-inside : (w : Frame) (s : Site) (h : Heading) → Knows (frame_under w h) (inside_of s h)
+knows-inside w s h = by w.has_segments (has_segments h) refl
+  where
+    of-string : Knows (frame_of h) (inside_of s h)
+    of-string = record { segments = refl; bits = refl; unused = never (has_segments h); not_full = never (has_segments h) }
+
+    by : (outside inside : Bool) → has_segments h ≡ inside → Knows (if outside || inside then frame_of h else top_frame) (inside_of s h)
+    by true inside e = of-string
+    by false true e = of-string
+    by false false e = record {
+      segments = sym e;
+      bits = ap (λ (k : Bool). k && is_a bit_string h) (sym e);
+      unused = never (has_segments h);
+      not_full = never (has_segments h);
+    }
 
 -- behind an element
 full-or-not : (k e : Bool) → not (not k && e) ≡ (k || not e)
@@ -161,7 +175,7 @@ stays-noted w primitive size unused = by w.has_segments
 stays-then : {u w t : Frame} → Stays u w → Stays w t → Stays u t
 stays-then a b = record { at = b.at ∙ a.at; size = b.size ∙ a.size; primitive = b.primitive ∙ a.primitive }
 
-pub stays : (w : Frame) (f : Forest) → Stays w (noted_all w f)
+stays : (w : Frame) (f : Forest) → Stays w (noted_all w f)
 stays w Stop = record { at = refl; size = refl; primitive = refl }
 stays w (Fill rest) = stays w rest
 stays w (Whole h c rest) = stays-then (stays-noted w true (announced h.size) (has_unused (checked (unchecked h) c))) (stays (noted w true (announced h.size) (has_unused (checked (unchecked h) c))) rest)
@@ -251,7 +265,7 @@ no-ends Der w e = refl
 no-ends Cer w e = rw e refl
 
 -- what is found with an end, by the frame of what was held
-pub summed : (rules : Rules) (p : Place) (h : Heading) (inside : Forest) → IsOpen p inside → is_whole inside ≡ true → end_notes rules (noted_all (frame_of h) inside) ≡ end_findings rules h (heads inside)
+summed : (rules : Rules) (p : Place) (h : Heading) (inside : Forest) → IsOpen p inside → is_whole inside ≡ true → end_notes rules (noted_all (frame_of h) inside) ≡ end_findings rules h (heads inside)
 summed rules p h inside v e = by-segments (has_segments h) refl
   where
     by-segments : (k : Bool) → has_segments h ≡ k → end_notes rules (noted_all (frame_of h) inside) ≡ end_findings rules h (heads inside)
@@ -260,3 +274,45 @@ summed rules p h inside v e = by-segments (has_segments h) refl
         let r = sums-up p (frame_of h) 0 inside v e refl in
         ap (end_notes rules) (all-outside (frame_of h) inside c) ∙ no-ends rules (frame_of h) c
         ∙ sym (no-ends rules (segments_noted (frame_of h) inside) (r.segments ∙ c)) ∙ segments-summed rules p h inside v e
+
+-- ---- the same where nothing is to be known of what was held
+
+module _ (rules : Rules) (p : Place) (w : Frame) (h : Heading) (inside : Forest) (v : IsOpen p inside) (whole : is_whole inside ≡ true) where
+  -- an element that is no string: nothing is found with its end
+  nothing-ends : has_segments h ≡ false → end_findings rules h (heads inside) ≡ []
+  nothing-ends e = sym (summed rules p h inside v whole) ∙ ap (end_notes rules) (all-outside (frame_of h) inside e) ∙ no-ends rules (frame_of h) e
+
+  pub summed-under : end_notes rules (noted_all (frame_under w h) inside) ≡ end_findings rules h (heads inside)
+  summed-under = by w.has_segments (has_segments h) refl
+    where
+      by : (outside inside_it : Bool) → has_segments h ≡ inside_it → end_notes rules (noted_all (if outside || inside_it then frame_of h else top_frame) inside) ≡ end_findings rules h (heads inside)
+      by true inside_it e = summed rules p h inside v whole
+      by false true e = summed rules p h inside v whole
+      by false false e = ap (end_notes rules) (all-outside top_frame inside refl) ∙ no-ends rules top_frame refl ∙ sym (nothing-ends e)
+
+  -- where it begins does not matter where nothing is found
+  pub at-under : {T : Type 0} (put : ℕ → List Finding → List T) → ((at : ℕ) → put at [] ≡ [])
+      → put (noted_all (frame_under w h) inside).at (end_findings rules h (heads inside)) ≡ put h.offset (end_findings rules h (heads inside))
+  at-under put none = by w.has_segments (has_segments h) refl
+    where
+      kept : put (noted_all (frame_of h) inside).at (end_findings rules h (heads inside)) ≡ put h.offset (end_findings rules h (heads inside))
+      kept = ap (λ (at : ℕ). put at (end_findings rules h (heads inside))) (stays (frame_of h) inside).at
+
+      by : (outside inside_it : Bool) → has_segments h ≡ inside_it
+          → put (noted_all (if outside || inside_it then frame_of h else top_frame) inside).at (end_findings rules h (heads inside)) ≡ put h.offset (end_findings rules h (heads inside))
+      by true inside_it e = kept
+      by false true e = kept
+      by false false e =
+          let at : ℕ = (noted_all top_frame inside).at in
+          ap (put at) (nothing-ends e) ∙ none at ∙ sym (ap (put h.offset) (nothing-ends e) ∙ none h.offset)
+
+-- the holder of an element asks for its form and size only if it is a string
+pub noted-under : (w : Frame) (h : Heading) (inside : Forest) → noted w (noted_all (frame_under w h) inside).is_primitive (noted_all (frame_under w h) inside).size false ≡ noted w (is_primitive h) (announced h.size) false
+noted-under w h inside = by w.has_segments refl
+  where
+    by : (k : Bool) → w.has_segments ≡ k
+        → noted w (noted_all (if k || has_segments h then frame_of h else top_frame) inside).is_primitive (noted_all (if k || has_segments h then frame_of h else top_frame) inside).size false ≡ noted w (is_primitive h) (announced h.size) false
+    by true e = let r = stays (frame_of h) inside in ap₂ (λ (b : Bool) (size : ℕ). noted w b size false) r.primitive r.size
+    by false e =
+        let f : Frame = noted_all (if has_segments h then frame_of h else top_frame) inside in
+        outside w f.is_primitive f.size false e ∙ sym (outside w (is_primitive h) (announced h.size) false e)

@@ -16,7 +16,7 @@ use Rattle.tlv_walk.specs.Place.{IsOpen, Place, after, inside_of as place_inside
 use Rattle.tlv_show.specs.declared.frames.Frame.{Frame}
 use Rattle.tlv_show.specs.declared.rules.Rules.{Rules}
 use Rattle.tlv_show.specs.DumpText.{end_place}
-use Rattle.tlv_show.specs.FinderState.{FinderState, Finds, contents_notes, count_up, find_begin, find_bytes, find_close, find_end, find_open, frame_of, header_notes, noted}
+use Rattle.tlv_show.specs.FinderState.{FinderState, Finds, contents_notes, count_up, find_begin, find_bytes, find_close, find_end, find_open, frame_under, header_notes, noted}
 use Rattle.tlv_show.specs.Private.FinderState.{find}
 use Rattle.tlv_show.specs.Found.{contents_findings, header_findings, shows}
 use Rattle.tlv_show.specs.Private.Found.{end_findings}
@@ -26,7 +26,7 @@ use Rattle.tlv_show.specs.Site.{Site, behind, behind_holder, behind_padding, ins
 use Rattle.tlv_show.specs.Private.Site.{first_octet}
 use Rattle.tlv_show.specs.Texts.{is_finding}
 use Rattle.tlv_show.proofs.CheckLaws.{one-or-more}
-use Rattle.tlv_show.proofs.FinderFolds.{knows-behind, knows-inside, knows-padding, not-constructed, noted_all, stays, summed, unused-of}
+use Rattle.tlv_show.proofs.FinderFolds.{at-under, knows-behind, knows-inside, knows-padding, not-constructed, noted-under, noted_all, summed-under, unused-of}
 use Rattle.tlv_show.proofs.HeaderNotes.{Knows, header-same}
 
 -- what becomes of a finder, and the items that it told
@@ -109,7 +109,7 @@ module _ (rules : Rules) where
 
   pub opened-find : (w : Frame) (outer : List Frame) (n : ℕ) (h : Heading) → length outer < 128
       → find_open (standing w outer n) h
-      ≡ record { state = standing (frame_of h) (w ∷ outer) (behind_header w h n); level = length outer; at = h.offset; found = header_notes rules w h }
+      ≡ record { state = standing (frame_under w h) (w ∷ outer) (behind_header w h n); level = length outer; at = h.offset; found = header_notes rules w h }
   opened-find w outer n h few =
       let yes : nat_lt (length outer) 128 ≡ true = grind (arith, nat_tests) in
       rw yes refl
@@ -121,7 +121,7 @@ module _ (rules : Rules) where
   opened-by s h false false es = refl
 
   pub opened : (w : Frame) (outer : List Frame) (n : ℕ) (h : Heading) (es : List Told) → length outer < 128
-      → run (standing w outer n) (opens h ++ es) ≡ then_told (findings_at (length outer) h.offset (header_notes rules w h)) (run (standing (frame_of h) (w ∷ outer) (behind_header w h n)) es)
+      → run (standing w outer n) (opens h ++ es) ≡ then_told (findings_at (length outer) h.offset (header_notes rules w h)) (run (standing (frame_under w h) (w ∷ outer) (behind_header w h n)) es)
   opened w outer n h es few =
       opened-by (standing w outer n) h h.constructed (h.number == 3) es
       ∙ ap (λ (f : Finds). then_told (told_items f) (run f.state es)) (opened-find w outer n h few)
@@ -136,15 +136,13 @@ module _ (rules : Rules) where
   behind_end h inside n = count_up n (length (end_findings rules h (heads inside)))
 
   pub closed : (p : Place) (w : Frame) (outer : List Frame) (n : ℕ) (h : Heading) (inside : Forest) (es : List Told) → IsOpen p inside → is_whole inside ≡ true
-      → run (standing (noted_all (frame_of h) inside) (w ∷ outer) n) (closes h inside ∷ es)
+      → run (standing (noted_all (frame_under w h) inside) (w ∷ outer) n) (closes h inside ∷ es)
       ≡ then_told (findings_at (length outer) h.offset (end_findings rules h (heads inside))) (run (standing (noted w (is_primitive h) (announced h.size) false) outer (behind_end h inside n)) es)
   closed p w outer n h inside es v whole =
-      let f : Frame = noted_all (frame_of h) inside in
-      let r = stays (frame_of h) inside in
+      let f : Frame = noted_all (frame_under w h) inside in
       closed-by (standing f (w ∷ outer) n) (end_offset h.size (h.offset + length (opening h) + length (spell inside))) h.constructed es
-      ∙ ap (λ (fs : List Finding). then_told (findings_at (length outer) f.at fs) (run (standing (noted w f.is_primitive f.size false) outer (count_up n (length fs))) es)) (summed rules p h inside v whole)
-      ∙ ap (λ (at : ℕ). then_told (findings_at (length outer) at (end_findings rules h (heads inside))) (run (standing (noted w f.is_primitive f.size false) outer (behind_end h inside n)) es)) r.at
-      ∙ ap₂ (λ (b : Bool) (size : ℕ). then_told (findings_at (length outer) h.offset (end_findings rules h (heads inside))) (run (standing (noted w b size false) outer (behind_end h inside n)) es)) r.primitive r.size
+      ∙ ap (λ (fs : List Finding). then_told (findings_at (length outer) f.at fs) (run (standing (noted w f.is_primitive f.size false) outer (count_up n (length fs))) es)) (summed-under rules p w h inside v whole)
+      ∙ ap₂ (λ (put : List Item) (t : Frame). then_told put (run (standing t outer (behind_end h inside n)) es)) (at-under rules p w h inside v whole (findings_at (length outer)) (λ at. refl)) (noted-under w h inside)
 
   -- ---- a primitive
 
@@ -167,15 +165,12 @@ module _ (rules : Rules) where
   -- ---- what a finder makes of each end by itself
 
   pub closed-find : (p : Place) (w : Frame) (outer : List Frame) (n : ℕ) (h : Heading) (inside : Forest) → IsOpen p inside → is_whole inside ≡ true
-      → find_close (standing (noted_all (frame_of h) inside) (w ∷ outer) n)
-      ≡ record { state = standing (noted w (is_primitive h) (announced h.size) false) outer (behind_end h inside n); level = length outer; at = h.offset; found = end_findings rules h (heads inside) }
+      → find_close (standing (noted_all (frame_under w h) inside) (w ∷ outer) n)
+      ≡ record { state = standing (noted w (is_primitive h) (announced h.size) false) outer (behind_end h inside n); level = length outer; at = (noted_all (frame_under w h) inside).at; found = end_findings rules h (heads inside) }
   closed-find p w outer n h inside v whole =
-      let f : Frame = noted_all (frame_of h) inside in
-      let r = stays (frame_of h) inside in
-      let fs : List Finding = end_findings rules h (heads inside) in
-      ap (λ (gs : List Finding). record { state = standing (noted w f.is_primitive f.size false) outer (count_up n (length gs)); level = length outer; at = f.at; found = gs }) (summed rules p h inside v whole)
-      ∙ ap (λ (at : ℕ). record { state = standing (noted w f.is_primitive f.size false) outer (behind_end h inside n); level = length outer; at = at; found = fs }) r.at
-      ∙ ap₂ (λ (b : Bool) (size : ℕ). record { state = standing (noted w b size false) outer (behind_end h inside n); level = length outer; at = h.offset; found = fs }) r.primitive r.size
+      let f : Frame = noted_all (frame_under w h) inside in
+      ap (λ (gs : List Finding). record { state = standing (noted w f.is_primitive f.size false) outer (count_up n (length gs)); level = length outer; at = f.at; found = gs }) (summed-under rules p w h inside v whole)
+      ∙ ap (λ (t : Frame). record { state = standing t outer (behind_end h inside n); level = length outer; at = f.at; found = end_findings rules h (heads inside) }) (noted-under w h inside)
 
   pub primitive-find : (w : Frame) (outer : List Frame) (n : ℕ) (h : Heading) (c : List ℕ) → length c ≡ announced h.size
       → find_end (find_bytes (find_begin (standing w outer n) h).state c)
@@ -228,7 +223,7 @@ module _ (rules : Rules) where
             (t.0, ap (λ (x : Step). x.state) (primitive w outer n h c (events rest) size) ∙ t.1);
       }
   told p s w outer (Closed h inside rest) v k l d free =
-      let i = told (place_inside p h) (inside_of s h) (frame_of h) (w ∷ outer) inside v.1 (knows-inside s h) (omega (arith, l)) (omega (arith, d)) (λ e. absurd (cc (e))) in
+      let i = told (place_inside p h) (inside_of s h) (frame_under w h) (w ∷ outer) inside v.1 (knows-inside w s h) (omega (arith, l)) (omega (arith, d)) (λ e. absurd (cc (e))) in
       let r = told (after p (extent h inside)) (behind_holder s h inside) (noted w (is_primitive h) (announced h.size) false) outer rest v.2
       (knows-behind w s (behind_holder s h inside) h None false k refl refl refl) l d free in
       let few : length outer < 128 = omega (arith, l, d, (v.0.0.depth refl)) in
@@ -243,7 +238,7 @@ module _ (rules : Rules) where
         behind_end h inside t.0,
         opened w outer n h (events inside ++ es) few
             ∙ ap (then_told put)
-            (run-more (standing (frame_of h) (w ∷ outer) a) (events inside) es
+            (run-more (standing (frame_under w h) (w ∷ outer) a) (events inside) es
             ∙ ap₂ (λ (l : List Item) (x : FinderState). then_told l (run x es)) (i.put a) t.1
             ∙ ap (then_told (only (items rules (inside_of s h) inside))) (closed (place_inside p h) w outer t.0 h inside (events rest) v.1 v.0.1)),
       ) in
@@ -266,7 +261,7 @@ module _ (rules : Rules) where
     stands = λ n e. absurd (cc (e));
   }
   told p s w outer (Entered h inside) v k l d free =
-      let i = told (place_inside p h) (inside_of s h) (frame_of h) (w ∷ outer) inside v.1 (knows-inside s h) (omega (arith, l)) (omega (arith, d)) (λ e. absurd (cc (e))) in
+      let i = told (place_inside p h) (inside_of s h) (frame_under w h) (w ∷ outer) inside v.1 (knows-inside w s h) (omega (arith, l)) (omega (arith, d)) (λ e. absurd (cc (e))) in
       let few : length outer < 128 = omega (arith, l, d, v.0.0.depth refl) in
       record {
         put = λ n.

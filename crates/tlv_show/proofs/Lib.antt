@@ -5,6 +5,7 @@ pub mod WholeShown
 pub mod Rows
 pub mod CheckLaws
 pub mod HeaderNotes
+pub mod KeptFrames
 pub mod FinderFolds
 pub mod FinderTold
 pub mod Passing

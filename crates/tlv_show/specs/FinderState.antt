@@ -47,6 +47,10 @@ frame_of h = record {
   is_empty = false;
 }
 
+-- inside an element that others hold. Of one that is no string and stands in none nothing is to be known
+abbrev pub frame_under : Frame → Heading → Frame
+frame_under w h = if w.has_segments || has_segments h then frame_of h else top_frame
+
 -- behind a segment more: whether it is primitive, how many contents octets it announces, and whether bits of it are unused
 abbrev pub segment_noted : Frame → Bool → ℕ → Bool → Frame
 segment_noted w primitive size unused = record w {
@@ -139,7 +143,7 @@ finds_nothing s = record { state = s; level = 0; at = 0; found = [] }
 
 -- an element that holds others begins. Past 128 of them no frame is kept
 abbrev pub entered_in : FinderState → Heading → FinderState
-entered_in s h = if nat_lt (length s.outer) 128 then record s { frame = frame_of h; outer = s.frame ∷ s.outer } else s
+entered_in s h = if nat_lt (length s.outer) 128 then record s { frame = frame_under s.frame h; outer = s.frame ∷ s.outer } else s
 
 abbrev pub find_open : FinderState → Heading → Finds
 find_open s h = finds (entered_in s h) (length s.outer) h.offset (header_notes s.rules s.frame h)

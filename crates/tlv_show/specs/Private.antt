@@ -3,6 +3,7 @@ pub mod Conditions
 pub mod DumpStep
 pub mod Dumped
 pub mod FinderState
+pub mod Nesting
 pub mod Found
 pub mod Items
 pub mod Lines

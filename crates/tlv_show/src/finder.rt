@@ -4,13 +4,14 @@ ghost use Rattle.std.specs.List.{filter};
 ghost use Rattle.tlv_head.specs.Header.{announced};
 ghost use Rattle.tlv_value.specs.CheckState.{found_in};
 ghost use Rattle.tlv_walk.specs.Tells.{told_of};
-ghost use Rattle.tlv_show.specs.FinderState.{begun_in, entered_in, find_begin, find_bytes, find_close, find_end, find_open, finds, finds_nothing, header_notes, no_findings};
+ghost use Rattle.tlv_show.specs.FinderState.{begun_in, end_notes, entered_in, find_begin, find_bytes, find_close, find_end, find_open, finds, finds_nothing, header_notes, no_findings};
 ghost use Rattle.tlv_show.specs.Private.FinderState.{PassesOrStays, Tells, find as find_in, stands};
 ghost use Rattle.tlv_show.specs.Found.{shows};
 
 use crate::Rules;
-use crate::frames::{Frame, Frames, frame_of, note_element, top};
+use crate::frames::Frame;
 use crate::header_findings::{is_plain, note_end, note_header};
+use crate::nesting::Nesting;
 use arrayvec::ArrayVec;
 use std::marker::Model;
 use tlv_head::Header;
@@ -22,9 +23,8 @@ use tlv_walk::Event;
 #[derive(Drop)]
 pub(crate) struct Finder {
     rules: Rules,
-    /// The frame of the innermost open element that holds others, or of the top.
-    frame: Frame,
-    outer: Frames,
+    /// What must be known of the open elements that hold others.
+    holders: Nesting,
     /// Where the primitive begins that is open.
     at: u64,
     is_open: bool,
@@ -68,8 +68,8 @@ impl Model for Finder {
     ghost view = { λ f. record {
       state = record {
         rules = f.rules;
-        frame = f.frame;
-        outer = f.outer;
+        frame = f.holders.frame;
+        outer = f.holders.outer;
         value = open_by f.is_open f.at f.check;
         count = f.count;
       };
@@ -86,8 +86,7 @@ impl Finder {
     {
         Finder {
             rules,
-            frame: top(),
-            outer: Frames::new(),
+            holders: Nesting::new(),
             at: 0,
             is_open: false,
             check: ValueCheck::of_type(0, 0),
@@ -156,8 +155,9 @@ impl Finder {
         requires { announced header.now.size ≡ length contents.now }
         ensures { PassesOrStays self.old self.new header.now contents.now result }
     {
-        if self.frame.has_segments
-            || !is_plain(self.rules, &self.frame, header)
+        let frame = self.holders.frame();
+        if frame.has_segments
+            || !is_plain(self.rules, frame, header)
             || !is_clear(header, contents)
         {
             return false;
@@ -172,12 +172,17 @@ impl Finder {
         ensures { Tells (finds self.old.state (length self.old.state.outer) header.now.offset
             (header_notes self.old.state.rules self.old.state.frame header.now)) self.new result }
     {
-        if is_plain(self.rules, &self.frame, header) {
+        if is_plain(self.rules, self.holders.frame(), header) {
             return false;
         }
-        let level = self.outer.len();
+        let level = self.holders.level();
         self.told.restart(level, header.offset);
-        note_header(self.rules, &self.frame, header, &mut self.told.findings);
+        note_header(
+            self.rules,
+            self.holders.frame(),
+            header,
+            &mut self.told.findings,
+        );
         self.count = self.count.saturating_add(self.told.findings.len() as u64);
         true
     }
@@ -187,10 +192,7 @@ impl Finder {
     fn enter(&mut self, header: &Header)
         ensures { self.new ≡ stands (entered_in self.old.state header.now) self.old }
     {
-        if self.outer.len() < 128 {
-            self.outer.push(self.frame);
-            self.frame = frame_of(header);
-        }
+        self.holders.enter(header);
     }
 
     /// Keeps where a primitive begins, and that nothing of its contents has come.
@@ -239,11 +241,12 @@ impl Finder {
         }
         let check = &self.check;
         self.is_open = false;
-        note_element(&mut self.frame, true, check.size(), check.has_unused_bits());
+        self.holders
+            .note_primitive(check.size(), check.has_unused_bits());
         if check.left() != 0 {
             return false;
         }
-        let level = self.outer.len();
+        let level = self.holders.level();
         self.told.restart(level, self.at);
         note_found(self.rules, check, &mut self.told.findings);
         self.count = self.count.saturating_add(self.told.findings.len() as u64);
@@ -255,18 +258,20 @@ impl Finder {
     pub fn close(&mut self) -> bool
         ensures { Tells (find_close self.old.state) self.new result }
     {
-        let Some(outer) = self.outer.pop() else {
-            return false;
-        };
-        let closed = self.frame;
-        self.frame = outer;
-        note_element(&mut self.frame, closed.is_primitive, closed.size, false);
-        if !closed.has_segments {
-            return false;
+        match self.holders.leave() {
+            Some(closed) => self.tell_end(&closed),
+            None => false,
         }
-        let level = self.outer.len();
-        self.told.restart(level, closed.at);
-        note_end(self.rules, &closed, &mut self.told.findings);
+    }
+
+    /// Tells what is found with the end of an element that held segments.
+    #[inline(never)]
+    fn tell_end(&mut self, closed: &Frame) -> bool
+        ensures { Tells (finds self.old.state (length self.old.state.outer) closed.now.at
+            (end_notes self.old.state.rules closed.now)) self.new result }
+    {
+        self.told.restart(self.holders.level(), closed.at);
+        note_end(self.rules, closed, &mut self.told.findings);
         self.count = self.count.saturating_add(self.told.findings.len() as u64);
         true
     }

@@ -1,7 +1,7 @@
 //! What is kept of the elements that stand beside one another.
-ghost use Rattle.std.specs.Prelude.{◌≡◌, ◌<◌, ◌≤◌, ◌∷◌, [], drop, length};
+ghost use Rattle.std.specs.Prelude.{◌≡◌, ◌<◌, ◌∷◌, [], drop, length};
 ghost use Rattle.tlv_show.specs.FinderState.{frame_of as frame_inside, noted, top_frame};
-ghost use Rattle.tlv_show.specs.Private.FinderState.{innermost_of};
+ghost use Rattle.tlv_show.specs.Private.Nesting.{innermost_of};
 
 use crate::headers::{is_bit_string, is_string, size_of};
 use arrayvec::ArrayVec;
@@ -9,7 +9,7 @@ use std::marker::Model;
 use tlv_head::Header;
 
 /// What is kept of an element that holds others, and of those that it holds so far.
-#[derive(Clone, Copy, Debug, Default)]
+#[derive(Clone, Copy, Default)]
 pub(crate) struct Frame {
     /// Where the holder begins.
     pub at: u64,
@@ -77,17 +77,24 @@ pub(crate) fn note_element(frame: &mut Frame, is_primitive: bool, size: u64, is_
     frame.is_empty = is_primitive && size == 0;
 }
 
-/// The frames of the open elements that hold others, at most 128.
+/// A frame, and how many elements are open inside its element that have none.
+#[derive(Clone, Copy, Default)]
+pub(crate) struct Kept {
+    pub frame: Frame,
+    pub plain: u8,
+}
+
+/// The frames outside of the innermost one, at most 128.
 #[derive(Drop)]
 pub(crate) struct Frames {
-    frames: ArrayVec<Frame, 128>,
+    frames: ArrayVec<Kept, 128>,
 }
 
 impl Model for Frames {
     ghost use Rattle.std.specs.Prelude.{◌≤◌, List, length, reverse};
-    ghost use Rattle.tlv_show.specs.declared.frames.Frame.{Frame};
+    ghost use Rattle.tlv_show.specs.declared.frames.Kept.{Kept};
 
-    ghost Value = { List Frame };
+    ghost Value = { List Kept };
 
     ghost view = { λ s. reverse s.frames.items };
 
@@ -103,27 +110,18 @@ impl Frames {
         }
     }
 
-    /// How many elements are open.
-    #[inline(always)]
-    pub fn len(&self) -> u8
-        ensures value { result ≡ length self.now }
-        ensures within { result ≤ 128 }
-    {
-        self.frames.len() as u8
-    }
-
     /// Keeps a frame, as the innermost one.
     #[inline(always)]
-    pub fn push(&mut self, frame: Frame)
+    pub fn push(&mut self, kept: Kept)
         requires { length self.old < 128 }
-        ensures { self.new ≡ frame ∷ self.old }
+        ensures { self.new ≡ kept ∷ self.old }
     {
-        self.frames.push(frame);
+        self.frames.push(kept);
     }
 
     /// Takes the innermost frame back.
     #[inline(always)]
-    pub fn pop(&mut self) -> Option<Frame>
+    pub fn pop(&mut self) -> Option<Kept>
         ensures value { result ≡ innermost_of self.old }
         ensures rest { self.new ≡ drop 1 self.old }
     {

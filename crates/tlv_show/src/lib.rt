@@ -13,6 +13,7 @@ mod headers;
 pub mod laws;
 mod line_follower;
 mod lines;
+mod nesting;
 mod options;
 mod outcome;
 mod rules;

@@ -39,7 +39,7 @@ pub(crate) struct Lines<'n> {
     /// Whether a primitive is open.
     is_open: bool,
     /// The primitive that is open, or the last one.
-    value: Option<ValueText>,
+    value: ValueText,
 }
 
 impl<'n> Model for Lines<'n> {
@@ -72,7 +72,7 @@ impl<'n> Lines<'n> {
             offset: 0,
             in_padding: false,
             is_open: false,
-            value: None,
+            value: ValueText::idle(),
         }
     }
 
@@ -163,7 +163,8 @@ impl<'n> Lines<'n> {
     {
         self.enter(header);
         self.is_open = true;
-        put_begin(&mut self.value, header, self.layout, out)
+        self.value = ValueText::new(header, self.layout);
+        self.value.begin(out)
     }
 
     /// Contents of a primitive go on.
@@ -204,68 +205,38 @@ impl<'n> Lines<'n> {
     }
 }
 
-ghost use Rattle.std.specs.Prelude.{Some};
-ghost use Rattle.tlv_value.specs.State.{begun, start};
 ghost use Rattle.tlv_show.specs.Dumped.{value_after, value_ended, value_told};
 ghost use Rattle.tlv_show.specs.Private.Dumped.{if_open};
-
-/// A primitive begins, in place of the last one.
-#[inline(always)]
-fn restart(value: &mut Option<ValueText>, header: &Header, layout: Layout)
-    ensures { value.new ≡ Some (start header.now layout) }
-{
-    *value = Some(ValueText::new(header, layout));
-}
-
-/// Puts what the header tells of a primitive that begins.
-#[inline(always)]
-fn put_begin<D: Drain>(
-    value: &mut Option<ValueText>,
-    header: &Header,
-    layout: Layout,
-    out: &mut Out<'_, D>,
-) -> Result<(), WriteFault>
-    ensures state { value.new ≡ Some (start header.now layout) }
-    ensures puts { Puts D.told out.old out.new (begun (start header.now layout)) result }
-{
-    restart(value, header, layout);
-    match value {
-        Some(value) => value.begin(out),
-        None => Ok(()),
-    }
-}
 
 /// Puts what more contents octets tell of the primitive that is open. Of octets past those that were announced
 /// nothing is told.
 fn put_bytes<D: Drain>(
     is_open: bool,
-    value: &mut Option<ValueText>,
+    value: &mut ValueText,
     octets: &[u8],
     out: &mut Out<'_, D>,
 ) -> Result<(), WriteFault>
     ensures state { OnOk result (if_open is_open value.new ≡ value_after (if_open is_open value.old) octets.now) }
     ensures puts { Puts D.told out.old out.new (value_told (if_open is_open value.old) octets.now) result }
 {
-    match value {
-        Some(value) if is_open => {
-            let count = value.left().min(octets.len() as u64) as usize;
-            value.bytes(&octets[..count], out)
-        }
-        _ => Ok(()),
+    if !is_open {
+        return Ok(());
     }
+    let count = value.left().min(octets.len() as u64) as usize;
+    value.bytes(&octets[..count], out)
 }
 
 /// Puts what the end tells of the primitive that is open, if all its contents octets have come.
 fn put_end<D: Drain>(
     is_open: bool,
-    value: &mut Option<ValueText>,
+    value: &mut ValueText,
     names: &Names,
     out: &mut Out<'_, D>,
 ) -> Result<(), WriteFault>
     ensures { Puts D.told out.old out.new (value_ended names.now (if_open is_open value.old)) result }
 {
-    match value {
-        Some(value) if is_open && value.left() == 0 => value.end(names, out),
-        _ => Ok(()),
+    if !is_open || value.left() != 0 {
+        return Ok(());
     }
+    value.end(names, out)
 }

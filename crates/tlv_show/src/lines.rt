@@ -10,7 +10,6 @@ use tlv_value::{Layout, begin_blank, begin_sized, begin_word, write_tag};
 use tlv_walk::{Drain, Held, Out, WriteFault};
 
 /// Puts the line of an element that holds others, with a word behind its tag.
-#[tactic(auto, using(tlv_walk::proofs::Puts::lines))]
 #[inline(always)]
 pub(crate) fn put_opening<D: Drain>(
     layout: Layout,
@@ -27,7 +26,6 @@ pub(crate) fn put_opening<D: Drain>(
 }
 
 /// Puts the line of the end of an element that holds others, which has end-of-contents octets at this offset, or none.
-#[tactic(auto, using(tlv_walk::proofs::Puts::lines))]
 #[inline(always)]
 pub(crate) fn put_closing<D: Drain>(
     layout: Layout,
@@ -42,7 +40,6 @@ pub(crate) fn put_closing<D: Drain>(
 }
 
 /// Puts the line of a run of padding.
-#[tactic(auto, using(tlv_walk::proofs::Puts::lines))]
 pub(crate) fn put_padding<D: Drain>(
     layout: Layout,
     at: u64,

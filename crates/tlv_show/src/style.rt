@@ -52,7 +52,6 @@ fn put_each<D: Drain>(
 }
 
 /// Puts the line of a finding in the element at this level and offset.
-#[tactic(auto, using(tlv_walk::proofs::Puts::lines))]
 #[inline(always)]
 fn put_finding<D: Drain>(
     style: Style,

@@ -1,5 +1,5 @@
 //! The lines of a primitive, from its contents in pieces.
-ghost use Rattle.std.specs.Prelude.{◌≡◌, ◌+◌, ◌<◌, ◌≤◌, ◌^◌, ◌∷◌, [], length, OnOk};
+ghost use Rattle.std.specs.Prelude.{◌≡◌, ◌+◌, ◌<◌, ◌≤◌, ◌^◌, ◌∷◌, [], length, OnOk, None, true, false};
 ghost use Rattle.tlv_walk.specs.Out.{Puts};
 ghost use Rattle.tlv_value.specs.State.{after, begun, ended, start, told};
 ghost use Rattle.tlv_value.specs.KindValues.{in_rows};
@@ -10,7 +10,7 @@ use crate::putting::{put_last, put_rows};
 use crate::{Layout, NameTable};
 use arrayvec::ArrayVec;
 use std::marker::Model;
-use tlv_head::Header;
+use tlv_head::{Class, Header};
 use tlv_walk::{Drain, Out, WriteFault};
 
 /// Begins the first row of a long BIT STRING: with the first contents octet, where that cannot be read.
@@ -64,6 +64,39 @@ impl ValueText {
             value,
             left: value.size,
             has_line: !matches!(value.kind, Kind::Bits),
+            rows: 0,
+            row: ArrayVec::new(),
+        }
+    }
+
+    /// For no primitive yet: as for an empty one that is of no universal type, at the top.
+    pub fn idle() -> ValueText
+        ensures { result ≡ record {
+            offset = 0;
+            class = Class.Private;
+            number = 0;
+            size = 0;
+            layout = record { level = 0; limit = None; pure = false };
+            left = 0;
+            kept = record { lined = true; rows = 0; row = [] };
+        } }
+    {
+        let value = Primitive {
+            offset: 0,
+            class: Class::Private,
+            number: 0,
+            size: 0,
+            kind: Kind::Octets,
+            layout: Layout {
+                level: 0,
+                limit: None,
+                pure: false,
+            },
+        };
+        ValueText {
+            value,
+            left: 0,
+            has_line: true,
             rows: 0,
             row: ArrayVec::new(),
         }

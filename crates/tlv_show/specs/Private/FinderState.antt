@@ -1,14 +1,9 @@
 -- What a `Finder` makes of an event, and what it answers.
-use Rattle.std.specs.Prelude.{ℕ, ◌≡◌, Bool, true, false, if◌then◌else◌, List, [], ◌∷◌, Option, Some, None}
+use Rattle.std.specs.Prelude.{ℕ, ◌≡◌, Bool, true, false, if◌then◌else◌, List, [], Option, Some, None}
 use Rattle.tlv_head.specs.Header.{Heading}
 use Rattle.tlv_value.specs.CheckState.{CheckState}
 use Rattle.tlv_walk.specs.Events.{Told, Open, Begin, Bytes, End, Close, Enter, Unused, Leave, Pad}
-use Rattle.tlv_show.specs.declared.frames.Frame.{Frame}
 use Rattle.tlv_show.specs.FinderState.{OpenValue, FinderState, Finds, finds_nothing, find_open, find_begin, find_bytes, find_end, find_close}
-
-abbrev pub innermost_of : List Frame → Option Frame
-innermost_of [] = None
-innermost_of (w ∷ outer) = Some w
 
 -- the primitive that begins at `at`, if one is open
 abbrev pub open_by : Bool → ℕ → CheckState → Option OpenValue

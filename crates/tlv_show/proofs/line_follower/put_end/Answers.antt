@@ -1,12 +1,18 @@
-use Rattle.std.proofs.Common.{◌≡◌, false, eqb, refl, arith, rules}
+use Rattle.std.proofs.Common.{rules, ◌≡◌, arith, false, eqb}
 use Rattle.std.proofs.lemmas.Bool.Decides.{nat_tests}
-use Rattle.tlv_walk.proofs.Puts.{puts_nothing, puts_text}
+use Rattle.tlv_walk.proofs.Puts.{puts_nothing}
 use Rattle.tlv_show.proofs.line_follower.put_end.Goals as goal
+use Rattle.tlv_show.proofs.line_follower.put_end.Goals.{then-not-is_open-via-then-not-is_open, then-not-is_open-via-else-not-is_open+then-left-ne0}
 
-pub returns-in-Some : goal.returns-in-Some
-returns-in-Some g c = search rules
+pub returns-then-not-is_open : goal.returns-then-not-is_open
+returns-then-not-is_open g c =
+    let told = g.D.Drain.told in
+    elim c.then-not-is_open.branch [
+      | then-not-is_open-via-then-not-is_open w ↦ rw w.if-not-is_open.true (puts_nothing told _ tt)
+      | then-not-is_open-via-else-not-is_open+then-left-ne0 w ↦
+          let some : eqb c.args.value.now.left 0 ≡ false = grind (arith, nat_tests, w.left.ensures, w.if-left-ne0.true) in
+          rw (w.if-not-is_open.false, some) (puts_nothing told _ tt)
+    ]
 
-pub returns-in_default : goal.returns-in_default
-returns-in_default g c =
-    let some : eqb c.in-Some.value.left 0 ≡ false = grind (arith, nat_tests) in
-    puts_text g.D.Drain.told _ _ _ _ _ (rw (c.if-is_open.true, c.in-Some.is, some) refl) (puts_nothing g.D.Drain.told _ tt)
+pub returns : goal.returns
+returns g c = search rules

@@ -26,3 +26,6 @@ returns-clause-state g c =
     let new = stands_after c.args.self.now u c.self.inside.finder c.passes.new.self c.args.header.now c.args.octets.now c.contents_in-contents.result.now c.passes.result
     c.self.view_is refl c.contents_in-contents.ensures c.requires.whole (search rules) c.passes.ensures c.whole.new.self c.whole.ensures.state in
     shown-state _ c.args.self.now _ _ _ is new
+
+pub whole-requires : goal.whole-requires
+whole-requires g c = search rules

@@ -1,0 +1,80 @@
+-- The frames that are kept of the elements that are open, and all those that they stand for.
+use Rattle.std.specs.Prelude.{ℕ, zero, suc, ◌≡◌, ⊤, nat_lt, if◌then◌else◌, false, List, [], ◌∷◌, length, Option, Some, None}
+use Rattle.tlv_head.specs.Header.{Heading}
+use Rattle.tlv_show.specs.declared.frames.Frame.{Frame}
+use Rattle.tlv_show.specs.declared.frames.Kept.{Kept}
+use Rattle.tlv_show.specs.FinderState.{frame_under, noted, top_frame}
+
+-- ---- All frames
+
+-- the frame of the innermost element, and those outside, innermost first
+pub record Nest : Type 0 where
+  pub frame : Frame
+  pub outer : List Frame
+
+abbrev pub at_top : Nest
+at_top = record { frame = top_frame; outer = [] }
+
+-- an element that holds others begins. Past 128 of them no frame is kept
+abbrev pub entered : Nest → Heading → Nest
+entered s h = if nat_lt (length s.outer) 128 then record { frame = frame_under s.frame h; outer = s.frame ∷ s.outer } else s
+
+-- it ends
+abbrev pub left_by : Frame → List Frame → Nest
+left_by closed [] = record { frame = closed; outer = [] }
+left_by closed (w ∷ outer) = record { frame = noted w closed.is_primitive closed.size false; outer = outer }
+
+abbrev pub left_in : Nest → Nest
+left_in s = left_by s.frame s.outer
+
+-- its frame, if what it held were segments
+abbrev pub if_segments : Frame → Option Frame
+if_segments w = if w.has_segments then Some w else None
+
+abbrev pub segments_by : Frame → List Frame → Option Frame
+segments_by closed [] = None
+segments_by closed (w ∷ outer) = if_segments closed
+
+abbrev pub segments_left : Nest → Option Frame
+segments_left s = segments_by s.frame s.outer
+
+-- ---- Those that are kept
+
+-- where elements without a frame are open inside `w`, each of them has that of the top
+abbrev pub innermost : Frame → ℕ → Frame
+innermost w zero = w
+innermost w (suc plain) = top_frame
+
+abbrev pub all_of : Frame → ℕ → List Frame → List Frame
+all_of w zero outer = w ∷ outer
+all_of w (suc plain) outer = top_frame ∷ all_of w plain outer
+
+abbrev pub outside : Frame → ℕ → List Frame → List Frame
+outside w zero outer = outer
+outside w (suc plain) outer = all_of w plain outer
+
+abbrev pub all_frames : List Kept → List Frame
+all_frames [] = []
+all_frames (k ∷ outer) = all_of k.frame k.plain (all_frames outer)
+
+-- a string counts no elements without a frame
+abbrev pub IsKept : Frame → ℕ → Type 0
+IsKept w plain = (innermost w plain).has_segments ≡ w.has_segments
+
+abbrev pub AreKept : List Kept → Type 0
+AreKept [] = ⊤
+AreKept (k ∷ outer) = IsKept k.frame k.plain × AreKept outer
+
+-- the innermost of these, and what is kept behind the end of the element inside it
+abbrev pub innermost_of : List Kept → Option Kept
+innermost_of [] = None
+innermost_of (k ∷ outer) = Some k
+
+pub record IsTakenBack (closed : Frame) (k : Kept) (outer : List Kept) (w : Frame) (plain : ℕ) (rest : List Kept) : Type 0 where
+  pub frame : w ≡ noted k.frame closed.is_primitive closed.size false
+  pub count : plain ≡ k.plain
+  pub others : rest ≡ outer
+
+abbrev pub TakesBack : Frame → List Kept → Frame → ℕ → List Kept → Type 0
+TakesBack closed [] w plain rest = ⊤
+TakesBack closed (k ∷ outer) w plain rest = IsTakenBack closed k outer w plain rest

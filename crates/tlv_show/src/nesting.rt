@@ -1,0 +1,149 @@
+//! The frames of the elements that are open, without those of which nothing is to be known.
+ghost use Rattle.std.specs.Prelude.{◌≡◌, ◌||◌, length, true};
+ghost use Rattle.tlv_head.specs.Header.{Heading};
+ghost use Rattle.tlv_value.specs.Types.{has_segments};
+ghost use Rattle.tlv_show.specs.FinderState.{header_notes, noted};
+ghost use Rattle.tlv_show.specs.Private.Nesting.{TakesBack, at_top, entered, left_in, segments_left};
+ghost use Rattle.tlv_show.specs.declared.rules.Rules.{Rules};
+
+use crate::frames::{Frame, Frames, Kept, frame_of, note_element, top};
+use crate::headers::is_string;
+use std::marker::Model;
+use tlv_head::Header;
+
+/// The frames of the open elements that hold others, of which at most 128 are kept. An element that is no string and
+/// stands in none is counted alone: such elements are many, and a frame is long.
+#[derive(Drop)]
+pub(crate) struct Nesting {
+    /// How many elements are open that hold others.
+    level: u8,
+    /// The innermost frame that is kept, or that of the top.
+    frame: Frame,
+    /// How many elements are open inside its element that have no frame.
+    plain: u8,
+    outer: Frames,
+}
+
+impl Model for Nesting {
+    ghost use Rattle.std.specs.Prelude.{◌≡◌, ◌≤◌, length};
+    ghost use Rattle.tlv_show.specs.Private.Nesting.{AreKept, IsKept, Nest, all_frames, innermost, outside};
+
+    ghost Value = { Nest };
+
+    ghost view = { λ n. record {
+      frame = innermost n.frame n.plain;
+      outer = outside n.frame n.plain (all_frames n.outer);
+    } };
+
+    ghost invariant = { λ n. record {
+      level : n.level ≡ length (outside n.frame n.plain (all_frames n.outer));
+      few : n.level ≤ 128;
+      innermost : IsKept n.frame n.plain;
+      others : AreKept n.outer;
+    } };
+}
+
+impl Nesting {
+    /// At the top, where no element is open.
+    pub fn new() -> Nesting
+        ensures { result ≡ at_top }
+    {
+        Nesting {
+            level: 0,
+            frame: top(),
+            plain: 0,
+            outer: Frames::new(),
+        }
+    }
+
+    /// How many elements are open that hold others.
+    #[inline(always)]
+    pub fn level(&self) -> u8
+        ensures { result ≡ length self.now.outer }
+    {
+        self.level
+    }
+
+    /// A frame that tells of headers what the innermost one tells.
+    #[inline(always)]
+    pub fn frame(&self) -> &Frame
+        ensures segments { result.now.has_segments ≡ self.now.frame.has_segments }
+        ensures notes { (rules : Rules) (h : Heading) → header_notes rules result.now h ≡ header_notes rules self.now.frame h }
+    {
+        &self.frame
+    }
+
+    /// An element that holds others begins.
+    #[inline(always)]
+    pub fn enter(&mut self, header: &Header)
+        ensures { self.new ≡ entered self.old header.now }
+    {
+        if self.level == 128 {
+            return;
+        }
+        self.level += 1;
+        if has_frame(&self.frame, header) {
+            self.outer.push(Kept {
+                frame: self.frame,
+                plain: self.plain,
+            });
+            self.frame = frame_of(header);
+            self.plain = 0;
+        } else {
+            self.plain += 1;
+        }
+    }
+
+    /// A primitive ends: how many contents octets it announces, and whether bits of it are unused.
+    #[inline(always)]
+    pub fn note_primitive(&mut self, size: u64, is_unused: bool)
+        ensures { self.new ≡ record self.old { frame = noted self.old.frame true size is_unused } }
+    {
+        note_element(&mut self.frame, true, size, is_unused);
+    }
+
+    /// An element that holds others ends. Returns its frame, if what it held were segments.
+    #[inline(always)]
+    pub fn leave(&mut self) -> Option<Frame>
+        ensures nest { self.new ≡ left_in self.old }
+        ensures segments { result ≡ segments_left self.old }
+    {
+        if self.level == 0 {
+            return None;
+        }
+        self.level -= 1;
+        if self.plain > 0 {
+            self.plain -= 1;
+            return None;
+        }
+        let closed = self.frame;
+        take_back(&mut self.frame, &mut self.plain, &mut self.outer);
+        if closed.has_segments {
+            Some(closed)
+        } else {
+            None
+        }
+    }
+}
+
+/// Whether an element is to have a frame of its own, inside the one with this frame.
+#[inline(always)]
+fn has_frame(frame: &Frame, header: &Header) -> bool
+    ensures { result ≡ (frame.now.has_segments || has_segments header.now) }
+{
+    frame.has_segments || (header.constructed && is_string(header))
+}
+
+/// An element that has a frame ends: the frame outside is the innermost one again, and tells of the element what has to be
+/// known of it.
+#[inline(never)]
+fn take_back(frame: &mut Frame, plain: &mut u8, outer: &mut Frames)
+    ensures { TakesBack frame.old outer.old frame.new plain.new outer.new }
+{
+    if let Some(kept) = outer.pop() {
+        let closed = *frame;
+        *frame = kept.frame;
+        *plain = kept.plain;
+        note_element(frame, closed.is_primitive, closed.size, false);
+    }
+}
