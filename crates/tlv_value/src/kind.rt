@@ -30,6 +30,7 @@ pub(crate) enum Kind {
 }
 
 /// How the contents of a primitive with this tag are read.
+#[inline(always)]
 pub(crate) fn kind_of(class: Class, number: u64) -> Kind
     ensures { result ≡ kind_of_tag class number }
 {
