@@ -100,7 +100,6 @@ impl Primitive {
     }
 
     /// Puts its line without a value.
-    #[tactic(auto, using(tlv_walk::proofs::Puts::lines))]
     #[inline(always)]
     pub fn put_bare<D: Drain>(&self, out: &mut Out<'_, D>) -> Result<(), WriteFault>
         ensures { Puts D.told out.old out.new (line_of self.now []) result }
@@ -111,7 +110,6 @@ impl Primitive {
     }
 
     /// Puts its line with the number of its bits, where it is a long BIT STRING.
-    #[tactic(auto, using(tlv_walk::proofs::Puts::lines))]
     pub fn put_bits<D: Drain>(&self, unused: u8, out: &mut Out<'_, D>) -> Result<(), WriteFault>
         requires { 9 < self.now.size }
         ensures { Puts D.told out.old out.new
@@ -123,7 +121,6 @@ impl Primitive {
     }
 
     /// Begins its line where an `Out` holds it, up to its tag text, and leaves room for the rest.
-    #[tactic(auto, using(tlv_walk::proofs::Puts::lines))]
     #[inline(always)]
     fn put_front<D: Drain>(&self, out: &mut Out<'_, D>) -> Result<(), WriteFault>
         ensures puts { Puts D.told out.old out.new (front_of self.now) result }
