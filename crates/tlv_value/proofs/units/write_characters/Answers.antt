@@ -1,4 +1,4 @@
-use Rattle.std.proofs.Common.{◌++◌, List, ℕ, length, sym, ap, ◌∙◌, arith}
+use Rattle.std.proofs.Common.{◌++◌, List, ℕ, sym, ap, ◌∙◌, arith}
 use Rattle.tlv_value.proofs.PlainUnits.{plain-row}
 use Rattle.tlv_value.proofs.Short.{units-short}
 use Rattle.tlv_value.proofs.units.write_characters.Goals as goal
