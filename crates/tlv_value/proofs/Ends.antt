@@ -35,6 +35,13 @@ line-front margin tag text rows =
 front-line : (p : Primitive) (v : Value) → front_of p ++ value_behind p.layout [] v ≡ line_of p v.text ++ row_lines Octets p.layout 0 v.rows
 front-line p v = line-front (margin p.layout.pure (columns p.offset (decimal p.size)) p.layout.level) (tag_text_of p.class p.number) v.text (row_lines Octets p.layout 0 v.rows)
 
+-- what its line begins with, and the rest of its lines
+pub shown-front : (name_of : NameOf) (p : Primitive) (octets : List ℕ)
+    → front_of p ++ (((kind_value name_of p.kind octets).text ++ 10 ∷ []) ++ row_lines p.kind p.layout 0 (kind_value name_of p.kind octets).rows) ≡ shown name_of p octets
+shown-front name_of p octets =
+    let v : Value = kind_value name_of p.kind octets in
+    line-front (margin p.layout.pure (columns p.offset (decimal p.size)) p.layout.level) (tag_text_of p.class p.number) v.text (row_lines p.kind p.layout 0 v.rows)
+
 module _ (name_of : NameOf) (layout : Layout) (line : List ℕ → List ℕ) (octets : List ℕ) where
   abbrev shown_by : Kind → List ℕ
   shown_by kind = line (kind_value name_of kind octets).text ++ row_lines kind layout 0 (kind_value name_of kind octets).rows
@@ -92,13 +99,13 @@ held-plain name_of Utf8 row o r h = (refl, refl)
 held-plain name_of Ucs2 row o r h = (refl, refl)
 held-plain name_of Ucs4 row o r h = (refl, refl)
 
-plain_at : (name_of : NameOf) (kind : Kind) (layout : Layout) (line : List ℕ → List ℕ) (row : List ℕ) → IsPlain name_of kind row
-    → line (plain_text kind row) ≡ line (kind_value name_of kind row).text ++ row_lines kind layout 0 (kind_value name_of kind row).rows
-plain_at name_of kind layout line row p = rw (p.0, p.1) (sym (append-nil (line (plain_text kind row))))
+plain_at : (name_of : NameOf) (kind : Kind) (layout : Layout) (front row : List ℕ) → IsPlain name_of kind row
+    → front ++ (plain_text kind row ++ 10 ∷ []) ≡ front ++ (((kind_value name_of kind row).text ++ 10 ∷ []) ++ row_lines kind layout 0 (kind_value name_of kind row).rows)
+plain_at name_of kind layout front row p = rw (p.0, p.1) (ap (λ (t : List ℕ). front ++ t) (sym (append-nil (plain_text kind row ++ 10 ∷ []))))
 
 pub shown-plain : (name_of : NameOf) (p : Primitive) (octets : List ℕ) → (p.kind ≡ Object → ⊥) → (p.kind ≡ Relative → ⊥) → length octets ≤ most_held p.kind
-    → line_of p (plain_text p.kind octets) ≡ shown name_of p octets
-shown-plain name_of p octets o r h = plain_at name_of p.kind p.layout (line_of p) octets (held-plain name_of p.kind octets o r h)
+    → front_of p ++ (plain_text p.kind octets ++ 10 ∷ []) ≡ shown name_of p octets
+shown-plain name_of p octets o r h = plain_at name_of p.kind p.layout (front_of p) octets (held-plain name_of p.kind octets o r h) ∙ shown-front name_of p octets
 
 abbrev pub state_by : Primitive → ℕ → Kept → TextState
 state_by p left kept = record { offset = p.offset; class = p.class; number = p.number; size = p.size; layout = p.layout; left = left; kept = kept }

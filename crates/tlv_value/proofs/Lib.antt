@@ -1,4 +1,5 @@
 pub mod Numbers
+pub mod TypeKinds
 pub mod Arcs
 pub mod Forms
 pub mod UnitSteps

@@ -22,18 +22,17 @@ every-other number [] a b c d = refl
 every-other number (x ∷ xs) a b c d = rw (allows-other number x a b c d) (every-other number xs a b c d)
 
 -- one octet more
-every-more : (all : Bool) (number x : ℕ) (xs : List ℕ)
-    → ((all && allows_octet number x) && every (allows_octet number) xs) ≡ (all && every (allows_octet number) (x ∷ xs))
-every-more true number x xs = refl
-every-more false number x xs = refl
+every-more : (all : Bool) (test : ℕ → Bool) (x : ℕ) (xs : List ℕ) → ((all && test x) && every test xs) ≡ (all && every test (x ∷ xs))
+every-more true test x xs = refl
+every-more false test x xs = refl
 
-pub every-next : (all next : Bool) (number : ℕ) (xs : List ℕ) (i : ℕ) → i < length xs → next ≡ (all && allows_octet number (get_or xs i 0))
-    → (all && every (allows_octet number) (drop i xs)) ≡ every (allows_octet number) xs
-    → (next && every (allows_octet number) (drop (i + 1) xs)) ≡ every (allows_octet number) xs
-every-next all next number xs i h e k =
-    ap (λ (b : Bool). b && every (allows_octet number) (drop (i + 1) xs)) e
-    ∙ every-more all number (get_or xs i 0) (drop (i + 1) xs)
-    ∙ ap (λ (l : List ℕ). all && every (allows_octet number) l) (sym (drop_more xs i 0 h)) ∙ k
+pub every-next : (all next : Bool) (test : ℕ → Bool) (xs : List ℕ) (i : ℕ) → i < length xs → next ≡ (all && test (get_or xs i 0))
+    → (all && every test (drop i xs)) ≡ every test xs
+    → (next && every test (drop (i + 1) xs)) ≡ every test xs
+every-next all next test xs i h e k =
+    ap (λ (b : Bool). b && every test (drop (i + 1) xs)) e
+    ∙ every-more all test (get_or xs i 0) (drop (i + 1) xs)
+    ∙ ap (λ (l : List ℕ). all && every test l) (sym (drop_more xs i 0 h)) ∙ k
 
 -- the last octet
 pub last-at : (before x : ℕ) (xs : List ℕ) → last_of before (x ∷ xs) ≡ get_or (x ∷ xs) (length xs) 0

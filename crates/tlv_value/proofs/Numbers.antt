@@ -1,11 +1,11 @@
 -- Bits, and the numbers that they stand for.
-use Rattle.std.proofs.Common.{◌≡◌, ℕ, zero, suc, ◌+◌, ◌*◌, ◌/◌, ◌%◌, ◌^◌, ◌<◌, ◌≤◌, List, [], ◌∷◌, ◌++◌, length, All, refl, sym, ap, ◌∙◌, arith, rules, length-append, append_assoc, append-nil, FitsSigned}
+use Rattle.std.proofs.Common.{◌≡◌, ℕ, zero, suc, ◌+◌, ◌*◌, ◌/◌, ◌%◌, ◌^◌, ◌<◌, ◌≤◌, List, [], ◌∷◌, ◌++◌, length, All, refl, sym, ap, ◌∙◌, arith, length-append, append_assoc, append-nil, FitsSigned}
 use Rattle.std.specs.Prelude.{Bool, true, false, nat_le, ◌-◌, pos, negsuc, ◌+ℤ◌, ◌-ℤ◌, ◌*ℤ◌}
 use Rattle.std.proofs.lemmas.Int.{ints}
 use Rattle.std.proofs.Math.Nat.{pow-suc, pow-zero, pow-le-pow_right}
 use Rattle.std.proofs.lemmas.List.Elements.{All-append, All-cons, All-nil, All-head, All-tail}
 use Rattle.std.proofs.lemmas.Nat.{pow-add}
-use mir.Syntax.{w128}
+use mir.Syntax.{w64, w128}
 use lib.Signed.{mag}
 use Rattle.std.proofs.lemmas.Bool.{leb-true}
 use Rattle.std.proofs.lemmas.Bool.Decides.{nat_tests}
@@ -84,33 +84,42 @@ diff-mag-at x y p false e h g =
 diff-mag : (x y p : ℕ) → x < p → y ≤ p → mag (pos x -ℤ pos y) < p
 diff-mag x y p h g = diff-mag-at x y p (nat_le y x) refl h g
 
+pow-pos : (n : ℕ) → 0 < 2 ^ n
+pow-pos n = pow-le-pow_right {n = 2} (omega arith) {i = 0} {j = n} (omega arith)
+
 at_most_one : (b p : ℕ) → b < 2 → b * p ≤ p
 at_most_one zero p h = omega arith
 at_most_one (suc zero) p h = omega arith
 at_most_one (suc (suc b)) p h = absurd (omega arith)
 
--- so many bits leave room for eight more
-fits-bits : (bits : List ℕ) → length bits ≤ 120 → All (λ b. b < 2) bits → FitsSigned w128 (signed_sum bits *ℤ pos 256)
-fits-bits [] short all = search rules
-fits-bits (bit ∷ bits) short all =
-    let p : 2 ^ length bits ≤ 2 ^ 119 = pow-le-pow_right {n = 2} (omega arith) {i = length bits} {j = 119} (omega arith) in
+-- a number of n + 1 bits
+mag-signed : (n : ℕ) (bits : List ℕ) → length bits ≤ n + 1 → All (λ b. b < 2) bits → mag (signed_sum bits) < 2 ^ n
+mag-signed n [] short all = pow-pos n
+mag-signed n (bit ∷ bits) short all =
+    let p : 2 ^ length bits ≤ 2 ^ n = pow-le-pow_right {n = 2} (omega arith) {i = length bits} {j = n} (omega arith) in
     let v : value_of 2 bits < 2 ^ length bits = value_of-lt 2 bits (omega arith) (All-tail (λ b. b < 2) bit bits all) in
     let one : bit * 2 ^ length bits ≤ 2 ^ length bits = at_most_one bit (2 ^ length bits) (All-head (λ b. b < 2) bit bits all) in
-    let e : (pos (value_of 2 bits) -ℤ pos (bit * 2 ^ length bits)) *ℤ pos 256 ≡ pos (value_of 2 bits * 256) -ℤ pos (bit * 2 ^ length bits * 256) =
-    widen (value_of 2 bits) (bit * 2 ^ length bits) in
-    rw e (record { sfits = diff-mag (value_of 2 bits * 256) (bit * 2 ^ length bits * 256) (2 ^ 127) (omega (arith, p, v)) (omega (arith, p, one)) })
+    diff-mag (value_of 2 bits) (bit * 2 ^ length bits) (2 ^ n) (omega (arith, p, v)) (omega (arith, p, one))
 
-fits-signed : (bits : List ℕ) → length bits ≤ 128 → All (λ b. b < 2) bits → FitsSigned w128 (signed_sum bits)
-fits-signed [] short all = search rules
-fits-signed (bit ∷ bits) short all =
-    let p : 2 ^ length bits ≤ 2 ^ 127 = pow-le-pow_right {n = 2} (omega arith) {i = length bits} {j = 127} (omega arith) in
+-- and eight bits more
+mag-wider : (n : ℕ) (bits : List ℕ) → length bits ≤ n + 1 → All (λ b. b < 2) bits → mag (signed_sum bits *ℤ pos 256) < 2 ^ n * 256
+mag-wider n [] short all = omega (arith, pow-pos n)
+mag-wider n (bit ∷ bits) short all =
+    let p : 2 ^ length bits ≤ 2 ^ n = pow-le-pow_right {n = 2} (omega arith) {i = length bits} {j = n} (omega arith) in
     let v : value_of 2 bits < 2 ^ length bits = value_of-lt 2 bits (omega arith) (All-tail (λ b. b < 2) bit bits all) in
     let one : bit * 2 ^ length bits ≤ 2 ^ length bits = at_most_one bit (2 ^ length bits) (All-head (λ b. b < 2) bit bits all) in
-    record { sfits = diff-mag (value_of 2 bits) (bit * 2 ^ length bits) (2 ^ 127) (omega (arith, p, v)) (omega (arith, p, one)) }
+    rw (widen (value_of 2 bits) (bit * 2 ^ length bits))
+    (diff-mag (value_of 2 bits * 256) (bit * 2 ^ length bits * 256) (2 ^ n * 256) (omega (arith, p, v)) (omega (arith, p, one)))
 
--- fifteen octets leave room for one more
+-- fifteen octets leave room for one more, and seven in half as many bits
 pub twos-fits : (c : List ℕ) → length c ≤ 15 → FitsSigned w128 (twos_complement c *ℤ pos 256)
-twos-fits c short = fits-bits (bits_of c) (omega (arith, length-bits c)) (all-bits c)
+twos-fits c short = record { sfits = mag-wider 119 (bits_of c) (omega (arith, length-bits c)) (all-bits c) }
+
+pub twos-fits_64 : (c : List ℕ) → length c ≤ 7 → FitsSigned w64 (twos_complement c *ℤ pos 256)
+twos-fits_64 c short = record { sfits = mag-wider 55 (bits_of c) (omega (arith, length-bits c)) (all-bits c) }
 
 pub twos-fits_all : (c : List ℕ) → length c ≤ 16 → FitsSigned w128 (twos_complement c)
-twos-fits_all c short = fits-signed (bits_of c) (omega (arith, length-bits c)) (all-bits c)
+twos-fits_all c short = record { sfits = mag-signed 127 (bits_of c) (omega (arith, length-bits c)) (all-bits c) }
+
+pub twos-fits_all_64 : (c : List ℕ) → length c ≤ 8 → FitsSigned w64 (twos_complement c)
+twos-fits_all_64 c short = record { sfits = mag-signed 63 (bits_of c) (omega (arith, length-bits c)) (all-bits c) }

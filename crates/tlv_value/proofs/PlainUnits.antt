@@ -1,7 +1,8 @@
 -- Characters that stand as they are, one behind another.
 use Rattle.std.proofs.Common.{◌≡◌, ℕ, zero, suc, ◌<◌, ◌≤◌, Bool, true, false, List, [], ◌∷◌, ◌++◌, length, take, drop, get_or, if◌then◌else◌, refl, ap, ◌∙◌, arith}
 use Rattle.std.proofs.lemmas.Bool.Decides.{nat_tests}
-use Rattle.std.specs.Prelude.{flat_map}
+use Rattle.std.specs.Prelude.{◌&&◌, flat_map}
+use Rattle.std.specs.List.{list_all}
 use Rattle.std.specs.Str.{is_utf8}
 use Rattle.tlv_value.specs.declared.kind.Kind.{Kind}
 use Rattle.tlv_value.specs.declared.kind.Kind.TheVariants.{Octets, Boolean, Integer, Bits, Object, Relative, Text, Utf8, Ucs2, Ucs4}
@@ -15,6 +16,10 @@ plain-octet x h = grind (arith, nat_tests)
 
 plain-length : (x : ℕ) → is_plain x ≡ true → utf8_length x ≡ 1
 plain-length x h = grind (arith, nat_tests)
+
+and-true : (a b : Bool) → (a && b) ≡ true → (a ≡ true) × (b ≡ true)
+and-true true b e = (refl, e)
+and-true false b e = cc (e)
 
 -- one octet is a unit, whether it is well-formed or not
 size-one : (n x : ℕ) (xs : List ℕ) (b : Bool) → n ≡ 1 → 1 ≡ (if b then length (take n (x ∷ xs)) else 1)
@@ -56,3 +61,12 @@ plain-units kind (suc n) (x ∷ xs) h a p =
     units-step kind 1 (x ∷ xs) (plain-size kind x xs a plain) (omega arith) (omega arith)
     ∙ ap (λ (t : List ℕ). t ++ flat_map (unit_text kind) (units kind 0 xs)) (plain-text kind x a plain)
     ∙ ap (λ (t : List ℕ). x ∷ t) (plain-units kind n xs (omega arith) a (λ i g. p (suc i) (omega arith)))
+
+-- a row of such characters stands as it is
+pub plain-row : (kind : Kind) (row : List ℕ) → is_ascii kind ≡ true → list_all is_plain row ≡ true → flat_map (unit_text kind) (units kind 0 row) ≡ row
+plain-row kind [] a p = refl
+plain-row kind (x ∷ xs) a p =
+    let both = and-true (is_plain x) (list_all is_plain xs) p in
+    units-step kind 1 (x ∷ xs) (plain-size kind x xs a both.0) (omega arith) (omega arith)
+    ∙ ap (λ (t : List ℕ). t ++ flat_map (unit_text kind) (units kind 0 xs)) (plain-text kind x a both.0)
+    ∙ ap (λ (t : List ℕ). x ∷ t) (plain-row kind xs a both.1)

@@ -118,7 +118,7 @@ size-within Utf8 x xs =
 size-within Ucs2 x xs = ucs-within (nat_le 2 (length (x ∷ xs))) 2 (length (x ∷ xs)) refl (omega arith) (omega arith)
 size-within Ucs4 x xs = ucs-within (nat_le 4 (length (x ∷ xs))) 4 (length (x ∷ xs)) refl (omega arith) (omega arith)
 
-units-short : (kind : Kind) (skipped : ℕ) (xs : List ℕ) → length (flat_map (unit_text kind) (units kind skipped xs)) ≤ 5 * (length xs - skipped)
+pub units-short : (kind : Kind) (skipped : ℕ) (xs : List ℕ) → length (flat_map (unit_text kind) (units kind skipped xs)) ≤ 5 * (length xs - skipped)
 units-short kind skipped [] = omega arith
 units-short kind (suc skipped) (x ∷ xs) = omega (arith, units-short kind skipped xs)
 units-short kind zero (x ∷ xs) =

@@ -1,6 +1,23 @@
 //! The numbers that INTEGER and ENUMERATED stand for.
-ghost use Rattle.std.specs.Prelude.{◌≡◌};
+ghost use Rattle.std.specs.Prelude.{◌≡◌, ◌≤◌, length};
 ghost use Rattle.tlv_value.specs.Number.{number_of};
+
+/// The number that up to eight octets stand for, in two's complement. None where there are no octets.
+#[inline(always)]
+pub(crate) fn short_number(contents: &[u8]) -> Option<i64>
+    requires { length contents.now ≤ 8 }
+    ensures { result ≡ number_of contents.now }
+{
+    let (first, rest) = contents.split_first()?;
+    let mut number = i64::from(*first);
+    if *first >= 128 {
+        number -= 256;
+    }
+    for octet in rest {
+        number = number * 256 + i64::from(*octet);
+    }
+    Some(number)
+}
 
 /// The number that the contents of an INTEGER or ENUMERATED stand for, in two's complement (8.3.3). None where there are
 /// no octets, or more than 16.

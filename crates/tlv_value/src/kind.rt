@@ -29,23 +29,49 @@ pub(crate) enum Kind {
     Ucs4,
 }
 
+/// How the contents of the universal types are read, by their numbers.
+static KINDS: [Kind; 31] = [
+    Kind::Octets,
+    Kind::Boolean,
+    Kind::Integer,
+    Kind::Bits,
+    Kind::Octets,
+    Kind::Octets,
+    Kind::Object,
+    Kind::Text,
+    Kind::Octets,
+    Kind::Octets,
+    Kind::Integer,
+    Kind::Octets,
+    Kind::Utf8,
+    Kind::Relative,
+    Kind::Octets,
+    Kind::Octets,
+    Kind::Octets,
+    Kind::Octets,
+    Kind::Text,
+    Kind::Text,
+    Kind::Text,
+    Kind::Text,
+    Kind::Text,
+    Kind::Text,
+    Kind::Text,
+    Kind::Text,
+    Kind::Text,
+    Kind::Text,
+    Kind::Ucs4,
+    Kind::Octets,
+    Kind::Ucs2,
+];
+
 /// How the contents of a primitive with this tag are read.
+#[inline(always)]
 pub(crate) fn kind_of(class: Class, number: u64) -> Kind
     ensures { result ≡ kind_of_tag class number }
 {
-    if !matches!(class, Class::Universal) {
-        return Kind::Octets;
-    }
-    match number {
-        1 => Kind::Boolean,
-        2 | 10 => Kind::Integer,
-        3 => Kind::Bits,
-        6 => Kind::Object,
-        12 => Kind::Utf8,
-        13 => Kind::Relative,
-        7 | 18..=27 => Kind::Text,
-        28 => Kind::Ucs4,
-        30 => Kind::Ucs2,
-        _ => Kind::Octets,
+    if matches!(class, Class::Universal) && number <= 30 {
+        KINDS[number as usize]
+    } else {
+        Kind::Octets
     }
 }

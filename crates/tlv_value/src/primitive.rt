@@ -99,20 +99,7 @@ impl Primitive {
         held.add(b"\n");
     }
 
-    /// Adds its line with a held value that is no object identifier.
-    #[inline(always)]
-    fn write_plain(&self, held: &mut Held, contents: &[u8])
-        requires room { length held.old + 1024 ≤ 4096 }
-        requires held { length contents.now ≤ most_held self.now.kind }
-        ensures { held.new ≡ held.old ++ line_of self.now (plain_text self.now.kind contents.now) }
-    {
-        self.write(held);
-        write_value(held, self.kind, contents);
-        held.add(b"\n");
-    }
-
     /// Puts its line without a value.
-    #[tactic(auto, using(tlv_walk::proofs::Puts::lines))]
     #[inline(always)]
     pub fn put_bare<D: Drain>(&self, out: &mut Out<'_, D>) -> Result<(), WriteFault>
         ensures { Puts D.told out.old out.new (line_of self.now []) result }
@@ -123,7 +110,6 @@ impl Primitive {
     }
 
     /// Puts its line with the number of its bits, where it is a long BIT STRING.
-    #[tactic(auto, using(tlv_walk::proofs::Puts::lines))]
     pub fn put_bits<D: Drain>(&self, unused: u8, out: &mut Out<'_, D>) -> Result<(), WriteFault>
         requires { 9 < self.now.size }
         ensures { Puts D.told out.old out.new
@@ -134,20 +120,8 @@ impl Primitive {
         Ok(())
     }
 
-    /// Puts its line with a held value that is no object identifier.
-    #[tactic(auto, using(tlv_walk::proofs::Puts::lines))]
-    #[inline(always)]
-    fn put_plain<D: Drain>(&self, contents: &[u8], out: &mut Out<'_, D>) -> Result<(), WriteFault>
-        requires { length contents.now ≤ most_held self.now.kind }
-        ensures { Puts D.told out.old out.new (line_of self.now (plain_text self.now.kind contents.now)) result }
-    {
-        out.make_room()?;
-        self.write_plain(&mut out.held, contents);
-        Ok(())
-    }
-
     /// Begins its line where an `Out` holds it, up to its tag text, and leaves room for the rest.
-    #[tactic(auto, using(tlv_walk::proofs::Puts::lines))]
+    #[inline(always)]
     fn put_front<D: Drain>(&self, out: &mut Out<'_, D>) -> Result<(), WriteFault>
         ensures puts { Puts D.told out.old out.new (front_of self.now) result }
         ensures room { OnOk result (length (held_in out.new) + 400 ≤ 4096) }
@@ -168,16 +142,15 @@ impl Primitive {
         requires { length contents.now ≤ most_held self.now.kind }
         ensures { Puts D.told out.old out.new (shown (N.name_of names.now) self.now contents.now) result }
     {
+        self.put_front(out)?;
         match self.kind {
-            Kind::Object => {
-                self.put_front(out)?;
-                put_object(self.layout, contents, names, out)
+            Kind::Object => put_object(self.layout, contents, names, out),
+            Kind::Relative => put_relative(self.layout, contents, out),
+            _ => {
+                write_value(&mut out.held, self.kind, contents);
+                out.held.add(b"\n");
+                Ok(())
             }
-            Kind::Relative => {
-                self.put_front(out)?;
-                put_relative(self.layout, contents, out)
-            }
-            _ => self.put_plain(contents, out),
         }
     }
 }

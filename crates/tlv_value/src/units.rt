@@ -1,5 +1,6 @@
 //! The texts of characters.
-ghost use Rattle.std.specs.Prelude.{◌≡◌, ◌+◌, ◌<◌, ◌≤◌, ◌++◌, ◌∷◌, [], false, length, slice_index, true};
+ghost use Rattle.std.specs.List.{list_all};
+ghost use Rattle.std.specs.Prelude.{◌≡◌, ◌+◌, ◌*◌, ◌<◌, ◌≤◌, ◌++◌, false, flat_map, length, slice_index, true};
 ghost use Rattle.tlv_value.specs.Private.Plain.{ArePlain, IsPart, is_ascii, is_plain as is_plain_octet};
 ghost use Rattle.tlv_value.specs.Units.{
   escaped_number,
@@ -7,9 +8,9 @@ ghost use Rattle.tlv_value.specs.Units.{
   is_printable as is_printable_octet,
   octet_text,
   printable_text,
-  quoted as quoted_row,
   unit_size as unit_size_of,
   unit_text,
+  units,
   utf8_number as utf8_number_of,
   without_zeros,
 };
@@ -18,18 +19,30 @@ use crate::kind::Kind;
 use crate::rows::utf8_length;
 use tlv_walk::Held;
 
-/// Adds a row of characters, in quotation marks.
-pub(crate) fn write_quoted(held: &mut Held, kind: Kind, row: &[u8])
-    ensures { length held.old + length (quoted_row kind row.now) ≤ 4096
-        → held.new ≡ held.old ++ quoted_row kind row.now }
+/// Adds the characters of a row, of which each octet may take five.
+pub(crate) fn write_characters(held: &mut Held, kind: Kind, row: &[u8])
+    requires { length held.old + 5 * length row.now ≤ 4096 }
+    ensures { held.new ≡ held.old ++ flat_map (unit_text kind) (units kind 0 row.now) }
 {
-    held.push(b"\"");
+    // Most rows stand as they are.
+    if has_ascii(kind) && are_plain(row) {
+        held.add(row);
+    } else {
+        write_units(held, kind, row);
+    }
+}
+
+/// Adds the units of a row of characters.
+#[inline(never)]
+fn write_units(held: &mut Held, kind: Kind, row: &[u8])
+    ensures { length held.old + length (flat_map (unit_text kind) (units kind 0 row.now)) ≤ 4096
+        → held.new ≡ held.old ++ flat_map (unit_text kind) (units kind 0 row.now) }
+{
     let mut rest = row;
     while !rest.is_empty() {
         let (_, more) = rest.split_at(write_part(held, kind, rest));
         rest = more;
     }
-    held.push(b"\"");
 }
 
 /// Adds the octets in front that stand as they are, or else a unit. Returns how many octets these are.
@@ -187,6 +200,26 @@ fn is_plain(octet: u8) -> bool
     matches!(octet, 0x20..=0x7e) && octet != b'"' && octet != b'\\'
 }
 
+/// Whether a character of ASCII has one octet.
+fn has_ascii(kind: Kind) -> bool
+    ensures { result ≡ is_ascii kind }
+{
+    matches!(kind, Kind::Text | Kind::Utf8)
+}
+
+/// Whether all of the octets stand as they are.
+#[inline(always)]
+fn are_plain(octets: &[u8]) -> bool
+    ensures { result ≡ list_all is_plain_octet octets.now }
+{
+    // There is no way out of the loop, so that many octets are looked at in one go.
+    let mut all = true;
+    for octet in octets {
+        all &= is_plain(*octet);
+    }
+    all
+}
+
 /// How many octets in front stand as they are.
 fn plain_size(kind: Kind, octets: &[u8]) -> usize
     ensures within { result ≤ length octets.now }
@@ -194,7 +227,7 @@ fn plain_size(kind: Kind, octets: &[u8]) -> usize
     ensures next { result < length octets.now → is_ascii kind ≡ true
         → is_plain_octet (slice_index octets.now result) ≡ false }
 {
-    if !matches!(kind, Kind::Text | Kind::Utf8) {
+    if !has_ascii(kind) {
         return 0;
     }
     for i in 0..octets.len() {

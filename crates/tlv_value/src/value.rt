@@ -13,9 +13,9 @@ ghost use Rattle.tlv_value.specs.Private.KindValues.{digits_of, joined_pairs as 
 ghost use Rattle.tlv_value.specs.Units.{quoted as quoted_row};
 ghost use Rattle.tlv_value.specs.Value.{bit_count as bit_count_text, most_held, row_text, used_digits};
 
-use crate::decimal::decimal_of;
+use crate::decimal::{decimal_of, short_number};
 use crate::kind::Kind;
-use crate::units::write_quoted;
+use crate::units::write_characters;
 use tlv_walk::Held;
 
 /// Adds a row of long contents behind a space.
@@ -46,6 +46,7 @@ fn write_pairs(held: &mut Held, octets: &[u8])
 }
 
 /// Adds a held value with a space before it, where there is one. An object identifier is shown in hexadecimal.
+#[inline(always)]
 pub(crate) fn write_value(held: &mut Held, kind: Kind, contents: &[u8])
     requires short { length contents.now ≤ most_held kind }
     requires room { length held.old + 400 ≤ 4096 }
@@ -61,14 +62,15 @@ pub(crate) fn write_value(held: &mut Held, kind: Kind, contents: &[u8])
     }
 }
 
-/// Adds a row of characters behind a space.
+/// Adds a row of characters behind a space, in quotation marks.
 fn write_text(held: &mut Held, kind: Kind, row: &[u8])
     requires short { length row.now ≤ 64 }
     requires room { length held.old + 400 ≤ 4096 }
     ensures { held.new ≡ held.old ++ 32 ∷ quoted_row kind row.now }
 {
-    held.add(b" ");
-    write_quoted(held, kind, row);
+    held.add(b" \"");
+    write_characters(held, kind, row);
+    held.add(b"\"");
 }
 
 /// Adds a BOOLEAN (8.2.2).
@@ -85,7 +87,26 @@ fn write_boolean(held: &mut Held, contents: &[u8])
 }
 
 /// Adds an INTEGER or ENUMERATED (8.3.3).
+#[inline(always)]
 fn write_integer(held: &mut Held, contents: &[u8])
+    requires short { length contents.now ≤ 16 }
+    requires room { length held.old + 48 ≤ 4096 }
+    ensures { held.new ≡ held.old ++ (integer_value contents.now).text }
+{
+    if contents.len() > 8 {
+        write_wide_integer(held, contents);
+    } else if let Some(number) = short_number(contents) {
+        held.add(b" ");
+        if number < 0 {
+            held.add(b"-");
+        }
+        held.number(number.unsigned_abs());
+    }
+}
+
+/// Adds an INTEGER or ENUMERATED of more than eight octets.
+#[inline(never)]
+fn write_wide_integer(held: &mut Held, contents: &[u8])
     requires short { length contents.now ≤ 16 }
     requires room { length held.old + 48 ≤ 4096 }
     ensures { held.new ≡ held.old ++ (integer_value contents.now).text }

@@ -51,21 +51,6 @@ fn allows_octet(number: u64, octet: u8) -> bool
 fn is_printable(octet: u8) -> bool
     ensures { result ≡ is_printable_string octet }
 {
-    matches!(
-        octet,
-        b' ' | b'0'..=b'9'
-            | b'A'..=b'Z'
-            | b'a'..=b'z'
-            | b'\''
-            | b'('
-            | b')'
-            | b'+'
-            | b','
-            | b'-'
-            | b'.'
-            | b'/'
-            | b':'
-            | b'='
-            | b'?'
-    )
+    // From the plus sign to the colon stand a comma, a hyphen, a full stop, a solidus and the digits.
+    matches!(octet, b' ' | b'\''..=b')' | b'+'..=b':' | b'=' | b'?' | b'A'..=b'Z' | b'a'..=b'z')
 }

@@ -1,10 +1,10 @@
-use Rattle.std.proofs.Common.{ℕ, ◌++◌, ◌∷◌, [], List, refl, sym, ap, ◌∙◌, arith, append_assoc, length-append}
+use Rattle.std.proofs.Common.{ℕ, ◌++◌, [], List, refl, sym, ap, ◌∙◌, arith, append_assoc, append-nil, length-append}
 use Rattle.std.specs.Prelude.{flat_map}
 use Rattle.tlv_value.specs.Units.{unit_text, units}
-use Rattle.tlv_value.proofs.units.write_quoted.Goals as goal
+use Rattle.tlv_value.proofs.units.write_units.Goals as goal
 
 pub loop-rest-init : goal.loop-rest-init
-loop-rest-init c = (34 ∷ [], (λ h. c.push.ensures h), refl)
+loop-rest-init c = ([], (λ h. sym (append-nil c.args.held.now)), refl)
 
 pub loop-rest-preserved : goal.loop-rest-preserved
 loop-rest-preserved c =
