@@ -14,4 +14,4 @@ pub use beginning::{read_header, read_short};
 pub use fault::{Fault, FaultCode};
 pub use header::{Class, Header, HeaderFields, Size, spell_indefinite};
 pub use reader::{Head, HeadReader};
-pub use tag::{tag_text, type_name};
+pub use tag::{padded_name, tag_text, type_name};

@@ -1,7 +1,7 @@
 //! The texts of tags.
-ghost use Rattle.std.specs.Prelude.{◌≡◌, ◌≤◌, IfSome, eqb, length};
+ghost use Rattle.std.specs.Prelude.{◌≡◌, ◌≤◌, IfSome, eqb, length, take};
 ghost use Rattle.std.specs.Map.{lookup};
-ghost use Rattle.std.specs.Option.{option_copied};
+ghost use Rattle.std.specs.Option.{option_copied, option_map};
 ghost use Rattle.tlv_head.specs.Tag.{tag_text_of, universal_names};
 
 use crate::Class;
@@ -14,42 +14,53 @@ pub fn type_name(number: u64) -> Option<&'static [u8]>
     ensures name { option_copied result ≡ lookup (eqb number) universal_names }
     ensures short { IfSome result (λ name. length name.now ≤ 17) }
 {
+    let (name, size) = padded_name(number)?;
+    Some(&name[..size])
+}
+
+/// The name of a universal type with spaces behind it, so that it can be copied at once, and how many octets it has.
+/// `None` where the number is not that of a type.
+#[inline(always)]
+pub fn padded_name(number: u64) -> Option<(&'static [u8; 32], usize)>
+    ensures name { option_map (λ padded. take padded.1 padded.0.now) result ≡ lookup (eqb number) universal_names }
+    ensures short { IfSome result (λ padded. padded.1 ≤ 17) }
+{
     Some(match number {
-        1 => b"BOOLEAN",
-        2 => b"INTEGER",
-        3 => b"BIT STRING",
-        4 => b"OCTET STRING",
-        5 => b"NULL",
-        6 => b"OBJECT IDENTIFIER",
-        7 => b"ObjectDescriptor",
-        8 => b"EXTERNAL",
-        9 => b"REAL",
-        10 => b"ENUMERATED",
-        11 => b"EMBEDDED PDV",
-        12 => b"UTF8String",
-        13 => b"RELATIVE-OID",
-        14 => b"TIME",
-        16 => b"SEQUENCE",
-        17 => b"SET",
-        18 => b"NumericString",
-        19 => b"PrintableString",
-        20 => b"TeletexString",
-        21 => b"VideotexString",
-        22 => b"IA5String",
-        23 => b"UTCTime",
-        24 => b"GeneralizedTime",
-        25 => b"GraphicString",
-        26 => b"VisibleString",
-        27 => b"GeneralString",
-        28 => b"UniversalString",
-        29 => b"CHARACTER STRING",
-        30 => b"BMPString",
-        31 => b"DATE",
-        32 => b"TIME-OF-DAY",
-        33 => b"DATE-TIME",
-        34 => b"DURATION",
-        35 => b"OID-IRI",
-        36 => b"RELATIVE-OID-IRI",
+        1 => (b"BOOLEAN                         ", 7),
+        2 => (b"INTEGER                         ", 7),
+        3 => (b"BIT STRING                      ", 10),
+        4 => (b"OCTET STRING                    ", 12),
+        5 => (b"NULL                            ", 4),
+        6 => (b"OBJECT IDENTIFIER               ", 17),
+        7 => (b"ObjectDescriptor                ", 16),
+        8 => (b"EXTERNAL                        ", 8),
+        9 => (b"REAL                            ", 4),
+        10 => (b"ENUMERATED                      ", 10),
+        11 => (b"EMBEDDED PDV                    ", 12),
+        12 => (b"UTF8String                      ", 10),
+        13 => (b"RELATIVE-OID                    ", 12),
+        14 => (b"TIME                            ", 4),
+        16 => (b"SEQUENCE                        ", 8),
+        17 => (b"SET                             ", 3),
+        18 => (b"NumericString                   ", 13),
+        19 => (b"PrintableString                 ", 15),
+        20 => (b"TeletexString                   ", 13),
+        21 => (b"VideotexString                  ", 14),
+        22 => (b"IA5String                       ", 9),
+        23 => (b"UTCTime                         ", 7),
+        24 => (b"GeneralizedTime                 ", 15),
+        25 => (b"GraphicString                   ", 13),
+        26 => (b"VisibleString                   ", 13),
+        27 => (b"GeneralString                   ", 13),
+        28 => (b"UniversalString                 ", 15),
+        29 => (b"CHARACTER STRING                ", 16),
+        30 => (b"BMPString                       ", 9),
+        31 => (b"DATE                            ", 4),
+        32 => (b"TIME-OF-DAY                     ", 11),
+        33 => (b"DATE-TIME                       ", 9),
+        34 => (b"DURATION                        ", 8),
+        35 => (b"OID-IRI                         ", 7),
+        36 => (b"RELATIVE-OID-IRI                ", 16),
         _ => return None,
     })
 }

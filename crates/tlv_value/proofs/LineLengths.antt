@@ -1,9 +1,10 @@
 -- How long what is added to a line is at most.
-use Rattle.std.proofs.Common.{◌≡◌, ℕ, ◌+◌, ◌-◌, ◌^◌, ◌<◌, ◌≤◌, List, ◌++◌, length, arith, ap, ◌∙◌, length-append}
+use Rattle.std.proofs.Common.{◌≡◌, ℕ, ◌+◌, ◌-◌, ◌^◌, ◌<◌, ◌≤◌, List, [], ◌∷◌, ◌++◌, length, arith, ap, ◌∙◌, length-append}
 use Rattle.std.specs.Prelude.{decimal}
 use Rattle.std.proofs.lemmas.Fmt.{length-decimal-le}
 use Rattle.std.proofs.lemmas.List.{length-replicate}
-use Rattle.tlv_value.specs.Layout.{right, spaces}
+use Rattle.tlv_value.specs.Layout.{columns, right, spaces}
+use Rattle.tlv_walk.proofs.HeldTexts.{right-short}
 
 -- a text was added
 pub added : (old new text : List ℕ) → new ≡ old ++ text → length new ≡ length old + length text
@@ -13,8 +14,9 @@ added old new text e = ap length e ∙ length-append old text
 pub number_short : (old new : List ℕ) (n : ℕ) → n < 2 ^ 64 → new ≡ old ++ decimal n → length new ≤ length old + 20
 number_short old new n fits e = omega (arith, added old new (decimal n) e, length-decimal-le 20 n (omega arith) (omega arith) fits)
 
--- at the right of so many places
-pub places_short : (old new : List ℕ) (places n : ℕ) → places ≤ 20 → n < 2 ^ 64 → new ≡ old ++ right places (decimal n) → length new ≤ length old + 20
-places_short old new places n few fits e =
-    let blank : length (spaces (places - length (decimal n))) ≡ places - length (decimal n) = length-replicate (places - length (decimal n)) 32 in
-    omega (arith, added old new (right places (decimal n)) e, length-append (spaces (places - length (decimal n))) (decimal n), blank, length-decimal-le 20 n (omega arith) (omega arith) fits)
+-- the first columns
+pub columns_short : (offset : ℕ) (word : List ℕ) → offset < 2 ^ 64 → length word ≤ 20 → length (columns offset word) ≤ 43
+columns_short offset word fits few =
+    let first : List ℕ = right 8 (decimal offset) in
+    let last : length (right 6 word) ≤ 20 = omega (arith, length-append (spaces (6 - length word)) word, length-replicate {A = ℕ} (6 - length word) 32) in
+    omega (arith, length-append (first ++ 32 ∷ [] ++ right 6 word) (58 ∷ 32 ∷ []), length-append (first ++ 32 ∷ []) (right 6 word), length-append first (32 ∷ []), right-short 8 offset (omega arith) fits, last)

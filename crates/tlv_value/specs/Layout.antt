@@ -1,12 +1,8 @@
 -- The lines of a value: what begins them, and what is left out.
-use Rattle.std.specs.Prelude.{ℕ, ◌+◌, ◌*◌, Bool, eqb, nat_lt, if◌then◌else◌, List, [], ◌∷◌, ◌++◌, Option, Some, None, codes, decimal}
+use Rattle.std.specs.Prelude.{ℕ, ◌+◌, ◌*◌, Bool, eqb, nat_lt, if◌then◌else◌, List, [], ◌∷◌, ◌++◌, Option, Some, None, codes}
 use Rattle.std.specs.Option.{option_map_or}
 use Rattle.tlv_value.specs.declared.layout.Layout.{Layout}
-pub use Rattle.tlv_walk.specs.Held.{right, spaces}
-
--- the first columns of a line: where an element stands, and how many contents octets it has, or a word
-abbrev pub columns : ℕ → List ℕ → List ℕ
-columns offset word = right 8 (decimal offset) ++ codes " " ++ right 6 word ++ codes ": "
+pub use Rattle.tlv_walk.specs.Held.{columns, right, spaces}
 
 -- the first columns of a row
 abbrev pub no_columns : List ℕ

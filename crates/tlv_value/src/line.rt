@@ -26,10 +26,7 @@ fn write_sized(held: &mut Held, pure: bool, offset: u64, size: u64)
     ensures bound { length held.new ≤ length held.old + 43 }
 {
     if !pure {
-        held.right_8(offset);
-        held.add(b" ");
-        held.right_6(size);
-        held.add(b": ");
+        held.columns(offset, size);
     }
 }
 
@@ -52,10 +49,7 @@ fn write_worded(held: &mut Held, pure: bool, offset: u64, word: &[u8; 6])
     ensures bound { length held.new ≤ length held.old + 43 }
 {
     if !pure {
-        held.right_8(offset);
-        held.add(b" ");
-        held.add(word);
-        held.add(b": ");
+        held.worded(offset, word);
     }
 }
 

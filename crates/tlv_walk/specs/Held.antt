@@ -1,5 +1,5 @@
 -- Texts that lines are made of.
-use Rattle.std.specs.Prelude.{ℕ, ◌-◌, List, [], ◌∷◌, ◌++◌, flat_map, length, replicate}
+use Rattle.std.specs.Prelude.{ℕ, ◌-◌, List, [], ◌∷◌, ◌++◌, codes, decimal, flat_map, length, replicate}
 use Rattle.hex.specs.Hex.{encode_lower}
 
 abbrev pub spaces : ℕ → List ℕ
@@ -8,6 +8,10 @@ spaces n = replicate n 0x20
 -- at the right end of so many places; what is longer takes as many as it needs
 abbrev pub right : ℕ → List ℕ → List ℕ
 right places text = spaces (places - length text) ++ text
+
+-- the first columns of a line: where an element stands, and how many contents octets it has, or a word
+abbrev pub columns : ℕ → List ℕ → List ℕ
+columns offset word = right 8 (decimal offset) ++ codes " " ++ right 6 word ++ codes ": "
 
 -- pairs of digits, each behind a space
 abbrev pub spaced_pairs : List ℕ → List ℕ

@@ -6,7 +6,7 @@ mod numbers;
 mod texts;
 
 use std::marker::Model;
-use texts::{fill_spaces, write_pairs};
+use texts::{fill_spaces, write_pairs, write_row};
 
 /// As many octets as are held at most.
 pub(crate) const CAPACITY: usize = 4096;
@@ -79,6 +79,17 @@ impl Held {
         self.len = end;
     }
 
+    /// Adds the first of 32 octets. There is room for all, so that they can be copied at once.
+    #[inline(always)]
+    pub fn add_front(&mut self, octets: &[u8; 32], count: usize)
+        requires few { count ≤ 32 }
+        requires room { length self.old + 32 ≤ 4096 }
+        ensures { self.new ≡ self.old ++ take count octets.now }
+    {
+        self.octets[self.len..self.len + 32].copy_from_slice(octets);
+        self.len += count;
+    }
+
     /// Adds octets, if there is room for them.
     #[inline]
     pub fn push(&mut self, octets: &[u8])
@@ -107,6 +118,16 @@ impl Held {
     {
         write_pairs(octets, &mut self.octets[self.len..]);
         self.len += 3 * octets.len();
+    }
+
+    /// Adds 16 octets as pairs of digits, each behind a space.
+    #[inline(always)]
+    pub fn spaced_row(&mut self, octets: &[u8; 16])
+        requires { length self.old + 48 ≤ 4096 }
+        ensures { self.new ≡ self.old ++ pairs_spaced octets.now }
+    {
+        write_row(octets, &mut self.octets[self.len..]);
+        self.len += 48;
     }
 
     /// How many octets more can be held.

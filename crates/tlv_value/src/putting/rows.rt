@@ -105,7 +105,6 @@ pub(crate) fn put_last<D: Drain>(
 }
 
 /// Puts a row, unless that is past the limit.
-#[tactic(auto, using(tlv_walk::proofs::Puts::lines))]
 #[inline(always)]
 fn put_row<D: Drain>(
     kind: Kind,
@@ -128,7 +127,6 @@ fn put_row<D: Drain>(
 }
 
 /// Puts three dots in place of the first row past the limit.
-#[tactic(auto, using(tlv_walk::proofs::Puts::lines))]
 #[inline(never)]
 fn put_dots<D: Drain>(
     layout: Layout,

@@ -43,3 +43,16 @@ pub(super) fn write_pairs(octets: &[u8], to: &mut [u8])
         let _ = hex::encode_to_slice([octets[i]], &mut to[3 * i + 1..3 * i + 3]);
     }
 }
+
+/// Writes 16 octets as pairs of digits, each behind a space. The spaces are there first, copied at once.
+#[inline(always)]
+pub(super) fn write_row(octets: &[u8; 16], to: &mut [u8])
+    requires { 48 ≤ length to.old }
+    ensures text { take 48 to.new ≡ pairs_spaced octets.now }
+    ensures size { length to.new ≡ length to.old }
+{
+    to[..48].copy_from_slice(&[b' '; 48]);
+    for i in 0..16 {
+        let _ = hex::encode_to_slice([octets[i]], &mut to[3 * i + 1..3 * i + 3]);
+    }
+}

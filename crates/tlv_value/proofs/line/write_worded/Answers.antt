@@ -1,19 +1,8 @@
-use Rattle.std.proofs.Common.{◌∷◌, [], arith}
-use Rattle.tlv_value.proofs.LineLengths.{added, places_short}
+use Rattle.std.proofs.Common.{arith}
+use Rattle.tlv_value.specs.Layout.{columns}
+use Rattle.tlv_value.proofs.LineLengths.{added, columns_short}
 use Rattle.tlv_value.proofs.line.write_worded.Goals as goal
-
-pub add-requires : goal.add-requires
-add-requires c = omega (arith, places_short _ _ _ _ (omega arith) c.ranges.offset.fits c.right_8.ensures, c.requires)
-
-pub add-requires-then-not-pure : goal.add-requires-then-not-pure
-add-requires-then-not-pure c = omega (arith, places_short _ _ _ _ (omega arith) c.ranges.offset.fits c.right_8.ensures, added _ _ (32 ∷ []) c.add.ensures, c.told-word, c.requires)
-
-pub add-requires-then-not-pure-2 : goal.add-requires-then-not-pure-2
-add-requires-then-not-pure-2 c =
-    let first = places_short _ _ _ _ (omega arith) c.ranges.offset.fits c.right_8.ensures in
-    omega (arith, first, added _ _ (32 ∷ []) c.add.ensures, added _ _ c.args.word.now c.add-then-not-pure.ensures, c.told-word, c.requires)
 
 pub returns-then-not-pure-clause-bound : goal.returns-then-not-pure-clause-bound
 returns-then-not-pure-clause-bound c =
-    let first = places_short _ _ _ _ (omega arith) c.ranges.offset.fits c.right_8.ensures in
-    omega (arith, first, added _ _ (32 ∷ []) c.add.ensures, added _ _ c.args.word.now c.add-then-not-pure.ensures, added _ _ (58 ∷ 32 ∷ []) c.add-then-not-pure-2.ensures, c.told-word)
+    omega (arith, added _ _ (columns c.args.offset c.args.word.now) c.worded.ensures, columns_short c.args.offset c.args.word.now c.ranges.offset.fits (omega (arith, c.told-word)))
