@@ -28,3 +28,4 @@ pub mod Worked
 pub mod PlainUnits
 pub mod EachNoted
 pub mod Within
+pub mod FullRows
