@@ -20,6 +20,7 @@ mod text;
 mod time;
 mod units;
 mod value;
+mod whole;
 
 pub use check::ValueCheck;
 pub use clear::is_clear;
@@ -30,6 +31,6 @@ pub use layout::Layout;
 pub use line::{begin_blank, begin_sized, begin_word, write_element, write_tag};
 pub use names::{Names, NamesFault};
 pub use naming::NameTable;
-pub use primitive::{is_on_line, put_whole};
 pub use text::ValueText;
 pub use time::{general_canonical, general_ok, utc_canonical, utc_ok};
+pub use whole::put_whole;

@@ -1,11 +1,9 @@
 //! A primitive by what its header says.
-ghost use Rattle.std.specs.Prelude.{◌≡◌, ◌+◌, ◌<◌, ◌≤◌, ◌++◌, ◌∷◌, [], OnOk, false, length, not};
-ghost use Rattle.tlv_head.specs.Header.{announced};
+ghost use Rattle.std.specs.Prelude.{◌≡◌, ◌+◌, ◌<◌, ◌≤◌, ◌++◌, ◌∷◌, [], OnOk, length};
 ghost use Rattle.tlv_walk.specs.Out.{Puts, held_in};
 ghost use Rattle.tlv_value.specs.KindValues.{is_long as is_long_value, long_text};
 ghost use Rattle.tlv_value.specs.Private.KindValues.{plain_text};
 ghost use Rattle.tlv_value.specs.Private.State.{front_of, line_of, primitive_of, shown};
-ghost use Rattle.tlv_value.specs.State.{kind_by, whole_lines};
 ghost use Rattle.tlv_value.specs.Value.{most_held};
 
 use crate::kind::{Kind, kind_of};
@@ -153,38 +151,4 @@ impl Primitive {
             }
         }
     }
-}
-
-/// Puts the lines of a primitive of which all contents are at hand, and whose value stands on its line: as a
-/// [`ValueText`](crate::ValueText) does with its header, its contents and its end.
-///
-/// # Errors
-///
-/// `WriteFault` exactly where the drain's failures rose in the call.
-#[inline(always)]
-pub fn put_whole<N: NameTable, D: Drain>(
-    header: &Header,
-    layout: Layout,
-    contents: &[u8],
-    names: &N,
-    out: &mut Out<'_, D>,
-) -> Result<(), WriteFault>
-    requires on_line { is_long_value (kind_by header.now) (announced header.now.size) ≡ false }
-    requires whole { announced header.now.size ≡ length contents.now }
-    ensures { Puts D.told out.old out.new (whole_lines (N.name_of names.now) header.now layout contents.now) result }
-{
-    Primitive::new(header, layout).put(contents, names, out)
-}
-
-/// Whether the value of a primitive with this header stands on its line.
-#[inline(always)]
-pub fn is_on_line(header: &Header) -> bool
-    ensures { result ≡ not (is_long_value (kind_by header.now) (announced header.now.size)) }
-{
-    let layout = Layout {
-        level: 0,
-        limit: None,
-        pure: false,
-    };
-    !Primitive::new(header, layout).is_long()
 }

@@ -1,6 +1,8 @@
 //! The lines of a primitive, from its contents in pieces.
 ghost use Rattle.std.specs.Prelude.{◌≡◌, ◌+◌, ◌<◌, ◌≤◌, ◌^◌, ◌∷◌, [], length, OnOk, None, true, false};
 ghost use Rattle.tlv_walk.specs.Out.{Puts};
+ghost use Rattle.tlv_value.specs.Kind.{kind_of as kind_of_tag};
+ghost use Rattle.tlv_value.specs.Private.State.{start_of};
 ghost use Rattle.tlv_value.specs.State.{after, begun, ended, start, told};
 ghost use Rattle.tlv_value.specs.KindValues.{in_rows};
 
@@ -59,7 +61,15 @@ impl ValueText {
     pub fn new(header: &Header, layout: Layout) -> ValueText
         ensures { result ≡ start header.now layout }
     {
-        let value = Primitive::new(header, layout);
+        ValueText::of(Primitive::new(header, layout))
+    }
+
+    /// For this primitive, of whose contents no octet has come.
+    #[inline(always)]
+    pub(crate) fn of(value: Primitive) -> ValueText
+        requires { value.kind ≡ kind_of_tag value.class value.number }
+        ensures { result ≡ start_of value }
+    {
         ValueText {
             value,
             left: value.size,

@@ -1,5 +1,5 @@
 -- The lines of a primitive, by what its header says of it.
-use Rattle.std.specs.Prelude.{ℕ, List, ◌++◌, decimal}
+use Rattle.std.specs.Prelude.{ℕ, List, [], ◌++◌, decimal}
 use Rattle.tlv_head.specs.Header.{Heading, announced}
 use Rattle.tlv_head.specs.Tag.{tag_text_of}
 use Rattle.tlv_value.specs.declared.layout.Layout.{Layout}
@@ -7,7 +7,7 @@ use Rattle.tlv_value.specs.declared.primitive.Primitive.{Primitive}
 use Rattle.tlv_value.specs.Kind.{kind_of}
 use Rattle.tlv_value.specs.KindValues.{kind_value}
 use Rattle.tlv_value.specs.Layout.{columns, margin}
-use Rattle.tlv_value.specs.State.{element_line, row_lines}
+use Rattle.tlv_value.specs.State.{TextState, after, begun, element_line, ended, has_line, row_lines, told}
 use Rattle.tlv_value.specs.Value.{NameOf}
 
 abbrev pub primitive_of : Heading → Layout → Primitive
@@ -31,3 +31,19 @@ line_of p text = element_line p.layout p.offset p.class p.number p.size text
 -- its lines, where its value stands on its line
 abbrev pub shown : NameOf → Primitive → List ℕ → List ℕ
 shown name_of p octets = line_of p (kind_value name_of p.kind octets).text ++ row_lines p.kind p.layout 0 (kind_value name_of p.kind octets).rows
+
+-- what is kept of it before any octet
+abbrev pub start_of : Primitive → TextState
+start_of p = record {
+  offset = p.offset;
+  class = p.class;
+  number = p.number;
+  size = p.size;
+  layout = p.layout;
+  left = p.size;
+  kept = record { lined = has_line p.kind []; rows = 0; row = [] };
+}
+
+-- the lines that are known with the header, with all contents, and with the end
+abbrev pub lines_in_steps : NameOf → TextState → List ℕ → List ℕ
+lines_in_steps name_of s octets = begun s ++ (told s octets ++ ended name_of (after s octets))

@@ -1,0 +1,5 @@
+use Rattle.tlv_walk.proofs.Puts.{puts_failed_in, puts_then_as}
+use Rattle.tlv_value.proofs.whole.put_long.Goals as goal
+
+pub returns : goal.returns
+returns g c = ?
