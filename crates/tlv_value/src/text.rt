@@ -82,13 +82,13 @@ impl ValueText {
     /// For no primitive yet: as for an empty one that is of no universal type, at the top.
     pub fn idle() -> ValueText
         ensures { result ≡ record {
-            offset = 0;
-            class = Class.Private;
-            number = 0;
-            size = 0;
-            layout = record { level = 0; limit = None; pure = false };
-            left = 0;
-            kept = record { lined = true; rows = 0; row = [] };
+          offset = 0;
+          class = Class.Private;
+          number = 0;
+          size = 0;
+          layout = record { level = 0; limit = None; pure = false };
+          left = 0;
+          kept = record { lined = true; rows = 0; row = [] };
         } }
     {
         let value = Primitive {
