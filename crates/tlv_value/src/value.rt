@@ -63,6 +63,7 @@ pub(crate) fn write_value(held: &mut Held, kind: Kind, contents: &[u8])
 }
 
 /// Adds a row of characters behind a space, in quotation marks.
+#[inline(never)]
 fn write_text(held: &mut Held, kind: Kind, row: &[u8])
     requires short { length row.now ≤ 64 }
     requires room { length held.old + 400 ≤ 4096 }
@@ -129,6 +130,7 @@ fn write_signed(held: &mut Held, number: i128)
 }
 
 /// Adds a BIT STRING (8.6.2).
+#[inline(never)]
 fn write_bits(held: &mut Held, contents: &[u8])
     requires short { length contents.now ≤ 9 }
     requires room { length held.old + 128 ≤ 4096 }
