@@ -27,3 +27,4 @@ pub mod Worked
 pub mod PlainUnits
 pub mod EachNoted
 pub mod Within
+pub mod FullRows

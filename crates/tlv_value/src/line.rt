@@ -4,7 +4,7 @@ ghost use Rattle.tlv_head.specs.Tag.{tag_text_of};
 ghost use Rattle.tlv_value.specs.Layout.{columns, margin, no_columns, spaces};
 
 use crate::Layout;
-use tlv_head::{Class, type_name};
+use tlv_head::{Class, padded_name};
 use tlv_walk::Held;
 
 /// Begins a line with its first columns, an offset and a length, and its indentation.
@@ -103,8 +103,8 @@ fn write_universal(held: &mut Held, number: u64)
     ensures text { held.new ≡ held.old ++ tag_text_of Class.Universal number }
     ensures bound { length held.new ≤ length held.old + 40 }
 {
-    match type_name(number) {
-        Some(name) => held.add(name),
+    match padded_name(number) {
+        Some((name, size)) => held.add_front(name, size),
         None => write_bracketed(held, b"[UNIVERSAL ", number),
     }
 }

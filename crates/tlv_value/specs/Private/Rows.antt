@@ -1,7 +1,18 @@
 -- Words of rows that proofs use.
-use Rattle.std.specs.Prelude.{ℕ, List, [], ◌++◌}
+use Rattle.std.specs.Prelude.{ℕ, ◌+◌, List, [], ◌++◌, flat_map}
 use Rattle.tlv_value.specs.declared.kind.Kind.{Kind}
+use Rattle.tlv_value.specs.declared.kind.Kind.TheVariants.{Octets}
+use Rattle.tlv_value.specs.declared.layout.Layout.{Layout}
+use Rattle.tlv_value.specs.Layout.{line, no_columns}
 use Rattle.tlv_value.specs.Rows.{full_rows, open_row, last_rows}
+use Rattle.tlv_value.specs.Value.{row_text}
 
 abbrev pub cut_rows : Kind → List ℕ → List (List ℕ)
 cut_rows kind octets = full_rows kind [] octets ++ last_rows (open_row kind [] octets)
+
+-- the lines of rows of pairs of digits, where there is no limit to rows
+abbrev pub full_line : Layout → List ℕ → List ℕ
+full_line layout row = line layout.pure no_columns (layout.level + 1) (row_text Octets row)
+
+abbrev pub full_lines : Layout → List (List ℕ) → List ℕ
+full_lines layout rows = flat_map (full_line layout) rows

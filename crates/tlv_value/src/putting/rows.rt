@@ -1,7 +1,8 @@
 //! Rows on their way to an [`Out`].
-ghost use Rattle.std.specs.Prelude.{◌≡◌, ◌+◌, ◌<◌, ◌≤◌, ◌^◌, ◌++◌, [], codes, if◌then◌else◌, length, OnOk};
+ghost use Rattle.std.specs.Prelude.{◌≡◌, ◌+◌, ◌<◌, ◌≤◌, ◌^◌, ◌++◌, [], codes, if◌then◌else◌, length, IsTrue, None, OnOk, ◌↔◌};
 ghost use Rattle.tlv_walk.specs.Out.{Puts};
 ghost use Rattle.tlv_value.specs.Layout.{line, no_columns, row_line as row_line_of};
+ghost use Rattle.tlv_value.specs.Private.Rows.{full_line, full_lines};
 ghost use Rattle.tlv_value.specs.Rows.{full_rows, last_rows, open_row, row_size as row_size_of, rows_of};
 ghost use Rattle.tlv_value.specs.State.{row_lines};
 ghost use Rattle.tlv_value.specs.Value.{row_text};
@@ -51,15 +52,48 @@ pub(crate) fn put_rows<D: Drain>(
     let size = row_size(kind);
     let mut rest = octets;
     while !rest.is_empty() {
-        let (part, more) = rest.split_at(fitting(kind, row.len(), rest));
+        let begun = row.len();
+        if has_full_rows(layout, size, begun, rest) {
+            let (full, more) = rest.as_chunks::<16>();
+            rest = more;
+            *rows += full.len() as u64;
+            put_full_rows(layout, full, out)?;
+            continue;
+        }
+        let (part, more) = rest.split_at(fitting(kind, begun, rest));
         rest = more;
-        if row.len() + part.len() < size && rest.is_empty() {
+        if begun + part.len() < size && rest.is_empty() {
             let _ = row.try_extend_from_slice(part);
             return Ok(());
         }
         let index = *rows;
         *rows += 1;
         put_full(kind, layout, index, row, part, out)?;
+    }
+    Ok(())
+}
+
+/// Whether the octets begin with full rows of pairs of digits, where no row has begun and their number is not limited.
+#[inline(always)]
+fn has_full_rows(layout: Layout, size: usize, begun: usize, octets: &[u8]) -> bool
+    ensures { IsTrue result
+        ↔ ((begun ≡ 0) × (size ≡ 16) × (layout.limit ≡ None) × (16 ≤ length octets.now)) }
+{
+    begun == 0 && size == 16 && layout.limit.is_none() && octets.len() >= 16
+}
+
+/// Puts full rows of pairs of digits, from where their octets stand. There is no limit to them.
+#[inline(always)]
+fn put_full_rows<D: Drain>(
+    layout: Layout,
+    rows: &[[u8; 16]],
+    out: &mut Out<'_, D>,
+) -> Result<(), WriteFault>
+    ensures { Puts D.told out.old out.new (full_lines layout rows.now) result }
+{
+    for row in rows {
+        out.make_room()?;
+        write_full_line(&mut out.held, layout, row);
     }
     Ok(())
 }
@@ -153,6 +187,18 @@ fn write_line(held: &mut Held, layout: Layout, kind: Kind, row: &[u8])
 {
     held.spaces(row_indent(layout) - 1);
     write_row(held, kind, row);
+    held.add(b"\n");
+}
+
+/// Adds the line of a full row of pairs of digits.
+#[inline(always)]
+fn write_full_line(held: &mut Held, layout: Layout, row: &[u8; 16])
+    requires { length held.old + 1024 ≤ 4096 }
+    ensures { held.new ≡ held.old ++ full_line layout row.now }
+{
+    // Each pair brings the space before it.
+    held.spaces(row_indent(layout) - 1);
+    held.spaced_row(row);
     held.add(b"\n");
 }
 
