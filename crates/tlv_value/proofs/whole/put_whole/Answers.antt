@@ -1,15 +1,15 @@
 use Rattle.std.proofs.Common.{ap, sym, ◌∙◌}
+use Rattle.tlv_value.specs.declared.primitive.Primitive.{Primitive}
 use Rattle.tlv_value.specs.Private.State.{lines_in_steps, start_of}
 use Rattle.tlv_value.proofs.Pieces.{shown-told, whole-told}
-use Rattle.tlv_value.specs.declared.primitive.Primitive.{Primitive}
 use Rattle.tlv_walk.proofs.Puts.{puts_text}
 use Rattle.tlv_value.proofs.whole.put_whole.Goals as goal
 
 pub returns-then-is_long : goal.returns-then-is_long
 returns-then-is_long g c =
     let name_of = g.N.NameTable.name_of c.args.names.now in
-    puts_text g.D.Drain.told _ _ _ _ _
-    (ap (λ (p : Primitive). lines_in_steps name_of (start_of p) c.args.contents.now) c.new.ensures ∙ whole-told name_of c.args.header.now c.args.layout c.args.contents.now (sym c.requires)) c.put_long.ensures
+    let steps = ap (λ (p : Primitive). lines_in_steps name_of (start_of p) c.args.contents.now) c.new-value.ensures in
+    puts_text g.D.Drain.told _ _ _ _ _ (steps ∙ whole-told name_of c.args.header.now c.args.layout c.args.contents.now (sym c.requires)) c.put_long.ensures
 
-pub returns : goal.returns
-returns g c = ?
+pub returns-else-is_long : goal.returns-else-is_long
+returns-else-is_long g c = ?

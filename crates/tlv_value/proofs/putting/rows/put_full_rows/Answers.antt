@@ -1,6 +1,5 @@
-use Rattle.std.proofs.Common.{rules, ◌++◌, [], List, ℕ, append-nil, drop, get_or, take, ap, ◌∙◌}
+use Rattle.std.proofs.Common.{rules, ◌++◌, [], List, ℕ, append-nil, drop, get_or, refl, take, ap, ◌∙◌}
 use Rattle.std.proofs.lemmas.List.{take_all}
-use Rattle.tlv_walk.specs.declared.out.Out.{Out}
 use Rattle.tlv_walk.proofs.Puts.{puts_failed_in, puts_line, puts_nothing, puts_text, puts_then_as}
 use Rattle.tlv_value.specs.Private.Rows.{full_line, full_lines}
 use Rattle.tlv_value.proofs.FullRows.{lines_more, lines_split}
@@ -14,9 +13,8 @@ loop-row-preserved g c =
     let told = g.D.Drain.told in
     let i : ℕ = c.loop-row.row-index in
     let line : List ℕ = full_line c.args.layout (get_or c.args.rows.now i []) in
-    let after : Out g.row.D.Denot = record { drain = c.make_room.new.self.drain; held = c.write_full_line.new.held } in
     puts_then_as told _ _ _ (full_lines c.args.layout (take i c.args.rows.now)) line _ _ _ c.loop-row.invariant
-    (puts_line told _ _ after line _ (tt {0}) c.in_ok-make_room.ensures.puts refl c.write_full_line.ensures) (lines_more c.args.layout c.args.rows.now i c.loop-row-test.true)
+    (puts_line told _ _ _ line _ (tt {0}) c.in_ok-make_room.ensures.puts refl c.write_full_line.ensures) (lines_more c.args.layout c.args.rows.now i c.loop-row-test.true)
 
 pub returns-in_err-make_room : goal.returns-in_err-make_room
 returns-in_err-make_room g c =
