@@ -1,5 +1,6 @@
 use Rattle.std.proofs.Common.{ap, sym, ◌∙◌}
 use Rattle.tlv_value.specs.declared.primitive.Primitive.{Primitive}
+use Rattle.tlv_value.specs.KindValues.{is_long}
 use Rattle.tlv_value.specs.Private.State.{lines_in_steps, start_of}
 use Rattle.tlv_value.proofs.Pieces.{shown-told, whole-told}
 use Rattle.tlv_walk.proofs.Puts.{puts_text}
@@ -12,4 +13,6 @@ returns-then-is_long g c =
     puts_text g.D.Drain.told _ _ _ _ _ (steps ∙ whole-told name_of c.args.header.now c.args.layout c.args.contents.now (sym c.requires)) c.put_long.ensures
 
 pub returns-else-is_long : goal.returns-else-is_long
-returns-else-is_long g c = ?
+returns-else-is_long g c =
+    let short = sym (ap (λ (p : Primitive). is_long p.kind p.size) c.new-value.ensures) ∙ sym c.if-is_long.ensures in
+    puts_text g.D.Drain.told _ _ _ _ _ (shown-told _ c.args.header.now c.args.layout c.new-value.result c.args.contents.now c.new-value.ensures short (sym c.requires)) c.put.ensures
