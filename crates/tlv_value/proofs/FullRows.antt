@@ -1,12 +1,10 @@
 -- Full rows of pairs of digits, from where their octets stand.
 use Rattle.std.proofs.Common.{◌≡◌, inl, ℕ, zero, suc, ◌+◌, ◌-◌, ◌*◌, ◌/◌, ◌<◌, ◌≤◌, false, List, [], ◌∷◌, ◌++◌, length, take, drop, get_or, refl, sym, ap, ap₂, ◌∙◌, arith, append_assoc, append-nil, length-append, length-drop, take-append-drop}
-use Rattle.std.specs.Prelude.{None, codes}
-use Rattle.std.specs.List.{join_by}
+use Rattle.std.specs.Prelude.{None}
 use Rattle.std.proofs.lemmas.Bool.Decides.{nat_tests}
 use Rattle.std.proofs.lemmas.List.{drop-drop, replicate_more, take_more}
 use Rattle.std.proofs.lemmas.Grind.{flat_map-append}
 use Rattle.std.specs.Simd.{first_chunks}
-use Rattle.hex.specs.Hex.{encode_lower}
 use Rattle.tlv_value.specs.declared.kind.Kind.{Kind}
 use Rattle.tlv_value.specs.declared.kind.Kind.TheVariants.{Octets, Boolean, Integer, Bits, Object, Relative, Text, Utf8, Ucs2, Ucs4}
 use Rattle.tlv_value.specs.declared.layout.Layout.{Layout}
@@ -79,8 +77,7 @@ module _ (kind : Kind) (short : row_size kind ≡ 16) where
     pub rows_turned : (i : ℕ) (octets : List ℕ) (rows : List (List ℕ)) (more : List ℕ) → rows ≡ first_chunks 16 (length octets / 16) octets → more ≡ drop (length octets / 16 * 16) octets → Turned i octets rows more
     rows_turned i octets rows more e f =
         let t = rows_first (length octets / 16) octets (omega arith) in
-        let all : full_rows kind [] octets ≡ rows ++ full_rows kind [] more = rw (e, f) t.0 in
-        (
+        let all : full_rows kind [] octets ≡ rows ++ full_rows kind [] more = rw (e, f) t.0 in (
           ap (row_lines kind layout i) all ∙ row_lines-append kind layout i rows (full_rows kind [] more) ∙ ap (λ (l : List ℕ). l ++ row_lines kind layout (i + length rows) (full_rows kind [] more)) (lines_of i rows),
           rw f t.1,
           ap length all ∙ length-append rows (full_rows kind [] more),
