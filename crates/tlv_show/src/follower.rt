@@ -15,7 +15,7 @@ use crate::line_follower::Lines;
 use crate::style::put_findings;
 use std::marker::Model;
 use tlv_head::Header;
-use tlv_value::{Layout, Names, is_on_line};
+use tlv_value::{Layout, Names};
 use tlv_walk::{Drain, Event, Follow, Go, Out, WriteFault};
 
 /// Writes the lines that each event allows. The line of an element that holds others comes with its header, and that
@@ -91,9 +91,6 @@ impl Follow for Dump<'_> {
         octets: &[u8],
         out: &mut Out<'_, D>,
     ) -> Result<bool, WriteFault> {
-        if !is_on_line(header) {
-            return Ok(false);
-        }
         let contents = contents_in(header, octets);
         if !self.finder.passes(header, contents) {
             return Ok(false);

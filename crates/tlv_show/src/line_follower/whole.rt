@@ -1,11 +1,10 @@
-//! The line of a primitive of which all octets are at hand. Written at once, nothing is kept of it: no contents are copied, and
+//! The lines of a primitive of which all octets are at hand. Written at once, nothing is kept of it: no contents are copied, and
 //! its type is asked for once, not again with its contents and its end.
 ghost use Rattle.std.specs.FinMap as finite;
-ghost use Rattle.std.specs.Prelude.{◌≡◌, OnOk, false, length};
+ghost use Rattle.std.specs.Prelude.{◌≡◌, length};
 ghost use Rattle.tlv_head.specs.Header.{announced};
 ghost use Rattle.tlv_walk.specs.Out.{Puts};
-ghost use Rattle.tlv_value.specs.KindValues.{is_long};
-ghost use Rattle.tlv_value.specs.State.{kind_by, whole_lines};
+ghost use Rattle.tlv_value.specs.State.{whole_lines};
 ghost use Rattle.tlv_show.specs.Private.Dumped.{behind_whole};
 
 use super::Lines;
@@ -14,7 +13,7 @@ use tlv_value::put_whole;
 use tlv_walk::{Drain, Out, WriteFault};
 
 impl Lines<'_> {
-    /// A primitive begins, has all of these contents, and ends. Its value stands on its line.
+    /// A primitive begins, has all of these contents, and ends.
     #[inline(always)]
     pub fn whole<D: Drain>(
         &mut self,
@@ -22,8 +21,7 @@ impl Lines<'_> {
         contents: &[u8],
         out: &mut Out<'_, D>,
     ) -> Result<(), WriteFault>
-        requires on_line { is_long (kind_by header.now) (announced header.now.size) ≡ false }
-        requires whole { announced header.now.size ≡ length contents.now }
+        requires { announced header.now.size ≡ length contents.now }
         ensures state { self.new ≡ behind_whole self.old header.now contents.now }
         ensures puts { Puts D.told out.old out.new
             (whole_lines (finite.get self.old.names) header.now self.old.layout contents.now) result }

@@ -1,7 +1,7 @@
 //! A primitive in pieces and at once, and the parts of a line.
 use super::{OneName, PLAIN};
 use tlv_head::{Class, Header, read_header};
-use tlv_value::{Layout, ValueText, begin_blank, begin_word, is_on_line, put_whole, write_tag};
+use tlv_value::{Layout, ValueText, begin_blank, begin_word, put_whole, write_tag};
 use tlv_walk::{Held, MemDrain, Out};
 
 /// The header with which these octets begin, at this offset.
@@ -28,7 +28,7 @@ fn put_five(text: &mut ValueText, drain: &mut MemDrain<'_>) -> Option<()> {
 /// The same, told at once.
 fn put_five_whole(header: &Header, drain: &mut MemDrain<'_>) -> Option<()> {
     let octets = b"\x05";
-    if !matches!(header.size, tlv_head::Size::Definite(1)) || !is_on_line(header) {
+    if !matches!(header.size, tlv_head::Size::Definite(1)) {
         return None;
     }
     let mut out = Out::new(drain);
