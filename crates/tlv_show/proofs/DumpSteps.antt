@@ -12,7 +12,6 @@ use Rattle.tlv_walk.specs.Follow.{Following, each_octet, followed, if_on}
 use Rattle.tlv_show.specs.Dumped.{dumped, one_dumped, one_padded}
 use Rattle.tlv_show.specs.DumpStep.{Showing, dump_step, findings_first, found_lines, one_filled, one_shown}
 use Rattle.tlv_show.specs.FinderState.{FinderState, Finds, find_begin, find_bytes, find_open}
-use Rattle.tlv_show.specs.Private.DumpStep.{beginning}
 use Rattle.tlv_head.specs.Header.{Heading}
 use Rattle.tlv_show.specs.Private.CheckStep.{all_told}
 use Rattle.tlv_show.specs.Private.FinderState.{Tells, heard}
@@ -63,13 +62,6 @@ one_on s (Pad octets) = ap (λ (t : Following Showing). t.goes) (each-filled s o
 pub all_on : (s : Showing) (es : List Told) → (followed dump_step s es).goes ≡ go.On
 all_on s [] = refl
 all_on s (e ∷ es) = ap (λ (g : Go). (if_on g (dump_step s e) (λ u. followed dump_step u es)).goes) (one_on s e) ∙ all_on (dump_step s e).state es
-
--- an element begins: what is found with its header comes first
-pub beginning-is : (s : Showing) (value wraps : Bool) (h : Heading)
-    → dump_step s (beginning value wraps h) ≡ findings_first s (if value then find_begin s.finder h else find_open s.finder h) (dumped s.lines (beginning value wraps h))
-beginning-is s true wraps h = refl
-beginning-is s false true h = refl
-beginning-is s false false h = refl
 
 -- ---- findings are put before the lines, or behind them
 

@@ -1,6 +1,5 @@
 pub mod CheckStep
 pub mod Conditions
-pub mod DumpStep
 pub mod Dumped
 pub mod FinderState
 pub mod Nesting

@@ -135,9 +135,8 @@ impl Finder {
         ensures { Tells (find_in self.old.state (told_of event.now)) self.new result }
     {
         match event {
-            Event::Open(header) | Event::Enter(header) | Event::Begin(header) => {
-                self.begin(header, matches!(event, Event::Begin(_)))
-            }
+            Event::Open(header) | Event::Enter(header) => self.open(header),
+            Event::Begin(header) => self.begin(header),
             Event::Bytes(octets) => {
                 self.bytes(octets);
                 false
@@ -205,18 +204,23 @@ impl Finder {
         self.check.restart(header);
     }
 
-    /// An element begins: a primitive, or one that holds others.
+    /// An element that holds others begins.
     #[inline(always)]
-    pub fn begin(&mut self, header: &Header, is_value: bool) -> bool
-        ensures { Tells (if is_value then find_begin self.old.state header.now else find_open self.old.state header.now)
-            self.new result }
+    pub fn open(&mut self, header: &Header) -> bool
+        ensures { Tells (find_open self.old.state header.now) self.new result }
     {
         let tells = self.header(header);
-        if is_value {
-            self.enter_value(header);
-        } else {
-            self.enter(header);
-        }
+        self.enter(header);
+        tells
+    }
+
+    /// A primitive begins.
+    #[inline(always)]
+    pub fn begin(&mut self, header: &Header) -> bool
+        ensures { Tells (find_begin self.old.state header.now) self.new result }
+    {
+        let tells = self.header(header);
+        self.enter_value(header);
         tells
     }
 

@@ -1,11 +1,10 @@
 //! The follower that writes a dump.
 ghost use Rattle.std.specs.Prelude.{◌≡◌, OnOk, refl};
 ghost use Rattle.tlv_walk.proofs.Followed.{each_octet-goes_on, each_octet-joins};
-ghost use Rattle.tlv_walk.specs.Events.{Bytes, Close, End};
+ghost use Rattle.tlv_walk.specs.Events.{Begin, Bytes, Close, End, Enter, Open};
 ghost use Rattle.tlv_walk.specs.Out.{Puts};
 ghost use Rattle.tlv_walk.specs.Tells.{told_of};
 ghost use Rattle.tlv_show.specs.DumpStep.{dump_step, nothing_shown, one_filled, one_shown};
-ghost use Rattle.tlv_show.specs.Private.DumpStep.{beginning};
 ghost use Rattle.tlv_show.specs.Dumps.{top_layout};
 
 use crate::Options;
@@ -108,11 +107,9 @@ impl Dump<'_> {
         ensures puts { Puts D.told out.old out.new (dump_step self.old (told_of event.now)).put result }
     {
         match event {
-            Event::Open(header) | Event::Enter(header) | Event::Begin(header) => {
-                let is_value = matches!(event, Event::Begin(_));
-                let wraps = matches!(event, Event::Enter(_));
-                self.begin(header, is_value, wraps, out)
-            }
+            Event::Open(header) => self.open(header, out),
+            Event::Enter(header) => self.open_wrapper(header, out),
+            Event::Begin(header) => self.begin(header, out),
             Event::Bytes(octets) => self.bytes(octets, out),
             Event::End => self.end(out),
             Event::Close(at) => self.close(*at, out),
@@ -125,22 +122,40 @@ impl Dump<'_> {
         }
     }
 
-    /// An element begins: a primitive, or one that holds others, as a constructed one or as a wrapper.
+    /// A constructed element begins.
     #[inline(always)]
-    fn begin<D: Drain>(
-        &mut self,
-        header: &Header,
-        is_value: bool,
-        wraps: bool,
-        out: &mut Out<'_, D>,
-    ) -> Result<(), WriteFault>
-        ensures state { OnOk result (self.new ≡ (dump_step self.old (beginning is_value wraps header.now)).state) }
-        ensures puts { Puts D.told out.old out.new (dump_step self.old (beginning is_value wraps header.now)).put result }
+    fn open<D: Drain>(&mut self, header: &Header, out: &mut Out<'_, D>) -> Result<(), WriteFault>
+        ensures state { OnOk result (self.new ≡ (dump_step self.old (Open header.now)).state) }
+        ensures puts { Puts D.told out.old out.new (dump_step self.old (Open header.now)).put result }
     {
-        let tells = self.finder.begin(header, is_value);
+        let tells = self.finder.open(header);
         let style = self.lines.style();
         put_findings(tells, style, &self.finder, out)?;
-        self.lines.head(header, is_value, wraps, out)
+        self.lines.open(header, b" {", out)
+    }
+
+    /// A string that wraps encodings begins. Such strings are few, so this stands apart.
+    #[inline(never)]
+    fn open_wrapper<D: Drain>(&mut self, header: &Header, out: &mut Out<'_, D>) -> Result<(), WriteFault>
+        ensures state { OnOk result (self.new ≡ (dump_step self.old (Enter header.now)).state) }
+        ensures puts { Puts D.told out.old out.new (dump_step self.old (Enter header.now)).put result }
+    {
+        let tells = self.finder.open(header);
+        let style = self.lines.style();
+        put_findings(tells, style, &self.finder, out)?;
+        self.lines.open(header, b" wraps {", out)
+    }
+
+    /// A primitive begins of which not all octets are at hand, or with which something is found.
+    #[inline(never)]
+    fn begin<D: Drain>(&mut self, header: &Header, out: &mut Out<'_, D>) -> Result<(), WriteFault>
+        ensures state { OnOk result (self.new ≡ (dump_step self.old (Begin header.now)).state) }
+        ensures puts { Puts D.told out.old out.new (dump_step self.old (Begin header.now)).put result }
+    {
+        let tells = self.finder.begin(header);
+        let style = self.lines.style();
+        put_findings(tells, style, &self.finder, out)?;
+        self.lines.begin(header, out)
     }
 
     /// Contents of a primitive go on.

@@ -3,7 +3,6 @@ ghost use Rattle.std.specs.Prelude.{◌≡◌, ◌≤◌, ◌-◌, ◌^◌, OnOk
 ghost use Rattle.tlv_walk.specs.Events.{Unused};
 ghost use Rattle.tlv_walk.specs.Follow.{each_octet};
 ghost use Rattle.tlv_walk.specs.Out.{Puts};
-ghost use Rattle.tlv_show.specs.Private.DumpStep.{beginning};
 ghost use Rattle.tlv_show.specs.Dumped.{
   dumped,
   dumped_begin,
@@ -91,27 +90,6 @@ impl<'n> Lines<'n> {
         self.offset = self.offset.saturating_add(1);
     }
 
-    /// An element begins: a primitive, or one that holds others, as a constructed one or as a wrapper.
-    #[inline(always)]
-    pub fn head<D: Drain>(
-        &mut self,
-        header: &Header,
-        is_value: bool,
-        wraps: bool,
-        out: &mut Out<'_, D>,
-    ) -> Result<(), WriteFault>
-        ensures state { OnOk result (self.new ≡ (dumped self.old (beginning is_value wraps header.now)).state) }
-        ensures puts { Puts D.told out.old out.new (dumped self.old (beginning is_value wraps header.now)).put result }
-    {
-        if is_value {
-            self.begin(header, out)
-        } else if wraps {
-            self.open(header, b" wraps {", out)
-        } else {
-            self.open(header, b" {", out)
-        }
-    }
-
     /// An element begins: padding ends, and its contents stand behind its header.
     #[inline(always)]
     fn enter(&mut self, header: &Header)
@@ -123,7 +101,7 @@ impl<'n> Lines<'n> {
 
     /// An element that holds others begins.
     #[inline(always)]
-    fn open<D: Drain>(
+    pub fn open<D: Drain>(
         &mut self,
         header: &Header,
         word: &[u8],
@@ -157,7 +135,7 @@ impl<'n> Lines<'n> {
 
     /// A primitive begins.
     #[inline(always)]
-    fn begin<D: Drain>(&mut self, header: &Header, out: &mut Out<'_, D>) -> Result<(), WriteFault>
+    pub fn begin<D: Drain>(&mut self, header: &Header, out: &mut Out<'_, D>) -> Result<(), WriteFault>
         ensures state { OnOk result (self.new ≡ (dumped_begin self.old header.now).state) }
         ensures puts { Puts D.told out.old out.new (dumped_begin self.old header.now).put result }
     {

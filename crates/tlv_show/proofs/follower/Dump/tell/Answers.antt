@@ -20,9 +20,3 @@ returns-in-End-clause-state g c = search rules
 
 pub returns-in-End-clause-puts : goal.returns-in-End-clause-puts
 returns-in-End-clause-puts g c = search rules
-
-pub returns-after-matches-2-clause-state : goal.returns-after-matches-2-clause-state
-returns-after-matches-2-clause-state g c = search rules
-
-pub returns-after-matches-2-clause-puts : goal.returns-after-matches-2-clause-puts
-returns-after-matches-2-clause-puts g c = search rules
