@@ -136,7 +136,11 @@ impl Dump<'_> {
 
     /// A string that wraps encodings begins. Such strings are few, so this stands apart.
     #[inline(never)]
-    fn open_wrapper<D: Drain>(&mut self, header: &Header, out: &mut Out<'_, D>) -> Result<(), WriteFault>
+    fn open_wrapper<D: Drain>(
+        &mut self,
+        header: &Header,
+        out: &mut Out<'_, D>,
+    ) -> Result<(), WriteFault>
         ensures state { OnOk result (self.new ≡ (dump_step self.old (Enter header.now)).state) }
         ensures puts { Puts D.told out.old out.new (dump_step self.old (Enter header.now)).put result }
     {

@@ -135,7 +135,11 @@ impl<'n> Lines<'n> {
 
     /// A primitive begins.
     #[inline(always)]
-    pub fn begin<D: Drain>(&mut self, header: &Header, out: &mut Out<'_, D>) -> Result<(), WriteFault>
+    pub fn begin<D: Drain>(
+        &mut self,
+        header: &Header,
+        out: &mut Out<'_, D>,
+    ) -> Result<(), WriteFault>
         ensures state { OnOk result (self.new ≡ (dumped_begin self.old header.now).state) }
         ensures puts { Puts D.told out.old out.new (dumped_begin self.old header.now).put result }
     {

@@ -168,9 +168,9 @@ fast_may_enter w piece named f count o begins front fewer limit shallow fits =
       fits = subst (λ (x : List ℕ). Within (bound_of w.stack) (f.offset + length x + announced f.size)) (sym whole) fits;
     }
 
--- a header of a primitive that is not named begins a primitive
-pub primitive_kind : (w v : Machine) (f : HeaderFields) (at : ℕ) (k : Kind) → f.constructed ≡ false → f.named ≡ false → Enters w v f at k → k ≡ kind.Primitive
-primitive_kind w v f at kind.Primitive c n e = refl
-primitive_kind w v f at kind.Constructed c n e = absurd (true≢false (sym e.0 ∙ c))
-primitive_kind w v f at kind.Wrapper c n e =
-    absurd (true≢false (sym e.1 ∙ ap (λ (k : Bool). is_wrapper k f.class f.constructed f.number f.size) n))
+-- a constructed header begins a constructed element
+pub constructed_kind : (w v : Machine) (f : HeaderFields) (at : ℕ) (k : Kind) → f.constructed ≡ true → Enters w v f at k → k ≡ kind.Constructed
+constructed_kind w v f at kind.Constructed c e = refl
+constructed_kind w v f at kind.Primitive c e =
+    absurd (true≢false (sym (ap (λ (k : Bool). k || is_wrapper f.named f.class f.constructed f.number f.size) c) ∙ e.0))
+constructed_kind w v f at kind.Wrapper c e = absurd (true≢false (sym c ∙ e.0))

@@ -137,12 +137,18 @@ fn follow<F: Follow, D: Drain>(
         if follow_primitive(walker, follower, &mut rest, out)? {
             continue;
         }
-        let go = match walker.quick_event(&mut rest) {
-            Some(event) => follower.on(&event, out)?,
-            None => match walker.step(&mut rest) {
-                Step::Event(event) => follow_event(follower, &event, out)?,
-                Step::NeedMore => return Ok(Stop::UsedUp),
-                Step::Fault(fault) => return Ok(Stop::Fault(fault)),
+        let go = match walker.constructed(&mut rest) {
+            // Its event is made here, so that where it is inlined nothing is made of it that the follower does not look at.
+            Some((fields, octets)) => {
+                follower.on(&Event::Open(Header::new(&fields, octets)), out)?
+            }
+            None => match walker.quick_event(&mut rest) {
+                Some(event) => follower.on(&event, out)?,
+                None => match walker.step(&mut rest) {
+                    Step::Event(event) => follow_event(follower, &event, out)?,
+                    Step::NeedMore => return Ok(Stop::UsedUp),
+                    Step::Fault(fault) => return Ok(Stop::Fault(fault)),
+                },
             },
         };
         if go == Go::Enough {

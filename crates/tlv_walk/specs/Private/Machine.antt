@@ -6,7 +6,10 @@ use Rattle.tlv_head.specs.Header.{Heading, IsHeading, announced, holds, is_wrapp
 use Rattle.tlv_head.specs.Progress.{Progress}
 use Rattle.tlv_head.specs.Fields.{heading_with}
 use Rattle.tlv_head.specs.Read.{BeginsWithFields}
+use Rattle.std.specs.Borrow.{Bor}
+use Rattle.std.specs.Option.{option_map}
 use Rattle.tlv_walk.specs.declared.event.Event.{Event}
+use Rattle.tlv_walk.specs.declared.event.Event.TheVariants as event
 use Rattle.tlv_walk.specs.declared.event.Kind.{Kind}
 use Rattle.tlv_walk.specs.declared.event.Kind.TheVariants as kind
 use Rattle.tlv_head.specs.declared.header.HeaderFields.{HeaderFields}
@@ -114,6 +117,10 @@ pub record CanPass (w : Machine) (piece : List ℕ) (p : WholePrimitive) : Type 
 -- its header
 abbrev pub heading_at : WholePrimitive → List ℕ → Heading
 heading_at p piece = heading_with p.fields (take p.header piece)
+
+-- the event of a constructed header that was taken, if one was
+abbrev pub opens : Option (HeaderFields × Bor (List ℕ)) → Option Event
+opens found = option_map (λ f. event.Open (heading_with f.0 f.1.now)) found
 
 -- some octets were taken from the front of a piece, and some events told
 pub record Passes (old new : Machine) (before after : List ℕ) : Type 0 where

@@ -17,25 +17,9 @@ use crate::event::Kind;
 use crate::stack::room_to;
 use crate::{Event, Step};
 use std::mem::replace;
-use tlv_head::{Head, HeadReader, Header, HeaderFields, Size, read_header, read_short};
+use tlv_head::{Head, HeadReader, Header, HeaderFields, Size, read_header};
 
 impl Walker {
-    /// Takes a constructed header of few octets that lies whole in the piece, if it may stand here.
-    #[inline(always)]
-    pub(super) fn constructed_header<'a>(&mut self, piece: &mut &'a [u8]) -> Option<Event<'a>>
-        requires phase { self.old.phase ≡ phases.Between }
-        requires limit { self.old.offset + length piece.old.now ≤ 2 ^ 40 }
-        ensures steps { StepsAtOnce self.old self.new piece.old.now piece.new.now result }
-        ensures tells { TellsAtOnce self.old self.new piece.old.now piece.new.now result }
-    {
-        let named = self.framing.inside.contains(self.offset);
-        let (fields, count) = read_short(self.offset, named, *piece)?;
-        if !fields.constructed {
-            return None;
-        }
-        self.take_header(&fields, count, piece)
-    }
-
     /// Begins a header: takes it at once, where it lies whole in the piece and may stand here, and else octet by octet.
     pub(super) fn header<'a>(&mut self, piece: &mut &'a [u8]) -> Step<'a>
         requires begins { CanBegin self.old piece.old.now }

@@ -1,7 +1,8 @@
 //! How a walker finds the next event where few instructions do.
 ghost use Rattle.std.specs.Prelude.{◌≡◌, ◌+◌, ◌^◌, ◌≤◌, IfSome, length, take};
+ghost use Rattle.tlv_head.specs.Fields.{Suits};
 ghost use Rattle.tlv_walk.specs.Follow.{whole_events};
-ghost use Rattle.tlv_walk.specs.Private.Machine.{CanPass, Passes, StepsAtOnce, heading_at};
+ghost use Rattle.tlv_walk.specs.Private.Machine.{CanPass, Passes, StepsAtOnce, heading_at, opens};
 ghost use Rattle.tlv_walk.specs.Private.Tells.{TellsAll, TellsAtOnce};
 
 use super::{Phase, Walker};
@@ -78,8 +79,44 @@ impl Walker {
         self.has_element = true;
     }
 
-    /// The next event, where few instructions find it: an end that waits, contents, end-of-contents octets, or a constructed
-    /// header of few octets that may stand here. Otherwise nothing is taken, and [`Walker::step`] says what comes next.
+    /// Takes the header with which the piece begins, where it is a constructed one of few octets that may stand here. Otherwise
+    /// nothing is taken.
+    #[inline(always)]
+    pub(crate) fn constructed<'a>(
+        &mut self,
+        piece: &mut &'a [u8],
+    ) -> Option<(HeaderFields, &'a [u8])>
+        requires { self.old.offset + length piece.old.now ≤ 2 ^ 40 }
+        ensures steps { StepsAtOnce self.old self.new piece.old.now piece.new.now (opens result) }
+        ensures tells { TellsAtOnce self.old self.new piece.old.now piece.new.now (opens result) }
+        ensures suits { IfSome result (λ found. Suits found.0 found.1.now) }
+    {
+        if !matches!(self.phase, Phase::Between) || self.stack.is_filled(self.offset) {
+            return None;
+        }
+        let octets: &'a [u8] = *piece;
+        let [first, ..] = octets else {
+            return None;
+        };
+        if *first & 0x20 == 0 {
+            return None;
+        }
+        let named = self.framing.inside.contains(self.offset);
+        let (fields, count) = read_short(self.offset, named, octets)?;
+        if !fields.constructed {
+            return None;
+        }
+        let (front, rest) = octets.split_at(count);
+        if !self.may_stand(&fields, front) {
+            return None;
+        }
+        *piece = rest;
+        self.enter(&fields, front);
+        Some((fields, front))
+    }
+
+    /// The next event, where few instructions find it: an end that waits, contents, or end-of-contents octets. Otherwise nothing
+    /// is taken, and [`Walker::step`] says what comes next.
     #[inline(always)]
     pub(crate) fn quick_event<'a>(&mut self, piece: &mut &'a [u8]) -> Option<Event<'a>>
         requires { self.old.offset + length piece.old.now ≤ 2 ^ 40 }
@@ -101,10 +138,6 @@ impl Walker {
         if self.stack.is_filled(self.offset) {
             return Some(self.end_filled());
         }
-        match *piece {
-            [0, ..] => self.end_octets(piece),
-            [first, ..] if *first & 0x20 != 0 => self.constructed_header(piece),
-            _ => None,
-        }
+        self.end_octets(piece)
     }
 }
