@@ -1,6 +1,6 @@
 -- The innermost element of a walker's state ends.
 use Rattle.std.proofs.Common.{◌≡◌, inl, inr, ℕ, ◌+◌, ◌-◌, ◌≤◌, Bool, true, false, not, if◌then◌else◌, List, [], ◌∷◌, ◌++◌, length, drop, Option, Some, None, refl, sym, ap, ◌∙◌, subst, arith, append_assoc, append-nil, length-append}
-use Rattle.std.proofs.lemmas.Bool.{true≢false}
+use Rattle.std.proofs.lemmas.Bool.{false_from_ne_true, true≢false}
 use Rattle.tlv_head.specs.declared.header.Size.{Size}
 use Rattle.tlv_head.specs.declared.header.Size.TheVariants.{Definite, Indefinite}
 use Rattle.tlv_head.specs.Header.{Heading, announced, octets_of}
@@ -14,7 +14,7 @@ use Rattle.std.proofs.lemmas.Bool.{cases_Bool}
 use Rattle.tlv_walk.specs.Machine.{found_in, Machine, bound_in}
 use Rattle.tlv_walk.specs.Place.{Fits, IsEntry, IsOpen, Place, after, is_indefinite}
 use Rattle.tlv_walk.proofs.Lengths.{HasLength}
-use Rattle.tlv_walk.specs.Stack.{Frame, IsFilled, IsInIndefinite, Within, bound_of}
+use Rattle.tlv_walk.specs.Stack.{Frame, IsFilled, IsInIndefinite, IsInWrapper, Within, bound_of}
 use Rattle.tlv_walk.specs.Private.Stack.{wraps_of}
 use Rattle.tlv_walk.specs.Private.Tells.{Continues}
 use Rattle.tlv_walk.specs.State.{AreWhole, HasState, Layer, Tail, Between, InEnd, State, ending_of, events_layers, events_tail, frame_of, frames_of, place_in, place_of, spell_layers, spell_tail}
@@ -194,6 +194,16 @@ tells_popped w k e full is =
     let i : IsInnermost w.stack k = innermost w.stack k is in
     subst (λ (x : Told). Continues w (record w { stack = drop 1 w.stack; events = w.events + 1 }) [] (x ∷ [])) (ap (λ (b : Bool). if b then Leave else Close None) i.wraps)
     (tells_filled w e i.frame (drop 1 w.stack) i.stack_is (filled_end w.stack i.frame (drop 1 w.stack) w.offset i.stack_is full))
+
+-- an element that is filled wraps nothing, or says so
+wraps_none : (stack : List Frame) (at : ℕ) → IsFilled stack at → (IsInWrapper stack → ⊥) → wraps_of stack ≡ Some false
+wraps_none [] at full n = absurd full
+wraps_none (f ∷ fs) at full n = ap Some (false_from_ne_true f.wrapper n)
+
+-- the same, of an element that wraps nothing
+pub tells_closed : (w : Machine) → w.phase ≡ phase.Between → IsFilled w.stack w.offset → (IsInWrapper w.stack → ⊥)
+    → Continues w (record w { stack = drop 1 w.stack; events = w.events + 1 }) [] (Close None ∷ [])
+tells_closed w e full n = tells_popped w false e full (wraps_none w.stack w.offset full n)
 
 -- an end before the bound
 within_less : (b : Option ℕ) (m n : ℕ) → m ≤ n → Within b n → Within b m

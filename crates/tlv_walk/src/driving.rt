@@ -2,7 +2,8 @@
 ghost use Rattle.std.specs.Prelude.{◌≤◌, ◌^◌};
 ghost use Rattle.tlv_walk.specs.Drives.{Drives};
 
-use crate::{DeviceFault, Drain, Follow, Framing, INPUT_LIMIT, Run, Source, Turn, Walker, turn};
+use crate::turning::turn_to;
+use crate::{DeviceFault, Drain, Follow, Framing, INPUT_LIMIT, Out, Run, Source, Turn, Walker};
 
 /// How many octets are asked for with each read.
 const PIECE: usize = 4096;
@@ -45,8 +46,9 @@ pub fn drive_up_to<S: Source, F: Follow, D: Drain>(
 {
     let mut piece = [0; PIECE];
     let mut walker = Walker::new(framing);
+    let mut out = Out::new(drain);
     'turns: loop {
-        match turn(&mut walker, follower, source, drain, &mut piece, limit)? {
+        match turn_to(&mut walker, follower, source, &mut out, &mut piece, limit)? {
             Turn::Again => {}
             Turn::Ended(run) => return Ok(run),
         }

@@ -1,6 +1,6 @@
 //! The open elements that hold others.
 ghost use Rattle.std.specs.Prelude.{◌≡◌, ◌-◌, ◌<◌, ◌≤◌, ◌↔◌, ◌∷◌, IsTrue, [], length, drop};
-ghost use Rattle.tlv_walk.specs.Stack.{IsFilled, IsInIndefinite, Within, bound_of};
+ghost use Rattle.tlv_walk.specs.Stack.{IsFilled, IsInIndefinite, IsInWrapper, Within, bound_of};
 ghost use Rattle.tlv_walk.specs.Private.Stack.{frame_inside, left_to, wraps_of};
 
 use arrayvec::ArrayVec;
@@ -105,6 +105,17 @@ impl Stack {
     {
         match self.frames.as_slice() {
             [.., frame] => frame.is_definite && frame.bound == Some(offset),
+            [] => false,
+        }
+    }
+
+    /// Whether the innermost element is a string that wraps encodings.
+    #[inline(always)]
+    pub fn is_in_wrapper(&self) -> bool
+        ensures { IsTrue result ↔ IsInWrapper self.now }
+    {
+        match self.frames.as_slice() {
+            [.., frame] => frame.wrapper,
             [] => false,
         }
     }

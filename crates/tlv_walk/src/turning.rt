@@ -1,5 +1,5 @@
 //! One read of a source, followed.
-ghost use Rattle.std.specs.Prelude.{◌≡◌, ℕ, List, ◌+◌, ◌<◌, ◌≤◌, ◌^◌, IfOk, length};
+ghost use Rattle.std.specs.Prelude.{◌≡◌, ℕ, List, [], ◌+◌, ◌<◌, ◌≤◌, ◌^◌, IfOk, OnOk, length};
 ghost use Rattle.tlv_walk.specs.Device.{failures_after};
 ghost use Rattle.tlv_walk.specs.Events.{Told};
 ghost use Rattle.tlv_walk.specs.Follow.{IsFollowed};
@@ -7,7 +7,7 @@ ghost use Rattle.tlv_walk.specs.Private.Answers.{Answers, IsRun};
 ghost use Rattle.tlv_walk.specs.Private.Follows.{Parts, Stops};
 ghost use Rattle.tlv_walk.specs.Laws.{AreOctets};
 ghost use Rattle.tlv_walk.specs.Machine.{IsReady};
-ghost use Rattle.tlv_walk.specs.Out.{Puts, Sends, lender_of};
+ghost use Rattle.tlv_walk.specs.Out.{Puts, Sends, held_in, lender_of};
 ghost use Rattle.tlv_walk.specs.State.{Stands};
 ghost use Rattle.tlv_walk.specs.Tells.{told_of};
 ghost use Rattle.tlv_walk.specs.Turns.{Calls, Turns, given};
@@ -59,12 +59,42 @@ pub fn turn<F: Follow, S: Source, D: Drain>(
     ensures again { IfOk result (λ t. t ≡ Turn.Again
         → (walker.old.offset < walker.new.offset) × (walker.new.offset ≤ limit) × IsReady walker.new) }
 {
+    let mut out = Out::new(drain);
+    turn_to(walker, follower, source, &mut out, piece, limit)
+}
+
+/// [`turn`], to an `Out` that holds nothing, and holds nothing again where more is to be read. So one `Out` serves a whole run,
+/// and need not be made for each read.
+pub(crate) fn turn_to<F: Follow, S: Source, D: Drain>(
+    walker: &mut Walker,
+    follower: &mut F,
+    source: &mut S,
+    out: &mut Out<'_, D>,
+    piece: &mut [u8],
+    limit: u64,
+) -> Result<Turn, DeviceFault>
+    requires piece { (0 < length piece.old) × (length piece.old ≤ 4096) }
+    requires limit { limit ≤ 2 ^ 40 }
+    requires taken { walker.old.offset ≤ limit }
+    requires ready { IsReady walker.old }
+    requires empty { held_in out.old ≡ [] }
+    ensures calls { Calls (length piece.old) (S.told source.old) (S.told source.new)
+        (D.told (lender_of out.old).now) (D.told (lender_of out.new).now) piece.new result }
+    ensures turned { (b : List ℕ) (told : List Told) → Stands walker.old b told
+        → Turns F.next limit walker.old walker.new follower.old follower.new b told
+        (given (S.told source.new).last piece.new) (D.told (lender_of out.old).now) (D.told (lender_of out.new).now) result }
+    ensures octets { AreOctets piece.new }
+    ensures again { IfOk result (λ t. t ≡ Turn.Again
+        → (walker.old.offset < walker.new.offset) × (walker.new.offset ≤ limit) × IsReady walker.new) }
+    ensures same_reference { (lender_of out.new).ghost_name ≡ (lender_of out.old).ghost_name }
+    ensures empty { IfOk result (λ t. t ≡ Turn.Again → held_in out.new ≡ []) }
+{
     let Ok(count) = source.read(piece) else {
         return Err(DeviceFault::ReadFailed);
     };
     let left = limit - walker.offset();
     let walked = left.min(count as u64) as usize;
-    let Ok(stop) = follow_and_flush(walker, follower, drain, &piece[..walked]) else {
+    let Ok(stop) = follow_and_flush(walker, follower, &piece[..walked], out) else {
         return Err(DeviceFault::WriteFailed);
     };
     answer(walker, stop, count, walked)
@@ -99,19 +129,22 @@ fn run_of(walker: &Walker, ending: Ending, enough: bool) -> Run
 fn follow_and_flush<F: Follow, D: Drain>(
     walker: &mut Walker,
     follower: &mut F,
-    drain: &mut D,
     piece: &[u8],
+    out: &mut Out<'_, D>,
 ) -> Result<Stop, WriteFault>
-    requires { walker.old.offset + length piece.now ≤ 2 ^ 40 }
+    requires limit { walker.old.offset + length piece.now ≤ 2 ^ 40 }
+    requires empty { held_in out.old ≡ [] }
     ensures stops { Stops F.next walker.old walker.new follower.old follower.new piece.now
-        (λ text. Sends (D.told drain.old) (D.told drain.new) text result) result }
-    ensures failed { (D.told drain.new).failures ≡ failures_after result (D.told drain.old).failures }
+        (λ text. Sends (D.told (lender_of out.old).now) (D.told (lender_of out.new).now) text result) result }
+    ensures failed { (D.told (lender_of out.new).now).failures
+        ≡ failures_after result (D.told (lender_of out.old).now).failures }
     ensures used_up { IfOk result (λ s. s ≡ Stop.UsedUp
         → (walker.new.offset ≡ walker.old.offset + length piece.now) × IsReady walker.new) }
     ensures octets { AreOctets piece.now }
+    ensures same_reference { (lender_of out.new).ghost_name ≡ (lender_of out.old).ghost_name }
+    ensures empty { OnOk result (held_in out.new ≡ []) }
 {
-    let mut out = Out::new(drain);
-    let stop = follow(walker, follower, piece, &mut out)?;
+    let stop = follow(walker, follower, piece, out)?;
     out.flush()?;
     Ok(stop)
 }
@@ -137,17 +170,20 @@ fn follow<F: Follow, D: Drain>(
         if follow_primitive(walker, follower, &mut rest, out)? {
             continue;
         }
-        let go = match walker.constructed(&mut rest) {
-            // Its event is made here, so that where it is inlined nothing is made of it that the follower does not look at.
-            Some((fields, octets)) => {
-                follower.on(&Event::Open(Header::new(&fields, octets)), out)?
-            }
-            None => match walker.quick_event(&mut rest) {
-                Some(event) => follower.on(&event, out)?,
-                None => match walker.step(&mut rest) {
-                    Step::Event(event) => follow_event(follower, &event, out)?,
-                    Step::NeedMore => return Ok(Stop::UsedUp),
-                    Step::Fault(fault) => return Ok(Stop::Fault(fault)),
+        let go = match walker.close(&mut rest) {
+            Some(at) => follower.on(&Event::Close(at), out)?,
+            None => match walker.constructed(&mut rest) {
+                // Its event is made here, so that where it is inlined nothing is made of it that the follower does not look at.
+                Some((fields, octets)) => {
+                    follower.on(&Event::Open(Header::new(&fields, octets)), out)?
+                }
+                None => match walker.contents_event(&mut rest) {
+                    Some(event) => follower.on(&event, out)?,
+                    None => match walker.step(&mut rest) {
+                        Step::Event(event) => follow_event(follower, &event, out)?,
+                        Step::NeedMore => return Ok(Stop::UsedUp),
+                        Step::Fault(fault) => return Ok(Stop::Fault(fault)),
+                    },
                 },
             },
         };

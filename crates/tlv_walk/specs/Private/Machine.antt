@@ -122,6 +122,10 @@ heading_at p piece = heading_with p.fields (take p.header piece)
 abbrev pub opens : Option (HeaderFields × Bor (List ℕ)) → Option Event
 opens found = option_map (λ f. event.Open (heading_with f.0 f.1.now)) found
 
+-- the event of the end of a constructed element that was taken, if one was: where its end-of-contents octets stand, if it has any
+abbrev pub closes : Option (Option ℕ) → Option Event
+closes found = option_map event.Close found
+
 -- some octets were taken from the front of a piece, and some events told
 pub record Passes (old new : Machine) (before after : List ℕ) : Type 0 where
   pub taken : new.offset + length after ≡ old.offset + length before

@@ -2,7 +2,7 @@
 ghost use Rattle.std.specs.Prelude.{◌≡◌, ℕ, ◌+◌, ◌^◌, ◌≤◌, ◌∷◌, [], length};
 ghost use Rattle.tlv_walk.specs.Phase as phases;
 ghost use Rattle.tlv_walk.specs.Machine.{HasOctets, Steps};
-ghost use Rattle.tlv_walk.specs.Private.Machine.{StepsAtOnce, Tells};
+ghost use Rattle.tlv_walk.specs.Private.Machine.{StepsAtOnce, Tells, closes};
 ghost use Rattle.tlv_walk.specs.Stack.{IsFilled};
 ghost use Rattle.tlv_walk.specs.Tells.{told_of};
 ghost use Rattle.tlv_walk.specs.Private.Tells.{Continues, TellsAtOnce, TellsStep};
@@ -64,11 +64,11 @@ impl Walker {
 
     /// Takes end-of-contents octets that lie whole in the piece, where they may stand here.
     #[inline(always)]
-    pub(super) fn end_octets<'a>(&mut self, piece: &mut &'a [u8]) -> Option<Event<'a>>
+    pub(super) fn end_octets<'a>(&mut self, piece: &mut &'a [u8]) -> Option<Option<u64>>
         requires phase { self.old.phase ≡ phases.Between }
         requires limit { self.old.offset + length piece.old.now ≤ 2 ^ 40 }
-        ensures steps { StepsAtOnce self.old self.new piece.old.now piece.new.now result }
-        ensures tells { TellsAtOnce self.old self.new piece.old.now piece.new.now result }
+        ensures steps { StepsAtOnce self.old self.new piece.old.now piece.new.now (closes result) }
+        ensures tells { TellsAtOnce self.old self.new piece.old.now piece.new.now (closes result) }
     {
         let octets: &'a [u8] = *piece;
         let [first, second, rest @ ..] = octets else {
@@ -85,7 +85,7 @@ impl Walker {
         self.stack.pop();
         self.offset += 2;
         self.events += 1;
-        Some(Event::Close(Some(offset)))
+        Some(Some(offset))
     }
 
     /// Takes the second of the end-of-contents octets.

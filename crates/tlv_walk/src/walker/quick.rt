@@ -2,7 +2,7 @@
 ghost use Rattle.std.specs.Prelude.{◌≡◌, ◌+◌, ◌^◌, ◌≤◌, IfSome, length, take};
 ghost use Rattle.tlv_head.specs.Fields.{Suits};
 ghost use Rattle.tlv_walk.specs.Follow.{whole_events};
-ghost use Rattle.tlv_walk.specs.Private.Machine.{CanPass, Passes, StepsAtOnce, heading_at, opens};
+ghost use Rattle.tlv_walk.specs.Private.Machine.{CanPass, Passes, StepsAtOnce, closes, heading_at, opens};
 ghost use Rattle.tlv_walk.specs.Private.Tells.{TellsAll, TellsAtOnce};
 
 use super::{Phase, Walker};
@@ -91,7 +91,7 @@ impl Walker {
         ensures tells { TellsAtOnce self.old self.new piece.old.now piece.new.now (opens result) }
         ensures suits { IfSome result (λ found. Suits found.0 found.1.now) }
     {
-        if !matches!(self.phase, Phase::Between) || self.stack.is_filled(self.offset) {
+        if !matches!(self.phase, Phase::Between) {
             return None;
         }
         let octets: &'a [u8] = *piece;
@@ -115,29 +115,45 @@ impl Walker {
         Some((fields, front))
     }
 
-    /// The next event, where few instructions find it: an end that waits, contents, or end-of-contents octets. Otherwise nothing
-    /// is taken, and [`Walker::step`] says what comes next.
+    /// Takes the end of the innermost element, where it is constructed and ends here: its contents have all come, or its
+    /// end-of-contents octets lie whole in the piece. Returns where these octets stand, if it has any. Otherwise nothing is taken.
     #[inline(always)]
-    pub(crate) fn quick_event<'a>(&mut self, piece: &mut &'a [u8]) -> Option<Event<'a>>
+    pub(crate) fn close<'a>(&mut self, piece: &mut &'a [u8]) -> Option<Option<u64>>
+        requires { self.old.offset + length piece.old.now ≤ 2 ^ 40 }
+        ensures steps { StepsAtOnce self.old self.new piece.old.now piece.new.now (closes result) }
+        ensures tells { TellsAtOnce self.old self.new piece.old.now piece.new.now (closes result) }
+    {
+        if !matches!(self.phase, Phase::Between) {
+            return None;
+        }
+        if !self.stack.is_filled(self.offset) {
+            return self.end_octets(piece);
+        }
+        if self.stack.is_in_wrapper() {
+            return None;
+        }
+        self.stack.pop();
+        self.events += 1;
+        Some(None)
+    }
+
+    /// Takes contents of a primitive, or its end, where a primitive is open. Otherwise nothing is taken, and [`Walker::step`]
+    /// says what comes next.
+    #[inline(always)]
+    pub(crate) fn contents_event<'a>(&mut self, piece: &mut &'a [u8]) -> Option<Event<'a>>
         requires { self.old.offset + length piece.old.now ≤ 2 ^ 40 }
         ensures steps { StepsAtOnce self.old self.new piece.old.now piece.new.now result }
         ensures tells { TellsAtOnce self.old self.new piece.old.now piece.new.now result }
     {
-        if let Phase::InContents(left) = self.phase {
-            if left == 0 {
-                return Some(self.end_primitive());
-            }
-            if piece.is_empty() {
-                return None;
-            }
-            return Some(self.contents(left, piece));
+        let Phase::InContents(left) = self.phase else {
+            return None;
+        };
+        if left == 0 {
+            return Some(self.end_primitive());
         }
-        if !matches!(self.phase, Phase::Between) {
+        if piece.is_empty() {
             return None;
         }
-        if self.stack.is_filled(self.offset) {
-            return Some(self.end_filled());
-        }
-        self.end_octets(piece)
+        Some(self.contents(left, piece))
     }
 }

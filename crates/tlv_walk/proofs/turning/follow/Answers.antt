@@ -11,7 +11,7 @@ use Rattle.tlv_walk.specs.Tells.{StandsBehind, StandsStep}
 use Rattle.tlv_walk.proofs.Following.{fails_event, follows_as, follows_event, follows_none, stops_fault, stops_used_up}
 use Rattle.tlv_walk.proofs.Parts.{fails_both, follows_left, follows_part, left_walked, part_passes}
 use Rattle.tlv_walk.proofs.Standing.{stands_behind}
-use Rattle.tlv_walk.proofs.turning.follow.Goals.{in-Some+in_ok-go-in-Some, in-None+in-Some-quick_event+in_ok-go-in-Some-quick_event, in-None+in-None-quick_event+in-Event+in_ok-go-in-Event}
+use Rattle.tlv_walk.proofs.turning.follow.Goals.{in-Some+in_ok-go-in-Some, in-None+in-Some-constructed+in_ok-go-in-Some-constructed, in-None+in-None-constructed+in-Some-contents_event+in_ok-go-in-Some-contents_event, in-None+in-None-constructed+in-None-contents_event+in-Event+in_ok-go-in-Event}
 use Rattle.tlv_walk.proofs.turning.follow.Goals as goal
 
 -- nothing was taken
@@ -47,21 +47,24 @@ events-preserved-then-branch g c = record {
 
 pub events-preserved : goal.events-preserved
 events-preserved g c =
-    let on : c.match-constructed.go ≡ go.On = not_enough _ (search rules) in
+    let on : c.match-close.go ≡ go.On = not_enough _ (search rules) in
     let left = follows_left g.F.Follow.next g.D.Drain.told _ _ _ _ _ _ _ _ _ _ _ _ _ c.events.invariant.follows c.if-branch.false c.in_ok-follow_primitive.ensures.parts in
-    elim c.match-constructed.branch [
-      | in-Some+in_ok-go-in-Some w ↦
-          let opened : StandsBehind c.follow_primitive.new.walker c.constructed.new.self c.follow_primitive.new.piece.now c.constructed.new.piece.now (Open w.new.result) = rw w.new.ensures (stands_behind _ _ _ _ _ w.in-Some.ensures.tells) in record {
-            follows = rw (w.out-is, w.follower-is, w.walker-is, w.rest-is, ← on, w.go-is) (follows_event g.F.Follow.next g.D.Drain.told _ _ _ _ _ _ _ _ _ _ _ _ _ _ left opened w.in_ok-go-in-Some.ensures.state _ w.in_ok-go-in-Some.ensures.puts);
-            walked = rw (w.walker-is, w.rest-is) (w.in-Some.ensures.steps.0.0 ∙ left_walked g.F.Follow.next g.D.Drain.told _ _ _ _ _ _ _ _ _ c.if-branch.false c.in_ok-follow_primitive.ensures.parts ∙ c.events.invariant.walked);
-          }
-      | in-None+in-Some-quick_event+in_ok-go-in-Some-quick_event w ↦ record {
-        follows = rw (w.out-is, w.follower-is, w.walker-is, w.rest-is, ← on, w.go-is) (follows_event g.F.Follow.next g.D.Drain.told _ _ _ _ _ _ _ _ _ _ _ _ _ _ left (unmoved_event _ _ _ _ _ _ _ w.in-None.ensures.steps.0 w.in-None.ensures.steps.1 (stands_behind _ _ _ _ _ w.in-Some-quick_event.ensures.tells)) w.in_ok-go-in-Some-quick_event.ensures.state _ w.in_ok-go-in-Some-quick_event.ensures.puts);
-        walked = rw (w.walker-is, w.rest-is) (w.in-Some-quick_event.ensures.steps.0.0 ∙ unmoved _ _ _ _ w.in-None.ensures.steps.0 w.in-None.ensures.steps.1 ∙ left_walked g.F.Follow.next g.D.Drain.told _ _ _ _ _ _ _ _ _ c.if-branch.false c.in_ok-follow_primitive.ensures.parts ∙ c.events.invariant.walked);
+    elim c.match-close.branch [
+      | in-Some+in_ok-go-in-Some w ↦ record {
+        follows = rw (w.out-is, w.follower-is, w.walker-is, w.rest-is, ← on, w.go-is) (follows_event g.F.Follow.next g.D.Drain.told _ _ _ _ _ _ _ _ _ _ _ _ _ _ left (stands_behind _ _ _ _ _ w.in-Some.ensures.tells) w.in_ok-go-in-Some.ensures.state _ w.in_ok-go-in-Some.ensures.puts);
+        walked = rw (w.walker-is, w.rest-is) (w.in-Some.ensures.steps.0.0 ∙ left_walked g.F.Follow.next g.D.Drain.told _ _ _ _ _ _ _ _ _ c.if-branch.false c.in_ok-follow_primitive.ensures.parts ∙ c.events.invariant.walked);
       }
-      | in-None+in-None-quick_event+in-Event+in_ok-go-in-Event w ↦ record {
-        follows = rw (w.out-is, w.follower-is, w.walker-is, w.rest-is, ← on, w.go-is) (follows_event g.F.Follow.next g.D.Drain.told _ _ _ _ _ _ _ _ _ _ _ _ _ _ left (unmoved_event _ _ _ _ _ _ _ (w.in-None-quick_event.ensures.steps.0 ∙ w.in-None.ensures.steps.0) (w.in-None-quick_event.ensures.steps.1 ∙ w.in-None.ensures.steps.1) w.in-Event.ensures.stands) w.in_ok-go-in-Event.ensures.state _ w.in_ok-go-in-Event.ensures.puts);
-        walked = rw (w.walker-is, w.rest-is) (w.in-Event.ensures.steps.0.0 ∙ unmoved _ _ _ _ (w.in-None-quick_event.ensures.steps.0 ∙ w.in-None.ensures.steps.0) (w.in-None-quick_event.ensures.steps.1 ∙ w.in-None.ensures.steps.1) ∙ left_walked g.F.Follow.next g.D.Drain.told _ _ _ _ _ _ _ _ _ c.if-branch.false c.in_ok-follow_primitive.ensures.parts ∙ c.events.invariant.walked);
+      | in-None+in-Some-constructed+in_ok-go-in-Some-constructed w ↦ let opened : StandsBehind c.close.new.self w.constructed.new.self c.close.new.piece.now w.constructed.new.piece.now (Open w.new.result) = rw w.new.ensures (stands_behind _ _ _ _ _ w.in-Some-constructed.ensures.tells) in record {
+        follows = rw (w.out-is, w.follower-is, w.walker-is, w.rest-is, ← on, w.go-is) (follows_event g.F.Follow.next g.D.Drain.told _ _ _ _ _ _ _ _ _ _ _ _ _ _ left (unmoved_event _ _ _ _ _ _ _ (w.in-None.ensures.steps.0) (w.in-None.ensures.steps.1) opened) w.in_ok-go-in-Some-constructed.ensures.state _ w.in_ok-go-in-Some-constructed.ensures.puts);
+        walked = rw (w.walker-is, w.rest-is) (w.in-Some-constructed.ensures.steps.0.0 ∙ unmoved _ _ _ _ (w.in-None.ensures.steps.0) (w.in-None.ensures.steps.1) ∙ left_walked g.F.Follow.next g.D.Drain.told _ _ _ _ _ _ _ _ _ c.if-branch.false c.in_ok-follow_primitive.ensures.parts ∙ c.events.invariant.walked);
+      }
+      | in-None+in-None-constructed+in-Some-contents_event+in_ok-go-in-Some-contents_event w ↦ record {
+        follows = rw (w.out-is, w.follower-is, w.walker-is, w.rest-is, ← on, w.go-is) (follows_event g.F.Follow.next g.D.Drain.told _ _ _ _ _ _ _ _ _ _ _ _ _ _ left (unmoved_event _ _ _ _ _ _ _ (w.in-None-constructed.ensures.steps.0 ∙ w.in-None.ensures.steps.0) (w.in-None-constructed.ensures.steps.1 ∙ w.in-None.ensures.steps.1) (stands_behind _ _ _ _ _ w.in-Some-contents_event.ensures.tells)) w.in_ok-go-in-Some-contents_event.ensures.state _ w.in_ok-go-in-Some-contents_event.ensures.puts);
+        walked = rw (w.walker-is, w.rest-is) (w.in-Some-contents_event.ensures.steps.0.0 ∙ unmoved _ _ _ _ (w.in-None-constructed.ensures.steps.0 ∙ w.in-None.ensures.steps.0) (w.in-None-constructed.ensures.steps.1 ∙ w.in-None.ensures.steps.1) ∙ left_walked g.F.Follow.next g.D.Drain.told _ _ _ _ _ _ _ _ _ c.if-branch.false c.in_ok-follow_primitive.ensures.parts ∙ c.events.invariant.walked);
+      }
+      | in-None+in-None-constructed+in-None-contents_event+in-Event+in_ok-go-in-Event w ↦ record {
+        follows = rw (w.out-is, w.follower-is, w.walker-is, w.rest-is, ← on, w.go-is) (follows_event g.F.Follow.next g.D.Drain.told _ _ _ _ _ _ _ _ _ _ _ _ _ _ left (unmoved_event _ _ _ _ _ _ _ (w.in-None-contents_event.ensures.steps.0 ∙ w.in-None-constructed.ensures.steps.0 ∙ w.in-None.ensures.steps.0) (w.in-None-contents_event.ensures.steps.1 ∙ w.in-None-constructed.ensures.steps.1 ∙ w.in-None.ensures.steps.1) w.in-Event.ensures.stands) w.in_ok-go-in-Event.ensures.state _ w.in_ok-go-in-Event.ensures.puts);
+        walked = rw (w.walker-is, w.rest-is) (w.in-Event.ensures.steps.0.0 ∙ unmoved _ _ _ _ (w.in-None-contents_event.ensures.steps.0 ∙ w.in-None-constructed.ensures.steps.0 ∙ w.in-None.ensures.steps.0) (w.in-None-contents_event.ensures.steps.1 ∙ w.in-None-constructed.ensures.steps.1 ∙ w.in-None.ensures.steps.1) ∙ left_walked g.F.Follow.next g.D.Drain.told _ _ _ _ _ _ _ _ _ c.if-branch.false c.in_ok-follow_primitive.ensures.parts ∙ c.events.invariant.walked);
       }
     ]
 
@@ -74,45 +77,53 @@ pub returns-in_err-go-in-Some-clause-stops : goal.returns-in_err-go-in-Some-clau
 returns-in_err-go-in-Some-clause-stops g c =
     let p = err_from_is_err_and c.from_residual-in_err-go-in-Some.result c.from_residual-in_err-go-in-Some.ensures.1 in
     let left = follows_left g.F.Follow.next g.D.Drain.told _ _ _ _ _ _ _ _ _ _ _ _ _ c.events.invariant.follows c.if-branch.false c.in_ok-follow_primitive.ensures.parts in
-    let opened : StandsBehind c.follow_primitive.new.walker c.constructed.new.self c.follow_primitive.new.piece.now c.constructed.new.piece.now (Open c.new.result) = rw c.new.ensures (stands_behind _ _ _ _ _ c.in-Some.ensures.tells) in
     rw p.1
-    (fails_event g.F.Follow.next g.D.Drain.told _ _ _ _ _ _ _ _ _ _ _ _ left opened _ _ c.in_err-go-in-Some.ensures.puts)
+    (fails_event g.F.Follow.next g.D.Drain.told _ _ _ _ _ _ _ _ _ _ _ _ left (stands_behind _ _ _ _ _ c.in-Some.ensures.tells) _ _ c.in_err-go-in-Some.ensures.puts)
 
-pub returns-in_err-go-in-Some-quick_event-clause-stops : goal.returns-in_err-go-in-Some-quick_event-clause-stops
-returns-in_err-go-in-Some-quick_event-clause-stops g c =
-    let p = err_from_is_err_and c.from_residual-in_err-go-in-Some-quick_event.result c.from_residual-in_err-go-in-Some-quick_event.ensures.1 in
+pub returns-in_err-go-in-Some-constructed-clause-stops : goal.returns-in_err-go-in-Some-constructed-clause-stops
+returns-in_err-go-in-Some-constructed-clause-stops g c =
+    let p = err_from_is_err_and c.from_residual-in_err-go-in-Some-constructed.result c.from_residual-in_err-go-in-Some-constructed.ensures.1 in
+    let left = follows_left g.F.Follow.next g.D.Drain.told _ _ _ _ _ _ _ _ _ _ _ _ _ c.events.invariant.follows c.if-branch.false c.in_ok-follow_primitive.ensures.parts in
+    let opened : StandsBehind c.close.new.self c.constructed.new.self c.close.new.piece.now c.constructed.new.piece.now (Open c.new.result) = rw c.new.ensures (stands_behind _ _ _ _ _ c.in-Some-constructed.ensures.tells) in
+    rw p.1
+    (fails_event g.F.Follow.next g.D.Drain.told _ _ _ _ _ _ _ _ _ _ _ _ left (unmoved_event _ _ _ _ _ _ _ (c.in-None.ensures.steps.0) (c.in-None.ensures.steps.1) opened) _ _ c.in_err-go-in-Some-constructed.ensures.puts)
+
+pub returns-in_err-go-in-Some-contents_event-clause-stops : goal.returns-in_err-go-in-Some-contents_event-clause-stops
+returns-in_err-go-in-Some-contents_event-clause-stops g c =
+    let p = err_from_is_err_and c.from_residual-in_err-go-in-Some-contents_event.result c.from_residual-in_err-go-in-Some-contents_event.ensures.1 in
     let left = follows_left g.F.Follow.next g.D.Drain.told _ _ _ _ _ _ _ _ _ _ _ _ _ c.events.invariant.follows c.if-branch.false c.in_ok-follow_primitive.ensures.parts in
     rw p.1
-    (fails_event g.F.Follow.next g.D.Drain.told _ _ _ _ _ _ _ _ _ _ _ _ left (unmoved_event _ _ _ _ _ _ _ c.in-None.ensures.steps.0 c.in-None.ensures.steps.1 (stands_behind _ _ _ _ _ c.in-Some-quick_event.ensures.tells)) _ _ c.in_err-go-in-Some-quick_event.ensures.puts)
+    (fails_event g.F.Follow.next g.D.Drain.told _ _ _ _ _ _ _ _ _ _ _ _ left (unmoved_event _ _ _ _ _ _ _ (c.in-None-constructed.ensures.steps.0 ∙ c.in-None.ensures.steps.0) (c.in-None-constructed.ensures.steps.1 ∙ c.in-None.ensures.steps.1) (stands_behind _ _ _ _ _ c.in-Some-contents_event.ensures.tells)) _ _ c.in_err-go-in-Some-contents_event.ensures.puts)
 
 pub returns-in_err-go-in-Event-clause-stops : goal.returns-in_err-go-in-Event-clause-stops
 returns-in_err-go-in-Event-clause-stops g c =
     let p = err_from_is_err_and c.from_residual-in_err-go-in-Event.result c.from_residual-in_err-go-in-Event.ensures.1 in
     let left = follows_left g.F.Follow.next g.D.Drain.told _ _ _ _ _ _ _ _ _ _ _ _ _ c.events.invariant.follows c.if-branch.false c.in_ok-follow_primitive.ensures.parts in
     rw p.1
-    (fails_event g.F.Follow.next g.D.Drain.told _ _ _ _ _ _ _ _ _ _ _ _ left (unmoved_event _ _ _ _ _ _ _ (c.in-None-quick_event.ensures.steps.0 ∙ c.in-None.ensures.steps.0) (c.in-None-quick_event.ensures.steps.1 ∙ c.in-None.ensures.steps.1) c.in-Event.ensures.stands) _ _ c.in_err-go-in-Event.ensures.puts)
+    (fails_event g.F.Follow.next g.D.Drain.told _ _ _ _ _ _ _ _ _ _ _ _ left (unmoved_event _ _ _ _ _ _ _ (c.in-None-contents_event.ensures.steps.0 ∙ c.in-None-constructed.ensures.steps.0 ∙ c.in-None.ensures.steps.0) (c.in-None-contents_event.ensures.steps.1 ∙ c.in-None-constructed.ensures.steps.1 ∙ c.in-None.ensures.steps.1) c.in-Event.ensures.stands) _ _ c.in_err-go-in-Event.ensures.puts)
 
 pub returns-in-NeedMore-clause-stops : goal.returns-in-NeedMore-clause-stops
 returns-in-NeedMore-clause-stops g c =
     stops_used_up g.F.Follow.next g.D.Drain.told _ _ _ _ _ _ _ _ _ c.step.new.piece.now (follows_left g.F.Follow.next g.D.Drain.told _ _ _ _ _ _ _ _ _ _ _ _ _ c.events.invariant.follows c.if-branch.false c.in_ok-follow_primitive.ensures.parts)
-    (unmoved_stands c.quick_event.new.self _ c.step.new.self c.quick_event.new.piece.now _ c.step.new.piece.now step.NeedMore (c.in-None-quick_event.ensures.steps.0 ∙ c.in-None.ensures.steps.0) (c.in-None-quick_event.ensures.steps.1 ∙ c.in-None.ensures.steps.1) c.in-NeedMore.ensures.stands)
+    (unmoved_stands c.contents_event.new.self _ c.step.new.self c.contents_event.new.piece.now _ c.step.new.piece.now step.NeedMore (c.in-None-contents_event.ensures.steps.0 ∙ c.in-None-constructed.ensures.steps.0 ∙ c.in-None.ensures.steps.0) (c.in-None-contents_event.ensures.steps.1 ∙ c.in-None-constructed.ensures.steps.1 ∙ c.in-None.ensures.steps.1) c.in-NeedMore.ensures.stands)
 
 pub returns-in-Fault-clause-stops : goal.returns-in-Fault-clause-stops
 returns-in-Fault-clause-stops g c =
     stops_fault g.F.Follow.next g.D.Drain.told _ _ _ _ _ _ _ _ _ _ _ (follows_left g.F.Follow.next g.D.Drain.told _ _ _ _ _ _ _ _ _ _ _ _ _ c.events.invariant.follows c.if-branch.false c.in_ok-follow_primitive.ensures.parts)
-    (unmoved_stands c.quick_event.new.self _ c.step.new.self c.quick_event.new.piece.now _ c.step.new.piece.now (step.Fault c.in-Fault.fault) (c.in-None-quick_event.ensures.steps.0 ∙ c.in-None.ensures.steps.0) (c.in-None-quick_event.ensures.steps.1 ∙ c.in-None.ensures.steps.1) c.in-Fault.ensures.stands)
-    (unmoved_refuses c.quick_event.new.self _ c.step.new.self c.quick_event.new.piece.now _ c.step.new.piece.now c.in-Fault.fault (c.in-None-quick_event.ensures.steps.0 ∙ c.in-None.ensures.steps.0) (c.in-None-quick_event.ensures.steps.1 ∙ c.in-None.ensures.steps.1) c.in-Fault.ensures.steps)
+    (unmoved_stands c.contents_event.new.self _ c.step.new.self c.contents_event.new.piece.now _ c.step.new.piece.now (step.Fault c.in-Fault.fault) (c.in-None-contents_event.ensures.steps.0 ∙ c.in-None-constructed.ensures.steps.0 ∙ c.in-None.ensures.steps.0) (c.in-None-contents_event.ensures.steps.1 ∙ c.in-None-constructed.ensures.steps.1 ∙ c.in-None.ensures.steps.1) c.in-Fault.ensures.stands)
+    (unmoved_refuses c.contents_event.new.self _ c.step.new.self c.contents_event.new.piece.now _ c.step.new.piece.now c.in-Fault.fault (c.in-None-contents_event.ensures.steps.0 ∙ c.in-None-constructed.ensures.steps.0 ∙ c.in-None.ensures.steps.0) (c.in-None-contents_event.ensures.steps.1 ∙ c.in-None-constructed.ensures.steps.1 ∙ c.in-None.ensures.steps.1) c.in-Fault.ensures.steps)
 
 pub returns-then-eq-clause-stops : goal.returns-then-eq-clause-stops
 returns-then-eq-clause-stops g c =
-    let enough : c.match-constructed.go ≡ go.Enough = not_on _ (search rules) in
+    let enough : c.match-close.go ≡ go.Enough = not_on _ (search rules) in
     let left = follows_left g.F.Follow.next g.D.Drain.told _ _ _ _ _ _ _ _ _ _ _ _ _ c.events.invariant.follows c.if-branch.false c.in_ok-follow_primitive.ensures.parts in
-    elim c.match-constructed.branch [
-      | in-Some+in_ok-go-in-Some w ↦
-          let opened : StandsBehind c.follow_primitive.new.walker c.constructed.new.self c.follow_primitive.new.piece.now c.constructed.new.piece.now (Open w.new.result) = rw w.new.ensures (stands_behind _ _ _ _ _ w.in-Some.ensures.tells) in rw (w.out-is, w.follower-is, w.walker-is, ← enough, w.go-is)
-          (_, follows_as g.F.Follow.next g.D.Drain.told _ _ _ _ _ _ _ _ _ _ (follows_event g.F.Follow.next g.D.Drain.told _ _ _ _ _ _ _ _ _ _ _ _ _ _ left opened w.in_ok-go-in-Some.ensures.state _ w.in_ok-go-in-Some.ensures.puts), w.in-Some.ensures.steps.0.3)
-      | in-None+in-Some-quick_event+in_ok-go-in-Some-quick_event w ↦ rw (w.out-is, w.follower-is, w.walker-is, ← enough, w.go-is)
-          (_, follows_as g.F.Follow.next g.D.Drain.told _ _ _ _ _ _ _ _ _ _ (follows_event g.F.Follow.next g.D.Drain.told _ _ _ _ _ _ _ _ _ _ _ _ _ _ left (unmoved_event _ _ _ _ _ _ _ w.in-None.ensures.steps.0 w.in-None.ensures.steps.1 (stands_behind _ _ _ _ _ w.in-Some-quick_event.ensures.tells)) w.in_ok-go-in-Some-quick_event.ensures.state _ w.in_ok-go-in-Some-quick_event.ensures.puts), w.in-Some-quick_event.ensures.steps.0.3)
-      | in-None+in-None-quick_event+in-Event+in_ok-go-in-Event w ↦ rw (w.out-is, w.follower-is, w.walker-is, ← enough, w.go-is)
-          (_, follows_as g.F.Follow.next g.D.Drain.told _ _ _ _ _ _ _ _ _ _ (follows_event g.F.Follow.next g.D.Drain.told _ _ _ _ _ _ _ _ _ _ _ _ _ _ left (unmoved_event _ _ _ _ _ _ _ (w.in-None-quick_event.ensures.steps.0 ∙ w.in-None.ensures.steps.0) (w.in-None-quick_event.ensures.steps.1 ∙ w.in-None.ensures.steps.1) w.in-Event.ensures.stands) w.in_ok-go-in-Event.ensures.state _ w.in_ok-go-in-Event.ensures.puts), w.in-Event.ensures.steps.0.3)
+    elim c.match-close.branch [
+      | in-Some+in_ok-go-in-Some w ↦ rw (w.out-is, w.follower-is, w.walker-is, ← enough, w.go-is)
+          (_, follows_as g.F.Follow.next g.D.Drain.told _ _ _ _ _ _ _ _ _ _ (follows_event g.F.Follow.next g.D.Drain.told _ _ _ _ _ _ _ _ _ _ _ _ _ _ left (stands_behind _ _ _ _ _ w.in-Some.ensures.tells) w.in_ok-go-in-Some.ensures.state _ w.in_ok-go-in-Some.ensures.puts), w.in-Some.ensures.steps.0.3)
+      | in-None+in-Some-constructed+in_ok-go-in-Some-constructed w ↦ let opened : StandsBehind c.close.new.self w.constructed.new.self c.close.new.piece.now w.constructed.new.piece.now (Open w.new.result) = rw w.new.ensures (stands_behind _ _ _ _ _ w.in-Some-constructed.ensures.tells) in rw (w.out-is, w.follower-is, w.walker-is, ← enough, w.go-is)
+          (_, follows_as g.F.Follow.next g.D.Drain.told _ _ _ _ _ _ _ _ _ _ (follows_event g.F.Follow.next g.D.Drain.told _ _ _ _ _ _ _ _ _ _ _ _ _ _ left (unmoved_event _ _ _ _ _ _ _ (w.in-None.ensures.steps.0) (w.in-None.ensures.steps.1) opened) w.in_ok-go-in-Some-constructed.ensures.state _ w.in_ok-go-in-Some-constructed.ensures.puts), w.in-Some-constructed.ensures.steps.0.3)
+      | in-None+in-None-constructed+in-Some-contents_event+in_ok-go-in-Some-contents_event w ↦ rw (w.out-is, w.follower-is, w.walker-is, ← enough, w.go-is)
+          (_, follows_as g.F.Follow.next g.D.Drain.told _ _ _ _ _ _ _ _ _ _ (follows_event g.F.Follow.next g.D.Drain.told _ _ _ _ _ _ _ _ _ _ _ _ _ _ left (unmoved_event _ _ _ _ _ _ _ (w.in-None-constructed.ensures.steps.0 ∙ w.in-None.ensures.steps.0) (w.in-None-constructed.ensures.steps.1 ∙ w.in-None.ensures.steps.1) (stands_behind _ _ _ _ _ w.in-Some-contents_event.ensures.tells)) w.in_ok-go-in-Some-contents_event.ensures.state _ w.in_ok-go-in-Some-contents_event.ensures.puts), w.in-Some-contents_event.ensures.steps.0.3)
+      | in-None+in-None-constructed+in-None-contents_event+in-Event+in_ok-go-in-Event w ↦ rw (w.out-is, w.follower-is, w.walker-is, ← enough, w.go-is)
+          (_, follows_as g.F.Follow.next g.D.Drain.told _ _ _ _ _ _ _ _ _ _ (follows_event g.F.Follow.next g.D.Drain.told _ _ _ _ _ _ _ _ _ _ _ _ _ _ left (unmoved_event _ _ _ _ _ _ _ (w.in-None-contents_event.ensures.steps.0 ∙ w.in-None-constructed.ensures.steps.0 ∙ w.in-None.ensures.steps.0) (w.in-None-contents_event.ensures.steps.1 ∙ w.in-None-constructed.ensures.steps.1 ∙ w.in-None.ensures.steps.1) w.in-Event.ensures.stands) w.in_ok-go-in-Event.ensures.state _ w.in_ok-go-in-Event.ensures.puts), w.in-Event.ensures.steps.0.3)
     ]

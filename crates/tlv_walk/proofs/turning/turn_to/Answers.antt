@@ -2,7 +2,7 @@ use Rattle.std.proofs.Common.{rules, refl, arith}
 use Rattle.std.proofs.lemmas.Grind.{elements}
 use Rattle.tlv_walk.proofs.Calls.{again_answered, calls_answered, calls_given}
 use Rattle.tlv_walk.proofs.Turns.{turns_answered, turns_failed}
-use Rattle.tlv_walk.proofs.turning.turn.Goals as goal
+use Rattle.tlv_walk.proofs.turning.turn_to.Goals as goal
 
 pub returns-in_default-follow_and_flush-clause-turned : goal.returns-in_default-follow_and_flush-clause-turned
 returns-in_default-follow_and_flush-clause-turned g c = λ b told st.
