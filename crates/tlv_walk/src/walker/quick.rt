@@ -27,13 +27,13 @@ impl Walker {
         requires { self.now.offset + length octets.now ≤ 2 ^ 40 }
         ensures { IfSome result (λ p. CanPass self.now octets.now p) }
     {
-        if !matches!(self.phase, Phase::Between) || self.framing.inside.contains(self.offset) {
-            return None;
-        }
         let [first, ..] = octets else {
             return None;
         };
-        if *first & 0x20 != 0 {
+        if *first & 0x20 != 0
+            || !matches!(self.phase, Phase::Between)
+            || self.framing.inside.contains(self.offset)
+        {
             return None;
         }
         let (fields, header) = read_short(self.offset, false, octets)?;
