@@ -174,6 +174,16 @@ impl Finder {
         if is_plain(self.rules, self.holders.frame(), header) {
             return false;
         }
+        self.look(header);
+        true
+    }
+
+    /// Looks for all that may be found with a header.
+    #[inline(always)]
+    fn look(&mut self, header: &Header)
+        ensures { self.new ≡ finds self.old.state (length self.old.state.outer) header.now.offset
+            (header_notes self.old.state.rules self.old.state.frame header.now) }
+    {
         let level = self.holders.level();
         self.told.restart(level, header.offset);
         note_header(
@@ -183,7 +193,6 @@ impl Finder {
             &mut self.told.findings,
         );
         self.count = self.count.saturating_add(self.told.findings.len() as u64);
-        true
     }
 
     /// Keeps the frame of an element that holds others and begins.
@@ -209,9 +218,14 @@ impl Finder {
     pub fn open(&mut self, header: &Header) -> bool
         ensures { Tells (find_open self.old.state header.now) self.new result }
     {
-        let tells = self.header(header);
+        // Most such elements are no strings, and nothing is found with them.
+        if is_plain(self.rules, self.holders.frame(), header) {
+            self.holders.enter_plain(header);
+            return false;
+        }
+        self.look(header);
         self.enter(header);
-        tells
+        true
     }
 
     /// A primitive begins.

@@ -50,7 +50,8 @@ pub(crate) fn note_header(
 /// Whether nothing is found with a header, as far as a short look tells.
 #[inline(always)]
 pub(crate) fn is_plain(rules: Rules, frame: &Frame, header: &Header) -> bool
-    ensures { IsTrue result → header_notes rules frame.now header.now ≡ [] }
+    ensures notes { IsTrue result → header_notes rules frame.now header.now ≡ [] }
+    ensures segments { IsTrue result → (frame.now.has_segments || has_segments header.now) ≡ false }
 {
     if frame.has_segments || !is_tag_usual(header) || !is_usual(header) {
         return false;

@@ -1,5 +1,5 @@
 //! The frames of the elements that are open, without those of which nothing is to be known.
-ghost use Rattle.std.specs.Prelude.{◌≡◌, ◌||◌, length, true};
+ghost use Rattle.std.specs.Prelude.{◌≡◌, ◌||◌, false, length, true};
 ghost use Rattle.tlv_head.specs.Header.{Heading};
 ghost use Rattle.tlv_value.specs.Types.{has_segments};
 ghost use Rattle.tlv_show.specs.FinderState.{header_notes, noted};
@@ -78,18 +78,29 @@ impl Nesting {
     pub fn enter(&mut self, header: &Header)
         ensures { self.new ≡ entered self.old header.now }
     {
+        if !has_frame(&self.frame, header) {
+            return self.enter_plain(header);
+        }
         if self.level == 128 {
             return;
         }
         self.level += 1;
-        if has_frame(&self.frame, header) {
-            self.outer.push(Kept {
-                frame: self.frame,
-                plain: self.plain,
-            });
-            self.frame = frame_of(header);
-            self.plain = 0;
-        } else {
+        self.outer.push(Kept {
+            frame: self.frame,
+            plain: self.plain,
+        });
+        self.frame = frame_of(header);
+        self.plain = 0;
+    }
+
+    /// An element that holds others begins, which is no string and stands in none.
+    #[inline(always)]
+    pub fn enter_plain(&mut self, header: &Header)
+        requires { (self.old.frame.has_segments || has_segments header.now) ≡ false }
+        ensures { self.new ≡ entered self.old header.now }
+    {
+        if self.level < 128 {
+            self.level += 1;
             self.plain += 1;
         }
     }

@@ -6,4 +6,4 @@ pub returns : goal.returns
 returns c =
     rw (← c.self.view_is)
     (passes _ _ c.args.header.now c.args.contents.now c.requires (sym c.frame-frame.ensures.segments ∙ c.if-frame.false)
-    (sym (c.frame-frame.ensures.notes c.self.inside.rules c.args.header.now) ∙ c.is_plain.ensures (search rules)) (c.is_clear.ensures (search rules)) refl)
+    (sym (c.frame-frame.ensures.notes c.self.inside.rules c.args.header.now) ∙ c.is_plain.ensures.notes (search rules)) (c.is_clear.ensures (search rules)) refl)
