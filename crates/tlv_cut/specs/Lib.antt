@@ -1,9 +1,9 @@
-pub mod Indef
-pub mod IndefNext
-pub mod IndefRuns
-pub mod Placed
+pub mod ExtractText
+pub mod ExtractStep
+pub mod ExtractJob
+pub mod ExtractLaws
+pub mod IndefText
+pub mod IndefStep
+pub mod IndefJob
+pub mod Offsets
 pub mod IndefLaws
-pub mod Cut
-pub mod Extracted
-pub mod Extracts
-pub mod CutLaws

@@ -1,6 +1,6 @@
 //! Laws of the definitions: each is the contract of a function that does nothing.
 
-ghost use Rattle.tlv_cut.specs.CutLaws.{
+ghost use Rattle.tlv_cut.specs.ExtractLaws.{
   CutsGoOn,
   CutsStandInTheInput,
   EnoughComesAtEnds,

@@ -1,4 +1,4 @@
-use Rattle.tlv_cut.proofs.CutLaws.{at_ends}
+use Rattle.tlv_cut.proofs.ExtractLemmas.Laws.{at_ends}
 use Rattle.tlv_cut.proofs.laws.enough_comes_at_ends.Goals as goal
 
 pub returns : goal.returns

@@ -1,5 +1,5 @@
 use Rattle.std.proofs.Common.{false}
-use Rattle.tlv_cut.proofs.CutsGrow.{found_stays as stays}
+use Rattle.tlv_cut.proofs.ExtractLemmas.LongerInputs.{found_stays as stays}
 use Rattle.tlv_cut.proofs.laws.found_stays.Goals as goal
 
 pub returns : goal.returns

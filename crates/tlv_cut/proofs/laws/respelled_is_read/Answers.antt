@@ -1,4 +1,4 @@
-use Rattle.tlv_cut.proofs.IndefReadings.{read_again}
+use Rattle.tlv_cut.proofs.IndefLemmas.SecondReading.{read_again}
 use Rattle.tlv_cut.proofs.laws.respelled_is_read.Goals as goal
 
 pub returns : goal.returns

@@ -1,0 +1,107 @@
+-- What is made of a longer input's events goes on from what is made of the shorter's.
+use Rattle.std.proofs.Common.{◌≡◌, ℕ, Bool, true, List, [], ◌∷◌, ◌++◌, suc, zero, refl, sym, ap, ◌∙◌, arith}
+use Rattle.std.specs.Prelude.{Some, None}
+use Rattle.tlv_head.specs.Header.{Heading}
+use Rattle.tlv_walk.specs.declared.follow.Go.{Go}
+use Rattle.tlv_walk.specs.declared.follow.Go.TheVariants as go
+use Rattle.tlv_walk.specs.declared.framing.Framing.{Framing}
+use Rattle.tlv_walk.specs.Events.{AreEqualJoined, Told, Open, Begin, Bytes, End, Close, Enter, Unused, Leave, Pad, events}
+use Rattle.tlv_walk.specs.Follow.{Following, followed, goes_of, if_on}
+use Rattle.tlv_walk.specs.Forest.{Forest}
+use Rattle.tlv_walk.specs.Place.{top}
+use Rattle.tlv_walk.specs.Reading.{IsPrefixOf, IsReading}
+use Rattle.tlv_walk.proofs.Followed.{each_octet-goes_on, each_octet-joins, followed-alike, followed-append, followed-enough, followed-front}
+use Rattle.tlv_walk.proofs.Prefixes.{events-prefix}
+use Rattle.tlv_cut.specs.declared.extract_follower.Position.{Position}
+use Rattle.tlv_cut.specs.declared.extract_follower.Position.TheVariants as position
+use Rattle.tlv_cut.specs.ExtractText.{extract_text, element_at, has_element_at, has_whole_element_at}
+use Rattle.tlv_cut.specs.ExtractStep.{ExtractState, begin_step, end_step, extract_step, has_found, octet_step, new_extract}
+use Rattle.tlv_cut.proofs.ExtractLemmas.Elements.{IsTextOf, makes_text}
+use Rattle.tlv_cut.proofs.ExtractLemmas.Contents.{all_contents}
+use Rattle.tlv_cut.proofs.ExtractLemmas.Job.{goes_alike}
+
+-- ---- an element that has begun stays so
+
+begin_step-found : (w : Position) (s : ExtractState) (h : Heading) → s.position ≡ w → has_found w ≡ true → has_found (begin_step w s h).state.position ≡ true
+begin_step-found position.Before s h e b = absurd (cc (b))
+begin_step-found (position.Inside level) s h e b = refl
+begin_step-found position.After s h e b = ap has_found e
+
+end_step-found : (w : Position) (s : ExtractState) (octets : List ℕ) → s.position ≡ w → has_found w ≡ true → has_found (end_step w s octets).state.position ≡ true
+end_step-found position.Before s octets e b = absurd (cc (b))
+end_step-found (position.Inside zero) s octets e b = refl
+end_step-found (position.Inside (suc level)) s octets e b = refl
+end_step-found position.After s octets e b = ap has_found e
+
+extract_step-found : (s : ExtractState) (e : Told) → has_found s.position ≡ true → has_found (extract_step s e).state.position ≡ true
+extract_step-found s (Open h) b = begin_step-found s.position s h refl b
+extract_step-found s (Begin h) b = begin_step-found s.position s h refl b
+extract_step-found s (Enter h) b = begin_step-found s.position s h refl b
+extract_step-found s (Bytes octets) b = ap (λ (t : Following ExtractState). has_found t.state.position) (all_contents s octets) ∙ b
+extract_step-found s Unused b = b
+extract_step-found s (Close None) b = end_step-found s.position s [] refl b
+extract_step-found s (Close (Some at)) b = end_step-found s.position s (0 ∷ 0 ∷ []) refl b
+extract_step-found s End b = end_step-found s.position s [] refl b
+extract_step-found s Leave b = end_step-found s.position s [] refl b
+extract_step-found s (Pad octets) b = b
+
+if_on-found : (g : Go) (t : Following ExtractState) (f : ExtractState → Following ExtractState) → has_found t.state.position ≡ true
+    → has_found (f t.state).state.position ≡ true → has_found (if_on g t f).state.position ≡ true
+if_on-found go.On t f b d = d
+if_on-found go.Enough t f b d = b
+
+followed-found : (s : ExtractState) (es : List Told) → has_found s.position ≡ true → has_found (followed extract_step s es).state.position ≡ true
+followed-found s [] b = b
+followed-found s (e ∷ es) b =
+    let t = extract_step s e in
+    if_on-found t.goes t (λ u. followed extract_step u es) (extract_step-found s e b) (followed-found t.state es (extract_step-found s e b))
+
+followed-found_more : (s : ExtractState) (es fs : List Told) → has_found (followed extract_step s es).state.position ≡ true
+    → has_found (followed extract_step s (es ++ fs)).state.position ≡ true
+followed-found_more s es fs b =
+    let t = followed extract_step s es in
+    ap (λ (t : Following ExtractState). has_found t.state.position) (followed-append extract_step s es fs)
+    ∙ if_on-found t.goes t (λ u. followed extract_step u fs) b (followed-found t.state fs b)
+
+-- ---- inputs
+
+module _ (framing : Framing) (b c : List ℕ) (f g : Forest) (r : IsReading framing b f) (s : IsReading framing (b ++ c) g) (n : ℕ) (only : Bool) where
+  -- events behind those of the shorter input
+  others : (es : List Told) × AreEqualJoined (events g) (events f ++ es)
+  others = events-prefix framing b c f g r s
+
+  -- make the same as the events of the longer
+  longer : followed extract_step (new_extract n only) (events g) ≡ followed extract_step (new_extract n only) (events f ++ others.0)
+  longer =
+      followed-alike extract_step (each_octet-joins octet_step) (λ s. refl) (each_octet-goes_on octet_step) (λ s x y. refl) (λ s. refl) (λ s x. refl)
+      (new_extract n only) (events g) (events f ++ others.0) others.1
+
+  short_text : IsTextOf n only (element_at n f) (followed extract_step (new_extract n only) (events f))
+  short_text = makes_text n only (top framing) f r.is_open (omega arith)
+
+  long_text : IsTextOf n only (element_at n g) (followed extract_step (new_extract n only) (events g))
+  long_text = makes_text n only (top framing) g s.is_open (omega arith)
+
+  pub extract_text_goes_on : IsPrefixOf (extract_text n only f) (extract_text n only g)
+  extract_text_goes_on =
+      let front = followed-front extract_step (new_extract n only) (events f) others.0 in
+      (front.0, sym (sym long_text.put ∙ ap (λ (t : Following ExtractState). t.put) longer ∙ front.1 ∙ ap (λ (l : List ℕ). l ++ front.0) short_text.put))
+
+  pub found_stays : has_element_at n f ≡ true → has_element_at n g ≡ true
+  found_stays e =
+      sym long_text.found ∙ ap (λ (t : Following ExtractState). has_found t.state.position) longer
+      ∙ followed-found_more (new_extract n only) (events f) others.0 (short_text.found ∙ e)
+
+  same : has_whole_element_at n f ≡ true → followed extract_step (new_extract n only) (events g) ≡ followed extract_step (new_extract n only) (events f)
+  same e = longer ∙ followed-enough extract_step (new_extract n only) (events f) others.0 (short_text.goes ∙ ap goes_of e)
+
+  pub same_extract_text : has_whole_element_at n f ≡ true → extract_text n only g ≡ extract_text n only f
+  same_extract_text e = sym long_text.put ∙ ap (λ (t : Following ExtractState). t.put) (same e) ∙ short_text.put
+
+  pub same_found : has_whole_element_at n f ≡ true → has_element_at n g ≡ has_element_at n f
+  same_found e = sym long_text.found ∙ ap (λ (t : Following ExtractState). has_found t.state.position) (same e) ∙ short_text.found
+
+  pub same_whole : has_whole_element_at n f ≡ true → has_whole_element_at n g ≡ has_whole_element_at n f
+  same_whole e =
+      goes_alike (has_whole_element_at n g) (has_whole_element_at n f)
+      (sym long_text.goes ∙ ap (λ (t : Following ExtractState). t.goes) (same e) ∙ short_text.goes)

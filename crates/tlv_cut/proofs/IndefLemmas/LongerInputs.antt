@@ -1,0 +1,23 @@
+-- What is written for a longer input goes on from what is written for the shorter.
+use Rattle.std.proofs.Common.{◌≡◌, List, ◌++◌, ℕ, refl, sym, ap, ◌∙◌}
+use Rattle.tlv_walk.specs.Events.{AreEqualJoined, Told, events}
+use Rattle.tlv_walk.specs.Follow.{Following}
+use Rattle.tlv_walk.proofs.Followed.{followed-alike}
+use Rattle.tlv_walk.proofs.Prefixes.{events-prefix}
+use Rattle.tlv_cut.specs.IndefLaws.{RespelledGoesOn}
+use Rattle.tlv_cut.specs.IndefStep.{indef_step}
+use Rattle.tlv_cut.proofs.IndefLemmas.Elements.{events_text-append, followed-indef_step, events_text, events_text-events}
+
+-- events that are equal joined put the same
+events_text-alike : (xs ys : List Told) → AreEqualJoined xs ys → events_text xs ≡ events_text ys
+events_text-alike xs ys e =
+    sym (ap (λ (t : Following (List Told)). t.put) (followed-indef_step xs xs))
+    ∙ ap (λ (t : Following (List Told)). t.put)
+    (followed-alike indef_step (λ s x y. refl) (λ s. refl) (λ s x. refl) (λ s x y. refl) (λ s. refl) (λ s x. refl) xs xs ys e)
+    ∙ ap (λ (t : Following (List Told)). t.put) (followed-indef_step xs ys)
+
+pub indef_text_goes_on : RespelledGoesOn
+indef_text_goes_on framing b c f g r s =
+    let more : (others : List Told) × AreEqualJoined (events g) (events f ++ others) = events-prefix framing b c f g r s in
+    let puts : events_text (events g) ≡ events_text (events f) ++ events_text more.0 = events_text-alike (events g) (events f ++ more.0) more.1 ∙ events_text-append (events f) more.0 in
+    (events_text more.0, ap (λ (l : List ℕ). l ++ events_text more.0) (sym (events_text-events f)) ∙ sym puts ∙ events_text-events g)

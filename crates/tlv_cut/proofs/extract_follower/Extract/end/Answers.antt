@@ -1,0 +1,21 @@
+use Rattle.std.proofs.Common.{◌≡◌, true, false, rules, refl, sym, ap, ◌∙◌}
+use Rattle.tlv_cut.specs.declared.extract_follower.Position.TheVariants.{Inside}
+use Rattle.tlv_cut.specs.ExtractStep.{ExtractState}
+use Rattle.tlv_cut.proofs.extract_follower.Extract.end.Goals as goal
+use Rattle.tlv_cut.proofs.extract_follower.Extract.end.Goals.{then-not-self+in_ok-put-in-Inside-eq0, else-not-self}
+
+pub returns-in_err-put-in-Inside-eq0-clause-puts : goal.returns-in_err-put-in-Inside-eq0-clause-puts
+returns-in_err-put-in-Inside-eq0-clause-puts g c =
+    let level = sym c.in-Inside-eq0.field-0-is ∙ c.in-Inside-eq0.field-0-test in
+    let position : c.args.self.now.position ≡ Inside 0 = ap (λ (s : ExtractState). s.position) (sym c.self.view_is) ∙ c.in-Inside-eq0.is ∙ ap Inside level in
+    let whole : c.args.self.now.contents_only ≡ false = ap (λ (s : ExtractState). s.contents_only) (sym c.self.view_is) ∙ c.if-not-self.true in
+    rw (position, whole) (search rules)
+
+pub returns-after-not-self-clause-state : goal.returns-after-not-self-clause-state
+returns-after-not-self-clause-state g c = rw (← c.self.view_is, c.in-Inside-eq0.is, sym c.in-Inside-eq0.field-0-is ∙ c.in-Inside-eq0.field-0-test) (refl, refl)
+
+pub returns-after-not-self-clause-puts : goal.returns-after-not-self-clause-puts
+returns-after-not-self-clause-puts g c =
+    let level = sym c.in-Inside-eq0.field-0-is ∙ c.in-Inside-eq0.field-0-test in
+    let position : c.args.self.now.position ≡ Inside 0 = ap (λ (s : ExtractState). s.position) (sym c.self.view_is) ∙ c.in-Inside-eq0.is ∙ ap Inside level in
+    elim c.if-not-self.branch [ then-not-self+in_ok-put-in-Inside-eq0 w ↦ let whole : c.args.self.now.contents_only ≡ false = ap (λ (s : ExtractState). s.contents_only) (sym c.self.view_is) ∙ w.if-not-self.true in rw (position, whole, w.out-is) (search rules) | else-not-self w ↦ let part : c.args.self.now.contents_only ≡ true = ap (λ (s : ExtractState). s.contents_only) (sym c.self.view_is) ∙ w.if-not-self.false in rw (position, part, w.out-is) (search rules) ]

@@ -1,0 +1,62 @@
+-- Laws of what `extract` writes.
+use Rattle.std.specs.Prelude.{◌≡◌, ℕ, Bool, true, false, if◌then◌else◌, List, [], ◌++◌, length}
+use Rattle.tlv_head.specs.Header.{Heading, IsHeading, octets_of}
+use Rattle.tlv_walk.specs.declared.follow.Go.TheVariants.{Enough}
+use Rattle.tlv_walk.specs.declared.framing.Framing.{Framing}
+use Rattle.tlv_walk.specs.Events.{Told, End, Close, Leave, events}
+use Rattle.tlv_walk.specs.Follow.{followed, goes_of}
+use Rattle.tlv_walk.specs.Forest.{Forest, end_octets}
+use Rattle.tlv_walk.specs.Reading.{IsPrefixOf, IsReading}
+use Rattle.tlv_cut.specs.ExtractText.{extract_text, has_element_at, has_whole_element_at}
+use Rattle.tlv_cut.specs.ExtractStep.{ExtractState, extract_step, has_found, new_extract}
+
+-- where an element with this offset stands in an input: its octets so far are there, from the offset on. They are its
+-- header, its contents, and where it is whole its end-of-contents octets
+pub record IsInInput (b : List ℕ) (n : ℕ) (f : Forest) : Type 0 where
+  pub front : List ℕ
+  pub rest : List ℕ
+  pub octets : front ++ (extract_text n false f ++ rest) ≡ b
+  pub place : length front ≡ n
+  pub head : Heading
+  pub valid : IsHeading head
+  pub offset : head.offset ≡ n
+  pub parts : extract_text n false f ≡ octets_of head ++ (extract_text n true f ++ (if has_whole_element_at n f then end_octets head.size else []))
+
+-- what is written of an element stands in the input
+abbrev pub CutsStandInTheInput : Type 0
+CutsStandInTheInput = (framing : Framing) (b : List ℕ) (f : Forest) → IsReading framing b f
+    → (n : ℕ) → has_element_at n f ≡ true → IsInInput b n f
+
+-- what is written of an input is a front of what is written of a longer one
+abbrev pub CutsGoOn : Type 0
+CutsGoOn = (framing : Framing) (b c : List ℕ) (f g : Forest) → IsReading framing b f → IsReading framing (b ++ c) g
+    → (n : ℕ) (contents_only : Bool) → IsPrefixOf (extract_text n contents_only f) (extract_text n contents_only g)
+
+-- an element that is found is found whatever follows
+abbrev pub FoundStays : Type 0
+FoundStays = (framing : Framing) (b c : List ℕ) (f g : Forest) → IsReading framing b f → IsReading framing (b ++ c) g
+    → (n : ℕ) → has_element_at n f ≡ true → has_element_at n g ≡ true
+
+-- where it is whole, all of this is the same whatever follows
+abbrev pub WholeCutsStay : Type 0
+WholeCutsStay = (framing : Framing) (b c : List ℕ) (f g : Forest) → IsReading framing b f → IsReading framing (b ++ c) g
+    → (n : ℕ) → has_whole_element_at n f ≡ true
+    → (has_element_at n g ≡ has_element_at n f) × (has_whole_element_at n g ≡ has_whole_element_at n f)
+    × ((contents_only : Bool) → extract_text n contents_only g ≡ extract_text n contents_only f)
+
+-- an `Extract` puts the cut of a reading, has enough where the element is whole, and has found it where it is there
+abbrev pub ExtractsMakeCuts : Type 0
+ExtractsMakeCuts = (framing : Framing) (b : List ℕ) (f : Forest) → IsReading framing b f
+    → (n : ℕ) (contents_only : Bool) → let made = followed extract_step (new_extract n contents_only) (events f) in
+    (made.put ≡ extract_text n contents_only f) × (made.goes ≡ goes_of (has_whole_element_at n f)) × (has_found made.state.position ≡ has_element_at n f)
+
+-- an element ends
+abbrev pub is_end_event : Told → Bool
+is_end_event End = true
+is_end_event (Close at) = true
+is_end_event Leave = true
+is_end_event _ = false
+
+-- an `Extract` has enough at an end alone, whatever it met before
+abbrev pub EnoughComesAtEnds : Type 0
+EnoughComesAtEnds = (s : ExtractState) (e : Told) → (extract_step s e).goes ≡ Enough → is_end_event e ≡ true

@@ -1,0 +1,79 @@
+//! The follower that writes indefinite lengths.
+ghost use Rattle.std.specs.Prelude.{◌≡◌};
+ghost use Rattle.tlv_walk.specs.Out.{Puts};
+ghost use Rattle.tlv_walk.specs.Tells.{told_of};
+ghost use Rattle.tlv_cut.specs.IndefStep.{indef_event_text};
+ghost use Rattle.tlv_cut.specs.declared.indef_follower.Indef.{Indef as IndefOf};
+
+use tlv_head::{Header, spell_indefinite};
+use tlv_walk::{Drain, Event, Follow, Go, Out, WriteFault};
+
+/// Writes the octets that are walked over, with the indefinite form of the length in each
+/// constructed element (8.1.3.6): its identifier octets, `80`, what it holds, and `00 00` where it has
+/// ended. Primitives and padding stay as they stand.
+///
+/// It is made for walks in which no string is read as encodings. Such a string is a primitive, so its
+/// header stays as it stands, although what it holds may become longer.
+#[derive(Clone, Copy, Debug)]
+pub struct Indef;
+
+impl Indef {
+    /// A follower that writes indefinite lengths. There is one alone: it keeps nothing.
+    pub fn new() -> Indef
+        ensures { (other : IndefOf) → result ≡ other }
+    {
+        Indef
+    }
+}
+
+impl Follow for Indef {
+    ghost use Rattle.std.specs.Prelude.{refl};
+    ghost use Rattle.tlv_cut.specs.IndefStep.{indef_step};
+
+    ghost next = { indef_step };
+
+    ghost bytes_join = { λ s x y. refl };
+
+    ghost bytes_rest = { λ s. refl };
+
+    ghost bytes_go_on = { λ s x. refl };
+
+    ghost pad_join = { λ s x y. refl };
+
+    ghost pad_rest = { λ s. refl };
+
+    ghost pad_go_on = { λ s x. refl };
+
+    #[inline(always)]
+    fn on<D: Drain>(&mut self, event: &Event<'_>, out: &mut Out<'_, D>) -> Result<Go, WriteFault> {
+        put_event(event, out)?;
+        Ok(Go::On)
+    }
+
+    #[inline(always)]
+    fn whole<D: Drain>(
+        &mut self,
+        _header: &Header,
+        octets: &[u8],
+        out: &mut Out<'_, D>,
+    ) -> Result<bool, WriteFault> {
+        out.put(octets)?;
+        Ok(true)
+    }
+}
+
+/// Puts the octets of an event: the header of a constructed element in the indefinite form, with end-of-contents octets for
+/// its end, and all else as it stands.
+#[inline(always)]
+fn put_event<D: Drain>(event: &Event<'_>, out: &mut Out<'_, D>) -> Result<(), WriteFault>
+    ensures { Puts D.told out.old out.new (indef_event_text (told_of event.now)) result }
+{
+    match event {
+        Event::Open(header) if header.constructed => out.put(spell_indefinite(header).as_slice()),
+        Event::Open(header) | Event::Begin(header) | Event::Enter(header) => out.put(header.raw()),
+        Event::Bytes(octets) | Event::Pad(octets) => out.put(octets),
+        Event::Unused => out.put(&[0]),
+        Event::Close(_) => out.put(&[0, 0]),
+        Event::End | Event::Leave => Ok(()),
+    }
+}
