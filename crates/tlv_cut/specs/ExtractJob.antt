@@ -1,18 +1,16 @@
--- What `extract` over all that a source gives comes to.
-use Rattle.std.specs.Prelude.{ℕ, ◌^◌, Bool, false, [], is_some}
-use Rattle.std.specs.Option.{option_map_or}
+-- What a call of `extract` is to do.
+use Rattle.std.specs.Prelude.{ℕ, ◌^◌, Bool}
 use Rattle.tlv_walk.specs.declared.framing.Framing.{Framing}
-use Rattle.tlv_walk.specs.Forest.{is_whole}
 use Rattle.tlv_walk.specs.Job.{Job}
 use Rattle.tlv_cut.specs.declared.extract_call.Cut.{Cut}
-use Rattle.tlv_cut.specs.ExtractText.{element_octets, element_at}
+use Rattle.tlv_cut.specs.ExtractText.{extract_text, has_element_at, has_whole_element_at}
 
--- the element at this offset, or its contents alone: nothing more is wanted once it is whole
+-- write the element at the offset n, or its contents alone; nothing more is wanted once it has ended
 abbrev pub extract_job : Framing → ℕ → Bool → Job Cut
 extract_job framing n contents_only = record {
   framing = framing;
   limit = 2 ^ 40;
-  text = λ f. option_map_or (element_octets contents_only) (element_at n f) [];
-  is_enough = λ f. option_map_or is_whole (element_at n f) false;
-  answer = λ f e. record { ending = e; found = is_some (element_at n f) };
+  text = extract_text n contents_only;
+  is_enough = has_whole_element_at n;
+  answer = λ f e. record { ending = e; found = has_element_at n f };
 }

@@ -1,23 +1,20 @@
--- What `indef` over all that a source gives comes to.
+-- What a call of `indef` is to do.
 use Rattle.std.specs.Prelude.{◌^◌, Bool, false, []}
 use Rattle.tlv_walk.specs.declared.ending.Ending.{Ending}
 use Rattle.tlv_walk.specs.declared.framing.Framing.{Framing}
-use Rattle.tlv_walk.specs.Forest.{spell}
 use Rattle.tlv_walk.specs.Job.{Job}
-use Rattle.tlv_cut.specs.IndefText.{with_indefinite_lengths}
+use Rattle.tlv_cut.specs.IndefText.{indef_text}
 
--- the octets that spell all elements, with an indefinite length in each that is constructed. No string is read as encodings,
--- and padding may stand between encodings, or not
+-- no string is read as encodings, and padding may be between encodings, or not
+abbrev pub indef_framing : Bool → Framing
+indef_framing padding = record { inside = []; padding = padding }
+
+-- write all elements, each constructed one with an indefinite length
 abbrev pub indef_job : Bool → Job Ending
 indef_job padding = record {
-  framing = record { inside = []; padding = padding };
+  framing = indef_framing padding;
   limit = 2 ^ 40;
-  text = λ f. spell (with_indefinite_lengths f);
+  text = indef_text;
   is_enough = λ f. false;
   answer = λ f e. e;
 }
-
--- ---- Words of laws and proofs alone
-
-abbrev pub indef_framing : Bool → Framing
-indef_framing padding = record { inside = []; padding = padding }

@@ -5,5 +5,5 @@ pub mod ExtractLaws
 pub mod IndefText
 pub mod IndefStep
 pub mod IndefJob
-pub mod Offsets
+pub mod IndefReading
 pub mod IndefLaws

@@ -51,15 +51,15 @@ impl Extract {
 
     /// Whether the header of the element has come whole.
     pub fn found(&self) -> bool
-        ensures { result ≡ has_found self.now.position }
+        ensures { result ≡ has_found self.now }
     {
         !matches!(self.position, Position::Before)
     }
 
     /// An element begins.
     fn begin<D: Drain>(&mut self, header: &Header, out: &mut Out<'_, D>) -> Result<Go, WriteFault>
-        ensures state { IsFollowed (begin_step self.old.position self.old header.now) self.new result }
-        ensures puts { Puts D.told out.old out.new (begin_step self.old.position self.old header.now).put result }
+        ensures state { IsFollowed (begin_step self.old header.now) self.new result }
+        ensures puts { Puts D.told out.old out.new (begin_step self.old header.now).put result }
     {
         match self.position {
             Position::Before if header.offset == self.offset => {
@@ -98,8 +98,8 @@ impl Extract {
 
     /// An element ends, with these end-of-contents octets.
     fn end<D: Drain>(&mut self, octets: &[u8], out: &mut Out<'_, D>) -> Result<Go, WriteFault>
-        ensures state { IsFollowed (end_step self.old.position self.old octets.now) self.new result }
-        ensures puts { Puts D.told out.old out.new (end_step self.old.position self.old octets.now).put result }
+        ensures state { IsFollowed (end_step self.old octets.now) self.new result }
+        ensures puts { Puts D.told out.old out.new (end_step self.old octets.now).put result }
     {
         match self.position {
             Position::Inside(0) => {

@@ -2,9 +2,9 @@
 ghost use Rattle.std.specs.Prelude.{◌≡◌};
 ghost use Rattle.tlv_walk.specs.Out.{Puts};
 ghost use Rattle.tlv_walk.specs.Tells.{told_of};
-ghost use Rattle.tlv_cut.specs.IndefStep.{indef_event_text};
-ghost use Rattle.tlv_cut.specs.declared.indef_follower.Indef.{Indef as IndefOf};
+ghost use Rattle.tlv_cut.specs.IndefStep.{indef_event_text, new_indef};
 
+use std::marker::Model;
 use tlv_head::{Header, spell_indefinite};
 use tlv_walk::{Drain, Event, Follow, Go, Out, WriteFault};
 
@@ -17,10 +17,20 @@ use tlv_walk::{Drain, Event, Follow, Go, Out, WriteFault};
 #[derive(Clone, Copy, Debug)]
 pub struct Indef;
 
+impl Model for Indef {
+    ghost use Rattle.tlv_cut.specs.IndefStep.{IndefState, new_indef};
+
+    ghost Value = { IndefState };
+
+    ghost view = { λ i. new_indef };
+
+    ghost inverse = { λ s. record { } };
+}
+
 impl Indef {
     /// A follower that writes indefinite lengths. There is one alone: it keeps nothing.
     pub fn new() -> Indef
-        ensures { (other : IndefOf) → result ≡ other }
+        ensures { result ≡ new_indef }
     {
         Indef
     }

@@ -8,14 +8,14 @@ use Rattle.tlv_walk.specs.declared.follow.Go.TheVariants as go
 use Rattle.tlv_walk.specs.Events.{Told, Begin, Bytes, End, Enter, closes, events, opens}
 use Rattle.tlv_walk.specs.Follow.{Following, followed, goes_of, stay}
 use Rattle.tlv_walk.specs.Forest.{Forest, Stop, Fill, Whole, Closed, Partial, Entered, Awaiting, Begun, Zero}
-use Rattle.tlv_walk.specs.Forest.{end_octets, extent, is_whole, lead}
+use Rattle.tlv_walk.specs.Forest.{end_octets, extent, is_whole, lead, opening}
 use Rattle.tlv_walk.specs.Place.{IsOpen, Place, after, inside_of}
 use Rattle.tlv_walk.proofs.Followed.{followed-enough, followed-one}
 use Rattle.tlv_cut.specs.declared.extract_follower.Position.TheVariants as position
-use Rattle.tlv_cut.specs.ExtractText.{element_octets, element_at, outer_octets}
-use Rattle.tlv_cut.specs.ExtractStep.{ExtractState, begin_step, extract_step, has_found, new_extract}
+use Rattle.tlv_cut.specs.ExtractText.{element_at, element_text, octets_so_far}
+use Rattle.tlv_cut.specs.ExtractStep.{ExtractState, begin_step, extract_step, has_found, new_extract, outer_octets}
 use Rattle.tlv_cut.proofs.ExtractLemmas.Contents.{put_step}
-use Rattle.tlv_cut.proofs.ExtractLemmas.Inside.{IsPassedOn, whole_inside_passed_on, followed-begins, events-closed, followed-closes, state_inside, octets_so_far, followed-opens, then_more, passed_on}
+use Rattle.tlv_cut.proofs.ExtractLemmas.Inside.{IsPassedOn, whole_inside_passed_on, followed-begins, events-closed, followed-closes, state_inside, followed-opens, then_more, passed_on}
 
 module _ (n : ℕ) (only : Bool) where
   -- an `Extract` that has found nothing, and one that has written all
@@ -32,9 +32,9 @@ module _ (n : ℕ) (only : Bool) where
 
   -- what was made is the cut of this element, or of none
   pub record IsTextOf (e : Option Forest) (t : Following ExtractState) : Type 0 where
-    pub put : t.put ≡ option_map_or (element_octets only) e []
+    pub put : t.put ≡ option_map_or (element_text only) e []
     pub goes : t.goes ≡ goes_of (option_map_or is_whole e false)
-    pub found : has_found t.state.position ≡ is_some e
+    pub found : has_found t.state ≡ is_some e
     pub misses : e ≡ None → t ≡ stay before
 
   -- there is none
@@ -42,23 +42,23 @@ module _ (n : ℕ) (only : Bool) where
   missed t e = record {
     put = ap (λ (t : Following ExtractState). t.put) e;
     goes = ap (λ (t : Following ExtractState). t.goes) e;
-    found = ap (λ (t : Following ExtractState). has_found t.state.position) e;
+    found = ap (λ (t : Following ExtractState). has_found t.state) e;
     misses = λ _. e;
   }
 
   -- it is open
-  open_text : (e : Forest) (t : Following ExtractState) → is_whole e ≡ false → t.put ≡ element_octets only e → t.goes ≡ go.On
-      → has_found t.state.position ≡ true → IsTextOf (Some e) t
+  open_text : (e : Forest) (t : Following ExtractState) → is_whole e ≡ false → t.put ≡ element_text only e → t.goes ≡ go.On
+      → has_found t.state ≡ true → IsTextOf (Some e) t
   open_text e t part octets on found =
       record { put = octets; goes = on ∙ sym (ap goes_of part); found = found; misses = λ none. absurd (cc (none)) }
 
   -- it is whole
-  whole_text : (e : Forest) (t : Following ExtractState) (octets : List ℕ) → is_whole e ≡ true → octets ≡ element_octets only e → t ≡ finish_step octets
+  whole_text : (e : Forest) (t : Following ExtractState) (octets : List ℕ) → is_whole e ≡ true → octets ≡ element_text only e → t ≡ finish_step octets
       → IsTextOf (Some e) t
   whole_text e t octets whole is made = record {
     put = ap (λ (t : Following ExtractState). t.put) made ∙ is;
     goes = ap (λ (t : Following ExtractState). t.goes) made ∙ sym (ap goes_of whole);
-    found = ap (λ (t : Following ExtractState). has_found t.state.position) made;
+    found = ap (λ (t : Following ExtractState). has_found t.state) made;
     misses = λ none. absurd (cc (none));
   }
 
@@ -76,19 +76,11 @@ module _ (n : ℕ) (only : Bool) where
 
   -- ---- where an element begins
 
-  wanted_begins : (h : Heading) → (h.offset == n) ≡ true → begin_step position.Before before h ≡ put_step (state_inside n only 0) (outer_octets only (octets_of h))
+  wanted_begins : (h : Heading) → (h.offset == n) ≡ true → begin_step before h ≡ put_step (state_inside n only 0) (outer_octets only (octets_of h))
   wanted_begins h e = ap (λ (k : Bool). if k then put_step (state_inside n only 0) (outer_octets only (octets_of h)) else stay before) e
 
-  other_begins : (h : Heading) → (h.offset == n) ≡ false → begin_step position.Before before h ≡ stay before
+  other_begins : (h : Heading) → (h.offset == n) ≡ false → begin_step before h ≡ stay before
   other_begins h e = ap (λ (k : Bool). if k then put_step (state_inside n only 0) (outer_octets only (octets_of h)) else stay before) e
-
-  -- of no octets nothing is left out
-  outer_octets-none : outer_octets only [] ≡ []
-  outer_octets-none = by only
-    where
-      by : (k : Bool) → outer_octets k [] ≡ []
-      by true = refl
-      by false = refl
 
   -- the element wanted, from its header to its end
   followed-whole : (h : Heading) (c : List ℕ) → (h.offset == n) ≡ true
@@ -114,14 +106,43 @@ module _ (n : ℕ) (only : Bool) where
 
   -- ---- what is put
 
-  whole_octets : (h : Heading) (c : List ℕ) → (outer_octets only (octets_of h) ++ c) ++ outer_octets only [] ≡ element_octets only (Whole h c Stop)
-  whole_octets h c =
-      append_assoc (outer_octets only (octets_of h)) c (outer_octets only []) ∙ ap (λ (l : List ℕ). outer_octets only (octets_of h) ++ (c ++ l)) outer_octets-none
+  whole_octets : (h : Heading) (c : List ℕ) → (outer_octets only (octets_of h) ++ c) ++ outer_octets only [] ≡ element_text only (Whole h c Stop)
+  whole_octets h c = by only
+    where
+      by : (k : Bool) → (outer_octets k (octets_of h) ++ c) ++ outer_octets k [] ≡ element_text k (Whole h c Stop)
+      by true = append-nil c
+      by false = append_assoc (octets_of h) c []
 
   closed_octets : (h : Heading) (inside : Forest)
-      → (outer_octets only (octets_of h) ++ lead h) ++ (octets_so_far inside ++ outer_octets only (end_octets h.size)) ≡ element_octets only (Closed h inside Stop)
-  closed_octets h inside =
-      ap (λ (l : List ℕ). (outer_octets only (octets_of h) ++ lead h) ++ (octets_so_far inside ++ l)) (sym (append-nil (outer_octets only (end_octets h.size))))
+      → (outer_octets only (octets_of h) ++ lead h) ++ (octets_so_far inside ++ outer_octets only (end_octets h.size)) ≡ element_text only (Closed h inside Stop)
+  closed_octets h inside = by only
+    where
+      by : (k : Bool) → (outer_octets k (octets_of h) ++ lead h) ++ (octets_so_far inside ++ outer_octets k (end_octets h.size))
+          ≡ element_text k (Closed h inside Stop)
+      by true = ap (λ (l : List ℕ). lead h ++ l) (append-nil (octets_so_far inside))
+      by false = ap (λ (l : List ℕ). opening h ++ (octets_so_far inside ++ l)) (sym (append-nil (end_octets h.size)))
+
+  partial_octets : (h : Heading) (c : List ℕ) → outer_octets only (octets_of h) ++ c ≡ element_text only (Partial h c)
+  partial_octets h c = by only
+    where
+      by : (k : Bool) → outer_octets k (octets_of h) ++ c ≡ element_text k (Partial h c)
+      by true = refl
+      by false = refl
+
+  entered_octets : (h : Heading) (inside : Forest)
+      → (outer_octets only (octets_of h) ++ lead h) ++ octets_so_far inside ≡ element_text only (Entered h inside)
+  entered_octets h inside = by only
+    where
+      by : (k : Bool) → (outer_octets k (octets_of h) ++ lead h) ++ octets_so_far inside ≡ element_text k (Entered h inside)
+      by true = refl
+      by false = refl
+
+  awaiting_octets : (h : Heading) → outer_octets only (octets_of h) ≡ element_text only (Awaiting h)
+  awaiting_octets h = by only
+    where
+      by : (k : Bool) → outer_octets k (octets_of h) ≡ element_text k (Awaiting h)
+      by true = refl
+      by false = refl
 
   -- ---- elements
 
@@ -206,8 +227,8 @@ module _ (n : ℕ) (only : Bool) where
       choose (h.offset == n) (Some (Partial h c)) None (followed extract_step before es)
       (λ e.
       let all = followed-begins before (state_inside n only 0) (outer_octets only (octets_of h)) h c (wanted_begins h e) in
-      open_text (Partial h c) _ refl (ap (λ (t : Following ExtractState). t.put) all) (ap (λ (t : Following ExtractState). t.goes) all)
-      (ap (λ (t : Following ExtractState). has_found t.state.position) all))
+      open_text (Partial h c) _ refl (ap (λ (t : Following ExtractState). t.put) all ∙ partial_octets h c) (ap (λ (t : Following ExtractState). t.goes) all)
+      (ap (λ (t : Following ExtractState). has_found t.state) all))
       (λ e. missed _ (followed-begins before before [] h c (other_begins h e)))
   makes_text p (Entered h inside) v deep =
       choose (h.offset == n) (Some (Entered h inside)) (element_at n inside) (followed extract_step before (opens h ++ events inside))
@@ -215,16 +236,16 @@ module _ (n : ℕ) (only : Bool) where
       let k = passed_on n only (inside_of p h) 0 inside v.1 (omega arith) (omega (arith, (v.0.0.depth refl))) in
       let all = then_more before (state_inside n only 0) (outer_octets only (octets_of h) ++ lead h) (opens h) (events inside) (opens_wanted h e) in
       open_text (Entered h inside) _ refl
-      (ap (λ (t : Following ExtractState). t.put) all ∙ ap (λ (l : List ℕ). (outer_octets only (octets_of h) ++ lead h) ++ l) k.put)
+      (ap (λ (t : Following ExtractState). t.put) all ∙ ap (λ (l : List ℕ). (outer_octets only (octets_of h) ++ lead h) ++ l) k.put ∙ entered_octets h inside)
       (ap (λ (t : Following ExtractState). t.goes) all ∙ k.goes)
-      (ap (λ (t : Following ExtractState). has_found t.state.position) all ∙ k.found))
+      (ap (λ (t : Following ExtractState). has_found t.state) all ∙ k.found))
       (λ e. subst (IsTextOf (element_at n inside)) (sym (opens_other h (events inside) e)) (makes_text (inside_of p h) inside v.1 (omega (arith, (v.0.0.depth refl)))))
   makes_text p (Awaiting h) v deep =
       choose (h.offset == n) (Some (Awaiting h)) None (followed extract_step before (Enter h ∷ []))
       (λ e.
       let all = followed-one extract_step before (Enter h) ∙ wanted_begins h e in
-      open_text (Awaiting h) _ refl (ap (λ (t : Following ExtractState). t.put) all) (ap (λ (t : Following ExtractState). t.goes) all)
-      (ap (λ (t : Following ExtractState). has_found t.state.position) all))
+      open_text (Awaiting h) _ refl (ap (λ (t : Following ExtractState). t.put) all ∙ awaiting_octets h) (ap (λ (t : Following ExtractState). t.goes) all)
+      (ap (λ (t : Following ExtractState). has_found t.state) all))
       (λ e. missed _ (followed-one extract_step before (Enter h) ∙ other_begins h e))
   makes_text p (Begun octets) v deep = missed (followed extract_step before []) refl
   makes_text p Zero v deep = missed (followed extract_step before []) refl

@@ -8,8 +8,7 @@ use Rattle.tlv_walk.specs.Forest.{Forest, Stop, Fill, Whole, Closed, Partial, En
 use Rattle.tlv_walk.specs.Forest.{end_octets, extent, is_whole, lead, opening, spell}
 use Rattle.tlv_walk.specs.Place.{IsHeadAt, IsOpen, Place, after, inside_of}
 use Rattle.tlv_walk.proofs.Spellings.{append_assoc-3, append_assoc-4}
-use Rattle.tlv_cut.specs.ExtractText.{element_octets, element_at}
-use Rattle.tlv_cut.proofs.ExtractLemmas.Inside.{octets_so_far}
+use Rattle.tlv_cut.specs.ExtractText.{contents_so_far, element_at, octets_so_far}
 
 -- ---- the octets that are kept
 
@@ -63,11 +62,11 @@ module _ (n : ℕ) where
     pub head : Heading
     pub valid : IsHeading head
     pub offset : head.offset ≡ n
-    pub parts : octets_so_far e ≡ octets_of head ++ (element_octets true e ++ (if is_whole e then end_octets head.size else []))
+    pub parts : octets_so_far e ≡ octets_of head ++ (contents_so_far e ++ (if is_whole e then end_octets head.size else []))
 
   -- it is the first of the forest
   first : (p : Place) (k : Bool) (h : Heading) (f e : Forest) (rest : List ℕ) → IsHeadAt p k h → (h.offset == n) ≡ true → spell f ≡ octets_so_far e ++ rest
-      → octets_so_far e ≡ octets_of h ++ (element_octets true e ++ (if is_whole e then end_octets h.size else [])) → IsFoundIn p f e
+      → octets_so_far e ≡ octets_of h ++ (contents_so_far e ++ (if is_whole e then end_octets h.size else [])) → IsFoundIn p f e
   first p k h f e rest at is octets parts = record {
     front = [];
     rest = rest;
@@ -113,13 +112,12 @@ module _ (n : ℕ) where
   in_rest : (p q : Place) (f rest e : Forest) (o : List ℕ) → spell f ≡ o ++ spell rest → q.at ≡ p.at + length o → IsFoundIn q rest e → IsFoundIn p f e
   in_rest p q f rest e o all at r = further p q f rest e o [] (all ∙ ap (λ (l : List ℕ). o ++ l) (sym (append-nil (spell rest)))) at r
 
-  closed_parts : (h : Heading) (inside : Forest) → octets_so_far (Closed h inside Stop) ≡ octets_of h ++ (element_octets true (Closed h inside Stop) ++ end_octets h.size)
+  closed_parts : (h : Heading) (inside : Forest) → octets_so_far (Closed h inside Stop) ≡ octets_of h ++ (contents_so_far (Closed h inside Stop) ++ end_octets h.size)
   closed_parts h inside =
       let e = end_octets h.size in
       append_assoc (octets_of h) (lead h) (octets_so_far inside ++ (e ++ []))
       ∙ ap (λ (l : List ℕ). octets_of h ++ (lead h ++ (octets_so_far inside ++ l))) (append-nil e)
       ∙ ap (λ (l : List ℕ). octets_of h ++ l) (sym (append_assoc (lead h) (octets_so_far inside) e))
-      ∙ ap (λ (l : List ℕ). octets_of h ++ ((lead h ++ l) ++ e)) (sym (append-nil (octets_so_far inside)))
 
   pub find : (p : Place) (f : Forest) → IsOpen p f → (e : Forest) → element_at n f ≡ Some e → IsFoundIn p f e
   find p Stop v d some = none p Stop d some
@@ -129,7 +127,7 @@ module _ (n : ℕ) where
       choose p f (h.offset == n) (Whole h c Stop) (element_at n rest) d
       (λ is.
       first p false h f (Whole h c Stop) (spell rest) v.0.0.header is (sym (append_assoc-3 (octets_of h) c [] (spell rest)))
-      (ap (λ (l : List ℕ). octets_of h ++ l) (sym (ap (λ (l : List ℕ). (c ++ []) ++ l) (ap end_octets v.0.1) ∙ append-nil (c ++ [])))))
+      (ap (λ (l : List ℕ). octets_of h ++ (c ++ l)) (sym (ap end_octets v.0.1))))
       (λ _ some.
       in_rest p (after p _) f rest d (octets_of h ++ c) (sym (append_assoc (octets_of h) c (spell rest)))
       (omega (arith, length-append (octets_of h) c))

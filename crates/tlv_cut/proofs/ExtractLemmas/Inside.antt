@@ -13,13 +13,9 @@ use Rattle.tlv_walk.specs.Forest.{Forest, Stop, Fill, Whole, Closed, Partial, En
 use Rattle.tlv_walk.specs.Place.{IsOpen, Place, after, inside_of}
 use Rattle.tlv_walk.proofs.Followed.{followed-more, followed-one}
 use Rattle.tlv_cut.specs.declared.extract_follower.Position.TheVariants as position
-use Rattle.tlv_cut.specs.ExtractText.{element_octets}
+use Rattle.tlv_cut.specs.ExtractText.{octets_so_far}
 use Rattle.tlv_cut.specs.ExtractStep.{ExtractState, begin_step, end_step, extract_step, has_found, wanted_octets}
 use Rattle.tlv_cut.proofs.ExtractLemmas.Contents.{all_contents, wanted_octets-none, put_step}
-
--- the octets of elements so far
-abbrev pub octets_so_far : Forest → List ℕ
-octets_so_far f = element_octets false f
 
 -- ---- events one behind another
 
@@ -31,7 +27,7 @@ then_more s t put xs ys e =
     ∙ ap (λ (k : Following ExtractState). and_then k (λ u. followed extract_step u ys)) e
 
 -- a primitive begins, and gives contents octets
-pub followed-begins : (s t : ExtractState) (put : List ℕ) (h : Heading) (c : List ℕ) → begin_step s.position s h ≡ put_step t put
+pub followed-begins : (s t : ExtractState) (put : List ℕ) (h : Heading) (c : List ℕ) → begin_step s h ≡ put_step t put
     → followed extract_step s (Begin h ∷ Bytes c ∷ []) ≡ put_step t (put ++ wanted_octets t.position c)
 followed-begins s t put h c e =
     ap (λ (k : Following ExtractState). if_on k.goes k (λ u. followed extract_step u (Bytes c ∷ []))) e
@@ -41,7 +37,7 @@ followed-begins s t put h c e =
 abbrev lead_by : Bool → Bool → List ℕ
 lead_by k three = if k then [] else (if three then 0 ∷ [] else [])
 
-opens_by : (k three : Bool) (s t : ExtractState) (put : List ℕ) (h : Heading) → begin_step s.position s h ≡ put_step t put
+opens_by : (k three : Bool) (s t : ExtractState) (put : List ℕ) (h : Heading) → begin_step s h ≡ put_step t put
     → followed extract_step s ((if k then Open h else Enter h) ∷ map (λ z. Unused) (lead_by k three)) ≡ put_step t (put ++ wanted_octets t.position (lead_by k three))
 opens_by true three s t put h e =
     followed-one extract_step s (Open h) ∙ e ∙ ap (put_step t) (sym (append-nil put) ∙ ap (λ (l : List ℕ). put ++ l) (wanted_octets-none t.position))
@@ -51,20 +47,20 @@ opens_by false true s t put h e =
 opens_by false false s t put h e =
     followed-one extract_step s (Enter h) ∙ e ∙ ap (put_step t) (sym (append-nil put) ∙ ap (λ (l : List ℕ). put ++ l) (wanted_octets-none t.position))
 
-pub followed-opens : (s t : ExtractState) (put : List ℕ) (h : Heading) → begin_step s.position s h ≡ put_step t put
+pub followed-opens : (s t : ExtractState) (put : List ℕ) (h : Heading) → begin_step s h ≡ put_step t put
     → followed extract_step s (opens h) ≡ put_step t (put ++ wanted_octets t.position (lead h))
 followed-opens s t put h e = opens_by h.constructed (eqb h.number 3) s t put h e
 
 -- it ends
 closes_by : (k : Bool) (size : Size) (s : ExtractState) (o : ℕ) → AllowsSize k size
-    → extract_step s (if k then Close (end_offset size o) else Leave) ≡ end_step s.position s (end_octets size)
+    → extract_step s (if k then Close (end_offset size o) else Leave) ≡ end_step s (end_octets size)
 closes_by true (Definite n) s o allowed = refl
 closes_by true Indefinite s o allowed = refl
 closes_by false (Definite n) s o allowed = refl
 closes_by false Indefinite s o allowed = absurd (cc (allowed))
 
 pub followed-closes : (s : ExtractState) (h : Heading) (inside : Forest) → AllowsSize h.constructed h.size
-    → followed extract_step s (closes h inside ∷ []) ≡ end_step s.position s (end_octets h.size)
+    → followed extract_step s (closes h inside ∷ []) ≡ end_step s (end_octets h.size)
 followed-closes s h inside allowed = followed-one extract_step s (closes h inside) ∙ closes_by h.constructed h.size s _ allowed
 
 -- an element with its end
@@ -84,7 +80,7 @@ module _ (n : ℕ) (only : Bool) where
   pub record IsPassedOn (level : ℕ) (f : Forest) : Type 0 where
     pub put : (followed extract_step (state_inside level) (events f)).put ≡ octets_so_far f
     pub goes : (followed extract_step (state_inside level) (events f)).goes ≡ go.On
-    pub found : has_found (followed extract_step (state_inside level) (events f)).state.position ≡ true
+    pub found : has_found (followed extract_step (state_inside level) (events f)).state ≡ true
     pub stays : is_whole f ≡ true → (followed extract_step (state_inside level) (events f)).state ≡ state_inside level
 
   pub whole_inside_passed_on : (level : ℕ) (f : Forest) → is_whole f ≡ true → IsPassedOn level f → followed extract_step (state_inside level) (events f) ≡ put_step (state_inside level) (octets_so_far f)
@@ -100,12 +96,12 @@ module _ (n : ℕ) (only : Bool) where
       record {
         put = ap (λ (t : Following ExtractState). t.put) all ∙ ap (λ (l : List ℕ). put ++ l) k.put ∙ octets;
         goes = ap (λ (t : Following ExtractState). t.goes) all ∙ k.goes;
-        found = ap (λ (t : Following ExtractState). has_found t.state.position) all ∙ k.found;
+        found = ap (λ (t : Following ExtractState). has_found t.state) all ∙ k.found;
         stays = λ w. ap (λ (t : Following ExtractState). t.state) all ∙ k.stays (sym whole ∙ w);
       }
 
   -- one more is open; the count does not stop
-  one_more : (level : ℕ) (h : Heading) → level ≤ 254 → begin_step (position.Inside level) (state_inside level) h ≡ put_step (state_inside (suc level)) (octets_of h)
+  one_more : (level : ℕ) (h : Heading) → level ≤ 254 → begin_step (state_inside level) h ≡ put_step (state_inside (suc level)) (octets_of h)
   one_more level h low = ap (λ (m : ℕ). put_step (state_inside m) (octets_of h)) (omega (arith, low))
 
   -- a primitive
@@ -146,7 +142,7 @@ module _ (n : ℕ) (only : Bool) where
       record {
         put = ap (λ (t : Following ExtractState). t.put) all;
         goes = ap (λ (t : Following ExtractState). t.goes) all;
-        found = ap (λ (t : Following ExtractState). has_found t.state.position) all;
+        found = ap (λ (t : Following ExtractState). has_found t.state) all;
         stays = λ w. absurd (cc (w));
       }
   passed_on p level (Entered h inside) v low deep =
@@ -156,7 +152,7 @@ module _ (n : ℕ) (only : Bool) where
       record {
         put = ap (λ (t : Following ExtractState). t.put) all ∙ ap (λ (l : List ℕ). opening h ++ l) i.put;
         goes = ap (λ (t : Following ExtractState). t.goes) all ∙ i.goes;
-        found = ap (λ (t : Following ExtractState). has_found t.state.position) all ∙ i.found;
+        found = ap (λ (t : Following ExtractState). has_found t.state) all ∙ i.found;
         stays = λ w. absurd (cc (w));
       }
   passed_on p level (Awaiting h) v low deep =
@@ -164,7 +160,7 @@ module _ (n : ℕ) (only : Bool) where
       record {
         put = ap (λ (t : Following ExtractState). t.put) all;
         goes = ap (λ (t : Following ExtractState). t.goes) all;
-        found = ap (λ (t : Following ExtractState). has_found t.state.position) all;
+        found = ap (λ (t : Following ExtractState). has_found t.state) all;
         stays = λ w. absurd (cc (w));
       }
   passed_on p level (Begun octets) v low deep = record { put = refl; goes = refl; found = refl; stays = λ w. refl }

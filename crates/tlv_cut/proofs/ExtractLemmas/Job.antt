@@ -44,14 +44,14 @@ module _ (framing : Framing) (n : ℕ) (only : Bool) (t : ExtractState) (old new
   answer_is : (answer : Cut) (e : Ending) (found : Bool) → answer.ending ≡ e → answer.found ≡ found → answer ≡ record { ending = e; found = found }
   answer_is answer e found p q = ap (λ (x : Ending). record { ending = x; found = answer.found }) p ∙ ap (λ (x : Bool). record { ending = e; found = x }) q
 
-  pub extract_ok : (run : Run) (answer : Cut) → answer.ending ≡ run.ending → answer.found ≡ has_found t.position
+  pub extract_ok : (run : Run) (answer : Cut) → answer.ending ≡ run.ending → answer.found ≡ has_found t
       → Drives extract_step framing (2 ^ 40) (new_extract n only) t old new from to (Ok run) → Runs (extract_job framing n only) old new from to (Ok answer)
   extract_ok run answer ending found x =
       jobs.runs_ok extract_step (extract_job framing n only) (new_extract n only) text enough t old new from to run answer x
       (λ octets f e few r state is. answer_is answer e (has_element_at n f)
       (ending ∙ ap (λ (k : Run). k.ending) is
       ∙ jobs.run-ending framing f (followed_events extract_step (new_extract n only) (events f)) (followed extract_step (new_extract n only) (events f)).goes e)
-      (found ∙ ap (λ (k : ExtractState). has_found k.position) state ∙ (made_text octets f r).found))
+      (found ∙ ap (has_found) state ∙ (made_text octets f r).found))
 
   pub extract_err : (e : DeviceFault) → Drives extract_step framing (2 ^ 40) (new_extract n only) t old new from to (Err e)
       → Runs (extract_job framing n only) old new from to (Err e)

@@ -22,45 +22,55 @@ use Rattle.tlv_cut.proofs.ExtractLemmas.Job.{goes_alike}
 
 -- ---- an element that has begun stays so
 
-begin_step-found : (w : Position) (s : ExtractState) (h : Heading) → s.position ≡ w → has_found w ≡ true → has_found (begin_step w s h).state.position ≡ true
-begin_step-found position.Before s h e b = absurd (cc (b))
-begin_step-found (position.Inside level) s h e b = refl
-begin_step-found position.After s h e b = ap has_found e
+-- an `Extract` at this position
+abbrev at : ℕ → Bool → Position → ExtractState
+at n only w = record { offset = n; contents_only = only; position = w }
 
-end_step-found : (w : Position) (s : ExtractState) (octets : List ℕ) → s.position ≡ w → has_found w ≡ true → has_found (end_step w s octets).state.position ≡ true
-end_step-found position.Before s octets e b = absurd (cc (b))
-end_step-found (position.Inside zero) s octets e b = refl
-end_step-found (position.Inside (suc level)) s octets e b = refl
-end_step-found position.After s octets e b = ap has_found e
+begin_found : (n : ℕ) (only : Bool) (w : Position) (h : Heading) → has_found (at n only w) ≡ true → has_found (begin_step (at n only w) h).state ≡ true
+begin_found n only position.Before h b = absurd (cc (b))
+begin_found n only (position.Inside level) h b = refl
+begin_found n only position.After h b = refl
 
-extract_step-found : (s : ExtractState) (e : Told) → has_found s.position ≡ true → has_found (extract_step s e).state.position ≡ true
-extract_step-found s (Open h) b = begin_step-found s.position s h refl b
-extract_step-found s (Begin h) b = begin_step-found s.position s h refl b
-extract_step-found s (Enter h) b = begin_step-found s.position s h refl b
-extract_step-found s (Bytes octets) b = ap (λ (t : Following ExtractState). has_found t.state.position) (all_contents s octets) ∙ b
+begin_step-found : (s : ExtractState) (h : Heading) → has_found s ≡ true → has_found (begin_step s h).state ≡ true
+begin_step-found s h b = begin_found s.offset s.contents_only s.position h b
+
+end_found : (n : ℕ) (only : Bool) (w : Position) (octets : List ℕ) → has_found (at n only w) ≡ true → has_found (end_step (at n only w) octets).state ≡ true
+end_found n only position.Before octets b = absurd (cc (b))
+end_found n only (position.Inside zero) octets b = refl
+end_found n only (position.Inside (suc level)) octets b = refl
+end_found n only position.After octets b = refl
+
+end_step-found : (s : ExtractState) (octets : List ℕ) → has_found s ≡ true → has_found (end_step s octets).state ≡ true
+end_step-found s octets b = end_found s.offset s.contents_only s.position octets b
+
+extract_step-found : (s : ExtractState) (e : Told) → has_found s ≡ true → has_found (extract_step s e).state ≡ true
+extract_step-found s (Open h) b = begin_step-found s h b
+extract_step-found s (Begin h) b = begin_step-found s h b
+extract_step-found s (Enter h) b = begin_step-found s h b
+extract_step-found s (Bytes octets) b = ap (λ (t : Following ExtractState). has_found t.state) (all_contents s octets) ∙ b
 extract_step-found s Unused b = b
-extract_step-found s (Close None) b = end_step-found s.position s [] refl b
-extract_step-found s (Close (Some at)) b = end_step-found s.position s (0 ∷ 0 ∷ []) refl b
-extract_step-found s End b = end_step-found s.position s [] refl b
-extract_step-found s Leave b = end_step-found s.position s [] refl b
+extract_step-found s (Close None) b = end_step-found s [] b
+extract_step-found s (Close (Some at)) b = end_step-found s (0 ∷ 0 ∷ []) b
+extract_step-found s End b = end_step-found s [] b
+extract_step-found s Leave b = end_step-found s [] b
 extract_step-found s (Pad octets) b = b
 
-if_on-found : (g : Go) (t : Following ExtractState) (f : ExtractState → Following ExtractState) → has_found t.state.position ≡ true
-    → has_found (f t.state).state.position ≡ true → has_found (if_on g t f).state.position ≡ true
+if_on-found : (g : Go) (t : Following ExtractState) (f : ExtractState → Following ExtractState) → has_found t.state ≡ true
+    → has_found (f t.state).state ≡ true → has_found (if_on g t f).state ≡ true
 if_on-found go.On t f b d = d
 if_on-found go.Enough t f b d = b
 
-followed-found : (s : ExtractState) (es : List Told) → has_found s.position ≡ true → has_found (followed extract_step s es).state.position ≡ true
+followed-found : (s : ExtractState) (es : List Told) → has_found s ≡ true → has_found (followed extract_step s es).state ≡ true
 followed-found s [] b = b
 followed-found s (e ∷ es) b =
     let t = extract_step s e in
     if_on-found t.goes t (λ u. followed extract_step u es) (extract_step-found s e b) (followed-found t.state es (extract_step-found s e b))
 
-followed-found_more : (s : ExtractState) (es fs : List Told) → has_found (followed extract_step s es).state.position ≡ true
-    → has_found (followed extract_step s (es ++ fs)).state.position ≡ true
+followed-found_more : (s : ExtractState) (es fs : List Told) → has_found (followed extract_step s es).state ≡ true
+    → has_found (followed extract_step s (es ++ fs)).state ≡ true
 followed-found_more s es fs b =
     let t = followed extract_step s es in
-    ap (λ (t : Following ExtractState). has_found t.state.position) (followed-append extract_step s es fs)
+    ap (λ (t : Following ExtractState). has_found t.state) (followed-append extract_step s es fs)
     ∙ if_on-found t.goes t (λ u. followed extract_step u fs) b (followed-found t.state fs b)
 
 -- ---- inputs
@@ -89,7 +99,7 @@ module _ (framing : Framing) (b c : List ℕ) (f g : Forest) (r : IsReading fram
 
   pub found_stays : has_element_at n f ≡ true → has_element_at n g ≡ true
   found_stays e =
-      sym long_text.found ∙ ap (λ (t : Following ExtractState). has_found t.state.position) longer
+      sym long_text.found ∙ ap (λ (t : Following ExtractState). has_found t.state) longer
       ∙ followed-found_more (new_extract n only) (events f) others.0 (short_text.found ∙ e)
 
   same : has_whole_element_at n f ≡ true → followed extract_step (new_extract n only) (events g) ≡ followed extract_step (new_extract n only) (events f)
@@ -99,7 +109,7 @@ module _ (framing : Framing) (b c : List ℕ) (f g : Forest) (r : IsReading fram
   same_extract_text e = sym long_text.put ∙ ap (λ (t : Following ExtractState). t.put) (same e) ∙ short_text.put
 
   pub same_found : has_whole_element_at n f ≡ true → has_element_at n g ≡ has_element_at n f
-  same_found e = sym long_text.found ∙ ap (λ (t : Following ExtractState). has_found t.state.position) (same e) ∙ short_text.found
+  same_found e = sym long_text.found ∙ ap (λ (t : Following ExtractState). has_found t.state) (same e) ∙ short_text.found
 
   pub same_whole : has_whole_element_at n f ≡ true → has_whole_element_at n g ≡ has_whole_element_at n f
   same_whole e =

@@ -1,9 +1,10 @@
 -- What an `Extract` makes of a primitive at once; and what is put by a call that may leave its events to others.
 use Rattle.std.proofs.Common.{◌≡◌, ◌≤◌, ℕ, List, [], ◌∷◌, ◌++◌, refl, sym, ap, ◌∙◌, subst}
-use Rattle.std.specs.Prelude.{Bool, true, false, not, ◌==◌, Result, Ok, Err, IsErr, ⊤}
+use Rattle.std.specs.Prelude.{Bool, true, false, not, ◌==◌, if◌then◌else◌, Result, Ok, Err, IsErr, ⊤}
 use mathlib.Core.Bool.{true≢false}
 use Rattle.tlv_head.specs.Header.{Heading, octets_of}
 use Rattle.tlv_walk.specs.declared.drain.WriteFault.{WriteFault}
+use Rattle.tlv_walk.specs.declared.follow.Go.TheVariants.{On}
 use Rattle.tlv_walk.specs.declared.out.Out.{Out}
 use Rattle.tlv_walk.specs.Device.{Taken}
 use Rattle.tlv_walk.specs.Events.{Begin, Bytes, End}
@@ -13,13 +14,17 @@ use Rattle.tlv_walk.proofs.Followed.{followed-one}
 use Rattle.tlv_walk.proofs.Puts.{HasPut, puts_as, puts_failed_last, puts_nothing, puts_text}
 use Rattle.tlv_cut.specs.declared.extract_follower.Position.{Position}
 use Rattle.tlv_cut.specs.declared.extract_follower.Position.TheVariants.{Before, Inside, After}
-use Rattle.tlv_cut.specs.ExtractStep.{ExtractState, begin_step, end_step, extract_step, wanted_octets}
+use Rattle.tlv_cut.specs.ExtractStep.{ExtractState, begin_step, end_step, extract_step, outer_octets, step_to, wanted_octets}
 use Rattle.tlv_cut.proofs.ExtractLemmas.Contents.{put_step}
 use Rattle.tlv_cut.proofs.ExtractLemmas.Inside.{followed-begins, then_more, primitive_passed_on}
 
 module _ (s : ExtractState) (h : Heading) (o : List ℕ) where
   abbrev c : List ℕ
   c = contents_in h o
+
+  -- this `Extract`, at another position
+  abbrev at : Position → ExtractState
+  at w = record s { position = w }
 
   abbrev made : Following ExtractState
   made = followed extract_step s (whole_events h o)
@@ -34,17 +39,25 @@ module _ (s : ExtractState) (h : Heading) (o : List ℕ) where
       ∙ ap (put_step s) all
 
   -- an element of which nothing is put
-  passed_by : begin_step s.position s h ≡ stay s → wanted_octets s.position c ≡ [] → end_step s.position s [] ≡ stay s → made ≡ stay s
+  passed_by : begin_step s h ≡ stay s → wanted_octets s.position c ≡ [] → end_step s [] ≡ stay s → made ≡ stay s
   passed_by b none n =
       then_more s s [] (Begin h ∷ Bytes c ∷ []) (End ∷ []) (followed-begins s s [] h c b ∙ ap (put_step s) none)
       ∙ followed-one extract_step s End
       ∙ n
 
   pub whole_after : s.position ≡ After → made ≡ stay s
-  whole_after e = passed_by (rw e refl) (rw e refl) (rw e refl)
+  whole_after e =
+      passed_by (subst (λ (w : Position). begin_step (at w) h ≡ stay (at w)) (sym e) refl)
+      (subst (λ (w : Position). wanted_octets w c ≡ []) (sym e) refl)
+      (subst (λ (w : Position). end_step (at w) [] ≡ stay (at w)) (sym e) refl)
 
   pub whole_before : s.position ≡ Before → (h.offset == s.offset) ≡ false → made ≡ stay s
-  whole_before e other = passed_by (rw (e, other) refl) (rw e refl) (rw e refl)
+  whole_before e other =
+      passed_by
+      (subst (λ (w : Position). begin_step (at w) h ≡ stay (at w)) (sym e)
+      (ap (λ (k : Bool). if k then step_to (at Before) (Inside 0) (outer_octets s.contents_only (octets_of h)) On else stay (at Before)) other))
+      (subst (λ (w : Position). wanted_octets w c ≡ []) (sym e) refl)
+      (subst (λ (w : Position). end_step (at w) [] ≡ stay (at w)) (sym e) refl)
 
 not_true : (b : Bool) → not b ≡ true → b ≡ false
 not_true false e = refl

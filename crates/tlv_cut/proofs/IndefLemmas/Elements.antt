@@ -7,21 +7,17 @@ use Rattle.tlv_walk.specs.declared.follow.Go.TheVariants.{On}
 use Rattle.tlv_walk.specs.Events.{Told, Open, Close, Enter, Unused, Leave, closes, end_offset, events, opens}
 use Rattle.tlv_walk.specs.Follow.{Following, followed}
 use Rattle.tlv_walk.specs.Forest.{Forest, Stop, Fill, Whole, Closed, Partial, Entered, Awaiting, Begun, Zero, lead, opening, spell}
-use Rattle.tlv_cut.specs.IndefText.{with_indefinite_lengths, indefinite_header}
-use Rattle.tlv_cut.specs.IndefStep.{indef_step, indef_event_text}
-
--- what is written of elements
-abbrev pub indef_text : Forest → List ℕ
-indef_text f = spell (with_indefinite_lengths f)
+use Rattle.tlv_cut.specs.IndefText.{indef_text, indefinite_header, with_indefinite_lengths}
+use Rattle.tlv_cut.specs.IndefStep.{IndefState, indef_event_text, indef_step}
 
 -- the octets that events put
 abbrev pub events_text : List Told → List ℕ
 events_text es = flat_map indef_event_text es
 
 -- nothing is kept, and more is always wanted
-pub followed-indef_step : {S : Type 0} (s : S) (es : List Told) → followed indef_step s es ≡ record { state = s; put = events_text es; goes = On }
+pub followed-indef_step : (s : IndefState) (es : List Told) → followed indef_step s es ≡ record { state = s; put = events_text es; goes = On }
 followed-indef_step s [] = refl
-followed-indef_step {S} s (e ∷ es) = ap (λ (t : Following S). record { state = t.state; put = indef_event_text e ++ t.put; goes = t.goes }) (followed-indef_step s es)
+followed-indef_step s (e ∷ es) = ap (λ (t : Following IndefState). record { state = t.state; put = indef_event_text e ++ t.put; goes = t.goes }) (followed-indef_step s es)
 
 -- some events and then others
 pub events_text-append : (xs ys : List Told) → events_text (xs ++ ys) ≡ events_text xs ++ events_text ys
@@ -97,5 +93,5 @@ events_text-events (Begun octets) = refl
 events_text-events Zero = refl
 
 -- what `Indef` makes of the events of elements
-pub followed-events : {S : Type 0} (s : S) (f : Forest) → followed indef_step s (events f) ≡ record { state = s; put = indef_text f; goes = On }
-followed-events {S} s f = followed-indef_step s (events f) ∙ ap (λ (l : List ℕ). record { state = s; put = l; goes = On }) (events_text-events f)
+pub followed-events : (s : IndefState) (f : Forest) → followed indef_step s (events f) ≡ record { state = s; put = indef_text f; goes = On }
+followed-events s f = followed-indef_step s (events f) ∙ ap (λ (l : List ℕ). record { state = s; put = l; goes = On }) (events_text-events f)

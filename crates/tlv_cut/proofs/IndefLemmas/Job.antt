@@ -11,18 +11,19 @@ use Rattle.tlv_walk.specs.Forest.{Forest}
 use Rattle.tlv_walk.specs.Job.{Runs}
 use Rattle.tlv_walk.specs.Reading.{IsReading}
 use Rattle.tlv_walk.proofs.Jobs as jobs
-use Rattle.tlv_cut.specs.IndefStep.{indef_step}
+use Rattle.tlv_cut.specs.IndefText.{indef_text}
+use Rattle.tlv_cut.specs.IndefStep.{IndefState, indef_step}
 use Rattle.tlv_cut.specs.IndefJob.{indef_job, indef_framing}
-use Rattle.tlv_cut.proofs.IndefLemmas.Elements.{followed-events, followed-indef_step, indef_text}
+use Rattle.tlv_cut.proofs.IndefLemmas.Elements.{followed-events, followed-indef_step}
 
-module _ {S : Type 0} (padding : Bool) (s t : S) (old new : Supply) (from to : Taken) where
+module _ (padding : Bool) (s t : IndefState) (old new : Supply) (from to : Taken) where
   -- what is put of a reading is the elements respelled
   text : (octets : List ℕ) (f : Forest) → length octets ≤ 2 ^ 40 → IsReading (indef_framing padding) octets f → (followed indef_step s (events f)).put ≡ indef_text f
-  text octets f few r = ap (λ (k : Following S). k.put) (followed-events s f)
+  text octets f few r = ap (λ (k : Following IndefState). k.put) (followed-events s f)
 
   -- it never has enough
   goes_on : (octets : List ℕ) (f : Forest) → length octets ≤ 2 ^ 40 → IsReading (indef_framing padding) octets f → had_enough (followed indef_step s (events f)).goes ≡ false
-  goes_on octets f few r = ap (λ (k : Following S). had_enough k.goes) (followed-indef_step s (events f))
+  goes_on octets f few r = ap (λ (k : Following IndefState). had_enough k.goes) (followed-indef_step s (events f))
 
   pub indef_ok : (run : Run) → Drives indef_step (indef_framing padding) (2 ^ 40) s t old new from to (Ok run) → Runs (indef_job padding) old new from to (Ok run.ending)
   indef_ok run x =

@@ -5,16 +5,16 @@ use Rattle.tlv_walk.specs.Follow.{Following}
 use Rattle.tlv_walk.proofs.Followed.{followed-alike}
 use Rattle.tlv_walk.proofs.Prefixes.{events-prefix}
 use Rattle.tlv_cut.specs.IndefLaws.{RespelledGoesOn}
-use Rattle.tlv_cut.specs.IndefStep.{indef_step}
+use Rattle.tlv_cut.specs.IndefStep.{IndefState, indef_step, new_indef}
 use Rattle.tlv_cut.proofs.IndefLemmas.Elements.{events_text-append, followed-indef_step, events_text, events_text-events}
 
 -- events that are equal joined put the same
 events_text-alike : (xs ys : List Told) → AreEqualJoined xs ys → events_text xs ≡ events_text ys
 events_text-alike xs ys e =
-    sym (ap (λ (t : Following (List Told)). t.put) (followed-indef_step xs xs))
-    ∙ ap (λ (t : Following (List Told)). t.put)
-    (followed-alike indef_step (λ s x y. refl) (λ s. refl) (λ s x. refl) (λ s x y. refl) (λ s. refl) (λ s x. refl) xs xs ys e)
-    ∙ ap (λ (t : Following (List Told)). t.put) (followed-indef_step xs ys)
+    sym (ap (λ (t : Following IndefState). t.put) (followed-indef_step new_indef xs))
+    ∙ ap (λ (t : Following IndefState). t.put)
+    (followed-alike indef_step (λ s x y. refl) (λ s. refl) (λ s x. refl) (λ s x y. refl) (λ s. refl) (λ s x. refl) new_indef xs ys e)
+    ∙ ap (λ (t : Following IndefState). t.put) (followed-indef_step new_indef ys)
 
 pub indef_text_goes_on : RespelledGoesOn
 indef_text_goes_on framing b c f g r s =

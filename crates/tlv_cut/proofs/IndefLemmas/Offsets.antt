@@ -6,9 +6,8 @@ use Rattle.tlv_head.specs.Header.{Heading, is_wrapper, octets_of}
 use Rattle.tlv_walk.specs.Forest.{Forest, Stop, Fill, Whole, Closed, Partial, Entered, Awaiting, Begun, Zero, end_octets, extent, lead, opening, spell}
 use Rattle.tlv_walk.specs.Inside.{is_among}
 use Rattle.tlv_walk.specs.Place.{IsHeadAt, Place}
-use Rattle.tlv_cut.specs.IndefText.{with_indefinite_lengths, indefinite_header}
-use Rattle.tlv_cut.specs.Offsets.{with_offsets_from}
-use Rattle.tlv_cut.proofs.IndefLemmas.Elements.{indef_text}
+use Rattle.tlv_cut.specs.IndefText.{indef_text, indefinite_header, with_indefinite_lengths}
+use Rattle.tlv_cut.specs.IndefReading.{with_offsets_from}
 
 -- ---- where no string is named, what holds others is constructed
 

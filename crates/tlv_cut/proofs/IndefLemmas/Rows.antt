@@ -9,11 +9,10 @@ use Rattle.tlv_walk.specs.Ending.{fault}
 use Rattle.tlv_walk.specs.Events.{Open, Close, Enter, Unused, Leave}
 use Rattle.tlv_walk.proofs.Readings.{reading}
 use Rattle.tlv_walk.proofs.Endings.{ending}
-use Rattle.tlv_cut.specs.IndefText.{with_indefinite_lengths}
+use Rattle.tlv_cut.specs.IndefText.{indef_text, with_indefinite_lengths}
 use Rattle.tlv_cut.specs.IndefStep.{indef_event_text}
 use Rattle.tlv_cut.specs.IndefJob.{indef_framing}
-use Rattle.tlv_cut.specs.Offsets.{with_offsets_from}
-use Rattle.tlv_cut.proofs.IndefLemmas.Elements.{indef_text}
+use Rattle.tlv_cut.specs.IndefReading.{with_offsets_from}
 
 -- what is written of an input
 abbrev written : Bool → List ℕ → List ℕ

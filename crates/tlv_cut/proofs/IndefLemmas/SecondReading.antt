@@ -8,10 +8,9 @@ use Rattle.tlv_walk.specs.Reading.{IsReading, IsSoundList}
 use Rattle.tlv_walk.proofs.Endings.{done-sound, sound-reading}
 use Rattle.tlv_walk.proofs.Readings.{Going, reading-unique, run-reading}
 use Rattle.tlv_walk.proofs.Sound.{sound-whole}
-use Rattle.tlv_cut.specs.IndefText.{with_indefinite_lengths}
+use Rattle.tlv_cut.specs.IndefText.{indef_text, with_indefinite_lengths}
 use Rattle.tlv_cut.specs.IndefJob.{indef_framing}
-use Rattle.tlv_cut.specs.Offsets.{with_offsets_from}
-use Rattle.tlv_cut.proofs.IndefLemmas.Elements.{indef_text}
+use Rattle.tlv_cut.specs.IndefReading.{indef_reading}
 use Rattle.tlv_cut.proofs.IndefLemmas.Rules.{IsFree, is_open, some, whole}
 use Rattle.tlv_cut.proofs.IndefLemmas.Offsets.{indef_text-again, spell-with_offsets_from}
 
@@ -19,23 +18,23 @@ top_free : (padding : Bool) → IsFree (top (indef_framing padding)) (top (indef
 top_free padding = record { names = refl; same_names = refl; depth = refl; bound = refl; padding = λ e. e; definite = λ e. refl }
 
 pub keeps_rules : (padding : Bool) (f : Forest) → IsOpen (top (indef_framing padding)) f
-    → (spell (with_offsets_from 0 (with_indefinite_lengths f)) ≡ indef_text f) × IsOpen (top (indef_framing padding)) (with_offsets_from 0 (with_indefinite_lengths f))
+    → (spell (indef_reading f) ≡ indef_text f) × IsOpen (top (indef_framing padding)) (indef_reading f)
 keeps_rules padding f v =
     let p = top (indef_framing padding) in
     (spell-with_offsets_from 0 (with_indefinite_lengths f), is_open p p f (top_free padding) v)
 
 pub read_again : (padding : Bool) (b : List ℕ) (f : Forest) → IsReading (indef_framing padding) b f
-    → IsReading (indef_framing padding) (indef_text f) (with_offsets_from 0 (with_indefinite_lengths f)) × (indef_text (with_offsets_from 0 (with_indefinite_lengths f)) ≡ indef_text f)
+    → IsReading (indef_framing padding) (indef_text f) (indef_reading f) × (indef_text (indef_reading f) ≡ indef_text f)
 read_again padding b f r =
     let o = keeps_rules padding f r.is_open in
-    (run-reading (indef_framing padding) (Going (with_offsets_from 0 (with_indefinite_lengths f))) (indef_text f) (record { is_open = o.1; spelled = o.0 }), indef_text-again 0 f)
+    (run-reading (indef_framing padding) (Going (indef_reading f)) (indef_text f) (record { is_open = o.1; spelled = o.0 }), indef_text-again 0 f)
 
 -- of a sound list
 sound_again : (padding : Bool) (b : List ℕ) (f : Forest) → IsReading (indef_framing padding) b f → is_whole f ≡ true → has_element f ≡ true
     → IsEnding (indef_framing padding) (indef_text f) Done
 sound_again padding b f r w e =
     let o = keeps_rules padding f r.is_open in
-    done (with_offsets_from 0 (with_indefinite_lengths f)) (read_again padding b f r).0 o.0 (some 0 f w e) (whole 0 f w)
+    done (indef_reading f) (read_again padding b f r).0 o.0 (some 0 f w e) (whole 0 f w)
 
 pub done_again : (padding : Bool) (b : List ℕ) (f : Forest) → IsReading (indef_framing padding) b f → IsEnding (indef_framing padding) b Done
     → IsEnding (indef_framing padding) (indef_text f) Done

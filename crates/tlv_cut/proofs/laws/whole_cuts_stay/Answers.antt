@@ -4,4 +4,8 @@ use Rattle.tlv_cut.proofs.laws.whole_cuts_stay.Goals as goal
 
 pub returns : goal.returns
 returns x framing b c f g r s n e =
-    (same_found framing b c f g r s n false e, same_whole framing b c f g r s n false e, λ only. same_extract_text framing b c f g r s n only e)
+    record {
+      found = same_found framing b c f g r s n false e;
+      whole = same_whole framing b c f g r s n false e;
+      text = λ only. same_extract_text framing b c f g r s n only e;
+    }
