@@ -1,5 +1,6 @@
 -- What an `Extract` makes of events.
-use Rattle.std.specs.Prelude.{ℕ, ◌+◌, ◌==◌, min, if◌then◌else◌, Bool, true, false, List, [], ◌∷◌, suc, zero, Some, None}
+use Rattle.std.specs.Prelude.{ℕ, ◌+◌, ◌==◌, min, suc, zero, Bool, true, false, if◌then◌else◌}
+use Rattle.std.specs.Prelude.{List, [], ◌∷◌, Some, None}
 use Rattle.tlv_head.specs.Header.{Heading, octets_of}
 use Rattle.tlv_walk.specs.declared.follow.Go.{Go}
 use Rattle.tlv_walk.specs.declared.follow.Go.TheVariants.{On, Enough}
@@ -14,7 +15,7 @@ pub record ExtractState : Type 0 where
   pub offset : ℕ
   -- its contents alone are wanted
   pub contents_only : Bool
-  -- where the walk is
+  -- where the walk is, seen from that element
   pub position : Position
 
 -- an `Extract` that has followed no event
@@ -31,7 +32,7 @@ has_found s = at s.position
     at (Inside level) = true
     at After = true
 
--- octets around contents: none if the contents alone are wanted
+-- of octets around the contents of the element wanted, those that are put: none if its contents alone are wanted
 abbrev pub outer_octets : Bool → List ℕ → List ℕ
 outer_octets contents_only octets = if contents_only then [] else octets
 
@@ -40,13 +41,14 @@ abbrev pub step_to : ExtractState → Position → List ℕ → Go → Following
 step_to s position octets goes =
     record { state = record s { position = position }; put = octets; goes = goes }
 
--- an element begins: the one wanted, or one that it holds. The count of those stops at 255
+-- an element begins: the one wanted, one that it holds, or another. The count of those that it holds stops at 255
 abbrev pub begin_step : ExtractState → Heading → Following ExtractState
 begin_step s h = at s.position
   where
     at : Position → Following ExtractState
     at Before =
-        if h.offset == s.offset then step_to s (Inside 0) (outer_octets s.contents_only (octets_of h)) On
+        if h.offset == s.offset
+        then step_to s (Inside 0) (outer_octets s.contents_only (octets_of h)) On
         else stay s
     at (Inside level) = step_to s (Inside (min (level + 1) 255)) (octets_of h) On
     at After = stay s
@@ -60,6 +62,10 @@ wanted_octets After octets = []
 -- a contents octet comes
 abbrev pub octet_step : ExtractState → ℕ → Following ExtractState
 octet_step s x = record { state = s; put = wanted_octets s.position (x ∷ []); goes = On }
+
+-- contents octets come
+abbrev pub contents_step : ExtractState → List ℕ → Following ExtractState
+contents_step s octets = each_octet octet_step s octets
 
 -- an element ends, with these end-of-contents octets
 abbrev pub end_step : ExtractState → List ℕ → Following ExtractState
@@ -76,7 +82,7 @@ abbrev pub extract_step : ExtractState → Told → Following ExtractState
 extract_step s (Open h) = begin_step s h
 extract_step s (Begin h) = begin_step s h
 extract_step s (Enter h) = begin_step s h
-extract_step s (Bytes octets) = each_octet octet_step s octets
+extract_step s (Bytes octets) = contents_step s octets
 extract_step s Unused = octet_step s 0
 extract_step s (Close None) = end_step s []
 extract_step s (Close (Some at)) = end_step s (0 ∷ 0 ∷ [])

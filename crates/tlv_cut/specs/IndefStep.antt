@@ -10,7 +10,7 @@ pub record IndefState : Type 0 where
 
 -- an `Indef` that has followed no event
 abbrev pub new_indef : IndefState
-new_indef = record { }
+new_indef = record {}
 
 -- the octets that it puts for an event. The header of a primitive stays as it is, whichever event reports it
 abbrev pub indef_event_text : Told → List ℕ

@@ -1,26 +1,28 @@
-//! The follower that writes one element, or its contents.
+//! The follower of `extract`: it writes one element, or its contents.
 ghost use Rattle.std.specs.Prelude.{◌≡◌};
-ghost use Rattle.tlv_walk.specs.Follow.{IsFollowed, each_octet};
+ghost use Rattle.tlv_walk.specs.Follow.{IsFollowed};
 ghost use Rattle.tlv_walk.specs.Out.{Puts};
-ghost use Rattle.tlv_cut.specs.ExtractStep.{begin_step, end_step, has_found, new_extract, octet_step};
+ghost use Rattle.tlv_cut.specs.ExtractStep.{begin_step, contents_step, end_step};
+ghost use Rattle.tlv_cut.specs.ExtractStep.{has_found, new_extract, octet_step};
 
 use std::marker::Model;
 use tlv_head::Header;
 use tlv_walk::{Drain, Event, Follow, Go, Out, WriteFault};
 
-/// Where a walk stands.
+/// Where the walk is, seen from the element that is wanted.
 #[derive(Clone, Copy)]
 enum Position {
-    /// The element wanted has not begun.
+    /// That element has not begun.
     Before,
-    /// In the element wanted, and in so many that it holds.
+    /// In that element, and in this many of the elements that it holds. The count stops at 255.
     Inside(u8),
-    /// The element wanted has ended.
+    /// That element has ended.
     After,
 }
 
-/// Writes the octets of the element that stands at an offset, or its contents alone, as they come.
-/// Has enough with its end.
+/// A follower that writes the octets of one element, or its contents octets alone, as they come.
+///
+/// It has enough when the element ends.
 #[derive(Drop)]
 pub struct Extract {
     offset: u64,
@@ -33,12 +35,16 @@ impl Model for Extract {
 
     ghost Value = { ExtractState };
 
-    ghost view = { λ e. record { offset = e.offset; contents_only = e.contents_only; position = e.position } };
+    ghost view = { λ e. record {
+        offset = e.offset;
+        contents_only = e.contents_only;
+        position = e.position;
+    } };
 }
 
 impl Extract {
-    /// For the element whose first identifier octet stands at this offset, in octets from the start
-    /// of the input.
+    /// Returns a follower for the element whose first identifier octet is at `offset`, in octets
+    /// from the start of the input. With `contents_only` it writes the contents octets alone.
     pub fn new(offset: u64, contents_only: bool) -> Extract
         ensures { result ≡ new_extract offset contents_only }
     {
@@ -49,14 +55,14 @@ impl Extract {
         }
     }
 
-    /// Whether the header of the element has come whole.
+    /// Returns whether the header of the element has come whole.
     pub fn found(&self) -> bool
         ensures { result ≡ has_found self.now }
     {
         !matches!(self.position, Position::Before)
     }
 
-    /// An element begins.
+    /// An element begins: the one wanted, one that it holds, or another.
     fn begin<D: Drain>(&mut self, header: &Header, out: &mut Out<'_, D>) -> Result<Go, WriteFault>
         ensures state { IsFollowed (begin_step self.old header.now) self.new result }
         ensures puts { Puts D.told out.old out.new (begin_step self.old header.now).put result }
@@ -79,16 +85,16 @@ impl Extract {
 
     /// Contents octets come.
     fn contents<D: Drain>(&self, octets: &[u8], out: &mut Out<'_, D>) -> Result<Go, WriteFault>
-        ensures state { IsFollowed (each_octet octet_step self.now octets.now) self.now result }
-        ensures puts { Puts D.told out.old out.new (each_octet octet_step self.now octets.now).put result }
+        ensures state { IsFollowed (contents_step self.now octets.now) self.now result }
+        ensures puts { Puts D.told out.old out.new (contents_step self.now octets.now).put result }
     {
         self.put_contents(octets, out)?;
         Ok(Go::On)
     }
 
-    /// Puts contents octets of the element wanted.
+    /// Puts these contents octets if they come inside the element wanted.
     fn put_contents<D: Drain>(&self, octets: &[u8], out: &mut Out<'_, D>) -> Result<(), WriteFault>
-        ensures { Puts D.told out.old out.new (each_octet octet_step self.now octets.now).put result }
+        ensures { Puts D.told out.old out.new (contents_step self.now octets.now).put result }
     {
         match self.position {
             Position::Inside(_) => out.put(octets),
@@ -165,7 +171,7 @@ impl Follow for Extract {
                 out.put(octets)?;
                 Ok(true)
             }
-            // The count of elements stops at 255.
+            // At 255 the count would not go up and down again, so `on` gets the events one by one.
             Position::Inside(_) => Ok(false),
             Position::After => Ok(true),
         }

@@ -1,4 +1,4 @@
-//! The follower that writes indefinite lengths.
+//! The follower of `indef`: it writes indefinite lengths.
 ghost use Rattle.std.specs.Prelude.{◌≡◌};
 ghost use Rattle.tlv_walk.specs.Out.{Puts};
 ghost use Rattle.tlv_walk.specs.Tells.{told_of};
@@ -8,12 +8,12 @@ use std::marker::Model;
 use tlv_head::{Header, spell_indefinite};
 use tlv_walk::{Drain, Event, Follow, Go, Out, WriteFault};
 
-/// Writes the octets that are walked over, with the indefinite form of the length in each
-/// constructed element (8.1.3.6): its identifier octets, `80`, what it holds, and `00 00` where it has
-/// ended. Primitives and padding stay as they stand.
+/// A follower that writes the octets of a walk, with the indefinite form of the length in each
+/// constructed element (X.690, 8.1.3.6): its identifier octets, the octet `80`, what it holds, and
+/// the octets `00 00` when it ends. Primitives and padding are written as they are.
 ///
-/// It is made for walks in which no string is read as encodings. Such a string is a primitive, so its
-/// header stays as it stands, although what it holds may become longer.
+/// It is made for walks in which no string is read as encodings. Such a string is a primitive: its
+/// header is written as it is, although what it holds may become longer.
 #[derive(Clone, Copy, Debug)]
 pub struct Indef;
 
@@ -24,11 +24,11 @@ impl Model for Indef {
 
     ghost view = { λ i. new_indef };
 
-    ghost inverse = { λ s. record { } };
+    ghost inverse = { λ s. record {} };
 }
 
 impl Indef {
-    /// A follower that writes indefinite lengths. There is one alone: it keeps nothing.
+    /// Returns a follower that writes indefinite lengths. All are equal, since it keeps nothing.
     pub fn new() -> Indef
         ensures { result ≡ new_indef }
     {
@@ -72,8 +72,8 @@ impl Follow for Indef {
     }
 }
 
-/// Puts the octets of an event: the header of a constructed element in the indefinite form, with end-of-contents octets for
-/// its end, and all else as it stands.
+/// Puts the octets of an event. The header of a constructed element has the indefinite form, and
+/// its end has end-of-contents octets. All else is put as it is.
 #[inline(always)]
 fn put_event<D: Drain>(event: &Event<'_>, out: &mut Out<'_, D>) -> Result<(), WriteFault>
     ensures { Puts D.told out.old out.new (indef_event_text (told_of event.now)) result }

@@ -1,5 +1,5 @@
-//! What `extract` and `indef` write: an element of an input, or its contents; and the same encodings,
-//! with indefinite lengths.
+//! Parts of an input, and the same input in another form: `extract` writes one element or its
+//! contents, `indef` writes all elements with indefinite lengths.
 #![tactic(auto)]
 
 mod extract_call;

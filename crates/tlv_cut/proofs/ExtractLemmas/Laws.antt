@@ -60,6 +60,7 @@ begin_goes_on n only position.Before h = by (h.offset == n)
   where
     s : ExtractState
     s = record { offset = n; contents_only = only; position = position.Before }
+
     by : (k : Bool) → (if k then step_to s (position.Inside 0) (outer_octets only (octets_of h)) go.On else stay s).goes ≡ go.On
     by true = refl
     by false = refl
