@@ -10,8 +10,8 @@ use Rattle.tlv_walk.specs.Reading.{IsPrefixOf, IsReading}
 use Rattle.tlv_cut.specs.ExtractText.{extract_text, has_element_at, has_whole_element_at}
 use Rattle.tlv_cut.specs.ExtractStep.{ExtractState, extract_step, has_found, new_extract}
 
--- what is written of the element at the offset n are octets of the input b, from that offset on: a header, contents and,
--- if the element is whole, end-of-contents octets
+-- what is written of the element at the offset n are octets of the input b, from that offset on:
+-- a header, contents and, if the element is whole, end-of-contents octets
 pub record IsInInput (b : List ℕ) (n : ℕ) (f : Forest) : Type 0 where
   -- the octets before the element, and those after what is written of it
   pub front : List ℕ
@@ -22,8 +22,8 @@ pub record IsInInput (b : List ℕ) (n : ℕ) (f : Forest) : Type 0 where
   pub head : Heading
   pub valid : IsHeading head
   pub offset : head.offset ≡ n
-  pub parts : extract_text n false f
-      ≡ octets_of head ++ (extract_text n true f ++ (if has_whole_element_at n f then end_octets head.size else []))
+  pub parts : extract_text n false f ≡ octets_of head ++ (extract_text n true f
+      ++ (if has_whole_element_at n f then end_octets head.size else []))
 
 -- an element that is found is in the input
 abbrev pub CutsStandInTheInput : Type 0
@@ -34,7 +34,8 @@ CutsStandInTheInput = (framing : Framing) (b : List ℕ) (f : Forest) → IsRead
 abbrev pub CutsGoOn : Type 0
 CutsGoOn = (framing : Framing) (b c : List ℕ) (f g : Forest)
     → IsReading framing b f → IsReading framing (b ++ c) g
-    → (n : ℕ) (contents_only : Bool) → IsPrefixOf (extract_text n contents_only f) (extract_text n contents_only g)
+    → (n : ℕ) (contents_only : Bool)
+    → IsPrefixOf (extract_text n contents_only f) (extract_text n contents_only g)
 
 -- an element that is found is found whatever follows
 abbrev pub FoundStays : Type 0
@@ -46,7 +47,8 @@ FoundStays = (framing : Framing) (b c : List ℕ) (f g : Forest)
 pub record AreExtractedAlike (n : ℕ) (f g : Forest) : Type 0 where
   pub found : has_element_at n g ≡ has_element_at n f
   pub whole : has_whole_element_at n g ≡ has_whole_element_at n f
-  pub text : (contents_only : Bool) → extract_text n contents_only g ≡ extract_text n contents_only f
+  pub text : (contents_only : Bool)
+      → extract_text n contents_only g ≡ extract_text n contents_only f
 
 -- if an element is whole, nothing that follows changes what is found and written of it
 abbrev pub WholeCutsStay : Type 0
@@ -54,17 +56,18 @@ WholeCutsStay = (framing : Framing) (b c : List ℕ) (f g : Forest)
     → IsReading framing b f → IsReading framing (b ++ c) g
     → (n : ℕ) → has_whole_element_at n f ≡ true → AreExtractedAlike n f g
 
--- what was made is what `extract` writes; that was enough if the element is whole, and the element was found if it is there
-pub record MakesExtract (n : ℕ) (contents_only : Bool) (f : Forest) (made : Following ExtractState) : Type 0 where
-  pub put : made.put ≡ extract_text n contents_only f
-  pub goes : made.goes ≡ goes_of (has_whole_element_at n f)
-  pub found : has_found made.state ≡ has_element_at n f
+-- what was put is what `extract` writes. It was enough if the element is whole, and the element was
+-- found if it is there
+pub record MakesExtract (n : ℕ) (only : Bool) (f : Forest) (x : Following ExtractState) : Type 0 where
+  pub put : x.put ≡ extract_text n only f
+  pub goes : x.goes ≡ goes_of (has_whole_element_at n f)
+  pub found : has_found x.state ≡ has_element_at n f
 
 -- an `Extract` makes that of the events of a reading
 abbrev pub ExtractsMakeCuts : Type 0
 ExtractsMakeCuts = (framing : Framing) (b : List ℕ) (f : Forest) → IsReading framing b f
-    → (n : ℕ) (contents_only : Bool)
-    → MakesExtract n contents_only f (followed extract_step (new_extract n contents_only) (events f))
+    → (n : ℕ) (only : Bool)
+    → MakesExtract n only f (followed extract_step (new_extract n only) (events f))
 
 -- an element ends
 abbrev pub is_end_event : Told → Bool
@@ -75,4 +78,5 @@ is_end_event _ = false
 
 -- an `Extract` has enough at the end of an element alone, whatever it followed before
 abbrev pub EnoughComesAtEnds : Type 0
-EnoughComesAtEnds = (s : ExtractState) (e : Told) → (extract_step s e).goes ≡ Enough → is_end_event e ≡ true
+EnoughComesAtEnds = (s : ExtractState) (e : Told)
+    → (extract_step s e).goes ≡ Enough → is_end_event e ≡ true

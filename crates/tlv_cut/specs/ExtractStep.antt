@@ -32,7 +32,8 @@ has_found s = at s.position
     at (Inside level) = true
     at After = true
 
--- of octets around the contents of the element wanted, those that are put: none if its contents alone are wanted
+-- of octets around the contents of the element wanted, those that are put: none if its contents
+-- alone are wanted
 abbrev pub outer_octets : Bool → List ℕ → List ℕ
 outer_octets contents_only octets = if contents_only then [] else octets
 
@@ -41,7 +42,8 @@ abbrev pub step_to : ExtractState → Position → List ℕ → Go → Following
 step_to s position octets goes =
     record { state = record s { position = position }; put = octets; goes = goes }
 
--- an element begins: the one wanted, one that it holds, or another. The count of those that it holds stops at 255
+-- an element begins: the one wanted, one that it holds, or another. The count of those that it
+-- holds stops at 255
 abbrev pub begin_step : ExtractState → Heading → Following ExtractState
 begin_step s h = at s.position
   where

@@ -22,12 +22,14 @@ EventsAreRespelled = (s : IndefState) (f : Forest)
 -- what is written of an input is a front of what is written of a longer one
 abbrev pub RespelledGoesOn : Type 0
 RespelledGoesOn = (framing : Framing) (b c : List ℕ) (f g : Forest)
-    → IsReading framing b f → IsReading framing (b ++ c) g → IsPrefixOf (indef_text f) (indef_text g)
+    → IsReading framing b f → IsReading framing (b ++ c) g
+    → IsPrefixOf (indef_text f) (indef_text g)
 
 -- what is written are the octets of elements that keep all rules
 abbrev pub RespelledIsSpelled : Type 0
 RespelledIsSpelled = (padding : Bool) (f : Forest) → IsOpen (top (indef_framing padding)) f
-    → (spell (indef_reading f) ≡ indef_text f) × IsOpen (top (indef_framing padding)) (indef_reading f)
+    → (spell (indef_reading f) ≡ indef_text f)
+    × IsOpen (top (indef_framing padding)) (indef_reading f)
 
 -- what is written is read as those elements, and of these the same octets are written again
 abbrev pub RespelledIsRead : Type 0

@@ -12,7 +12,8 @@ pub record IndefState : Type 0 where
 abbrev pub new_indef : IndefState
 new_indef = record {}
 
--- the octets that it puts for an event. The header of a primitive stays as it is, whichever event reports it
+-- the octets that it puts for an event. The header of a primitive stays as it is, whichever event
+-- comes with it
 abbrev pub indef_event_text : Told → List ℕ
 indef_event_text (Open h) = if h.constructed then indefinite_octets h else octets_of h
 indef_event_text (Begin h) = octets_of h

@@ -2,26 +2,30 @@
 use Rattle.std.specs.Prelude.{ℕ, if◌then◌else◌, List, [], ◌∷◌, ◌++◌}
 use Rattle.tlv_head.specs.declared.header.Size.TheVariants.{Indefinite}
 use Rattle.tlv_head.specs.Header.{Heading}
-use Rattle.tlv_walk.specs.Forest.{Forest, Stop, Fill, Whole, Closed, Partial, Entered, Awaiting, lead, spell}
+use Rattle.tlv_walk.specs.Forest.{Forest, Stop, Fill, Whole, Closed, Partial, Entered, Awaiting}
+use Rattle.tlv_walk.specs.Forest.{lead, spell}
 
 -- 8.1.3.6.1: the header with the octet 80 for its length octets
 abbrev pub indefinite_header : Heading → Heading
 indefinite_header h = record h { size = Indefinite; lengths = 128 ∷ [] }
 
--- the same elements, each constructed one with an indefinite length. The octets of an unfinished header are left out, and
--- so is the first of the end-of-contents octets without the second. A string that holds encodings is a primitive: its header
--- stays as it is, and what it holds are its contents octets
+-- the same elements, each constructed one with an indefinite length. The octets of an unfinished
+-- header are left out, and so is the first of the end-of-contents octets without the second.
+-- A string that holds encodings is a primitive: its header stays as it is, and what it holds are its
+-- contents octets
 abbrev pub with_indefinite_lengths : Forest → Forest
 with_indefinite_lengths (Fill rest) = Fill (with_indefinite_lengths rest)
 with_indefinite_lengths (Whole h c rest) = Whole h c (with_indefinite_lengths rest)
 with_indefinite_lengths (Closed h inside rest) =
-    if h.constructed
-    then Closed (indefinite_header h) (with_indefinite_lengths inside) (with_indefinite_lengths rest)
-    else Whole h (lead h ++ spell (with_indefinite_lengths inside)) (with_indefinite_lengths rest)
+    let held = with_indefinite_lengths inside in
+    let others = with_indefinite_lengths rest in
+    if h.constructed then Closed (indefinite_header h) held others
+    else Whole h (lead h ++ spell held) others
 with_indefinite_lengths (Partial h c) = Partial h c
 with_indefinite_lengths (Entered h inside) =
-    if h.constructed then Entered (indefinite_header h) (with_indefinite_lengths inside)
-    else Partial h (lead h ++ spell (with_indefinite_lengths inside))
+    let held = with_indefinite_lengths inside in
+    if h.constructed then Entered (indefinite_header h) held
+    else Partial h (lead h ++ spell held)
 with_indefinite_lengths (Awaiting h) = Awaiting h
 with_indefinite_lengths _ = Stop
 

@@ -36,9 +36,9 @@ impl Model for Extract {
     ghost Value = { ExtractState };
 
     ghost view = { λ e. record {
-        offset = e.offset;
-        contents_only = e.contents_only;
-        position = e.position;
+      offset = e.offset;
+      contents_only = e.contents_only;
+      position = e.position;
     } };
 }
 

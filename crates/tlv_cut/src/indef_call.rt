@@ -17,7 +17,8 @@ use tlv_walk::{DeviceFault, Drain, Ending, Framing, Inside, Source, drive};
 ///
 /// - `ReadFailed` exactly if the source counted a failed read in the call.
 /// - `WriteFailed` exactly if the drain counted a failed write in the call.
-/// - `InputTooLong` if the source gave more than 2^40 octets, and none of the first 2^40 is refused.
+/// - `InputTooLong` if the source gave more than 2^40 octets, and none of the first 2^40 is
+///   refused.
 pub fn indef<S: Source, D: Drain>(
     source: &mut S,
     drain: &mut D,
