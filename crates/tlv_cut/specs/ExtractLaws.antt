@@ -26,20 +26,20 @@ pub record IsInInput (b : List ℕ) (n : ℕ) (f : Forest) : Type 0 where
       ++ (if has_whole_element_at n f then end_octets head.size else []))
 
 -- an element that is found is in the input
-abbrev pub CutsStandInTheInput : Type 0
-CutsStandInTheInput = (framing : Framing) (b : List ℕ) (f : Forest) → IsReading framing b f
+abbrev pub ExtractTextIsInTheInput : Type 0
+ExtractTextIsInTheInput = (framing : Framing) (b : List ℕ) (f : Forest) → IsReading framing b f
     → (n : ℕ) → has_element_at n f ≡ true → IsInInput b n f
 
 -- what is written of an input is a front of what is written of a longer one
-abbrev pub CutsGoOn : Type 0
-CutsGoOn = (framing : Framing) (b c : List ℕ) (f g : Forest)
+abbrev pub ExtractTextGoesOn : Type 0
+ExtractTextGoesOn = (framing : Framing) (b c : List ℕ) (f g : Forest)
     → IsReading framing b f → IsReading framing (b ++ c) g
     → (n : ℕ) (contents_only : Bool)
     → IsPrefixOf (extract_text n contents_only f) (extract_text n contents_only g)
 
 -- an element that is found is found whatever follows
-abbrev pub FoundStays : Type 0
-FoundStays = (framing : Framing) (b c : List ℕ) (f g : Forest)
+abbrev pub FoundElementsStay : Type 0
+FoundElementsStay = (framing : Framing) (b c : List ℕ) (f g : Forest)
     → IsReading framing b f → IsReading framing (b ++ c) g
     → (n : ℕ) → has_element_at n f ≡ true → has_element_at n g ≡ true
 
@@ -51,8 +51,8 @@ pub record AreExtractedAlike (n : ℕ) (f g : Forest) : Type 0 where
       → extract_text n contents_only g ≡ extract_text n contents_only f
 
 -- if an element is whole, nothing that follows changes what is found and written of it
-abbrev pub WholeCutsStay : Type 0
-WholeCutsStay = (framing : Framing) (b c : List ℕ) (f g : Forest)
+abbrev pub WholeElementsStay : Type 0
+WholeElementsStay = (framing : Framing) (b c : List ℕ) (f g : Forest)
     → IsReading framing b f → IsReading framing (b ++ c) g
     → (n : ℕ) → has_whole_element_at n f ≡ true → AreExtractedAlike n f g
 
@@ -64,8 +64,8 @@ pub record MakesExtract (n : ℕ) (only : Bool) (f : Forest) (x : Following Extr
   pub found : has_found x.state ≡ has_element_at n f
 
 -- an `Extract` makes that of the events of a reading
-abbrev pub ExtractsMakeCuts : Type 0
-ExtractsMakeCuts = (framing : Framing) (b : List ℕ) (f : Forest) → IsReading framing b f
+abbrev pub ExtractMakesItsText : Type 0
+ExtractMakesItsText = (framing : Framing) (b : List ℕ) (f : Forest) → IsReading framing b f
     → (n : ℕ) (only : Bool)
     → MakesExtract n only f (followed extract_step (new_extract n only) (events f))
 

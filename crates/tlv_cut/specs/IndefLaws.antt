@@ -15,29 +15,29 @@ use Rattle.tlv_cut.specs.IndefJob.{indef_framing}
 use Rattle.tlv_cut.specs.IndefReading.{indef_reading}
 
 -- of the events of elements an `Indef` makes what `indef` writes, and it wants more
-abbrev pub EventsAreRespelled : Type 0
-EventsAreRespelled = (s : IndefState) (f : Forest)
+abbrev pub IndefMakesItsText : Type 0
+IndefMakesItsText = (s : IndefState) (f : Forest)
     → followed indef_step s (events f) ≡ record { state = s; put = indef_text f; goes = On }
 
 -- what is written of an input is a front of what is written of a longer one
-abbrev pub RespelledGoesOn : Type 0
-RespelledGoesOn = (framing : Framing) (b c : List ℕ) (f g : Forest)
+abbrev pub IndefTextGoesOn : Type 0
+IndefTextGoesOn = (framing : Framing) (b c : List ℕ) (f g : Forest)
     → IsReading framing b f → IsReading framing (b ++ c) g
     → IsPrefixOf (indef_text f) (indef_text g)
 
 -- what is written are the octets of elements that keep all rules
-abbrev pub RespelledIsSpelled : Type 0
-RespelledIsSpelled = (padding : Bool) (f : Forest) → IsOpen (top (indef_framing padding)) f
+abbrev pub IndefTextKeepsRules : Type 0
+IndefTextKeepsRules = (padding : Bool) (f : Forest) → IsOpen (top (indef_framing padding)) f
     → (spell (indef_reading f) ≡ indef_text f)
     × IsOpen (top (indef_framing padding)) (indef_reading f)
 
 -- what is written is read as those elements, and of these the same octets are written again
-abbrev pub RespelledIsRead : Type 0
-RespelledIsRead = (padding : Bool) (b : List ℕ) (f : Forest) → IsReading (indef_framing padding) b f
+abbrev pub IndefTextIsReadBack : Type 0
+IndefTextIsReadBack = (padding : Bool) (b : List ℕ) (f : Forest) → IsReading (indef_framing padding) b f
     → IsReading (indef_framing padding) (indef_text f) (indef_reading f)
     × (indef_text (indef_reading f) ≡ indef_text f)
 
 -- if an input ends without a fault, so does what is written of it
-abbrev pub DoneIsRespelled : Type 0
-DoneIsRespelled = (padding : Bool) (b : List ℕ) (f : Forest) → IsReading (indef_framing padding) b f
+abbrev pub IndefTextIsDone : Type 0
+IndefTextIsDone = (padding : Bool) (b : List ℕ) (f : Forest) → IsReading (indef_framing padding) b f
     → IsEnding (indef_framing padding) b Done → IsEnding (indef_framing padding) (indef_text f) Done

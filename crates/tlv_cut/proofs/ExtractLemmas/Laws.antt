@@ -13,7 +13,7 @@ use Rattle.tlv_walk.proofs.Spellings.{append_assoc-3}
 use Rattle.tlv_cut.specs.declared.extract_follower.Position.{Position}
 use Rattle.tlv_cut.specs.declared.extract_follower.Position.TheVariants as position
 use Rattle.tlv_cut.specs.ExtractText.{contents_so_far, element_at, extract_text, octets_so_far}
-use Rattle.tlv_cut.specs.ExtractLaws.{CutsStandInTheInput, EnoughComesAtEnds, ExtractsMakeCuts}
+use Rattle.tlv_cut.specs.ExtractLaws.{ExtractTextIsInTheInput, EnoughComesAtEnds, ExtractMakesItsText}
 use Rattle.tlv_cut.specs.ExtractStep.{ExtractState, begin_step, octet_step, outer_octets, step_to}
 use Rattle.tlv_cut.proofs.ExtractLemmas.Elements.{makes_text}
 use Rattle.tlv_cut.proofs.ExtractLemmas.InTheInput.{find}
@@ -23,8 +23,8 @@ the_some : (o : Option Forest) → is_some o ≡ true → (e : Forest) × (o ≡
 the_some (Some e) some = (e, refl)
 the_some None some = absurd (cc (some))
 
-pub text_is_in_the_input : CutsStandInTheInput
-text_is_in_the_input framing b f r n some =
+pub extract_text_is_in_the_input : ExtractTextIsInTheInput
+extract_text_is_in_the_input framing b f r n some =
     let there = the_some (element_at n f) some in
     let e = find n (top framing) f r.is_open there.0 there.1 in
     let written : extract_text n false f ≡ octets_so_far there.0 = ap (λ (o : Option Forest). option_map_or octets_so_far o []) there.1 in
@@ -44,8 +44,8 @@ text_is_in_the_input framing b f r n some =
           ++ (if option_map_or is_whole o false then end_octets e.head.size else []))) (sym there.1);
     }
 
-pub writes_its_text : ExtractsMakeCuts
-writes_its_text framing b f r n only =
+pub extract_makes_its_text : ExtractMakesItsText
+extract_makes_its_text framing b f r n only =
     let c = makes_text n only (top framing) f r.is_open (omega arith) in
     record { put = c.put; goes = c.goes; found = c.found }
 
@@ -70,13 +70,13 @@ begin_goes_on n only position.After h = refl
 begin_step-goes_on : (s : ExtractState) (h : Heading) → (begin_step s h).goes ≡ go.On
 begin_step-goes_on s h = begin_goes_on s.offset s.contents_only s.position h
 
-pub at_ends : EnoughComesAtEnds
-at_ends s (Open h) e = on_is_not (sym (begin_step-goes_on s h) ∙ e)
-at_ends s (Begin h) e = on_is_not (sym (begin_step-goes_on s h) ∙ e)
-at_ends s (Enter h) e = on_is_not (sym (begin_step-goes_on s h) ∙ e)
-at_ends s (Bytes octets) e = on_is_not (sym (each_octet-goes_on octet_step s octets) ∙ e)
-at_ends s Unused e = on_is_not e
-at_ends s (Pad octets) e = on_is_not e
-at_ends s End e = refl
-at_ends s (Close at) e = refl
-at_ends s Leave e = refl
+pub enough_comes_at_ends : EnoughComesAtEnds
+enough_comes_at_ends s (Open h) e = on_is_not (sym (begin_step-goes_on s h) ∙ e)
+enough_comes_at_ends s (Begin h) e = on_is_not (sym (begin_step-goes_on s h) ∙ e)
+enough_comes_at_ends s (Enter h) e = on_is_not (sym (begin_step-goes_on s h) ∙ e)
+enough_comes_at_ends s (Bytes octets) e = on_is_not (sym (each_octet-goes_on octet_step s octets) ∙ e)
+enough_comes_at_ends s Unused e = on_is_not e
+enough_comes_at_ends s (Pad octets) e = on_is_not e
+enough_comes_at_ends s End e = refl
+enough_comes_at_ends s (Close at) e = refl
+enough_comes_at_ends s Leave e = refl

@@ -97,8 +97,8 @@ module _ (framing : Framing) (b c : List ℕ) (f g : Forest) (r : IsReading fram
       let front = followed-front extract_step (new_extract n only) (events f) others.0 in
       (front.0, sym (sym long_text.put ∙ ap (λ (t : Following ExtractState). t.put) longer ∙ front.1 ∙ ap (λ (l : List ℕ). l ++ front.0) short_text.put))
 
-  pub found_stays : has_element_at n f ≡ true → has_element_at n g ≡ true
-  found_stays e =
+  pub found_elements_stay : has_element_at n f ≡ true → has_element_at n g ≡ true
+  found_elements_stay e =
       sym long_text.found ∙ ap (λ (t : Following ExtractState). has_found t.state) longer
       ∙ followed-found_more (new_extract n only) (events f) others.0 (short_text.found ∙ e)
 

@@ -4,7 +4,7 @@ use Rattle.tlv_walk.specs.Events.{AreEqualJoined, Told, events}
 use Rattle.tlv_walk.specs.Follow.{Following}
 use Rattle.tlv_walk.proofs.Followed.{followed-alike}
 use Rattle.tlv_walk.proofs.Prefixes.{events-prefix}
-use Rattle.tlv_cut.specs.IndefLaws.{RespelledGoesOn}
+use Rattle.tlv_cut.specs.IndefLaws.{IndefTextGoesOn}
 use Rattle.tlv_cut.specs.IndefStep.{IndefState, indef_step, new_indef}
 use Rattle.tlv_cut.proofs.IndefLemmas.Elements.{events_text-append, followed-indef_step, events_text, events_text-events}
 
@@ -16,7 +16,7 @@ events_text-alike xs ys e =
     (followed-alike indef_step (λ s x y. refl) (λ s. refl) (λ s x. refl) (λ s x y. refl) (λ s. refl) (λ s x. refl) new_indef xs ys e)
     ∙ ap (λ (t : Following IndefState). t.put) (followed-indef_step new_indef ys)
 
-pub indef_text_goes_on : RespelledGoesOn
+pub indef_text_goes_on : IndefTextGoesOn
 indef_text_goes_on framing b c f g r s =
     let more : (others : List Told) × AreEqualJoined (events g) (events f ++ others) = events-prefix framing b c f g r s in
     let puts : events_text (events g) ≡ events_text (events f) ++ events_text more.0 = events_text-alike (events g) (events f ++ more.0) more.1 ∙ events_text-append (events f) more.0 in

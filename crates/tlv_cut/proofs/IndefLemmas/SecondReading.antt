@@ -17,28 +17,28 @@ use Rattle.tlv_cut.proofs.IndefLemmas.Offsets.{indef_text-again, spell-with_offs
 top_free : (padding : Bool) → IsFree (top (indef_framing padding)) (top (indef_framing padding))
 top_free padding = record { names = refl; same_names = refl; depth = refl; bound = refl; padding = λ e. e; definite = λ e. refl }
 
-pub keeps_rules : (padding : Bool) (f : Forest) → IsOpen (top (indef_framing padding)) f
+pub indef_text_keeps_rules : (padding : Bool) (f : Forest) → IsOpen (top (indef_framing padding)) f
     → (spell (indef_reading f) ≡ indef_text f) × IsOpen (top (indef_framing padding)) (indef_reading f)
-keeps_rules padding f v =
+indef_text_keeps_rules padding f v =
     let p = top (indef_framing padding) in
     (spell-with_offsets_from 0 (with_indefinite_lengths f), is_open p p f (top_free padding) v)
 
-pub read_again : (padding : Bool) (b : List ℕ) (f : Forest) → IsReading (indef_framing padding) b f
+pub indef_text_is_read_back : (padding : Bool) (b : List ℕ) (f : Forest) → IsReading (indef_framing padding) b f
     → IsReading (indef_framing padding) (indef_text f) (indef_reading f) × (indef_text (indef_reading f) ≡ indef_text f)
-read_again padding b f r =
-    let o = keeps_rules padding f r.is_open in
+indef_text_is_read_back padding b f r =
+    let o = indef_text_keeps_rules padding f r.is_open in
     (run-reading (indef_framing padding) (Going (indef_reading f)) (indef_text f) (record { is_open = o.1; spelled = o.0 }), indef_text-again 0 f)
 
 -- of a sound list
 sound_again : (padding : Bool) (b : List ℕ) (f : Forest) → IsReading (indef_framing padding) b f → is_whole f ≡ true → has_element f ≡ true
     → IsEnding (indef_framing padding) (indef_text f) Done
 sound_again padding b f r w e =
-    let o = keeps_rules padding f r.is_open in
-    done (indef_reading f) (read_again padding b f r).0 o.0 (some 0 f w e) (whole 0 f w)
+    let o = indef_text_keeps_rules padding f r.is_open in
+    done (indef_reading f) (indef_text_is_read_back padding b f r).0 o.0 (some 0 f w e) (whole 0 f w)
 
-pub done_again : (padding : Bool) (b : List ℕ) (f : Forest) → IsReading (indef_framing padding) b f → IsEnding (indef_framing padding) b Done
+pub indef_text_is_done : (padding : Bool) (b : List ℕ) (f : Forest) → IsReading (indef_framing padding) b f → IsEnding (indef_framing padding) b Done
     → IsEnding (indef_framing padding) (indef_text f) Done
-done_again padding b f r d =
+indef_text_is_done padding b f r d =
     let w = indef_framing padding in
     let s : IsSoundList w b = done-sound w b d in
     let same : f ≡ s.forest = reading-unique w b f s.forest r (sound-reading w b s) in

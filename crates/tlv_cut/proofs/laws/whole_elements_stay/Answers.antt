@@ -1,6 +1,6 @@
 use Rattle.std.proofs.Common.{false}
 use Rattle.tlv_cut.proofs.ExtractLemmas.LongerInputs.{same_extract_text, same_found, same_whole}
-use Rattle.tlv_cut.proofs.laws.whole_cuts_stay.Goals as goal
+use Rattle.tlv_cut.proofs.laws.whole_elements_stay.Goals as goal
 
 pub returns : goal.returns
 returns x framing b c f g r s n e =
