@@ -1,7 +1,7 @@
 -- What a command makes of an input.
 use Rattle.std.specs.Prelude.{◌≡◌, ◌⊎◌, ℕ, true, List, []}
-use Rattle.tlv_cut.specs.Extracts.{cutting}
-use Rattle.tlv_cut.specs.IndefRuns.{respelling}
+use Rattle.tlv_cut.specs.ExtractJob.{extract_job}
+use Rattle.tlv_cut.specs.IndefJob.{indef_job}
 use Rattle.tlv_show.specs.Checks.{checking}
 use Rattle.tlv_show.specs.Dumps.{dumping}
 use Rattle.tlv_value.specs.Names.{Table}
@@ -22,8 +22,8 @@ said_by say job =
 abbrev pub running : Command → Table → Job Said
 running (Dump options names_file file) names = said_by said_of_outcome (dumping options names)
 running (Check rules framing file) names = said_by said_of_outcome (checking rules framing)
-running (Extract offset contents framing file) names = said_by (said_of_cut offset) (cutting framing offset contents)
-running (Indef padding file) names = said_by (λ e. said_of_ending e (saying 0 [])) (respelling padding)
+running (Extract offset contents framing file) names = said_by (said_of_cut offset) (extract_job framing offset contents)
+running (Indef padding file) names = said_by (λ e. said_of_ending e (saying 0 [])) (indef_job padding)
 
 -- what comes of an input: the octets written, its ending, and what is said: status, number of findings, message
 pub record Made : Type 0 where
