@@ -17,7 +17,8 @@ wanted_octets-none Before = refl
 wanted_octets-none (Inside level) = refl
 wanted_octets-none After = refl
 
-wanted_octets-more : (w : Position) (x : ℕ) (xs : List ℕ) → wanted_octets w (x ∷ []) ++ wanted_octets w xs ≡ wanted_octets w (x ∷ xs)
+wanted_octets-more : (w : Position) (x : ℕ) (xs : List ℕ)
+    → wanted_octets w (x ∷ []) ++ wanted_octets w xs ≡ wanted_octets w (x ∷ xs)
 wanted_octets-more Before x xs = refl
 wanted_octets-more (Inside level) x xs = refl
 wanted_octets-more After x xs = refl
@@ -26,24 +27,29 @@ wanted_octets-more After x xs = refl
 abbrev pub put_step : ExtractState → List ℕ → Following ExtractState
 put_step s octets = record { state = s; put = octets; goes = On }
 
--- what is made of octets that come one by one is made of all at once
-pub all_contents : (s : ExtractState) (xs : List ℕ) → each_octet octet_step s xs ≡ put_step s (wanted_octets s.position xs)
+-- octets that come one by one put the same as all at once
+pub all_contents : (s : ExtractState) (xs : List ℕ)
+    → each_octet octet_step s xs ≡ put_step s (wanted_octets s.position xs)
 all_contents s [] = ap (put_step s) (wanted_octets-none s.position)
 all_contents s (x ∷ xs) =
-    ap (λ (u : Following ExtractState). record u { put = wanted_octets s.position (x ∷ []) ++ u.put }) (all_contents s xs)
+    ap (λ (u : Following ExtractState). record u { put = wanted_octets s.position (x ∷ []) ++ u.put })
+    (all_contents s xs)
     ∙ ap (put_step s) (wanted_octets-more s.position x xs)
 
 module _ (s : ExtractState) (w : Position) (xs : List ℕ) (e : s.position ≡ w) where
   contents_put : (each_octet octet_step s xs).put ≡ wanted_octets w xs
-  contents_put = ap (λ (t : Following ExtractState). t.put) (all_contents s xs) ∙ ap (λ (w : Position). wanted_octets w xs) e
+  contents_put =
+      ap (λ (t : Following ExtractState). t.put) (all_contents s xs) ∙ ap (λ (w : Position). wanted_octets w xs) e
 
-  -- what is made of octets where the walk stands
+  -- what is put of octets at this position
   pub puts_contents : {D : Type 0} (state_of : D → Taken) (a b : Out D) (r : Result ⊤ WriteFault)
-      → Puts {T = ⊤} {E = WriteFault} state_of a b (wanted_octets w xs) r → Puts state_of a b (each_octet octet_step s xs).put r
+      → Puts {T = ⊤} {E = WriteFault} state_of a b (wanted_octets w xs) r
+      → Puts state_of a b (each_octet octet_step s xs).put r
   puts_contents state_of a b r p = rw (contents_put) p
 
 -- outside the element wanted nothing is put
-pub puts_none : (s : ExtractState) (w : Position) (xs : List ℕ) {D : Type 0} (state_of : D → Taken) (a : Out D) → s.position ≡ w
+pub puts_none : (s : ExtractState) (w : Position) (xs : List ℕ) {D : Type 0} (state_of : D → Taken) (a : Out D)
+    → s.position ≡ w
     → ((level : ℕ) → w ≡ Inside level → ⊥) → HasPut state_of a a (each_octet octet_step s xs).put
 puts_none s Before xs state_of a e n = puts_contents s Before xs e state_of a a (Ok tt) (puts_nothing state_of a tt)
 puts_none s (Inside level) xs state_of a e n = absurd (n level refl)

@@ -1,4 +1,4 @@
--- What an `Extract` makes of the events of what the element wanted holds: it passes their octets on.
+-- What an `Extract` makes of the events of what the element wanted holds: it puts their octets.
 use Rattle.std.proofs.Common.{refl, sym, ap, ap₂, ◌∙◌, arith, append_assoc, append-nil}
 use Rattle.std.specs.Prelude.{◌≡◌, ℕ, suc, ◌≤◌, Bool, true, false, eqb, if◌then◌else◌, List, [], ◌∷◌, ◌++◌, map}
 use Rattle.tlv_head.specs.declared.header.Size.{Size}
@@ -7,9 +7,11 @@ use Rattle.tlv_head.specs.Header.{Heading, octets_of}
 use Rattle.tlv_head.specs.Private.Header.{AllowsSize}
 use Rattle.tlv_walk.specs.declared.follow.Go.{Go}
 use Rattle.tlv_walk.specs.declared.follow.Go.TheVariants as go
-use Rattle.tlv_walk.specs.Events.{Told, Open, Begin, Bytes, End, Close, Enter, Unused, Leave, Pad, closes, end_offset, events, opens}
+use Rattle.tlv_walk.specs.Events.{Told, Open, Begin, Bytes, End, Close, Enter, Unused, Leave, Pad, closes}
+use Rattle.tlv_walk.specs.Events.{end_offset, events, opens}
 use Rattle.tlv_walk.specs.Follow.{Following, and_then, followed, if_on}
-use Rattle.tlv_walk.specs.Forest.{Forest, Stop, Fill, Whole, Closed, Partial, Entered, Awaiting, Begun, Zero, end_octets, extent, is_whole, lead, opening}
+use Rattle.tlv_walk.specs.Forest.{Forest, Stop, Fill, Whole, Closed, Partial, Entered, Awaiting, Begun, Zero}
+use Rattle.tlv_walk.specs.Forest.{end_octets, extent, is_whole, lead, opening}
 use Rattle.tlv_walk.specs.Place.{IsOpen, Place, after, inside_of}
 use Rattle.tlv_walk.proofs.Followed.{followed-more, followed-one}
 use Rattle.tlv_cut.specs.declared.extract_follower.Position.TheVariants as position
@@ -17,38 +19,46 @@ use Rattle.tlv_cut.specs.ExtractText.{octets_so_far}
 use Rattle.tlv_cut.specs.ExtractStep.{ExtractState, begin_step, end_step, extract_step, has_found, wanted_octets}
 use Rattle.tlv_cut.proofs.ExtractLemmas.Contents.{all_contents, wanted_octets-none, put_step}
 
--- ---- events one behind another
+-- what an `Extract` makes of these events
+abbrev pub made_from : ExtractState → List Told → Following ExtractState
+made_from s es = followed extract_step s es
 
--- what was made, and then more
-pub then_more : (s t : ExtractState) (put : List ℕ) (xs ys : List Told) → followed extract_step s xs ≡ put_step t put
-    → followed extract_step s (xs ++ ys) ≡ record (followed extract_step t ys) { put = put ++ (followed extract_step t ys).put }
+-- ---- one event after another
+
+-- of some events this was made, and then others come
+pub then_more : (s t : ExtractState) (put : List ℕ) (xs ys : List Told) → made_from s xs ≡ put_step t put
+    → made_from s (xs ++ ys) ≡ record (made_from t ys) { put = put ++ (made_from t ys).put }
 then_more s t put xs ys e =
     followed-more extract_step s xs ys (ap (λ (u : Following ExtractState). u.goes) e)
-    ∙ ap (λ (k : Following ExtractState). and_then k (λ u. followed extract_step u ys)) e
+    ∙ ap (λ (k : Following ExtractState). and_then k (λ u. made_from u ys)) e
 
 -- a primitive begins, and gives contents octets
 pub followed-begins : (s t : ExtractState) (put : List ℕ) (h : Heading) (c : List ℕ) → begin_step s h ≡ put_step t put
-    → followed extract_step s (Begin h ∷ Bytes c ∷ []) ≡ put_step t (put ++ wanted_octets t.position c)
+    → made_from s (Begin h ∷ Bytes c ∷ []) ≡ put_step t (put ++ wanted_octets t.position c)
 followed-begins s t put h c e =
-    ap (λ (k : Following ExtractState). if_on k.goes k (λ u. followed extract_step u (Bytes c ∷ []))) e
-    ∙ ap (λ (k : Following ExtractState). and_then (put_step t put) (λ u. k)) (followed-one extract_step t (Bytes c) ∙ all_contents t c)
+    ap (λ (k : Following ExtractState). if_on k.goes k (λ u. made_from u (Bytes c ∷ []))) e
+    ∙ ap (λ (k : Following ExtractState). and_then (put_step t put) (λ u. k))
+    (followed-one extract_step t (Bytes c) ∙ all_contents t c)
 
--- an element that holds others begins: what comes before what it holds
+-- an element that holds others begins: `lead`, by what it depends on
 abbrev lead_by : Bool → Bool → List ℕ
 lead_by k three = if k then [] else (if three then 0 ∷ [] else [])
 
 opens_by : (k three : Bool) (s t : ExtractState) (put : List ℕ) (h : Heading) → begin_step s h ≡ put_step t put
-    → followed extract_step s ((if k then Open h else Enter h) ∷ map (λ z. Unused) (lead_by k three)) ≡ put_step t (put ++ wanted_octets t.position (lead_by k three))
+    → made_from s ((if k then Open h else Enter h) ∷ map (λ z. Unused) (lead_by k three))
+    ≡ put_step t (put ++ wanted_octets t.position (lead_by k three))
 opens_by true three s t put h e =
-    followed-one extract_step s (Open h) ∙ e ∙ ap (put_step t) (sym (append-nil put) ∙ ap (λ (l : List ℕ). put ++ l) (wanted_octets-none t.position))
+    followed-one extract_step s (Open h) ∙ e
+    ∙ ap (put_step t) (sym (append-nil put) ∙ ap (λ (l : List ℕ). put ++ l) (wanted_octets-none t.position))
 opens_by false true s t put h e =
-    ap (λ (k : Following ExtractState). if_on k.goes k (λ u. followed extract_step u (Unused ∷ []))) e
+    ap (λ (k : Following ExtractState). if_on k.goes k (λ u. made_from u (Unused ∷ []))) e
     ∙ ap (λ (k : Following ExtractState). and_then (put_step t put) (λ u. k)) (followed-one extract_step t Unused)
 opens_by false false s t put h e =
-    followed-one extract_step s (Enter h) ∙ e ∙ ap (put_step t) (sym (append-nil put) ∙ ap (λ (l : List ℕ). put ++ l) (wanted_octets-none t.position))
+    followed-one extract_step s (Enter h) ∙ e
+    ∙ ap (put_step t) (sym (append-nil put) ∙ ap (λ (l : List ℕ). put ++ l) (wanted_octets-none t.position))
 
 pub followed-opens : (s t : ExtractState) (put : List ℕ) (h : Heading) → begin_step s h ≡ put_step t put
-    → followed extract_step s (opens h) ≡ put_step t (put ++ wanted_octets t.position (lead h))
+    → made_from s (opens h) ≡ put_step t (put ++ wanted_octets t.position (lead h))
 followed-opens s t put h e = opens_by h.constructed (eqb h.number 3) s t put h e
 
 -- it ends
@@ -60,39 +70,48 @@ closes_by false (Definite n) s o allowed = refl
 closes_by false Indefinite s o allowed = absurd (cc (allowed))
 
 pub followed-closes : (s : ExtractState) (h : Heading) (inside : Forest) → AllowsSize h.constructed h.size
-    → followed extract_step s (closes h inside ∷ []) ≡ end_step s (end_octets h.size)
-followed-closes s h inside allowed = followed-one extract_step s (closes h inside) ∙ closes_by h.constructed h.size s _ allowed
+    → made_from s (closes h inside ∷ []) ≡ end_step s (end_octets h.size)
+followed-closes s h inside allowed =
+    followed-one extract_step s (closes h inside) ∙ closes_by h.constructed h.size s _ allowed
 
--- an element with its end
-pub events-closed : (h : Heading) (inside rest : Forest) → events (Closed h inside rest) ≡ (opens h ++ (events inside ++ closes h inside ∷ [])) ++ events rest
+-- the events of an element that has ended, and of what follows it
+pub events-closed : (h : Heading) (inside rest : Forest)
+    → events (Closed h inside rest) ≡ (opens h ++ (events inside ++ closes h inside ∷ [])) ++ events rest
 events-closed h inside rest =
     sym (append_assoc (opens h) (events inside ++ closes h inside ∷ []) (events rest)
     ∙ ap (λ (l : List Told). opens h ++ l) (append_assoc (events inside) (closes h inside ∷ []) (events rest)))
 
 module _ (n : ℕ) (only : Bool) where
-  -- in the element wanted, and in so many that it holds
+  -- an `Extract` in the element wanted, and in this many that it holds
   abbrev pub state_inside : ℕ → ExtractState
   state_inside level = record { offset = n; contents_only = only; position = position.Inside level }
 
   -- ---- in the element wanted
 
-  -- what was made of elements in it: they are passed on
+  -- of elements in it their octets are put
   pub record IsPassedOn (level : ℕ) (f : Forest) : Type 0 where
-    pub put : (followed extract_step (state_inside level) (events f)).put ≡ octets_so_far f
-    pub goes : (followed extract_step (state_inside level) (events f)).goes ≡ go.On
-    pub found : has_found (followed extract_step (state_inside level) (events f)).state ≡ true
-    pub stays : is_whole f ≡ true → (followed extract_step (state_inside level) (events f)).state ≡ state_inside level
+    pub put : (made_from (state_inside level) (events f)).put ≡ octets_so_far f
+    pub goes : (made_from (state_inside level) (events f)).goes ≡ go.On
+    pub found : has_found (made_from (state_inside level) (events f)).state ≡ true
+    pub stays : is_whole f ≡ true → (made_from (state_inside level) (events f)).state ≡ state_inside level
 
-  pub whole_inside_passed_on : (level : ℕ) (f : Forest) → is_whole f ≡ true → IsPassedOn level f → followed extract_step (state_inside level) (events f) ≡ put_step (state_inside level) (octets_so_far f)
+  pub whole_inside_passed_on : (level : ℕ) (f : Forest) → is_whole f ≡ true → IsPassedOn level f
+      → made_from (state_inside level) (events f) ≡ put_step (state_inside level) (octets_so_far f)
   whole_inside_passed_on level f whole k =
-      ap₂ (λ (s : ExtractState) (l : List ℕ). record { state = s; put = l; goes = (followed extract_step (state_inside level) (events f)).goes }) (k.stays whole) k.put
+      ap₂ (λ (s : ExtractState)
+      (l : List ℕ). record { state = s; put = l; goes = (made_from (state_inside level) (events f)).goes })
+      (k.stays whole) k.put
       ∙ ap (λ (g : Go). record { state = state_inside level; put = octets_so_far f; goes = g }) k.goes
 
-  -- elements behind what was passed on
-  passed_on_after : (level : ℕ) (es : List Told) (put : List ℕ) (f rest : Forest) → followed extract_step (state_inside level) es ≡ put_step (state_inside level) put
-      → events f ≡ es ++ events rest → put ++ octets_so_far rest ≡ octets_so_far f → is_whole f ≡ is_whole rest → IsPassedOn level rest → IsPassedOn level f
+  -- elements after those whose octets are put
+  passed_on_after : (level : ℕ) (es : List Told) (put : List ℕ) (f rest : Forest)
+      → made_from (state_inside level) es ≡ put_step (state_inside level) put
+      → events f ≡ es ++ events rest → put ++ octets_so_far rest ≡ octets_so_far f → is_whole f ≡ is_whole rest
+      → IsPassedOn level rest → IsPassedOn level f
   passed_on_after level es put f rest e again octets whole k =
-      let all = ap (followed extract_step (state_inside level)) again ∙ then_more (state_inside level) (state_inside level) put es (events rest) e in
+      let all =
+      ap (made_from (state_inside level)) again
+      ∙ then_more (state_inside level) (state_inside level) put es (events rest) e in
       record {
         put = ap (λ (t : Following ExtractState). t.put) all ∙ ap (λ (l : List ℕ). put ++ l) k.put ∙ octets;
         goes = ap (λ (t : Following ExtractState). t.goes) all ∙ k.goes;
@@ -100,45 +119,60 @@ module _ (n : ℕ) (only : Bool) where
         stays = λ w. ap (λ (t : Following ExtractState). t.state) all ∙ k.stays (sym whole ∙ w);
       }
 
-  -- one more is open; the count does not stop
-  one_more : (level : ℕ) (h : Heading) → level ≤ 254 → begin_step (state_inside level) h ≡ put_step (state_inside (suc level)) (octets_of h)
+  -- one more is open, and the count goes up
+  one_more : (level : ℕ) (h : Heading) → level ≤ 254
+      → begin_step (state_inside level) h ≡ put_step (state_inside (suc level)) (octets_of h)
   one_more level h low = ap (λ (m : ℕ). put_step (state_inside m) (octets_of h)) (omega (arith, low))
 
   -- a primitive
   pub primitive_passed_on : (level : ℕ) (h : Heading) (c : List ℕ) → level ≤ 254
-      → followed extract_step (state_inside level) (Begin h ∷ Bytes c ∷ End ∷ []) ≡ put_step (state_inside level) (octets_of h ++ c)
+      → made_from (state_inside level) (Begin h ∷ Bytes c ∷ End ∷ []) ≡ put_step (state_inside level) (octets_of h ++ c)
   primitive_passed_on level h c low =
       then_more (state_inside level) (state_inside (suc level)) (octets_of h ++ c) (Begin h ∷ Bytes c ∷ []) (End ∷ [])
       (followed-begins (state_inside level) (state_inside (suc level)) (octets_of h) h c (one_more level h low))
       ∙ ap (put_step (state_inside level)) (append-nil (octets_of h ++ c))
 
-  closed_passed_on : (level : ℕ) (h : Heading) (inside : Forest) → level ≤ 128 → AllowsSize h.constructed h.size → is_whole inside ≡ true → IsPassedOn (suc level) inside
-      → followed extract_step (state_inside level) (opens h ++ (events inside ++ closes h inside ∷ []))
+  closed_passed_on : (level : ℕ) (h : Heading) (inside : Forest) → level ≤ 128 → AllowsSize h.constructed h.size
+      → is_whole inside ≡ true → IsPassedOn (suc level) inside
+      → made_from (state_inside level) (opens h ++ (events inside ++ closes h inside ∷ []))
       ≡ put_step (state_inside level) (opening h ++ (octets_so_far inside ++ end_octets h.size))
   closed_passed_on level h inside low allowed whole k =
-      then_more (state_inside level) (state_inside (suc level)) (opening h) (opens h) (events inside ++ closes h inside ∷ [])
-      (followed-opens (state_inside level) (state_inside (suc level)) (octets_of h) h (one_more level h (omega (arith, low))))
+      then_more (state_inside level) (state_inside (suc level)) (opening h) (opens h)
+      (events inside ++ closes h inside ∷ [])
+      (followed-opens (state_inside level) (state_inside (suc level)) (octets_of h) h
+      (one_more level h (omega (arith, low))))
       ∙ ap (λ (t : Following ExtractState). record t { put = opening h ++ t.put })
-      (then_more (state_inside (suc level)) (state_inside (suc level)) (octets_so_far inside) (events inside) (closes h inside ∷ []) (whole_inside_passed_on (suc level) inside whole k)
-      ∙ ap (λ (t : Following ExtractState). record t { put = octets_so_far inside ++ t.put }) (followed-closes (state_inside (suc level)) h inside allowed))
+      (then_more (state_inside (suc level)) (state_inside (suc level)) (octets_so_far inside) (events inside)
+      (closes h inside ∷ []) (whole_inside_passed_on (suc level) inside whole k)
+      ∙ ap (λ (t : Following ExtractState). record t { put = octets_so_far inside ++ t.put })
+      (followed-closes (state_inside (suc level)) h inside allowed))
 
-  -- all that the element wanted holds is passed on
-  pub passed_on : (p : Place) (level : ℕ) (f : Forest) → IsOpen p f → level ≤ p.depth → p.depth ≤ 128 → IsPassedOn level f
+  -- the octets of all that the element wanted holds are put
+  pub passed_on : (p : Place) (level : ℕ) (f : Forest) → IsOpen p f → level ≤ p.depth → p.depth ≤ 128
+      → IsPassedOn level f
   passed_on p level Stop v low deep = record { put = refl; goes = refl; found = refl; stays = λ w. refl }
   passed_on p level (Fill rest) v low deep =
-      passed_on_after level (Pad (0 ∷ []) ∷ []) [] (Fill rest) rest refl refl refl refl (passed_on (after p 1) level rest v.1 low deep)
+      passed_on_after level (Pad (0 ∷ []) ∷ []) [] (Fill rest) rest refl refl refl refl
+      (passed_on (after p 1) level rest v.1 low deep)
   passed_on p level (Whole h c rest) v low deep =
-      passed_on_after level (Begin h ∷ Bytes c ∷ End ∷ []) (octets_of h ++ c) (Whole h c rest) rest (primitive_passed_on level h c (omega (arith, low, deep))) refl
+      passed_on_after level (Begin h ∷ Bytes c ∷ End ∷ []) (octets_of h ++ c) (Whole h c rest) rest
+      (primitive_passed_on level h c (omega (arith, low, deep))) refl
       (append_assoc (octets_of h) c (octets_so_far rest)) refl (passed_on (after p _) level rest v.1 low deep)
   passed_on p level (Closed h inside rest) v low deep =
-      let i : IsPassedOn (suc level) inside = passed_on (inside_of p h) (suc level) inside v.1 (omega (arith, low)) (omega (arith, (v.0.0.depth refl))) in
-      passed_on_after level (opens h ++ (events inside ++ closes h inside ∷ [])) (opening h ++ (octets_so_far inside ++ end_octets h.size)) (Closed h inside rest) rest
-      (closed_passed_on level h inside (omega (arith, low, deep)) v.0.0.header.valid.allowed v.0.1 i) (events-closed h inside rest)
+      let i : IsPassedOn (suc level) inside =
+      passed_on (inside_of p h) (suc level) inside v.1 (omega (arith, low)) (omega (arith, (v.0.0.depth refl))) in
+      passed_on_after level (opens h ++ (events inside ++ closes h inside ∷ []))
+      (opening h ++ (octets_so_far inside ++ end_octets h.size)) (Closed h inside rest) rest
+      (closed_passed_on level h inside (omega (arith, low, deep)) v.0.0.header.valid.allowed v.0.1 i)
+      (events-closed h inside rest)
       (append_assoc (opening h) (octets_so_far inside ++ end_octets h.size) (octets_so_far rest)
-      ∙ ap (λ (l : List ℕ). opening h ++ l) (append_assoc (octets_so_far inside) (end_octets h.size) (octets_so_far rest))) refl
+      ∙ ap (λ (l : List ℕ). opening h ++ l)
+      (append_assoc (octets_so_far inside) (end_octets h.size) (octets_so_far rest))) refl
       (passed_on (after p (extent h inside)) level rest v.2 low deep)
   passed_on p level (Partial h c) v low deep =
-      let all = followed-begins (state_inside level) (state_inside (suc level)) (octets_of h) h c (one_more level h (omega (arith, low, deep))) in
+      let all =
+      followed-begins (state_inside level) (state_inside (suc level)) (octets_of h) h c
+      (one_more level h (omega (arith, low, deep))) in
       record {
         put = ap (λ (t : Following ExtractState). t.put) all;
         goes = ap (λ (t : Following ExtractState). t.goes) all;
@@ -146,9 +180,11 @@ module _ (n : ℕ) (only : Bool) where
         stays = λ w. absurd (cc (w));
       }
   passed_on p level (Entered h inside) v low deep =
-      let i : IsPassedOn (suc level) inside = passed_on (inside_of p h) (suc level) inside v.1 (omega (arith, low)) (omega (arith, (v.0.0.depth refl))) in
+      let i : IsPassedOn (suc level) inside =
+      passed_on (inside_of p h) (suc level) inside v.1 (omega (arith, low)) (omega (arith, (v.0.0.depth refl))) in
       let all = then_more (state_inside level) (state_inside (suc level)) (opening h) (opens h) (events inside)
-      (followed-opens (state_inside level) (state_inside (suc level)) (octets_of h) h (one_more level h (omega (arith, low, deep)))) in
+      (followed-opens (state_inside level) (state_inside (suc level)) (octets_of h) h
+      (one_more level h (omega (arith, low, deep)))) in
       record {
         put = ap (λ (t : Following ExtractState). t.put) all ∙ ap (λ (l : List ℕ). opening h ++ l) i.put;
         goes = ap (λ (t : Following ExtractState). t.goes) all ∙ i.goes;
@@ -156,7 +192,8 @@ module _ (n : ℕ) (only : Bool) where
         stays = λ w. absurd (cc (w));
       }
   passed_on p level (Awaiting h) v low deep =
-      let all = followed-one extract_step (state_inside level) (Enter h) ∙ one_more level h (omega (arith, low, deep)) in
+      let all =
+      followed-one extract_step (state_inside level) (Enter h) ∙ one_more level h (omega (arith, low, deep)) in
       record {
         put = ap (λ (t : Following ExtractState). t.put) all;
         goes = ap (λ (t : Following ExtractState). t.goes) all;

@@ -18,7 +18,7 @@ use Rattle.tlv_cut.specs.ExtractStep.{ExtractState, begin_step, octet_step, oute
 use Rattle.tlv_cut.proofs.ExtractLemmas.Elements.{makes_text}
 use Rattle.tlv_cut.proofs.ExtractLemmas.InTheInput.{find}
 
--- what is there
+-- an element that is there
 the_some : (o : Option Forest) → is_some o ≡ true → (e : Forest) × (o ≡ Some e)
 the_some (Some e) some = (e, refl)
 the_some None some = absurd (cc (some))
@@ -27,13 +27,15 @@ pub extract_text_is_in_the_input : ExtractTextIsInTheInput
 extract_text_is_in_the_input framing b f r n some =
     let there = the_some (element_at n f) some in
     let e = find n (top framing) f r.is_open there.0 there.1 in
-    let written : extract_text n false f ≡ octets_so_far there.0 = ap (λ (o : Option Forest). option_map_or octets_so_far o []) there.1 in
+    let written : extract_text n false f ≡ octets_so_far there.0 =
+    ap (λ (o : Option Forest). option_map_or octets_so_far o []) there.1 in
     record {
       front = e.front;
       rest = e.rest ++ r.front.0;
       octets =
           ap (λ (l : List ℕ). e.front ++ (l ++ (e.rest ++ r.front.0))) written
-          ∙ sym (append_assoc-3 e.front (octets_so_far there.0) e.rest r.front.0) ∙ ap (λ (l : List ℕ). l ++ r.front.0) (sym e.octets) ∙ r.front.1;
+          ∙ sym (append_assoc-3 e.front (octets_so_far there.0) e.rest r.front.0)
+          ∙ ap (λ (l : List ℕ). l ++ r.front.0) (sym e.octets) ∙ r.front.1;
       place = omega (arith, e.place);
       head = e.head;
       valid = e.valid;
@@ -49,7 +51,7 @@ extract_makes_its_text framing b f r n only =
     let c = makes_text n only (top framing) f r.is_open (omega arith) in
     record { put = c.put; goes = c.goes; found = c.found }
 
--- ---- enough
+-- ---- there is enough at the end of an element alone
 
 on_is_not : {A : Type 0} → go.On ≡ go.Enough → A
 on_is_not e = absurd (cc (e))
@@ -61,7 +63,8 @@ begin_goes_on n only position.Before h = by (h.offset == n)
     s : ExtractState
     s = record { offset = n; contents_only = only; position = position.Before }
 
-    by : (k : Bool) → (if k then step_to s (position.Inside 0) (outer_octets only (octets_of h)) go.On else stay s).goes ≡ go.On
+    by : (k : Bool)
+        → (if k then step_to s (position.Inside 0) (outer_octets only (octets_of h)) go.On else stay s).goes ≡ go.On
     by true = refl
     by false = refl
 begin_goes_on n only (position.Inside level) h = refl

@@ -1,4 +1,4 @@
--- What `indef` writes of short inputs, and what `Indef` puts for events.
+-- What `indef` writes for short inputs, and what an `Indef` puts for events.
 use Rattle.std.proofs.Common.{◌≡◌, ℕ, Bool, true, false, List, [], ◌∷◌, refl}
 use Rattle.std.specs.Prelude.{Some, None}
 use Rattle.tlv_head.specs.declared.fault.FaultCode.TheVariants.{Empty, Short}
@@ -14,25 +14,26 @@ use Rattle.tlv_cut.specs.IndefStep.{indef_event_text}
 use Rattle.tlv_cut.specs.IndefJob.{indef_framing}
 use Rattle.tlv_cut.specs.IndefReading.{with_offsets_from}
 
--- what is written of an input
+-- what is written for an input
 abbrev written : Bool → List ℕ → List ℕ
 written padding b = indef_text (reading (indef_framing padding) b)
 
 nothing : written false [] ≡ []
 nothing = refl
 
--- 30 03 02 01 05, and what is written of it
+-- 30 03 02 01 05, and what is written for it
 a-sequence : written false (0x30 ∷ 3 ∷ 2 ∷ 1 ∷ 5 ∷ []) ≡ 0x30 ∷ 0x80 ∷ 2 ∷ 1 ∷ 5 ∷ 0 ∷ 0 ∷ []
 a-sequence = refl
 
-its-second-reading : with_offsets_from 0 (with_indefinite_lengths (reading (indef_framing false) (0x30 ∷ 3 ∷ 2 ∷ 1 ∷ 5 ∷ [])))
+its-second-reading : with_offsets_from 0
+    (with_indefinite_lengths (reading (indef_framing false) (0x30 ∷ 3 ∷ 2 ∷ 1 ∷ 5 ∷ [])))
     ≡ reading (indef_framing false) (0x30 ∷ 0x80 ∷ 2 ∷ 1 ∷ 5 ∷ 0 ∷ 0 ∷ [])
 its-second-reading = refl
 
 written-again : written false (0x30 ∷ 0x80 ∷ 2 ∷ 1 ∷ 5 ∷ 0 ∷ 0 ∷ []) ≡ 0x30 ∷ 0x80 ∷ 2 ∷ 1 ∷ 5 ∷ 0 ∷ 0 ∷ []
 written-again = refl
 
--- 30 03 02 01: what is open has no end
+-- 30 03 02 01: no end-of-contents octets for an element that is open
 a-sequence-cut-off : written false (0x30 ∷ 3 ∷ 2 ∷ 1 ∷ []) ≡ 0x30 ∷ 0x80 ∷ 2 ∷ 1 ∷ []
 a-sequence-cut-off = refl
 
@@ -43,7 +44,7 @@ its-ending = refl
 a-header-refused : written false (0x30 ∷ 3 ∷ 2 ∷ 2 ∷ 1 ∷ []) ≡ 0x30 ∷ 0x80 ∷ []
 a-header-refused = refl
 
--- 30 80 00 01: nor is the first of the end-of-contents octets
+-- 30 80 00 01: nor is the first of the end-of-contents octets without the second
 a-lone-zero : written false (0x30 ∷ 0x80 ∷ 0 ∷ 1 ∷ []) ≡ 0x30 ∷ 0x80 ∷ []
 a-lone-zero = refl
 
@@ -72,12 +73,12 @@ padding-again : written true (0x30 ∷ 0x80 ∷ 0 ∷ 0 ∷ 0 ∷ 0x30 ∷ 0x80 
     ≡ 0x30 ∷ 0x80 ∷ 0 ∷ 0 ∷ 0 ∷ 0x30 ∷ 0x80 ∷ 5 ∷ 0 ∷ 0 ∷ 0 ∷ []
 padding-again = refl
 
--- 04 05 30 03 02 01 07, named: a wrapper is a primitive, whose header stays
+-- 04 05 30 03 02 01 07, read as a string that holds encodings: it is a primitive, whose header stays
 a-wrapper : indef_text (reading (record { inside = 0 ∷ []; padding = false }) (4 ∷ 5 ∷ 0x30 ∷ 3 ∷ 2 ∷ 1 ∷ 7 ∷ []))
     ≡ 4 ∷ 5 ∷ 0x30 ∷ 0x80 ∷ 2 ∷ 1 ∷ 7 ∷ 0 ∷ 0 ∷ []
 a-wrapper = refl
 
--- 03 04 00 30 00, named and cut off
+-- 03 04 00 30 00, the same with an octet too few
 an-open-wrapper : indef_text (reading (record { inside = 0 ∷ []; padding = false }) (3 ∷ 4 ∷ 0 ∷ 0x30 ∷ 0 ∷ []))
     ≡ 3 ∷ 4 ∷ 0 ∷ 0x30 ∷ 0x80 ∷ 0 ∷ 0 ∷ []
 an-open-wrapper = refl
@@ -86,9 +87,19 @@ an-open-wrapper = refl
 
 -- 04 02
 a-string : Heading
-a-string = record { offset = 0; named = true; class = Universal; constructed = false; number = 4; size = Definite 2; identifier = 4 ∷ []; lengths = 2 ∷ [] }
+a-string =
+    record {
+      offset = 0;
+      named = true;
+      class = Universal;
+      constructed = false;
+      number = 4;
+      size = Definite 2;
+      identifier = 4 ∷ [];
+      lengths = 2 ∷ [];
+    }
 
--- of a primitive the header stays, whatever tells it
+-- the header of a primitive stays, whichever event comes with it
 a-string-opened : indef_event_text (Open a-string) ≡ 4 ∷ 2 ∷ []
 unfolding a-string
 a-string-opened = refl

@@ -1,7 +1,8 @@
 -- The same elements with indefinite lengths keep all rules.
 use Rattle.std.specs.Option.{option_map_or}
 use Rattle.std.proofs.Common.{refl, sym, ap, ◌∙◌, subst}
-use Rattle.std.specs.Prelude.{◌≡◌, ℕ, ◌+◌, ◌<◌, ◌≤◌, Bool, true, false, ◌||◌, eqb, if◌then◌else◌, List, [], ◌∷◌, ◌++◌, length, Option, Some, None, IfSome}
+use Rattle.std.specs.Prelude.{◌≡◌, ℕ, ◌+◌, ◌<◌, ◌≤◌, Bool, true, false, ◌||◌, eqb, if◌then◌else◌, List, []}
+use Rattle.std.specs.Prelude.{◌∷◌, ◌++◌, length, Option, Some, None, IfSome}
 use Rattle.tlv_head.specs.declared.header.Size.{Size}
 use Rattle.tlv_head.specs.declared.header.Size.TheVariants.{Indefinite}
 use Rattle.tlv_head.specs.Header.{Heading, announced, definite_length, is_wrapper, octets_of}
@@ -14,11 +15,12 @@ use Rattle.tlv_cut.specs.IndefReading.{with_offsets_from}
 use Rattle.tlv_cut.proofs.IndefLemmas.Elements.{lead_by}
 use Rattle.tlv_cut.proofs.IndefLemmas.Offsets.{constructed_at, is_named, spell-with_offsets_from}
 
--- nothing is open, wherever the elements stand
+-- elements that have all ended have ended at any offset
 is_whole-with_offsets_from : (at : ℕ) (f : Forest) → is_whole (with_offsets_from at f) ≡ is_whole f
 is_whole-with_offsets_from at Stop = refl
 is_whole-with_offsets_from at (Fill rest) = is_whole-with_offsets_from (at + 1) rest
-is_whole-with_offsets_from at (Whole h c rest) = is_whole-with_offsets_from (at + (length (octets_of h) + length c)) rest
+is_whole-with_offsets_from at (Whole h c rest) =
+    is_whole-with_offsets_from (at + (length (octets_of h) + length c)) rest
 is_whole-with_offsets_from at (Closed h inside rest) = is_whole-with_offsets_from (at + extent h inside) rest
 is_whole-with_offsets_from at (Partial h c) = refl
 is_whole-with_offsets_from at (Entered h inside) = refl
@@ -26,7 +28,7 @@ is_whole-with_offsets_from at (Awaiting h) = refl
 is_whole-with_offsets_from at (Begun octets) = refl
 is_whole-with_offsets_from at Zero = refl
 
--- nor is it with indefinite lengths
+-- and with indefinite lengths
 closed_whole : (constructed : Bool) (h : Heading) (c : List ℕ) (inside rest : Forest) → is_whole rest ≡ true
     → is_whole (if constructed then Closed (indefinite_header h) inside rest else Whole h c rest) ≡ true
 closed_whole true h c inside rest e = e
@@ -36,34 +38,40 @@ is_whole-with_indefinite_lengths : (f : Forest) → is_whole f ≡ true → is_w
 is_whole-with_indefinite_lengths Stop e = refl
 is_whole-with_indefinite_lengths (Fill rest) e = is_whole-with_indefinite_lengths rest e
 is_whole-with_indefinite_lengths (Whole h c rest) e = is_whole-with_indefinite_lengths rest e
-is_whole-with_indefinite_lengths (Closed h inside rest) e = closed_whole h.constructed h _ (with_indefinite_lengths inside) (with_indefinite_lengths rest) (is_whole-with_indefinite_lengths rest e)
+is_whole-with_indefinite_lengths (Closed h inside rest) e =
+    closed_whole h.constructed h _ (with_indefinite_lengths inside) (with_indefinite_lengths rest)
+    (is_whole-with_indefinite_lengths rest e)
 is_whole-with_indefinite_lengths (Partial h c) e = absurd (cc)
 is_whole-with_indefinite_lengths (Entered h inside) e = absurd (cc)
 is_whole-with_indefinite_lengths (Awaiting h) e = absurd (cc)
 is_whole-with_indefinite_lengths (Begun octets) e = refl
 is_whole-with_indefinite_lengths Zero e = refl
 
-pub whole : (at : ℕ) (f : Forest) → is_whole f ≡ true → is_whole (with_offsets_from at (with_indefinite_lengths f)) ≡ true
+pub whole : (at : ℕ) (f : Forest) → is_whole f ≡ true
+    → is_whole (with_offsets_from at (with_indefinite_lengths f)) ≡ true
 whole at f e = is_whole-with_offsets_from at (with_indefinite_lengths f) ∙ is_whole-with_indefinite_lengths f e
 
--- an element is there
+-- where there is an element, there is one with indefinite lengths too
 closed_some : (constructed : Bool) (at : ℕ) (h : Heading) (c : List ℕ) (inside rest : Forest)
-    → has_element (with_offsets_from at (if constructed then Closed (indefinite_header h) inside rest else Whole h c rest)) ≡ true
+    → has_element (with_offsets_from at
+    (if constructed then Closed (indefinite_header h) inside rest else Whole h c rest)) ≡ true
 closed_some true at h c inside rest = refl
 closed_some false at h c inside rest = refl
 
-pub some : (at : ℕ) (f : Forest) → is_whole f ≡ true → has_element f ≡ true → has_element (with_offsets_from at (with_indefinite_lengths f)) ≡ true
+pub some : (at : ℕ) (f : Forest) → is_whole f ≡ true → has_element f ≡ true
+    → has_element (with_offsets_from at (with_indefinite_lengths f)) ≡ true
 some at Stop w e = e
 some at (Fill rest) w e = some (at + 1) rest w e
 some at (Whole h c rest) w e = refl
-some at (Closed h inside rest) w e = closed_some h.constructed at h _ (with_indefinite_lengths inside) (with_indefinite_lengths rest)
+some at (Closed h inside rest) w e =
+    closed_some h.constructed at h _ (with_indefinite_lengths inside) (with_indefinite_lengths rest)
 some at (Partial h c) w e = absurd (cc)
 some at (Entered h inside) w e = absurd (cc)
 some at (Awaiting h) w e = absurd (cc)
 some at (Begun octets) w e = absurd (cc)
 some at Zero w e = absurd (cc)
 
--- at `q` no bound holds, and else it is as at `p`, where no string is named
+-- the place `q` is as `p`, where no string is read as encodings, but for a bound: at `q` there is none
 pub record IsFree (p q : Place) : Type 0 where
   pub names : p.inside ≡ []
   pub same_names : q.inside ≡ []
@@ -76,20 +84,30 @@ free_fits : (p q : Place) → IsFree p q → (n : ℕ) → Fits q n
 free_fits p q k n = subst (λ (b : Option ℕ). IfSome b (λ b. q.at + n ≤ b)) (sym k.bound) tt
 
 free_after : (p q : Place) (m n : ℕ) → IsFree p q → IsFree (after p m) (after q n)
-free_after p q m n k = record { names = k.names; same_names = k.same_names; depth = k.depth; bound = k.bound; padding = k.padding; definite = k.definite }
+free_after p q m n k =
+    record {
+      names = k.names;
+      same_names = k.same_names;
+      depth = k.depth;
+      bound = k.bound;
+      padding = k.padding;
+      definite = k.definite;
+    }
 
 free_inside : (p q : Place) (h g : Heading) → g.size ≡ Indefinite → IsFree p q → IsFree (inside_of p h) (inside_of q g)
 free_inside p q h g e k = record {
   names = k.names;
   same_names = k.same_names;
   depth = ap (λ (d : ℕ). d + 1) k.depth;
-  bound = ap (λ (s : Size). option_map_or (λ n. Some (q.at + length (octets_of g) + n)) (definite_length s) q.bound) e ∙ k.bound;
+  bound = ap (λ (s : Size). option_map_or (λ n. Some (q.at + length (octets_of g) + n)) (definite_length s) q.bound) e
+      ∙ k.bound;
   padding = λ z. absurd (cc);
   definite = λ z. absurd (cc);
 }
 
--- the header of a primitive
-primitive_at : (p q : Place) (h : Heading) → IsFree p q → IsHeadAt p false h → IsHeadAt q false (record h { offset = q.at })
+-- the header of a primitive may be there
+primitive_at : (p q : Place) (h : Heading) → IsFree p q → IsHeadAt p false h
+    → IsHeadAt q false (record h { offset = q.at })
 primitive_at p q h k v = record {
   valid = record { identifier = v.valid.identifier; lengths = v.valid.lengths; allowed = v.valid.allowed };
   offset = refl;
@@ -97,7 +115,7 @@ primitive_at p q h k v = record {
   form = v.form;
 }
 
--- that of a constructed element
+-- the header of a constructed element, with an indefinite length, may be there
 abbrev heading_at : Place → Heading → Heading
 heading_at q h = record (indefinite_header h) { offset = q.at }
 
@@ -105,34 +123,45 @@ constructed_head : (p q : Place) (h : Heading) → IsFree p q → IsHeadAt p tru
 constructed_head p q h k v =
     let constructed = constructed_at p h k.names v in
     record {
-      valid = record { identifier = v.valid.identifier; lengths = refl; allowed = subst (λ (c : Bool). AllowsSize c Indefinite) (sym constructed) refl };
+      valid = record {
+        identifier = v.valid.identifier;
+        lengths = refl;
+        allowed = subst
+            (λ (c : Bool). AllowsSize c Indefinite) (sym constructed) refl;
+      };
       offset = refl;
       named = v.named ∙ is_named p.at p.inside k.names ∙ sym (is_named q.at q.inside k.same_names);
       form = ap (λ (c : Bool). c || is_wrapper h.named h.class c h.number Indefinite) constructed;
     }
 
--- what follows an element does not stand elsewhere for the offsets of what the element holds
-follows : (q : Place) (h : Heading) (at : ℕ) (inside rest : Forest) → IsOpen (after q (extent (heading_at q h) inside)) rest
+-- the offsets of what an element holds do not move what follows the element
+follows : (q : Place) (h : Heading) (at : ℕ) (inside rest : Forest)
+    → IsOpen (after q (extent (heading_at q h) inside)) rest
     → IsOpen (after q (extent (heading_at q h) (with_offsets_from at inside))) rest
 follows q h at inside rest v =
-    subst (λ (l : List ℕ). IsOpen (after q (length (opening (heading_at q h)) + (length l + 2))) rest) (sym (spell-with_offsets_from at inside)) v
+    subst (λ (l : List ℕ). IsOpen (after q (length (opening (heading_at q h)) + (length l + 2))) rest)
+    (sym (spell-with_offsets_from at inside)) v
 
--- where a constructed element is open, it is with an indefinite length
+-- what `with_indefinite_lengths` makes of a constructed element keeps the rules that it keeps with an indefinite length
 made_closed : (q : Place) (h : Heading) (inside rest : Forest) → h.constructed ≡ true
-    → IsOpen q (with_offsets_from q.at (Closed (indefinite_header h) (with_indefinite_lengths inside) (with_indefinite_lengths rest))) → IsOpen q (with_offsets_from q.at (with_indefinite_lengths (Closed h inside rest)))
+    → IsOpen q (with_offsets_from q.at
+    (Closed (indefinite_header h) (with_indefinite_lengths inside) (with_indefinite_lengths rest)))
+    → IsOpen q (with_offsets_from q.at (with_indefinite_lengths (Closed h inside rest)))
 made_closed q h inside rest e v =
     let one = Closed (indefinite_header h) (with_indefinite_lengths inside) (with_indefinite_lengths rest) in
     let other = Whole h (lead h ++ spell (with_indefinite_lengths inside)) (with_indefinite_lengths rest) in
     subst (λ (k : Bool). IsOpen q (with_offsets_from q.at (if k then one else other))) (sym e) v
 
 made_entered : (q : Place) (h : Heading) (inside : Forest) → h.constructed ≡ true
-    → IsOpen q (with_offsets_from q.at (Entered (indefinite_header h) (with_indefinite_lengths inside))) → IsOpen q (with_offsets_from q.at (with_indefinite_lengths (Entered h inside)))
+    → IsOpen q (with_offsets_from q.at (Entered (indefinite_header h) (with_indefinite_lengths inside)))
+    → IsOpen q (with_offsets_from q.at (with_indefinite_lengths (Entered h inside)))
 made_entered q h inside e v =
     let one = Entered (indefinite_header h) (with_indefinite_lengths inside) in
     let other = Partial h (lead h ++ spell (with_indefinite_lengths inside)) in
     subst (λ (k : Bool). IsOpen q (with_offsets_from q.at (if k then one else other))) (sym e) v
 
-pub is_open : (p q : Place) (f : Forest) → IsFree p q → IsOpen p f → IsOpen q (with_offsets_from q.at (with_indefinite_lengths f))
+pub is_open : (p q : Place) (f : Forest) → IsFree p q → IsOpen p f
+    → IsOpen q (with_offsets_from q.at (with_indefinite_lengths f))
 is_open p q Stop k v = tt
 is_open p q (Fill rest) k v = (
   (k.padding v.0.0, k.definite v.0.0, free_fits p q k 1),
@@ -140,7 +169,15 @@ is_open p q (Fill rest) k v = (
 )
 is_open p q (Whole h c rest) k v =
     let n = length (octets_of h) + length c in (
-      (record { header = primitive_at p q h k v.0.0.header; depth = λ e. absurd (cc (e)); fits = free_fits p q k n }, v.0.1),
+      (
+        record {
+          header = primitive_at p q h k v.0.0.header;
+          depth = λ e. absurd
+              (cc (e));
+          fits = free_fits p q k n;
+        },
+        v.0.1,
+      ),
       is_open (after p n) (after q n) rest (free_after p q n n k) v.1,
     )
 is_open p q (Closed h inside rest) k v =
@@ -162,7 +199,12 @@ is_open p q (Closed h inside rest) k v =
           (is_open (after p (extent h inside)) (after q n) rest (free_after p q (extent h inside) n k) v.2),
     )
 is_open p q (Partial h c) k v = (
-  record { header = primitive_at p q h k v.0.header; depth = λ e. absurd (cc (e)); fits = free_fits p q k (length (octets_of h) + announced h.size) },
+  record {
+    header = primitive_at p q h k v.0.header;
+    depth = λ e. absurd (cc (e));
+    fits = free_fits p q k
+        (length (octets_of h) + announced h.size);
+  },
   v.1,
 )
 is_open p q (Entered h inside) k v =

@@ -9,4 +9,6 @@ returns-in_err-run g c =
     (extract_err _ _ _ _ _ _ _ _ c.in_err-run.field-0.0 (rw c.new-follower.ensures at c.in_err-run.ensures))
 
 pub returns : goal.returns
-returns g c = extract_ok _ _ _ _ _ _ _ _ c.in_ok-run.run' _ refl c.found.ensures (rw c.new-follower.ensures at c.in_ok-run.ensures)
+returns g c =
+    extract_ok _ _ _ _ _ _ _ _ c.in_ok-run.run' _ refl c.found.ensures
+    (rw c.new-follower.ensures at c.in_ok-run.ensures)

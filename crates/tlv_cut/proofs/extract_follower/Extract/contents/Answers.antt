@@ -7,5 +7,8 @@ use Rattle.tlv_cut.proofs.extract_follower.Extract.contents.Goals as goal
 
 pub returns-clause-state : goal.returns-clause-state
 returns-clause-state g c =
-    let all = all_contents c.args.self.now c.args.octets.now in
-    (sym (ap (λ (t : Following ExtractState). t.state) all), sym (each_octet-goes_on octet_step c.args.self.now c.args.octets.now))
+    let all = all_contents c.args.self.now c.args.octets.now in (
+      sym (ap (λ (t : Following ExtractState). t.state) all),
+      sym
+          (each_octet-goes_on octet_step c.args.self.now c.args.octets.now),
+    )
