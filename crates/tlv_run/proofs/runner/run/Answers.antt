@@ -14,7 +14,8 @@ pub returns-in-Check : goal.returns-in-Check
 returns-in-Check g c = rw c.in-Check.is (said_runs said_of_outcome (checking _ _) c.check.ensures c.shown_report-in-Check.ensures)
 
 pub returns-in-Extract : goal.returns-in-Extract
-returns-in-Extract g c = rw c.in-Extract.is (said_runs (said_of_cut _) (extract_job _ _ _) c.extract.ensures c.cut_report.ensures)
+returns-in-Extract g c =
+    rw c.in-Extract.is (said_runs (said_of_cut _) (extract_job _ _ _) c.extract.ensures c.cut_report.ensures)
 
 pub returns-in-Indef : goal.returns-in-Indef
 returns-in-Indef g c = rw c.in-Indef.is (said_runs said_of_indef (indef_job _) c.indef.ensures c.indef_report.ensures)
