@@ -5,7 +5,7 @@ use Rattle.tlv_walk.specs.Job.{Job}
 use Rattle.tlv_cut.specs.declared.extract_call.Cut.{Cut}
 use Rattle.tlv_cut.specs.ExtractText.{extract_text, has_element_at, has_whole_element_at}
 
--- write the element at the offset n, or its contents alone. Nothing more is wanted once it has ended
+-- write the element at the offset n, or its contents alone. After its end nothing more is wanted
 abbrev pub extract_job : Framing → ℕ → Bool → Job Cut
 extract_job framing n contents_only = record {
   framing = framing;

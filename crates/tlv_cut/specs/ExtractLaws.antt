@@ -7,6 +7,7 @@ use Rattle.tlv_walk.specs.Events.{Told, End, Close, Leave, events}
 use Rattle.tlv_walk.specs.Follow.{Following, followed, goes_of}
 use Rattle.tlv_walk.specs.Forest.{Forest, end_octets}
 use Rattle.tlv_walk.specs.Reading.{IsPrefixOf, IsReading}
+use Rattle.tlv_cut.specs.LongerInputs.{ForLongerInputs}
 use Rattle.tlv_cut.specs.ExtractText.{extract_text, has_element_at, has_whole_element_at}
 use Rattle.tlv_cut.specs.ExtractStep.{ExtractState, extract_step, has_found, new_extract}
 
@@ -30,18 +31,15 @@ abbrev pub ExtractTextIsInTheInput : Type 0
 ExtractTextIsInTheInput = (framing : Framing) (b : List ℕ) (f : Forest) → IsReading framing b f
     → (n : ℕ) → has_element_at n f ≡ true → IsInInput b n f
 
--- what is written of an input is a front of what is written of a longer one
+-- what is written for an input is a front of what is written for a longer one
 abbrev pub ExtractTextGoesOn : Type 0
-ExtractTextGoesOn = (framing : Framing) (b c : List ℕ) (f g : Forest)
-    → IsReading framing b f → IsReading framing (b ++ c) g
-    → (n : ℕ) (contents_only : Bool)
-    → IsPrefixOf (extract_text n contents_only f) (extract_text n contents_only g)
+ExtractTextGoesOn = ForLongerInputs (λ f g. (n : ℕ) (contents_only : Bool)
+    → IsPrefixOf (extract_text n contents_only f) (extract_text n contents_only g))
 
 -- an element that is found is found whatever follows
 abbrev pub FoundElementsStay : Type 0
-FoundElementsStay = (framing : Framing) (b c : List ℕ) (f g : Forest)
-    → IsReading framing b f → IsReading framing (b ++ c) g
-    → (n : ℕ) → has_element_at n f ≡ true → has_element_at n g ≡ true
+FoundElementsStay = ForLongerInputs (λ f g. (n : ℕ)
+    → has_element_at n f ≡ true → has_element_at n g ≡ true)
 
 -- of the element at the offset n the same is found and written in both
 pub record AreExtractedAlike (n : ℕ) (f g : Forest) : Type 0 where
@@ -52,22 +50,23 @@ pub record AreExtractedAlike (n : ℕ) (f g : Forest) : Type 0 where
 
 -- if an element is whole, nothing that follows changes what is found and written of it
 abbrev pub WholeElementsStay : Type 0
-WholeElementsStay = (framing : Framing) (b c : List ℕ) (f g : Forest)
-    → IsReading framing b f → IsReading framing (b ++ c) g
-    → (n : ℕ) → has_whole_element_at n f ≡ true → AreExtractedAlike n f g
+WholeElementsStay = ForLongerInputs (λ f g. (n : ℕ)
+    → has_whole_element_at n f ≡ true → AreExtractedAlike n f g)
 
 -- what was put is what `extract` writes. It was enough if the element is whole, and the element was
 -- found if it is there
-pub record MakesExtract (n : ℕ) (only : Bool) (f : Forest) (x : Following ExtractState) : Type 0 where
-  pub put : x.put ≡ extract_text n only f
+pub record MakesExtract (n : ℕ) (contents_only : Bool) (f : Forest) (x : Following ExtractState)
+    : Type 0 where
+  pub put : x.put ≡ extract_text n contents_only f
   pub goes : x.goes ≡ goes_of (has_whole_element_at n f)
   pub found : has_found x.state ≡ has_element_at n f
 
 -- an `Extract` makes that of the events of a reading
 abbrev pub ExtractMakesItsText : Type 0
 ExtractMakesItsText = (framing : Framing) (b : List ℕ) (f : Forest) → IsReading framing b f
-    → (n : ℕ) (only : Bool)
-    → MakesExtract n only f (followed extract_step (new_extract n only) (events f))
+    → (n : ℕ) (contents_only : Bool)
+    → MakesExtract n contents_only f
+    (followed extract_step (new_extract n contents_only) (events f))
 
 -- an element ends
 abbrev pub is_end_event : Told → Bool

@@ -1,14 +1,14 @@
 -- Laws of what `indef` writes.
-use Rattle.std.specs.Prelude.{◌≡◌, ℕ, Bool, List, ◌++◌}
+use Rattle.std.specs.Prelude.{◌≡◌, ℕ, Bool, List}
 use Rattle.tlv_walk.specs.declared.ending.Ending.TheVariants.{Done}
 use Rattle.tlv_walk.specs.declared.follow.Go.TheVariants.{On}
-use Rattle.tlv_walk.specs.declared.framing.Framing.{Framing}
 use Rattle.tlv_walk.specs.Ending.{IsEnding}
 use Rattle.tlv_walk.specs.Events.{events}
 use Rattle.tlv_walk.specs.Follow.{followed}
 use Rattle.tlv_walk.specs.Forest.{Forest, spell}
 use Rattle.tlv_walk.specs.Place.{IsOpen, top}
 use Rattle.tlv_walk.specs.Reading.{IsPrefixOf, IsReading}
+use Rattle.tlv_cut.specs.LongerInputs.{ForLongerInputs}
 use Rattle.tlv_cut.specs.IndefText.{indef_text}
 use Rattle.tlv_cut.specs.IndefStep.{IndefState, indef_step}
 use Rattle.tlv_cut.specs.IndefJob.{indef_framing}
@@ -19,11 +19,9 @@ abbrev pub IndefMakesItsText : Type 0
 IndefMakesItsText = (s : IndefState) (f : Forest)
     → followed indef_step s (events f) ≡ record { state = s; put = indef_text f; goes = On }
 
--- what is written of an input is a front of what is written of a longer one
+-- what is written for an input is a front of what is written for a longer one
 abbrev pub IndefTextGoesOn : Type 0
-IndefTextGoesOn = (framing : Framing) (b c : List ℕ) (f g : Forest)
-    → IsReading framing b f → IsReading framing (b ++ c) g
-    → IsPrefixOf (indef_text f) (indef_text g)
+IndefTextGoesOn = ForLongerInputs (λ f g. IsPrefixOf (indef_text f) (indef_text g))
 
 -- what is written are the octets of elements that keep all rules
 abbrev pub IndefTextKeepsRules : Type 0
@@ -33,11 +31,13 @@ IndefTextKeepsRules = (padding : Bool) (f : Forest) → IsOpen (top (indef_frami
 
 -- what is written is read as those elements, and of these the same octets are written again
 abbrev pub IndefTextIsReadBack : Type 0
-IndefTextIsReadBack = (padding : Bool) (b : List ℕ) (f : Forest) → IsReading (indef_framing padding) b f
+IndefTextIsReadBack = (padding : Bool) (b : List ℕ) (f : Forest)
+    → IsReading (indef_framing padding) b f
     → IsReading (indef_framing padding) (indef_text f) (indef_reading f)
     × (indef_text (indef_reading f) ≡ indef_text f)
 
--- if an input ends without a fault, so does what is written of it
+-- if an input ends without a fault, so does what is written for it
 abbrev pub IndefTextIsDone : Type 0
-IndefTextIsDone = (padding : Bool) (b : List ℕ) (f : Forest) → IsReading (indef_framing padding) b f
+IndefTextIsDone = (padding : Bool) (b : List ℕ) (f : Forest)
+    → IsReading (indef_framing padding) b f
     → IsEnding (indef_framing padding) b Done → IsEnding (indef_framing padding) (indef_text f) Done

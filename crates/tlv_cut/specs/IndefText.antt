@@ -11,21 +11,21 @@ indefinite_header h = record h { size = Indefinite; lengths = 128 ∷ [] }
 
 -- the same elements, each constructed one with an indefinite length. The octets of an unfinished
 -- header are left out, and so is the first of the end-of-contents octets without the second.
--- A string that holds encodings is a primitive: its header stays as it is, and what it holds are its
+-- A string that holds encodings is a primitive: its header stays as it is, and what it holds is its
 -- contents octets
 abbrev pub with_indefinite_lengths : Forest → Forest
 with_indefinite_lengths (Fill rest) = Fill (with_indefinite_lengths rest)
 with_indefinite_lengths (Whole h c rest) = Whole h c (with_indefinite_lengths rest)
 with_indefinite_lengths (Closed h inside rest) =
-    let held = with_indefinite_lengths inside in
+    let inner = with_indefinite_lengths inside in
     let others = with_indefinite_lengths rest in
-    if h.constructed then Closed (indefinite_header h) held others
-    else Whole h (lead h ++ spell held) others
+    if h.constructed then Closed (indefinite_header h) inner others
+    else Whole h (lead h ++ spell inner) others
 with_indefinite_lengths (Partial h c) = Partial h c
 with_indefinite_lengths (Entered h inside) =
-    let held = with_indefinite_lengths inside in
-    if h.constructed then Entered (indefinite_header h) held
-    else Partial h (lead h ++ spell held)
+    let inner = with_indefinite_lengths inside in
+    if h.constructed then Entered (indefinite_header h) inner
+    else Partial h (lead h ++ spell inner)
 with_indefinite_lengths (Awaiting h) = Awaiting h
 with_indefinite_lengths _ = Stop
 

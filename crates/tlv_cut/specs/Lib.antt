@@ -1,3 +1,4 @@
+pub mod LongerInputs
 pub mod ExtractText
 pub mod ExtractStep
 pub mod ExtractJob

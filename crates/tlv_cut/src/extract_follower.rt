@@ -166,12 +166,13 @@ impl Follow for Extract {
         out: &mut Out<'_, D>,
     ) -> Result<bool, WriteFault> {
         match self.position {
+            // The element wanted is left to `on`, which has enough at its end.
             Position::Before => Ok(header.offset != self.offset),
             Position::Inside(level) if level < 255 => {
                 out.put(octets)?;
                 Ok(true)
             }
-            // At 255 the count would not go up and down again, so `on` gets the events one by one.
+            // At 255 the count would not go up before it goes down, so this is left to `on` too.
             Position::Inside(_) => Ok(false),
             Position::After => Ok(true),
         }
