@@ -1,2 +1,3 @@
+pub mod Lead
 pub mod ExtractLemmas
 pub mod IndefLemmas

@@ -17,8 +17,8 @@ use Rattle.tlv_cut.specs.ExtractText.{element_at, element_text, octets_so_far}
 use Rattle.tlv_cut.specs.ExtractStep.{ExtractState, begin_step, extract_step, has_found, new_extract, outer_octets}
 use Rattle.tlv_cut.proofs.ExtractLemmas.Contents.{put_step}
 use Rattle.tlv_cut.proofs.ExtractLemmas.Inside.{made_from, IsPassedOn, whole_inside_passed_on}
-use Rattle.tlv_cut.proofs.ExtractLemmas.Inside.{followed-begins, events-closed, followed-closes, state_inside}
-use Rattle.tlv_cut.proofs.ExtractLemmas.Inside.{followed-opens, then_more, passed_on}
+use Rattle.tlv_cut.proofs.ExtractLemmas.Inside.{made_from-begins, events-closed, made_from-closes, state_inside}
+use Rattle.tlv_cut.proofs.ExtractLemmas.Inside.{made_from-opens, then_more, passed_on}
 
 module _ (n : ℕ) (only : Bool) where
   -- an `Extract` before its element, and after it
@@ -96,36 +96,36 @@ module _ (n : ℕ) (only : Bool) where
   other_begins h e = ap (begins h) e
 
   -- the element wanted, from its header to its end
-  followed-whole : (h : Heading) (c : List ℕ) → (h.offset == n) ≡ true
+  made_from-whole : (h : Heading) (c : List ℕ) → (h.offset == n) ≡ true
       → made_from before (Begin h ∷ Bytes c ∷ End ∷ [])
       ≡ finish_step ((outer_octets only (octets_of h) ++ c) ++ outer_octets only [])
-  followed-whole h c e =
+  made_from-whole h c e =
       then_more before (state_inside n only 0) (outer_octets only (octets_of h) ++ c) (Begin h ∷ Bytes c ∷ [])
       (End ∷ [])
-      (followed-begins before (state_inside n only 0) (outer_octets only (octets_of h)) h c (wanted_begins h e))
+      (made_from-begins before (state_inside n only 0) (outer_octets only (octets_of h)) h c (wanted_begins h e))
 
   opens_wanted : (h : Heading) → (h.offset == n) ≡ true
       → made_from before (opens h) ≡ put_step (state_inside n only 0) (outer_octets only (octets_of h) ++ lead h)
   opens_wanted h e =
-      followed-opens before (state_inside n only 0) (outer_octets only (octets_of h)) h (wanted_begins h e)
+      made_from-opens before (state_inside n only 0) (outer_octets only (octets_of h)) h (wanted_begins h e)
 
   opens_other : (h : Heading) (es : List Told) → (h.offset == n) ≡ false
       → made_from before (opens h ++ es) ≡ made_from before es
-  opens_other h es e = then_more before before [] (opens h) es (followed-opens before before [] h (other_begins h e))
+  opens_other h es e = then_more before before [] (opens h) es (made_from-opens before before [] h (other_begins h e))
 
-  followed-closed : (h : Heading) (inside : Forest) → (h.offset == n) ≡ true → AllowsSize h.constructed h.size
+  made_from-closed : (h : Heading) (inside : Forest) → (h.offset == n) ≡ true → AllowsSize h.constructed h.size
       → is_whole inside ≡ true → IsPassedOn n only 0 inside
       → made_from before (opens h ++ (events inside ++ closes h inside ∷ []))
       ≡ finish_step ((outer_octets only (octets_of h) ++ lead h) ++
       (octets_so_far inside ++ outer_octets only (end_octets h.size)))
-  followed-closed h inside e allowed whole k =
+  made_from-closed h inside e allowed whole k =
       then_more before (state_inside n only 0) (outer_octets only (octets_of h) ++ lead h) (opens h)
       (events inside ++ closes h inside ∷ []) (opens_wanted h e)
       ∙ ap (λ (t : Following ExtractState). record t { put = (outer_octets only (octets_of h) ++ lead h) ++ t.put })
       (then_more (state_inside n only 0) (state_inside n only 0) (octets_so_far inside) (events inside)
       (closes h inside ∷ []) (whole_inside_passed_on n only 0 inside whole k)
       ∙ ap (λ (t : Following ExtractState). record t { put = octets_so_far inside ++ t.put })
-      (followed-closes (state_inside n only 0) h inside allowed))
+      (made_from-closes (state_inside n only 0) h inside allowed))
 
   -- ---- what is put
 
@@ -231,7 +231,7 @@ module _ (n : ℕ) (only : Bool) where
       (λ none.
       let same = opened ∙ then_more before before [] (events inside) (closes h inside ∷ events rest) (i.misses none)
       ∙ then_more before before [] (closes h inside ∷ []) (events rest)
-      (followed-closes before h inside v.0.0.header.valid.allowed) in
+      (made_from-closes before h inside v.0.0.header.valid.allowed) in
       subst (IsTextOf (element_at n rest)) (sym same) r)
 
   -- what is made of the events of elements is the text of the element at the offset
@@ -242,10 +242,10 @@ module _ (n : ℕ) (only : Bool) where
   makes_text p (Whole h c rest) v deep =
       let es = Begin h ∷ Bytes c ∷ End ∷ [] in
       choose (h.offset == n) (Some (Whole h c Stop)) (element_at n rest) (made_from before (es ++ events rest))
-      (λ e. whole_text (Whole h c Stop) _ _ refl (whole_octets h c) (enough es (events rest) _ (followed-whole h c e)))
+      (λ e. whole_text (Whole h c Stop) _ _ refl (whole_octets h c) (enough es (events rest) _ (made_from-whole h c e)))
       (λ e. subst (IsTextOf (element_at n rest))
       (sym (then_more before before [] (Begin h ∷ Bytes c ∷ []) (End ∷ events rest)
-      (followed-begins before before [] h c (other_begins h e))))
+      (made_from-begins before before [] h c (other_begins h e))))
       (makes_text (after p _) rest v.1 deep))
   makes_text p (Closed h inside rest) v deep =
       let es = opens h ++ (events inside ++ closes h inside ∷ []) in
@@ -253,7 +253,7 @@ module _ (n : ℕ) (only : Bool) where
       (made_from before (events (Closed h inside rest)))
       (λ e.
       let k = passed_on n only (inside_of p h) 0 inside v.1 (omega arith) (omega (arith, (v.0.0.depth refl))) in
-      let all = enough es (events rest) _ (followed-closed h inside e v.0.0.header.valid.allowed v.0.1 k) in
+      let all = enough es (events rest) _ (made_from-closed h inside e v.0.0.header.valid.allowed v.0.1 k) in
       whole_text (Closed h inside Stop) _ _ refl (closed_octets h inside)
       (ap (made_from before) (events-closed h inside rest) ∙ all))
       (λ e. passed_by p h inside rest v e (makes_text (inside_of p h) inside v.1 (omega (arith, (v.0.0.depth refl))))
@@ -263,11 +263,11 @@ module _ (n : ℕ) (only : Bool) where
       choose (h.offset == n) (Some (Partial h c)) None (made_from before es)
       (λ e.
       let all =
-      followed-begins before (state_inside n only 0) (outer_octets only (octets_of h)) h c (wanted_begins h e) in
+      made_from-begins before (state_inside n only 0) (outer_octets only (octets_of h)) h c (wanted_begins h e) in
       open_text (Partial h c) _ refl (ap (λ (t : Following ExtractState). t.put) all ∙ partial_octets h c)
       (ap (λ (t : Following ExtractState). t.goes) all)
       (ap (λ (t : Following ExtractState). has_found t.state) all))
-      (λ e. missed _ (followed-begins before before [] h c (other_begins h e)))
+      (λ e. missed _ (made_from-begins before before [] h c (other_begins h e)))
   makes_text p (Entered h inside) v deep =
       choose (h.offset == n) (Some (Entered h inside)) (element_at n inside)
       (made_from before (opens h ++ events inside))

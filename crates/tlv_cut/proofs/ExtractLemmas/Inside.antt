@@ -17,6 +17,7 @@ use Rattle.tlv_walk.proofs.Followed.{followed-more, followed-one}
 use Rattle.tlv_cut.specs.declared.extract_follower.Position.TheVariants as position
 use Rattle.tlv_cut.specs.ExtractText.{octets_so_far}
 use Rattle.tlv_cut.specs.ExtractStep.{ExtractState, begin_step, end_step, extract_step, has_found, wanted_octets}
+use Rattle.tlv_cut.proofs.Lead.{lead_by}
 use Rattle.tlv_cut.proofs.ExtractLemmas.Contents.{all_contents, wanted_octets-none, put_step}
 
 -- what an `Extract` makes of these events
@@ -33,17 +34,14 @@ then_more s t put xs ys e =
     ∙ ap (λ (k : Following ExtractState). and_then k (λ u. made_from u ys)) e
 
 -- a primitive begins, and gives contents octets
-pub followed-begins : (s t : ExtractState) (put : List ℕ) (h : Heading) (c : List ℕ) → begin_step s h ≡ put_step t put
+pub made_from-begins : (s t : ExtractState) (put : List ℕ) (h : Heading) (c : List ℕ) → begin_step s h ≡ put_step t put
     → made_from s (Begin h ∷ Bytes c ∷ []) ≡ put_step t (put ++ wanted_octets t.position c)
-followed-begins s t put h c e =
+made_from-begins s t put h c e =
     ap (λ (k : Following ExtractState). if_on k.goes k (λ u. made_from u (Bytes c ∷ []))) e
     ∙ ap (λ (k : Following ExtractState). and_then (put_step t put) (λ u. k))
     (followed-one extract_step t (Bytes c) ∙ all_contents t c)
 
--- an element that holds others begins: `lead`, by what it depends on
-abbrev lead_by : Bool → Bool → List ℕ
-lead_by k three = if k then [] else (if three then 0 ∷ [] else [])
-
+-- an element that holds others begins
 opens_by : (k three : Bool) (s t : ExtractState) (put : List ℕ) (h : Heading) → begin_step s h ≡ put_step t put
     → made_from s ((if k then Open h else Enter h) ∷ map (λ z. Unused) (lead_by k three))
     ≡ put_step t (put ++ wanted_octets t.position (lead_by k three))
@@ -57,9 +55,9 @@ opens_by false false s t put h e =
     followed-one extract_step s (Enter h) ∙ e
     ∙ ap (put_step t) (sym (append-nil put) ∙ ap (λ (l : List ℕ). put ++ l) (wanted_octets-none t.position))
 
-pub followed-opens : (s t : ExtractState) (put : List ℕ) (h : Heading) → begin_step s h ≡ put_step t put
+pub made_from-opens : (s t : ExtractState) (put : List ℕ) (h : Heading) → begin_step s h ≡ put_step t put
     → made_from s (opens h) ≡ put_step t (put ++ wanted_octets t.position (lead h))
-followed-opens s t put h e = opens_by h.constructed (eqb h.number 3) s t put h e
+made_from-opens s t put h e = opens_by h.constructed (eqb h.number 3) s t put h e
 
 -- it ends
 closes_by : (k : Bool) (size : Size) (s : ExtractState) (o : ℕ) → AllowsSize k size
@@ -69,9 +67,9 @@ closes_by true Indefinite s o allowed = refl
 closes_by false (Definite n) s o allowed = refl
 closes_by false Indefinite s o allowed = absurd (cc (allowed))
 
-pub followed-closes : (s : ExtractState) (h : Heading) (inside : Forest) → AllowsSize h.constructed h.size
+pub made_from-closes : (s : ExtractState) (h : Heading) (inside : Forest) → AllowsSize h.constructed h.size
     → made_from s (closes h inside ∷ []) ≡ end_step s (end_octets h.size)
-followed-closes s h inside allowed =
+made_from-closes s h inside allowed =
     followed-one extract_step s (closes h inside) ∙ closes_by h.constructed h.size s _ allowed
 
 -- the events of an element that has ended, and of what follows it
@@ -98,9 +96,8 @@ module _ (n : ℕ) (only : Bool) where
   pub whole_inside_passed_on : (level : ℕ) (f : Forest) → is_whole f ≡ true → IsPassedOn level f
       → made_from (state_inside level) (events f) ≡ put_step (state_inside level) (octets_so_far f)
   whole_inside_passed_on level f whole k =
-      ap₂ (λ (s : ExtractState)
-      (l : List ℕ). record { state = s; put = l; goes = (made_from (state_inside level) (events f)).goes })
-      (k.stays whole) k.put
+      let goes = (made_from (state_inside level) (events f)).goes in
+      ap₂ (λ (s : ExtractState) (l : List ℕ). record { state = s; put = l; goes = goes }) (k.stays whole) k.put
       ∙ ap (λ (g : Go). record { state = state_inside level; put = octets_so_far f; goes = g }) k.goes
 
   -- elements after those whose octets are put
@@ -129,7 +126,7 @@ module _ (n : ℕ) (only : Bool) where
       → made_from (state_inside level) (Begin h ∷ Bytes c ∷ End ∷ []) ≡ put_step (state_inside level) (octets_of h ++ c)
   primitive_passed_on level h c low =
       then_more (state_inside level) (state_inside (suc level)) (octets_of h ++ c) (Begin h ∷ Bytes c ∷ []) (End ∷ [])
-      (followed-begins (state_inside level) (state_inside (suc level)) (octets_of h) h c (one_more level h low))
+      (made_from-begins (state_inside level) (state_inside (suc level)) (octets_of h) h c (one_more level h low))
       ∙ ap (put_step (state_inside level)) (append-nil (octets_of h ++ c))
 
   closed_passed_on : (level : ℕ) (h : Heading) (inside : Forest) → level ≤ 128 → AllowsSize h.constructed h.size
@@ -139,13 +136,13 @@ module _ (n : ℕ) (only : Bool) where
   closed_passed_on level h inside low allowed whole k =
       then_more (state_inside level) (state_inside (suc level)) (opening h) (opens h)
       (events inside ++ closes h inside ∷ [])
-      (followed-opens (state_inside level) (state_inside (suc level)) (octets_of h) h
+      (made_from-opens (state_inside level) (state_inside (suc level)) (octets_of h) h
       (one_more level h (omega (arith, low))))
       ∙ ap (λ (t : Following ExtractState). record t { put = opening h ++ t.put })
       (then_more (state_inside (suc level)) (state_inside (suc level)) (octets_so_far inside) (events inside)
       (closes h inside ∷ []) (whole_inside_passed_on (suc level) inside whole k)
       ∙ ap (λ (t : Following ExtractState). record t { put = octets_so_far inside ++ t.put })
-      (followed-closes (state_inside (suc level)) h inside allowed))
+      (made_from-closes (state_inside (suc level)) h inside allowed))
 
   -- the octets of all that the element wanted holds are put
   pub passed_on : (p : Place) (level : ℕ) (f : Forest) → IsOpen p f → level ≤ p.depth → p.depth ≤ 128
@@ -171,7 +168,7 @@ module _ (n : ℕ) (only : Bool) where
       (passed_on (after p (extent h inside)) level rest v.2 low deep)
   passed_on p level (Partial h c) v low deep =
       let all =
-      followed-begins (state_inside level) (state_inside (suc level)) (octets_of h) h c
+      made_from-begins (state_inside level) (state_inside (suc level)) (octets_of h) h c
       (one_more level h (omega (arith, low, deep))) in
       record {
         put = ap (λ (t : Following ExtractState). t.put) all;
@@ -183,7 +180,7 @@ module _ (n : ℕ) (only : Bool) where
       let i : IsPassedOn (suc level) inside =
       passed_on (inside_of p h) (suc level) inside v.1 (omega (arith, low)) (omega (arith, (v.0.0.depth refl))) in
       let all = then_more (state_inside level) (state_inside (suc level)) (opening h) (opens h) (events inside)
-      (followed-opens (state_inside level) (state_inside (suc level)) (octets_of h) h
+      (made_from-opens (state_inside level) (state_inside (suc level)) (octets_of h) h
       (one_more level h (omega (arith, low, deep)))) in
       record {
         put = ap (λ (t : Following ExtractState). t.put) all ∙ ap (λ (l : List ℕ). opening h ++ l) i.put;

@@ -68,19 +68,19 @@ if_on-found : (g : Go) (t : Following ExtractState) (f : ExtractState → Follow
 if_on-found go.On t f b d = d
 if_on-found go.Enough t f b d = b
 
-followed-found : (s : ExtractState) (es : List Told) → has_found s ≡ true → has_found (made_from s es).state ≡ true
-followed-found s [] b = b
-followed-found s (e ∷ es) b =
+made_from-found : (s : ExtractState) (es : List Told) → has_found s ≡ true → has_found (made_from s es).state ≡ true
+made_from-found s [] b = b
+made_from-found s (e ∷ es) b =
     let t = extract_step s e in
     if_on-found t.goes t (λ u. made_from u es) (extract_step-found s e b)
-    (followed-found t.state es (extract_step-found s e b))
+    (made_from-found t.state es (extract_step-found s e b))
 
-followed-found_more : (s : ExtractState) (es fs : List Told) → has_found (made_from s es).state ≡ true
+made_from-found_more : (s : ExtractState) (es fs : List Told) → has_found (made_from s es).state ≡ true
     → has_found (made_from s (es ++ fs)).state ≡ true
-followed-found_more s es fs b =
+made_from-found_more s es fs b =
     let t = made_from s es in
     ap (λ (t : Following ExtractState). has_found t.state) (followed-append extract_step s es fs)
-    ∙ if_on-found t.goes t (λ u. made_from u fs) b (followed-found t.state fs b)
+    ∙ if_on-found t.goes t (λ u. made_from u fs) b (made_from-found t.state fs b)
 
 -- ---- inputs
 
@@ -114,7 +114,7 @@ module _ (framing : Framing) (b c : List ℕ) (f g : Forest) (r : IsReading fram
   pub found_elements_stay : has_element_at n f ≡ true → has_element_at n g ≡ true
   found_elements_stay e =
       sym long_text.found ∙ ap (λ (t : Following ExtractState). has_found t.state) longer
-      ∙ followed-found_more (new_extract n only) (events f) others.0 (short_text.found ∙ e)
+      ∙ made_from-found_more (new_extract n only) (events f) others.0 (short_text.found ∙ e)
 
   same : has_whole_element_at n f ≡ true
       → made_from (new_extract n only) (events g) ≡ made_from (new_extract n only) (events f)

@@ -17,7 +17,7 @@ use Rattle.tlv_cut.specs.declared.extract_follower.Position.TheVariants.{Before,
 use Rattle.tlv_cut.specs.ExtractStep.{ExtractState, begin_step, end_step, extract_step, outer_octets, step_to}
 use Rattle.tlv_cut.specs.ExtractStep.{wanted_octets}
 use Rattle.tlv_cut.proofs.ExtractLemmas.Contents.{put_step}
-use Rattle.tlv_cut.proofs.ExtractLemmas.Inside.{made_from, followed-begins, then_more, primitive_passed_on}
+use Rattle.tlv_cut.proofs.ExtractLemmas.Inside.{made_from, made_from-begins, then_more, primitive_passed_on}
 
 module _ (s : ExtractState) (h : Heading) (o : List ℕ) where
   abbrev c : List ℕ
@@ -44,7 +44,7 @@ module _ (s : ExtractState) (h : Heading) (o : List ℕ) where
   -- an element of which nothing is put
   passed_by : begin_step s h ≡ stay s → wanted_octets s.position c ≡ [] → end_step s [] ≡ stay s → made ≡ stay s
   passed_by b none n =
-      then_more s s [] (Begin h ∷ Bytes c ∷ []) (End ∷ []) (followed-begins s s [] h c b ∙ ap (put_step s) none)
+      then_more s s [] (Begin h ∷ Bytes c ∷ []) (End ∷ []) (made_from-begins s s [] h c b ∙ ap (put_step s) none)
       ∙ followed-one extract_step s End
       ∙ n
 

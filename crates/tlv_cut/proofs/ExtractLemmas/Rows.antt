@@ -75,7 +75,8 @@ an-unfinished-end : element plain 0 (0x30 ∷ 0x80 ∷ 0 ∷ []) ≡ open_elemen
 an-unfinished-end = refl
 
 -- 30 80 30 80 00: at no depth
-an-unfinished-end-deeper : element plain 0 (0x30 ∷ 0x80 ∷ 0x30 ∷ 0x80 ∷ 0 ∷ []) ≡ open_element (0x30 ∷ 0x80 ∷ 0x30 ∷ 0x80 ∷ [])
+an-unfinished-end-deeper : element plain 0 (0x30 ∷ 0x80 ∷ 0x30 ∷ 0x80 ∷ 0 ∷ [])
+    ≡ open_element (0x30 ∷ 0x80 ∷ 0x30 ∷ 0x80 ∷ [])
 an-unfinished-end-deeper = refl
 
 -- 3a 80, two segments, and 00 00

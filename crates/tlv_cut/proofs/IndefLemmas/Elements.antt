@@ -11,6 +11,7 @@ use Rattle.tlv_walk.specs.Forest.{Forest, Stop, Fill, Whole, Closed, Partial, En
 use Rattle.tlv_walk.specs.Forest.{lead, opening, spell}
 use Rattle.tlv_cut.specs.IndefText.{indef_text, indefinite_header, with_indefinite_lengths}
 use Rattle.tlv_cut.specs.IndefStep.{IndefState, indef_event_text, indef_step}
+use Rattle.tlv_cut.proofs.Lead.{lead_by}
 
 -- the octets that are put for events
 abbrev pub events_text : List Told → List ℕ
@@ -27,10 +28,6 @@ followed-indef_step s (e ∷ es) =
 -- for some events and then others
 pub events_text-append : (xs ys : List Told) → events_text (xs ++ ys) ≡ events_text xs ++ events_text ys
 events_text-append xs ys = flat_map-append indef_event_text xs ys
-
--- `lead`, by what it depends on
-abbrev pub lead_by : Bool → Bool → List ℕ
-lead_by constructed three = if constructed then [] else (if three then 0 ∷ [] else [])
 
 -- what comes before the elements that an element holds, and after them, with an indefinite length if it is constructed
 abbrev opening_by : Bool → Heading → List ℕ

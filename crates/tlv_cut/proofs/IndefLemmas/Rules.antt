@@ -12,7 +12,7 @@ use Rattle.tlv_walk.specs.Forest.{extent, has_element, is_whole, lead, opening, 
 use Rattle.tlv_walk.specs.Place.{Fits, IsHeadAt, IsOpen, Place, after, inside_of}
 use Rattle.tlv_cut.specs.IndefText.{with_indefinite_lengths, indefinite_header}
 use Rattle.tlv_cut.specs.IndefReading.{with_offsets_from}
-use Rattle.tlv_cut.proofs.IndefLemmas.Elements.{lead_by}
+use Rattle.tlv_cut.proofs.Lead.{lead_by}
 use Rattle.tlv_cut.proofs.IndefLemmas.Offsets.{constructed_at, is_named, spell-with_offsets_from}
 
 -- elements that have all ended have ended at any offset
