@@ -24,6 +24,7 @@ impl Model for Indef {
 
     ghost view = { λ i. new_indef };
 
+    // A `Copy` struct with a model has to say how its fields follow from the value.
     ghost inverse = { λ s. record {} };
 }
 
