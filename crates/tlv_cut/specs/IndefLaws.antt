@@ -1,43 +1,43 @@
 -- Laws of what `indef` writes.
-use Rattle.std.specs.Prelude.{◌≡◌, ℕ, Bool, List, ◌++◌}
+use Rattle.std.specs.Prelude.{◌≡◌, ℕ, Bool, List}
 use Rattle.tlv_walk.specs.declared.ending.Ending.TheVariants.{Done}
 use Rattle.tlv_walk.specs.declared.follow.Go.TheVariants.{On}
-use Rattle.tlv_walk.specs.declared.framing.Framing.{Framing}
 use Rattle.tlv_walk.specs.Ending.{IsEnding}
 use Rattle.tlv_walk.specs.Events.{events}
 use Rattle.tlv_walk.specs.Follow.{followed}
 use Rattle.tlv_walk.specs.Forest.{Forest, spell}
 use Rattle.tlv_walk.specs.Place.{IsOpen, top}
 use Rattle.tlv_walk.specs.Reading.{IsPrefixOf, IsReading}
-use Rattle.tlv_cut.specs.declared.indefinite.Indef.{Indef}
-use Rattle.tlv_cut.specs.Indef.{indefinite}
-use Rattle.tlv_cut.specs.IndefNext.{indef_next}
-use Rattle.tlv_cut.specs.IndefRuns.{unnamed}
-use Rattle.tlv_cut.specs.Placed.{placed}
+use Rattle.tlv_cut.specs.LongerInputs.{ForLongerInputs}
+use Rattle.tlv_cut.specs.IndefText.{indef_text}
+use Rattle.tlv_cut.specs.IndefStep.{IndefState, indef_step}
+use Rattle.tlv_cut.specs.IndefJob.{indef_framing}
+use Rattle.tlv_cut.specs.IndefReading.{indef_reading}
 
--- of the events of elements `Indef` writes what spells those elements with indefinite lengths, and it wants more
-abbrev pub EventsAreRespelled : Type 0
-EventsAreRespelled = (s : Indef) (f : Forest)
-    → followed indef_next s (events f) ≡ record { state = s; put = spell (indefinite f); goes = On }
+-- of the events of elements an `Indef` makes what `indef` writes, and it wants more
+abbrev pub IndefMakesItsText : Type 0
+IndefMakesItsText = (s : IndefState) (f : Forest)
+    → followed indef_step s (events f) ≡ record { state = s; put = indef_text f; goes = On }
 
--- what is written for a longer input begins with what is written for the shorter
-abbrev pub RespelledGoesOn : Type 0
-RespelledGoesOn = (framing : Framing) (b c : List ℕ) (f g : Forest) → IsReading framing b f → IsReading framing (b ++ c) g
-    → IsPrefixOf (spell (indefinite f)) (spell (indefinite g))
+-- what is written for an input is a front of what is written for a longer one
+abbrev pub IndefTextGoesOn : Type 0
+IndefTextGoesOn = ForLongerInputs (λ f g. IsPrefixOf (indef_text f) (indef_text g))
 
--- the same elements with indefinite lengths keep all rules where they stand by themselves, and their spelling is what is
--- written
-abbrev pub RespelledIsSpelled : Type 0
-RespelledIsSpelled = (padding : Bool) (f : Forest) → IsOpen (top (unnamed padding)) f
-    → (spell (placed 0 (indefinite f)) ≡ spell (indefinite f)) × IsOpen (top (unnamed padding)) (placed 0 (indefinite f))
+-- what is written are the octets of elements that keep all rules
+abbrev pub IndefTextKeepsRules : Type 0
+IndefTextKeepsRules = (padding : Bool) (f : Forest) → IsOpen (top (indef_framing padding)) f
+    → (spell (indef_reading f) ≡ indef_text f)
+    × IsOpen (top (indef_framing padding)) (indef_reading f)
 
--- so what is written is read as those elements, and written again as it stands
-abbrev pub RespelledIsRead : Type 0
-RespelledIsRead = (padding : Bool) (b : List ℕ) (f : Forest) → IsReading (unnamed padding) b f
-    → IsReading (unnamed padding) (spell (indefinite f)) (placed 0 (indefinite f))
-    × (spell (indefinite (placed 0 (indefinite f))) ≡ spell (indefinite f))
+-- what is written is read as those elements, and of these the same octets are written again
+abbrev pub IndefTextIsReadBack : Type 0
+IndefTextIsReadBack = (padding : Bool) (b : List ℕ) (f : Forest)
+    → IsReading (indef_framing padding) b f
+    → IsReading (indef_framing padding) (indef_text f) (indef_reading f)
+    × (indef_text (indef_reading f) ≡ indef_text f)
 
--- and where the input ends without a fault, so does what is written
-abbrev pub DoneIsRespelled : Type 0
-DoneIsRespelled = (padding : Bool) (b : List ℕ) (f : Forest) → IsReading (unnamed padding) b f → IsEnding (unnamed padding) b Done
-    → IsEnding (unnamed padding) (spell (indefinite f)) Done
+-- if an input ends without a fault, so does what is written for it
+abbrev pub IndefTextIsDone : Type 0
+IndefTextIsDone = (padding : Bool) (b : List ℕ) (f : Forest)
+    → IsReading (indef_framing padding) b f
+    → IsEnding (indef_framing padding) b Done → IsEnding (indef_framing padding) (indef_text f) Done

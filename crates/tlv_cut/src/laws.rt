@@ -1,76 +1,77 @@
 //! Laws of the definitions: each is the contract of a function that does nothing.
 
-ghost use Rattle.tlv_cut.specs.CutLaws.{
-  CutsGoOn,
-  CutsStandInTheInput,
+ghost use Rattle.tlv_cut.specs.ExtractLaws.{
   EnoughComesAtEnds,
-  ExtractsMakeCuts,
-  FoundStays,
-  WholeCutsStay,
+  ExtractMakesItsText,
+  ExtractTextGoesOn,
+  ExtractTextIsInTheInput,
+  FoundElementsStay,
+  WholeElementsStay,
 };
 ghost use Rattle.tlv_cut.specs.IndefLaws.{
-  DoneIsRespelled,
-  EventsAreRespelled,
-  RespelledGoesOn,
-  RespelledIsRead,
-  RespelledIsSpelled,
+  IndefMakesItsText,
+  IndefTextGoesOn,
+  IndefTextIsDone,
+  IndefTextIsReadBack,
+  IndefTextKeepsRules,
 };
 
-/// What is written of an element are octets of the input as they stand, from its offset on: its
-/// header, its contents and, where it is whole, its end-of-contents octets.
-pub fn cuts_stand_in_the_input()
-    ensures { CutsStandInTheInput }
+/// What `extract` writes of an element are octets of the input as they are, from the element's
+/// offset on: its header, its contents and, if it is whole, its end-of-contents octets.
+pub fn extract_text_is_in_the_input()
+    ensures { ExtractTextIsInTheInput }
 {}
 
-/// What is written of an element stays: of a longer input the same is written, and then more.
-pub fn cuts_go_on()
-    ensures { CutsGoOn }
+/// What `extract` writes for a longer input begins with what it writes for the shorter.
+pub fn extract_text_goes_on()
+    ensures { ExtractTextGoesOn }
 {}
 
 /// An element whose header is whole is found in every longer input.
-pub fn found_stays()
-    ensures { FoundStays }
+pub fn found_elements_stay()
+    ensures { FoundElementsStay }
 {}
 
-/// Nothing behind a whole element counts: of every longer input the same is written.
-pub fn whole_cuts_stay()
-    ensures { WholeCutsStay }
+/// Nothing after a whole element counts: the same is written for every longer input.
+pub fn whole_elements_stay()
+    ensures { WholeElementsStay }
 {}
 
-/// What an `Extract` makes of the events of a reading, up to the first at which it has enough, is the
-/// cut of it. It has enough exactly where the element is whole.
-pub fn extracts_make_cuts()
-    ensures { ExtractsMakeCuts }
+/// An `Extract` that follows the events of a reading writes what `extract` is to write. It has
+/// enough exactly if the element is whole.
+pub fn extract_makes_its_text()
+    ensures { ExtractMakesItsText }
 {}
 
-/// An `Extract` has enough at an end of an element alone, whatever it met before.
+/// An `Extract` has enough at the end of an element alone, whatever it followed before.
 pub fn enough_comes_at_ends()
     ensures { EnoughComesAtEnds }
 {}
 
-/// Of the events of elements `Indef` writes those elements with indefinite lengths.
-pub fn events_are_respelled()
-    ensures { EventsAreRespelled }
+/// An `Indef` that follows the events of elements writes what `indef` is to write: the same
+/// elements with indefinite lengths.
+pub fn indef_makes_its_text()
+    ensures { IndefMakesItsText }
 {}
 
 /// What `indef` writes for a longer input begins with what it writes for the shorter.
-pub fn respelled_goes_on()
-    ensures { RespelledGoesOn }
+pub fn indef_text_goes_on()
+    ensures { IndefTextGoesOn }
 {}
 
-/// What `indef` writes is the spelling of the same elements with indefinite lengths, and these keep
+/// What `indef` writes are the octets of the same elements with indefinite lengths, and these keep
 /// all rules.
-pub fn respelled_is_spelled()
-    ensures { RespelledIsSpelled }
+pub fn indef_text_keeps_rules()
+    ensures { IndefTextKeepsRules }
 {}
 
 /// What `indef` writes is read as the same elements with indefinite lengths, and for these `indef`
 /// writes the same octets again.
-pub fn respelled_is_read()
-    ensures { RespelledIsRead }
+pub fn indef_text_is_read_back()
+    ensures { IndefTextIsReadBack }
 {}
 
-/// Where an input ends without a fault, what `indef` writes for it does.
-pub fn done_is_respelled()
-    ensures { DoneIsRespelled }
+/// If an input ends without a fault, so does what `indef` writes for it.
+pub fn indef_text_is_done()
+    ensures { IndefTextIsDone }
 {}

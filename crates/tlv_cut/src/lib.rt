@@ -1,14 +1,14 @@
-//! What `extract` and `indef` write: an element of an input, or its contents; and the same encodings,
-//! with indefinite lengths.
+//! Parts of an input, and the same input in another form: `extract` writes one element or its
+//! contents, `indef` writes all elements with indefinite lengths.
 #![tactic(auto)]
 
-mod extracting;
-mod extractor;
-mod indefinite;
+mod extract_call;
+mod extract_follower;
+mod indef_call;
+mod indef_follower;
 pub mod laws;
-mod respelling;
 
-pub use extracting::{Cut, extract};
-pub use extractor::Extract;
-pub use indefinite::Indef;
-pub use respelling::indef;
+pub use extract_call::{Cut, extract};
+pub use extract_follower::Extract;
+pub use indef_call::indef;
+pub use indef_follower::Indef;

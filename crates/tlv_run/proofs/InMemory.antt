@@ -34,7 +34,7 @@ use Rattle.tlv_run.specs.declared.command.Command.{Command}
 use Rattle.tlv_run.specs.Private.Held.{or_failed, told_ending, told_failing, told_room}
 use Rattle.tlv_run.specs.Octets.{IsSaid, MakesOf, RunsOctets, broken, ended, settled, too_long}
 use Rattle.tlv_run.specs.Report.{Said, said_of_device}
-use Rattle.tlv_run.specs.Results.{IsSettled, Made, Makes, made_of, running}
+use Rattle.tlv_run.specs.Results.{IsSettled, Made, Makes, made_of, command_job}
 use Rattle.tlv_run.specs.Runs.{Ran}
 use Rattle.tlv_run.specs.Private.Runs.{said_at_end}
 
@@ -282,19 +282,22 @@ module _ (command : Command) (names : Table) (octets : List ℕ) (fit : (i : ℕ
   filled k = ap length kept_is ∙ full_room room kept.items failures k (omega (arith, ap length kept_is, fits))
 
   pub to_end : (old : Supply) (new : MemSupply) → old ≡ unread (Some octets)
-      → Ran (running command names) old (told_ending new) from (told_room room kept.items failures) said
-      → RunsOctets (running command names) octets false room written.items said
+      → Ran (command_job command names) old (told_ending new) from (told_room room kept.items failures) said
+      → RunsOctets (command_job command names) octets false room written.items said
   to_end old new e x =
-      runs_octets (running command names) (stays_for command names) (text_on command names) octets (octets_of octets fit) false
+      runs_octets (command_job command names) (stays_for command names) (text_on command names) octets
+      (octets_of octets fit) false
       old (told_ending new) from (told_room room kept.items failures) room written.items
       (ap (λ (s : Supply). s.left) e) (ap (λ (s : Supply). s.failures) e) (λ k. absurd (cc (k))) (λ _ _. refl)
       (ap (λ (t : Taken). t.octets) from_is) (ap (λ (t : Taken). t.failures) from_is) (ap Some (sym kept_is)) fits filled said x
 
   pub until_failure : (old : Supply) (new : MemSupply) (failed_reads : ℕ) → old ≡ unread (Some octets)
-      → Ran (running command names) old (told_failing new failed_reads) from (told_room room kept.items failures) said
-      → RunsOctets (running command names) octets true room written.items said
+      → Ran (command_job command names) old (told_failing new failed_reads) from
+      (told_room room kept.items failures) said
+      → RunsOctets (command_job command names) octets true room written.items said
   until_failure old new failed_reads e x =
-      runs_octets (running command names) (stays_for command names) (text_on command names) octets (octets_of octets fit) true
+      runs_octets (command_job command names) (stays_for command names) (text_on command names) octets
+      (octets_of octets fit) true
       old (told_failing new failed_reads) from (told_room room kept.items failures) room written.items
       (ap (λ (s : Supply). s.left) e) (ap (λ (s : Supply). s.failures) e) (λ k. (refl, spent new failed_reads k)) (λ _ k. absurd (gave_some new.log.last k))
       (ap (λ (t : Taken). t.octets) from_is) (ap (λ (t : Taken). t.failures) from_is) (ap Some (sym kept_is)) fits filled said x

@@ -16,7 +16,7 @@ use Rattle.tlv_run.proofs.Results.{Stays, limit_is, settled_stays, stays_for}
 use Rattle.tlv_run.proofs.SaidJobs.{said-end}
 use Rattle.tlv_run.specs.Laws.{RunsAreResults}
 use Rattle.tlv_run.specs.Report.{Said}
-use Rattle.tlv_run.specs.Results.{IsSettled, Made, Makes, made_of, running}
+use Rattle.tlv_run.specs.Results.{IsSettled, Made, Makes, made_of, command_job}
 use Rattle.tlv_run.specs.Private.Runs.{said_at_end}
 
 -- a count below its end goes on
@@ -66,6 +66,6 @@ module _ (job : Job Said) (stays : Stays job) (octets : List ℕ) (all : AreOcte
 pub run_results : RunsAreResults
 unfolding Gives
 run_results command names octets old new from to said all few known old_few quiet from_few took x =
-    let job = running command names in
+    let job = command_job command names in
     let y = gives job (stays_for command names) octets all (subst (λ (n : ℕ). length octets ≤ n) (sym (limit_is command names)) few) old new from to known old_few quiet from_few took x.result x.runs in
     (y.0, y.1, y.2, said-end x ∙ y.3)

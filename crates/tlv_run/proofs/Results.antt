@@ -1,13 +1,13 @@
 -- What jobs, and commands, make of inputs.
 use Rattle.std.proofs.Common.{◌≡◌, inl, inr, ℕ, ◌^◌, ◌≤◌, Bool, true, false, List, ◌++◌, length, refl, sym, ap, ◌∙◌, subst}
 use Rattle.std.proofs.lemmas.Bool.{true≢false}
-use Rattle.tlv_cut.proofs.CutsGrow.{cut_grows, same_cut, same_found, same_whole}
-use Rattle.tlv_cut.proofs.IndefPrefixes.{respelled_on}
-use Rattle.tlv_cut.proofs.IndefReadings.{done_again, read_again}
-use Rattle.tlv_cut.specs.Cut.{cut, has_element_at}
-use Rattle.tlv_cut.specs.Indef.{indefinite}
-use Rattle.tlv_cut.specs.IndefRuns.{unnamed}
-use Rattle.tlv_cut.specs.Placed.{placed}
+use Rattle.tlv_cut.proofs.ExtractLemmas.LongerInputs.{extract_text_goes_on, same_extract_text, same_found, same_whole}
+use Rattle.tlv_cut.proofs.IndefLemmas.LongerInputs.{indef_text_goes_on}
+use Rattle.tlv_cut.proofs.IndefLemmas.SecondReading.{indef_text_is_done, indef_text_is_read_back}
+use Rattle.tlv_cut.specs.ExtractText.{extract_text, has_element_at}
+use Rattle.tlv_cut.specs.IndefJob.{indef_framing}
+use Rattle.tlv_cut.specs.IndefReading.{indef_reading}
+use Rattle.tlv_cut.specs.IndefText.{indef_text}
 use Rattle.tlv_show.proofs.Longer.{checks_on, dumps_on}
 use Rattle.tlv_value.specs.Names.{Table}
 use Rattle.tlv_walk.proofs.Endings.{ending, is-ending}
@@ -17,14 +17,14 @@ use Rattle.tlv_walk.specs.declared.ending.Ending.{Ending}
 use Rattle.tlv_walk.specs.declared.ending.Ending.TheVariants as ending
 use Rattle.tlv_walk.specs.declared.framing.Framing.{Framing}
 use Rattle.tlv_walk.specs.Ending.{IsEnding}
-use Rattle.tlv_walk.specs.Forest.{Forest, spell}
+use Rattle.tlv_walk.specs.Forest.{Forest}
 use Rattle.tlv_walk.specs.Job.{EndsWith, IsFinalEnding, Job}
 use Rattle.tlv_walk.specs.Laws.{AreOctets}
 use Rattle.tlv_walk.specs.Reading.{IsPrefixOf, IsReading}
 use Rattle.tlv_run.specs.Laws.{InputsHaveOneResult, OutputsGoOn, SecondIndefIsTheFirst, SettledResultsStay}
 use Rattle.tlv_run.specs.Report.{Said, said_of_cut}
 use Rattle.tlv_run.specs.Private.Report.{said_of_indef}
-use Rattle.tlv_run.specs.Results.{IsSettled, Made, Makes, made_of, running}
+use Rattle.tlv_run.specs.Results.{IsSettled, Made, Makes, made_of, command_job}
 use Rattle.tlv_run.specs.declared.command.Command.{Command}
 use Rattle.tlv_run.specs.declared.command.Command.TheVariants.{Check, Dump, Extract, Indef}
 
@@ -104,64 +104,76 @@ module _ (job : Job Said) where
 -- ---- commands
 
 pub one_result : InputsHaveOneResult
-one_result command names = one_made (running command names)
+one_result command names = one_made (command_job command names)
 
 abbrev made : List ℕ → Ending → Said → Made
 made t e said = record { output = t; ending = e; said = said }
 
-pub stays_for : (command : Command) (names : Table) → Stays (running command names)
+pub stays_for : (command : Command) (names : Table) → Stays (command_job command names)
 stays_for (Dump options names_file file) names b c f g r s e = absurd (true≢false (sym e))
 stays_for (Check rules framing file) names b c f g r s e = absurd (true≢false (sym e))
 stays_for (Extract offset contents framing file) names b c f g r s e =
-    let text : cut offset contents g ≡ cut offset contents f = same_cut framing b c f g r s offset contents e in
+    let text : extract_text offset contents g ≡ extract_text offset contents f =
+    same_extract_text framing b c f g r s offset contents e in
     let found : has_element_at offset g ≡ has_element_at offset f = same_found framing b c f g r s offset contents e in (
       same_whole framing b c f g r s offset contents e ∙ e,
       λ (d : Ending). ap (λ (t : List ℕ). made t d (said_of_cut offset (record { ending = d; found = has_element_at offset g }))) text
-          ∙ ap (λ (k : Bool). made (cut offset contents f) d (said_of_cut offset (record { ending = d; found = k }))) found,
+          ∙ ap (λ (k : Bool). made (extract_text offset contents f) d
+          (said_of_cut offset (record { ending = d; found = k }))) found,
     )
 stays_for (Indef padding file) names b c f g r s e = absurd (true≢false (sym e))
 
 pub settled_results : SettledResultsStay
-settled_results command names b c made octets x s = (settled_stays (running command names) (stays_for command names) b c made octets x s).0
+settled_results command names b c made octets x s =
+    (settled_stays (command_job command names) (stays_for command names) b c made octets x s).0
 
-pub limit_is : (command : Command) (names : Table) → (running command names).limit ≡ 2 ^ 40
+pub limit_is : (command : Command) (names : Table) → (command_job command names).limit ≡ 2 ^ 40
 limit_is (Dump options names_file file) names = refl
 limit_is (Check rules framing file) names = refl
 limit_is (Extract offset contents framing file) names = refl
 limit_is (Indef padding file) names = refl
 
-pub text_on : (command : Command) (names : Table) (b c : List ℕ) (f g : Forest) → length (b ++ c) ≤ (running command names).limit
-    → IsReading (running command names).framing b f → IsReading (running command names).framing (b ++ c) g
-    → IsPrefixOf ((running command names).text f) ((running command names).text g)
+pub text_on : (command : Command) (names : Table) (b c : List ℕ) (f g : Forest)
+    → length (b ++ c) ≤ (command_job command names).limit
+    → IsReading (command_job command names).framing b f → IsReading (command_job command names).framing (b ++ c) g
+    → IsPrefixOf ((command_job command names).text f) ((command_job command names).text g)
 text_on (Dump options names_file file) names b c f g few r s = dumps_on options names b c f g few r s
 text_on (Check rules framing file) names b c f g few r s = checks_on rules framing b c f g few r s
-text_on (Extract offset contents framing file) names b c f g few r s = cut_grows framing b c f g r s offset contents
-text_on (Indef padding file) names b c f g few r s = respelled_on _ b c f g r s
+text_on (Extract offset contents framing file) names b c f g few r s =
+    extract_text_goes_on framing b c f g r s offset contents
+text_on (Indef padding file) names b c f g few r s = indef_text_goes_on _ b c f g r s
 
 pub outputs_on : OutputsGoOn
 outputs_on command names b c made more few x y =
-    let shorter : (running command names).text x.reading ≡ made.output = sym (ap (λ (m : Made). m.output) x.is_made) in
-    let longer : (running command names).text y.reading ≡ more.output = sym (ap (λ (m : Made). m.output) y.is_made) in
+    let shorter : (command_job command names).text x.reading ≡ made.output =
+    sym (ap (λ (m : Made). m.output) x.is_made) in
+    let longer : (command_job command names).text y.reading ≡ more.output =
+    sym (ap (λ (m : Made). m.output) y.is_made) in
     let front = text_on command names b c x.reading y.reading (subst (λ (n : ℕ). length (b ++ c) ≤ n) (sym (limit_is command names)) few) x.is_reading y.is_reading in
     (front.0, ap (λ (l : List ℕ). l ++ front.0) (sym shorter) ∙ front.1 ∙ longer)
 
-abbrev respelled : Forest → List ℕ
-respelled f = spell (indefinite f)
-
 pub second_indef : SecondIndefIsTheFirst
 second_indef padding file names b m n x y =
-    let job : Job Said = running (Indef padding file) names in
-    let first : m.output ≡ respelled x.reading = ap (λ (m : Made). m.output) x.is_made in
-    let again = read_again padding b x.reading x.is_reading in
-    let z : IsReading (unnamed padding) (respelled x.reading) y.reading = subst (λ (o : List ℕ). IsReading (unnamed padding) o y.reading) first y.is_reading in
-    let same : y.reading ≡ placed 0 (indefinite x.reading) = reading-unique (unnamed padding) (respelled x.reading) y.reading (placed 0 (indefinite x.reading)) z again.0 in
-    let output : n.output ≡ m.output = ap (λ (m : Made). m.output) y.is_made ∙ ap respelled same ∙ again.1 ∙ sym first in (
+    let job : Job Said = command_job (Indef padding file) names in
+    let first : m.output ≡ indef_text x.reading = ap (λ (m : Made). m.output) x.is_made in
+    let again = indef_text_is_read_back padding b x.reading x.is_reading in
+    let z : IsReading (indef_framing padding) (indef_text x.reading) y.reading =
+    subst (λ (o : List ℕ). IsReading (indef_framing padding) o y.reading) first y.is_reading in
+    let same : y.reading ≡ indef_reading x.reading =
+    reading-unique (indef_framing padding) (indef_text x.reading) y.reading (indef_reading x.reading) z again.0 in
+    let output : n.output ≡ m.output =
+    ap (λ (m : Made). m.output) y.is_made ∙ ap indef_text same ∙ again.1 ∙ sym first in (
       output,
       λ (done : m.ending ≡ ending.Done).
-          let e : IsEnding (unnamed padding) b ending.Done = subst (IsEnding (unnamed padding) b) done x.ends in
-          let d : IsEnding (unnamed padding) (respelled x.reading) ending.Done = done_again padding b x.reading x.is_reading e in
-          let d' : IsEnding (unnamed padding) (respelled x.reading) n.ending = subst (λ (o : List ℕ). IsEnding (unnamed padding) o n.ending) first y.ends in
-          let end : n.ending ≡ m.ending = ending-unique (unnamed padding) (respelled x.reading) n.ending ending.Done d' d ∙ sym done in
+          let e : IsEnding (indef_framing padding) b ending.Done =
+          subst (IsEnding (indef_framing padding) b) done x.ends in
+          let d : IsEnding (indef_framing padding) (indef_text x.reading) ending.Done =
+          indef_text_is_done padding b x.reading x.is_reading e in
+          let d' : IsEnding (indef_framing padding) (indef_text x.reading) n.ending =
+          subst (λ (o : List ℕ). IsEnding (indef_framing padding) o n.ending) first y.ends in
+          let end : n.ending ≡ m.ending =
+          ending-unique (indef_framing padding) (indef_text x.reading) n.ending ending.Done d' d ∙ sym done in
           y.is_made ∙ ap (λ (e : Ending). made_of job y.reading e) end
-          ∙ ap (λ (o : List ℕ). made o m.ending (said_of_indef m.ending)) (ap respelled same ∙ again.1) ∙ sym x.is_made,
+          ∙ ap (λ (o : List ℕ). made o m.ending (said_of_indef m.ending)) (ap indef_text same ∙ again.1)
+          ∙ sym x.is_made,
     )

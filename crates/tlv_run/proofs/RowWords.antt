@@ -19,7 +19,7 @@ use Rattle.tlv_walk.specs.declared.ending.Ending.TheVariants.{Done}
 use Rattle.tlv_walk.specs.declared.framing.Framing.{Framing}
 use Rattle.tlv_run.proofs.Results.{result_of}
 use Rattle.tlv_run.specs.Private.Report.{clean}
-use Rattle.tlv_run.specs.Results.{Made, running}
+use Rattle.tlv_run.specs.Results.{Made, command_job}
 use Rattle.tlv_run.specs.declared.command.Command.{Command}
 use Rattle.tlv_run.specs.declared.command.Command.TheVariants.{Check, Dump, Extract, Indef}
 
@@ -66,7 +66,7 @@ indef padding = Indef padding None
 -- ---- what is made of an input
 
 abbrev pub result_with : Table → Command → List ℕ → Made
-result_with names command octets = result_of (running command names) octets
+result_with names command octets = result_of (command_job command names) octets
 
 abbrev pub result : Command → List ℕ → Made
 result command octets = result_with finite.empty command octets

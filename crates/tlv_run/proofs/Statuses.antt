@@ -1,7 +1,7 @@
 -- Which status an input comes to.
 use Rattle.std.proofs.Common.{◌≡◌, ◌==◌, ℕ, Bool, true, false, if◌then◌else◌, [], ◌++◌, refl, sym, ap, ◌∙◌, subst}
 use Rattle.std.specs.Prelude.{Option, Some, None, codes, decimal}
-use Rattle.tlv_cut.specs.Cut.{has_element_at}
+use Rattle.tlv_cut.specs.ExtractText.{has_element_at}
 use Rattle.tlv_show.specs.declared.outcome.Outcome.{Outcome}
 use Rattle.tlv_show.specs.Checks.{checking}
 use Rattle.tlv_show.specs.Dumps.{dumping}
@@ -16,7 +16,7 @@ use Rattle.tlv_walk.specs.Job.{EndsWith}
 use Rattle.tlv_run.specs.Laws.{StatusesTellOfSoundness}
 use Rattle.tlv_run.specs.Report.{said_of_findings, said_of_unused, saying}
 use Rattle.tlv_run.specs.Private.Report.{said_of_found}
-use Rattle.tlv_run.specs.Results.{Made, running}
+use Rattle.tlv_run.specs.Results.{Made, command_job}
 use Rattle.tlv_run.specs.declared.command.Command.{Command}
 use Rattle.tlv_run.specs.declared.command.Command.TheVariants.{Check, Dump, Extract, Indef}
 
@@ -33,13 +33,15 @@ found_quiet : (offset : ℕ) (found : Bool) → (said_of_found offset found).sta
 found_quiet offset true e = absurd (cc (e))
 found_quiet offset false e = absurd (cc (e))
 
-done_quiet : (command : Command) (names : Table) (f : Forest) → ((running command names).answer f ending.Done).status ≡ 2 → ⊥
+done_quiet : (command : Command) (names : Table) (f : Forest)
+    → ((command_job command names).answer f ending.Done).status ≡ 2 → ⊥
 done_quiet (Dump options names_file file) names f e = let outcome : Outcome = (dumping options names).answer f ending.Done in quiet outcome.unused outcome.findings e
 done_quiet (Check rules framing file) names f e = let outcome : Outcome = (checking rules framing).answer f ending.Done in quiet outcome.unused outcome.findings e
 done_quiet (Extract offset contents framing file) names f e = found_quiet offset (has_element_at offset f) e
 done_quiet (Indef padding file) names f e = absurd (cc (e))
 
-fault_loud : (command : Command) (names : Table) (f : Forest) (e : Ending) → (e ≡ ending.Done → ⊥) → ((running command names).answer f e).status ≡ 2
+fault_loud : (command : Command) (names : Table) (f : Forest) (e : Ending) → (e ≡ ending.Done → ⊥)
+    → ((command_job command names).answer f e).status ≡ 2
 fault_loud command names f ending.Done apart = absurd (apart refl)
 fault_loud (Dump options names_file file) names f (ending.Fault k) apart = refl
 fault_loud (Check rules framing file) names f (ending.Fault k) apart = refl
@@ -48,7 +50,7 @@ fault_loud (Indef padding file) names f (ending.Fault k) apart = refl
 
 pub statuses : StatusesTellOfSoundness
 statuses command names b made x open_ =
-    let job = running command names in
+    let job = command_job command names in
     let ends : IsEnding job.framing b made.ending = subst (λ (k : Bool). EndsWith job.framing b k made.ending) open_ x.ends in
     let status : made.said.status ≡ (job.answer x.reading made.ending).status = ap (λ (m : Made). m.said.status) x.is_made in (
       λ two sound. done_quiet command names x.reading

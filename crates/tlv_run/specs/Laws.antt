@@ -7,7 +7,7 @@ use Rattle.tlv_walk.specs.Device.{Supply, Taken}
 use Rattle.tlv_walk.specs.Laws.{AreOctets}
 use Rattle.tlv_walk.specs.Reading.{IsPrefixOf, IsSoundList}
 use Rattle.tlv_run.specs.Report.{Said}
-use Rattle.tlv_run.specs.Results.{IsResultOf, IsSettled, Made, running}
+use Rattle.tlv_run.specs.Results.{IsResultOf, IsSettled, Made, command_job}
 use Rattle.tlv_run.specs.Runs.{Ran}
 use Rattle.tlv_run.specs.declared.command.Command.{Command}
 use Rattle.tlv_run.specs.declared.command.Command.TheVariants.{Indef}
@@ -38,10 +38,11 @@ abbrev pub RunsAreResults : Type 0
 RunsAreResults = (command : Command) (names : Table) (octets : List ℕ) (old new : Supply) (from to : Taken) (said : Said)
     → AreOctets octets → length octets ≤ 2 ^ 40 → old.left ≡ Some octets
     → old.failures < 2 ^ 64 - 1 → new.failures ≡ old.failures → from.failures < 2 ^ 64 - 1 → to.failures ≡ from.failures
-    → Ran (running command names) old new from to said
+    → Ran (command_job command names) old new from to said
     → (made : Made) × IsResultOf command names octets made × Appends from.octets to.octets made.output × (said ≡ made.said)
 
 -- where no element is asked for, or it is not whole, the status 2 says just that the input is no sound list of encodings
 abbrev pub StatusesTellOfSoundness : Type 0
 StatusesTellOfSoundness = (command : Command) (names : Table) (b : List ℕ) (made : Made) → (x : IsResultOf command names b made)
-    → let job = running command names in job.is_enough x.reading ≡ false → (made.said.status ≡ 2) ↔ (IsSoundList job.framing b → ⊥)
+    → let job = command_job command names in job.is_enough x.reading ≡ false
+    → (made.said.status ≡ 2) ↔ (IsSoundList job.framing b → ⊥)

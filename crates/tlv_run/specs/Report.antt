@@ -1,6 +1,6 @@
 -- What the program says of a run: the exit status, the number of findings, and the message.
 use Rattle.std.specs.Prelude.{◌∷◌, ⊤, ℕ, ◌==◌, if◌then◌else◌, List, [], ◌++◌, Option, Some, None, Result, Ok, Err, codes, decimal}
-use Rattle.tlv_cut.specs.declared.extracting.Cut.{Cut}
+use Rattle.tlv_cut.specs.declared.extract_call.Cut.{Cut}
 use Rattle.tlv_head.specs.Fault.{code_of, text_of}
 use Rattle.tlv_show.specs.declared.outcome.Outcome.{Outcome}
 use Rattle.tlv_value.specs.declared.names.fault.NamesFault.{NamesFault}

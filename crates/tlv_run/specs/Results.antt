@@ -1,7 +1,7 @@
 -- What a command makes of an input.
 use Rattle.std.specs.Prelude.{◌≡◌, ◌⊎◌, ℕ, true, List, []}
-use Rattle.tlv_cut.specs.Extracts.{cutting}
-use Rattle.tlv_cut.specs.IndefRuns.{respelling}
+use Rattle.tlv_cut.specs.ExtractJob.{extract_job}
+use Rattle.tlv_cut.specs.IndefJob.{indef_job}
 use Rattle.tlv_show.specs.Checks.{checking}
 use Rattle.tlv_show.specs.Dumps.{dumping}
 use Rattle.tlv_value.specs.Names.{Table}
@@ -19,11 +19,12 @@ said_by say job =
     record { framing = job.framing; limit = job.limit; text = job.text; is_enough = job.is_enough; answer = λ f e. say (job.answer f e) }
 
 -- what each command wants of an input: what is written of its elements, when nothing more is wanted, and what is said
-abbrev pub running : Command → Table → Job Said
-running (Dump options names_file file) names = said_by said_of_outcome (dumping options names)
-running (Check rules framing file) names = said_by said_of_outcome (checking rules framing)
-running (Extract offset contents framing file) names = said_by (said_of_cut offset) (cutting framing offset contents)
-running (Indef padding file) names = said_by (λ e. said_of_ending e (saying 0 [])) (respelling padding)
+abbrev pub command_job : Command → Table → Job Said
+command_job (Dump options names_file file) names = said_by said_of_outcome (dumping options names)
+command_job (Check rules framing file) names = said_by said_of_outcome (checking rules framing)
+command_job (Extract offset contents framing file) names =
+    said_by (said_of_cut offset) (extract_job framing offset contents)
+command_job (Indef padding file) names = said_by (λ e. said_of_ending e (saying 0 [])) (indef_job padding)
 
 -- what comes of an input: the octets written, its ending, and what is said: status, number of findings, message
 pub record Made : Type 0 where
@@ -45,7 +46,7 @@ pub record Makes (job : Job Said) (b : List ℕ) (made : Made) : Type 0 where
 
 -- what a command makes of an input
 abbrev pub IsResultOf : Command → Table → List ℕ → Made → Type 0
-IsResultOf command names = Makes (running command names)
+IsResultOf command names = Makes (command_job command names)
 
 -- nothing counts that could follow the octets: an octet is refused, or nothing more is wanted
 abbrev pub IsSettled : {job : Job Said} {b : List ℕ} {made : Made} → Makes job b made → Type 0

@@ -2,7 +2,7 @@
 ghost use Rattle.std.specs.Prelude.{true, false};
 ghost use Rattle.tlv_run.specs.Octets.{RunsOctets};
 ghost use Rattle.tlv_run.specs.Report.{said_in};
-ghost use Rattle.tlv_run.specs.Results.{running};
+ghost use Rattle.tlv_run.specs.Results.{command_job};
 
 use crate::command::Command;
 use crate::held::{EndingSource, FailingSource, Room};
@@ -30,7 +30,8 @@ pub fn run_octets<const N: usize>(
     cuts: &[u64],
     read_fails: bool,
 ) -> Shown<N>
-    ensures { RunsOctets (running command.now names.now) octets.now read_fails N result.written.items (said_in result.report) }
+    ensures { RunsOctets (command_job command.now names.now) octets.now read_fails N
+        result.written.items (said_in result.report) }
 {
     if read_fails {
         run_until_failure(command, names, octets, cuts)
@@ -45,7 +46,8 @@ fn run_until_failure<const N: usize>(
     octets: &[u8],
     cuts: &[u64],
 ) -> Shown<N>
-    ensures { RunsOctets (running command.now names.now) octets.now true N result.written.items (said_in result.report) }
+    ensures { RunsOctets (command_job command.now names.now) octets.now true N
+        result.written.items (said_in result.report) }
 {
     let mut room = Room::new();
     let report = run(
@@ -64,7 +66,8 @@ fn run_to_end<const N: usize>(
     octets: &[u8],
     cuts: &[u64],
 ) -> Shown<N>
-    ensures { RunsOctets (running command.now names.now) octets.now false N result.written.items (said_in result.report) }
+    ensures { RunsOctets (command_job command.now names.now) octets.now false N
+        result.written.items (said_in result.report) }
 {
     let mut room = Room::new();
     let report = run(

@@ -1,6 +1,6 @@
 //! A run of a command over a source and a drain.
 ghost use Rattle.tlv_run.specs.Report.{said_in};
-ghost use Rattle.tlv_run.specs.Results.{running};
+ghost use Rattle.tlv_run.specs.Results.{command_job};
 ghost use Rattle.tlv_run.specs.Runs.{Ran};
 
 use crate::command::Command;
@@ -19,7 +19,7 @@ pub fn run<S: Source, D: Drain>(
     source: &mut S,
     drain: &mut D,
 ) -> Report
-    ensures { Ran (running command.now names.now) (S.told source.old) (S.told source.new)
+    ensures { Ran (command_job command.now names.now) (S.told source.old) (S.told source.new)
         (D.told drain.old) (D.told drain.new) (said_in result) }
 {
     match command {

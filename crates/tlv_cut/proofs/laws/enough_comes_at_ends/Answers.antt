@@ -1,5 +1,5 @@
-use Rattle.tlv_cut.proofs.CutLaws.{at_ends}
+use Rattle.tlv_cut.proofs.ExtractLemmas.Laws.{enough_comes_at_ends}
 use Rattle.tlv_cut.proofs.laws.enough_comes_at_ends.Goals as goal
 
 pub returns : goal.returns
-returns x = at_ends
+returns x = enough_comes_at_ends

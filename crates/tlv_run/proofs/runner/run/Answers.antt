@@ -1,5 +1,5 @@
-use Rattle.tlv_cut.specs.Extracts.{cutting}
-use Rattle.tlv_cut.specs.IndefRuns.{respelling}
+use Rattle.tlv_cut.specs.ExtractJob.{extract_job}
+use Rattle.tlv_cut.specs.IndefJob.{indef_job}
 use Rattle.tlv_show.specs.Checks.{checking}
 use Rattle.tlv_show.specs.Dumps.{dumping}
 use Rattle.tlv_run.specs.Report.{said_of_cut, said_of_outcome}
@@ -14,7 +14,8 @@ pub returns-in-Check : goal.returns-in-Check
 returns-in-Check g c = rw c.in-Check.is (said_runs said_of_outcome (checking _ _) c.check.ensures c.shown_report-in-Check.ensures)
 
 pub returns-in-Extract : goal.returns-in-Extract
-returns-in-Extract g c = rw c.in-Extract.is (said_runs (said_of_cut _) (cutting _ _ _) c.extract.ensures c.cut_report.ensures)
+returns-in-Extract g c =
+    rw c.in-Extract.is (said_runs (said_of_cut _) (extract_job _ _ _) c.extract.ensures c.cut_report.ensures)
 
 pub returns-in-Indef : goal.returns-in-Indef
-returns-in-Indef g c = rw c.in-Indef.is (said_runs said_of_indef (respelling _) c.indef.ensures c.indef_report.ensures)
+returns-in-Indef g c = rw c.in-Indef.is (said_runs said_of_indef (indef_job _) c.indef.ensures c.indef_report.ensures)

@@ -1,0 +1,204 @@
+-- The octets of an element that is found are in the input, from its offset on.
+use Rattle.std.proofs.Common.{refl, sym, ap, ◌∙◌, subst, arith, append_assoc, append-nil, length-append}
+use Rattle.std.specs.Prelude.{◌≡◌, ℕ, ◌+◌, Bool, true, false, ◌==◌, if◌then◌else◌, List, [], ◌∷◌, ◌++◌}
+use Rattle.std.specs.Prelude.{length, Option, Some, None}
+use Rattle.std.specs.Option.{option_or}
+use Rattle.std.proofs.lemmas.Bool.{eqb-true, true≢false}
+use Rattle.tlv_head.specs.Header.{Heading, IsHeading, octets_of}
+use Rattle.tlv_walk.specs.Forest.{Forest, Stop, Fill, Whole, Closed, Partial, Entered, Awaiting, Begun, Zero}
+use Rattle.tlv_walk.specs.Forest.{end_octets, extent, is_whole, lead, opening, spell}
+use Rattle.tlv_walk.specs.Place.{IsHeadAt, IsOpen, Place, after, inside_of}
+use Rattle.tlv_walk.proofs.Spellings.{append_assoc-3, append_assoc-4}
+use Rattle.tlv_cut.specs.ExtractText.{contents_so_far, element_at, octets_so_far}
+
+-- ---- the octets so far of elements
+
+-- they are a front of all octets, and all of them if all elements have ended
+record IsFrontOf (f : Forest) : Type 0 where
+  rest : List ℕ
+  octets : spell f ≡ octets_so_far f ++ rest
+  all : is_whole f ≡ true → spell f ≡ octets_so_far f
+
+-- those of elements after others
+front_of_rest : (f rest : Forest) (o : List ℕ) → spell f ≡ o ++ spell rest → octets_so_far f ≡ o ++ octets_so_far rest
+    → is_whole f ≡ is_whole rest → IsFrontOf rest → IsFrontOf f
+front_of_rest f rest o all keeps whole r = record {
+  rest = r.rest;
+  octets = all ∙ ap (λ (l : List ℕ). o ++ l) r.octets ∙ sym (append_assoc o (octets_so_far rest) r.rest)
+      ∙ ap (λ (l : List ℕ). l ++ r.rest) (sym keeps);
+  all = λ w. all ∙ ap (λ (l : List ℕ). o ++ l) (r.all (sym whole ∙ w)) ∙ sym keeps;
+}
+
+octets_so_far-front : (p : Place) (f : Forest) → p.padding ≡ false → IsOpen p f → IsFrontOf f
+octets_so_far-front p Stop plain v = record { rest = []; octets = refl; all = λ w. refl }
+octets_so_far-front p (Fill rest) plain v = absurd (true≢false (sym v.0.0 ∙ plain))
+octets_so_far-front p (Whole h c rest) plain v =
+    front_of_rest (Whole h c rest) rest (octets_of h ++ c) (sym (append_assoc (octets_of h) c (spell rest)))
+    (sym (append_assoc (octets_of h) c (octets_so_far rest))) refl
+    (octets_so_far-front (after p _) rest plain v.1)
+octets_so_far-front p (Closed h inside rest) plain v =
+    let i = octets_so_far-front (inside_of p h) inside refl v.1 in
+    let e = end_octets h.size in
+    front_of_rest (Closed h inside rest) rest (opening h ++ (spell inside ++ e))
+    (sym (append_assoc-3 (opening h) (spell inside) e (spell rest)))
+    (ap (λ (k : List ℕ). opening h ++ (k ++ (e ++ octets_so_far rest))) (sym (i.all v.0.1))
+    ∙ sym (append_assoc-3 (opening h) (spell inside) e (octets_so_far rest))) refl
+    (octets_so_far-front (after p (extent h inside)) rest plain v.2)
+octets_so_far-front p (Partial h c) plain v =
+    record { rest = []; octets = sym (append-nil (octets_of h ++ c)); all = λ w. refl }
+octets_so_far-front p (Entered h inside) plain v =
+    let i = octets_so_far-front (inside_of p h) inside refl v.1 in
+    record {
+      rest = i.rest;
+      octets = ap (λ (l : List ℕ). opening h ++ l) i.octets
+          ∙ sym (append_assoc (opening h) (octets_so_far inside) i.rest);
+      all = λ w. absurd (cc (w));
+    }
+octets_so_far-front p (Awaiting h) plain v =
+    record { rest = []; octets = sym (append-nil (octets_of h)); all = λ w. refl }
+octets_so_far-front p (Begun octets) plain v = record { rest = octets; octets = refl; all = λ w. absurd (cc (w)) }
+octets_so_far-front p Zero plain v = record { rest = 0 ∷ []; octets = refl; all = λ w. absurd (cc (w)) }
+
+module _ (n : ℕ) where
+  -- ---- the element
+
+  -- an element of a forest, at the offset n: its octets, and its header, contents and end-of-contents octets
+  pub record IsFoundIn (p : Place) (f e : Forest) : Type 0 where
+    pub front : List ℕ
+    pub rest : List ℕ
+    pub octets : spell f ≡ front ++ (octets_so_far e ++ rest)
+    pub place : p.at + length front ≡ n
+    pub head : Heading
+    pub valid : IsHeading head
+    pub offset : head.offset ≡ n
+    pub parts : octets_so_far e
+        ≡ octets_of head ++ (contents_so_far e ++ (if is_whole e then end_octets head.size else []))
+
+  -- it is the first of the forest
+  first : (p : Place) (k : Bool) (h : Heading) (f e : Forest) (rest : List ℕ) → IsHeadAt p k h
+      → (h.offset == n) ≡ true → spell f ≡ octets_so_far e ++ rest
+      → octets_so_far e ≡ octets_of h ++ (contents_so_far e ++ (if is_whole e then end_octets h.size else []))
+      → IsFoundIn p f e
+  first p k h f e rest at is octets parts = record {
+    front = [];
+    rest = rest;
+    octets = octets;
+    place = omega (arith, at.offset, eqb-true h.offset n is);
+    head = h;
+    valid = at.valid;
+    offset = eqb-true h.offset n is;
+    parts = parts;
+  }
+
+  -- it is among elements that come later, or deeper
+  further : (p q : Place) (f g e : Forest) (o t : List ℕ) → spell f ≡ o ++ (spell g ++ t) → q.at ≡ p.at + length o
+      → IsFoundIn q g e → IsFoundIn p f e
+  further p q f g e o t all at r = record {
+    front = o ++ r.front;
+    rest = r.rest ++ t;
+    octets =
+        all ∙ ap (λ (l : List ℕ). o ++ (l ++ t)) r.octets
+        ∙ ap (λ (l : List ℕ). o ++ l) (append_assoc-3 r.front (octets_so_far e) r.rest t)
+        ∙ sym (append_assoc o r.front (octets_so_far e ++ (r.rest ++ t)));
+    place = omega (arith, at, r.place, length-append o r.front);
+    head = r.head;
+    valid = r.valid;
+    offset = r.offset;
+    parts = r.parts;
+  }
+
+  -- an element with that offset, or one of others
+  choose : (p : Place) (f : Forest) (k : Bool) (d : Forest) (b : Option Forest) (e : Forest)
+      → (k ≡ true → IsFoundIn p f d)
+      → (k ≡ false → b ≡ Some e → IsFoundIn p f e) → (if k then Some d else b) ≡ Some e → IsFoundIn p f e
+  choose p f true d b e x y is = let same : d ≡ e = cc in subst (IsFoundIn p f) same (x refl)
+  choose p f false d b e x y is = y refl is
+
+  -- the first that is there
+  first_there : (p : Place) (f : Forest) (a b : Option Forest) (e : Forest) → (a ≡ Some e → IsFoundIn p f e)
+      → (b ≡ Some e → IsFoundIn p f e)
+      → option_or a b ≡ Some e → IsFoundIn p f e
+  first_there p f (Some d) b e x y is = x is
+  first_there p f None b e x y is = y is
+
+  none : (p : Place) (f e : Forest) → None ≡ Some e → IsFoundIn p f e
+  none p f e is = absurd (cc (is))
+
+  -- it is after an element
+  in_rest : (p q : Place) (f rest e : Forest) (o : List ℕ) → spell f ≡ o ++ spell rest → q.at ≡ p.at + length o
+      → IsFoundIn q rest e → IsFoundIn p f e
+  in_rest p q f rest e o all at r =
+      further p q f rest e o [] (all ∙ ap (λ (l : List ℕ). o ++ l) (sym (append-nil (spell rest)))) at r
+
+  closed_parts : (h : Heading) (inside : Forest)
+      → octets_so_far (Closed h inside Stop)
+      ≡ octets_of h ++ (contents_so_far (Closed h inside Stop) ++ end_octets h.size)
+  closed_parts h inside =
+      let e = end_octets h.size in
+      append_assoc (octets_of h) (lead h) (octets_so_far inside ++ (e ++ []))
+      ∙ ap (λ (l : List ℕ). octets_of h ++ (lead h ++ (octets_so_far inside ++ l))) (append-nil e)
+      ∙ ap (λ (l : List ℕ). octets_of h ++ l) (sym (append_assoc (lead h) (octets_so_far inside) e))
+
+  pub find : (p : Place) (f : Forest) → IsOpen p f → (e : Forest) → element_at n f ≡ Some e → IsFoundIn p f e
+  find p Stop v d some = none p Stop d some
+  find p (Fill rest) v d some =
+      in_rest p (after p 1) (Fill rest) rest d (0 ∷ []) refl refl (find (after p 1) rest v.1 d some)
+  find p (Whole h c rest) v d some =
+      let f = Whole h c rest in
+      choose p f (h.offset == n) (Whole h c Stop) (element_at n rest) d
+      (λ is.
+      first p false h f (Whole h c Stop) (spell rest) v.0.0.header is
+      (sym (append_assoc-3 (octets_of h) c [] (spell rest)))
+      (ap (λ (l : List ℕ). octets_of h ++ (c ++ l)) (sym (ap end_octets v.0.1))))
+      (λ _ some.
+      in_rest p (after p _) f rest d (octets_of h ++ c) (sym (append_assoc (octets_of h) c (spell rest)))
+      (omega (arith, length-append (octets_of h) c))
+      (find (after p _) rest v.1 d some))
+      some
+  find p (Closed h inside rest) v d some =
+      let f = Closed h inside rest in
+      let e = end_octets h.size in
+      let i = octets_so_far-front (inside_of p h) inside refl v.1 in
+      choose p f (h.offset == n) (Closed h inside Stop) (option_or (element_at n inside) (element_at n rest)) d
+      (λ is.
+      first p true h f (Closed h inside Stop) (spell rest) v.0.0.header is
+      (ap (λ (k : List ℕ). opening h ++ (k ++ (e ++ spell rest))) (i.all v.0.1)
+      ∙ sym (append_assoc-4 (opening h) (octets_so_far inside) e [] (spell rest)))
+      (closed_parts h inside))
+      (λ _ some.
+      first_there p f (element_at n inside) (element_at n rest) d
+      (λ some. further p (inside_of p h) f inside d (opening h) (e ++ spell rest) refl refl
+      (find (inside_of p h) inside v.1 d some))
+      (λ some.
+      in_rest p (after p (extent h inside)) f rest d (opening h ++ (spell inside ++ e))
+      (sym (append_assoc-3 (opening h) (spell inside) e (spell rest)))
+      (omega (arith, length-append (opening h) (spell inside ++ e), length-append (spell inside) e))
+      (find (after p (extent h inside)) rest v.2 d some))
+      some)
+      some
+  find p (Partial h c) v d some =
+      choose p (Partial h c) (h.offset == n) (Partial h c) None d
+      (λ is.
+      first p false h (Partial h c) (Partial h c) [] v.0.header is (sym (append-nil (octets_of h ++ c)))
+      (ap (λ (l : List ℕ). octets_of h ++ l) (sym (append-nil c))))
+      (λ _ some. none p (Partial h c) d some)
+      some
+  find p (Entered h inside) v d some =
+      let f = Entered h inside in
+      let i = octets_so_far-front (inside_of p h) inside refl v.1 in
+      choose p f (h.offset == n) f (element_at n inside) d
+      (λ is.
+      first p true h f f i.rest v.0.0.header is
+      (ap (λ (l : List ℕ). opening h ++ l) i.octets ∙ sym (append_assoc (opening h) (octets_so_far inside) i.rest))
+      (append_assoc (octets_of h) (lead h) (octets_so_far inside)
+      ∙ ap (λ (l : List ℕ). octets_of h ++ l) (sym (append-nil (lead h ++ octets_so_far inside)))))
+      (λ _ some. in_rest p (inside_of p h) f inside d (opening h) refl refl (find (inside_of p h) inside v.1 d some))
+      some
+  find p (Awaiting h) v d some =
+      choose p (Awaiting h) (h.offset == n) (Awaiting h) None d
+      (λ is. first p true h (Awaiting h) (Awaiting h) [] v.0.header is (sym (append-nil (octets_of h)))
+      (sym (append-nil (octets_of h))))
+      (λ _ some. none p (Awaiting h) d some)
+      some
+  find p (Begun octets) v d some = none p (Begun octets) d some
+  find p Zero v d some = none p Zero d some

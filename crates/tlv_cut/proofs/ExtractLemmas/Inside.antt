@@ -1,0 +1,201 @@
+-- What an `Extract` makes of the events of what the element wanted holds: it puts their octets.
+use Rattle.std.proofs.Common.{refl, sym, ap, ap₂, ◌∙◌, arith, append_assoc, append-nil}
+use Rattle.std.specs.Prelude.{◌≡◌, ℕ, suc, ◌≤◌, Bool, true, false, eqb, if◌then◌else◌, List, [], ◌∷◌, ◌++◌, map}
+use Rattle.tlv_head.specs.declared.header.Size.{Size}
+use Rattle.tlv_head.specs.declared.header.Size.TheVariants.{Definite, Indefinite}
+use Rattle.tlv_head.specs.Header.{Heading, octets_of}
+use Rattle.tlv_head.specs.Private.Header.{AllowsSize}
+use Rattle.tlv_walk.specs.declared.follow.Go.{Go}
+use Rattle.tlv_walk.specs.declared.follow.Go.TheVariants as go
+use Rattle.tlv_walk.specs.Events.{Told, Open, Begin, Bytes, End, Close, Enter, Unused, Leave, Pad, closes}
+use Rattle.tlv_walk.specs.Events.{end_offset, events, opens}
+use Rattle.tlv_walk.specs.Follow.{Following, and_then, followed, if_on}
+use Rattle.tlv_walk.specs.Forest.{Forest, Stop, Fill, Whole, Closed, Partial, Entered, Awaiting, Begun, Zero}
+use Rattle.tlv_walk.specs.Forest.{end_octets, extent, is_whole, lead, opening}
+use Rattle.tlv_walk.specs.Place.{IsOpen, Place, after, inside_of}
+use Rattle.tlv_walk.proofs.Followed.{followed-more, followed-one}
+use Rattle.tlv_cut.specs.declared.extract_follower.Position.TheVariants as position
+use Rattle.tlv_cut.specs.ExtractText.{octets_so_far}
+use Rattle.tlv_cut.specs.ExtractStep.{ExtractState, begin_step, end_step, extract_step, has_found, wanted_octets}
+use Rattle.tlv_cut.proofs.Lead.{lead_by}
+use Rattle.tlv_cut.proofs.ExtractLemmas.Contents.{all_contents, wanted_octets-none, put_step}
+
+-- what an `Extract` makes of these events
+abbrev pub made_from : ExtractState → List Told → Following ExtractState
+made_from s es = followed extract_step s es
+
+-- ---- one event after another
+
+-- of some events this was made, and then others come
+pub then_more : (s t : ExtractState) (put : List ℕ) (xs ys : List Told) → made_from s xs ≡ put_step t put
+    → made_from s (xs ++ ys) ≡ record (made_from t ys) { put = put ++ (made_from t ys).put }
+then_more s t put xs ys e =
+    followed-more extract_step s xs ys (ap (λ (u : Following ExtractState). u.goes) e)
+    ∙ ap (λ (k : Following ExtractState). and_then k (λ u. made_from u ys)) e
+
+-- a primitive begins, and gives contents octets
+pub made_from-begins : (s t : ExtractState) (put : List ℕ) (h : Heading) (c : List ℕ) → begin_step s h ≡ put_step t put
+    → made_from s (Begin h ∷ Bytes c ∷ []) ≡ put_step t (put ++ wanted_octets t.position c)
+made_from-begins s t put h c e =
+    ap (λ (k : Following ExtractState). if_on k.goes k (λ u. made_from u (Bytes c ∷ []))) e
+    ∙ ap (λ (k : Following ExtractState). and_then (put_step t put) (λ u. k))
+    (followed-one extract_step t (Bytes c) ∙ all_contents t c)
+
+-- an element that holds others begins
+opens_by : (k three : Bool) (s t : ExtractState) (put : List ℕ) (h : Heading) → begin_step s h ≡ put_step t put
+    → made_from s ((if k then Open h else Enter h) ∷ map (λ z. Unused) (lead_by k three))
+    ≡ put_step t (put ++ wanted_octets t.position (lead_by k three))
+opens_by true three s t put h e =
+    followed-one extract_step s (Open h) ∙ e
+    ∙ ap (put_step t) (sym (append-nil put) ∙ ap (λ (l : List ℕ). put ++ l) (wanted_octets-none t.position))
+opens_by false true s t put h e =
+    ap (λ (k : Following ExtractState). if_on k.goes k (λ u. made_from u (Unused ∷ []))) e
+    ∙ ap (λ (k : Following ExtractState). and_then (put_step t put) (λ u. k)) (followed-one extract_step t Unused)
+opens_by false false s t put h e =
+    followed-one extract_step s (Enter h) ∙ e
+    ∙ ap (put_step t) (sym (append-nil put) ∙ ap (λ (l : List ℕ). put ++ l) (wanted_octets-none t.position))
+
+pub made_from-opens : (s t : ExtractState) (put : List ℕ) (h : Heading) → begin_step s h ≡ put_step t put
+    → made_from s (opens h) ≡ put_step t (put ++ wanted_octets t.position (lead h))
+made_from-opens s t put h e = opens_by h.constructed (eqb h.number 3) s t put h e
+
+-- it ends
+closes_by : (k : Bool) (size : Size) (s : ExtractState) (o : ℕ) → AllowsSize k size
+    → extract_step s (if k then Close (end_offset size o) else Leave) ≡ end_step s (end_octets size)
+closes_by true (Definite n) s o allowed = refl
+closes_by true Indefinite s o allowed = refl
+closes_by false (Definite n) s o allowed = refl
+closes_by false Indefinite s o allowed = absurd (cc (allowed))
+
+pub made_from-closes : (s : ExtractState) (h : Heading) (inside : Forest) → AllowsSize h.constructed h.size
+    → made_from s (closes h inside ∷ []) ≡ end_step s (end_octets h.size)
+made_from-closes s h inside allowed =
+    followed-one extract_step s (closes h inside) ∙ closes_by h.constructed h.size s _ allowed
+
+-- the events of an element that has ended, and of what follows it
+pub events-closed : (h : Heading) (inside rest : Forest)
+    → events (Closed h inside rest) ≡ (opens h ++ (events inside ++ closes h inside ∷ [])) ++ events rest
+events-closed h inside rest =
+    sym (append_assoc (opens h) (events inside ++ closes h inside ∷ []) (events rest)
+    ∙ ap (λ (l : List Told). opens h ++ l) (append_assoc (events inside) (closes h inside ∷ []) (events rest)))
+
+module _ (n : ℕ) (only : Bool) where
+  -- an `Extract` in the element wanted, and in this many that it holds
+  abbrev pub state_inside : ℕ → ExtractState
+  state_inside level = record { offset = n; contents_only = only; position = position.Inside level }
+
+  -- ---- in the element wanted
+
+  -- of elements in it their octets are put
+  pub record IsPassedOn (level : ℕ) (f : Forest) : Type 0 where
+    pub put : (made_from (state_inside level) (events f)).put ≡ octets_so_far f
+    pub goes : (made_from (state_inside level) (events f)).goes ≡ go.On
+    pub found : has_found (made_from (state_inside level) (events f)).state ≡ true
+    pub stays : is_whole f ≡ true → (made_from (state_inside level) (events f)).state ≡ state_inside level
+
+  pub whole_inside_passed_on : (level : ℕ) (f : Forest) → is_whole f ≡ true → IsPassedOn level f
+      → made_from (state_inside level) (events f) ≡ put_step (state_inside level) (octets_so_far f)
+  whole_inside_passed_on level f whole k =
+      let goes = (made_from (state_inside level) (events f)).goes in
+      ap₂ (λ (s : ExtractState) (l : List ℕ). record { state = s; put = l; goes = goes }) (k.stays whole) k.put
+      ∙ ap (λ (g : Go). record { state = state_inside level; put = octets_so_far f; goes = g }) k.goes
+
+  -- elements after those whose octets are put
+  passed_on_after : (level : ℕ) (es : List Told) (put : List ℕ) (f rest : Forest)
+      → made_from (state_inside level) es ≡ put_step (state_inside level) put
+      → events f ≡ es ++ events rest → put ++ octets_so_far rest ≡ octets_so_far f → is_whole f ≡ is_whole rest
+      → IsPassedOn level rest → IsPassedOn level f
+  passed_on_after level es put f rest e again octets whole k =
+      let all =
+      ap (made_from (state_inside level)) again
+      ∙ then_more (state_inside level) (state_inside level) put es (events rest) e in
+      record {
+        put = ap (λ (t : Following ExtractState). t.put) all ∙ ap (λ (l : List ℕ). put ++ l) k.put ∙ octets;
+        goes = ap (λ (t : Following ExtractState). t.goes) all ∙ k.goes;
+        found = ap (λ (t : Following ExtractState). has_found t.state) all ∙ k.found;
+        stays = λ w. ap (λ (t : Following ExtractState). t.state) all ∙ k.stays (sym whole ∙ w);
+      }
+
+  -- one more is open, and the count goes up
+  one_more : (level : ℕ) (h : Heading) → level ≤ 254
+      → begin_step (state_inside level) h ≡ put_step (state_inside (suc level)) (octets_of h)
+  one_more level h low = ap (λ (m : ℕ). put_step (state_inside m) (octets_of h)) (omega (arith, low))
+
+  -- a primitive
+  pub primitive_passed_on : (level : ℕ) (h : Heading) (c : List ℕ) → level ≤ 254
+      → made_from (state_inside level) (Begin h ∷ Bytes c ∷ End ∷ []) ≡ put_step (state_inside level) (octets_of h ++ c)
+  primitive_passed_on level h c low =
+      then_more (state_inside level) (state_inside (suc level)) (octets_of h ++ c) (Begin h ∷ Bytes c ∷ []) (End ∷ [])
+      (made_from-begins (state_inside level) (state_inside (suc level)) (octets_of h) h c (one_more level h low))
+      ∙ ap (put_step (state_inside level)) (append-nil (octets_of h ++ c))
+
+  closed_passed_on : (level : ℕ) (h : Heading) (inside : Forest) → level ≤ 128 → AllowsSize h.constructed h.size
+      → is_whole inside ≡ true → IsPassedOn (suc level) inside
+      → made_from (state_inside level) (opens h ++ (events inside ++ closes h inside ∷ []))
+      ≡ put_step (state_inside level) (opening h ++ (octets_so_far inside ++ end_octets h.size))
+  closed_passed_on level h inside low allowed whole k =
+      then_more (state_inside level) (state_inside (suc level)) (opening h) (opens h)
+      (events inside ++ closes h inside ∷ [])
+      (made_from-opens (state_inside level) (state_inside (suc level)) (octets_of h) h
+      (one_more level h (omega (arith, low))))
+      ∙ ap (λ (t : Following ExtractState). record t { put = opening h ++ t.put })
+      (then_more (state_inside (suc level)) (state_inside (suc level)) (octets_so_far inside) (events inside)
+      (closes h inside ∷ []) (whole_inside_passed_on (suc level) inside whole k)
+      ∙ ap (λ (t : Following ExtractState). record t { put = octets_so_far inside ++ t.put })
+      (made_from-closes (state_inside (suc level)) h inside allowed))
+
+  -- the octets of all that the element wanted holds are put
+  pub passed_on : (p : Place) (level : ℕ) (f : Forest) → IsOpen p f → level ≤ p.depth → p.depth ≤ 128
+      → IsPassedOn level f
+  passed_on p level Stop v low deep = record { put = refl; goes = refl; found = refl; stays = λ w. refl }
+  passed_on p level (Fill rest) v low deep =
+      passed_on_after level (Pad (0 ∷ []) ∷ []) [] (Fill rest) rest refl refl refl refl
+      (passed_on (after p 1) level rest v.1 low deep)
+  passed_on p level (Whole h c rest) v low deep =
+      passed_on_after level (Begin h ∷ Bytes c ∷ End ∷ []) (octets_of h ++ c) (Whole h c rest) rest
+      (primitive_passed_on level h c (omega (arith, low, deep))) refl
+      (append_assoc (octets_of h) c (octets_so_far rest)) refl (passed_on (after p _) level rest v.1 low deep)
+  passed_on p level (Closed h inside rest) v low deep =
+      let i : IsPassedOn (suc level) inside =
+      passed_on (inside_of p h) (suc level) inside v.1 (omega (arith, low)) (omega (arith, (v.0.0.depth refl))) in
+      passed_on_after level (opens h ++ (events inside ++ closes h inside ∷ []))
+      (opening h ++ (octets_so_far inside ++ end_octets h.size)) (Closed h inside rest) rest
+      (closed_passed_on level h inside (omega (arith, low, deep)) v.0.0.header.valid.allowed v.0.1 i)
+      (events-closed h inside rest)
+      (append_assoc (opening h) (octets_so_far inside ++ end_octets h.size) (octets_so_far rest)
+      ∙ ap (λ (l : List ℕ). opening h ++ l)
+      (append_assoc (octets_so_far inside) (end_octets h.size) (octets_so_far rest))) refl
+      (passed_on (after p (extent h inside)) level rest v.2 low deep)
+  passed_on p level (Partial h c) v low deep =
+      let all =
+      made_from-begins (state_inside level) (state_inside (suc level)) (octets_of h) h c
+      (one_more level h (omega (arith, low, deep))) in
+      record {
+        put = ap (λ (t : Following ExtractState). t.put) all;
+        goes = ap (λ (t : Following ExtractState). t.goes) all;
+        found = ap (λ (t : Following ExtractState). has_found t.state) all;
+        stays = λ w. absurd (cc (w));
+      }
+  passed_on p level (Entered h inside) v low deep =
+      let i : IsPassedOn (suc level) inside =
+      passed_on (inside_of p h) (suc level) inside v.1 (omega (arith, low)) (omega (arith, (v.0.0.depth refl))) in
+      let all = then_more (state_inside level) (state_inside (suc level)) (opening h) (opens h) (events inside)
+      (made_from-opens (state_inside level) (state_inside (suc level)) (octets_of h) h
+      (one_more level h (omega (arith, low, deep)))) in
+      record {
+        put = ap (λ (t : Following ExtractState). t.put) all ∙ ap (λ (l : List ℕ). opening h ++ l) i.put;
+        goes = ap (λ (t : Following ExtractState). t.goes) all ∙ i.goes;
+        found = ap (λ (t : Following ExtractState). has_found t.state) all ∙ i.found;
+        stays = λ w. absurd (cc (w));
+      }
+  passed_on p level (Awaiting h) v low deep =
+      let all =
+      followed-one extract_step (state_inside level) (Enter h) ∙ one_more level h (omega (arith, low, deep)) in
+      record {
+        put = ap (λ (t : Following ExtractState). t.put) all;
+        goes = ap (λ (t : Following ExtractState). t.goes) all;
+        found = ap (λ (t : Following ExtractState). has_found t.state) all;
+        stays = λ w. absurd (cc (w));
+      }
+  passed_on p level (Begun octets) v low deep = record { put = refl; goes = refl; found = refl; stays = λ w. refl }
+  passed_on p level Zero v low deep = record { put = refl; goes = refl; found = refl; stays = λ w. refl }

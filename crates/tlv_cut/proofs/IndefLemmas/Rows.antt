@@ -1,0 +1,121 @@
+-- What `indef` writes for short inputs, and what an `Indef` puts for events.
+use Rattle.std.proofs.Common.{◌≡◌, ℕ, Bool, true, false, List, [], ◌∷◌, refl}
+use Rattle.std.specs.Prelude.{Some, None}
+use Rattle.tlv_head.specs.declared.fault.FaultCode.TheVariants.{Empty, Short}
+use Rattle.tlv_head.specs.declared.header.Class.TheVariants.{Universal}
+use Rattle.tlv_head.specs.declared.header.Size.TheVariants.{Definite}
+use Rattle.tlv_head.specs.Header.{Heading}
+use Rattle.tlv_walk.specs.Ending.{fault}
+use Rattle.tlv_walk.specs.Events.{Open, Close, Enter, Unused, Leave}
+use Rattle.tlv_walk.proofs.Readings.{reading}
+use Rattle.tlv_walk.proofs.Endings.{ending}
+use Rattle.tlv_cut.specs.IndefText.{indef_text, with_indefinite_lengths}
+use Rattle.tlv_cut.specs.IndefStep.{indef_event_text}
+use Rattle.tlv_cut.specs.IndefJob.{indef_framing}
+use Rattle.tlv_cut.specs.IndefReading.{with_offsets_from}
+
+-- what is written for an input
+abbrev written : Bool → List ℕ → List ℕ
+written padding b = indef_text (reading (indef_framing padding) b)
+
+nothing : written false [] ≡ []
+nothing = refl
+
+-- 30 03 02 01 05, and what is written for it
+a-sequence : written false (0x30 ∷ 3 ∷ 2 ∷ 1 ∷ 5 ∷ []) ≡ 0x30 ∷ 0x80 ∷ 2 ∷ 1 ∷ 5 ∷ 0 ∷ 0 ∷ []
+a-sequence = refl
+
+its-second-reading : with_offsets_from 0
+    (with_indefinite_lengths (reading (indef_framing false) (0x30 ∷ 3 ∷ 2 ∷ 1 ∷ 5 ∷ [])))
+    ≡ reading (indef_framing false) (0x30 ∷ 0x80 ∷ 2 ∷ 1 ∷ 5 ∷ 0 ∷ 0 ∷ [])
+its-second-reading = refl
+
+written-again : written false (0x30 ∷ 0x80 ∷ 2 ∷ 1 ∷ 5 ∷ 0 ∷ 0 ∷ []) ≡ 0x30 ∷ 0x80 ∷ 2 ∷ 1 ∷ 5 ∷ 0 ∷ 0 ∷ []
+written-again = refl
+
+-- 30 03 02 01: no end-of-contents octets for an element that is open
+a-sequence-cut-off : written false (0x30 ∷ 3 ∷ 2 ∷ 1 ∷ []) ≡ 0x30 ∷ 0x80 ∷ 2 ∷ 1 ∷ []
+a-sequence-cut-off = refl
+
+its-ending : ending (indef_framing false) (0x30 ∷ 3 ∷ 2 ∷ 1 ∷ []) ≡ fault Short 4
+its-ending = refl
+
+-- 30 03 02 02 01: the header that is refused is not written
+a-header-refused : written false (0x30 ∷ 3 ∷ 2 ∷ 2 ∷ 1 ∷ []) ≡ 0x30 ∷ 0x80 ∷ []
+a-header-refused = refl
+
+-- 30 80 00 01: nor is the first of the end-of-contents octets without the second
+a-lone-zero : written false (0x30 ∷ 0x80 ∷ 0 ∷ 1 ∷ []) ≡ 0x30 ∷ 0x80 ∷ []
+a-lone-zero = refl
+
+-- 3a 09, and two segments
+segments : written false (0x3a ∷ 9 ∷ 4 ∷ 3 ∷ 0x4a ∷ 0x6f ∷ 0x6e ∷ 4 ∷ 2 ∷ 0x65 ∷ 0x73 ∷ [])
+    ≡ 0x3a ∷ 0x80 ∷ 4 ∷ 3 ∷ 0x4a ∷ 0x6f ∷ 0x6e ∷ 4 ∷ 2 ∷ 0x65 ∷ 0x73 ∷ 0 ∷ 0 ∷ []
+segments = refl
+
+-- 20 00
+no-segment : written false (0x20 ∷ 0 ∷ []) ≡ 0x20 ∷ 0x80 ∷ 0 ∷ 0 ∷ []
+no-segment = refl
+
+-- 00 00 00, with padding
+padding-alone : written true (0 ∷ 0 ∷ 0 ∷ []) ≡ 0 ∷ 0 ∷ 0 ∷ []
+padding-alone = refl
+
+its-fault : ending (indef_framing true) (0 ∷ 0 ∷ 0 ∷ []) ≡ fault Empty 3
+its-fault = refl
+
+-- 30 80 00 00 00 30 02 05 00, with padding
+padding-between : written true (0x30 ∷ 0x80 ∷ 0 ∷ 0 ∷ 0 ∷ 0x30 ∷ 2 ∷ 5 ∷ 0 ∷ [])
+    ≡ 0x30 ∷ 0x80 ∷ 0 ∷ 0 ∷ 0 ∷ 0x30 ∷ 0x80 ∷ 5 ∷ 0 ∷ 0 ∷ 0 ∷ []
+padding-between = refl
+
+padding-again : written true (0x30 ∷ 0x80 ∷ 0 ∷ 0 ∷ 0 ∷ 0x30 ∷ 0x80 ∷ 5 ∷ 0 ∷ 0 ∷ 0 ∷ [])
+    ≡ 0x30 ∷ 0x80 ∷ 0 ∷ 0 ∷ 0 ∷ 0x30 ∷ 0x80 ∷ 5 ∷ 0 ∷ 0 ∷ 0 ∷ []
+padding-again = refl
+
+-- 04 05 30 03 02 01 07, read as a string that holds encodings: it is a primitive, whose header stays
+a-wrapper : indef_text (reading (record { inside = 0 ∷ []; padding = false }) (4 ∷ 5 ∷ 0x30 ∷ 3 ∷ 2 ∷ 1 ∷ 7 ∷ []))
+    ≡ 4 ∷ 5 ∷ 0x30 ∷ 0x80 ∷ 2 ∷ 1 ∷ 7 ∷ 0 ∷ 0 ∷ []
+a-wrapper = refl
+
+-- 03 04 00 30 00, the same with an octet too few
+an-open-wrapper : indef_text (reading (record { inside = 0 ∷ []; padding = false }) (3 ∷ 4 ∷ 0 ∷ 0x30 ∷ 0 ∷ []))
+    ≡ 3 ∷ 4 ∷ 0 ∷ 0x30 ∷ 0x80 ∷ 0 ∷ 0 ∷ []
+an-open-wrapper = refl
+
+-- ---- events
+
+-- 04 02
+a-string : Heading
+a-string =
+    record {
+      offset = 0;
+      named = true;
+      class = Universal;
+      constructed = false;
+      number = 4;
+      size = Definite 2;
+      identifier = 4 ∷ [];
+      lengths = 2 ∷ [];
+    }
+
+-- the header of a primitive stays, whichever event comes with it
+a-string-opened : indef_event_text (Open a-string) ≡ 4 ∷ 2 ∷ []
+unfolding a-string
+a-string-opened = refl
+
+a-string-entered : indef_event_text (Enter a-string) ≡ 4 ∷ 2 ∷ []
+unfolding a-string
+a-string-entered = refl
+
+a-string-left : indef_event_text Leave ≡ []
+a-string-left = refl
+
+an-unused-octet : indef_event_text Unused ≡ 0 ∷ []
+an-unused-octet = refl
+
+an-end : indef_event_text (Close None) ≡ 0 ∷ 0 ∷ []
+an-end = refl
+
+an-end-with-its-offset : indef_event_text (Close (Some 7)) ≡ 0 ∷ 0 ∷ []
+an-end-with-its-offset = refl

@@ -1,0 +1,228 @@
+-- The same elements with indefinite lengths keep all rules.
+use Rattle.std.specs.Option.{option_map_or}
+use Rattle.std.proofs.Common.{refl, sym, ap, ◌∙◌, subst}
+use Rattle.std.specs.Prelude.{◌≡◌, ℕ, ◌+◌, ◌<◌, ◌≤◌, Bool, true, false, ◌||◌, eqb, if◌then◌else◌, List, []}
+use Rattle.std.specs.Prelude.{◌∷◌, ◌++◌, length, Option, Some, None, IfSome}
+use Rattle.tlv_head.specs.declared.header.Size.{Size}
+use Rattle.tlv_head.specs.declared.header.Size.TheVariants.{Indefinite}
+use Rattle.tlv_head.specs.Header.{Heading, announced, definite_length, is_wrapper, octets_of}
+use Rattle.tlv_head.specs.Private.Header.{AllowsSize}
+use Rattle.tlv_walk.specs.Forest.{Forest, Stop, Fill, Whole, Closed, Partial, Entered, Awaiting, Begun, Zero}
+use Rattle.tlv_walk.specs.Forest.{extent, has_element, is_whole, lead, opening, spell}
+use Rattle.tlv_walk.specs.Place.{Fits, IsHeadAt, IsOpen, Place, after, inside_of}
+use Rattle.tlv_cut.specs.IndefText.{with_indefinite_lengths, indefinite_header}
+use Rattle.tlv_cut.specs.IndefReading.{with_offsets_from}
+use Rattle.tlv_cut.proofs.Lead.{lead_by}
+use Rattle.tlv_cut.proofs.IndefLemmas.Offsets.{constructed_at, is_named, spell-with_offsets_from}
+
+-- elements that have all ended have ended at any offset
+is_whole-with_offsets_from : (at : ℕ) (f : Forest) → is_whole (with_offsets_from at f) ≡ is_whole f
+is_whole-with_offsets_from at Stop = refl
+is_whole-with_offsets_from at (Fill rest) = is_whole-with_offsets_from (at + 1) rest
+is_whole-with_offsets_from at (Whole h c rest) =
+    is_whole-with_offsets_from (at + (length (octets_of h) + length c)) rest
+is_whole-with_offsets_from at (Closed h inside rest) = is_whole-with_offsets_from (at + extent h inside) rest
+is_whole-with_offsets_from at (Partial h c) = refl
+is_whole-with_offsets_from at (Entered h inside) = refl
+is_whole-with_offsets_from at (Awaiting h) = refl
+is_whole-with_offsets_from at (Begun octets) = refl
+is_whole-with_offsets_from at Zero = refl
+
+-- and with indefinite lengths
+closed_whole : (constructed : Bool) (h : Heading) (c : List ℕ) (inside rest : Forest) → is_whole rest ≡ true
+    → is_whole (if constructed then Closed (indefinite_header h) inside rest else Whole h c rest) ≡ true
+closed_whole true h c inside rest e = e
+closed_whole false h c inside rest e = e
+
+is_whole-with_indefinite_lengths : (f : Forest) → is_whole f ≡ true → is_whole (with_indefinite_lengths f) ≡ true
+is_whole-with_indefinite_lengths Stop e = refl
+is_whole-with_indefinite_lengths (Fill rest) e = is_whole-with_indefinite_lengths rest e
+is_whole-with_indefinite_lengths (Whole h c rest) e = is_whole-with_indefinite_lengths rest e
+is_whole-with_indefinite_lengths (Closed h inside rest) e =
+    closed_whole h.constructed h _ (with_indefinite_lengths inside) (with_indefinite_lengths rest)
+    (is_whole-with_indefinite_lengths rest e)
+is_whole-with_indefinite_lengths (Partial h c) e = absurd (cc)
+is_whole-with_indefinite_lengths (Entered h inside) e = absurd (cc)
+is_whole-with_indefinite_lengths (Awaiting h) e = absurd (cc)
+is_whole-with_indefinite_lengths (Begun octets) e = refl
+is_whole-with_indefinite_lengths Zero e = refl
+
+pub whole : (at : ℕ) (f : Forest) → is_whole f ≡ true
+    → is_whole (with_offsets_from at (with_indefinite_lengths f)) ≡ true
+whole at f e = is_whole-with_offsets_from at (with_indefinite_lengths f) ∙ is_whole-with_indefinite_lengths f e
+
+-- where there is an element, there is one with indefinite lengths too
+closed_some : (constructed : Bool) (at : ℕ) (h : Heading) (c : List ℕ) (inside rest : Forest)
+    → has_element (with_offsets_from at
+    (if constructed then Closed (indefinite_header h) inside rest else Whole h c rest)) ≡ true
+closed_some true at h c inside rest = refl
+closed_some false at h c inside rest = refl
+
+pub some : (at : ℕ) (f : Forest) → is_whole f ≡ true → has_element f ≡ true
+    → has_element (with_offsets_from at (with_indefinite_lengths f)) ≡ true
+some at Stop w e = e
+some at (Fill rest) w e = some (at + 1) rest w e
+some at (Whole h c rest) w e = refl
+some at (Closed h inside rest) w e =
+    closed_some h.constructed at h _ (with_indefinite_lengths inside) (with_indefinite_lengths rest)
+some at (Partial h c) w e = absurd (cc)
+some at (Entered h inside) w e = absurd (cc)
+some at (Awaiting h) w e = absurd (cc)
+some at (Begun octets) w e = absurd (cc)
+some at Zero w e = absurd (cc)
+
+-- the place `q` is as `p`, where no string is read as encodings, but for a bound: at `q` there is none
+pub record IsFree (p q : Place) : Type 0 where
+  pub names : p.inside ≡ []
+  pub same_names : q.inside ≡ []
+  pub depth : q.depth ≡ p.depth
+  pub bound : q.bound ≡ None
+  pub padding : p.padding ≡ true → q.padding ≡ true
+  pub definite : p.padding ≡ true → q.indefinite ≡ false
+
+free_fits : (p q : Place) → IsFree p q → (n : ℕ) → Fits q n
+free_fits p q k n = subst (λ (b : Option ℕ). IfSome b (λ b. q.at + n ≤ b)) (sym k.bound) tt
+
+free_after : (p q : Place) (m n : ℕ) → IsFree p q → IsFree (after p m) (after q n)
+free_after p q m n k =
+    record {
+      names = k.names;
+      same_names = k.same_names;
+      depth = k.depth;
+      bound = k.bound;
+      padding = k.padding;
+      definite = k.definite;
+    }
+
+free_inside : (p q : Place) (h g : Heading) → g.size ≡ Indefinite → IsFree p q → IsFree (inside_of p h) (inside_of q g)
+free_inside p q h g e k = record {
+  names = k.names;
+  same_names = k.same_names;
+  depth = ap (λ (d : ℕ). d + 1) k.depth;
+  bound = ap (λ (s : Size). option_map_or (λ n. Some (q.at + length (octets_of g) + n)) (definite_length s) q.bound) e
+      ∙ k.bound;
+  padding = λ z. absurd (cc);
+  definite = λ z. absurd (cc);
+}
+
+-- the header of a primitive may be there
+primitive_at : (p q : Place) (h : Heading) → IsFree p q → IsHeadAt p false h
+    → IsHeadAt q false (record h { offset = q.at })
+primitive_at p q h k v = record {
+  valid = record { identifier = v.valid.identifier; lengths = v.valid.lengths; allowed = v.valid.allowed };
+  offset = refl;
+  named = v.named ∙ is_named p.at p.inside k.names ∙ sym (is_named q.at q.inside k.same_names);
+  form = v.form;
+}
+
+-- the header of a constructed element, with an indefinite length, may be there
+abbrev heading_at : Place → Heading → Heading
+heading_at q h = record (indefinite_header h) { offset = q.at }
+
+constructed_head : (p q : Place) (h : Heading) → IsFree p q → IsHeadAt p true h → IsHeadAt q true (heading_at q h)
+constructed_head p q h k v =
+    let constructed = constructed_at p h k.names v in
+    record {
+      valid = record {
+        identifier = v.valid.identifier;
+        lengths = refl;
+        allowed = subst
+            (λ (c : Bool). AllowsSize c Indefinite) (sym constructed) refl;
+      };
+      offset = refl;
+      named = v.named ∙ is_named p.at p.inside k.names ∙ sym (is_named q.at q.inside k.same_names);
+      form = ap (λ (c : Bool). c || is_wrapper h.named h.class c h.number Indefinite) constructed;
+    }
+
+-- the offsets of what an element holds do not move what follows the element
+follows : (q : Place) (h : Heading) (at : ℕ) (inside rest : Forest)
+    → IsOpen (after q (extent (heading_at q h) inside)) rest
+    → IsOpen (after q (extent (heading_at q h) (with_offsets_from at inside))) rest
+follows q h at inside rest v =
+    subst (λ (l : List ℕ). IsOpen (after q (length (opening (heading_at q h)) + (length l + 2))) rest)
+    (sym (spell-with_offsets_from at inside)) v
+
+-- what `with_indefinite_lengths` makes of a constructed element keeps the rules that it keeps with an indefinite length
+made_closed : (q : Place) (h : Heading) (inside rest : Forest) → h.constructed ≡ true
+    → IsOpen q (with_offsets_from q.at
+    (Closed (indefinite_header h) (with_indefinite_lengths inside) (with_indefinite_lengths rest)))
+    → IsOpen q (with_offsets_from q.at (with_indefinite_lengths (Closed h inside rest)))
+made_closed q h inside rest e v =
+    let one = Closed (indefinite_header h) (with_indefinite_lengths inside) (with_indefinite_lengths rest) in
+    let other = Whole h (lead h ++ spell (with_indefinite_lengths inside)) (with_indefinite_lengths rest) in
+    subst (λ (k : Bool). IsOpen q (with_offsets_from q.at (if k then one else other))) (sym e) v
+
+made_entered : (q : Place) (h : Heading) (inside : Forest) → h.constructed ≡ true
+    → IsOpen q (with_offsets_from q.at (Entered (indefinite_header h) (with_indefinite_lengths inside)))
+    → IsOpen q (with_offsets_from q.at (with_indefinite_lengths (Entered h inside)))
+made_entered q h inside e v =
+    let one = Entered (indefinite_header h) (with_indefinite_lengths inside) in
+    let other = Partial h (lead h ++ spell (with_indefinite_lengths inside)) in
+    subst (λ (k : Bool). IsOpen q (with_offsets_from q.at (if k then one else other))) (sym e) v
+
+pub is_open : (p q : Place) (f : Forest) → IsFree p q → IsOpen p f
+    → IsOpen q (with_offsets_from q.at (with_indefinite_lengths f))
+is_open p q Stop k v = tt
+is_open p q (Fill rest) k v = (
+  (k.padding v.0.0, k.definite v.0.0, free_fits p q k 1),
+  is_open (after p 1) (after q 1) rest (free_after p q 1 1 k) v.1,
+)
+is_open p q (Whole h c rest) k v =
+    let n = length (octets_of h) + length c in (
+      (
+        record {
+          header = primitive_at p q h k v.0.0.header;
+          depth = λ e. absurd
+              (cc (e));
+          fits = free_fits p q k n;
+        },
+        v.0.1,
+      ),
+      is_open (after p n) (after q n) rest (free_after p q n n k) v.1,
+    )
+is_open p q (Closed h inside rest) k v =
+    let head = heading_at q h in
+    let at = q.at + length (opening head) in
+    let n = extent head (with_indefinite_lengths inside) in
+    made_closed q h inside rest (constructed_at p h k.names v.0.0.header) (
+      (
+        record {
+          header = constructed_head p q h k v.0.0.header;
+          depth = λ _. subst (λ (d : ℕ). d < 128) (sym k.depth) (v.0.0.depth refl);
+          fits = free_fits p q k (extent head (with_offsets_from at (with_indefinite_lengths inside)));
+        },
+        whole at inside v.0.1,
+        tt,
+      ),
+      is_open (inside_of p h) (inside_of q head) inside (free_inside p q h head refl k) v.1,
+      follows q h at (with_indefinite_lengths inside) (with_offsets_from (q.at + n) (with_indefinite_lengths rest))
+          (is_open (after p (extent h inside)) (after q n) rest (free_after p q (extent h inside) n k) v.2),
+    )
+is_open p q (Partial h c) k v = (
+  record {
+    header = primitive_at p q h k v.0.header;
+    depth = λ e. absurd (cc (e));
+    fits = free_fits p q k
+        (length (octets_of h) + announced h.size);
+  },
+  v.1,
+)
+is_open p q (Entered h inside) k v =
+    let head = heading_at q h in
+    made_entered q h inside (constructed_at p h k.names v.0.0.header) (
+      (
+        record {
+          header = constructed_head p q h k v.0.0.header;
+          depth = λ _. subst (λ (d : ℕ). d < 128) (sym k.depth) (v.0.0.depth refl);
+          fits = free_fits p q k (length (octets_of head) + 0);
+        },
+        λ w. tt,
+      ),
+      is_open (inside_of p h) (inside_of q head) inside (free_inside p q h head refl k) v.1,
+    )
+is_open p q (Awaiting h) k v = absurd (awaits h (constructed_at p h k.names v.0.header) v.1)
+  where
+    awaits : (h : Heading) → h.constructed ≡ true → lead h ≡ 0 ∷ [] → ⊥
+    awaits h e l = cc (ap (λ (k : Bool). lead_by k (eqb h.number 3)) e, l)
+is_open p q (Begun octets) k v = tt
+is_open p q Zero k v = tt

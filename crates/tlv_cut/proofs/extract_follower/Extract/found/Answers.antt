@@ -1,0 +1,5 @@
+use Rattle.std.proofs.Common.{rules}
+use Rattle.tlv_cut.proofs.extract_follower.Extract.found.Goals as goal
+
+pub returns : goal.returns
+returns c = search rules

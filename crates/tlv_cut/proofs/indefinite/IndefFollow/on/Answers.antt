@@ -1,5 +1,0 @@
-use Rattle.std.proofs.Common.{refl}
-use Rattle.tlv_cut.proofs.indefinite.IndefFollow.on.Goals as goal
-
-pub returns-clause-state : goal.returns-clause-state
-returns-clause-state g c = (refl, refl)

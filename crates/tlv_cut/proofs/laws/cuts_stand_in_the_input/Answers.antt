@@ -1,5 +1,0 @@
-use Rattle.tlv_cut.proofs.CutLaws.{stand_in_the_input}
-use Rattle.tlv_cut.proofs.laws.cuts_stand_in_the_input.Goals as goal
-
-pub returns : goal.returns
-returns x = stand_in_the_input

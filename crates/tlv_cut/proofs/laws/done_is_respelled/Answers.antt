@@ -1,5 +1,0 @@
-use Rattle.tlv_cut.proofs.IndefReadings.{done_again}
-use Rattle.tlv_cut.proofs.laws.done_is_respelled.Goals as goal
-
-pub returns : goal.returns
-returns c = done_again

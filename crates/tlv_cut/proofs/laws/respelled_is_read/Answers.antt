@@ -1,5 +1,0 @@
-use Rattle.tlv_cut.proofs.IndefReadings.{read_again}
-use Rattle.tlv_cut.proofs.laws.respelled_is_read.Goals as goal
-
-pub returns : goal.returns
-returns c = read_again

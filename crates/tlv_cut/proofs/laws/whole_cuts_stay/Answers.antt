@@ -1,7 +1,0 @@
-use Rattle.std.proofs.Common.{false}
-use Rattle.tlv_cut.proofs.CutsGrow.{same_cut, same_found, same_whole}
-use Rattle.tlv_cut.proofs.laws.whole_cuts_stay.Goals as goal
-
-pub returns : goal.returns
-returns x framing b c f g r s n e =
-    (same_found framing b c f g r s n false e, same_whole framing b c f g r s n false e, λ only. same_cut framing b c f g r s n only e)

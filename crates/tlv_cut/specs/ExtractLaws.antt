@@ -1,0 +1,81 @@
+-- Laws of what `extract` writes.
+use Rattle.std.specs.Prelude.{◌≡◌, ℕ, Bool, true, false, if◌then◌else◌, List, [], ◌++◌, length}
+use Rattle.tlv_head.specs.Header.{Heading, IsHeading, octets_of}
+use Rattle.tlv_walk.specs.declared.follow.Go.TheVariants.{Enough}
+use Rattle.tlv_walk.specs.declared.framing.Framing.{Framing}
+use Rattle.tlv_walk.specs.Events.{Told, End, Close, Leave, events}
+use Rattle.tlv_walk.specs.Follow.{Following, followed, goes_of}
+use Rattle.tlv_walk.specs.Forest.{Forest, end_octets}
+use Rattle.tlv_walk.specs.Reading.{IsPrefixOf, IsReading}
+use Rattle.tlv_cut.specs.LongerInputs.{ForLongerInputs}
+use Rattle.tlv_cut.specs.ExtractText.{extract_text, has_element_at, has_whole_element_at}
+use Rattle.tlv_cut.specs.ExtractStep.{ExtractState, extract_step, has_found, new_extract}
+
+-- what is written of the element at the offset n are octets of the input b, from that offset on:
+-- a header, contents and, if the element is whole, end-of-contents octets
+pub record IsInInput (b : List ℕ) (n : ℕ) (f : Forest) : Type 0 where
+  -- the octets before the element, and those after what is written of it
+  pub front : List ℕ
+  pub rest : List ℕ
+  pub octets : front ++ (extract_text n false f ++ rest) ≡ b
+  pub place : length front ≡ n
+  -- its header
+  pub head : Heading
+  pub valid : IsHeading head
+  pub offset : head.offset ≡ n
+  pub parts : extract_text n false f ≡ octets_of head ++ (extract_text n true f
+      ++ (if has_whole_element_at n f then end_octets head.size else []))
+
+-- an element that is found is in the input
+abbrev pub ExtractTextIsInTheInput : Type 0
+ExtractTextIsInTheInput = (framing : Framing) (b : List ℕ) (f : Forest) → IsReading framing b f
+    → (n : ℕ) → has_element_at n f ≡ true → IsInInput b n f
+
+-- what is written for an input is a front of what is written for a longer one
+abbrev pub ExtractTextGoesOn : Type 0
+ExtractTextGoesOn = ForLongerInputs (λ f g. (n : ℕ) (contents_only : Bool)
+    → IsPrefixOf (extract_text n contents_only f) (extract_text n contents_only g))
+
+-- an element that is found is found whatever follows
+abbrev pub FoundElementsStay : Type 0
+FoundElementsStay = ForLongerInputs (λ f g. (n : ℕ)
+    → has_element_at n f ≡ true → has_element_at n g ≡ true)
+
+-- of the element at the offset n the same is found and written in both
+pub record AreExtractedAlike (n : ℕ) (f g : Forest) : Type 0 where
+  pub found : has_element_at n g ≡ has_element_at n f
+  pub whole : has_whole_element_at n g ≡ has_whole_element_at n f
+  pub text : (contents_only : Bool)
+      → extract_text n contents_only g ≡ extract_text n contents_only f
+
+-- if an element is whole, nothing that follows changes what is found and written of it
+abbrev pub WholeElementsStay : Type 0
+WholeElementsStay = ForLongerInputs (λ f g. (n : ℕ)
+    → has_whole_element_at n f ≡ true → AreExtractedAlike n f g)
+
+-- what was put is what `extract` writes. It was enough if the element is whole, and the element was
+-- found if it is there
+pub record MakesExtract (n : ℕ) (contents_only : Bool) (f : Forest) (x : Following ExtractState)
+    : Type 0 where
+  pub put : x.put ≡ extract_text n contents_only f
+  pub goes : x.goes ≡ goes_of (has_whole_element_at n f)
+  pub found : has_found x.state ≡ has_element_at n f
+
+-- an `Extract` makes that of the events of a reading
+abbrev pub ExtractMakesItsText : Type 0
+ExtractMakesItsText = (framing : Framing) (b : List ℕ) (f : Forest) → IsReading framing b f
+    → (n : ℕ) (contents_only : Bool)
+    → MakesExtract n contents_only f
+    (followed extract_step (new_extract n contents_only) (events f))
+
+-- an element ends
+abbrev pub is_end_event : Told → Bool
+is_end_event End = true
+is_end_event (Close at) = true
+is_end_event Leave = true
+is_end_event _ = false
+
+-- an `Extract` has enough at the end of an element alone, whatever it followed before
+abbrev pub EnoughComesAtEnds : Type 0
+EnoughComesAtEnds = (s : ExtractState) (e : Told)
+    → (extract_step s e).goes ≡ Enough → is_end_event e ≡ true

@@ -1,0 +1,60 @@
+-- What `extract` writes: an element, or its contents.
+use Rattle.std.specs.Prelude.{ℕ, Bool, false, ◌==◌, if◌then◌else◌, List, [], ◌++◌}
+use Rattle.std.specs.Prelude.{Option, Some, None}
+use Rattle.std.specs.Option.{is_some, option_map_or, option_or}
+use Rattle.tlv_head.specs.Header.{octets_of}
+use Rattle.tlv_walk.specs.Forest.{Forest, Stop, Fill, Whole, Closed, Partial, Entered, Awaiting}
+use Rattle.tlv_walk.specs.Forest.{end_octets, is_whole, lead, opening}
+
+-- the element whose header begins at the offset n, by itself, if its header is whole. No two
+-- elements begin at one offset
+abbrev pub element_at : ℕ → Forest → Option Forest
+element_at n (Fill rest) = element_at n rest
+element_at n (Whole h c rest) =
+    if h.offset == n then Some (Whole h c Stop) else element_at n rest
+element_at n (Closed h inside rest) =
+    if h.offset == n then Some (Closed h inside Stop)
+    else option_or (element_at n inside) (element_at n rest)
+element_at n (Partial h c) = if h.offset == n then Some (Partial h c) else None
+element_at n (Entered h inside) =
+    if h.offset == n then Some (Entered h inside) else element_at n inside
+element_at n (Awaiting h) = if h.offset == n then Some (Awaiting h) else None
+element_at n _ = None
+
+-- such an element is there
+abbrev pub has_element_at : ℕ → Forest → Bool
+has_element_at n f = is_some (element_at n f)
+
+-- such an element is there, and has ended
+abbrev pub has_whole_element_at : ℕ → Forest → Bool
+has_whole_element_at n f = option_map_or is_whole (element_at n f) false
+
+-- 8.1.1.1: the octets of elements so far. The octets of an unfinished header are left out, and so
+-- is the first of the end-of-contents octets without the second. Padding belongs to no element
+abbrev pub octets_so_far : Forest → List ℕ
+octets_so_far (Fill rest) = octets_so_far rest
+octets_so_far (Whole h c rest) = octets_of h ++ (c ++ octets_so_far rest)
+octets_so_far (Closed h inside rest) =
+    opening h ++ (octets_so_far inside ++ (end_octets h.size ++ octets_so_far rest))
+octets_so_far (Partial h c) = octets_of h ++ c
+octets_so_far (Entered h inside) = opening h ++ octets_so_far inside
+octets_so_far (Awaiting h) = octets_of h
+octets_so_far _ = []
+
+-- 8.1.1.1: the contents octets so far of one element: neither its identifier and length octets nor
+-- its end-of-contents octets. The first contents octet of a BIT STRING that holds encodings is one
+-- of them
+abbrev pub contents_so_far : Forest → List ℕ
+contents_so_far (Whole h c _) = c
+contents_so_far (Closed h inside _) = lead h ++ octets_so_far inside
+contents_so_far (Partial h c) = c
+contents_so_far (Entered h inside) = lead h ++ octets_so_far inside
+contents_so_far _ = []
+
+-- what is written of an element
+abbrev pub element_text : Bool → Forest → List ℕ
+element_text contents_only e = if contents_only then contents_so_far e else octets_so_far e
+
+-- what `extract` writes: the element at the offset n, or its contents alone. Without one, nothing
+abbrev pub extract_text : ℕ → Bool → Forest → List ℕ
+extract_text n contents_only f = option_map_or (element_text contents_only) (element_at n f) []

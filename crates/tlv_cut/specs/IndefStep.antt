@@ -1,0 +1,30 @@
+-- What an `Indef` makes of events.
+use Rattle.std.specs.Prelude.{ℕ, if◌then◌else◌, List, [], ◌∷◌}
+use Rattle.tlv_head.specs.Header.{indefinite_octets, octets_of}
+use Rattle.tlv_walk.specs.declared.follow.Go.TheVariants.{On}
+use Rattle.tlv_walk.specs.Events.{Told, Open, Begin, Bytes, End, Close, Enter, Unused, Leave, Pad}
+use Rattle.tlv_walk.specs.Follow.{Following}
+
+-- what contracts see of an `Indef`: nothing, since it keeps nothing
+pub record IndefState : Type 0 where
+
+-- an `Indef` that has followed no event
+abbrev pub new_indef : IndefState
+new_indef = record {}
+
+-- the octets that it puts for an event. The header of a primitive stays as it is, whichever event
+-- comes with it
+abbrev pub indef_event_text : Told → List ℕ
+indef_event_text (Open h) = if h.constructed then indefinite_octets h else octets_of h
+indef_event_text (Begin h) = octets_of h
+indef_event_text (Bytes octets) = octets
+indef_event_text End = []
+indef_event_text (Close at) = 0 ∷ 0 ∷ []
+indef_event_text (Enter h) = octets_of h
+indef_event_text Unused = 0 ∷ []
+indef_event_text Leave = []
+indef_event_text (Pad octets) = octets
+
+-- an event comes: more is always wanted
+abbrev pub indef_step : IndefState → Told → Following IndefState
+indef_step s e = record { state = s; put = indef_event_text e; goes = On }

@@ -1,0 +1,10 @@
+-- An input, and a longer one that begins with it.
+use Rattle.std.specs.Prelude.{ℕ, List, ◌++◌}
+use Rattle.tlv_walk.specs.declared.framing.Framing.{Framing}
+use Rattle.tlv_walk.specs.Forest.{Forest}
+use Rattle.tlv_walk.specs.Reading.{IsReading}
+
+-- this holds between what an input is read as and what any longer input is read as
+abbrev pub ForLongerInputs : (Forest → Forest → Type 0) → Type 0
+ForLongerInputs P = (framing : Framing) (b c : List ℕ) (f g : Forest)
+    → IsReading framing b f → IsReading framing (b ++ c) g → P f g

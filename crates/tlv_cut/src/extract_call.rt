@@ -1,0 +1,49 @@
+//! The call `extract`: it reads a source and writes to a drain.
+ghost use Rattle.tlv_walk.specs.Job.{Runs};
+ghost use Rattle.tlv_cut.specs.ExtractJob.{extract_job};
+
+use crate::Extract;
+use tlv_walk::{DeviceFault, Drain, Ending, Framing, Source, drive};
+
+/// What [`extract`] returns.
+#[derive(Clone, Copy, Debug, PartialEq, Eq)]
+pub struct Cut {
+    /// `Done` if the element has ended, whatever follows it. Otherwise the ending of the input.
+    pub ending: Ending,
+    /// Whether the header of the element came whole.
+    pub found: bool,
+}
+
+/// Writes one element of an input as it is, or its contents octets alone (X.690, 8.1.1.1).
+///
+/// It is the element whose first identifier octet is at `offset`, in octets from the start of the
+/// input. If no element begins there, nothing is written. `framing` says which strings are read as
+/// encodings, and whether padding may be between the outermost elements.
+///
+/// Octets are written as they come, also of an element that does not end. Not written are the
+/// octets of a header that is not whole, and the first of the end-of-contents octets without the
+/// second. Nothing more is read once the element has ended.
+///
+/// # Errors
+///
+/// - `ReadFailed` exactly if the source counted a failed read in the call.
+/// - `WriteFailed` exactly if the drain counted a failed write in the call.
+/// - `InputTooLong` if the source gave more than 2^40 octets, and among the first 2^40 there is
+///   neither an octet that is refused nor the end of the element.
+pub fn extract<S: Source, D: Drain>(
+    source: &mut S,
+    drain: &mut D,
+    offset: u64,
+    contents_only: bool,
+    framing: &Framing,
+) -> Result<Cut, DeviceFault>
+    ensures { Runs (extract_job framing.now offset contents_only)
+        (S.told source.old) (S.told source.new) (D.told drain.old) (D.told drain.new) result }
+{
+    let mut follower = Extract::new(offset, contents_only);
+    let run = drive(source, &mut follower, drain, framing)?;
+    Ok(Cut {
+        ending: run.ending,
+        found: follower.found(),
+    })
+}

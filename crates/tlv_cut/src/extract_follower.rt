@@ -1,0 +1,180 @@
+//! The follower of `extract`: it writes one element, or its contents.
+ghost use Rattle.std.specs.Prelude.{◌≡◌};
+ghost use Rattle.tlv_walk.specs.Follow.{IsFollowed};
+ghost use Rattle.tlv_walk.specs.Out.{Puts};
+ghost use Rattle.tlv_cut.specs.ExtractStep.{begin_step, contents_step, end_step};
+ghost use Rattle.tlv_cut.specs.ExtractStep.{has_found, new_extract, octet_step};
+
+use std::marker::Model;
+use tlv_head::Header;
+use tlv_walk::{Drain, Event, Follow, Go, Out, WriteFault};
+
+/// Where the walk is, seen from the element that is wanted.
+#[derive(Clone, Copy)]
+enum Position {
+    /// That element has not begun.
+    Before,
+    /// In that element, and in this many of the elements that it holds. The count stops at 255.
+    Inside(u8),
+    /// That element has ended.
+    After,
+}
+
+/// A follower that writes the octets of one element, or its contents octets alone, as they come.
+///
+/// It has enough when the element ends.
+#[derive(Drop)]
+pub struct Extract {
+    offset: u64,
+    contents_only: bool,
+    position: Position,
+}
+
+impl Model for Extract {
+    ghost use Rattle.tlv_cut.specs.ExtractStep.{ExtractState};
+
+    ghost Value = { ExtractState };
+
+    ghost view = { λ e. record {
+      offset = e.offset;
+      contents_only = e.contents_only;
+      position = e.position;
+    } };
+}
+
+impl Extract {
+    /// Returns a follower for the element whose first identifier octet is at `offset`, in octets
+    /// from the start of the input. With `contents_only` it writes the contents octets alone.
+    pub fn new(offset: u64, contents_only: bool) -> Extract
+        ensures { result ≡ new_extract offset contents_only }
+    {
+        Extract {
+            offset,
+            contents_only,
+            position: Position::Before,
+        }
+    }
+
+    /// Returns whether the header of the element has come whole.
+    pub fn found(&self) -> bool
+        ensures { result ≡ has_found self.now }
+    {
+        !matches!(self.position, Position::Before)
+    }
+
+    /// An element begins: the one wanted, one that it holds, or another.
+    fn begin<D: Drain>(&mut self, header: &Header, out: &mut Out<'_, D>) -> Result<Go, WriteFault>
+        ensures state { IsFollowed (begin_step self.old header.now) self.new result }
+        ensures puts { Puts D.told out.old out.new (begin_step self.old header.now).put result }
+    {
+        match self.position {
+            Position::Before if header.offset == self.offset => {
+                if !self.contents_only {
+                    out.put(header.raw())?;
+                }
+                self.position = Position::Inside(0);
+            }
+            Position::Inside(level) => {
+                out.put(header.raw())?;
+                self.position = Position::Inside(level.saturating_add(1));
+            }
+            _ => {}
+        }
+        Ok(Go::On)
+    }
+
+    /// Contents octets come.
+    fn contents<D: Drain>(&self, octets: &[u8], out: &mut Out<'_, D>) -> Result<Go, WriteFault>
+        ensures state { IsFollowed (contents_step self.now octets.now) self.now result }
+        ensures puts { Puts D.told out.old out.new (contents_step self.now octets.now).put result }
+    {
+        self.put_contents(octets, out)?;
+        Ok(Go::On)
+    }
+
+    /// Puts these contents octets if they come inside the element wanted.
+    fn put_contents<D: Drain>(&self, octets: &[u8], out: &mut Out<'_, D>) -> Result<(), WriteFault>
+        ensures { Puts D.told out.old out.new (contents_step self.now octets.now).put result }
+    {
+        match self.position {
+            Position::Inside(_) => out.put(octets),
+            _ => Ok(()),
+        }
+    }
+
+    /// An element ends, with these end-of-contents octets.
+    fn end<D: Drain>(&mut self, octets: &[u8], out: &mut Out<'_, D>) -> Result<Go, WriteFault>
+        ensures state { IsFollowed (end_step self.old octets.now) self.new result }
+        ensures puts { Puts D.told out.old out.new (end_step self.old octets.now).put result }
+    {
+        match self.position {
+            Position::Inside(0) => {
+                if !self.contents_only {
+                    out.put(octets)?;
+                }
+                self.position = Position::After;
+                Ok(Go::Enough)
+            }
+            Position::Inside(level) => {
+                out.put(octets)?;
+                self.position = Position::Inside(level - 1);
+                Ok(Go::On)
+            }
+            _ => Ok(Go::On),
+        }
+    }
+}
+
+impl Follow for Extract {
+    ghost use Rattle.std.specs.Prelude.{refl};
+    ghost use Rattle.tlv_walk.proofs.Followed.{each_octet-goes_on, each_octet-joins};
+    ghost use Rattle.tlv_cut.specs.ExtractStep.{extract_step};
+
+    ghost next = { extract_step };
+
+    ghost bytes_join = { each_octet-joins octet_step };
+
+    ghost bytes_rest = { λ s. refl };
+
+    ghost bytes_go_on = { each_octet-goes_on octet_step };
+
+    ghost pad_join = { λ s x y. refl };
+
+    ghost pad_rest = { λ s. refl };
+
+    ghost pad_go_on = { λ s x. refl };
+
+    #[inline(always)]
+    fn on<D: Drain>(&mut self, event: &Event<'_>, out: &mut Out<'_, D>) -> Result<Go, WriteFault> {
+        match event {
+            Event::Open(header) | Event::Begin(header) | Event::Enter(header) => {
+                self.begin(header, out)
+            }
+            Event::Bytes(octets) => self.contents(octets, out),
+            Event::Unused => self.contents(&[0], out),
+            Event::Close(Some(_)) => self.end(&[0, 0], out),
+            Event::Close(None) | Event::End | Event::Leave => self.end(&[], out),
+            Event::Pad(_) => Ok(Go::On),
+        }
+    }
+
+    #[inline(always)]
+    fn whole<D: Drain>(
+        &mut self,
+        header: &Header,
+        octets: &[u8],
+        out: &mut Out<'_, D>,
+    ) -> Result<bool, WriteFault> {
+        match self.position {
+            // The element wanted is left to `on`, which has enough at its end.
+            Position::Before => Ok(header.offset != self.offset),
+            Position::Inside(level) if level < 255 => {
+                out.put(octets)?;
+                Ok(true)
+            }
+            // At 255 the count would not go up before it goes down, so this is left to `on` too.
+            Position::Inside(_) => Ok(false),
+            Position::After => Ok(true),
+        }
+    }
+}

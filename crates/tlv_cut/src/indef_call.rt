@@ -1,0 +1,37 @@
+//! The call `indef`: it reads a source and writes to a drain.
+ghost use Rattle.tlv_walk.specs.Job.{Runs};
+ghost use Rattle.tlv_cut.specs.IndefJob.{indef_job};
+
+use crate::Indef;
+use tlv_walk::{DeviceFault, Drain, Ending, Framing, Inside, Source, drive};
+
+/// Writes the encodings that the source gives, with the indefinite form of the length in each
+/// constructed element (X.690, 8.1.3.6). Returns the ending of the input.
+///
+/// It reads up to the end of the input, or to the first octet that is refused. If the input ends in
+/// a fault, no end-of-contents octets are written for the elements that are still open.
+///
+/// With `padding`, octets `00` may be between the encodings, and are written as they are.
+///
+/// # Errors
+///
+/// - `ReadFailed` exactly if the source counted a failed read in the call.
+/// - `WriteFailed` exactly if the drain counted a failed write in the call.
+/// - `InputTooLong` if the source gave more than 2^40 octets, and none of the first 2^40 is
+///   refused.
+pub fn indef<S: Source, D: Drain>(
+    source: &mut S,
+    drain: &mut D,
+    padding: bool,
+) -> Result<Ending, DeviceFault>
+    ensures { Runs (indef_job padding)
+        (S.told source.old) (S.told source.new) (D.told drain.old) (D.told drain.new) result }
+{
+    let framing = Framing {
+        inside: Inside::none(),
+        padding,
+    };
+    let mut follower = Indef::new();
+    let run = drive(source, &mut follower, drain, &framing)?;
+    Ok(run.ending)
+}
