@@ -1,4 +1,4 @@
-mod Answered
-mod Building
-mod Numbers
-mod Offsets
+mod CommandLemmas
+mod ParserLemmas
+mod NumberLemmas
+mod OffsetLemmas

@@ -1,0 +1,115 @@
+-- Offsets with commas between them.
+use Rattle.std.proofs.Common.{◌≡◌, ◌∙◌, ◌+◌, ◌-◌, ◌≤◌, ◌<◌, ◌==◌, ℕ, suc, true, false, List, [], ◌∷◌, ◌++◌, Option, Some, None, IfSome, IfNone}
+use Rattle.std.proofs.Common.{length, refl, ap, arith, nat_le, not, option_map, option_and_then, cond, if◌then◌else◌, drop, take}
+use Rattle.std.specs.Option.{option_map_or}
+use Rattle.std.specs.List.{onto_first, position_or_len}
+use Rattle.std.proofs.lemmas.Bool.{and_from, and_parts, leb-true, le-leb, lt-leb}
+use Rattle.std.proofs.lemmas.List.{append-nil, append_assoc, length-append, length-drop, take_all}
+use Rattle.std.proofs.lemmas.List.Splits.{slice_split_first}
+use Rattle.clap.specs.Words.{Text}
+use Rattle.tlv_walk.specs.Inside.{AreRising, CanName}
+use Rattle.tlv_words.specs.Values.{are_rising, bounded_number, can_name, comma_parts, most_offset, part_offsets}
+
+-- ---- parts
+
+-- a text without a comma is the one part
+pub one_part : (xs : Text) → length xs ≤ position_or_len (λ x. x == 44) xs → comma_parts xs ≡ xs ∷ []
+one_part [] h = refl
+one_part (x ∷ xs) h =
+    elim (x == 44) as (λ b. suc (length xs) ≤ cond (not b) (1 + position_or_len (λ x. x == 44) xs) 0 → cond b ([] ∷ comma_parts xs) (onto_first x (comma_parts xs)) ≡ (x ∷ xs) ∷ []) [
+      | true ↦ λ g. absurd (omega arith)
+      | false ↦ λ g. ap (onto_first x) (one_part xs (omega arith))
+    ] h
+
+-- the part before the first comma, and the parts after it
+pub first_part : (xs : Text) (n : ℕ) → n ≡ position_or_len (λ x. x == 44) xs → n < length xs
+    → comma_parts xs ≡ take n xs ∷ comma_parts (take (length xs - (n + 1)) (drop (n + 1) xs))
+first_part xs n e h =
+    let h' : position_or_len (λ x. x == 44) xs < length xs = rw (← e) h in
+    let all : take (length xs - (n + 1)) (drop (n + 1) xs) ≡ drop (n + 1) xs = take_all _ _ (omega (arith, length-drop (n + 1) xs)) in
+    rw (all, e) (slice_split_first (λ x. x == 44) xs 0 h')
+
+-- ---- rising offsets
+
+rising-to : (least : ℕ) (ns : List ℕ) → are_rising least ns ≡ true → AreRising least ns
+rising-to least [] h = tt
+rising-to least (n ∷ ns) h =
+    let one = and_parts (nat_le least n) _ h in
+    let two = and_parts (nat_le n most_offset) _ one.1 in
+    (leb-true least n one.0, leb-true n most_offset two.0, rising-to (n + 1) ns two.1)
+
+rising-from : (least : ℕ) (ns : List ℕ) → AreRising least ns → are_rising least ns ≡ true
+rising-from least [] h = refl
+rising-from least (n ∷ ns) h = and_from _ _ (le-leb least n h.0) (and_from _ _ (le-leb n most_offset h.1) (rising-from (n + 1) ns h.2))
+
+can-to : (ns : List ℕ) → can_name ns ≡ true → CanName ns
+can-to ns h = let both = and_parts (nat_le (length ns) 16) _ h in (leb-true (length ns) 16 both.0, rising-to 0 ns both.1)
+
+can-from : (ns : List ℕ) → CanName ns → can_name ns ≡ true
+can-from ns h = and_from _ _ (le-leb (length ns) 16 h.0) (rising-from 0 ns h.1)
+
+-- the offsets, if they can be named
+abbrev pub named : List ℕ → Option (List ℕ)
+named ns = if can_name ns then Some ns else None
+
+-- what `Inside::new` makes of offsets
+pub inside_offsets : (r : Option (List ℕ)) (ns : List ℕ) → IfSome r (λ offsets. offsets ≡ ns) → IfSome r (λ offsets. CanName ns) → IfNone r (CanName ns → ⊥)
+    → r ≡ named ns
+inside_offsets None ns same can not =
+    elim (can_name ns) as (λ b. can_name ns ≡ b → None ≡ cond b (Some ns) None) [
+      | true ↦ λ e. absurd (not (can-to ns e))
+      | false ↦ λ e. refl
+    ] refl
+inside_offsets (Some offsets) ns same can not = let e : can_name ns ≡ true = can-from ns can in rw e (ap Some same)
+
+-- ---- the loop
+
+-- the offsets that are read, with those that follow
+abbrev pub with_next : List ℕ → Option (List ℕ) → Option (List ℕ)
+with_next ns = option_map (λ next. ns ++ next)
+
+-- the offsets in the rest of the text
+abbrev pub rest_offsets : Option Text → Option (List ℕ)
+rest_offsets rest = option_map_or (λ text. part_offsets (comma_parts text)) rest (Some [])
+
+with_next-one : (ns : List ℕ) (n : ℕ) (o : Option (List ℕ)) → with_next ns (option_map (λ next. n ∷ next) o) ≡ with_next (ns ++ n ∷ []) o
+with_next-one ns n None = refl
+with_next-one ns n (Some next) = ap Some (rw append_assoc refl)
+
+part_offsets-first : (text part : Text) (others : Option Text) → comma_parts text ≡ part ∷ option_map_or comma_parts others []
+    → part_offsets (comma_parts text) ≡ option_and_then (λ n. option_map (λ ns. n ∷ ns) (rest_offsets others)) (bounded_number part most_offset)
+part_offsets-first text part None e = rw e refl
+part_offsets-first text part (Some others) e = rw e refl
+
+-- one more offset
+pub one_offset : (all : Option (List ℕ)) (ns : List ℕ) (text part : Text) (others : Option Text) (n : ℕ) → all ≡ with_next ns (part_offsets (comma_parts text))
+    → comma_parts text ≡ part ∷ option_map_or comma_parts others [] → Some n ≡ bounded_number part most_offset
+    → all ≡ with_next (ns ++ n ∷ []) (rest_offsets others)
+one_offset all ns text part others n e p o =
+    let step : part_offsets (comma_parts text) ≡ option_map (λ next. n ∷ next) (rest_offsets others) = part_offsets-first text part others p ∙ rw (← o) refl in
+    e ∙ ap (with_next ns) step ∙ with_next-one ns n (rest_offsets others)
+
+-- a part that is no offset
+pub no_offset : (all : Option (List ℕ)) (ns : List ℕ) (text part : Text) (others : Option Text) → all ≡ with_next ns (part_offsets (comma_parts text))
+    → comma_parts text ≡ part ∷ option_map_or comma_parts others [] → None ≡ bounded_number part most_offset → None ≡ option_and_then named all
+no_offset all ns text part others e p o =
+    let step : part_offsets (comma_parts text) ≡ None = part_offsets-first text part others p ∙ rw (← o) refl in
+    let whole : all ≡ None = e ∙ ap (with_next ns) step in rw whole refl
+
+too-long : (ns : List ℕ) (o : Option (List ℕ)) → 16 < length ns → None ≡ option_and_then named (with_next ns o)
+too-long ns None h = refl
+too-long ns (Some next) h = let e : nat_le (length (ns ++ next)) 16 ≡ false = lt-leb _ _ (omega (arith, length-append ns next)) in rw e refl
+
+-- an offset after the sixteenth
+pub too_many : (all : Option (List ℕ)) (ns : List ℕ) (text part : Text) (others : Option Text) (n : ℕ) → all ≡ with_next ns (part_offsets (comma_parts text))
+    → comma_parts text ≡ part ∷ option_map_or comma_parts others [] → Some n ≡ bounded_number part most_offset → length ns ≡ 16
+    → None ≡ option_and_then named all
+too_many all ns text part others n e p o h =
+    let whole = one_offset all ns text part others n e p o in
+    rw whole (too-long (ns ++ n ∷ []) (rest_offsets others) (omega (arith, length-append ns (n ∷ []))))
+
+-- no part is left
+pub last_part : (all : Option (List ℕ)) (ns : List ℕ) (rest : Option Text) → rest ≡ None → all ≡ with_next ns (rest_offsets rest)
+    → named ns ≡ option_and_then named all
+last_part all ns rest none e =
+    let whole : all ≡ Some ns = e ∙ rw none (ap Some (append-nil ns)) in rw whole refl
