@@ -12,7 +12,7 @@ use Rattle.tlv_words.specs.declared.usage.UsageFault.{UsageFault}
 use Rattle.tlv_words.specs.declared.usage.UsageFault.TheVariants.{Parser, Value, Memory}
 use Rattle.tlv_words.specs.CommandLine.{tlvdump_app}
 use Rattle.tlv_words.specs.Commands.{AreReadAs, AreRefusedBy, IsUsageFaultOf, matched_command}
-use Rattle.tlv_words.specs.Private.Commands.{Gives, IsFaultFor}
+use Rattle.tlv_words.specs.Private.Commands.{Returns, IsFaultFor}
 
 pub simple : is_simple tlvdump_app ≡ true
 unfolding clap_on_literals tlvdump_app
@@ -31,11 +31,11 @@ requires_subcommand = refl
 -- the words are read as the command of the subcommand that is found in them
 pub read_as : (words : List Text) (found : Text × List Row) (wanted : Result Command Text) → fault_of tlvdump_app words ≡ []
     → subcommand_of tlvdump_app words ≡ Some found → matched_command found ≡ wanted → AreReadAs words wanted
-read_as words found wanted sound is gives = record { no_fault = sound; matched = ap (option_map matched_command) is ∙ ap Some gives }
+read_as words found wanted sound is gives = record { no_fault = sound; same_result = ap (option_map matched_command) is ∙ ap Some gives }
 
 -- the result for the subcommand that is found is that for the words
 pub result_of_found : (words : List Text) (found : Option (Text × List Row)) (r : Result Command UsageFault) → fault_of tlvdump_app words ≡ []
-    → found ≡ subcommand_of tlvdump_app words → is_some found ≡ true → IfSome found (λ p. Gives (matched_command p) r)
+    → found ≡ subcommand_of tlvdump_app words → is_some found ≡ true → IfSome found (λ p. Returns (matched_command p) r)
     → IfOk r (λ command. AreReadAs words (Ok command)) × IfErr r (IsUsageFaultOf words)
 result_of_found words None r sound same has gives = absurd (false≢true has)
 result_of_found words (Some found) (Ok command) sound same has gives = (read_as words found (Ok command) sound (sym same) gives, tt)

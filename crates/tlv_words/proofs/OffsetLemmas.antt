@@ -72,42 +72,6 @@ with_next ns = option_map (λ next. ns ++ next)
 abbrev pub rest_offsets : Option Text → Option (List ℕ)
 rest_offsets rest = option_map_or (λ text. part_offsets (comma_parts text)) rest (Some [])
 
-with_next-one : (ns : List ℕ) (n : ℕ) (o : Option (List ℕ)) → with_next ns (option_map (λ next. n ∷ next) o) ≡ with_next (ns ++ n ∷ []) o
-with_next-one ns n None = refl
-with_next-one ns n (Some next) = ap Some (rw append_assoc refl)
-
-part_offsets-first : (text part : Text) (others : Option Text) → comma_parts text ≡ part ∷ option_map_or comma_parts others []
-    → part_offsets (comma_parts text) ≡ option_and_then (λ n. option_map (λ ns. n ∷ ns) (rest_offsets others)) (bounded_number part most_offset)
-part_offsets-first text part None e = rw e refl
-part_offsets-first text part (Some others) e = rw e refl
-
--- one more offset
-pub one_offset : (all : Option (List ℕ)) (ns : List ℕ) (text part : Text) (others : Option Text) (n : ℕ) → all ≡ with_next ns (part_offsets (comma_parts text))
-    → comma_parts text ≡ part ∷ option_map_or comma_parts others [] → Some n ≡ bounded_number part most_offset
-    → all ≡ with_next (ns ++ n ∷ []) (rest_offsets others)
-one_offset all ns text part others n e p o =
-    let step : part_offsets (comma_parts text) ≡ option_map (λ next. n ∷ next) (rest_offsets others) = part_offsets-first text part others p ∙ rw (← o) refl in
-    e ∙ ap (with_next ns) step ∙ with_next-one ns n (rest_offsets others)
-
--- a part that is no offset
-pub no_offset : (all : Option (List ℕ)) (ns : List ℕ) (text part : Text) (others : Option Text) → all ≡ with_next ns (part_offsets (comma_parts text))
-    → comma_parts text ≡ part ∷ option_map_or comma_parts others [] → None ≡ bounded_number part most_offset → None ≡ option_and_then named all
-no_offset all ns text part others e p o =
-    let step : part_offsets (comma_parts text) ≡ None = part_offsets-first text part others p ∙ rw (← o) refl in
-    let whole : all ≡ None = e ∙ ap (with_next ns) step in rw whole refl
-
-too-long : (ns : List ℕ) (o : Option (List ℕ)) → 16 < length ns → None ≡ option_and_then named (with_next ns o)
-too-long ns None h = refl
-too-long ns (Some next) h = let e : nat_le (length (ns ++ next)) 16 ≡ false = lt-leb _ _ (omega (arith, length-append ns next)) in rw e refl
-
--- an offset after the sixteenth
-pub too_many : (all : Option (List ℕ)) (ns : List ℕ) (text part : Text) (others : Option Text) (n : ℕ) → all ≡ with_next ns (part_offsets (comma_parts text))
-    → comma_parts text ≡ part ∷ option_map_or comma_parts others [] → Some n ≡ bounded_number part most_offset → length ns ≡ 16
-    → None ≡ option_and_then named all
-too_many all ns text part others n e p o h =
-    let whole = one_offset all ns text part others n e p o in
-    rw whole (too-long (ns ++ n ∷ []) (rest_offsets others) (omega (arith, length-append ns (n ∷ []))))
-
 -- no part is left
 pub last_part : (all : Option (List ℕ)) (ns : List ℕ) (rest : Option Text) → rest ≡ None → all ≡ with_next ns (rest_offsets rest)
     → named ns ≡ option_and_then named all

@@ -33,13 +33,13 @@ version_flag =
 
 -- ---- commands
 
--- a command that takes a file, has help, and has these options
-abbrev pub command : Text → List Rule → App
-command name options =
+-- a command that takes a file, and has help and these options
+abbrev pub command_app : Text → List Rule → App
+command_app name options =
     record { top = record (new_shape name) { rules = file ∷ help_flag ∷ options }; subs = [] }
 
 abbrev pub dump_app : App
-dump_app = command (codes "dump")
+dump_app = command_app (codes "dump")
     ( option (codes "rules")
     ∷ option (codes "limit")
     ∷ flag (codes "pure")
@@ -49,14 +49,14 @@ dump_app = command (codes "dump")
     ∷ [] )
 
 abbrev pub check_app : App
-check_app = command (codes "check")
+check_app = command_app (codes "check")
     ( option (codes "rules")
     ∷ option (codes "inside")
     ∷ flag (codes "padding")
     ∷ [] )
 
 abbrev pub extract_app : App
-extract_app = command (codes "extract")
+extract_app = command_app (codes "extract")
     ( required_option (codes "offset")
     ∷ flag (codes "contents")
     ∷ option (codes "inside")
@@ -64,7 +64,7 @@ extract_app = command (codes "extract")
     ∷ [] )
 
 abbrev pub indef_app : App
-indef_app = command (codes "indef")
+indef_app = command_app (codes "indef")
     ( flag (codes "padding")
     ∷ [] )
 

@@ -1,6 +1,6 @@
 -- What `command_of` returns: the command that the words ask for, or why they are refused.
-use Rattle.std.specs.Prelude.{◌≡◌, ◌≢◌, Bool, false, List, [], Option, Some, None, Result, Ok, Err, ⊤}
-use Rattle.std.specs.Prelude.{codes, if◌then◌else◌, option_map}
+use Rattle.std.specs.Prelude.{◌≡◌, ◌≢◌, Bool, false, List, [], Option, Some, None, Result, Ok, Err}
+use Rattle.std.specs.Prelude.{⊤, codes, if◌then◌else◌, option_map}
 use Rattle.std.specs.Option.{option_map_or}
 use Rattle.std.specs.Str.{bytes_eq}
 use Rattle.clap.specs.Faults.{fault_of}
@@ -17,61 +17,69 @@ use Rattle.tlv_words.specs.Values.{inside_value, limit_value, offset_value, rule
 use Rattle.tlv_words.specs.declared.usage.UsageFault.{UsageFault}
 use Rattle.tlv_words.specs.declared.usage.UsageFault.TheVariants.{Parser, Value, Memory}
 
--- ---- the command of what `clap` matches: a command's name, and rows with the text of each option
+-- ---- the command of what `clap` matches: a command's name, and the text of each option given
 
--- the flag is among the rows
+-- the flag is given
 abbrev pub has_flag : Text → List Row → Bool
-has_flag name rows = option_map_or (λ text. bytes_eq text (codes "true")) (first_of name rows) false
+has_flag name matches =
+    option_map_or (λ text. bytes_eq text (codes "true")) (first_of name matches) false
 
--- `--inside` and `--padding`
+-- the values of `--inside` and `--padding`
 abbrev pub framing_value : List Row → Option Framing
-framing_value rows = option_map
-    (λ offsets. record { inside = offsets; padding = has_flag (codes "padding") rows })
-    (inside_value (first_of (codes "inside") rows))
+framing_value matches = option_map
+    (λ offsets. record { inside = offsets; padding = has_flag (codes "padding") matches })
+    (inside_value (first_of (codes "inside") matches))
 
--- the command that is made of an option's value; the option alone, if its text is no value
+-- what is made of an option's value; the option alone, if it has none
 abbrev pub with_value : {A : Type 0} → Text → Option A → (A → Result Command Text)
     → Result Command Text
 with_value option None next = Err option
 with_value option (Some value) next = next value
 
 abbrev pub dump_command : List Row → Result Command Text
-dump_command rows =
-    with_value (codes "--rules") (rules_value Ber (first_of (codes "rules") rows)) (λ rules.
-    with_value (codes "--limit") (limit_value (first_of (codes "limit") rows)) (λ limit.
-    with_value (codes "--inside") (framing_value rows) (λ framing.
+dump_command matches =
+    with_value (codes "--rules") (rules_value Ber (first_of (codes "rules") matches)) (λ rules.
+    with_value (codes "--limit") (limit_value (first_of (codes "limit") matches)) (λ limit.
+    with_value (codes "--inside") (framing_value matches) (λ framing.
     Ok (Dump
         (record {
           rules = rules;
           limit = limit;
-          pure = has_flag (codes "pure") rows;
+          pure = has_flag (codes "pure") matches;
           framing = framing;
         })
-        (first_of (codes "names") rows)
-        (first_of (codes "file") rows)))))
+        (first_of (codes "names") matches)
+        (first_of (codes "file") matches)))))
 
 abbrev pub check_command : List Row → Result Command Text
-check_command rows =
-    with_value (codes "--rules") (rules_value Der (first_of (codes "rules") rows)) (λ rules.
-    with_value (codes "--inside") (framing_value rows) (λ framing.
-    Ok (Check rules framing (first_of (codes "file") rows))))
+check_command matches =
+    with_value (codes "--rules") (rules_value Der (first_of (codes "rules") matches)) (λ rules.
+    with_value (codes "--inside") (framing_value matches) (λ framing.
+    Ok (Check rules framing (first_of (codes "file") matches))))
 
 abbrev pub extract_command : List Row → Result Command Text
-extract_command rows =
-    with_value (codes "--offset") (offset_value (first_of (codes "offset") rows)) (λ offset.
-    with_value (codes "--inside") (framing_value rows) (λ framing.
-    Ok (Extract offset (has_flag (codes "contents") rows) framing (first_of (codes "file") rows))))
+extract_command matches =
+    with_value (codes "--offset") (offset_value (first_of (codes "offset") matches)) (λ offset.
+    with_value (codes "--inside") (framing_value matches) (λ framing.
+    Ok (Extract
+        offset
+        (has_flag (codes "contents") matches)
+        framing
+        (first_of (codes "file") matches))))
 
 abbrev pub indef_command : List Row → Result Command Text
-indef_command rows = Ok (Indef (has_flag (codes "padding") rows) (first_of (codes "file") rows))
+indef_command matches =
+    Ok (Indef (has_flag (codes "padding") matches) (first_of (codes "file") matches))
 
--- the command of a subcommand's name and rows, or the first option whose text is no value
+-- the command of a name and its matches, or the first option whose text is no value
 abbrev pub matched_command : Text × List Row → Result Command Text
 matched_command found =
-    if bytes_eq found.0 (codes "dump") then dump_command found.1
-    else (if bytes_eq found.0 (codes "check") then check_command found.1
-    else (if bytes_eq found.0 (codes "extract") then extract_command found.1
-    else indef_command found.1))
+    let name = found.0 in
+    let matches = found.1 in
+    if bytes_eq name (codes "dump") then dump_command matches
+    else (if bytes_eq name (codes "check") then check_command matches
+    else (if bytes_eq name (codes "extract") then extract_command matches
+    else indef_command matches))
 
 -- ---- the words of a command line
 
@@ -79,7 +87,7 @@ matched_command found =
 -- whose text is no value
 pub record AreReadAs (words : List Text) (result : Result Command Text) : Type 0 where
   pub no_fault : fault_of tlvdump_app words ≡ []
-  pub matched : option_map matched_command (subcommand_of tlvdump_app words) ≡ Some result
+  pub same_result : option_map matched_command (subcommand_of tlvdump_app words) ≡ Some result
 
 -- `clap` does not take the words, and the error's kind is the cause; it is not want of memory
 pub record AreRefusedBy (words : List Text) (error : Error) : Type 0 where

@@ -3,7 +3,7 @@ ghost use Rattle.std.specs.Prelude.{◌≡◌, IfErr, IfOk, IfSome, Ok, Err, is_
 ghost use Rattle.clap.specs.Words.{first_of, subcommand_rows_of};
 ghost use Rattle.tlv_words.specs.Commands.{AreReadAs, IsUsageFaultOf, check_command, dump_command, extract_command};
 ghost use Rattle.tlv_words.specs.Commands.{framing_value, has_flag, indef_command, matched_command};
-ghost use Rattle.tlv_words.specs.Private.Commands.{Gives, IsFaultFor, matched_rows};
+ghost use Rattle.tlv_words.specs.Private.Commands.{Returns, IsFaultFor, matched_rows};
 ghost use Rattle.tlv_words.specs.Private.Values.{text_in};
 
 use crate::parser::tlvdump_parser;
@@ -50,7 +50,7 @@ fn usage_fault(error: clap::Error) -> UsageFault
 /// The command of the subcommand that `clap` matches.
 fn matched_command(alloc: Global, matches: &ArgMatches<'_>) -> Result<Command, UsageFault>
     requires { is_some (subcommand_rows_of matches.now) ≡ true }
-    ensures { IfSome (subcommand_rows_of matches.now) (λ found. Gives (matched_command found) result) }
+    ensures { IfSome (subcommand_rows_of matches.now) (λ found. Returns (matched_command found) result) }
 {
     let Some((name, found)) = matches.subcommand() else {
         unreachable!();
@@ -64,7 +64,7 @@ fn matched_command(alloc: Global, matches: &ArgMatches<'_>) -> Result<Command, U
 }
 
 fn dump_command(alloc: Global, matches: &ArgMatches<'_>) -> Result<Command, UsageFault>
-    ensures { Gives (dump_command (matched_rows matches.now)) result }
+    ensures { Returns (dump_command (matched_rows matches.now)) result }
 {
     let Some(rules) = rules_value(Rules::Ber, first_of(matches, "rules")) else {
         return Err(UsageFault::Value("--rules"));
@@ -91,7 +91,7 @@ fn dump_command(alloc: Global, matches: &ArgMatches<'_>) -> Result<Command, Usag
 }
 
 fn check_command(alloc: Global, matches: &ArgMatches<'_>) -> Result<Command, UsageFault>
-    ensures { Gives (check_command (matched_rows matches.now)) result }
+    ensures { Returns (check_command (matched_rows matches.now)) result }
 {
     let Some(rules) = rules_value(Rules::Der, first_of(matches, "rules")) else {
         return Err(UsageFault::Value("--rules"));
@@ -108,7 +108,7 @@ fn check_command(alloc: Global, matches: &ArgMatches<'_>) -> Result<Command, Usa
 }
 
 fn extract_command(alloc: Global, matches: &ArgMatches<'_>) -> Result<Command, UsageFault>
-    ensures { Gives (extract_command (matched_rows matches.now)) result }
+    ensures { Returns (extract_command (matched_rows matches.now)) result }
 {
     let Some(offset) = offset_value(first_of(matches, "offset")) else {
         return Err(UsageFault::Value("--offset"));
@@ -126,7 +126,7 @@ fn extract_command(alloc: Global, matches: &ArgMatches<'_>) -> Result<Command, U
 }
 
 fn indef_command(alloc: Global, matches: &ArgMatches<'_>) -> Result<Command, UsageFault>
-    ensures { Gives (indef_command (matched_rows matches.now)) result }
+    ensures { Returns (indef_command (matched_rows matches.now)) result }
 {
     let padding = has_flag(matches, "padding");
     let file = owned_text(alloc, matches, "file")?;

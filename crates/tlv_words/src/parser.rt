@@ -2,7 +2,7 @@
 ghost use Rattle.std.specs.Prelude.{◌≡◌, [], IfOk, false};
 ghost use Rattle.clap.specs.Words.{App, rule_of, with_subcommand};
 ghost use Rattle.tlv_words.specs.CommandLine.{check_app, dump_app, extract_app, indef_app, program_app, tlvdump_app};
-ghost use Rattle.tlv_words.specs.CommandLine.{command, file, flag, help_flag, option, required_option, version_flag};
+ghost use Rattle.tlv_words.specs.CommandLine.{command_app, file, flag, help_flag, option, required_option, version_flag};
 ghost use Rattle.tlv_words.specs.Private.Parsers.{IsParserOf};
 
 use clap::{Arg, ArgAction, Command};
@@ -78,8 +78,8 @@ fn version_flag<'a>(alloc: Global) -> Arg<'a>
 }
 
 /// A command with what each command has: a file to read, and help.
-fn command<'a>(alloc: Global, name: &'a str, help: Help<'a>) -> Result<Command<'a>, AllocError>
-    ensures { IfOk result (IsParserOf (command name.now [])) }
+fn command_parser<'a>(alloc: Global, name: &'a str, help: Help<'a>) -> Result<Command<'a>, AllocError>
+    ensures { IfOk result (IsParserOf (command_app name.now [])) }
 {
     Command::new(alloc, name)
         .about(help.about)
@@ -92,7 +92,7 @@ fn command<'a>(alloc: Global, name: &'a str, help: Help<'a>) -> Result<Command<'
 fn dump_parser<'a>(alloc: Global) -> Result<Command<'a>, AllocError>
     ensures { IfOk result (IsParserOf dump_app) }
 {
-    command(alloc, "dump", help::DUMP)?
+    command_parser(alloc, "dump", help::DUMP)?
         .arg(option(alloc, "rules", "RULES", help::DUMP_RULES))?
         .arg(option(alloc, "limit", "N", help::LIMIT))?
         .arg(flag(alloc, "pure", help::PURE))?
@@ -104,7 +104,7 @@ fn dump_parser<'a>(alloc: Global) -> Result<Command<'a>, AllocError>
 fn check_parser<'a>(alloc: Global) -> Result<Command<'a>, AllocError>
     ensures { IfOk result (IsParserOf check_app) }
 {
-    command(alloc, "check", help::CHECK)?
+    command_parser(alloc, "check", help::CHECK)?
         .arg(option(alloc, "rules", "RULES", help::CHECK_RULES))?
         .arg(option(alloc, "inside", "LIST", help::INSIDE))?
         .arg(flag(alloc, "padding", help::PADDING))
@@ -113,7 +113,7 @@ fn check_parser<'a>(alloc: Global) -> Result<Command<'a>, AllocError>
 fn extract_parser<'a>(alloc: Global) -> Result<Command<'a>, AllocError>
     ensures { IfOk result (IsParserOf extract_app) }
 {
-    command(alloc, "extract", help::EXTRACT)?
+    command_parser(alloc, "extract", help::EXTRACT)?
         .arg(required_option(alloc, "offset", "N", help::OFFSET))?
         .arg(flag(alloc, "contents", help::CONTENTS))?
         .arg(option(alloc, "inside", "LIST", help::INSIDE))?
@@ -123,7 +123,7 @@ fn extract_parser<'a>(alloc: Global) -> Result<Command<'a>, AllocError>
 fn indef_parser<'a>(alloc: Global) -> Result<Command<'a>, AllocError>
     ensures { IfOk result (IsParserOf indef_app) }
 {
-    command(alloc, "indef", help::INDEF)?.arg(flag(alloc, "padding", help::PADDING))
+    command_parser(alloc, "indef", help::INDEF)?.arg(flag(alloc, "padding", help::PADDING))
 }
 
 /// The program without its commands. One of them must be given, and none is called `help`.

@@ -45,7 +45,7 @@ pub(crate) fn rules_value(usual: Rules, text: Option<&str>) -> Option<Rules>
     }
 }
 
-/// The limit of rows that the text is, a number up to 4,294,967,295. Without a text there is no limit.
+/// The limit that the text is, a number up to 4,294,967,295. Without a text there is no limit.
 pub(crate) fn limit_value(text: Option<&str>) -> Option<Option<u32>>
     ensures { result ≡ limit_value (text_in text.entry) }
 {

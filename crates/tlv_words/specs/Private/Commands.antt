@@ -8,16 +8,16 @@ use Rattle.tlv_run.specs.declared.command.Command.{Command}
 use Rattle.tlv_words.specs.declared.usage.UsageFault.{UsageFault}
 use Rattle.tlv_words.specs.declared.usage.UsageFault.TheVariants.{Parser, Value, Memory}
 
--- the rows of a command's matches
+-- the text of each option given, of what `clap` matches
 abbrev pub matched_rows : ArgMatches → List Row
 matched_rows matches = rows_of (found_of matches)
 
 -- the result is the command or the option that is wanted, unless memory was refused
-abbrev pub Gives : Result Command Text → Result Command UsageFault → Type 0
-Gives wanted (Ok command) = wanted ≡ Ok command
-Gives wanted (Err (Parser error)) = ⊥
-Gives wanted (Err (Value option)) = wanted ≡ Err option.now
-Gives wanted (Err Memory) = ⊤
+abbrev pub Returns : Result Command Text → Result Command UsageFault → Type 0
+Returns wanted (Ok command) = wanted ≡ Ok command
+Returns wanted (Err (Parser error)) = ⊥
+Returns wanted (Err (Value option)) = wanted ≡ Err option.now
+Returns wanted (Err Memory) = ⊤
 
 -- the fault for an error of `clap`: want of memory, or the error itself
 abbrev pub IsFaultFor : Error → UsageFault → Type 0

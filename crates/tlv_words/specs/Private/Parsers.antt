@@ -6,5 +6,5 @@ use Rattle.clap.specs.declared.builder.command.Command.TheViews.{out-Command as 
 
 -- the parser reads the words as this command line says, and no argument of it is global
 pub record IsParserOf (app : App) (parser : Command) : Type 0 where
-  pub reads : app_of parser ≡ app
+  pub same_app : app_of parser ≡ app
   pub local : (fields_of parser).has_globals ≡ false

@@ -4,7 +4,7 @@ use Rattle.tlv_words.proofs.parser.dump_parser.Goals as goal
 
 pub returns : goal.returns
 returns c =
-    let has_1 = one_more c.in_ok-command.ensures c.in_ok-arg.ensures c.option.ensures.local c.option.ensures.rule in
+    let has_1 = one_more c.in_ok-command_parser.ensures c.in_ok-arg.ensures c.option.ensures.local c.option.ensures.rule in
     let has_2 = one_more has_1 c.in_ok-arg-2.ensures c.option-2.ensures.local c.option-2.ensures.rule in
     let has_3 = one_more has_2 c.in_ok-arg-3.ensures c.flag.ensures.local c.flag.ensures.rule in
     let has_4 = one_more has_3 c.in_ok-arg-4.ensures c.option-3.ensures.local c.option-3.ensures.rule in
