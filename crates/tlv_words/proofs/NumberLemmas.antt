@@ -1,5 +1,6 @@
 -- Numbers by their digits.
-use Rattle.std.proofs.Common.{◌≡◌, ◌+◌, ◌*◌, ◌^◌, ◌<◌, ◌≤◌, ◌-◌, ◌&&◌, ℕ, List, true, length, get_or, take, sym, ap₂, ◌∙◌, add-one, arith}
+use Rattle.std.proofs.Common.{◌≡◌, ◌+◌, ◌*◌, ◌^◌, ◌<◌, ◌≤◌, ◌-◌, ◌&&◌, ℕ, List}
+use Rattle.std.proofs.Common.{true, length, get_or, take, sym, ap₂, ◌∙◌, add-one, arith}
 use Rattle.std.proofs.Math.Nat.{pow-le-pow_right, pow-suc}
 use Rattle.std.proofs.lemmas.Str.{digit_value_digit}
 use Rattle.std.proofs.lemmas.Int.Digits.{digits_value_more}
@@ -16,9 +17,11 @@ power : (i : ℕ) → 10 ^ (i + 1) ≡ 10 ^ i * 10
 power i = rw (add-one, pow-suc)
 
 -- one more digit
-pub one_digit : (bs : List ℕ) (i n d : ℕ) → i < length bs → IsAsciiDigit (get_or bs i 0) → true ≡ is_ascii_digit (get_or bs i 0) → d ≡ get_or bs i 0 - 48
+pub one_digit : (bs : List ℕ) (i n d : ℕ) → i < length bs → IsAsciiDigit (get_or bs i 0)
+    → true ≡ is_ascii_digit (get_or bs i 0) → d ≡ get_or bs i 0 - 48
     → list_all is_ascii_digit (take i bs) ≡ true → n ≡ digits_value 10 (take i bs) → n < 10 ^ i
-    → (list_all is_ascii_digit (take (i + 1) bs) ≡ true) × (n * 10 + d ≡ digits_value 10 (take (i + 1) bs)) × (n * 10 + d < 10 ^ (i + 1))
+    → (list_all is_ascii_digit (take (i + 1) bs) ≡ true) × (n * 10 + d ≡ digits_value 10 (take (i + 1) bs))
+    × (n * 10 + d < 10 ^ (i + 1))
 one_digit bs i n d h digit test e passed value small =
     let more = digits_value_more 10 bs i h in
     let worth = digit_value_digit (get_or bs i 0) digit in

@@ -9,9 +9,12 @@ neither : (a b : Bool) → a ≡ false → b ≡ false → (a || b) ≡ false
 neither a b p q = ap₂ ◌||◌ p q
 
 -- one more argument
-pub one_more : {old new : Command} {a : Arg} {x : App} {r : Rule} → IsParserOf x old → AddsArg old a new → a.global ≡ false → rule_of a ≡ r
-    → IsParserOf (with_rule x r) new
-one_more s h g e = record { same_app = h.shape g ∙ ap₂ with_rule s.same_app e; local = h.globals ∙ neither _ _ s.local g }
+pub one_more : {old new : Command} {a : Arg} {x : App} {r : Rule} → IsParserOf x old → AddsArg old a new
+    → a.global ≡ false → rule_of a ≡ r → IsParserOf (with_rule x r) new
+one_more s h g e = record {
+  same_app = h.shape g ∙ ap₂ with_rule s.same_app e;
+  local = h.globals ∙ neither _ _ s.local g;
+}
 
 -- one more subcommand
 pub one_below : {old sub new : Command} {x y : App} → IsParserOf x old → AddsSubcommand old sub new → IsParserOf y sub

@@ -40,33 +40,33 @@ command_app name options =
 
 abbrev pub dump_app : App
 dump_app = command_app (codes "dump")
-    ( option (codes "rules")
+    (option (codes "rules")
     ∷ option (codes "limit")
     ∷ flag (codes "pure")
     ∷ option (codes "names")
     ∷ option (codes "inside")
     ∷ flag (codes "padding")
-    ∷ [] )
+    ∷ [])
 
 abbrev pub check_app : App
 check_app = command_app (codes "check")
-    ( option (codes "rules")
+    (option (codes "rules")
     ∷ option (codes "inside")
     ∷ flag (codes "padding")
-    ∷ [] )
+    ∷ [])
 
 abbrev pub extract_app : App
 extract_app = command_app (codes "extract")
-    ( required_option (codes "offset")
+    (required_option (codes "offset")
     ∷ flag (codes "contents")
     ∷ option (codes "inside")
     ∷ flag (codes "padding")
-    ∷ [] )
+    ∷ [])
 
 abbrev pub indef_app : App
 indef_app = command_app (codes "indef")
-    ( flag (codes "padding")
-    ∷ [] )
+    (flag (codes "padding")
+    ∷ [])
 
 -- the program without its commands: one of them must be given, and none is called `help`
 abbrev pub program_app : App

@@ -30,7 +30,7 @@ framing_value matches = option_map
     (λ offsets. record { inside = offsets; padding = has_flag (codes "padding") matches })
     (inside_value (first_of (codes "inside") matches))
 
--- what is made of an option's value; the option alone, if it has none
+-- what follows from an option's value; without a value the option is refused
 abbrev pub with_value : {A : Type 0} → Text → Option A → (A → Result Command Text)
     → Result Command Text
 with_value option None next = Err option
@@ -42,14 +42,14 @@ dump_command matches =
     with_value (codes "--limit") (limit_value (first_of (codes "limit") matches)) (λ limit.
     with_value (codes "--inside") (framing_value matches) (λ framing.
     Ok (Dump
-        (record {
-          rules = rules;
-          limit = limit;
-          pure = has_flag (codes "pure") matches;
-          framing = framing;
-        })
-        (first_of (codes "names") matches)
-        (first_of (codes "file") matches)))))
+    (record {
+      rules = rules;
+      limit = limit;
+      pure = has_flag (codes "pure") matches;
+      framing = framing;
+    })
+    (first_of (codes "names") matches)
+    (first_of (codes "file") matches)))))
 
 abbrev pub check_command : List Row → Result Command Text
 check_command matches =
@@ -62,10 +62,10 @@ extract_command matches =
     with_value (codes "--offset") (offset_value (first_of (codes "offset") matches)) (λ offset.
     with_value (codes "--inside") (framing_value matches) (λ framing.
     Ok (Extract
-        offset
-        (has_flag (codes "contents") matches)
-        framing
-        (first_of (codes "file") matches))))
+    offset
+    (has_flag (codes "contents") matches)
+    framing
+    (first_of (codes "file") matches))))
 
 abbrev pub indef_command : List Row → Result Command Text
 indef_command matches =
@@ -89,7 +89,8 @@ pub record AreReadAs (words : List Text) (result : Result Command Text) : Type 0
   pub no_fault : fault_of tlvdump_app words ≡ []
   pub same_result : option_map matched_command (subcommand_of tlvdump_app words) ≡ Some result
 
--- `clap` does not take the words, and the error's kind is the cause; it is not want of memory
+-- `clap` does not take the words: the error's kind is one that their fault has, and not want of
+-- memory
 pub record AreRefusedBy (words : List Text) (error : Error) : Type 0 where
   pub not_taken : takes tlvdump_app words ≡ false
   pub cause : IsAmong (kind_of error) (fault_of tlvdump_app words)

@@ -16,7 +16,7 @@ use Rattle.tlv_show.specs.declared.rules.Rules.TheVariants.{Ber, Cer, Der}
 abbrev pub bounded_number : Text → ℕ → Option ℕ
 bounded_number text most =
     if nat_lt 0 (length text) && (nat_le (length text) 13
-        && (list_all is_ascii_digit text && nat_le (digits_value 10 text) most))
+    && (list_all is_ascii_digit text && nat_le (digits_value 10 text) most))
     then Some (digits_value 10 text) else None
 
 -- the largest offset, in octets: 2^40
@@ -34,7 +34,7 @@ abbrev pub part_offsets : List Text → Option (List ℕ)
 part_offsets [] = Some []
 part_offsets (part ∷ parts) =
     option_and_then (λ n. option_map (λ ns. n ∷ ns) (part_offsets parts))
-        (bounded_number part most_offset)
+    (bounded_number part most_offset)
 
 -- each offset is larger than the one before, and none is below `least` or above the largest
 abbrev pub are_rising : ℕ → List ℕ → Bool
@@ -49,7 +49,7 @@ can_name offsets = nat_le (length offsets) 16 && are_rising 0 offsets
 abbrev pub offset_list : Text → Option (List ℕ)
 offset_list text =
     option_and_then (λ offsets. if can_name offsets then Some offsets else None)
-        (part_offsets (comma_parts text))
+    (part_offsets (comma_parts text))
 
 -- ---- the value of an option, by its text or by none
 

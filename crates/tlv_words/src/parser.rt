@@ -1,8 +1,9 @@
 //! The parser of the command line, with the texts of its help.
 ghost use Rattle.std.specs.Prelude.{◌≡◌, [], IfOk, false};
 ghost use Rattle.clap.specs.Words.{App, rule_of, with_subcommand};
-ghost use Rattle.tlv_words.specs.CommandLine.{check_app, dump_app, extract_app, indef_app, program_app, tlvdump_app};
-ghost use Rattle.tlv_words.specs.CommandLine.{command_app, file, flag, help_flag, option, required_option, version_flag};
+ghost use Rattle.tlv_words.specs.CommandLine.{check_app, command_app, dump_app, extract_app, indef_app};
+ghost use Rattle.tlv_words.specs.CommandLine.{file, flag, help_flag, option, program_app};
+ghost use Rattle.tlv_words.specs.CommandLine.{required_option, tlvdump_app, version_flag};
 ghost use Rattle.tlv_words.specs.Private.Parsers.{IsParserOf};
 
 use clap::{Arg, ArgAction, Command};
@@ -33,12 +34,7 @@ fn option<'a>(alloc: Global, name: &'a str, value: &'a str, text: &'a str) -> Ar
 }
 
 /// An option with a value, without which the command is refused.
-fn required_option<'a>(
-    alloc: Global,
-    name: &'a str,
-    value: &'a str,
-    text: &'a str,
-) -> Arg<'a>
+fn required_option<'a>(alloc: Global, name: &'a str, value: &'a str, text: &'a str) -> Arg<'a>
     ensures rule { rule_of result ≡ required_option name.now }
     ensures local { result.global ≡ false }
 {
@@ -78,7 +74,11 @@ fn version_flag<'a>(alloc: Global) -> Arg<'a>
 }
 
 /// A command with what each command has: a file to read, and help.
-fn command_parser<'a>(alloc: Global, name: &'a str, help: Help<'a>) -> Result<Command<'a>, AllocError>
+fn command_parser<'a>(
+    alloc: Global,
+    name: &'a str,
+    help: Help<'a>,
+) -> Result<Command<'a>, AllocError>
     ensures { IfOk result (IsParserOf (command_app name.now [])) }
 {
     Command::new(alloc, name)
