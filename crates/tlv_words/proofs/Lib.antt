@@ -1,4 +1,4 @@
 mod CommandLemmas
-mod ParserLemmas
 mod NumberLemmas
 mod OffsetLemmas
+mod ParserLemmas
