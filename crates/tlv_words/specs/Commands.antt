@@ -89,8 +89,8 @@ pub record AreReadAs (words : List Text) (result : Result Command Text) : Type 0
   pub no_fault : fault_of tlvdump_app words ≡ []
   pub same_result : option_map matched_command (subcommand_of tlvdump_app words) ≡ Some result
 
--- `clap` does not take the words: the error's kind is one that their fault has, and not want of
--- memory
+-- `clap` does not take the words: the error's kind is one that it may give at them, and is not want
+-- of memory
 pub record AreRefusedBy (words : List Text) (error : Error) : Type 0 where
   pub not_taken : takes tlvdump_app words ≡ false
   pub cause : IsAmong (kind_of error) (fault_of tlvdump_app words)
