@@ -1,4 +1,4 @@
-mod Answered
-mod Building
-mod Numbers
-mod Offsets
+mod CommandLemmas
+mod NumberLemmas
+mod OffsetLemmas
+mod ParserLemmas

@@ -1,84 +1,106 @@
--- What the words of a command line ask for, and why they are refused.
-use Rattle.std.specs.Prelude.{◌≡◌, ℕ, Bool, false, List, [], Option, Some, None, Result, Ok, Err, MatchResult, ⊤, codes, if◌then◌else◌}
+-- What `command_of` returns: the command that the words ask for, or why they are refused.
+use Rattle.std.specs.Prelude.{◌≡◌, ◌≢◌, Bool, false, List, [], Option, Some, None, Result, Ok, Err}
+use Rattle.std.specs.Prelude.{⊤, codes, if◌then◌else◌, option_map}
 use Rattle.std.specs.Option.{option_map_or}
 use Rattle.std.specs.Str.{bytes_eq}
 use Rattle.clap.specs.Faults.{fault_of}
 use Rattle.clap.specs.Kinds.{IsAmong}
-use Rattle.clap.specs.Words.{Row, first_of, kind_of, subcommand_of}
+use Rattle.clap.specs.Words.{Row, Text, first_of, kind_of, subcommand_of, takes}
+use Rattle.clap.specs.declared.error.Error.{Error}
 use Rattle.clap.specs.declared.error.kind.ErrorKind.TheVariants.{OutOfMemory}
-use Rattle.tlv_show.specs.declared.rules.Rules.{Rules}
 use Rattle.tlv_show.specs.declared.rules.Rules.TheVariants.{Ber, Der}
 use Rattle.tlv_walk.specs.declared.framing.Framing.{Framing}
-use Rattle.tlv_words.specs.Line.{line_app}
-use Rattle.tlv_words.specs.Values.{Text, inside_of, limit_of, offset_of, rules_of}
 use Rattle.tlv_run.specs.declared.command.Command.{Command}
 use Rattle.tlv_run.specs.declared.command.Command.TheVariants.{Check, Dump, Extract, Indef}
+use Rattle.tlv_words.specs.CommandLine.{tlvdump_app}
+use Rattle.tlv_words.specs.Values.{inside_value, limit_value, offset_value, rules_value}
 use Rattle.tlv_words.specs.declared.usage.UsageFault.{UsageFault}
 use Rattle.tlv_words.specs.declared.usage.UsageFault.TheVariants.{Parser, Value, Memory}
 
--- ---- the options of a command
+-- ---- the command of what `clap` matches: a command's name, and the text of each option given
 
--- the flag was given
-abbrev pub is_given : Text → List Row → Bool
-is_given name rows = option_map_or (λ t. bytes_eq t (codes "true")) (first_of name rows) false
+-- the flag is given
+abbrev pub has_flag : Text → List Row → Bool
+has_flag name matches =
+    option_map_or (λ text. bytes_eq text (codes "true")) (first_of name matches) false
 
-abbrev pub framing_from : List Row → List ℕ → Framing
-framing_from rows offsets = record { inside = offsets; padding = is_given (codes "padding") rows }
+-- the values of `--inside` and `--padding`
+abbrev pub framing_value : List Row → Option Framing
+framing_value matches = option_map
+    (λ offsets. record { inside = offsets; padding = has_flag (codes "padding") matches })
+    (inside_value (first_of (codes "inside") matches))
 
--- ---- the command, or the first option whose value is none of its own: rules, limit, offset, inside
+-- what follows from an option's value; without a value the option is refused
+abbrev pub with_value : {A : Type 0} → Text → Option A → (A → Result Command Text)
+    → Result Command Text
+with_value option None next = Err option
+with_value option (Some value) next = next value
 
-abbrev pub dump_with : List Row → Option Rules → Option (Option ℕ) → Option (List ℕ) → Result Command Text
-dump_with rows None limit offsets = Err (codes "--rules")
-dump_with rows (Some rules) None offsets = Err (codes "--limit")
-dump_with rows (Some rules) (Some limit) None = Err (codes "--inside")
-dump_with rows (Some rules) (Some limit) (Some offsets) = Ok (Dump
-    (record { rules = rules; limit = limit; pure = is_given (codes "pure") rows; framing = framing_from rows offsets })
-    (first_of (codes "names") rows) (first_of (codes "file") rows))
+abbrev pub dump_command : List Row → Result Command Text
+dump_command matches =
+    with_value (codes "--rules") (rules_value Ber (first_of (codes "rules") matches)) (λ rules.
+    with_value (codes "--limit") (limit_value (first_of (codes "limit") matches)) (λ limit.
+    with_value (codes "--inside") (framing_value matches) (λ framing.
+    Ok (Dump
+    (record {
+      rules = rules;
+      limit = limit;
+      pure = has_flag (codes "pure") matches;
+      framing = framing;
+    })
+    (first_of (codes "names") matches)
+    (first_of (codes "file") matches)))))
 
-abbrev pub dump_from : List Row → Result Command Text
-dump_from rows = dump_with rows (rules_of Ber (first_of (codes "rules") rows)) (limit_of (first_of (codes "limit") rows))
-    (inside_of (first_of (codes "inside") rows))
+abbrev pub check_command : List Row → Result Command Text
+check_command matches =
+    with_value (codes "--rules") (rules_value Der (first_of (codes "rules") matches)) (λ rules.
+    with_value (codes "--inside") (framing_value matches) (λ framing.
+    Ok (Check rules framing (first_of (codes "file") matches))))
 
-abbrev pub check_with : List Row → Option Rules → Option (List ℕ) → Result Command Text
-check_with rows None offsets = Err (codes "--rules")
-check_with rows (Some rules) None = Err (codes "--inside")
-check_with rows (Some rules) (Some offsets) = Ok (Check rules (framing_from rows offsets) (first_of (codes "file") rows))
+abbrev pub extract_command : List Row → Result Command Text
+extract_command matches =
+    with_value (codes "--offset") (offset_value (first_of (codes "offset") matches)) (λ offset.
+    with_value (codes "--inside") (framing_value matches) (λ framing.
+    Ok (Extract
+    offset
+    (has_flag (codes "contents") matches)
+    framing
+    (first_of (codes "file") matches))))
 
-abbrev pub check_from : List Row → Result Command Text
-check_from rows = check_with rows (rules_of Der (first_of (codes "rules") rows)) (inside_of (first_of (codes "inside") rows))
+abbrev pub indef_command : List Row → Result Command Text
+indef_command matches =
+    Ok (Indef (has_flag (codes "padding") matches) (first_of (codes "file") matches))
 
-abbrev pub extract_with : List Row → Option ℕ → Option (List ℕ) → Result Command Text
-extract_with rows None offsets = Err (codes "--offset")
-extract_with rows (Some offset) None = Err (codes "--inside")
-extract_with rows (Some offset) (Some offsets) =
-    Ok (Extract offset (is_given (codes "contents") rows) (framing_from rows offsets) (first_of (codes "file") rows))
+-- the command of a name and its matches, or the first option whose text is no value
+abbrev pub matched_command : Text × List Row → Result Command Text
+matched_command found =
+    let name = found.0 in
+    let matches = found.1 in
+    if bytes_eq name (codes "dump") then dump_command matches
+    else (if bytes_eq name (codes "check") then check_command matches
+    else (if bytes_eq name (codes "extract") then extract_command matches
+    else indef_command matches))
 
-abbrev pub extract_from : List Row → Result Command Text
-extract_from rows = extract_with rows (offset_of (first_of (codes "offset") rows)) (inside_of (first_of (codes "inside") rows))
+-- ---- the words of a command line
 
-abbrev pub indef_from : List Row → Result Command Text
-indef_from rows = Ok (Indef (is_given (codes "padding") rows) (first_of (codes "file") rows))
+-- `clap` takes the words, and the result is the command of what it matches, or the first option
+-- whose text is no value
+pub record AreReadAs (words : List Text) (result : Result Command Text) : Type 0 where
+  pub no_fault : fault_of tlvdump_app words ≡ []
+  pub same_result : option_map matched_command (subcommand_of tlvdump_app words) ≡ Some result
 
--- the command of a subcommand's name and matches
-abbrev pub command_from : Text × List Row → Result Command Text
-command_from p =
-    if bytes_eq p.0 (codes "dump") then dump_from p.1
-    else (if bytes_eq p.0 (codes "check") then check_from p.1
-    else (if bytes_eq p.0 (codes "extract") then extract_from p.1 else indef_from p.1))
+-- `clap` does not take the words: the error's kind is one that it may give at them, and is not want
+-- of memory
+pub record AreRefusedBy (words : List Text) (error : Error) : Type 0 where
+  pub not_taken : takes tlvdump_app words ≡ false
+  pub cause : IsAmong (kind_of error) (fault_of tlvdump_app words)
+  pub not_memory : kind_of error ≢ OutOfMemory
 
--- ---- the command of words, as `clap` matches them
-
--- what the words come to, where `clap` takes them
-abbrev pub IsCommandOf : List Text → Result Command Text → Type 0
-IsCommandOf words result =
-    (fault_of line_app words ≡ []) × ((p : Text × List Row) × (subcommand_of line_app words ≡ Some p) × (command_from p ≡ result))
-
--- why the words are refused: by `clap`, for the cause that it has; for a value; or memory was refused
+-- why the words are refused: a line for each cause
 abbrev pub IsUsageFaultOf : List Text → UsageFault → Type 0
-IsUsageFaultOf words (Parser error) = IsAmong (kind_of error) (fault_of line_app words) × ¬ (kind_of error ≡ OutOfMemory)
-IsUsageFaultOf words (Value name) = IsCommandOf words (Err name.now)
+-- U1: `clap` refuses them, or they ask for help or for the version
+IsUsageFaultOf words (Parser error) = AreRefusedBy words error
+-- U2: the text of this option, the first such, is no value
+IsUsageFaultOf words (Value option) = AreReadAs words (Err option.now)
+-- U3: memory was refused, whatever the words are
 IsUsageFaultOf words Memory = ⊤
-
--- the answer to the words
-abbrev pub Answers : List Text → Result Command UsageFault → Type 0
-Answers words result = MatchResult result (λ command. IsCommandOf words (Ok command)) (IsUsageFaultOf words)

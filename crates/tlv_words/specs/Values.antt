@@ -1,67 +1,76 @@
--- What the texts of options stand for.
-use Rattle.std.specs.Prelude.{ℕ, ◌+◌, ◌==◌, ◌&&◌, Bool, true, List, [], ◌∷◌, Option, Some, None, codes, length, nat_le, nat_lt, if◌then◌else◌, option_and_then, option_map}
+-- What the texts of options stand for. `None` is a text that is no value of the option.
+use Rattle.std.specs.Prelude.{ℕ, ◌+◌, ◌==◌, ◌&&◌, Bool, true, List, [], ◌∷◌, Option, Some, None}
+use Rattle.std.specs.Prelude.{codes, if◌then◌else◌, length, nat_le, nat_lt, option_and_then}
+use Rattle.std.specs.Prelude.{option_map}
 use Rattle.std.specs.Char.{is_ascii_digit}
 use Rattle.std.specs.List.{list_all, slice_split}
 use Rattle.std.specs.Str.{bytes_eq}
 use Rattle.std.specs.Str.Parse.{digits_value}
+use Rattle.clap.specs.Words.{Text}
 use Rattle.tlv_show.specs.declared.rules.Rules.{Rules}
 use Rattle.tlv_show.specs.declared.rules.Rules.TheVariants.{Ber, Cer, Der}
 
-abbrev pub Text : Type 0
-Text = List ℕ
+-- ---- numbers
 
--- a number of 1 to 13 digits, up to most
-abbrev pub number_in : ℕ → Text → Option ℕ
-number_in most t =
-    if nat_lt 0 (length t) && (nat_le (length t) 13 && (list_all is_ascii_digit t && nat_le (digits_value 10 t) most))
-    then Some (digits_value 10 t) else None
+-- a number of 1 to 13 digits, at most `most`
+abbrev pub bounded_number : Text → ℕ → Option ℕ
+bounded_number text most =
+    if nat_lt 0 (length text) && (nat_le (length text) 13
+    && (list_all is_ascii_digit text && nat_le (digits_value 10 text) most))
+    then Some (digits_value 10 text) else None
 
--- an offset in octets: a number up to 2^40
-abbrev pub offset_in : Text → Option ℕ
-offset_in = number_in 1099511627776
+-- the largest offset, in octets: 2^40
+abbrev pub most_offset : ℕ
+most_offset = 1099511627776
 
--- a text cut at its commas, which are octets 44
-abbrev pub parts_of : Text → List Text
-parts_of = slice_split (λ x. x == 44)
+-- ---- lists of offsets
 
--- the offsets that these texts are, where each is one
-abbrev pub each_offset : List Text → Option (List ℕ)
-each_offset [] = Some []
-each_offset (part ∷ parts) = option_and_then (λ n. option_map (λ ns. n ∷ ns) (each_offset parts)) (offset_in part)
+-- the parts of a text between its commas, which are octets 44
+abbrev pub comma_parts : Text → List Text
+comma_parts = slice_split (λ octet. octet == 44)
 
--- each offset is larger than the one before and at most 2^40, and the first is at least the least
+-- the offset that each part is, if each is one
+abbrev pub part_offsets : List Text → Option (List ℕ)
+part_offsets [] = Some []
+part_offsets (part ∷ parts) =
+    option_and_then (λ n. option_map (λ ns. n ∷ ns) (part_offsets parts))
+    (bounded_number part most_offset)
+
+-- each offset is larger than the one before, and none is below `least` or above the largest
 abbrev pub are_rising : ℕ → List ℕ → Bool
 are_rising least [] = true
-are_rising least (n ∷ ns) = nat_le least n && (nat_le n 1099511627776 && are_rising (n + 1) ns)
+are_rising least (n ∷ ns) = nat_le least n && (nat_le n most_offset && are_rising (n + 1) ns)
 
--- rising offsets, at most 16 of them
-abbrev pub if_named : List ℕ → Option (List ℕ)
-if_named ns = if nat_le (length ns) 16 && are_rising 0 ns then Some ns else None
+-- at most 16 rising offsets
+abbrev pub can_name : List ℕ → Bool
+can_name offsets = nat_le (length offsets) 16 && are_rising 0 offsets
 
--- a list of offsets with commas between them
-abbrev pub offsets_in : Text → Option (List ℕ)
-offsets_in t = option_and_then if_named (each_offset (parts_of t))
+-- 1 to 16 rising offsets with commas between them
+abbrev pub offset_list : Text → Option (List ℕ)
+offset_list text =
+    option_and_then (λ offsets. if can_name offsets then Some offsets else None)
+    (part_offsets (comma_parts text))
 
--- ---- the value of an option, by its text or by none; nothing where the text is no value
+-- ---- the value of an option, by its text or by none
 
--- an offset has to be given
-abbrev pub offset_of : Option Text → Option ℕ
-offset_of = option_and_then offset_in
+-- `--rules`: `ber`, `der` or `cer`; without it, the usual rules
+abbrev pub rules_value : Rules → Option Text → Option Rules
+rules_value usual None = Some usual
+rules_value usual (Some text) =
+    if bytes_eq text (codes "ber") then Some Ber
+    else (if bytes_eq text (codes "der") then Some Der
+    else (if bytes_eq text (codes "cer") then Some Cer else None))
 
--- a limit of rows, below 2^32; without a text there is none
-abbrev pub limit_of : Option Text → Option (Option ℕ)
-limit_of None = Some None
-limit_of (Some t) = option_map Some (number_in 4294967295 t)
+-- `--limit`: a number below 2^32; without it there is no limit
+abbrev pub limit_value : Option Text → Option (Option ℕ)
+limit_value None = Some None
+limit_value (Some text) = option_map Some (bounded_number text 4294967295)
 
--- whose rules are told of; without a text, these
-abbrev pub rules_of : Rules → Option Text → Option Rules
-rules_of usual None = Some usual
-rules_of usual (Some t) =
-    if bytes_eq t (codes "ber") then Some Ber
-    else (if bytes_eq t (codes "der") then Some Der
-    else (if bytes_eq t (codes "cer") then Some Cer else None))
+-- `--offset`: an offset, which must be given
+abbrev pub offset_value : Option Text → Option ℕ
+offset_value = option_and_then (λ text. bounded_number text most_offset)
 
--- without a text no offset is named
-abbrev pub inside_of : Option Text → Option (List ℕ)
-inside_of None = Some []
-inside_of (Some t) = offsets_in t
+-- `--inside`: a list of offsets; without it there is none
+abbrev pub inside_value : Option Text → Option (List ℕ)
+inside_value None = Some []
+inside_value (Some text) = offset_list text

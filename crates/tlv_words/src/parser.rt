@@ -1,9 +1,10 @@
-//! What `clap` is told of the command line, with the texts of help.
-ghost use Rattle.std.specs.Prelude.{◌≡◌, IfOk, codes, false};
+//! The parser of the command line, with the texts of its help.
+ghost use Rattle.std.specs.Prelude.{◌≡◌, [], IfOk, false};
 ghost use Rattle.clap.specs.Words.{App, rule_of, with_subcommand};
-ghost use Rattle.tlv_words.specs.Line.{check_app, dump_app, extract_app, helped, indef_app, line_app, program_app};
-ghost use Rattle.tlv_words.specs.Private.Line.{IsMade};
-ghost use Rattle.tlv_words.specs.Line.{file_rule, flag_rule, help_rule, offset_rule, option_rule, version_rule};
+ghost use Rattle.tlv_words.specs.CommandLine.{check_app, command_app, dump_app, extract_app, indef_app};
+ghost use Rattle.tlv_words.specs.CommandLine.{file, flag, help_flag, option, program_app};
+ghost use Rattle.tlv_words.specs.CommandLine.{required_option, tlvdump_app, version_flag};
+ghost use Rattle.tlv_words.specs.Private.Parsers.{IsParserOf};
 
 use clap::{Arg, ArgAction, Command};
 use std::alloc::{AllocError, Global};
@@ -12,9 +13,17 @@ mod help;
 
 use help::Help;
 
+/// The file to read, which has no name before it.
+fn file<'a>(alloc: Global) -> Arg<'a>
+    ensures rule { rule_of result ≡ file }
+    ensures local { result.global ≡ false }
+{
+    Arg::new(alloc, "file").value_name("FILE").help(help::FILE)
+}
+
 /// An option with a value.
 fn option<'a>(alloc: Global, name: &'a str, value: &'a str, text: &'a str) -> Arg<'a>
-    ensures rule { rule_of result ≡ option_rule name.now }
+    ensures rule { rule_of result ≡ option name.now }
     ensures local { result.global ≡ false }
 {
     Arg::new(alloc, name)
@@ -24,9 +33,17 @@ fn option<'a>(alloc: Global, name: &'a str, value: &'a str, text: &'a str) -> Ar
         .help(text)
 }
 
+/// An option with a value, without which the command is refused.
+fn required_option<'a>(alloc: Global, name: &'a str, value: &'a str, text: &'a str) -> Arg<'a>
+    ensures rule { rule_of result ≡ required_option name.now }
+    ensures local { result.global ≡ false }
+{
+    option(alloc, name, value, text).required(true)
+}
+
 /// An option without a value.
 fn flag<'a>(alloc: Global, name: &'a str, text: &'a str) -> Arg<'a>
-    ensures rule { rule_of result ≡ flag_rule name.now }
+    ensures rule { rule_of result ≡ flag name.now }
     ensures local { result.global ≡ false }
 {
     Arg::new(alloc, name)
@@ -35,42 +52,9 @@ fn flag<'a>(alloc: Global, name: &'a str, text: &'a str) -> Arg<'a>
         .help(text)
 }
 
-fn inside<'a>(alloc: Global) -> Arg<'a>
-    ensures rule { rule_of result ≡ option_rule (codes "inside") }
-    ensures local { result.global ≡ false }
-{
-    option(alloc, "inside", "LIST", help::INSIDE)
-}
-
-fn offset<'a>(alloc: Global) -> Arg<'a>
-    ensures rule { rule_of result ≡ offset_rule }
-    ensures local { result.global ≡ false }
-{
-    Arg::new(alloc, "offset")
-        .long("offset")
-        .action(ArgAction::Set)
-        .value_name("N")
-        .required(true)
-        .help(help::OFFSET)
-}
-
-fn padding<'a>(alloc: Global) -> Arg<'a>
-    ensures rule { rule_of result ≡ flag_rule (codes "padding") }
-    ensures local { result.global ≡ false }
-{
-    flag(alloc, "padding", help::PADDING)
-}
-
-fn file<'a>(alloc: Global) -> Arg<'a>
-    ensures rule { rule_of result ≡ file_rule }
-    ensures local { result.global ≡ false }
-{
-    Arg::new(alloc, "file").value_name("FILE").help(help::FILE)
-}
-
 /// Help is asked for by this long name alone.
 fn help_flag<'a>(alloc: Global) -> Arg<'a>
-    ensures rule { rule_of result ≡ help_rule }
+    ensures rule { rule_of result ≡ help_flag }
     ensures local { result.global ≡ false }
 {
     Arg::new(alloc, "help")
@@ -80,7 +64,7 @@ fn help_flag<'a>(alloc: Global) -> Arg<'a>
 }
 
 fn version_flag<'a>(alloc: Global) -> Arg<'a>
-    ensures rule { rule_of result ≡ version_rule }
+    ensures rule { rule_of result ≡ version_flag }
     ensures local { result.global ≡ false }
 {
     Arg::new(alloc, "version")
@@ -89,62 +73,62 @@ fn version_flag<'a>(alloc: Global) -> Arg<'a>
         .help("Print version")
 }
 
-/// A command with its help, and no option else.
-fn with_help<'a>(alloc: Global, name: &'a str, help: Help<'a>) -> Result<Command<'a>, AllocError>
-    ensures { IfOk result (λ command. IsMade command (helped name.now)) }
+/// A command with what each command has: a file to read, and help.
+fn command_parser<'a>(
+    alloc: Global,
+    name: &'a str,
+    help: Help<'a>,
+) -> Result<Command<'a>, AllocError>
+    ensures { IfOk result (IsParserOf (command_app name.now [])) }
 {
     Command::new(alloc, name)
         .about(help.about)
         .long_about(help.more)
         .after_help(help.after)
+        .arg(file(alloc))?
         .arg(help_flag(alloc))
 }
 
 fn dump_parser<'a>(alloc: Global) -> Result<Command<'a>, AllocError>
-    ensures { IfOk result (λ command. IsMade command dump_app) }
+    ensures { IfOk result (IsParserOf dump_app) }
 {
-    with_help(alloc, "dump", help::DUMP)?
+    command_parser(alloc, "dump", help::DUMP)?
         .arg(option(alloc, "rules", "RULES", help::DUMP_RULES))?
         .arg(option(alloc, "limit", "N", help::LIMIT))?
         .arg(flag(alloc, "pure", help::PURE))?
         .arg(option(alloc, "names", "NAMES", help::NAMES))?
-        .arg(inside(alloc))?
-        .arg(padding(alloc))?
-        .arg(file(alloc))
+        .arg(option(alloc, "inside", "LIST", help::INSIDE))?
+        .arg(flag(alloc, "padding", help::PADDING))
 }
 
 fn check_parser<'a>(alloc: Global) -> Result<Command<'a>, AllocError>
-    ensures { IfOk result (λ command. IsMade command check_app) }
+    ensures { IfOk result (IsParserOf check_app) }
 {
-    with_help(alloc, "check", help::CHECK)?
+    command_parser(alloc, "check", help::CHECK)?
         .arg(option(alloc, "rules", "RULES", help::CHECK_RULES))?
-        .arg(inside(alloc))?
-        .arg(padding(alloc))?
-        .arg(file(alloc))
+        .arg(option(alloc, "inside", "LIST", help::INSIDE))?
+        .arg(flag(alloc, "padding", help::PADDING))
 }
 
 fn extract_parser<'a>(alloc: Global) -> Result<Command<'a>, AllocError>
-    ensures { IfOk result (λ command. IsMade command extract_app) }
+    ensures { IfOk result (IsParserOf extract_app) }
 {
-    with_help(alloc, "extract", help::EXTRACT)?
-        .arg(offset(alloc))?
+    command_parser(alloc, "extract", help::EXTRACT)?
+        .arg(required_option(alloc, "offset", "N", help::OFFSET))?
         .arg(flag(alloc, "contents", help::CONTENTS))?
-        .arg(inside(alloc))?
-        .arg(padding(alloc))?
-        .arg(file(alloc))
+        .arg(option(alloc, "inside", "LIST", help::INSIDE))?
+        .arg(flag(alloc, "padding", help::PADDING))
 }
 
 fn indef_parser<'a>(alloc: Global) -> Result<Command<'a>, AllocError>
-    ensures { IfOk result (λ command. IsMade command indef_app) }
+    ensures { IfOk result (IsParserOf indef_app) }
 {
-    with_help(alloc, "indef", help::INDEF)?
-        .arg(padding(alloc))?
-        .arg(file(alloc))
+    command_parser(alloc, "indef", help::INDEF)?.arg(flag(alloc, "padding", help::PADDING))
 }
 
-/// The program without its commands: one of them is wanted, and no short name or command `help` is taken.
+/// The program without its commands. One of them must be given, and none is called `help`.
 fn program_parser<'a>(alloc: Global) -> Result<Command<'a>, AllocError>
-    ensures { IfOk result (λ command. IsMade command program_app) }
+    ensures { IfOk result (IsParserOf program_app) }
 {
     Command::new(alloc, "tlvdump")
         .subcommand_required(true)
@@ -159,20 +143,20 @@ fn program_parser<'a>(alloc: Global) -> Result<Command<'a>, AllocError>
         .arg(version_flag(alloc))
 }
 
-/// One command more. The parser stands alone here, so that a command that cannot be made leaves one thing to drop.
+/// The parser with one more command. Here it is alone, so that a command that cannot be made leaves one thing to drop.
 fn with_command<'a>(
     parser: Command<'a>,
     command: Result<Command<'a>, AllocError>,
 ) -> Result<Command<'a>, AllocError>
-    ensures { (x y : App) → IsMade parser.entry x → IfOk command.entry (λ made. IsMade made y)
-        → IfOk result (λ made. IsMade made (with_subcommand x y.top)) }
+    ensures { (app sub : App) → IsParserOf app parser.entry → IfOk command.entry (IsParserOf sub)
+        → IfOk result (IsParserOf (with_subcommand app sub.top)) }
 {
     parser.subcommand(command?)
 }
 
 /// The whole command line.
-pub(crate) fn line_parser<'a>(alloc: Global) -> Result<Command<'a>, AllocError>
-    ensures { IfOk result (λ command. IsMade command line_app) }
+pub(crate) fn tlvdump_parser<'a>(alloc: Global) -> Result<Command<'a>, AllocError>
+    ensures { IfOk result (IsParserOf tlvdump_app) }
 {
     let parser = program_parser(alloc)?;
     let parser = with_command(parser, dump_parser(alloc))?;

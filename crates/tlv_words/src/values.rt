@@ -2,7 +2,8 @@
 ghost use Rattle.std.specs.Prelude.{◌<◌, ◌==◌, ◌≡◌, ◌≤◌, ◌∷◌, IfSome, [], length};
 ghost use Rattle.std.specs.List.{position_or_len};
 ghost use Rattle.std.specs.Option.{option_map_or};
-ghost use Rattle.tlv_words.specs.Values.{inside_of as inside_in, limit_of as limit_in, number_in, offset_of as offset_in, offsets_in, parts_of, rules_of as rules_in};
+ghost use Rattle.tlv_words.specs.Values.{bounded_number, comma_parts, inside_value, limit_value, offset_list};
+ghost use Rattle.tlv_words.specs.Values.{offset_value, rules_value};
 ghost use Rattle.tlv_words.specs.Private.Values.{text_in};
 
 use arrayvec::ArrayVec;
@@ -13,8 +14,8 @@ use tlv_walk::Inside;
 const MOST_OFFSET: u64 = 1 << 40;
 
 /// The number that the text is: 1 to 13 digits, with leading zeros or without, of a number up to `most`.
-fn number_of(text: &[u8], most: u64) -> Option<u64>
-    ensures { result ≡ number_in most text.now }
+fn bounded_number(text: &[u8], most: u64) -> Option<u64>
+    ensures { result ≡ bounded_number text.now most }
 {
     if text.is_empty() || text.len() > 13 {
         return None;
@@ -29,29 +30,9 @@ fn number_of(text: &[u8], most: u64) -> Option<u64>
     if number <= most { Some(number) } else { None }
 }
 
-/// The offset that the text is: a number up to 2^40. Nothing where there is no text.
-pub(crate) fn offset_of(text: Option<&str>) -> Option<u64>
-    ensures { result ≡ offset_in (text_in text.entry) }
-{
-    number_of(text?.as_bytes(), MOST_OFFSET)
-}
-
-/// The limit of rows that the text is, a number up to 4,294,967,295; no limit where there is no text.
-pub(crate) fn limit_of(text: Option<&str>) -> Option<Option<u32>>
-    ensures { result ≡ limit_in (text_in text.entry) }
-{
-    let Some(text) = text else {
-        return Some(None);
-    };
-    match number_of(text.as_bytes(), u64::from(u32::MAX)) {
-        Some(number) => Some(Some(number as u32)),
-        None => None,
-    }
-}
-
-/// The rules that the text names, `ber`, `der` or `cer`; the usual ones where there is no text.
-pub(crate) fn rules_of(usual: Rules, text: Option<&str>) -> Option<Rules>
-    ensures { result ≡ rules_in usual (text_in text.entry) }
+/// The rules that the text names, `ber`, `der` or `cer`. Without a text these are the usual ones.
+pub(crate) fn rules_value(usual: Rules, text: Option<&str>) -> Option<Rules>
+    ensures { result ≡ rules_value usual (text_in text.entry) }
 {
     let Some(text) = text else {
         return Some(usual);
@@ -64,40 +45,61 @@ pub(crate) fn rules_of(usual: Rules, text: Option<&str>) -> Option<Rules>
     }
 }
 
-/// The offsets that the text is: 1 to 16 numbers up to 2^40 with commas between them, each larger than the one before.
-/// No offset where there is no text.
-pub(crate) fn inside_of(text: Option<&str>) -> Option<Inside>
-    ensures { result ≡ inside_in (text_in text.entry) }
+/// The limit that the text is, a number up to 4,294,967,295. Without a text there is no limit.
+pub(crate) fn limit_value(text: Option<&str>) -> Option<Option<u32>>
+    ensures { result ≡ limit_value (text_in text.entry) }
+{
+    let Some(text) = text else {
+        return Some(None);
+    };
+    match bounded_number(text.as_bytes(), u64::from(u32::MAX)) {
+        Some(number) => Some(Some(number as u32)),
+        None => None,
+    }
+}
+
+/// The offset that the text is, a number up to 2^40. Without a text there is none.
+pub(crate) fn offset_value(text: Option<&str>) -> Option<u64>
+    ensures { result ≡ offset_value (text_in text.entry) }
+{
+    bounded_number(text?.as_bytes(), MOST_OFFSET)
+}
+
+/// The offsets that the text lists. Without a text there are none.
+pub(crate) fn inside_value(text: Option<&str>) -> Option<Inside>
+    ensures { result ≡ inside_value (text_in text.entry) }
 {
     match text {
-        Some(text) => offsets_of(text.as_bytes()),
+        Some(text) => offset_list(text.as_bytes()),
         None => Some(Inside::none()),
     }
 }
 
-fn offsets_of(text: &[u8]) -> Option<Inside>
-    ensures { result ≡ offsets_in text.now }
+/// The offsets that the text is: 1 to 16 numbers up to 2^40 with commas between them, each larger than the one before.
+fn offset_list(text: &[u8]) -> Option<Inside>
+    ensures { result ≡ offset_list text.now }
 {
     let mut offsets: ArrayVec<u64, 16> = ArrayVec::new();
     let mut rest = Some(text);
     while let Some(parts) = rest {
         let (first, others) = first_part(parts);
-        let number = number_of(first, MOST_OFFSET)?;
+        let offset = bounded_number(first, MOST_OFFSET)?;
         if offsets.is_full() {
             return None;
         }
-        offsets.push(number);
+        offsets.push(offset);
         rest = others;
     }
     Inside::new(offsets.as_slice())
 }
 
-/// What stands before the first comma, and what follows it, if there is one.
+/// The text before the first comma, and the text after it, if there is one.
 fn first_part(text: &[u8]) -> (&[u8], Option<&[u8]>)
-    ensures parts { parts_of text.now ≡ result.0.now ∷ option_map_or (λ others. parts_of others.now) result.1 [] }
+    ensures parts { comma_parts text.now
+        ≡ result.0.now ∷ option_map_or (λ others. comma_parts others.now) result.1 [] }
     ensures fewer { IfSome result.1 (λ others. length others.now < length text.now) }
 {
-    let end = end_of_first(text);
+    let end = first_part_len(text);
     if end < text.len() {
         (&text[..end], Some(&text[end + 1..]))
     } else {
@@ -105,9 +107,9 @@ fn first_part(text: &[u8]) -> (&[u8], Option<&[u8]>)
     }
 }
 
-/// Where the first comma stands, or the end.
-fn end_of_first(text: &[u8]) -> usize
-    ensures value { result ≡ position_or_len (λ x. x == 44) text.now }
+/// How many octets are before the first comma. If there is none, it is all of them.
+fn first_part_len(text: &[u8]) -> usize
+    ensures value { result ≡ position_or_len (λ octet. octet == 44) text.now }
     ensures within { result ≤ length text.now }
 {
     for (index, octet) in text.iter().enumerate() {

@@ -33,11 +33,11 @@ impl Words {
         }
     }
 
-    /// Adds a word behind the others.
+    /// Adds a word after the others.
     ///
     /// # Errors
     ///
-    /// `Memory` where memory is refused; the words are then as before.
+    /// `Memory` if memory is refused. The words are then as before.
     pub fn push(&mut self, word: &str) -> Result<(), UsageFault>
         ensures ok { OnOk result (self.new ≡ self.old ++ word.now ∷ []) }
         ensures err { OnErr result (self.new ≡ self.old) }

@@ -1,8 +1,8 @@
--- The text of a value, as a private function says it.
+-- The text that a private contract names.
 use Rattle.std.specs.Prelude.{Option, option_map}
 use Rattle.std.specs.Borrow.{Bor}
-use Rattle.tlv_words.specs.Values.{Text}
+use Rattle.clap.specs.Words.{Text}
 
--- the text behind a reference, if there is one
+-- the text of a reference, if there is one
 abbrev pub text_in : Option (Bor Text) → Option Text
-text_in = option_map (λ t. t.now)
+text_in = option_map (λ text. text.now)

@@ -1,10 +1,10 @@
 use Rattle.std.proofs.lemmas.Result.{IfOk-weaker}
-use Rattle.tlv_words.proofs.Building.{one_more}
+use Rattle.tlv_words.proofs.ParserLemmas.{one_more}
 use Rattle.tlv_words.proofs.parser.check_parser.Goals as goal
 
 pub returns : goal.returns
 returns c =
-    let has_1 = one_more c.in_ok-with_help.ensures c.in_ok-arg.ensures c.option.ensures.local c.option.ensures.rule in
-    let has_2 = one_more has_1 c.in_ok-arg-2.ensures c.inside.ensures.local c.inside.ensures.rule in
-    let has_3 = one_more has_2 c.in_ok-arg-3.ensures c.padding.ensures.local c.padding.ensures.rule in
-    IfOk-weaker c.arg-4.result _ _ (λ m h. one_more has_3 h c.file.ensures.local c.file.ensures.rule) c.arg-4.ensures
+    let has_1 =
+    one_more c.in_ok-command_parser.ensures c.in_ok-arg.ensures c.option.ensures.local c.option.ensures.rule in
+    let has_2 = one_more has_1 c.in_ok-arg-2.ensures c.option-2.ensures.local c.option-2.ensures.rule in
+    IfOk-weaker c.arg-3.result _ _ (λ m h. one_more has_2 h c.flag.ensures.local c.flag.ensures.rule) c.arg-3.ensures

@@ -1,8 +1,8 @@
 use Rattle.std.proofs.Common.{rules}
 use Rattle.std.proofs.lemmas.Result.{IfOk-weaker}
-use Rattle.tlv_words.proofs.Building.{one_below}
+use Rattle.tlv_words.proofs.ParserLemmas.{one_below}
 use Rattle.tlv_words.proofs.parser.with_command.Goals as goal
 
 pub returns : goal.returns
-returns c = λ x y made is.
-    IfOk-weaker c.subcommand.result _ _ (λ m h. one_below {y = y} made h (search rules)) c.subcommand.ensures
+returns c = λ app sub made is.
+    IfOk-weaker c.subcommand.result _ _ (λ m h. one_below {y = sub} made h (search rules)) c.subcommand.ensures

@@ -1,9 +1,11 @@
 use Rattle.std.proofs.Common.{rules}
-use Rattle.tlv_words.proofs.Offsets.{first_part, one_part}
+use Rattle.tlv_words.proofs.OffsetLemmas.{first_part, one_part}
 use Rattle.tlv_words.proofs.values.first_part.Goals as goal
 
 pub returns-then-end-text-clause-parts : goal.returns-then-end-text-clause-parts
-returns-then-end-text-clause-parts c = first_part c.args.text.now c.end_of_first-end.result c.end_of_first-end.ensures.value (search rules)
+returns-then-end-text-clause-parts c =
+    first_part c.args.text.now c.first_part_len-end.result c.first_part_len-end.ensures.value (search rules)
 
 pub returns-else-end-text-clause-parts : goal.returns-else-end-text-clause-parts
-returns-else-end-text-clause-parts c = one_part c.args.text.now (let e = c.end_of_first-end.ensures.value in search rules)
+returns-else-end-text-clause-parts c =
+    one_part c.args.text.now (let e = c.first_part_len-end.ensures.value in search rules)
