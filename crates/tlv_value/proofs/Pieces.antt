@@ -254,6 +254,7 @@ told-long name_of p c is long e =
   where
     by-kind : Kind → List ℕ
     by-kind j = line_of p (long_text j p.size c) ++ row_lines j p.layout 0 (rows_of j (in_rows j c))
+
     started : Kind → TextState
     started j = record { offset = p.offset; class = p.class; number = p.number; size = p.size; layout = p.layout; left = p.size; kept = begin_kept j }
 

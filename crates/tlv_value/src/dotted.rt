@@ -60,8 +60,8 @@ pub(crate) fn write_dotted(held: &mut Held, contents: &[u8], relative: bool) -> 
     true
 }
 
-/// Adds the dotted text of at most nine octets, behind a space. Numbers of 64 bits save work at each octet, and no number is
-/// too large.
+/// Adds the dotted text of at most nine octets, behind a space. Their numbers fit into 64 bits, which saves work at
+/// each octet.
 #[inline(always)]
 fn write_short(held: &mut Held, contents: &[u8], relative: bool)
     requires finished { is_finished_list contents.now ≡ true }

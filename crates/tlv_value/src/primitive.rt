@@ -142,7 +142,11 @@ impl Primitive {
 
     /// Puts its line, where its value stands in rows: with the number of its bits, where it is a BIT STRING.
     #[inline(always)]
-    pub fn put_long<D: Drain>(&self, contents: &[u8], out: &mut Out<'_, D>) -> Result<(), WriteFault>
+    pub fn put_long<D: Drain>(
+        &self,
+        contents: &[u8],
+        out: &mut Out<'_, D>,
+    ) -> Result<(), WriteFault>
         requires { is_long_value self.now.kind self.now.size ≡ true }
         ensures { Puts D.told out.old out.new
             (line_of self.now (long_text self.now.kind self.now.size contents.now)) result }

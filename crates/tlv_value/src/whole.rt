@@ -1,5 +1,5 @@
-//! The lines of a primitive of which all contents are at hand. Those of a value that stands on its line are made at once: no
-//! contents are copied, and its type is asked for once.
+//! The lines of a primitive of which all contents are at hand. Those of a value that stands on its line, or in rows of
+//! pairs of digits, are made at once: no contents are copied, and its type is asked for once.
 ghost use Rattle.std.specs.Prelude.{◌≡◌, ◌++◌, None, length, true};
 ghost use Rattle.tlv_head.specs.Header.{announced};
 ghost use Rattle.tlv_walk.specs.Out.{Puts};
@@ -16,8 +16,8 @@ use crate::{Layout, NameTable, ValueText};
 use tlv_head::Header;
 use tlv_walk::{Drain, Out, WriteFault};
 
-/// Puts the lines of a primitive of which all contents are at hand: as a [`ValueText`] does with its header, its contents
-/// and its end.
+/// Puts the lines of a primitive of which all contents are at hand: as a [`ValueText`] does with its header, its
+/// contents and its end.
 ///
 /// # Errors
 ///
@@ -54,7 +54,8 @@ fn put_long<N: NameTable, D: Drain>(
     requires kind { value.now.kind ≡ kind_of_tag value.now.class value.now.number }
     requires long { is_long value.now.kind value.now.size ≡ true }
     requires whole { length contents.now ≡ value.now.size }
-    ensures { Puts D.told out.old out.new (lines_in_steps (N.name_of names.now) (start_of value.now) contents.now) result }
+    ensures { Puts D.told out.old out.new
+        (lines_in_steps (N.name_of names.now) (start_of value.now) contents.now) result }
 {
     if value.has_pairs() {
         put_pairs(value, contents, out)
@@ -63,8 +64,8 @@ fn put_long<N: NameTable, D: Drain>(
     }
 }
 
-/// Puts the lines of a primitive whose value stands in rows of pairs of digits, from where its contents stand. This saves the
-/// state of a [`ValueText`].
+/// Puts the lines of a primitive whose value stands in rows of pairs of digits, from where its contents stand. This
+/// saves the state of a [`ValueText`].
 #[inline(always)]
 fn put_pairs<D: Drain>(
     value: &Primitive,
@@ -76,7 +77,8 @@ fn put_pairs<D: Drain>(
     requires long { is_long value.now.kind value.now.size ≡ true }
     ensures { Puts D.told out.old out.new
         (line_of value.now (long_text value.now.kind value.now.size contents.now)
-        ++ row_lines value.now.kind value.now.layout 0 (rows_of value.now.kind (in_rows value.now.kind contents.now))) result }
+        ++ row_lines value.now.kind value.now.layout 0
+        (rows_of value.now.kind (in_rows value.now.kind contents.now))) result }
 {
     value.put_long(contents, out)?;
     put_pair_rows(value.layout, octets_in_rows(value.kind, contents), out)
@@ -103,7 +105,8 @@ fn put_in_steps<N: NameTable, D: Drain>(
 ) -> Result<(), WriteFault>
     requires kind { value.now.kind ≡ kind_of_tag value.now.class value.now.number }
     requires whole { length contents.now ≡ value.now.size }
-    ensures { Puts D.told out.old out.new (lines_in_steps (N.name_of names.now) (start_of value.now) contents.now) result }
+    ensures { Puts D.told out.old out.new
+        (lines_in_steps (N.name_of names.now) (start_of value.now) contents.now) result }
 {
     let mut text = ValueText::of(*value);
     text.begin(out)?;
