@@ -20,10 +20,10 @@ use tlv_walk::{Drain, Held, Out, WriteFault};
 #[derive(Clone, Copy)]
 pub(crate) struct Primitive {
     pub offset: u64,
+    pub class: Class,
     pub number: u64,
     /// How many contents octets it has.
     pub size: u64,
-    pub class: Class,
     pub kind: Kind,
     pub layout: Layout,
 }
