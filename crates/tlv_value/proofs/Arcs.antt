@@ -8,7 +8,7 @@ use Rattle.std.specs.Prelude.{Option, Some, None, decimal, nat_lt, nat_le, if◌
 use Rattle.std.specs.List.{onto_first}
 use Rattle.std.proofs.lemmas.Bool.Decides.{nat_tests}
 use Rattle.std.proofs.lemmas.Fmt.{decimal_digit, length-decimal-le_wide}
-use Rattle.std.proofs.Math.Nat.{pow-suc}
+use Rattle.std.proofs.Math.Nat.{one-le-pow, pow-le-pow_right, pow-suc}
 use Rattle.tlv_value.specs.Arcs.{parts_of, subidentifier, subidentifiers, arcs_of, is_finished, dotted_text}
 use Rattle.tlv_value.specs.Private.Arcs.{part_text, first_arcs, behind_dots, dotted, all_below}
 
@@ -181,6 +181,17 @@ run-last t first relative n v c i e h g b =
     let small : nat_lt n (2 ^ 121) ≡ true = grind (arith, nat_tests) in
     let last : nat_lt (get_or c i 0) 128 ≡ true = grind (arith, nat_tests) in
     rw (drop-cons c i 0 h, small, last, add-one, e) refl
+
+-- of up to nine octets each number has 64 bits
+
+pub few-bits : (n i : ℕ) → n < 128 ^ i → i < 9 → n < 2 ^ 56
+few-bits n i h few = let e : 128 ^ i ≤ 128 ^ 8 = pow-le-pow_right {n = 128} (omega arith) {i = i} {j = 8} (omega arith) in omega (arith, e, h)
+
+pub one-more : (n x v i : ℕ) → v ≡ n * 128 + x % 128 → n < 128 ^ i → v < 128 ^ (i + 1)
+one-more n x v i e h = let p : 128 ^ (i + 1) ≡ 128 ^ i * 128 = pow-add 128 i 1 in omega (arith, p, h, e)
+
+pub none-yet : (i : ℕ) → 0 < 128 ^ i
+none-yet i = one-le-pow i 128 (omega arith)
 
 -- how long the text is at most
 

@@ -1,6 +1,6 @@
 -- Full rows of pairs of digits, from where their octets stand.
-use Rattle.std.proofs.Common.{◌≡◌, inl, ℕ, zero, suc, ◌+◌, ◌-◌, ◌*◌, ◌/◌, ◌<◌, ◌≤◌, false, List, [], ◌∷◌, ◌++◌, length, take, drop, get_or, refl, sym, ap, ap₂, ◌∙◌, arith, append_assoc, append-nil, length-append, length-drop, take-append-drop}
-use Rattle.std.specs.Prelude.{None}
+use Rattle.std.proofs.Common.{◌≡◌, inl, ℕ, zero, suc, ◌+◌, ◌-◌, ◌*◌, ◌/◌, ◌<◌, ◌≤◌, false, true, List, [], ◌∷◌, ◌++◌, length, take, drop, get_or, refl, sym, ap, ap₂, ◌∙◌, arith, append_assoc, append-nil, length-append, length-drop, take-append-drop}
+use Rattle.std.specs.Prelude.{None, eqb}
 use Rattle.std.proofs.lemmas.Bool.Decides.{nat_tests}
 use Rattle.std.proofs.lemmas.List.{drop-drop, replicate_more, take_more}
 use Rattle.std.proofs.lemmas.Grind.{flat_map-append}
@@ -12,11 +12,12 @@ use Rattle.tlv_value.specs.Kind.{is_text}
 use Rattle.tlv_value.specs.Layout.{margin, no_columns, row_line, spaces}
 use Rattle.tlv_value.specs.Private.Room.{HaveRoom}
 use Rattle.tlv_value.specs.Private.Rows.{full_line, full_lines}
-use Rattle.tlv_value.specs.Rows.{announced, full_rows, open_row, row_size}
+use Rattle.tlv_value.specs.Rows.{announced, full_rows, last_rows, open_row, row_size, rows_of}
 use Rattle.tlv_value.specs.State.{row_lines}
 use Rattle.tlv_value.specs.Value.{row_text, spaced_pairs}
 use Rattle.tlv_value.proofs.Puts.{row_lines-append}
-use Rattle.tlv_value.proofs.RowSteps.{turn}
+use Rattle.tlv_value.proofs.RowSteps.{keep, turn}
+use Rattle.tlv_value.proofs.RowsFrom.{rows-whole}
 
 -- ---- kinds whose rows have 16 octets
 
@@ -45,11 +46,11 @@ one_each Ucs2 x e = refl
 one_each Ucs4 x e = refl
 
 module _ (kind : Kind) (short : row_size kind ≡ 16) where
-  room : (octets : List ℕ) → HaveRoom kind 0 octets 16
-  room octets i h = rw (one_each kind (get_or octets i 0) short, short) (grind (arith, nat_tests))
+  room : (n : ℕ) (octets : List ℕ) → n ≤ 16 → HaveRoom kind 0 octets n
+  room n octets few i h = rw (one_each kind (get_or octets i 0) short, short) (grind (arith, nat_tests))
 
   first_row : (octets : List ℕ) → 16 ≤ length octets → (full_rows kind [] octets ≡ take 16 octets ∷ full_rows kind [] (drop 16 octets)) × (open_row kind [] octets ≡ open_row kind [] (drop 16 octets))
-  first_row octets h = turn kind [] 16 octets (room octets) (omega (arith, short)) h (omega (arith, short)) (inl (omega (arith, short)))
+  first_row octets h = turn kind [] 16 octets (room 16 octets (omega arith)) (omega (arith, short)) h (omega (arith, short)) (inl (omega (arith, short)))
 
   -- so many rows
   rows_first : (n : ℕ) (octets : List ℕ) → n * 16 ≤ length octets
@@ -60,6 +61,18 @@ module _ (kind : Kind) (short : row_size kind ≡ 16) where
       let more = rows_first n (drop 16 octets) (omega (arith, h, length-drop 16 octets)) in
       let e : drop (n * 16) (drop 16 octets) ≡ drop (suc n * 16) octets = drop-drop (n * 16) 16 octets ∙ ap (λ (k : ℕ). drop k octets) (omega arith) in
       (t.0 ∙ ap (λ (l : List (List ℕ)). take 16 octets ∷ l) (more.0 ∙ ap (λ (l : List ℕ). first_chunks 16 n (drop 16 octets) ++ full_rows kind [] l) e), t.1 ∙ more.1 ∙ ap (open_row kind []) e)
+
+  -- all rows: the full ones, and the last
+  pub rows_cut : (octets : List ℕ) → rows_of kind octets ≡ first_chunks 16 (length octets / 16) octets ++ last_rows (drop (length octets / 16 * 16) octets)
+  rows_cut octets =
+      let n : ℕ = length octets / 16 in
+      let more : List ℕ = drop (n * 16) octets in
+      let l : length more < 16 = omega (arith, length-drop (n * 16) octets) in
+      let t = rows_first n octets (omega arith) in
+      let k = keep kind [] more (room (length more) more (omega (arith, l))) (omega (arith, l, short)) in
+      rows-whole kind octets
+      ∙ ap (λ (r : List (List ℕ)). r ++ last_rows (open_row kind [] octets)) (t.0 ∙ ap (λ (r : List (List ℕ)). first_chunks 16 n octets ++ r) k.0 ∙ append-nil (first_chunks 16 n octets))
+      ∙ ap (λ (r : List ℕ). first_chunks 16 n octets ++ last_rows r) (t.1 ∙ k.1)
 
   module _ (layout : Layout) (endless : layout.limit ≡ None) where
     -- their lines, where there is no limit to rows
@@ -83,6 +96,11 @@ module _ (kind : Kind) (short : row_size kind ≡ 16) where
           ap length all ∙ length-append rows (full_rows kind [] more),
         )
 
+-- the lines of all rows, where there is no limit to them
+pub pair_lines : (kind : Kind) → row_size kind ≡ 16 → (layout : Layout) → layout.limit ≡ None → (octets : List ℕ) → full_lines layout (rows_of Octets octets) ≡ row_lines kind layout 0 (rows_of kind octets)
+pair_lines kind short layout endless octets =
+    ap (full_lines layout) (rows_cut Octets refl octets ∙ sym (rows_cut kind short octets)) ∙ sym (lines_of kind short layout endless 0 (rows_of kind octets))
+
 -- ---- the line of a full row
 
 -- pairs behind a space, and with spaces between them
@@ -101,6 +119,21 @@ full_line_added layout old (x ∷ xs) n e some whole =
   where
     joined : (front text : List ℕ) → old ++ front ++ (32 ∷ text) ++ 10 ∷ [] ≡ old ++ (front ++ 32 ∷ [] ++ text ++ 10 ∷ [])
     joined front text = simp append_assoc refl
+
+-- the lines of the full rows, and that of the last
+pub lines_cut : (layout : Layout) (octets : List ℕ) (rows : List (List ℕ)) (more : List ℕ) → rows ≡ first_chunks 16 (length octets / 16) octets → more ≡ drop (length octets / 16 * 16) octets
+    → full_lines layout rows ++ full_lines layout (last_rows more) ≡ full_lines layout (rows_of Octets octets)
+lines_cut layout octets rows more e f =
+    sym (flat_map-append (full_line layout) rows (last_rows more)) ∙ ap (full_lines layout) (rw (e, f) (sym (rows_cut Octets refl octets)))
+
+-- the line of the last, where there is one
+pub last_line : (layout : Layout) (row : List ℕ) → eqb (length row) 0 ≡ false → full_line layout row ≡ full_lines layout (last_rows row)
+last_line layout [] some = absurd (grind (arith, nat_tests))
+last_line layout (x ∷ xs) some = sym (append-nil (full_line layout (x ∷ xs)))
+
+pub no_last_line : (layout : Layout) (front row : List ℕ) → eqb (length row) 0 ≡ true → front ≡ front ++ full_lines layout (last_rows row)
+no_last_line layout front [] none = sym (append-nil front)
+no_last_line layout front (x ∷ xs) none = absurd (grind (arith, nat_tests))
 
 -- ---- line by line
 

@@ -1,12 +1,13 @@
 -- What is noted of contents in pieces.
 use Rattle.std.proofs.Common.{◌≡◌, ℕ, ◌+◌, ◌-◌, ◌<◌, ◌≤◌, Bool, true, false, List, [], ◌∷◌, ◌++◌, length, take, drop, get_or, refl, sym, ap, ◌∙◌, arith}
-use Rattle.std.specs.Prelude.{◌&&◌, eqb, min}
+use Rattle.std.specs.List.{list_any}
+use Rattle.std.specs.Prelude.{◌&&◌, ◌||◌, eqb, min, nat_lt}
 use Rattle.std.proofs.lemmas.Bool.Decides.{nat_tests}
 use Rattle.std.proofs.Math.Seq.{take-append-add}
 use Rattle.std.proofs.lemmas.List.{drop_more, take_min}
 use Rattle.std.specs.Str.{is_utf8}
 use Rattle.tlv_value.specs.CheckState.{all_utf8}
-use Rattle.tlv_value.specs.Checks.{allows_octet, every, last_of}
+use Rattle.tlv_value.specs.Checks.{allows_octet, every, is_padded_behind, last_of}
 
 allows-other : (number x : ℕ) → (number ≡ 18 → ⊥) → (number ≡ 19 → ⊥) → (number ≡ 22 → ⊥) → (number ≡ 26 → ⊥) → allows_octet number x ≡ true
 allows-other number x a b c d =
@@ -61,3 +62,13 @@ take-room front octets n room e h =
     let w : 64 ≡ length front + room = omega arith in
     ap (λ (t : List ℕ). front ++ t) (ap (λ (k : ℕ). take k octets) m ∙ take_min room octets)
     ∙ sym (take-append-add front octets room) ∙ ap (λ (k : ℕ). take k (front ++ octets)) (sym w)
+
+-- no octet 80, so none that begins a subidentifier
+not-padded : (begins is other padded : Bool) → (other ≡ false → padded ≡ false) → (is || other) ≡ false → ((begins && is) || padded) ≡ false
+not-padded begins true other padded more e = cc
+not-padded true false other padded more e = more e
+not-padded false false other padded more e = more e
+
+pub no-80 : (before : ℕ) (octets : List ℕ) → list_any (λ x. eqb x 128) octets ≡ false → is_padded_behind before octets ≡ false
+no-80 before [] e = refl
+no-80 before (x ∷ xs) e = not-padded (nat_lt before 128) (eqb x 128) (list_any (λ y. eqb y 128) xs) (is_padded_behind x xs) (no-80 x xs) e

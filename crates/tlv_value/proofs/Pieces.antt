@@ -8,9 +8,9 @@ use Rattle.tlv_value.specs.declared.layout.Layout.{Layout}
 use Rattle.tlv_value.specs.declared.primitive.Primitive.{Primitive}
 use Rattle.tlv_value.specs.Kind.{kind_of}
 use Rattle.tlv_value.specs.Laws.{LinesBegin, LinesEnd, LinesGoOn, PiecesJoin, state_for}
-use Rattle.tlv_value.specs.Rows.{full_rows, has_room, last_rows, open_row, row_size}
+use Rattle.tlv_value.specs.Rows.{full_rows, has_room, last_rows, open_row, row_size, rows_of}
 use Rattle.tlv_value.specs.Private.Rows.{cut_rows}
-use Rattle.tlv_value.specs.Private.State.{primitive_of, shown}
+use Rattle.tlv_value.specs.Private.State.{line_of, lines_in_steps, primitive_of, shown, start_of}
 use Rattle.tlv_value.specs.State.{Kept, TextState, after, begun, ended, first_kept, has_line, kept_after, kind_in, line_in, open_lines, row_lines, rows_after, rows_told, start, told, unlined_after, whole_lines}
 use Rattle.tlv_value.specs.KindValues.{in_rows, is_long, kind_value, long_text}
 use Rattle.tlv_value.specs.Value.{NameOf}
@@ -18,6 +18,7 @@ use Rattle.std.proofs.lemmas.Bool.Decides.{nat_tests}
 use Rattle.tlv_value.proofs.KindValues.{open-lines-by, whole-lines}
 use Rattle.tlv_value.proofs.Puts.{row_lines-append}
 use Rattle.tlv_value.proofs.RowSteps.{full-begins, open-begins}
+use Rattle.tlv_value.proofs.RowsFrom.{rows-whole}
 
 abbrev kept_with : ℕ → List ℕ → Kept
 kept_with n r = record { lined = true; rows = n; row = r }
@@ -234,6 +235,28 @@ whole-told name_of h layout c e =
     sym (append_assoc (begun t) (told t c) (ended name_of (after t c)))
     ∙ ap (λ (l : List ℕ). l ++ ended name_of (after t c)) (sym (open-lines h layout c))
     ∙ sym (lines-end name_of h layout c e)
+
+-- so has a long one: its line, and its rows
+pub told-long : (name_of : NameOf) (p : Primitive) (c : List ℕ) → p.kind ≡ kind_of p.class p.number → is_long p.kind p.size ≡ true → length c ≡ p.size
+    → line_of p (long_text p.kind p.size c) ++ row_lines p.kind p.layout 0 (rows_of p.kind (in_rows p.kind c)) ≡ lines_in_steps name_of (start_of p) c
+told-long name_of p c is long e =
+    let kind : Kind = kind_of p.class p.number in
+    let l : is_long kind p.size ≡ true = ap (λ (j : Kind). is_long j p.size) (sym is) ∙ long in
+    let w = whole-ended p.layout (line_of p) p.size name_of kind (is_long kind p.size) c (long-some kind (length c) p.size e) in
+    let o = open-told p.layout (line_of p) p.size kind (is_long kind p.size) c in
+    ap by-kind is
+    ∙ ap (λ (rows : List (List ℕ)). line_of p (long_text kind p.size c) ++ row_lines kind p.layout 0 rows) (rows-whole kind (in_rows kind c))
+    ∙ ap (λ (b : Bool). whole_at p.layout (line_of p) p.size name_of kind b c) (sym l)
+    ∙ w
+    ∙ ap (λ (t : List ℕ). t ++ ended name_of (after (started kind) c)) (o ∙ ap (λ (t : List ℕ). begun (started kind) ++ t) (told_by-told (started kind) c))
+    ∙ append_assoc (begun (started kind)) (told (started kind) c) (ended name_of (after (started kind) c))
+    ∙ ap (λ (j : Kind). lines_in_steps name_of (started j) c) (sym is)
+  where
+    by-kind : Kind → List ℕ
+    by-kind j = line_of p (long_text j p.size c) ++ row_lines j p.layout 0 (rows_of j (in_rows j c))
+
+    started : Kind → TextState
+    started j = record { offset = p.offset; class = p.class; number = p.number; size = p.size; layout = p.layout; left = p.size; kept = begin_kept j }
 
 -- one whose value stands on its line is told with its end
 pub shown-told : (name_of : NameOf) (h : Heading) (layout : Layout) (p : Primitive) (c : List ℕ) → p ≡ primitive_of h layout → is_long (kind_of h.class h.number) (size_of h.size) ≡ false

@@ -1,5 +1,5 @@
 //! Object identifiers as dotted texts.
-ghost use Rattle.std.specs.Prelude.{◌≡◌, ◌+◌, ◌<◌, ◌≤◌, ◌^◌, ◌++◌, ◌∷◌, [], if◌then◌else◌, is_some, length, unwrap_or};
+ghost use Rattle.std.specs.Prelude.{◌≡◌, ◌+◌, ◌<◌, ◌≤◌, ◌^◌, ◌++◌, ◌∷◌, [], if◌then◌else◌, is_some, length, true, unwrap_or};
 ghost use Rattle.tlv_value.specs.Arcs.{dotted_text, is_finished as is_finished_list};
 ghost use Rattle.tlv_value.specs.Private.Arcs.{dotted, first_arcs, part_text};
 
@@ -37,6 +37,10 @@ pub(crate) fn write_dotted(held: &mut Held, contents: &[u8], relative: bool) -> 
     if !is_finished(contents) {
         return false;
     }
+    if contents.len() <= 9 {
+        write_short(held, contents, relative);
+        return true;
+    }
     let start = held.len();
     held.add(b" ");
     let mut first = true;
@@ -54,6 +58,30 @@ pub(crate) fn write_dotted(held: &mut Held, contents: &[u8], relative: bool) -> 
         }
     }
     true
+}
+
+/// Adds the dotted text of at most nine octets, behind a space. Their numbers fit into 64 bits, which saves work at
+/// each octet.
+#[inline(always)]
+fn write_short(held: &mut Held, contents: &[u8], relative: bool)
+    requires finished { is_finished_list contents.now ≡ true }
+    requires short { length contents.now ≤ 9 }
+    requires room { length held.old + 320 ≤ 4096 }
+    ensures exists { is_some (dotted_text relative contents.now) ≡ true }
+    ensures text { held.new ≡ held.old ++ 32 ∷ unwrap_or (dotted_text relative contents.now) [] }
+    ensures bound { length held.new ≤ length held.old + 259 }
+{
+    held.add(b" ");
+    let mut first = true;
+    let mut number: u64 = 0;
+    for octet in contents {
+        number = number * 128 + u64::from(*octet % 128);
+        if *octet < 128 {
+            write_arcs(held, u128::from(number), first, relative);
+            first = false;
+            number = 0;
+        }
+    }
 }
 
 /// Whether the octets end with a whole subidentifier.

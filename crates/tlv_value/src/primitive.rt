@@ -1,15 +1,17 @@
 //! A primitive by what its header says.
-ghost use Rattle.std.specs.Prelude.{◌≡◌, ◌+◌, ◌<◌, ◌≤◌, ◌++◌, ◌∷◌, [], OnOk, length};
+ghost use Rattle.std.specs.Prelude.{◌≡◌, ◌+◌, ◌<◌, ◌≤◌, ◌++◌, ◌∷◌, [], IsTrue, None, OnOk, length, true, ◌↔◌};
 ghost use Rattle.tlv_walk.specs.Out.{Puts, held_in};
 ghost use Rattle.tlv_value.specs.KindValues.{is_long as is_long_value, long_text};
 ghost use Rattle.tlv_value.specs.Private.KindValues.{plain_text};
 ghost use Rattle.tlv_value.specs.Private.State.{front_of, line_of, primitive_of, shown};
+ghost use Rattle.tlv_value.specs.Rows.{row_size as row_size_of};
 ghost use Rattle.tlv_value.specs.Value.{most_held};
 
 use crate::kind::{Kind, kind_of};
 use crate::line::write_element;
 use crate::putting::{put_object, put_relative};
-use crate::value::{write_long_bits, write_value};
+use crate::rows::row_size;
+use crate::value::{write_long_bits, write_long_value, write_value};
 use crate::{Layout, NameTable};
 use tlv_head::{Class, Header, Size};
 use tlv_walk::{Drain, Held, Out, WriteFault};
@@ -59,6 +61,14 @@ impl Primitive {
         self.size > most
     }
 
+    /// Whether its rows are pairs of digits, and their number is not limited.
+    #[inline(always)]
+    pub fn has_pairs(&self) -> bool
+        ensures { IsTrue result ↔ ((row_size_of self.now.kind ≡ 16) × (self.now.layout.limit ≡ None)) }
+    {
+        row_size(self.kind) == 16 && self.layout.limit.is_none()
+    }
+
     /// Begins its line, up to its tag text.
     #[inline(always)]
     fn write(&self, held: &mut Held)
@@ -97,6 +107,18 @@ impl Primitive {
         held.add(b"\n");
     }
 
+    /// Adds its line, where its value stands in rows: with the number of its bits, where it is a BIT STRING.
+    #[inline(always)]
+    fn write_long(&self, held: &mut Held, contents: &[u8])
+        requires room { length held.old + 1024 ≤ 4096 }
+        requires long { is_long_value self.now.kind self.now.size ≡ true }
+        ensures { held.new ≡ held.old ++ line_of self.now (long_text self.now.kind self.now.size contents.now) }
+    {
+        self.write(held);
+        write_long_value(held, self.kind, self.size, contents);
+        held.add(b"\n");
+    }
+
     /// Puts its line without a value.
     #[inline(always)]
     pub fn put_bare<D: Drain>(&self, out: &mut Out<'_, D>) -> Result<(), WriteFault>
@@ -115,6 +137,22 @@ impl Primitive {
     {
         out.make_room()?;
         self.write_bits(&mut out.held, unused);
+        Ok(())
+    }
+
+    /// Puts its line, where its value stands in rows: with the number of its bits, where it is a BIT STRING.
+    #[inline(always)]
+    pub fn put_long<D: Drain>(
+        &self,
+        contents: &[u8],
+        out: &mut Out<'_, D>,
+    ) -> Result<(), WriteFault>
+        requires { is_long_value self.now.kind self.now.size ≡ true }
+        ensures { Puts D.told out.old out.new
+            (line_of self.now (long_text self.now.kind self.now.size contents.now)) result }
+    {
+        out.make_room()?;
+        self.write_long(&mut out.held, contents);
         Ok(())
     }
 

@@ -9,7 +9,7 @@ mod rows;
 use crate::dotted::write_dotted;
 use crate::{Layout, NameTable};
 use rows::put_all_rows;
-pub(crate) use rows::{put_last, put_rows};
+pub(crate) use rows::{put_last, put_pair_rows, put_rows};
 use tlv_walk::{Drain, Out, WriteFault};
 
 /// Puts the rest of the lines of an object identifier: its dotted text, with its name where it has one, or its octets.

@@ -6,6 +6,7 @@ ghost use Rattle.tlv_value.specs.KindValues.{
   bits_value,
   boolean_value,
   integer_value,
+  is_long,
   is_readable as is_readable_by,
   long_text,
 };
@@ -142,6 +143,19 @@ fn write_bits(held: &mut Held, contents: &[u8])
             write_bit_digits(held, *unused, octets);
         }
         _ => held.spaced_pairs(contents),
+    }
+}
+
+/// Adds what stands on the line of a long value of this size: of a BIT STRING the number of its bits.
+#[inline(always)]
+pub(crate) fn write_long_value(held: &mut Held, kind: Kind, size: u64, contents: &[u8])
+    requires long { is_long kind size ≡ true }
+    requires room { length held.old + 64 ≤ 4096 }
+    ensures text { held.new ≡ held.old ++ long_text kind size contents.now }
+    ensures bound { length held.new ≤ length held.old + 45 }
+{
+    if let (Kind::Bits, [unused, ..]) = (kind, contents) {
+        write_long_bits(held, size, *unused);
     }
 }
 

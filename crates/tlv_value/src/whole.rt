@@ -1,19 +1,23 @@
-//! The lines of a primitive of which all contents are at hand. Those of a value that stands on its line are made at once: no
-//! contents are copied, and its type is asked for once.
-ghost use Rattle.std.specs.Prelude.{◌≡◌, length};
+//! The lines of a primitive of which all contents are at hand. Those of a value that stands on its line, or in rows of
+//! pairs of digits, are made at once: no contents are copied, and its type is asked for once.
+ghost use Rattle.std.specs.Prelude.{◌≡◌, ◌++◌, None, length, true};
 ghost use Rattle.tlv_head.specs.Header.{announced};
 ghost use Rattle.tlv_walk.specs.Out.{Puts};
 ghost use Rattle.tlv_value.specs.Kind.{kind_of as kind_of_tag};
-ghost use Rattle.tlv_value.specs.Private.State.{lines_in_steps, start_of};
-ghost use Rattle.tlv_value.specs.State.{whole_lines};
+ghost use Rattle.tlv_value.specs.KindValues.{in_rows, is_long, long_text};
+ghost use Rattle.tlv_value.specs.Private.State.{line_of, lines_in_steps, start_of};
+ghost use Rattle.tlv_value.specs.Rows.{row_size, rows_of};
+ghost use Rattle.tlv_value.specs.State.{row_lines, whole_lines};
 
+use crate::kind::Kind;
 use crate::primitive::Primitive;
+use crate::putting::put_pair_rows;
 use crate::{Layout, NameTable, ValueText};
 use tlv_head::Header;
 use tlv_walk::{Drain, Out, WriteFault};
 
-/// Puts the lines of a primitive of which all contents are at hand: as a [`ValueText`] does with its header, its contents
-/// and its end.
+/// Puts the lines of a primitive of which all contents are at hand: as a [`ValueText`] does with its header, its
+/// contents and its end.
 ///
 /// # Errors
 ///
@@ -31,7 +35,9 @@ pub fn put_whole<N: NameTable, D: Drain>(
 {
     let value = Primitive::new(header, layout);
     if value.is_long() {
-        put_long(value, contents, names, out)
+        // A reference to a copy: a value on its line then stays in registers.
+        let long = value;
+        put_long(&long, contents, names, out)
     } else {
         value.put(contents, names, out)
     }
@@ -40,16 +46,69 @@ pub fn put_whole<N: NameTable, D: Drain>(
 /// Puts the lines of a primitive whose contents are too long for its line. It stands apart, since it comes seldom.
 #[inline(never)]
 fn put_long<N: NameTable, D: Drain>(
-    value: Primitive,
+    value: &Primitive,
     contents: &[u8],
     names: &N,
     out: &mut Out<'_, D>,
 ) -> Result<(), WriteFault>
-    requires kind { value.kind ≡ kind_of_tag value.class value.number }
-    requires whole { length contents.now ≡ value.size }
-    ensures { Puts D.told out.old out.new (lines_in_steps (N.name_of names.now) (start_of value) contents.now) result }
+    requires kind { value.now.kind ≡ kind_of_tag value.now.class value.now.number }
+    requires long { is_long value.now.kind value.now.size ≡ true }
+    requires whole { length contents.now ≡ value.now.size }
+    ensures { Puts D.told out.old out.new
+        (lines_in_steps (N.name_of names.now) (start_of value.now) contents.now) result }
 {
-    let mut text = ValueText::of(value);
+    if value.has_pairs() {
+        put_pairs(value, contents, out)
+    } else {
+        put_in_steps(value, contents, names, out)
+    }
+}
+
+/// Puts the lines of a primitive whose value stands in rows of pairs of digits, from where its contents stand. This
+/// saves the state of a [`ValueText`].
+#[inline(always)]
+fn put_pairs<D: Drain>(
+    value: &Primitive,
+    contents: &[u8],
+    out: &mut Out<'_, D>,
+) -> Result<(), WriteFault>
+    requires pairs { row_size value.now.kind ≡ 16 }
+    requires endless { value.now.layout.limit ≡ None }
+    requires long { is_long value.now.kind value.now.size ≡ true }
+    ensures { Puts D.told out.old out.new
+        (line_of value.now (long_text value.now.kind value.now.size contents.now)
+        ++ row_lines value.now.kind value.now.layout 0
+        (rows_of value.now.kind (in_rows value.now.kind contents.now))) result }
+{
+    value.put_long(contents, out)?;
+    put_pair_rows(value.layout, octets_in_rows(value.kind, contents), out)
+}
+
+/// The contents octets that stand in rows: of a BIT STRING all but the first, where that can be read.
+#[inline(always)]
+fn octets_in_rows(kind: Kind, contents: &[u8]) -> &[u8]
+    ensures { result.now ≡ in_rows kind contents.now }
+{
+    match contents {
+        [0..=7, rest @ ..] if matches!(kind, Kind::Bits) => rest,
+        _ => contents,
+    }
+}
+
+/// Puts the lines of a primitive whose contents are too long for its line, as a [`ValueText`] does.
+#[inline(never)]
+fn put_in_steps<N: NameTable, D: Drain>(
+    value: &Primitive,
+    contents: &[u8],
+    names: &N,
+    out: &mut Out<'_, D>,
+) -> Result<(), WriteFault>
+    requires kind { value.now.kind ≡ kind_of_tag value.now.class value.now.number }
+    requires whole { length contents.now ≡ value.now.size }
+    ensures { Puts D.told out.old out.new
+        (lines_in_steps (N.name_of names.now) (start_of value.now) contents.now) result }
+{
+    let mut text = ValueText::of(*value);
     text.begin(out)?;
     text.bytes(contents, out)?;
     text.end(names, out)

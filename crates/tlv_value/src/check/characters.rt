@@ -4,6 +4,17 @@ ghost use Rattle.tlv_value.specs.Checks.{allows_octet as allows_octet_of, every,
 
 use super::both;
 
+/// The characters of PrintableString (X.680 41.4), each at its own place, and an asterisk at every other place.
+static PRINTABLE: [u8; 256] = *b"\
+    ******************************** \
+    ******'()*+,-./0123456789:**=*?\
+    *ABCDEFGHIJKLMNOPQRSTUVWXYZ*****\
+    *abcdefghijklmnopqrstuvwxyz*****\
+    ********************************\
+    ********************************\
+    ********************************\
+    ********************************";
+
 /// Whether the type with this universal number has all of the octets.
 #[inline(never)]
 pub(crate) fn are_allowed(number: u64, octets: &[u8]) -> bool
@@ -51,6 +62,6 @@ fn allows_octet(number: u64, octet: u8) -> bool
 fn is_printable(octet: u8) -> bool
     ensures { result ≡ is_printable_string octet }
 {
-    // From the plus sign to the colon stand a comma, a hyphen, a full stop, a solidus and the digits.
-    matches!(octet, b' ' | b'\''..=b')' | b'+'..=b':' | b'=' | b'?' | b'A'..=b'Z' | b'a'..=b'z')
+    // A look-up costs less than a comparison with each range of characters.
+    PRINTABLE[usize::from(octet)] != b'*'
 }

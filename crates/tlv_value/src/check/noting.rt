@@ -55,6 +55,10 @@ pub(super) fn padded_after(padded: bool, before: u8, octets: &[u8]) -> bool
 pub(crate) fn is_padded(before: u8, octets: &[u8]) -> bool
     ensures { result ≡ is_padded_behind before octets.now }
 {
+    // Most have no octet 80 at all, which is seen for many octets at once. The loop is then left out.
+    if !octets.contains(&128) {
+        return false;
+    }
     let mut before = before;
     for octet in octets {
         if before < 128 && *octet == 128 {

@@ -98,6 +98,25 @@ fn put_full_rows<D: Drain>(
     Ok(())
 }
 
+/// Puts rows of pairs of digits, of all of the octets, from where they stand. There is no limit to them.
+#[inline(always)]
+pub(crate) fn put_pair_rows<D: Drain>(
+    layout: Layout,
+    octets: &[u8],
+    out: &mut Out<'_, D>,
+) -> Result<(), WriteFault>
+    ensures { Puts D.told out.old out.new (full_lines layout (rows_of Kind.Octets octets.now)) result }
+{
+    let (full, last) = octets.as_chunks::<16>();
+    put_full_rows(layout, full, out)?;
+    if last.is_empty() {
+        return Ok(());
+    }
+    out.make_room()?;
+    write_line(&mut out.held, layout, Kind::Octets, last);
+    Ok(())
+}
+
 /// Puts the row that has begun with the octets that fill it: from where they stand, if they are the whole row.
 fn put_full<D: Drain>(
     kind: Kind,

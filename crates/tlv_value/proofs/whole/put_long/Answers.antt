@@ -1,42 +1,7 @@
-use Rattle.std.proofs.Common.{◌++◌, List, ℕ, ap, append_assoc, arith, rules, refl, ◌∙◌}
-use Rattle.tlv_walk.proofs.Puts.{puts_failed_in, puts_text, puts_then_as}
-use Rattle.tlv_value.specs.State.{TextState, after, begun, ended, told}
-use Rattle.tlv_value.specs.Private.State.{lines_in_steps, start_of}
+use Rattle.tlv_walk.proofs.Puts.{puts_text}
+use Rattle.tlv_value.proofs.Pieces.{told-long}
 use Rattle.tlv_value.proofs.whole.put_long.Goals as goal
 
-pub bytes-requires : goal.bytes-requires
-bytes-requires g c = omega (arith, ap (λ (t : TextState). t.left) c.of-text.ensures, c.requires.whole)
-
-pub end-requires : goal.end-requires
-end-requires g c =
-    omega (arith, ap (λ (t : TextState). t.left) c.in_ok-bytes.ensures.state, ap (λ (t : TextState). t.left) c.of-text.ensures, c.requires.whole)
-
-pub returns-in_err-begin : goal.returns-in_err-begin
-returns-in_err-begin g c =
-    let name_of = g.N.NameTable.name_of c.args.names.now in
-    let octets : List ℕ = c.args.contents.now in
-    let s : TextState = c.of-text.result in
-    puts_failed_in g.D.Drain.told _ _ (begun s) _ _ _ c.in_err-begin.ensures (search rules) (record {
-      rest = told s octets ++ ended name_of (after s octets);
-      is = ap (λ (t : TextState). lines_in_steps name_of t octets) c.of-text.ensures;
-    })
-
-pub returns-in_err-bytes : goal.returns-in_err-bytes
-returns-in_err-bytes g c =
-    let name_of = g.N.NameTable.name_of c.args.names.now in
-    let octets : List ℕ = c.args.contents.now in
-    let s : TextState = c.of-text.result in
-    let front = puts_then_as g.D.Drain.told _ _ _ (begun s) (told s octets) (begun s ++ told s octets) _ _ c.in_ok-begin.ensures c.in_err-bytes.ensures.puts refl in
-    puts_failed_in g.D.Drain.told _ _ (begun s ++ told s octets) _ _ _ front (search rules) (record {
-      rest = ended name_of (after s octets);
-      is = append_assoc (begun s) (told s octets) (ended name_of (after s octets)) ∙ ap (λ (t : TextState). lines_in_steps name_of t octets) c.of-text.ensures;
-    })
-
-pub returns : goal.returns
-returns g c =
-    let name_of = g.N.NameTable.name_of c.args.names.now in
-    let octets : List ℕ = c.args.contents.now in
-    let s : TextState = c.of-text.result in
-    let end = puts_text g.D.Drain.told _ _ _ _ _ (ap (ended name_of) c.in_ok-bytes.ensures.state) c.end.ensures.puts in
-    let rest = puts_then_as g.D.Drain.told _ _ _ (told s octets) (ended name_of (after s octets)) (told s octets ++ ended name_of (after s octets)) _ _ c.in_ok-bytes.ensures.puts end refl in
-    puts_then_as g.D.Drain.told _ _ _ _ _ _ _ _ c.in_ok-begin.ensures rest (ap (λ (t : TextState). lines_in_steps name_of t octets) c.of-text.ensures)
+pub returns-then-has_pairs : goal.returns-then-has_pairs
+returns-then-has_pairs g c =
+    puts_text g.D.Drain.told _ _ _ _ _ (told-long (g.N.NameTable.name_of c.args.names.now) c.args.value.now c.args.contents.now c.requires.kind c.requires.long c.requires.whole) c.put_pairs.ensures
