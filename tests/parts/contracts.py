@@ -2,7 +2,7 @@
 import os
 import re
 
-CRATES = ("tlv_head", "tlv_walk", "tlv_value", "tlv_show", "tlv_cut", "tlv_run", "tlv_words")
+CRATES = ("tlv_head", "tlv_io", "tlv_walk", "tlv_value", "tlv_show", "tlv_cut", "tlv_run", "tlv_words")
 IMPL = re.compile(r"^(?:impl(?:<[^>]*>)? (\w+)(?:<[^{]*>)?|pub trait (\w+)) \{$", re.M)
 
 
@@ -20,9 +20,9 @@ def sources(folder):
 
 
 def exported(root):
-    """Returns the names that the `pub use` lines of lib.rt make public."""
+    """Returns the names that the `pub use` lines of lib.rt make public, but for those of another crate."""
     found = set()
-    for group, single in re.findall(r"^pub use [\w:]+::(?:\{([^}]*)\}|(\w+));", root, re.M):
+    for group, single in re.findall(r"^pub use (?!tlv_)[\w:]+::(?:\{([^}]*)\}|(\w+));", root, re.M):
         found |= set(re.findall(r"\w+", group or single))
     return found
 

@@ -1,7 +1,7 @@
 //! The follower of `extract`: it writes one element, or its contents.
 ghost use Rattle.std.specs.Prelude.{◌≡◌};
 ghost use Rattle.tlv_walk.specs.Follow.{IsFollowed};
-ghost use Rattle.tlv_walk.specs.Out.{Puts};
+ghost use Rattle.tlv_io.specs.Out.{Puts};
 ghost use Rattle.tlv_cut.specs.ExtractStep.{begin_step, contents_step, end_step};
 ghost use Rattle.tlv_cut.specs.ExtractStep.{has_found, new_extract, octet_step};
 

@@ -1,6 +1,6 @@
 //! The follower of `indef`: it writes indefinite lengths.
 ghost use Rattle.std.specs.Prelude.{◌≡◌};
-ghost use Rattle.tlv_walk.specs.Out.{Puts};
+ghost use Rattle.tlv_io.specs.Out.{Puts};
 ghost use Rattle.tlv_walk.specs.Tells.{told_of};
 ghost use Rattle.tlv_cut.specs.IndefStep.{indef_event_text, new_indef};
 

@@ -10,9 +10,9 @@ use Rattle.std.specs.Prelude.{if◌then◌else◌, Option, Some, None, Result, O
 use Rattle.std.specs.Io.KnownBytes.{Appends, Consumes, IsAtEnd}
 use Rattle.tlv_value.specs.Names.{Table}
 use Rattle.tlv_walk.proofs.Enough.{ends_with, settled_by}
-use Rattle.tlv_walk.proofs.Pieces.{GaveLast}
+use Rattle.tlv_io.proofs.Pieces.{GaveLast}
 use Rattle.tlv_walk.proofs.Endings.{IsRefused, fault-halt}
-use Rattle.tlv_walk.proofs.Puts.{more_left, sends_appends}
+use Rattle.tlv_io.proofs.Puts.{more_left, sends_appends}
 use Rattle.tlv_walk.proofs.Readings.{halt-longest, reading-unique}
 use Rattle.tlv_walk.specs.declared.ending.Ending.{Ending}
 use Rattle.tlv_walk.specs.declared.ending.Ending.TheVariants as ending
@@ -20,13 +20,13 @@ use Rattle.tlv_walk.specs.declared.framing.Framing.{Framing}
 use Rattle.tlv_walk.specs.declared.run.DeviceFault.{DeviceFault}
 use Rattle.tlv_walk.specs.declared.run.DeviceFault.TheVariants.{ReadFailed, WriteFailed, InputTooLong}
 use Rattle.std.specs.List.{concat}
-use Rattle.tlv_walk.specs.Device.{Last, Supply, Taken, counted, failed, gave, given_in, never, unread}
+use Rattle.tlv_io.specs.Device.{Last, Supply, Taken, counted, failed, gave, given_in, never, unread}
 use Rattle.tlv_walk.specs.Ending.{IsEnding}
 use Rattle.tlv_walk.specs.Forest.{Forest, spell}
 use Rattle.tlv_walk.specs.Job.{AreSound, EndsWith, IsFinalEnding, Job, Runs}
 use Rattle.tlv_walk.specs.Laws.{AreOctets}
-use Rattle.tlv_walk.specs.MemSource.{MemSupply}
-use Rattle.tlv_walk.specs.Out.{Sends}
+use Rattle.tlv_io.specs.MemSource.{MemSupply}
+use Rattle.tlv_io.specs.Out.{Sends}
 use Rattle.tlv_walk.specs.Reading.{IsPrefixOf, IsReading}
 use Rattle.tlv_run.proofs.Results.{Stays, one_made, settled_stays, stays_for, text_on}
 use Rattle.tlv_run.proofs.SaidJobs.{said-end}

@@ -4,11 +4,11 @@ use Rattle.std.proofs.lemmas.List.{take_all}
 use Rattle.std.specs.Prelude.{Some, Result, Ok, Err}
 use Rattle.std.specs.Io.KnownBytes.{Appends, IsAtEnd}
 use Rattle.tlv_walk.proofs.Enough.{ends_with, settled_by}
-use Rattle.tlv_walk.proofs.Puts.{sends_appends}
+use Rattle.tlv_io.proofs.Puts.{sends_appends}
 use Rattle.tlv_walk.specs.declared.ending.Ending.{Ending}
 use Rattle.tlv_walk.specs.declared.run.DeviceFault.{DeviceFault}
 use Rattle.tlv_walk.specs.declared.run.DeviceFault.TheVariants.{ReadFailed, WriteFailed, InputTooLong}
-use Rattle.tlv_walk.specs.Device.{Supply, Taken, counted, gave, given_in}
+use Rattle.tlv_io.specs.Device.{Supply, Taken, counted, gave, given_in}
 use Rattle.tlv_walk.specs.Job.{IsFinalEnding, Job, Runs}
 use Rattle.tlv_walk.specs.Laws.{AreOctets}
 use Rattle.tlv_run.proofs.InMemory.{at_end, left_of}

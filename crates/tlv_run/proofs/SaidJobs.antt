@@ -3,7 +3,7 @@ use Rattle.std.proofs.Common.{◌≡◌, ℕ, List, ap}
 use Rattle.std.specs.Prelude.{Result, Ok, Err, MatchResult}
 use Rattle.tlv_walk.specs.declared.run.DeviceFault.{DeviceFault}
 use Rattle.tlv_walk.specs.declared.run.DeviceFault.TheVariants.{ReadFailed, WriteFailed, InputTooLong}
-use Rattle.tlv_walk.specs.Device.{Supply, Taken}
+use Rattle.tlv_io.specs.Device.{Supply, Taken}
 use Rattle.tlv_walk.specs.Job.{AreSound, Job, Runs}
 use Rattle.tlv_run.specs.Report.{Said, said_of, said_of_device}
 use Rattle.tlv_run.specs.Results.{said_by}

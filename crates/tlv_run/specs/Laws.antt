@@ -3,7 +3,7 @@ use Rattle.std.specs.Prelude.{◌≡◌, ℕ, ◌^◌, ◌≤◌, Bool, List, �
 use Rattle.std.specs.Io.KnownBytes.{Appends}
 use Rattle.tlv_value.specs.Names.{Table}
 use Rattle.tlv_walk.specs.declared.ending.Ending.TheVariants.{Done}
-use Rattle.tlv_walk.specs.Device.{Supply, Taken}
+use Rattle.tlv_io.specs.Device.{Supply, Taken}
 use Rattle.tlv_walk.specs.Laws.{AreOctets}
 use Rattle.tlv_walk.specs.Reading.{IsPrefixOf, IsSoundList}
 use Rattle.tlv_run.specs.Report.{Said}

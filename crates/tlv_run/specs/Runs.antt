@@ -1,6 +1,6 @@
 -- What a run over a source and a drain comes to.
 use Rattle.std.specs.Prelude.{◌≡◌, Result, MatchResult}
-use Rattle.tlv_walk.specs.Device.{Supply, Taken}
+use Rattle.tlv_io.specs.Device.{Supply, Taken}
 use Rattle.tlv_walk.specs.Job.{Job, Runs}
 use Rattle.tlv_walk.specs.declared.run.DeviceFault.{DeviceFault}
 use Rattle.tlv_run.specs.Report.{Said, said_of_device}

@@ -1,6 +1,6 @@
 //! Devices over memory that fail in one place alone: two sources, and a drain that has room of its own.
 ghost use Rattle.std.specs.Prelude.{◌≡◌, ◌<◌, ◌≤◌, [], None, Some, length};
-ghost use Rattle.tlv_walk.specs.Device.{ReadsOnce, WritesOnce, unread};
+ghost use Rattle.tlv_io.specs.Device.{ReadsOnce, WritesOnce, unread};
 ghost use Rattle.tlv_run.specs.Private.Held.{told_ending, told_failing, told_room};
 
 use arrayvec::ArrayVec;

@@ -1,6 +1,6 @@
 //! How a message is told.
 ghost use Rattle.std.specs.Prelude.{◌≡◌, ◌≤◌, length};
-ghost use Rattle.tlv_walk.specs.Out.{Sends};
+ghost use Rattle.tlv_io.specs.Out.{Sends};
 ghost use Rattle.tlv_run.specs.Report.{IsTold, line_of};
 
 use crate::report::Report;

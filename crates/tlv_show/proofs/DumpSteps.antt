@@ -1,10 +1,10 @@
 -- What a dump makes of an event: what its lines and its finder make of it.
 use Rattle.std.proofs.Common.{◌≡◌, ℕ, Bool, true, false, if◌then◌else◌, List, [], ◌∷◌, ◌++◌, refl, sym, ap, ◌∙◌}
 use Rattle.std.specs.Prelude.{Err, IsErr, Ok, OnOk, Result}
-use Rattle.tlv_walk.specs.declared.out.Out.{Out}
-use Rattle.tlv_walk.specs.Device.{Taken}
-use Rattle.tlv_walk.specs.Out.{Puts}
-use Rattle.tlv_walk.proofs.Puts.{puts_failed, puts_text, puts_then}
+use Rattle.tlv_io.specs.declared.out.Out.{Out}
+use Rattle.tlv_io.specs.Device.{Taken}
+use Rattle.tlv_io.specs.Out.{Puts}
+use Rattle.tlv_io.proofs.Puts.{puts_failed, puts_text, puts_then}
 use Rattle.tlv_walk.specs.declared.follow.Go.{Go}
 use Rattle.tlv_walk.specs.declared.follow.Go.TheVariants as go
 use Rattle.tlv_walk.specs.Events.{Told, Open, Begin, Bytes, End, Close, Enter, Unused, Leave, Pad}

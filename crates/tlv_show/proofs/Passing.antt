@@ -5,15 +5,15 @@ use Rattle.std.specs.List.{filter}
 use Rattle.tlv_head.specs.Header.{Heading, announced}
 use Rattle.tlv_value.specs.declared.finding.Finding.{Finding}
 use Rattle.tlv_value.specs.Checks.{contents_findings as found_on_contents}
-use Rattle.tlv_walk.specs.declared.drain.WriteFault.{WriteFault}
+use Rattle.tlv_io.specs.declared.drain.WriteFault.{WriteFault}
 use Rattle.tlv_walk.specs.declared.follow.Go.TheVariants as go
-use Rattle.tlv_walk.specs.declared.out.Out.{Out}
-use Rattle.tlv_walk.specs.Device.{Taken}
+use Rattle.tlv_io.specs.declared.out.Out.{Out}
+use Rattle.tlv_io.specs.Device.{Taken}
 use Rattle.tlv_walk.specs.Events.{Bytes, End}
 use Rattle.tlv_walk.specs.Follow.{Following, IsFollowedOrLeft, followed, if_on, put_or_left, stay, contents_in, whole_events}
-use Rattle.tlv_walk.specs.Out.{Puts}
+use Rattle.tlv_io.specs.Out.{Puts}
 use Rattle.tlv_walk.proofs.Followed.{followed-one}
-use Rattle.tlv_walk.proofs.Puts.{puts_nothing, puts_text}
+use Rattle.tlv_io.proofs.Puts.{puts_nothing, puts_text}
 use Rattle.tlv_show.specs.declared.frames.Frame.{Frame}
 use Rattle.tlv_show.specs.declared.style.Style.TheVariants.{Check}
 use Rattle.tlv_show.specs.CheckStep.{all_written, check_step, lists}

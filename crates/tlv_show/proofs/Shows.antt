@@ -7,7 +7,7 @@ use Rattle.tlv_walk.specs.declared.follow.Go.TheVariants as go
 use Rattle.tlv_walk.specs.declared.framing.Framing.{Framing}
 use Rattle.tlv_walk.specs.declared.run.DeviceFault.{DeviceFault}
 use Rattle.tlv_walk.specs.declared.run.Run.{Run}
-use Rattle.tlv_walk.specs.Device.{Supply, Taken}
+use Rattle.tlv_io.specs.Device.{Supply, Taken}
 use Rattle.tlv_walk.specs.Drives.{Drives, had_enough, run_of}
 use Rattle.tlv_walk.specs.Events.{Told, events}
 use Rattle.tlv_walk.specs.Follow.{Following, followed, followed_events}

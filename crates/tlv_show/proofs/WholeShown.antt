@@ -6,13 +6,13 @@ use Rattle.std.proofs.lemmas.Bool.{true≢false}
 use Rattle.tlv_head.specs.Header.{Heading, announced}
 use Rattle.tlv_value.specs.declared.finding.Finding.{Finding}
 use Rattle.tlv_value.specs.State.{whole_lines}
-use Rattle.tlv_walk.specs.declared.drain.WriteFault.{WriteFault}
-use Rattle.tlv_walk.specs.declared.out.Out.{Out}
-use Rattle.tlv_walk.specs.Device.{Taken}
+use Rattle.tlv_io.specs.declared.drain.WriteFault.{WriteFault}
+use Rattle.tlv_io.specs.declared.out.Out.{Out}
+use Rattle.tlv_io.specs.Device.{Taken}
 use Rattle.tlv_walk.specs.Events.{Begin, Bytes, End}
 use Rattle.tlv_walk.specs.Follow.{Following, IsFollowedOrLeft, IsWhole, contents_in, followed, put_or_left, whole_events}
-use Rattle.tlv_walk.specs.Out.{Puts}
-use Rattle.tlv_walk.proofs.Puts.{HasPut, puts_as, puts_failed_last, puts_text}
+use Rattle.tlv_io.specs.Out.{Puts}
+use Rattle.tlv_io.proofs.Puts.{HasPut, puts_as, puts_failed_last, puts_text}
 use Rattle.tlv_show.specs.declared.style.Style.TheVariants.{Dump}
 use Rattle.tlv_show.specs.CheckStep.{all_written}
 use Rattle.tlv_show.specs.Dumped.{Dumping}

@@ -1,6 +1,6 @@
 //! How findings are written.
 ghost use Rattle.std.specs.Prelude.{◌≡◌, ◌+◌, ◌≤◌, ◌++◌, ◌∷◌, length};
-ghost use Rattle.tlv_walk.specs.Out.{Puts};
+ghost use Rattle.tlv_io.specs.Out.{Puts};
 ghost use Rattle.tlv_show.specs.CheckStep.{all_written, written};
 ghost use Rattle.tlv_show.specs.Private.CheckStep.{all_told};
 ghost use Rattle.tlv_show.specs.Private.FinderState.{heard};

@@ -3,10 +3,10 @@ use Rattle.std.proofs.Common.{◌≡◌, inl, inr, ℕ, ◌+◌, ◌-◌, ◌<�
 use Rattle.std.specs.Prelude.{Option, Some, None, Vec, Result, Ok, Err}
 use Rattle.std.specs.Io.KnownBytes.{Consumes, Keeps}
 use Rattle.std.proofs.lemmas.List.{length-take-le}
-use Rattle.tlv_walk.specs.declared.source.ReadFault.{ReadFault}
+use Rattle.tlv_io.specs.declared.source.ReadFault.{ReadFault}
 use Rattle.std.specs.List.{concat}
-use Rattle.tlv_walk.specs.Device.{Pieces, ReadsOnce, Supply, counted, gave, given_in}
-use Rattle.tlv_walk.proofs.Pieces.{Gathered, gathered_more, pieces_all, together_more}
+use Rattle.tlv_io.specs.Device.{Pieces, ReadsOnce, Supply, counted, gave, given_in}
+use Rattle.tlv_io.proofs.Pieces.{Gathered, gathered_more, pieces_all, together_more}
 use Rattle.tlv_value.specs.declared.names.fault.NamesFault.{NamesFault}
 use Rattle.tlv_value.specs.declared.names.fault.NamesFault.TheVariants.{BadOid, BadName, Repeated, TooLarge, ReadFailed, Memory}
 use Rattle.std.specs.BTreeMap.{BTreeMap}

@@ -1,7 +1,7 @@
 -- What reading a names file from a source comes to.
 use Rattle.std.specs.Prelude.{◌≡◌, ℕ, ◌+◌, ◌<◌, ◌≤◌, ◌⊎◌, List, length, Result, Ok, Err}
 use Rattle.std.specs.Io.KnownBytes.{IsAtEnd}
-use Rattle.tlv_walk.specs.Device.{Last, Pieces, Supply, counted, failed, gave, given_in}
+use Rattle.tlv_io.specs.Device.{Last, Pieces, Supply, counted, failed, gave, given_in}
 use Rattle.tlv_value.specs.Names.{Table, names_of}
 use Rattle.tlv_value.specs.declared.names.fault.NamesFault.{NamesFault}
 use Rattle.tlv_value.specs.declared.names.fault.NamesFault.TheVariants.{BadOid, BadName, Repeated, TooLarge, ReadFailed, Memory}

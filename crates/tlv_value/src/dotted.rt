@@ -4,7 +4,7 @@ ghost use Rattle.tlv_value.specs.Arcs.{dotted_text, is_finished as is_finished_l
 ghost use Rattle.tlv_value.specs.Private.Arcs.{dotted, first_arcs, part_text};
 
 use arrayvec::ArrayVec;
-use tlv_walk::Held;
+use tlv_io::Held;
 
 /// Leaves in `to` the arcs of an object identifier in decimal, with dots between them (8.19), or those of a relative
 /// one (8.20). What `to` held before is dropped.

@@ -5,7 +5,7 @@ ghost use Rattle.tlv_value.specs.Layout.{columns, margin, no_columns, spaces};
 
 use crate::Layout;
 use tlv_head::{Class, padded_name};
-use tlv_walk::Held;
+use tlv_io::Held;
 
 /// Begins a line with its first columns, an offset and a length, and its indentation.
 #[inline(always)]

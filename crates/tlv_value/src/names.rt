@@ -16,7 +16,7 @@ use reading::read_in;
 use std::alloc::{Allocator, Global};
 use std::marker::Model;
 use table::Table;
-use tlv_walk::Source;
+use tlv_io::Source;
 
 /// Names for object identifiers: a map from dotted text to name.
 #[derive(Drop)]

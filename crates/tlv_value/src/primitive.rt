@@ -1,6 +1,6 @@
 //! A primitive by what its header says.
 ghost use Rattle.std.specs.Prelude.{◌≡◌, ◌+◌, ◌<◌, ◌≤◌, ◌++◌, ◌∷◌, [], IsTrue, None, OnOk, length, true, ◌↔◌};
-ghost use Rattle.tlv_walk.specs.Out.{Puts, held_in};
+ghost use Rattle.tlv_io.specs.Out.{Puts, held_in};
 ghost use Rattle.tlv_value.specs.KindValues.{is_long as is_long_value, long_text};
 ghost use Rattle.tlv_value.specs.Private.KindValues.{plain_text};
 ghost use Rattle.tlv_value.specs.Private.State.{front_of, line_of, primitive_of, shown};
@@ -14,7 +14,7 @@ use crate::rows::row_size;
 use crate::value::{write_long_bits, write_long_value, write_value};
 use crate::{Layout, NameTable};
 use tlv_head::{Class, Header, Size};
-use tlv_walk::{Drain, Held, Out, WriteFault};
+use tlv_io::{Drain, Held, Out, WriteFault};
 
 /// What a header says of a primitive, and how its lines are laid out.
 #[derive(Clone, Copy)]

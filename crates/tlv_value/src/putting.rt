@@ -1,6 +1,6 @@
 //! The rest of lines on their way to an [`Out`], behind the tag texts.
 ghost use Rattle.std.specs.Prelude.{◌+◌, ◌≤◌, ◌++◌, [], codes, false, length, true};
-ghost use Rattle.tlv_walk.specs.Out.{Puts, held_in};
+ghost use Rattle.tlv_io.specs.Out.{Puts, held_in};
 ghost use Rattle.tlv_value.specs.Private.ObjectLines.{object_lines, octets_lines};
 ghost use Rattle.tlv_value.specs.Value.{no_names};
 
@@ -10,7 +10,7 @@ use crate::dotted::write_dotted;
 use crate::{Layout, NameTable};
 use rows::put_all_rows;
 pub(crate) use rows::{put_last, put_pair_rows, put_rows};
-use tlv_walk::{Drain, Out, WriteFault};
+use tlv_io::{Drain, Out, WriteFault};
 
 /// Puts the rest of the lines of an object identifier: its dotted text, with its name where it has one, or its octets.
 pub(crate) fn put_object<N: NameTable, D: Drain>(

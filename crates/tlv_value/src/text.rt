@@ -1,6 +1,6 @@
 //! The lines of a primitive, from its contents in pieces.
 ghost use Rattle.std.specs.Prelude.{◌≡◌, ◌+◌, ◌<◌, ◌≤◌, ◌^◌, ◌∷◌, [], length, OnOk, None, true, false};
-ghost use Rattle.tlv_walk.specs.Out.{Puts};
+ghost use Rattle.tlv_io.specs.Out.{Puts};
 ghost use Rattle.tlv_value.specs.Kind.{kind_of as kind_of_tag};
 ghost use Rattle.tlv_value.specs.Private.State.{start_of};
 ghost use Rattle.tlv_value.specs.State.{after, begun, ended, start, told};
@@ -13,7 +13,7 @@ use crate::{Layout, NameTable};
 use arrayvec::ArrayVec;
 use std::marker::Model;
 use tlv_head::{Class, Header};
-use tlv_walk::{Drain, Out, WriteFault};
+use tlv_io::{Drain, Out, WriteFault};
 
 /// Begins the first row of a long BIT STRING: with the first contents octet, where that cannot be read.
 fn begin_row(unused: u8, row: &mut ArrayVec<u8, 64>)

@@ -17,7 +17,7 @@ ghost use Rattle.tlv_value.specs.Units.{
 
 use crate::kind::Kind;
 use crate::rows::utf8_length;
-use tlv_walk::Held;
+use tlv_io::Held;
 
 /// Adds the characters of a row, of which each octet may take five.
 pub(crate) fn write_characters(held: &mut Held, kind: Kind, row: &[u8])

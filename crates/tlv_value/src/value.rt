@@ -17,7 +17,7 @@ ghost use Rattle.tlv_value.specs.Value.{bit_count as bit_count_text, most_held, 
 use crate::decimal::{decimal_of, short_number};
 use crate::kind::Kind;
 use crate::units::write_characters;
-use tlv_walk::Held;
+use tlv_io::Held;
 
 /// Adds a row of long contents behind a space.
 pub(crate) fn write_row(held: &mut Held, kind: Kind, row: &[u8])

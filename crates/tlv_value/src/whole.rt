@@ -2,7 +2,7 @@
 //! pairs of digits, are made at once: no contents are copied, and its type is asked for once.
 ghost use Rattle.std.specs.Prelude.{◌≡◌, ◌++◌, None, length, true};
 ghost use Rattle.tlv_head.specs.Header.{announced};
-ghost use Rattle.tlv_walk.specs.Out.{Puts};
+ghost use Rattle.tlv_io.specs.Out.{Puts};
 ghost use Rattle.tlv_value.specs.Kind.{kind_of as kind_of_tag};
 ghost use Rattle.tlv_value.specs.KindValues.{in_rows, is_long, long_text};
 ghost use Rattle.tlv_value.specs.Private.State.{line_of, lines_in_steps, start_of};
@@ -14,7 +14,7 @@ use crate::primitive::Primitive;
 use crate::putting::put_pair_rows;
 use crate::{Layout, NameTable, ValueText};
 use tlv_head::Header;
-use tlv_walk::{Drain, Out, WriteFault};
+use tlv_io::{Drain, Out, WriteFault};
 
 /// Puts the lines of a primitive of which all contents are at hand: as a [`ValueText`] does with its header, its
 /// contents and its end.

@@ -2,20 +2,19 @@
 use Rattle.std.proofs.Common.{◌≡◌, ◌<◌, ◌≤◌, ◌+◌, ◌-◌, min, ℕ, List, length, refl, sym, ap, ◌∙◌, subst, arith}
 use Rattle.std.specs.Prelude.{Result, Ok, Err, IfOk, ⊤}
 use Rattle.std.specs.Io.KnownBytes.{Consumes}
-use Rattle.tlv_walk.specs.declared.drain.WriteFault.{WriteFault}
+use Rattle.tlv_io.specs.declared.drain.WriteFault.{WriteFault}
 use Rattle.tlv_walk.specs.declared.run.DeviceFault.{DeviceFault}
 use Rattle.tlv_walk.specs.declared.run.DeviceFault.TheVariants.{ReadFailed, WriteFailed, InputTooLong}
-use Rattle.tlv_walk.specs.declared.run.Run.{Run}
 use Rattle.tlv_walk.specs.declared.run.Turn.{Turn}
 use Rattle.tlv_walk.specs.declared.run.Turn.TheVariants.{Again, Ended}
-use Rattle.tlv_walk.specs.declared.source.ReadFault.{ReadFault}
+use Rattle.tlv_io.specs.declared.source.ReadFault.{ReadFault}
 use Rattle.tlv_walk.specs.declared.turning.Stop.{Stop}
 use Rattle.tlv_walk.specs.declared.turning.Stop.TheVariants as stop
-use Rattle.tlv_walk.specs.Device.{Last, Supply, Taken, never, gave, failed, failures_after, ReadsOnce}
+use Rattle.tlv_io.specs.Device.{Last, Supply, Taken, never, gave, failed, failures_after, ReadsOnce}
 use Rattle.tlv_walk.specs.Job.{of_drain, of_source}
 use Rattle.tlv_walk.specs.Machine.{IsReady, Machine}
 use Rattle.tlv_walk.specs.Private.Answers.{Answers}
-use Rattle.tlv_walk.specs.Turns.{Calls, Gave, given}
+use Rattle.tlv_walk.specs.Turns.{Calls, CanGoOn, Gave, given}
 
 gave-same : (m n : ℕ) → gave m ≡ gave n → m ≡ n
 gave-same m n e = ap (λ (l : Last). elim l [ never ↦ 0 | gave k ↦ k | failed ↦ 0 ]) e
@@ -42,24 +41,20 @@ calls_answered room old new from to piece n m v (stop.Fault f) (Err e) r some fi
 calls_answered room old new from to piece n m v stop.UsedUp (Err ReadFailed) r some fits d is = absurd is
 calls_answered room old new from to piece n m v stop.UsedUp (Err WriteFailed) r some fits d is = absurd is
 
-abbrev has_ended : Turn → Type 0
-has_ended Again = ⊥
-has_ended (Ended run) = ⊤
-
-not_again : (run : Run) → Ended run ≡ Again → ⊥
-not_again run e = subst has_ended e tt
-
--- a turn answers that more is to be read behind octets within the limit, and where no event waits
-pub again_answered : (n m limit : ℕ) (w v : Machine) (piece : List ℕ) (why : Stop) (result : Result Turn DeviceFault) → Answers n m v why result
-    → IfOk {E = WriteFault} (Ok why) (λ s. s ≡ stop.UsedUp → (v.offset ≡ w.offset + length piece) × IsReady v) → length piece ≡ m → m ≡ min (limit - w.offset) n → w.offset ≤ limit
-    → IfOk result (λ t. t ≡ Again → (w.offset < v.offset) × (v.offset ≤ limit) × IsReady v)
-again_answered n m limit w v piece stop.UsedUp (Ok Again) is used l fits below =
-    λ e. let u = used refl in (omega (arith, is.0, is.1, u.0, l, fits, below), omega (arith, is.0, is.1, u.0, l, fits, below), u.1)
-again_answered n m limit w v piece stop.UsedUp (Ok (Ended run)) is used l fits below = λ e. absurd (not_again run e)
-again_answered n m limit w v piece stop.Enough (Ok (Ended run)) is used l fits below = λ e. absurd (not_again run e)
-again_answered n m limit w v piece (stop.Fault f) (Ok (Ended run)) is used l fits below = λ e. absurd (not_again run e)
-again_answered n m limit w v piece stop.UsedUp (Err e) is used l fits below = tt
-again_answered n m limit w v piece stop.Enough (Ok Again) is used l fits below = absurd is
-again_answered n m limit w v piece stop.Enough (Err e) is used l fits below = absurd is
-again_answered n m limit w v piece (stop.Fault f) (Ok Again) is used l fits below = absurd is
-again_answered n m limit w v piece (stop.Fault f) (Err e) is used l fits below = absurd is
+-- how a walk can go on whose turn answers this, after octets within the limit
+pub can_go_on_answered : {S : Type 0} (s t : S) (n m limit : ℕ) (w v : Machine) (piece : List ℕ) (why : Stop) (result : Result Turn DeviceFault) → Answers n m v why result
+    → IfOk {E = WriteFault} (Ok why) (λ s. s ≡ stop.UsedUp → (v.offset ≡ w.offset + length piece) × IsReady v)
+    → length piece ≡ m → m ≡ min (limit - w.offset) n → w.offset ≤ limit → CanGoOn limit w v s t result
+can_go_on_answered s t n m limit w v piece stop.UsedUp (Ok Again) is used l fits below =
+    let u = used refl in (omega (arith, is.0, is.1, u.0, l, fits, below), omega (arith, is.0, is.1, u.0, l, fits, below), u.1)
+can_go_on_answered s t n m limit w v piece why (Ok (Ended run)) is used l fits below = tt
+can_go_on_answered s t n m limit w v piece stop.UsedUp (Err InputTooLong) is used l fits below =
+    let u = used refl in (omega (arith, is, u.0, l, fits, below), u.1)
+can_go_on_answered s t n m limit w v piece why (Err WriteFailed) is used l fits below = tt
+can_go_on_answered s t n m limit w v piece stop.UsedUp (Err ReadFailed) is used l fits below = absurd is
+can_go_on_answered s t n m limit w v piece stop.Enough (Ok Again) is used l fits below = absurd is
+can_go_on_answered s t n m limit w v piece stop.Enough (Err ReadFailed) is used l fits below = absurd is
+can_go_on_answered s t n m limit w v piece stop.Enough (Err InputTooLong) is used l fits below = absurd is
+can_go_on_answered s t n m limit w v piece (stop.Fault f) (Ok Again) is used l fits below = absurd is
+can_go_on_answered s t n m limit w v piece (stop.Fault f) (Err ReadFailed) is used l fits below = absurd is
+can_go_on_answered s t n m limit w v piece (stop.Fault f) (Err InputTooLong) is used l fits below = absurd is

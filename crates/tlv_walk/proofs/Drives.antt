@@ -14,7 +14,7 @@ use Rattle.tlv_walk.specs.declared.run.Run.{Run}
 use Rattle.tlv_walk.specs.declared.run.Turn.{Turn}
 use Rattle.tlv_walk.specs.declared.run.Turn.TheVariants.{Again, Ended}
 use Rattle.std.specs.List.{concat}
-use Rattle.tlv_walk.specs.Device.{Last, Supply, Taken, failed, failures_after, gave}
+use Rattle.tlv_io.specs.Device.{Last, Supply, Taken, failed, failures_after, gave}
 use Rattle.tlv_walk.specs.Drives.{Drives, had_enough, octets_told, run_of, walk}
 use Rattle.tlv_walk.specs.Events.{AreEqualJoined, Told, Bytes, Pad, events}
 use Rattle.tlv_walk.specs.Follow.{Following, GoesOn, Joins, Rests, followed, followed_events}
@@ -23,7 +23,7 @@ use Rattle.tlv_walk.specs.Forest.{Forest, spell}
 use Rattle.tlv_walk.specs.Job.{AreSound, ComesTo, EndsWith, IsFinalEnding, Runs, of_drain, of_source}
 use Rattle.tlv_walk.specs.Laws.{AreOctets}
 use Rattle.tlv_walk.specs.Machine.{Machine}
-use Rattle.tlv_walk.specs.Out.{Sends}
+use Rattle.tlv_io.specs.Out.{Sends}
 use Rattle.tlv_walk.specs.Reading.{IsReading}
 use Rattle.tlv_walk.specs.State.{Stands}
 use Rattle.tlv_walk.specs.Turns.{Calls, EndsBy, EndsIn, Gave, GaveUpTo, StopsIn, Turns, given}
@@ -31,8 +31,8 @@ use Rattle.tlv_walk.specs.Wrappers.{enters, first_other, unused_of}
 use Rattle.tlv_walk.proofs.Followed.{events_enough, followed-alike, followed-enough, kept-alike}
 use Rattle.tlv_walk.proofs.Following.{made_both, made_put}
 use Rattle.tlv_walk.proofs.Enough.{ends_so}
-use Rattle.tlv_walk.proofs.Pieces.{GaveLast, gathered_more, pieces_all, together_more}
-use Rattle.tlv_walk.proofs.Puts.{sends_ok, sends_then}
+use Rattle.tlv_io.proofs.Pieces.{GaveLast, gathered_more, pieces_all, together_more}
+use Rattle.tlv_io.proofs.Puts.{sends_ok, sends_then}
 use Rattle.tlv_walk.proofs.Turns.{stands_spelled, stands_told}
 use Rattle.tlv_walk.proofs.SoFar.{gave_last, gave_none, given_short, given_octets, limit_behind, enters_each, Walking}
 

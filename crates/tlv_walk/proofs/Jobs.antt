@@ -11,14 +11,14 @@ use Rattle.tlv_walk.specs.declared.run.DeviceFault.{DeviceFault}
 use Rattle.tlv_walk.specs.declared.run.DeviceFault.TheVariants.{ReadFailed, WriteFailed, InputTooLong}
 use Rattle.tlv_walk.specs.declared.run.Run.{Run}
 use Rattle.std.specs.List.{concat}
-use Rattle.tlv_walk.specs.Device.{Supply, Taken, gave, given_in}
+use Rattle.tlv_io.specs.Device.{Supply, Taken, gave, given_in}
 use Rattle.tlv_walk.specs.Drives.{Drives, had_enough, run_of, walk}
 use Rattle.tlv_walk.specs.Events.{Told, events}
 use Rattle.tlv_walk.specs.Follow.{Following, followed, goes_of}
 use Rattle.tlv_walk.specs.Forest.{Forest}
 use Rattle.tlv_walk.specs.Job.{AreSound, IsFinalEnding, Job, Runs}
 use Rattle.tlv_walk.proofs.Enough.{EndsSo}
-use Rattle.tlv_walk.specs.Out.{Sends}
+use Rattle.tlv_io.specs.Out.{Sends}
 use Rattle.tlv_walk.specs.Reading.{IsReading}
 
 -- a run has the ending that it came to, and where it does not stop the first named offset that is no wrapper's

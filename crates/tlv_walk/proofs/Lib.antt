@@ -35,14 +35,12 @@ pub mod Finishing
 pub mod HeaderSteps
 pub mod HeaderRefusals
 pub mod Standing
+pub mod HasRead
 pub mod Rows
-pub mod Puts
-pub mod HeldTexts
 pub mod Followed
 pub mod Finals
 pub mod Unused
 pub mod ToldOctets
-pub mod Pieces
 pub mod Waiting
 pub mod Following
 pub mod Parts

@@ -4,24 +4,24 @@ use Rattle.std.proofs.lemmas.Bool.{true≢false}
 use Rattle.std.proofs.lemmas.List.{take-append-drop}
 use Rattle.std.specs.Prelude.{Ok, Err}
 use Rattle.tlv_head.specs.Header.{Heading}
-use Rattle.tlv_walk.specs.declared.drain.WriteFault.{WriteFault}
+use Rattle.tlv_io.specs.declared.drain.WriteFault.{WriteFault}
 use Rattle.tlv_walk.specs.declared.follow.Go.{Go}
 use Rattle.tlv_walk.specs.declared.follow.Go.TheVariants as go
 use Rattle.tlv_walk.specs.declared.framing.Framing.{Framing}
-use Rattle.tlv_walk.specs.declared.out.Out.{Out}
+use Rattle.tlv_io.specs.declared.out.Out.{Out}
 use Rattle.tlv_walk.specs.declared.walker.quick.WholePrimitive.{WholePrimitive}
-use Rattle.tlv_walk.specs.Device.{Taken}
+use Rattle.tlv_io.specs.Device.{Taken}
 use Rattle.tlv_walk.specs.Events.{Told}
 use Rattle.tlv_walk.specs.Follow.{Following, followed, followed_events, if_more, if_on, whole_events}
 use Rattle.tlv_walk.specs.Follows.{Made}
 use Rattle.tlv_walk.specs.Machine.{Machine}
-use Rattle.tlv_walk.specs.Out.{Puts}
+use Rattle.tlv_io.specs.Out.{Puts}
 use Rattle.tlv_walk.specs.Private.Follows.{Fails, Follows, FollowsPart, GoesOnIn, Parts, Walked}
 use Rattle.tlv_walk.specs.Private.Machine.{CanPass, Passes, heading_at}
 use Rattle.tlv_walk.specs.Private.Tells.{TellsAll}
 use Rattle.tlv_walk.proofs.Following.{made_both, made_put, walked_both, walked_goes_on}
 use Rattle.tlv_walk.proofs.Passing.{passed, tells_primitive}
-use Rattle.tlv_walk.proofs.Puts.{HasPut, puts_as, puts_failed_last, puts_then_as}
+use Rattle.tlv_io.proofs.Puts.{HasPut, puts_as, puts_failed_last, puts_then_as}
 use Rattle.tlv_walk.proofs.Standing.{stands_all}
 
 -- events were told

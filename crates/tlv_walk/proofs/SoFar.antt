@@ -8,19 +8,19 @@ use Rattle.tlv_walk.specs.declared.follow.Go.TheVariants as go
 use Rattle.tlv_walk.specs.declared.framing.Framing.{Framing}
 use Rattle.tlv_walk.specs.declared.run.DeviceFault.{DeviceFault}
 use Rattle.std.specs.List.{concat}
-use Rattle.tlv_walk.specs.Device.{Last, Supply, Taken, failed, gave, never}
+use Rattle.tlv_io.specs.Device.{Last, Supply, Taken, failed, gave, never}
 use Rattle.tlv_walk.specs.Events.{Told, Open, Begin, Bytes, End, Close, Enter, Unused, Leave, Pad}
 use Rattle.tlv_walk.specs.Follow.{Following, followed}
 use Rattle.tlv_walk.specs.Follows.{Made}
 use Rattle.tlv_walk.specs.Laws.{AreOctets}
 use Rattle.tlv_walk.specs.Machine.{Machine, new_machine}
-use Rattle.tlv_walk.specs.Out.{Sends}
+use Rattle.tlv_io.specs.Out.{Sends}
 use Rattle.tlv_walk.specs.State.{Stands, waiting_of}
 use Rattle.tlv_walk.specs.Turns.{GaveUpTo, given}
 use Rattle.tlv_walk.specs.Wrappers.{enters}
 use Rattle.tlv_walk.proofs.Following.{made_none}
-use Rattle.tlv_walk.proofs.Pieces.{GaveLast, Gathered, gathered_none}
-use Rattle.tlv_walk.proofs.Puts.{sends_nothing}
+use Rattle.tlv_io.proofs.Pieces.{GaveLast, Gathered, gathered_none}
+use Rattle.tlv_io.proofs.Puts.{sends_nothing}
 
 -- ---- reads
 

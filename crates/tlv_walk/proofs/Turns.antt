@@ -5,13 +5,13 @@ use Rattle.std.proofs.lemmas.List.{length-take, take_all}
 use Rattle.std.proofs.Math.Seq.{take-take}
 use Rattle.std.specs.Prelude.{Result, Ok, Err, ⊤}
 use Rattle.tlv_head.specs.declared.fault.Fault.{Fault}
-use Rattle.tlv_walk.specs.declared.drain.WriteFault.{WriteFault}
+use Rattle.tlv_io.specs.declared.drain.WriteFault.{WriteFault}
 use Rattle.tlv_walk.specs.declared.ending.Ending.{Ending}
 use Rattle.tlv_walk.specs.declared.ending.Ending.TheVariants as ending
 use Rattle.tlv_walk.specs.declared.follow.Go.{Go}
 use Rattle.tlv_walk.specs.declared.follow.Go.TheVariants as go
 use Rattle.tlv_walk.specs.declared.framing.Framing.{Framing}
-use Rattle.tlv_walk.specs.declared.out.Out.{Out}
+use Rattle.tlv_io.specs.declared.out.Out.{Out}
 use Rattle.tlv_walk.specs.declared.run.DeviceFault.{DeviceFault}
 use Rattle.tlv_walk.specs.declared.run.DeviceFault.TheVariants.{ReadFailed, WriteFailed, InputTooLong}
 use Rattle.tlv_walk.specs.declared.run.Run.{Run}
@@ -19,7 +19,7 @@ use Rattle.tlv_walk.specs.declared.run.Turn.{Turn}
 use Rattle.tlv_walk.specs.declared.run.Turn.TheVariants.{Again, Ended}
 use Rattle.tlv_walk.specs.declared.turning.Stop.{Stop}
 use Rattle.tlv_walk.specs.declared.turning.Stop.TheVariants as stop
-use Rattle.tlv_walk.specs.Device.{Taken}
+use Rattle.tlv_io.specs.Device.{Taken}
 use Rattle.tlv_walk.specs.Drives.{octets_told}
 use Rattle.tlv_walk.specs.Ending.{IsEnding}
 use Rattle.tlv_walk.specs.Events.{AreEqualJoined, Told, events}
@@ -30,7 +30,7 @@ use Rattle.tlv_walk.specs.Forest.{Forest, spell}
 use Rattle.tlv_walk.specs.Job.{IsFinalEnding}
 use Rattle.tlv_walk.specs.Laws.{AreOctets}
 use Rattle.tlv_walk.specs.Machine.{Machine}
-use Rattle.tlv_walk.specs.Out.{Puts, Sends, held_in, lender_of}
+use Rattle.tlv_io.specs.Out.{Puts, Sends, held_in, lender_of}
 use Rattle.tlv_walk.specs.Place.{top}
 use Rattle.tlv_walk.specs.Reading.{IsReading}
 use Rattle.tlv_walk.specs.State.{Stands, waiting_of}
@@ -39,7 +39,7 @@ use Rattle.tlv_walk.specs.Wrappers.{enters, first_other, unused_of}
 use Rattle.tlv_walk.proofs.Finals.{refused-final}
 use Rattle.tlv_walk.proofs.Followed.{followed-front}
 use Rattle.tlv_walk.proofs.Following.{walked_goes_on}
-use Rattle.tlv_walk.proofs.Puts.{puts_failed_last, puts_then_as, sends_err, sends_flushed, sends_ok, sends_puts}
+use Rattle.tlv_io.proofs.Puts.{puts_failed_last, puts_then_as, sends_err, sends_flushed, sends_ok, sends_puts}
 use Rattle.tlv_walk.proofs.PushSteps.{Spells}
 use Rattle.tlv_walk.proofs.Readings.{reading-longer, reading-unique}
 use Rattle.tlv_walk.proofs.StateReading.{state-reading, state-spells}

@@ -1,8 +1,3 @@
-pub mod Device
-pub mod MemDrain
-pub mod MemSource
-pub mod Held
-pub mod Out
 pub mod Inside
 pub mod Follow
 pub mod Forest

@@ -1,9 +1,7 @@
 pub mod Answers
-pub mod Device
 pub mod Follows
 pub mod Forest
 pub mod FrameFields
-pub mod LastRead
 pub mod Machine
 pub mod ReadsOn
 pub mod Stack

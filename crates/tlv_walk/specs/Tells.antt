@@ -53,6 +53,11 @@ pub record StandsRefused (w : Machine) (b : List ℕ) (octet : ℕ) (told : List
   pub depth : length w.stack ≡ open_count behind.reading
   pub unused : unused_in w ≡ unused_of w.framing.inside behind.reading
 
+-- what a walker has read: the octets that it took, and their reading. Once it refused an octet, these are the octets before that one
+pub data HasRead (w : Machine) (b : List ℕ) (reading : Forest) : Type 0 where
+  took : (told : List Told) (stands : Stands w b told) → stands.reading ≡ reading → HasRead w b reading
+  stopped : (x : ℕ) (told : List Told) (f : Fault) (stands : StandsRefused w b x told f) → stands.behind.reading ≡ reading → HasRead w b reading
+
 -- where a walker stands that walked over these octets to the end, and told these events: behind all octets, or behind the
 -- octet that it refused
 abbrev pub StandsAtEnd : Machine → List ℕ → List Told → Ending → Type 0

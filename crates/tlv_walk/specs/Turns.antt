@@ -1,5 +1,5 @@
 -- What one read of a source, followed, comes to.
-use Rattle.std.specs.Prelude.{◌≡◌, ◌≢◌, ◌⊎◌, ℕ, ◌-◌, ◌<◌, ◌≤◌, Bool, true, false, List, [], ◌++◌, flat_map, length, take, Result, Ok, Err}
+use Rattle.std.specs.Prelude.{◌≡◌, ◌≢◌, ◌⊎◌, ℕ, ◌-◌, ◌<◌, ◌≤◌, Bool, true, false, List, [], ◌++◌, flat_map, length, take, Result, Ok, Err, ⊤}
 use Rattle.std.specs.Io.KnownBytes.{Consumes, IsAtEnd}
 use Rattle.tlv_walk.specs.declared.ending.Ending.TheVariants as ending
 use Rattle.tlv_walk.specs.declared.follow.Go.TheVariants as go
@@ -8,7 +8,7 @@ use Rattle.tlv_walk.specs.declared.run.DeviceFault.TheVariants.{ReadFailed, Writ
 use Rattle.tlv_walk.specs.declared.run.Run.{Run}
 use Rattle.tlv_walk.specs.declared.run.Turn.{Turn}
 use Rattle.tlv_walk.specs.declared.run.Turn.TheVariants.{Again, Ended}
-use Rattle.tlv_walk.specs.Device.{Last, Supply, Taken, counted, never, gave, failed, failures_after}
+use Rattle.tlv_io.specs.Device.{Last, Supply, Taken, counted, never, gave, failed, failures_after}
 use Rattle.tlv_walk.specs.Drives.{octets_told}
 use Rattle.tlv_walk.specs.Ending.{IsEnding}
 use Rattle.tlv_walk.specs.Events.{AreEqualJoined, Told, events}
@@ -16,8 +16,8 @@ use Rattle.tlv_walk.specs.Follow.{Following, followed}
 use Rattle.tlv_walk.specs.Follows.{Made}
 use Rattle.tlv_walk.specs.Forest.{Forest, spell}
 use Rattle.tlv_walk.specs.Job.{IsFinalEnding, of_drain, of_source}
-use Rattle.tlv_walk.specs.Machine.{Machine}
-use Rattle.tlv_walk.specs.Out.{Sends}
+use Rattle.tlv_walk.specs.Machine.{IsReady, Machine}
+use Rattle.tlv_io.specs.Out.{Sends}
 use Rattle.tlv_walk.specs.Reading.{IsPrefixOf, IsReading}
 use Rattle.tlv_walk.specs.Tells.{StandsAtEnd}
 use Rattle.tlv_walk.specs.State.{Stands, waiting_of}
@@ -118,3 +118,12 @@ module _ {S : Type 0} (next : S → Told → Following S) where
   abbrev pub Turns : ℕ → Machine → Machine → S → S → List ℕ → List Told → List ℕ → Taken → Taken → Result Turn DeviceFault → Type 0
   Turns limit w v s t b told r from to result =
       TurnsTo limit w v s t b told r (λ text. Sends from to text (of_drain result)) result
+
+-- how a walk can go on after a turn. Where more is to be read, or more was read than the limit allows, no event waits; after a
+-- failed read nothing has changed
+abbrev pub CanGoOn : {S : Type 0} → ℕ → Machine → Machine → S → S → Result Turn DeviceFault → Type 0
+CanGoOn limit w v s t (Ok Again) = (w.offset < v.offset) × (v.offset ≤ limit) × IsReady v
+CanGoOn limit w v s t (Ok (Ended run)) = ⊤
+CanGoOn limit w v s t (Err ReadFailed) = (v ≡ w) × (t ≡ s)
+CanGoOn limit w v s t (Err WriteFailed) = ⊤
+CanGoOn limit w v s t (Err InputTooLong) = (v.offset ≡ limit) × IsReady v

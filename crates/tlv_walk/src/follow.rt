@@ -1,7 +1,7 @@
 //! What follows a walk.
 ghost use Rattle.tlv_walk.specs.Events.{Bytes, Pad, Told};
 ghost use Rattle.tlv_walk.specs.Follow.{Following, GoesOn, IsFollowed, IsFollowedOrLeft, IsWhole, Joins, Rests, followed, put_or_left, whole_events};
-ghost use Rattle.tlv_walk.specs.Out.{Puts};
+ghost use Rattle.tlv_io.specs.Out.{Puts};
 ghost use Rattle.tlv_walk.specs.Tells.{told_of};
 
 use crate::{Drain, Event, Out, WriteFault};

@@ -1,16 +1,16 @@
 //! One read of a source, followed.
 ghost use Rattle.std.specs.Prelude.{◌≡◌, ℕ, List, [], ◌+◌, ◌<◌, ◌≤◌, ◌^◌, IfOk, OnOk, length};
-ghost use Rattle.tlv_walk.specs.Device.{failures_after};
+ghost use Rattle.tlv_io.specs.Device.{failures_after};
 ghost use Rattle.tlv_walk.specs.Events.{Told};
 ghost use Rattle.tlv_walk.specs.Follow.{IsFollowed};
 ghost use Rattle.tlv_walk.specs.Private.Answers.{Answers, IsRun};
 ghost use Rattle.tlv_walk.specs.Private.Follows.{Parts, Stops};
 ghost use Rattle.tlv_walk.specs.Laws.{AreOctets};
 ghost use Rattle.tlv_walk.specs.Machine.{IsReady};
-ghost use Rattle.tlv_walk.specs.Out.{Puts, Sends, held_in, lender_of};
+ghost use Rattle.tlv_io.specs.Out.{Puts, Sends, held_in, lender_of};
 ghost use Rattle.tlv_walk.specs.State.{Stands};
 ghost use Rattle.tlv_walk.specs.Tells.{told_of};
-ghost use Rattle.tlv_walk.specs.Turns.{Calls, Turns, given};
+ghost use Rattle.tlv_walk.specs.Turns.{Calls, CanGoOn, Turns, given};
 
 use crate::{
     DeviceFault, Drain, Ending, Event, Follow, Go, Out, Run, Source, Step, Turn, Walker, WriteFault,
@@ -49,15 +49,14 @@ pub fn turn<F: Follow, S: Source, D: Drain>(
     requires limit { limit ≤ 2 ^ 40 }
     requires taken { walker.old.offset ≤ limit }
     requires ready { IsReady walker.old }
-    // What the devices did, and what was made of it where the walker stands for octets.
+    // What the devices did; what was made of it where the walker stands for octets; and how the walk can go on.
     ensures calls { Calls (length piece.old) (S.told source.old) (S.told source.new)
         (D.told drain.old) (D.told drain.new) piece.new result }
     ensures turned { (b : List ℕ) (told : List Told) → Stands walker.old b told
         → Turns F.next limit walker.old walker.new follower.old follower.new b told
         (given (S.told source.new).last piece.new) (D.told drain.old) (D.told drain.new) result }
     ensures octets { AreOctets piece.new }
-    ensures again { IfOk result (λ t. t ≡ Turn.Again
-        → (walker.old.offset < walker.new.offset) × (walker.new.offset ≤ limit) × IsReady walker.new) }
+    ensures goes_on { CanGoOn limit walker.old walker.new follower.old follower.new result }
 {
     let mut out = Out::new(drain);
     turn_to(walker, follower, source, &mut out, piece, limit)
@@ -82,10 +81,10 @@ pub(crate) fn turn_to<F: Follow, S: Source, D: Drain>(
         (D.told (lender_of out.old).now) (D.told (lender_of out.new).now) piece.new result }
     ensures turned { (b : List ℕ) (told : List Told) → Stands walker.old b told
         → Turns F.next limit walker.old walker.new follower.old follower.new b told
-        (given (S.told source.new).last piece.new) (D.told (lender_of out.old).now) (D.told (lender_of out.new).now) result }
+        (given (S.told source.new).last piece.new)
+        (D.told (lender_of out.old).now) (D.told (lender_of out.new).now) result }
     ensures octets { AreOctets piece.new }
-    ensures again { IfOk result (λ t. t ≡ Turn.Again
-        → (walker.old.offset < walker.new.offset) × (walker.new.offset ≤ limit) × IsReady walker.new) }
+    ensures goes_on { CanGoOn limit walker.old walker.new follower.old follower.new result }
     ensures same_reference { (lender_of out.new).ghost_name ≡ (lender_of out.old).ghost_name }
     ensures empty { IfOk result (λ t. t ≡ Turn.Again → held_in out.new ≡ []) }
 {

@@ -60,17 +60,18 @@ impl Model for Walker {
 }
 
 impl Walker {
-    ghost use Rattle.std.specs.Prelude.{◌∷◌, ◌++◌, List, [], false};
+    ghost use Rattle.std.specs.Prelude.{List, [], false};
     ghost use Rattle.tlv_walk.specs.Phase as phases;
     ghost use Rattle.tlv_walk.specs.Machine.{Steps, new_machine, unused_in};
     ghost use Rattle.tlv_walk.specs.Private.Machine.{IsWaiting, fault_at};
     ghost use Rattle.tlv_head.specs.declared.fault.Fault.{Fault as FaultOf};
     ghost use Rattle.tlv_walk.specs.Ending.{IsEnding};
     ghost use Rattle.tlv_walk.specs.Events.{Told};
+    ghost use Rattle.tlv_walk.specs.Forest.{Forest};
     ghost use Rattle.tlv_walk.specs.OpenCount.{open_count};
     ghost use Rattle.tlv_walk.specs.State.{NothingWaits, Stands};
     ghost use Rattle.tlv_walk.specs.Wrappers.{unused_of};
-    ghost use Rattle.tlv_walk.specs.Tells.{StandsRefused, StandsStep};
+    ghost use Rattle.tlv_walk.specs.Tells.{HasRead, StandsAtEnd, StandsStep};
     ghost use Rattle.tlv_walk.specs.Private.Tells.{TellsStep};
 
     /// A walker that has taken nothing.
@@ -95,10 +96,8 @@ impl Walker {
     pub fn depth(&self) -> u8
         ensures value { result ≡ length self.now.stack }
         ensures within { result ≤ 128 }
-        ensures open_elements { (b : List ℕ) (told : List Told) → NothingWaits self.now → (stands : Stands self.now b told)
-            → result ≡ open_count stands.reading }
-        ensures refused { (b : List ℕ) (x : ℕ) (told : List Told) (f : FaultOf) → (stands : StandsRefused self.now b x told f)
-            → result ≡ open_count stands.behind.reading }
+        ensures open_elements { (b : List ℕ) (f : Forest) → HasRead self.now b f → NothingWaits self.now
+            → result ≡ open_count f }
     {
         self.stack.len()
     }
@@ -107,8 +106,7 @@ impl Walker {
     pub fn offset(&self) -> u64
         ensures value { result ≡ self.now.offset }
         ensures within { result ≤ 2 ^ 40 }
-        ensures taken { (b : List ℕ) (told : List Told) → Stands self.now b told → result ≡ length b }
-        ensures refused { (b : List ℕ) (x : ℕ) (told : List Told) (f : FaultOf) → StandsRefused self.now b x told f → result ≡ length b }
+        ensures taken { (b : List ℕ) (f : Forest) → HasRead self.now b f → result ≡ length b }
     {
         self.offset
     }
@@ -124,9 +122,8 @@ impl Walker {
     /// The first of the named offsets at which no string was found whose contents are encodings.
     pub fn unused(&self) -> Option<u64>
         ensures value { result ≡ unused_in self.now }
-        ensures first { (b : List ℕ) (told : List Told) → (stands : Stands self.now b told) → result ≡ unused_of self.now.framing.inside stands.reading }
-        ensures refused { (b : List ℕ) (x : ℕ) (told : List Told) (f : FaultOf) → (stands : StandsRefused self.now b x told f)
-            → result ≡ unused_of self.now.framing.inside stands.behind.reading }
+        ensures first { (b : List ℕ) (f : Forest) → HasRead self.now b f
+            → result ≡ unused_of self.now.framing.inside f }
     {
         self.framing.inside.get(self.wrappers)
     }
@@ -152,10 +149,9 @@ impl Walker {
     /// What the input comes to, if it ends here. After a fault it is that fault.
     pub fn finish(&self) -> Ending
         requires { NothingWaits self.now }
-        ensures stands { (b : List ℕ) (told : List Told) → Stands self.now b told → IsEnding self.now.framing b result }
+        ensures ending { (o : List ℕ) (told : List Told) (e : Ending) → StandsAtEnd self.now o told e
+            → IsEnding self.now.framing o result }
         ensures failed { (f : FaultOf) → self.now.phase ≡ phases.Failed f → result ≡ Ending.Fault f }
-        ensures refused { (b : List ℕ) (x : ℕ) (told : List Told) (f : FaultOf) → StandsRefused self.now b x told f
-            → (c : List ℕ) → IsEnding self.now.framing (b ++ x ∷ c) result }
     {
         if let Phase::Failed(fault) = &self.phase {
             return Ending::Fault(*fault);

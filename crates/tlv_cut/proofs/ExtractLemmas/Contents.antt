@@ -3,11 +3,11 @@ use Rattle.std.proofs.Common.{◌≡◌, ℕ, List, [], ◌∷◌, ◌++◌, ref
 use Rattle.std.specs.Prelude.{Result, Ok, ⊤}
 use Rattle.tlv_walk.specs.declared.follow.Go.TheVariants.{On}
 use Rattle.tlv_walk.specs.Follow.{Following, each_octet}
-use Rattle.tlv_walk.specs.declared.drain.WriteFault.{WriteFault}
-use Rattle.tlv_walk.specs.declared.out.Out.{Out}
-use Rattle.tlv_walk.specs.Device.{Taken}
-use Rattle.tlv_walk.specs.Out.{Puts}
-use Rattle.tlv_walk.proofs.Puts.{HasPut, puts_nothing}
+use Rattle.tlv_io.specs.declared.drain.WriteFault.{WriteFault}
+use Rattle.tlv_io.specs.declared.out.Out.{Out}
+use Rattle.tlv_io.specs.Device.{Taken}
+use Rattle.tlv_io.specs.Out.{Puts}
+use Rattle.tlv_io.proofs.Puts.{HasPut, puts_nothing}
 use Rattle.tlv_cut.specs.declared.extract_follower.Position.{Position}
 use Rattle.tlv_cut.specs.declared.extract_follower.Position.TheVariants.{Before, Inside, After}
 use Rattle.tlv_cut.specs.ExtractStep.{ExtractState, wanted_octets, octet_step}

@@ -5,7 +5,7 @@ use Rattle.tlv_walk.specs.declared.ending.Ending.{Ending}
 use Rattle.tlv_walk.specs.declared.framing.Framing.{Framing}
 use Rattle.tlv_walk.specs.declared.run.DeviceFault.{DeviceFault}
 use Rattle.tlv_walk.specs.declared.run.Run.{Run}
-use Rattle.tlv_walk.specs.Device.{Supply, Taken}
+use Rattle.tlv_io.specs.Device.{Supply, Taken}
 use Rattle.tlv_walk.specs.Drives.{Drives, had_enough}
 use Rattle.tlv_walk.specs.Events.{events}
 use Rattle.tlv_walk.specs.Follow.{followed_events, goes_of}

@@ -3,15 +3,15 @@ use Rattle.std.proofs.Common.{◌≡◌, ◌≤◌, ℕ, List, [], ◌∷◌, �
 use Rattle.std.specs.Prelude.{Bool, true, false, not, ◌==◌, if◌then◌else◌, Result, Ok, Err, IsErr, ⊤}
 use mathlib.Core.Bool.{true≢false}
 use Rattle.tlv_head.specs.Header.{Heading, octets_of}
-use Rattle.tlv_walk.specs.declared.drain.WriteFault.{WriteFault}
+use Rattle.tlv_io.specs.declared.drain.WriteFault.{WriteFault}
 use Rattle.tlv_walk.specs.declared.follow.Go.TheVariants.{On}
-use Rattle.tlv_walk.specs.declared.out.Out.{Out}
-use Rattle.tlv_walk.specs.Device.{Taken}
+use Rattle.tlv_io.specs.declared.out.Out.{Out}
+use Rattle.tlv_io.specs.Device.{Taken}
 use Rattle.tlv_walk.specs.Events.{Begin, Bytes, End}
 use Rattle.tlv_walk.specs.Follow.{Following, IsFollowedOrLeft, contents_in, put_or_left, stay, whole_events}
-use Rattle.tlv_walk.specs.Out.{Puts}
+use Rattle.tlv_io.specs.Out.{Puts}
 use Rattle.tlv_walk.proofs.Followed.{followed-one}
-use Rattle.tlv_walk.proofs.Puts.{HasPut, puts_as, puts_failed_last, puts_nothing, puts_text}
+use Rattle.tlv_io.proofs.Puts.{HasPut, puts_as, puts_failed_last, puts_nothing, puts_text}
 use Rattle.tlv_cut.specs.declared.extract_follower.Position.{Position}
 use Rattle.tlv_cut.specs.declared.extract_follower.Position.TheVariants.{Before, Inside, After}
 use Rattle.tlv_cut.specs.ExtractStep.{ExtractState, begin_step, end_step, extract_step, outer_octets, step_to}

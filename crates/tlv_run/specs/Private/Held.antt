@@ -1,7 +1,7 @@
 -- Sources over octets in memory, and a drain with room of its own, as contracts see them.
 use Rattle.std.specs.Prelude.{ℕ, zero, suc, ltb, List, [], Some, if◌then◌else◌, length}
-use Rattle.tlv_walk.specs.Device.{Last, Supply, Taken, failed, gave, never}
-use Rattle.tlv_walk.specs.MemSource.{MemSupply}
+use Rattle.tlv_io.specs.Device.{Last, Supply, Taken, failed, gave, never}
+use Rattle.tlv_io.specs.MemSource.{MemSupply}
 
 -- a source that fails with no read tells of no failure
 abbrev pub told_ending : MemSupply → Supply

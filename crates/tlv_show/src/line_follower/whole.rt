@@ -3,7 +3,7 @@
 ghost use Rattle.std.specs.FinMap as finite;
 ghost use Rattle.std.specs.Prelude.{◌≡◌, length};
 ghost use Rattle.tlv_head.specs.Header.{announced};
-ghost use Rattle.tlv_walk.specs.Out.{Puts};
+ghost use Rattle.tlv_io.specs.Out.{Puts};
 ghost use Rattle.tlv_value.specs.State.{whole_lines};
 ghost use Rattle.tlv_show.specs.Private.Dumped.{behind_whole};
 

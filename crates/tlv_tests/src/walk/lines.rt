@@ -11,7 +11,7 @@ ghost use Rattle.tlv_tests.specs.Lined.{
   pairs,
   place as place_of,
 };
-ghost use Rattle.tlv_walk.specs.Out.{Puts};
+ghost use Rattle.tlv_io.specs.Out.{Puts};
 
 use arrayvec::ArrayVec;
 use std::marker::Model;

@@ -8,7 +8,7 @@ use Rattle.std.specs.FinMap as finite
 use Rattle.std.specs.Borrow.{Bor}
 use Rattle.std.specs.BTreeMap.{BTreeMap}
 use Rattle.std.specs.Io.KnownBytes.{IsAtEnd}
-use Rattle.tlv_walk.specs.Device.{Pieces, Supply, failed, gave, given_in}
+use Rattle.tlv_io.specs.Device.{Pieces, Supply, failed, gave, given_in}
 use Rattle.tlv_value.specs.Names.{Entry, Line, nothing, named, no_oid, no_name, too_long, Table, is_among, names_of}
 use Rattle.tlv_value.specs.NamesReading.{IsTooLong, failures_of}
 use Rattle.tlv_value.specs.declared.names.fault.NamesFault.{NamesFault}

@@ -5,7 +5,7 @@ ghost use Rattle.tlv_value.specs.Private.NamesSteps.{Gives, result_in};
 use super::NamesFault;
 use super::table::{Table, table_of};
 use std::alloc::Allocator;
-use tlv_walk::Source;
+use tlv_io::Source;
 
 /// The most octets of a names file.
 const MOST_OCTETS: usize = 1_048_576;

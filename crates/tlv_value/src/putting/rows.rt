@@ -1,6 +1,6 @@
 //! Rows on their way to an [`Out`].
 ghost use Rattle.std.specs.Prelude.{◌≡◌, ◌+◌, ◌<◌, ◌≤◌, ◌^◌, ◌++◌, [], codes, if◌then◌else◌, length, IsTrue, None, OnOk, ◌↔◌};
-ghost use Rattle.tlv_walk.specs.Out.{Puts};
+ghost use Rattle.tlv_io.specs.Out.{Puts};
 ghost use Rattle.tlv_value.specs.Layout.{line, no_columns, row_line as row_line_of};
 ghost use Rattle.tlv_value.specs.Private.Rows.{full_line, full_lines};
 ghost use Rattle.tlv_value.specs.Rows.{full_rows, last_rows, open_row, row_size as row_size_of, rows_of};
@@ -13,7 +13,7 @@ use crate::line::row_indent;
 use crate::rows::{fitting, row_size};
 use crate::value::write_row;
 use arrayvec::ArrayVec;
-use tlv_walk::{Drain, Held, Out, WriteFault};
+use tlv_io::{Drain, Held, Out, WriteFault};
 
 /// Puts rows of all of the octets.
 pub(super) fn put_all_rows<D: Drain>(

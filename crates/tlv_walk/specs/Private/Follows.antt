@@ -1,7 +1,7 @@
 -- What a follower comes to that follows a walker over a piece.
 use Rattle.std.specs.Prelude.{◌≡◌, ℕ, Bool, true, false, List, [], ◌∷◌, ◌++◌, Result, Ok, Err, length}
 use Rattle.tlv_head.specs.declared.fault.Fault.{Fault}
-use Rattle.tlv_walk.specs.declared.drain.WriteFault.{WriteFault}
+use Rattle.tlv_io.specs.declared.drain.WriteFault.{WriteFault}
 use Rattle.tlv_walk.specs.declared.follow.Go.{Go}
 use Rattle.tlv_walk.specs.declared.follow.Go.TheVariants as go
 use Rattle.tlv_walk.specs.declared.framing.Framing.{Framing}

@@ -1,5 +1,5 @@
 use Rattle.std.proofs.Common.{rules, refl}
-use Rattle.tlv_walk.proofs.Puts.{puts_line, puts_no_room}
+use Rattle.tlv_io.proofs.Puts.{puts_line, puts_no_room}
 use Rattle.tlv_show.proofs.lines.put_padding.Goals as goal
 
 pub returns-in_err-make_room : goal.returns-in_err-make_room

@@ -1,5 +1,5 @@
 use Rattle.std.proofs.Common.{◌∙◌, arith, append_assoc, rules, refl}
-use Rattle.tlv_walk.proofs.Puts.{puts_as, puts_failed_in, puts_then}
+use Rattle.tlv_io.proofs.Puts.{puts_as, puts_failed_in, puts_then}
 use Rattle.tlv_show.proofs.Lists.{next_line}
 use Rattle.tlv_show.proofs.style.put_each.Goals as goal
 

@@ -1,5 +1,5 @@
 use Rattle.std.proofs.Common.{◌≡◌, ◌++◌, ℕ, List, drop}
-use Rattle.tlv_walk.proofs.Puts.{HasPut}
+use Rattle.tlv_io.proofs.Puts.{HasPut}
 use Rattle.tlv_show.specs.CheckStep.{all_written}
 use Rattle.tlv_show.proofs.style.put_each.Given as goal
 

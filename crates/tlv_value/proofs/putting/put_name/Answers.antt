@@ -1,5 +1,5 @@
 use Rattle.std.proofs.Common.{rules, ◌∷◌, [], refl}
-use Rattle.tlv_walk.proofs.Puts.{puts_failed_in, puts_held, puts_then}
+use Rattle.tlv_io.proofs.Puts.{puts_failed_in, puts_held, puts_then}
 use Rattle.tlv_value.proofs.putting.put_name.Goals as goal
 
 pub returns-in_err-put : goal.returns-in_err-put

@@ -1,7 +1,7 @@
 use Rattle.std.proofs.Common.{◌≡◌, ◌+◌, ◌++◌, ◌∷◌, [], ◌∙◌, ℕ, List, refl, sym, ap, append_assoc, false}
 use Rattle.std.specs.Prelude.{None, Some, unwrap_or}
 use Rattle.std.specs.Option.{option_copied}
-use Rattle.tlv_walk.proofs.Puts.{puts_held, puts_then_as}
+use Rattle.tlv_io.proofs.Puts.{puts_held, puts_then_as}
 use Rattle.tlv_value.specs.Arcs.{dotted_text}
 use Rattle.tlv_value.proofs.ObjectLines.{behind_space, object_named, object_plain, some_text}
 use Rattle.tlv_value.proofs.putting.put_object.Goals as goal

@@ -1,5 +1,5 @@
 use Rattle.std.proofs.Common.{◌++◌, ◌∷◌, [], ◌∙◌, ℕ, List, refl, ap, append_assoc, arith}
-use Rattle.tlv_walk.proofs.Puts.{puts_held, puts_then_as}
+use Rattle.tlv_io.proofs.Puts.{puts_held, puts_then_as}
 use Rattle.tlv_value.specs.Value.{spaced_pairs}
 use Rattle.tlv_value.proofs.LineLengths.{added}
 use Rattle.tlv_value.proofs.ObjectLines.{octets_long, octets_short}

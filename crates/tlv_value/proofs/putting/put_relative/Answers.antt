@@ -1,6 +1,6 @@
 use Rattle.std.proofs.Common.{◌≡◌, ◌++◌, ◌∷◌, [], ◌∙◌, ℕ, List, refl, sym, ap, append_assoc, append-nil, true}
 use Rattle.std.specs.Prelude.{None, Some, unwrap_or}
-use Rattle.tlv_walk.proofs.Puts.{puts_held, puts_then_as}
+use Rattle.tlv_io.proofs.Puts.{puts_held, puts_then_as}
 use Rattle.tlv_value.specs.Arcs.{dotted_text}
 use Rattle.tlv_value.specs.Value.{no_names}
 use Rattle.tlv_value.proofs.ObjectLines.{no_text, object_octets, object_plain, some_text}

@@ -1,5 +1,5 @@
 use Rattle.std.proofs.Common.{◌++◌, List, ℕ, ap, append_assoc, arith, rules, refl, ◌∙◌}
-use Rattle.tlv_walk.proofs.Puts.{puts_failed_in, puts_text, puts_then_as}
+use Rattle.tlv_io.proofs.Puts.{puts_failed_in, puts_text, puts_then_as}
 use Rattle.tlv_value.specs.State.{TextState, after, begun, ended, told}
 use Rattle.tlv_value.specs.Private.State.{lines_in_steps}
 use Rattle.tlv_value.proofs.whole.put_in_steps.Goals as goal

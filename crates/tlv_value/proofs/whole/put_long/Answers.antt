@@ -1,4 +1,4 @@
-use Rattle.tlv_walk.proofs.Puts.{puts_text}
+use Rattle.tlv_io.proofs.Puts.{puts_text}
 use Rattle.tlv_value.proofs.Pieces.{told-long}
 use Rattle.tlv_value.proofs.whole.put_long.Goals as goal
 

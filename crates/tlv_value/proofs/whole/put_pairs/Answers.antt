@@ -1,5 +1,5 @@
 use Rattle.std.proofs.Common.{◌++◌, ◌∙◌, ap, rules, ℕ, List}
-use Rattle.tlv_walk.proofs.Puts.{puts_failed, puts_then_as}
+use Rattle.tlv_io.proofs.Puts.{puts_failed, puts_then_as}
 use Rattle.tlv_value.specs.KindValues.{long_text}
 use Rattle.tlv_value.specs.Private.State.{line_of}
 use Rattle.tlv_value.specs.Rows.{rows_of}

@@ -3,7 +3,7 @@ use Rattle.tlv_value.specs.declared.primitive.Primitive.{Primitive}
 use Rattle.tlv_value.specs.KindValues.{is_long}
 use Rattle.tlv_value.specs.Private.State.{lines_in_steps, start_of}
 use Rattle.tlv_value.proofs.Pieces.{shown-told, whole-told}
-use Rattle.tlv_walk.proofs.Puts.{puts_text}
+use Rattle.tlv_io.proofs.Puts.{puts_text}
 use Rattle.tlv_value.proofs.whole.put_whole.Goals as goal
 
 pub returns-then-is_long : goal.returns-then-is_long

@@ -3,13 +3,13 @@ use Rattle.std.specs.Prelude.{Result}
 use Rattle.std.proofs.lemmas.Result.{err_from_is_err_and}
 use Rattle.tlv_walk.specs.declared.run.DeviceFault.{DeviceFault}
 use Rattle.tlv_walk.specs.declared.run.Turn.{Turn}
-use Rattle.tlv_walk.specs.Device.{Supply, Taken}
+use Rattle.tlv_io.specs.Device.{Supply, Taken}
 use Rattle.tlv_walk.specs.declared.framing.Framing.{Framing}
 use Rattle.tlv_walk.specs.declared.run.Run.{Run}
 use Rattle.tlv_walk.specs.Drives.{Drives}
 use Rattle.tlv_walk.specs.Events.{Told}
 use Rattle.tlv_walk.specs.Follow.{Following}
-use Rattle.tlv_walk.specs.Out.{lender_of}
+use Rattle.tlv_io.specs.Out.{lender_of}
 use Rattle.tlv_walk.specs.Turns.{Calls}
 use Rattle.tlv_walk.proofs.SoFar.{walking_none}
 use Rattle.tlv_walk.proofs.Drives.{drives_ended, drives_err, walking_on}

@@ -1,6 +1,6 @@
 use Rattle.std.proofs.Common.{◌≡◌, ◌-◌, ◌≤◌, [], length}
 use Rattle.tlv_walk.specs.Machine.{IsReady}
-use Rattle.tlv_walk.specs.Out.{held_in, lender_of}
+use Rattle.tlv_io.specs.Out.{held_in, lender_of}
 use Rattle.tlv_walk.proofs.SoFar.{Walking}
 use Rattle.tlv_walk.proofs.driving.drive_up_to.Given as goal
 

@@ -1,4 +1,6 @@
-use Rattle.std.proofs.Common.{rules}
+use Rattle.std.proofs.Common.{rules, inl}
+use Rattle.tlv_walk.specs.declared.ending.Ending.TheVariants as ending
+use Rattle.tlv_walk.proofs.Waiting.{ready-quiet}
 use Rattle.tlv_walk.proofs.turning.answer.Goals as goal
 
 pub returns-in-Enough : goal.returns-in-Enough
@@ -8,7 +10,15 @@ pub returns-in-Fault : goal.returns-in-Fault
 returns-in-Fault c = rw c.in-Fault.is c.run_of-in-Fault.ensures
 
 pub returns-in-UsedUp-2 : goal.returns-in-UsedUp-2
-returns-in-UsedUp-2 c = rw c.in-UsedUp-2.is ((search rules), (search rules), (_, c.run_of-in-UsedUp-2.ensures, c.finish.ensures.stands))
+returns-in-UsedUp-2 c = rw c.in-UsedUp-2.is (
+  (search rules),
+  (search rules),
+  (
+    _,
+    c.run_of-in-UsedUp-2.ensures,
+    λ o told st. c.finish.ensures.ending o told ending.Done (inl (st, ready-quiet c.args.walker.now (c.requires (search rules)))),
+  ),
+)
 
 pub returns-in-UsedUp : goal.returns-in-UsedUp
 returns-in-UsedUp c = rw c.in-UsedUp.is (search rules)

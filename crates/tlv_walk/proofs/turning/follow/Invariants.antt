@@ -1,7 +1,7 @@
 use Rattle.std.proofs.Common.{◌≡◌, ◌+◌, ◌-◌, length}
 use Rattle.tlv_walk.specs.declared.follow.Go.TheVariants.{On}
 use Rattle.tlv_walk.specs.Private.Follows.{Follows}
-use Rattle.tlv_walk.proofs.Puts.{HasPut}
+use Rattle.tlv_io.proofs.Puts.{HasPut}
 use Rattle.tlv_walk.proofs.turning.follow.Given as goal
 
 abbrev pub invariant-events : goal.invariant-events

@@ -1,6 +1,6 @@
 use Rattle.std.proofs.Common.{rules, refl, arith}
 use Rattle.std.proofs.lemmas.Grind.{elements}
-use Rattle.tlv_walk.proofs.Calls.{again_answered, calls_answered, calls_given}
+use Rattle.tlv_walk.proofs.Calls.{calls_answered, calls_given, can_go_on_answered}
 use Rattle.tlv_walk.proofs.Turns.{turns_answered, turns_failed}
 use Rattle.tlv_walk.proofs.turning.turn_to.Goals as goal
 
@@ -29,8 +29,8 @@ returns-in_default-follow_and_flush-clause-octets g c = grind (arith, elements)
 pub returns-clause-octets : goal.returns-clause-octets
 returns-clause-octets g c = grind (arith, elements)
 
-pub returns-clause-again : goal.returns-clause-again
-returns-clause-again g c = again_answered c.in-Ok.count c.min-walked.result c.args.limit c.args.walker.now _ _ _ _ c.answer.ensures c.in-Ok-follow_and_flush.ensures.used_up (search rules) (search rules) c.requires.taken
+pub returns-clause-goes_on : goal.returns-clause-goes_on
+returns-clause-goes_on g c = can_go_on_answered _ _ c.in-Ok.count c.min-walked.result c.args.limit c.args.walker.now _ _ _ _ c.answer.ensures c.in-Ok-follow_and_flush.ensures.used_up (search rules) (search rules) c.requires.taken
 
 pub returns-in_default-clause-calls : goal.returns-in_default-clause-calls
 returns-in_default-clause-calls g c = search rules

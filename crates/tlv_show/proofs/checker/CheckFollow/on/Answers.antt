@@ -1,6 +1,6 @@
 use Rattle.std.proofs.Common.{rules, refl, sym}
 use Rattle.tlv_walk.specs.Tells.{told_of}
-use Rattle.tlv_walk.proofs.Puts.{puts_as, puts_failed_last, puts_text}
+use Rattle.tlv_io.proofs.Puts.{puts_as, puts_failed_last, puts_text}
 use Rattle.tlv_show.proofs.CheckLaws.{step-state, step-text}
 use Rattle.tlv_show.proofs.checker.CheckFollow.on.Goals as goal
 

@@ -1,8 +1,8 @@
 use Rattle.std.proofs.Common.{◌≡◌, ◌∙◌, ℕ, ap, refl, rules, subst}
 use Rattle.std.specs.Prelude.{Option, Some, None}
 use Rattle.tlv_walk.specs.Events.{Close}
-use Rattle.tlv_walk.specs.Out.{Puts}
-use Rattle.tlv_walk.proofs.Puts.{puts_failed}
+use Rattle.tlv_io.specs.Out.{Puts}
+use Rattle.tlv_io.proofs.Puts.{puts_failed}
 use Rattle.tlv_show.specs.declared.style.Style.TheVariants.{Dump}
 use Rattle.tlv_show.specs.Dumped.{Dumping, dumped_close}
 use Rattle.tlv_show.specs.DumpStep.{Showing, dump_step}

@@ -1,7 +1,7 @@
 use Rattle.std.proofs.Common.{◌∙◌, ap, rules, subst}
 use Rattle.tlv_walk.specs.Events.{End}
-use Rattle.tlv_walk.specs.Out.{Puts}
-use Rattle.tlv_walk.proofs.Puts.{puts_failed}
+use Rattle.tlv_io.specs.Out.{Puts}
+use Rattle.tlv_io.proofs.Puts.{puts_failed}
 use Rattle.tlv_show.specs.declared.style.Style.TheVariants.{Dump}
 use Rattle.tlv_show.specs.Dumped.{Dumping}
 use Rattle.tlv_show.specs.DumpStep.{Showing, dump_step}

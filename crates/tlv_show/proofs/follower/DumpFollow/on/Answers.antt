@@ -1,6 +1,6 @@
 use Rattle.std.proofs.Common.{rules, sym}
 use Rattle.tlv_walk.specs.Tells.{told_of}
-use Rattle.tlv_walk.proofs.Puts.{puts_failed_last}
+use Rattle.tlv_io.proofs.Puts.{puts_failed_last}
 use Rattle.tlv_show.proofs.DumpSteps.{one_on}
 use Rattle.tlv_show.proofs.follower.DumpFollow.on.Goals as goal
 

@@ -5,7 +5,7 @@ use Rattle.tlv_value.specs.State.{TextState}
 use Rattle.tlv_walk.specs.Follow.{Following, each_octet}
 use Rattle.tlv_show.specs.Dumped.{Dumping, further, one_dumped}
 use Rattle.tlv_show.proofs.Dumped.{dumped_bytes}
-use Rattle.tlv_walk.proofs.Puts.{puts_text}
+use Rattle.tlv_io.proofs.Puts.{puts_text}
 use Rattle.tlv_show.proofs.line_follower.Lines.bytes.Goals as goal
 
 pub returns-clause-state : goal.returns-clause-state

@@ -1,5 +1,5 @@
 use Rattle.std.proofs.Common.{refl, ap}
-use Rattle.tlv_walk.proofs.Puts.{puts_as, puts_text}
+use Rattle.tlv_io.proofs.Puts.{puts_as, puts_text}
 use Rattle.tlv_show.specs.Dumped.{Dumping}
 use Rattle.tlv_show.specs.Lines.{opening_line}
 use Rattle.tlv_show.proofs.line_follower.Lines.open.Goals as goal

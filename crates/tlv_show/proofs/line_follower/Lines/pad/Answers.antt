@@ -4,7 +4,7 @@ use Rattle.tlv_walk.specs.Follow.{Following, each_octet}
 use Rattle.tlv_show.specs.Dumped.{Dumping, further, one_padded}
 use Rattle.tlv_show.specs.Private.Dumped.{if_open}
 use Rattle.tlv_show.proofs.Dumped.{padded_first, padded_more}
-use Rattle.tlv_walk.proofs.Puts.{puts_nothing, puts_text}
+use Rattle.tlv_io.proofs.Puts.{puts_nothing, puts_text}
 use Rattle.tlv_show.proofs.line_follower.Lines.pad.Goals as goal
 
 pub returns-then-self-clause-state : goal.returns-then-self-clause-state

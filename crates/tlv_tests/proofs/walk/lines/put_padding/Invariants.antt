@@ -1,6 +1,6 @@
 use Rattle.std.proofs.Common.{take}
 use Rattle.tlv_tests.specs.Lined.{pads}
-use Rattle.tlv_walk.proofs.Puts.{HasPut}
+use Rattle.tlv_io.proofs.Puts.{HasPut}
 use Rattle.tlv_tests.proofs.walk.lines.put_padding.Given as goal
 
 abbrev pub invariant-loop-octet : goal.invariant-loop-octet

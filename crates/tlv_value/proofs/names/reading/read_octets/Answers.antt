@@ -1,5 +1,5 @@
 use Rattle.std.proofs.Common.{rules, arith, refl}
-use Rattle.tlv_walk.proofs.Pieces.{gathered_none}
+use Rattle.tlv_io.proofs.Pieces.{gathered_none}
 use Rattle.tlv_value.proofs.NamesReads.{given_more, gives_end, gives_failed, gives_long, gives_memory}
 use Rattle.tlv_value.proofs.names.reading.read_octets.Goals as goal
 

@@ -1,5 +1,5 @@
 use Rattle.std.proofs.Common.{rules, ◌++◌, ◌∷◌, [], List, ℕ, refl, ap, ◌∙◌, append_assoc}
-use Rattle.tlv_walk.proofs.Puts.{puts_failed_in, puts_held, puts_then_as}
+use Rattle.tlv_io.proofs.Puts.{puts_failed_in, puts_held, puts_then_as}
 use Rattle.tlv_value.specs.KindValues.{kind_value}
 use Rattle.tlv_value.specs.Private.KindValues.{plain_text}
 use Rattle.tlv_value.specs.Private.State.{front_of}

@@ -1,5 +1,5 @@
 use Rattle.std.proofs.Common.{rules, refl}
-use Rattle.tlv_walk.proofs.Puts.{puts_line, puts_no_room}
+use Rattle.tlv_io.proofs.Puts.{puts_line, puts_no_room}
 use Rattle.tlv_value.proofs.primitive.Primitive.put_bare.Goals as goal
 
 pub returns-in_err-make_room : goal.returns-in_err-make_room

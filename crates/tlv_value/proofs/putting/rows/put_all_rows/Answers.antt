@@ -1,5 +1,5 @@
 use Rattle.std.proofs.Common.{rules, ◌≡◌, ◌+◌, ℕ, List, [], length, ◌∙◌, arith}
-use Rattle.tlv_walk.proofs.Puts.{puts_failed_in, puts_then_as}
+use Rattle.tlv_io.proofs.Puts.{puts_failed_in, puts_then_as}
 use Rattle.tlv_value.specs.declared.kind.Kind.TheVariants.{Octets}
 use Rattle.tlv_value.specs.Rows.{full_rows, last_rows, open_row}
 use Rattle.tlv_value.specs.State.{row_lines}

@@ -1,5 +1,5 @@
 use Rattle.std.proofs.Common.{rules, refl}
-use Rattle.tlv_walk.proofs.Puts.{puts_line, puts_no_room, puts_nothing}
+use Rattle.tlv_io.proofs.Puts.{puts_line, puts_no_room, puts_nothing}
 use Rattle.tlv_value.proofs.putting.rows.put_dots.Goals as goal
 
 pub returns-then-not-is_first : goal.returns-then-not-is_first

@@ -1,6 +1,6 @@
 use Rattle.std.proofs.Common.{rules, [], List, ℕ, append-nil, drop, get_or, refl, take, ap}
 use Rattle.std.proofs.lemmas.List.{take_all}
-use Rattle.tlv_walk.proofs.Puts.{puts_failed_in, puts_line, puts_nothing, puts_text, puts_then_as}
+use Rattle.tlv_io.proofs.Puts.{puts_failed_in, puts_line, puts_nothing, puts_text, puts_then_as}
 use Rattle.tlv_value.specs.Private.Rows.{full_line, full_lines}
 use Rattle.tlv_value.proofs.FullRows.{lines_more, lines_split}
 use Rattle.tlv_value.proofs.putting.rows.put_full_rows.Goals as goal

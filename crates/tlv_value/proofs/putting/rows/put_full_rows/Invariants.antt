@@ -1,5 +1,5 @@
 use Rattle.std.proofs.Common.{take}
-use Rattle.tlv_walk.proofs.Puts.{HasPut}
+use Rattle.tlv_io.proofs.Puts.{HasPut}
 use Rattle.tlv_value.specs.Private.Rows.{full_lines}
 use Rattle.tlv_value.proofs.putting.rows.put_full_rows.Given as goal
 

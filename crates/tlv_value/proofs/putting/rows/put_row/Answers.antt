@@ -2,7 +2,7 @@ use Rattle.std.proofs.Common.{◌≡◌, ◌≤◌, ◌<◌, ◌+◌, ℕ, ◌++
 use Rattle.std.specs.Prelude.{Some, None, codes, eqb, nat_lt, if◌then◌else◌, []}
 use Rattle.std.specs.Option.{option_map_or}
 use Rattle.std.proofs.lemmas.Bool.Decides.{nat_tests}
-use Rattle.tlv_walk.proofs.Puts.{puts_line, puts_no_room, puts_text}
+use Rattle.tlv_io.proofs.Puts.{puts_line, puts_no_room, puts_text}
 use Rattle.tlv_value.specs.declared.layout.Layout.{Layout}
 use Rattle.tlv_value.specs.Layout.{line, no_columns, row_line}
 use Rattle.tlv_value.specs.Value.{row_text}

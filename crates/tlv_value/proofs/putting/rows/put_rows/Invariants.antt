@@ -1,5 +1,5 @@
 use Rattle.std.proofs.Common.{◌≡◌, ℕ, ◌+◌, ◌<◌, ◌≤◌, ◌++◌, List, length}
-use Rattle.tlv_walk.proofs.Puts.{HasPut}
+use Rattle.tlv_io.proofs.Puts.{HasPut}
 use Rattle.tlv_value.specs.Rows.{full_rows, open_row, row_size}
 use Rattle.tlv_value.specs.State.{row_lines}
 use Rattle.tlv_value.proofs.putting.rows.put_rows.Given as goal

@@ -1,6 +1,6 @@
 use Rattle.std.proofs.Common.{◌-◌, ◌++◌, ◌∷◌, [], ◌∙◌, List, ℕ, ap, arith}
 use Rattle.std.proofs.lemmas.List.{length-replicate}
-use Rattle.tlv_walk.proofs.HeldTexts.{pairs-size}
+use Rattle.tlv_io.proofs.HeldTexts.{pairs-size}
 use Rattle.tlv_value.specs.Layout.{spaces}
 use Rattle.tlv_value.specs.Value.{spaced_pairs}
 use Rattle.tlv_value.proofs.FullRows.{full_line_added}

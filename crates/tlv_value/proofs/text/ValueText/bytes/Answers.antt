@@ -1,7 +1,7 @@
 use Rattle.std.proofs.Common.{rules, ◌≡◌, ◌++◌, ◌∷◌, [], List, ℕ, sym, ap, ◌∙◌, arith}
 use Rattle.std.specs.Prelude.{true, false}
 use Rattle.std.proofs.lemmas.Grind.{common_steps}
-use Rattle.tlv_walk.proofs.Puts.{puts_failed_in, puts_text, puts_then_as}
+use Rattle.tlv_io.proofs.Puts.{puts_failed_in, puts_text, puts_then_as}
 use Rattle.tlv_value.specs.declared.kind.Kind.{Kind}
 use Rattle.tlv_value.specs.declared.kind.Kind.TheVariants.{Bits}
 use Rattle.tlv_value.specs.Kind.{kind_of}

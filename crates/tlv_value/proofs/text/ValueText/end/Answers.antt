@@ -1,6 +1,6 @@
 use Rattle.std.proofs.Common.{◌≡◌, ◌∙◌, length, sym, ap, arith}
 use Rattle.std.specs.Prelude.{false}
-use Rattle.tlv_walk.proofs.Puts.{puts_text}
+use Rattle.tlv_io.proofs.Puts.{puts_text}
 use Rattle.tlv_value.specs.State.{TextState, ended}
 use Rattle.tlv_value.specs.KindValues.{is_long}
 use Rattle.tlv_value.specs.Private.State.{shown}

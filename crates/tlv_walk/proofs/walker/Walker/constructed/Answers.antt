@@ -2,7 +2,6 @@ use Rattle.std.proofs.Common.{[], ◌∷◌, subst, rules}
 use Rattle.tlv_head.specs.Fields.{heading_with}
 use Rattle.tlv_head.specs.Read.{BeginsWithFields}
 use Rattle.tlv_walk.specs.declared.event.Kind.{Kind}
-use Rattle.tlv_walk.specs.Inside.{is_among}
 use Rattle.tlv_walk.specs.Private.Tells.{Continues}
 use Rattle.tlv_walk.proofs.HeaderKinds.{constructed_kind, event_of, fast_enters}
 use Rattle.tlv_walk.proofs.walker.Walker.constructed.Goals as goal

@@ -1,15 +1,12 @@
 use Rattle.std.proofs.Common.{rules, ◌≡◌, ◌∙◌}
 use Rattle.tlv_walk.specs.Machine.{unused_in}
-use Rattle.tlv_walk.proofs.Unused.{stands_unused}
+use Rattle.tlv_walk.proofs.HasRead.{read_unused}
 use Rattle.tlv_walk.proofs.walker.Walker.unused.Goals as goal
 
 pub returns-clause-first : goal.returns-clause-first
-returns-clause-first c = λ b told st.
+returns-clause-first c = λ b f read.
     let value : c.get.result ≡ unused_in c.args.self.now = search rules in
-    value ∙ stands_unused c.args.self.now b told st
+    value ∙ read_unused c.args.self.now b f read
 
 pub returns-clause-value : goal.returns-clause-value
 returns-clause-value c = search rules
-
-pub returns-clause-refused : goal.returns-clause-refused
-returns-clause-refused c = search rules

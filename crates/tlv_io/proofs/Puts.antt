@@ -1,0 +1,308 @@
+-- Puts to an `Out`, and octets sent to a drain, one behind another.
+use Rattle.std.proofs.Common.{◌≡◌, ◌≢◌, ◌+◌, ◌<◌, ◌++◌, ◌∷◌, ℕ, List, [], length, take, drop, get_or, flat_map, refl, sym, ap, ◌∙◌, subst, append_assoc, append-nil, arith, take-append-drop}
+use Rattle.std.specs.Prelude.{Option, Some, None, Result, Ok, Err, IsErr, OnErr, OnOk, ⊤}
+use mathlib.Core.Bool.{true≢false}
+use Rattle.std.specs.Io.KnownBytes.{Appends, Keeps}
+use Rattle.std.proofs.KnownBytes.{Appends-nil, Appends-trans}
+use Rattle.std.proofs.Math.Seq.{take-add}
+use Rattle.std.proofs.lemmas.Grind.{flat_map-append}
+use Rattle.std.proofs.lemmas.List.{length-drop, take_more}
+use Rattle.std.proofs.lemmas.Result.{on_err_weaker, on_ok_weaker}
+use Rattle.std.specs.Borrow.{MutBor}
+use Rattle.tlv_io.specs.declared.out.Out.{Out}
+use Rattle.tlv_io.specs.declared.drain.WriteFault.{WriteFault}
+use Rattle.tlv_io.specs.Device.{Taken, failures_after}
+use Rattle.tlv_io.specs.Out.{Puts, Sends, held_in, lender_of}
+
+-- ---- octets that a drain took
+
+pub appends_kept : (a b c : Option (List ℕ)) (bs : List ℕ) → Appends a b bs → Keeps b c → Appends a c bs
+appends_kept None b c bs p q = tt
+appends_kept (Some x) None c bs p q = absurd p
+appends_kept (Some x) (Some y) None bs p q = absurd q
+appends_kept (Some x) (Some y) (Some z) bs p q = q ∙ p
+
+-- n octets of what the first i of xs left were appended behind those i
+pub appends_more : (a b c : Option (List ℕ)) (xs rest : List ℕ) (i n : ℕ) → rest ≡ drop i xs → Appends a b (take i xs) → Appends b c (take n rest) → Appends a c (take (i + n) xs)
+appends_more None b c xs rest i n e p q = tt
+appends_more (Some x) None c xs rest i n e p q = absurd p
+appends_more (Some x) (Some y) None xs rest i n e p q = absurd q
+appends_more (Some x) (Some y) (Some z) xs rest i n e p q =
+    q ∙ ap (λ l. l ++ take n rest) p ∙ append_assoc x _ _ ∙ ap (λ l. x ++ (take i xs ++ take n l)) e ∙ ap (λ l. x ++ l) (sym (take-add i n xs))
+
+-- octets are left behind the first i of more
+some_left : (i : ℕ) (xs : List ℕ) → i < length xs → drop i xs ≢ []
+some_left i xs less none = omega (arith, less, length-drop i xs, ap length none)
+
+-- and behind them others
+pub more_left : (xs ys : List ℕ) → xs ≢ [] → xs ++ ys ≢ []
+more_left [] ys some none = some refl
+more_left (x ∷ xs) ys some none = cc (none)
+
+module _ {T E : Type 0} (result : Result T E) where
+  -- the first i octets were sent, and then no more
+  pub sends_part : (old mid new : Taken) (octets : List ℕ) (i : ℕ) → Appends old.octets mid.octets (take i octets) → mid.failures ≡ old.failures
+      → Keeps mid.octets new.octets → new.failures ≡ failures_after result mid.failures → OnOk result (drop i octets ≡ []) → OnErr result (i < length octets)
+      → Sends old new octets result
+  sends_part old mid new octets i took failures kept failed all some = record {
+    sent = take i octets;
+    left = drop i octets;
+    front = take-append-drop i octets;
+    took = appends_kept old.octets mid.octets new.octets (take i octets) took kept;
+    all = all;
+    not_all = on_err_weaker result (some_left i octets) some;
+    failures = failed ∙ ap (failures_after result) failures;
+  }
+
+-- ---- one put behind another
+
+-- what was put so far
+abbrev pub HasPut : {D : Type 0} → (D → Taken) → Out D → Out D → List ℕ → Type 0
+HasPut told a b xs = Puts {T = ⊤} {E = WriteFault} told a b xs (Ok tt)
+
+-- zs begin with xs
+pub record IsFront (xs zs : List ℕ) : Type 0 where
+  pub rest : List ℕ
+  pub is : xs ++ rest ≡ zs
+
+pub front_none : (zs : List ℕ) → IsFront [] zs
+front_none zs = record { rest = zs; is = refl }
+
+pub front_all : (xs : List ℕ) → IsFront xs xs
+front_all xs = record { rest = []; is = append-nil xs }
+
+pub front_first : (xs ys : List ℕ) → IsFront xs (xs ++ ys)
+front_first xs ys = record { rest = ys; is = refl }
+
+pub front_behind : (xs ys zs : List ℕ) → IsFront ys zs → IsFront (xs ++ ys) (xs ++ zs)
+front_behind xs ys zs f = record { rest = f.rest; is = append_assoc xs ys f.rest ∙ ap (λ (l : List ℕ). xs ++ l) f.is }
+
+pub front_within : (xs ys zs : List ℕ) → IsFront xs ys → IsFront xs (ys ++ zs)
+front_within xs ys zs f = record { rest = f.rest ++ zs; is = sym (append_assoc xs f.rest zs) ∙ ap (λ (l : List ℕ). l ++ zs) f.is }
+
+module _ {D : Type 0} (told : D → Taken) where
+  module _ {T U E : Type 0} where
+    -- octets were put, and then others
+    pub puts_then_as : (a b c : Out D) (xs ys zs : List ℕ) (x : T) (r : Result U E) → Puts {T = T} {E = E} told a b xs (Ok x) → Puts told b c ys r → xs ++ ys ≡ zs → Puts told a c zs r
+    puts_then_as a b c xs ys zs x r p q e = record {
+      same_reference = q.same_reference ∙ p.same_reference;
+      sent = p.sent ++ q.sent;
+      left = q.left;
+      front =
+          append_assoc p.sent q.sent q.left
+          ∙ ap (λ (l : List ℕ). p.sent ++ l) (q.front ∙ ap (λ (l : List ℕ). l ++ ys) p.held)
+          ∙ sym (append_assoc p.sent p.left ys)
+          ∙ ap (λ (l : List ℕ). l ++ ys) p.front
+          ∙ append_assoc (held_in a) xs ys
+          ∙ ap (λ (l : List ℕ). held_in a ++ l) e;
+      took = Appends-trans (told (lender_of a).now).octets (told (lender_of b).now).octets (told (lender_of c).now).octets p.sent q.sent p.took q.took;
+      held = q.held;
+      lost = q.lost;
+      failures = q.failures ∙ ap (failures_after r) p.failures;
+    }
+
+    pub puts_then : (a b c : Out D) (xs ys : List ℕ) (x : T) (r : Result U E) → Puts {T = T} {E = E} told a b xs (Ok x) → Puts told b c ys r → Puts told a c (xs ++ ys) r
+    puts_then a b c xs ys x r p q = puts_then_as a b c xs ys (xs ++ ys) x r p q refl
+
+    -- they could not be put, and others are not
+    pub puts_failed_in : (a b : Out D) (xs zs : List ℕ) (e : E) (r : Result U E) → Puts {T = T} {E = E} told a b xs (Err e) → IsErr r → IsFront xs zs → Puts told a b zs r
+    puts_failed_in a b xs zs e (Ok x) p h z = absurd (true≢false (sym h))
+    puts_failed_in a b xs zs e (Err f) p h z = record {
+      same_reference = p.same_reference;
+      sent = p.sent;
+      left = p.left ++ z.rest;
+      front = sym (append_assoc p.sent p.left z.rest) ∙ ap (λ (l : List ℕ). l ++ z.rest) p.front ∙ append_assoc (held_in a) xs z.rest ∙ ap (λ (l : List ℕ). held_in a ++ l) z.is;
+      took = p.took;
+      held = tt;
+      lost = more_left p.left z.rest p.lost;
+      failures = p.failures;
+    }
+
+    pub puts_failed : (a b : Out D) (xs ys : List ℕ) (e : E) (r : Result U E) → Puts {T = T} {E = E} told a b xs (Err e) → IsErr r → Puts told a b (xs ++ ys) r
+    puts_failed a b xs ys e r p h = puts_failed_in a b xs (xs ++ ys) e r p h (front_first xs ys)
+
+    pub puts_failed_last : (a b : Out D) (xs : List ℕ) (e : E) (r : Result U E) → Puts {T = T} {E = E} told a b xs (Err e) → IsErr r → Puts told a b xs r
+    puts_failed_last a b xs e r p h = puts_failed_in a b xs xs e r p h (front_all xs)
+
+    -- nothing was to be put yet
+    pub puts_no_room : (a b : Out D) (xs : List ℕ) (e : E) (r : Result U E) → Puts {T = T} {E = E} told a b [] (Err e) → IsErr r → Puts told a b xs r
+    puts_no_room a b xs e r p h = puts_failed_in a b [] xs e r p h (front_none xs)
+
+    -- the same was put, and another answer is given
+    pub puts_as : (a b : Out D) (xs zs : List ℕ) (x : T) (y : U) → Puts {T = T} {E = E} told a b xs (Ok x) → xs ≡ zs → Puts {T = U} {E = E} told a b zs (Ok y)
+    puts_as a b xs zs x y p z = record {
+      same_reference = p.same_reference;
+      sent = p.sent;
+      left = p.left;
+      front = p.front ∙ ap (λ (l : List ℕ). held_in a ++ l) z;
+      took = p.took;
+      held = p.held;
+      lost = tt;
+      failures = p.failures;
+    }
+
+  module _ {T E : Type 0} where
+    -- the same octets
+    pub puts_text : (a b : Out D) (xs ys : List ℕ) (r : Result T E) → xs ≡ ys → Puts told a b xs r → Puts told a b ys r
+    puts_text a b xs ys r e p = subst (λ (l : List ℕ). Puts told a b l r) e p
+
+    -- nothing is put
+    pub puts_nothing : (a : Out D) (x : T) → Puts {T = T} {E = E} told a a [] (Ok x)
+    puts_nothing a x = record {
+      same_reference = refl;
+      sent = [];
+      left = held_in a;
+      front = sym (append-nil (held_in a));
+      took = Appends-nil (told (lender_of a).now).octets;
+      held = refl;
+      lost = tt;
+      failures = refl;
+    }
+
+    -- octets were added to those that are held
+    pub puts_held : (a b : Out D) (xs : List ℕ) (x : T) → lender_of b ≡ lender_of a → held_in b ≡ held_in a ++ xs → Puts {T = T} {E = E} told a b xs (Ok x)
+    puts_held a b xs x same more = record {
+      same_reference = ap (λ (l : MutBor D). l.ghost_name) same;
+      sent = [];
+      left = held_in b;
+      front = more;
+      took = subst (λ (l : MutBor D). Appends (told (lender_of a).now).octets (told l.now).octets []) (sym same) (Appends-nil (told (lender_of a).now).octets);
+      held = refl;
+      lost = tt;
+      failures = ap (λ (l : MutBor D). (told l.now).failures) same;
+    }
+
+    -- nothing was held, and octets are handed to the drain
+    pub puts_sent : (a b : Out D) (xs : List ℕ) (r : Result T E) → held_in a ≡ [] → held_in b ≡ [] → (lender_of b).ghost_name ≡ (lender_of a).ghost_name
+        → Sends (told (lender_of a).now) (told (lender_of b).now) xs r → Puts told a b xs r
+    puts_sent a b xs r e f same q = record {
+      same_reference = same;
+      sent = q.sent;
+      left = q.left;
+      front = q.front ∙ ap (λ (l : List ℕ). l ++ xs) (sym e);
+      took = q.took;
+      held = on_ok_weaker r (λ (z : q.left ≡ []). f ∙ sym z) q.all;
+      lost = q.not_all;
+      failures = q.failures;
+    }
+
+  module _ {T U E : Type 0} where
+    -- room was made, and then octets were added
+    pub puts_line : (a b c : Out D) (xs : List ℕ) (x : T) (y : U) → Puts {T = T} {E = E} told a b [] (Ok x) → lender_of c ≡ lender_of b → held_in c ≡ held_in b ++ xs → Puts {T = U} {E = E} told a c xs (Ok y)
+    puts_line a b c xs x y p same more = puts_then_as {T = T} {U = U} {E = E} a b c [] xs xs x (Ok y) p (puts_held {T = U} {E = E} b c xs y same more) refl
+
+-- what a function that makes a line where an `Out` holds it needs
+pub ruleset lines = (puts_line, puts_no_room)
+
+-- what a function that puts several times needs, as `#[tactic(auto, using(crate::proofs::Puts::puts))]`
+pub ruleset puts = (puts_then, puts_failed, puts_failed_last)
+
+-- ---- octets sent to a drain, one call behind another
+
+module _ {T U E : Type 0} where
+  -- octets were sent, and then others
+  pub sends_then : (a b c : Taken) (xs ys : List ℕ) (x : T) (r : Result U E) → Sends {T = T} {E = E} a b xs (Ok x) → Sends b c ys r → Sends a c (xs ++ ys) r
+  sends_then a b c xs ys x r p q = record {
+    sent = p.sent ++ q.sent;
+    left = q.left;
+    front =
+        append_assoc p.sent q.sent q.left
+        ∙ ap (λ (l : List ℕ). p.sent ++ l) q.front
+        ∙ ap (λ (l : List ℕ). l ++ ys) (sym (append-nil p.sent) ∙ ap (λ (l : List ℕ). p.sent ++ l) (sym p.all) ∙ p.front);
+    took = Appends-trans a.octets b.octets c.octets p.sent q.sent p.took q.took;
+    all = q.all;
+    not_all = q.not_all;
+    failures = q.failures ∙ ap (failures_after r) p.failures;
+  }
+
+module _ {T U E F : Type 0} where
+  -- the same, with another result of the same kind
+  pub sends_ok : (a b : Taken) (xs ys : List ℕ) (x : T) (y : U) → Sends {T = T} {E = E} a b xs (Ok x) → xs ≡ ys → Sends {T = U} {E = F} a b ys (Ok y)
+  sends_ok a b xs ys x y p z = record { sent = p.sent; left = p.left; front = p.front ∙ z; took = p.took; all = p.all; not_all = tt; failures = p.failures }
+
+  -- a front of the octets is one of more octets
+  pub sends_err : (a b : Taken) (xs ys : List ℕ) (e : E) (f : F) → Sends {T = T} {E = E} a b xs (Err e) → IsFront xs ys → Sends {T = U} {E = F} a b ys (Err f)
+  sends_err a b xs ys e f p z = record {
+    sent = p.sent;
+    left = p.left ++ z.rest;
+    front = sym (append_assoc p.sent p.left z.rest) ∙ ap (λ (l : List ℕ). l ++ z.rest) p.front ∙ z.is;
+    took = p.took;
+    all = tt;
+    not_all = more_left p.left z.rest p.not_all;
+    failures = p.failures;
+  }
+
+module _ {T E : Type 0} where
+  -- where the call did not fail, the drain has all of them
+  pub sends_appends : (a b : Taken) (xs : List ℕ) (x : T) → Sends {T = T} {E = E} a b xs (Ok x) → Appends a.octets b.octets xs
+  sends_appends a b xs x p = subst (Appends a.octets b.octets) (sym (append-nil p.sent) ∙ ap (λ (l : List ℕ). p.sent ++ l) (sym p.all) ∙ p.front) p.took
+
+  -- nothing is sent
+  pub sends_nothing : (a : Taken) (x : T) → Sends {T = T} {E = E} a a [] (Ok x)
+  sends_nothing a x = record { sent = []; left = []; front = refl; took = Appends-nil a.octets; all = refl; not_all = tt; failures = refl }
+
+-- ---- octet by octet
+
+-- an octet more
+text_more : (text : ℕ → List ℕ) (xs : List ℕ) (i : ℕ) → i < length xs → flat_map text (take i xs) ++ text (get_or xs i 0) ≡ flat_map text (take (i + 1) xs)
+text_more text xs i h =
+    sym (ap (flat_map text) (take_more xs i 0 h)
+    ∙ flat_map-append text (take i xs) (get_or xs i 0 ∷ [])
+    ∙ ap (λ (l : List ℕ). flat_map text (take i xs) ++ l) (append-nil (text (get_or xs i 0))))
+
+module _ {D : Type 0} (told : D → Taken) (text : ℕ → List ℕ) where
+  -- the text of an octet more was put
+  pub puts_octet : (a b c : Out D) (xs : List ℕ) (i : ℕ) → i < length xs
+      → HasPut told a b (flat_map text (take i xs)) → HasPut told b c (text (get_or xs i 0)) → HasPut told a c (flat_map text (take (i + 1) xs))
+  puts_octet a b c xs i h p q = puts_then_as told a b c _ _ _ tt (Ok tt) p q (text_more text xs i h)
+
+  -- it could not be put
+  pub fails_octet : (a b c : Out D) (xs : List ℕ) (i : ℕ) (e : WriteFault) (r : Result ⊤ WriteFault) → i < length xs
+      → HasPut told a b (flat_map text (take i xs)) → Puts {T = ⊤} {E = WriteFault} told b c (text (get_or xs i 0)) (Err e) → IsErr r → Puts told a c (flat_map text xs) r
+  fails_octet a b c xs i e r h p q f =
+      puts_failed_in told a c _ _ e r (puts_then_as told a b c _ _ _ tt (Err e) p q (text_more text xs i h)) f record {
+        rest = flat_map text (drop (i + 1) xs);
+        is = sym (flat_map-append text (take (i + 1) xs) (drop (i + 1) xs)) ∙ ap (flat_map text) (take-append-drop (i + 1) xs);
+      }
+
+-- ---- to a drain, by way of an `Out`
+
+module _ {D : Type 0} (told : D → Taken) where
+  module _ {T E : Type 0} where
+    -- the drain that was lent, before and behind
+    pub sends_puts : (a c : Out D) (d d' : D) (xs : List ℕ) (r : Result T E) → (lender_of a).now ≡ d → held_in a ≡ [] → d' ≡ (lender_of c).now
+        → Puts told a c xs r → OnOk r (held_in c ≡ []) → Sends (told d) (told d') xs r
+    sends_puts a c d d' xs r from none to p empty =
+        subst (λ (x : D). Sends (told x) (told d') xs r) from (subst (λ (x : D). Sends (told (lender_of a).now) (told x) xs r) (sym to) record {
+          sent = p.sent;
+          left = p.left;
+          front = p.front ∙ ap (λ (l : List ℕ). l ++ xs) none;
+          took = p.took;
+          all = both r p.held empty;
+          not_all = p.lost;
+          failures = p.failures;
+        })
+      where
+        both : (r : Result T E) → OnOk r (held_in c ≡ p.left) → OnOk r (held_in c ≡ []) → OnOk r (p.left ≡ [])
+        both (Ok x) h e = sym h ∙ e
+        both (Err x) h e = tt
+
+  module _ {T U E : Type 0} where
+    -- octets were put, and then it was flushed
+    pub sends_flushed : (a b c : Out D) (d d' : D) (xs : List ℕ) (x : T) (y : U) → (lender_of a).now ≡ d → held_in a ≡ [] → d' ≡ (lender_of c).now
+        → Puts {T = T} {E = E} told a b xs (Ok x) → Puts {T = U} {E = E} told b c [] (Ok y) → held_in c ≡ [] → Sends {T = T} {E = E} (told d) (told d') xs (Ok x)
+    sends_flushed a b c d d' xs x y from none to p f empty =
+        sends_puts a c d d' xs (Ok x) from none to (puts_as told a c xs xs y x (puts_then_as told a b c xs [] xs x (Ok y) p f (append-nil xs)) refl) empty
+
+    -- it could not be flushed
+    pub sends_failed : (a b c : Out D) (d d' : D) (xs : List ℕ) (x : T) (e : E) (r : Result T E) → (lender_of a).now ≡ d → held_in a ≡ [] → d' ≡ (lender_of c).now
+        → Puts {T = T} {E = E} told a b xs (Ok x) → Puts {T = U} {E = E} told b c [] (Err e) → IsErr r → Sends (told d) (told d') xs r
+    sends_failed a b c d d' xs x e r from none to p f err =
+        sends_puts a c d d' xs r from none to (puts_failed_last told a c xs e r (puts_then_as told a b c xs [] xs x (Err e) p f (append-nil xs)) err) (no_ok r err)
+      where
+        no_ok : (r : Result T E) → IsErr r → OnOk r (held_in c ≡ [])
+        no_ok (Ok x) h = absurd (true≢false (sym h))
+        no_ok (Err e) h = tt
+
+-- what a function that makes an `Out`, puts and flushes needs
+pub ruleset sends = (sends_flushed, sends_failed)

@@ -1,0 +1,38 @@
+-- What an `Out` shows, and what is made of it by a call to which octets are put.
+use Rattle.std.specs.Prelude.{◌≡◌, ◌≢◌, ◌++◌, ℕ, List, [], Result, OnErr, OnOk}
+use Rattle.std.specs.Io.KnownBytes.{Appends}
+use Rattle.std.specs.Borrow.{MutBor}
+use Rattle.tlv_io.specs.declared.out.Out.{Out}
+use Rattle.tlv_io.specs.Device.{Taken, failures_after}
+
+module _ {D : Type 0} where
+  -- the drain that is lent
+  abbrev pub lender_of : Out D → MutBor D
+  lender_of out = out.drain
+
+  -- the octets held, which the drain has still to take
+  abbrev pub held_in : Out D → List ℕ
+  held_in out = out.held
+
+module _ {T E : Type 0} where
+  -- one call that hands octets to a drain: all of them, or, where it fails, a front of them that is not all
+  pub record Sends (old new : Taken) (octets : List ℕ) (result : Result T E) : Type 0 where
+    pub sent : List ℕ
+    pub left : List ℕ
+    pub front : sent ++ left ≡ octets
+    pub took : Appends old.octets new.octets sent
+    pub all : OnOk result (left ≡ [])
+    pub not_all : OnErr result (left ≢ [])
+    pub failures : new.failures ≡ failures_after result old.failures
+
+  -- a call that puts octets to an `Out`. The drain takes a front of what was held and then these, and what it had stays
+  -- in front of that; what it does not take is held. Where the call fails that is lost, one octet or more
+  pub record Puts {D : Type 0} (told : D → Taken) (old new : Out D) (octets : List ℕ) (result : Result T E) : Type 0 where
+    pub same_reference : (lender_of new).ghost_name ≡ (lender_of old).ghost_name
+    pub sent : List ℕ
+    pub left : List ℕ
+    pub front : sent ++ left ≡ held_in old ++ octets
+    pub took : Appends (told (lender_of old).now).octets (told (lender_of new).now).octets sent
+    pub held : OnOk result (held_in new ≡ left)
+    pub lost : OnErr result (left ≢ [])
+    pub failures : (told (lender_of new).now).failures ≡ failures_after result (told (lender_of old).now).failures

@@ -1,0 +1,16 @@
+//! Devices that octets come from and go to, and the octets on their way: what is read in pieces, gathered in lines, and written.
+#![tactic(auto)]
+
+mod drain;
+mod held;
+mod memory;
+mod out;
+mod source;
+mod stream;
+
+pub use drain::{Drain, WriteFault};
+pub use held::Held;
+pub use memory::{MemDrain, MemSource};
+pub use out::Out;
+pub use source::{ReadFault, Source};
+pub use stream::{ReadSource, WriteDrain};

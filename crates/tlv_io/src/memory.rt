@@ -1,0 +1,167 @@
+//! A source and a drain over memory.
+
+ghost use Rattle.std.specs.Prelude.{◌≡◌, ◌<◌, ◌≤◌, ◌↔◌, [], IfOk, IsErr, Some, drop, length, max, take};
+ghost use Rattle.tlv_io.specs.Device.{ReadsOnce, WritesOnce, never};
+ghost use Rattle.tlv_io.specs.MemSource.{cut_to, given_count, told_by};
+
+use crate::drain::{Drain, WriteFault};
+use crate::source::{ReadFault, ReadLog, Source};
+use std::marker::Model;
+
+/// Octets in memory as a source, which gives them in pieces that its maker chose.
+#[derive(Drop)]
+pub struct MemSource<'a> {
+    octets: &'a [u8],
+    cuts: &'a [u64],
+    fail_at: Option<u64>,
+    log: ReadLog,
+}
+
+impl<'a> Model for MemSource<'a> {
+    ghost use Rattle.tlv_io.specs.MemSource.{MemSupply};
+
+    ghost Value = { MemSupply };
+
+    ghost view = { λ source. record {
+      left = source.octets.now;
+      cuts = source.cuts.now;
+      fail_at = source.fail_at;
+      log = source.log;
+    } };
+}
+
+impl<'a> MemSource<'a> {
+    /// A source that gives `octets` and then ends.
+    ///
+    /// Read `i`, counted from 0, gives at most `cuts[i]` octets, and past the end of `cuts` as many as there is room
+    /// for. A cut of 0 counts as 1, so a read gives none only where none are left. Read `fail_at` fails.
+    pub fn new(octets: &'a [u8], cuts: &'a [u64], fail_at: Option<u64>) -> MemSource<'a>
+        ensures { result ≡ record {
+          left = octets.now;
+          cuts = cuts.now;
+          fail_at = fail_at;
+          log = record { reads = 0; last = never; failures = 0 };
+        } }
+    {
+        MemSource {
+            octets,
+            cuts,
+            fail_at,
+            log: ReadLog::new(),
+        }
+    }
+}
+
+impl Source for MemSource<'_> {
+    ghost told = { told_by };
+
+    fn read(&mut self, to: &mut [u8]) -> Result<usize, ReadFault>
+        requires { 0 < length to.old }
+
+        // What each source promises.
+        ensures told { ReadsOnce (told_by self.old) (told_by self.new) result to.new }
+
+        // How many octets it gives, and which read fails.
+        ensures count { IfOk result (λ n. n ≡ given_count self.old (length to.old)) }
+        ensures fails { IsErr result ↔ (self.old.fail_at ≡ Some self.old.log.reads) }
+
+        // What stays.
+        ensures cuts { self.new.cuts ≡ self.old.cuts }
+        ensures fail_at { self.new.fail_at ≡ self.old.fail_at }
+    {
+        let read = self.log.reads();
+        if self.fail_at == Some(read) {
+            return self.log.count(Err(ReadFault));
+        }
+        let count = cut_count(self.cuts, read, to.len()).min(self.octets.len());
+        let (front, rest) = self.octets.split_at(count);
+        to[..count].copy_from_slice(front);
+        self.octets = rest;
+        self.log.count(Ok(count))
+    }
+}
+
+/// How many of `count` octets read `read` may give.
+fn cut_count(cuts: &[u64], read: u64, count: usize) -> usize
+    ensures { result ≡ cut_to cuts.now read count }
+{
+    match cuts.get(read as usize) {
+        Some(cut) => count.min((*cut).max(1) as usize),
+        None => count,
+    }
+}
+
+/// Room in memory as a drain, which takes at most as many octets with a write as its maker chose.
+#[derive(Drop)]
+pub struct MemDrain<'a> {
+    room: &'a mut [u8],
+    used: usize,
+    most: usize,
+    failures: u64,
+    ghost fits: { used ≤ length room.now },
+}
+
+impl<'a> MemDrain<'a> {
+    ghost use Rattle.tlv_io.specs.MemDrain.{failures_of, most_of, room_of, taken_by};
+
+    /// A drain that fills `room` from the front.
+    ///
+    /// A write takes as many octets as fit, at most `most`, where 0 counts as 1. It fails where no room is left.
+    pub fn new(room: &'a mut [u8], most: usize) -> MemDrain<'a>
+        ensures same_reference { (room_of result).ghost_name ≡ room.entry.ghost_name }
+        ensures room { (room_of result).now ≡ room.old }
+        ensures empty { taken_by result ≡ [] }
+        ensures most { most_of result ≡ max 1 most }
+        ensures failures { failures_of result ≡ 0 }
+    {
+        MemDrain {
+            room,
+            used: 0,
+            most,
+            failures: 0,
+        }
+    }
+
+    /// The octets taken, in order: the front of the room.
+    pub fn written(&self) -> &[u8]
+        ensures taken { result.now ≡ taken_by self.now }
+        ensures front { result.now ≡ take (length result.now) (room_of self.now).now }
+    {
+        &self.room[..self.used]
+    }
+}
+
+impl Drain for MemDrain<'_> {
+    ghost use Rattle.tlv_io.specs.MemDrain.{free_in, most_of, room_of, taken_by, taken_count, told_of};
+
+    ghost told = { told_of };
+
+    fn write(&mut self, from: &[u8]) -> Result<usize, WriteFault>
+        requires { 0 < length from.now }
+
+        // What each drain promises.
+        ensures told { WritesOnce (told_of self.old) (told_of self.new) result from.now }
+
+        // How many octets it takes, and when it fails.
+        ensures count { IfOk result (λ n. n ≡ taken_count self.old (length from.now)) }
+        ensures fails { IsErr result ↔ (free_in self.old ≡ 0) }
+
+        // What stays: the limit, the room, and what stands behind the octets taken.
+        ensures most { most_of self.new ≡ most_of self.old }
+        ensures same_reference { (room_of self.new).ghost_name ≡ (room_of self.old).ghost_name }
+        ensures size { length (room_of self.new).now ≡ length (room_of self.old).now }
+        ensures rest { let used = length (taken_by self.new) in
+            drop used (room_of self.new).now ≡ drop used (room_of self.old).now }
+    {
+        let used = self.used;
+        let free = self.room.len() - used;
+        if free == 0 {
+            self.failures = self.failures.saturating_add(1);
+            return Err(WriteFault);
+        }
+        let count = from.len().min(self.most.max(1)).min(free);
+        self.room[used..used + count].copy_from_slice(&from[..count]);
+        self.used = used + count;
+        Ok(count)
+    }
+}

@@ -1,0 +1,113 @@
+//! Octets on their way to a drain.
+
+ghost use Rattle.std.specs.Prelude.{◌≡◌, ◌+◌, ◌≤◌, ◌++◌, [], length, OnOk};
+ghost use Rattle.tlv_io.specs.Out.{Puts, Sends, held_in, lender_of};
+
+use crate::drain::{Drain, WriteFault};
+use crate::held::{CAPACITY, Held};
+
+/// Room for the longest line: an element's, at level 255, with 64 octets of contents.
+const LINE: usize = 1024;
+
+/// Gathers octets, so that a drain takes many with each write.
+///
+/// What the drain took and what is held are together what was put, in order. At a `WriteFault` the drain has a prefix
+/// of that, and the `Out` is of no further use. What is held when an `Out` is let go is lost, so call `flush` first.
+#[derive(Drop)]
+pub struct Out<'d, D> {
+    drain: &'d mut D,
+    /// The octets that are held. A line is made at their end, behind [`Out::make_room`].
+    pub held: Held,
+}
+
+impl<'d, D: Drain> Out<'d, D> {
+    /// An `Out` to this drain, which holds no octet yet.
+    pub fn new(drain: &'d mut D) -> Out<'d, D>
+        ensures same_reference { (lender_of result).ghost_name ≡ drain.entry.ghost_name }
+        ensures taken { (lender_of result).now ≡ drain.old }
+        ensures empty { held_in result ≡ [] }
+    {
+        Out {
+            drain,
+            held: Held::new(),
+        }
+    }
+
+    /// Makes room for a line of up to 1024 octets behind those that are held.
+    ///
+    /// # Errors
+    ///
+    /// As for [`Out::flush`].
+    #[inline(always)]
+    pub fn make_room(&mut self) -> Result<(), WriteFault>
+        ensures puts { Puts D.told self.old self.new [] result }
+        ensures room { OnOk result (length (held_in self.new) + 1024 ≤ 4096) }
+    {
+        if self.held.room() < LINE {
+            return self.flush();
+        }
+        Ok(())
+    }
+
+    /// Puts the octets behind those that were put before: they are held, or handed to the drain.
+    ///
+    /// # Errors
+    ///
+    /// `WriteFault` where a write failed. The drain then has a prefix of what was put before and these octets.
+    #[inline]
+    pub fn put(&mut self, octets: &[u8]) -> Result<(), WriteFault>
+        ensures puts { Puts D.told self.old self.new octets.now result }
+        ensures bound { length (held_in self.new) ≤ 4096 }
+    {
+        if octets.len() < self.held.room() {
+            self.held.add(octets);
+            return Ok(());
+        }
+        self.put_past_room(octets)
+    }
+
+    /// Puts octets that leave no room, or do not fit. It stands apart so that `put` stays short where it is inlined.
+    #[cold]
+    #[inline(never)]
+    fn put_past_room(&mut self, octets: &[u8]) -> Result<(), WriteFault>
+        ensures puts { Puts D.told self.old self.new octets.now result }
+        ensures bound { length (held_in self.new) ≤ 4096 }
+    {
+        if octets.len() > self.held.room() {
+            self.flush()?;
+        }
+        // Nothing is held by now where there are so many octets, and they need not be gathered.
+        if octets.len() >= CAPACITY {
+            return send(self.drain, octets);
+        }
+        self.held.add(octets);
+        Ok(())
+    }
+
+    /// Hands all octets that are held to the drain.
+    ///
+    /// # Errors
+    ///
+    /// `WriteFault` where a write failed. The drain then has a prefix of what was put.
+    #[inline(never)]
+    pub fn flush(&mut self) -> Result<(), WriteFault>
+        ensures puts { Puts D.told self.old self.new [] result }
+        ensures empty { OnOk result (held_in self.new ≡ []) }
+        ensures bound { length (held_in self.new) ≤ 4096 }
+    {
+        send(self.drain, self.held.as_slice())?;
+        self.held.clear();
+        Ok(())
+    }
+}
+
+/// Hands all of the octets to the drain, in as many writes as that needs.
+fn send<D: Drain>(drain: &mut D, octets: &[u8]) -> Result<(), WriteFault>
+    ensures { Sends (D.told drain.old) (D.told drain.new) octets.now result }
+{
+    let mut sent = 0;
+    while sent < octets.len() {
+        sent += drain.write(&octets[sent..])?;
+    }
+    Ok(())
+}

@@ -1,0 +1,86 @@
+//! What octets are read from.
+
+ghost use Rattle.std.specs.Prelude.{◌≡◌, ◌<◌, length};
+ghost use Rattle.tlv_io.specs.Device.{ReadsOnce, Supply, never};
+ghost use Rattle.tlv_io.specs.Private.Device.{after_read};
+
+use std::marker::Model;
+
+/// A read failed.
+#[derive(Clone, Copy, Debug, PartialEq, Eq)]
+pub struct ReadFault;
+
+/// What octets are read from, in order and each one once. The counts that it tells stop at 2^64 - 1.
+pub trait Source {
+    /// What it tells: its octets, its reads and its failures.
+    ghost told: { Self → Supply };
+
+    /// Reads octets into the front of `to`, which has room for at least one. Returns how many; 0 is the end.
+    ///
+    /// # Errors
+    ///
+    /// `ReadFault` where the read failed. It then gave nothing, and no octet is lost.
+    fn read(&mut self, to: &mut [u8]) -> Result<usize, ReadFault>
+        requires { 0 < length to.old }
+        ensures { ReadsOnce (told self.old) (told self.new) result to.new };
+}
+
+#[derive(Clone, Copy, Debug, PartialEq, Eq)]
+enum LastRead {
+    Never,
+    Gave(usize),
+    Failed,
+}
+
+/// What a source keeps of its reads. Its counts stop at 2^64 - 1.
+#[derive(Drop)]
+pub(crate) struct ReadLog {
+    reads: u64,
+    last: LastRead,
+    failures: u64,
+}
+
+impl Model for ReadLog {
+    ghost use Rattle.tlv_io.specs.Device.{Reads};
+    ghost use Rattle.tlv_io.specs.Private.LastRead.{last_read};
+
+    ghost Value = { Reads };
+
+    ghost view = { λ log. record { reads = log.reads; last = last_read log.last; failures = log.failures } };
+}
+
+impl ReadLog {
+    /// The log of a source that was not read yet.
+    pub(crate) fn new() -> ReadLog
+        ensures { result ≡ record { reads = 0; last = never; failures = 0 } }
+    {
+        ReadLog {
+            reads: 0,
+            last: LastRead::Never,
+            failures: 0,
+        }
+    }
+
+    /// The reads so far, failed ones too.
+    pub(crate) fn reads(&self) -> u64
+        ensures { result ≡ self.now.reads }
+    {
+        self.reads
+    }
+
+    /// Counts a read with this answer, and passes the answer on.
+    pub(crate) fn count(&mut self, answer: Result<usize, ReadFault>) -> Result<usize, ReadFault>
+        ensures same { result ≡ answer }
+        ensures log { self.new ≡ after_read answer self.old }
+    {
+        self.reads = self.reads.saturating_add(1);
+        match answer {
+            Ok(count) => self.last = LastRead::Gave(count),
+            Err(ReadFault) => {
+                self.last = LastRead::Failed;
+                self.failures = self.failures.saturating_add(1);
+            }
+        }
+        answer
+    }
+}

@@ -1,0 +1,75 @@
+//! A reader as a source, and a writer as a drain.
+
+ghost use Rattle.std.specs.Prelude.{◌≡◌};
+ghost use Rattle.tlv_io.specs.Device.{unread};
+
+use crate::drain::{Drain, WriteFault};
+use crate::source::{ReadFault, ReadLog, Source};
+use std::io::{Read, Write};
+
+/// A reader as a source. Each error of the reader is a failed read, one of kind `Interrupted` too.
+#[derive(Drop)]
+pub struct ReadSource<R> {
+    reader: R,
+    log: ReadLog,
+}
+
+impl<R: Read + Drop> ReadSource<R> {
+    /// A source that gives the octets that `reader` has left.
+    pub fn new(reader: R) -> ReadSource<R>
+        ensures { ⟦<ReadSource<R> as Source>⟧.told result ≡ unread (R.remaining reader) }
+    {
+        ReadSource {
+            reader,
+            log: ReadLog::new(),
+        }
+    }
+}
+
+impl<R: Read + Drop> Source for ReadSource<R> {
+    ghost told = { λ source. record {
+      left = R.remaining source.reader;
+      reads = source.log.reads;
+      last = source.log.last;
+      failures = source.log.failures;
+    } };
+
+    fn read(&mut self, to: &mut [u8]) -> Result<usize, ReadFault> {
+        // `read` itself: the reader's other methods try again after an interruption.
+        let answer = self.reader.read(to).map_err(|_| ReadFault);
+        self.log.count(answer)
+    }
+}
+
+/// A writer as a drain. Each error of the writer is a failed write, and so is a write that takes no octet.
+#[derive(Drop)]
+pub struct WriteDrain<W> {
+    writer: W,
+    failures: u64,
+}
+
+impl<W: Write + Drop> WriteDrain<W> {
+    /// A drain that writes behind what `writer` holds.
+    pub fn new(writer: W) -> WriteDrain<W>
+        ensures { ⟦<WriteDrain<W> as Drain>⟧.told result ≡ record { octets = W.contents writer; failures = 0 } }
+    {
+        WriteDrain {
+            writer,
+            failures: 0,
+        }
+    }
+}
+
+impl<W: Write + Drop> Drain for WriteDrain<W> {
+    ghost told = { λ drain. record { octets = W.contents drain.writer; failures = drain.failures } };
+
+    fn write(&mut self, from: &[u8]) -> Result<usize, WriteFault> {
+        match self.writer.write(from) {
+            Ok(count) if count > 0 => Ok(count),
+            _ => {
+                self.failures = self.failures.saturating_add(1);
+                Err(WriteFault)
+            }
+        }
+    }
+}

@@ -1,9 +1,0 @@
--- What the code keeps of the last read.
-use Rattle.tlv_walk.specs.Device.{Last, never, gave, failed}
-use Rattle.tlv_walk.specs.declared.source.LastRead.{LastRead}
-use Rattle.tlv_walk.specs.declared.source.LastRead.TheVariants.{Never, Gave, Failed}
-
-abbrev pub last_read : LastRead → Last
-last_read Never = never
-last_read (Gave n) = gave n
-last_read Failed = failed
