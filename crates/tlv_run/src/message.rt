@@ -32,7 +32,7 @@ fn whole_line(message: &[u8]) -> ArrayVec<u8, 129>
 }
 
 /// Hands the octets to the drain.
-#[tactic(auto, using(tlv_walk::proofs::Puts::sends))]
+#[tactic(auto, using(tlv_io::proofs::Puts::sends))]
 fn send<D: Drain>(octets: &[u8], drain: &mut D) -> Result<(), WriteFault>
     ensures { Sends (D.told drain.old) (D.told drain.new) octets.now result }
 {
