@@ -1,14 +1,18 @@
 -- How long what is added to a line is at most.
-use Rattle.std.proofs.Common.{◌≡◌, ℕ, ◌+◌, ◌-◌, ◌^◌, ◌<◌, ◌≤◌, List, [], ◌∷◌, ◌++◌, length, arith, ap, ◌∙◌, length-append}
+use Rattle.std.proofs.Common.{◌≡◌, ℕ, ◌+◌, ◌-◌, ◌^◌, ◌<◌, ◌≤◌, List, [], ◌∷◌, ◌++◌, length, take, arith, ap, ◌∙◌, length-append}
 use Rattle.std.specs.Prelude.{decimal}
 use Rattle.std.proofs.lemmas.Fmt.{length-decimal-le}
-use Rattle.std.proofs.lemmas.List.{length-replicate}
+use Rattle.std.proofs.lemmas.List.{length-replicate, length-take}
 use Rattle.tlv_value.specs.Layout.{columns, right, spaces}
 use Rattle.tlv_io.proofs.HeldTexts.{right-short}
 
 -- a text was added
 pub added : (old new text : List ℕ) → new ≡ old ++ text → length new ≡ length old + length text
 added old new text e = ap length e ∙ length-append old text
+
+-- the first octets of a text were added
+pub front_short : (old new text : List ℕ) (n : ℕ) → new ≡ old ++ take n text → length new ≤ length old + n
+front_short old new text n e = omega (arith, added old new (take n text) e, length-take n text)
 
 -- a number was added
 pub number_short : (old new : List ℕ) (n : ℕ) → n < 2 ^ 64 → new ≡ old ++ decimal n → length new ≤ length old + 20

@@ -57,12 +57,16 @@ fn is_shortest(contents: &[u8]) -> bool
     ensures some { IsTrue result → (length contents.now == 0) ≡ false }
     ensures shortest { IsTrue result → is_padded_integer contents.now ≡ false }
 {
-    match contents {
-        [0, second, ..] => *second >= 128,
-        [255, second, ..] => *second < 128,
-        [_, ..] => true,
-        [] => false,
-    }
+    let [first, ..] = contents else {
+        return false;
+    };
+    // No branch asks for the length, which often is another than that of the number before. Where there is no second octet, one
+    // stands in for it whose first bit is not that of the first.
+    let is_single = contents.len() == 1;
+    let flip = if is_single { 255 } else { 0 };
+    let second = contents[usize::from(!is_single)] ^ flip;
+    let nine_bits = u16::from(*first) * 2 + u16::from(second / 128);
+    nine_bits != 0 && nine_bits != 511
 }
 
 /// Whether there is a number of unused bits, and so many bits, which are 0 (8.6.2, 11.2.1).

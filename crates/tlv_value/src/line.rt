@@ -1,5 +1,5 @@
 //! How lines begin.
-ghost use Rattle.std.specs.Prelude.{◌≡◌, ◌+◌, ◌≤◌, ◌++◌, ◌∷◌, [], decimal, if◌then◌else◌, length};
+ghost use Rattle.std.specs.Prelude.{◌≡◌, ◌+◌, ◌≤◌, ◌++◌, ◌∷◌, [], decimal, if◌then◌else◌, length, take};
 ghost use Rattle.tlv_head.specs.Tag.{tag_text_of};
 ghost use Rattle.tlv_value.specs.Layout.{columns, margin, no_columns, spaces};
 
@@ -90,9 +90,9 @@ pub fn write_tag(held: &mut Held, class: Class, number: u64)
 {
     match class {
         Class::Universal => write_universal(held, number),
-        Class::Application => write_bracketed(held, b"[APPLICATION ", number),
-        Class::Context => write_bracketed(held, b"[", number),
-        Class::Private => write_bracketed(held, b"[PRIVATE ", number),
+        Class::Application => write_bracketed(held, b"[APPLICATION                    ", 13, number),
+        Class::Context => write_bracketed(held, b"[                               ", 1, number),
+        Class::Private => write_bracketed(held, b"[PRIVATE                        ", 9, number),
     }
 }
 
@@ -105,19 +105,20 @@ fn write_universal(held: &mut Held, number: u64)
 {
     match padded_name(number) {
         Some((name, size)) => held.add_front(name, size),
-        None => write_bracketed(held, b"[UNIVERSAL ", number),
+        None => write_bracketed(held, b"[UNIVERSAL                      ", 11, number),
     }
 }
 
-/// Adds the text of a tag that has no name: what begins it, the number and a bracket.
+/// Adds the text of a tag that has no name: what begins it, the number and a bracket. What begins it is the first of 32 octets,
+/// so that no copy depends on how many they are.
 #[inline]
-fn write_bracketed(held: &mut Held, front: &[u8], number: u64)
-    requires short { length front.now ≤ 16 }
+fn write_bracketed(held: &mut Held, front: &[u8; 32], count: usize, number: u64)
+    requires short { count ≤ 16 }
     requires room { length held.old + 40 ≤ 4096 }
-    ensures text { held.new ≡ held.old ++ (front.now ++ decimal number ++ 93 ∷ []) }
+    ensures text { held.new ≡ held.old ++ (take count front.now ++ decimal number ++ 93 ∷ []) }
     ensures bound { length held.new ≤ length held.old + 40 }
 {
-    held.add(front);
+    held.add_front(front, count);
     held.number(number);
     held.add(b"]");
 }

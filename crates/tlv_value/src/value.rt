@@ -19,6 +19,9 @@ use crate::kind::Kind;
 use crate::units::write_characters;
 use tlv_io::Held;
 
+/// A space, a sign, and spaces up to 32 octets.
+const SIGN: &[u8; 32] = b" -                              ";
+
 /// Adds a row of long contents behind a space.
 pub(crate) fn write_row(held: &mut Held, kind: Kind, row: &[u8])
     requires short { length row.now ≤ 64 }
@@ -98,10 +101,8 @@ fn write_integer(held: &mut Held, contents: &[u8])
     if contents.len() > 8 {
         write_wide_integer(held, contents);
     } else if let Some(number) = short_number(contents) {
-        held.add(b" ");
-        if number < 0 {
-            held.add(b"-");
-        }
+        // A space and a sign, and of both what there is: no branch asks for the sign.
+        held.add_front(SIGN, 1 + usize::from(number < 0));
         held.number(number.unsigned_abs());
     }
 }
