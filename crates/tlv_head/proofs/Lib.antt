@@ -1,3 +1,4 @@
+pub mod FieldsOf
 pub mod Digits
 pub mod LeadingDigits
 pub mod OneValue

@@ -16,6 +16,18 @@ heading_with f octets = record {
   lengths = drop f.id_len octets;
 }
 
+-- what a header says, without its octets
+abbrev pub fields_of : Heading → HeaderFields
+fields_of h = record {
+  offset = h.offset;
+  named = h.named;
+  class = h.class;
+  constructed = h.constructed;
+  number = h.number;
+  size = h.size;
+  id_len = length h.identifier;
+}
+
 -- the identifier has at most ten of the octets, which are more, and at most 137
 pub record Suits (f : HeaderFields) (octets : List ℕ) : Type 0 where
   pub identifier : f.id_len < length octets

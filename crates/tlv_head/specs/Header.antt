@@ -99,21 +99,13 @@ is_universal class = eqb (class_bits class) 0
 
 -- 8.6.2, 8.7.2: a named primitive that is an OCTET STRING, or a BIT STRING of one or more contents octets:
 -- its contents are to be read as encodings
-abbrev pub wraps : Heading → Bool
-wraps h = h.named && not h.constructed && is_universal h.class && (eqb h.number 4 || (eqb h.number 3 && not (eqb (announced h.size) 0)))
-
--- the same of the header with these fields, whatever the others are
 abbrev pub is_wrapper : Bool → Class → Bool → ℕ → Size → Bool
-is_wrapper named class constructed number size = wraps (record {
-  offset = 0;
-  named = named;
-  class = class;
-  constructed = constructed;
-  number = number;
-  size = size;
-  identifier = [];
-  lengths = [];
-})
+is_wrapper named class constructed number size =
+    named && not constructed && is_universal class && (eqb number 4 || (eqb number 3 && not (eqb (announced size) 0)))
+
+-- the same, of the element with this header
+abbrev pub wraps : Heading → Bool
+wraps h = is_wrapper h.named h.class h.constructed h.number h.size
 
 -- 8.1.2.5: the contents are encodings: the element is constructed, or wraps them
 abbrev pub holds : Heading → Bool

@@ -1,6 +1,6 @@
 -- What the fields of a `Header` say.
 use Rattle.std.specs.Prelude.{◌≡◌, ◌<◌, ◌≤◌, take, drop, length, slice_index}
-use Rattle.tlv_head.specs.Header.{Heading}
+use Rattle.tlv_head.specs.Header.{Heading, octets_of}
 use Rattle.tlv_head.specs.declared.header.Header.TheInside.{Inside}
 
 abbrev pub heading_of : Inside → Heading
@@ -13,6 +13,21 @@ heading_of h = record {
   size = h.size;
   identifier = take h.id_len h.raw.items;
   lengths = drop h.id_len h.raw.items;
+}
+
+-- the header of which contracts see this, as it is stored
+abbrev pub stored_header : Heading → Inside
+stored_header h = record {
+  offset = h.offset;
+  class = h.class;
+  constructed = h.constructed;
+  number = h.number;
+  size = h.size;
+  raw = record { items = octets_of h };
+  id_len = length h.identifier;
+  named = h.named;
+  number_octet = slice_index h.identifier 1;
+  length_octet = slice_index h.lengths 1;
 }
 
 -- the identifier has at most ten octets, and the header more, at most 137

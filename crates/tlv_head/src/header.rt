@@ -21,7 +21,7 @@ pub enum Size {
 }
 
 /// Identifier and length octets of an element, with what they say.
-#[derive(Debug, Drop)]
+#[derive(Clone, PartialEq, Eq, Debug, Drop)]
 pub struct Header {
     /// Where the first identifier octet stands, in octets from the start of the input.
     pub offset: u64,
@@ -41,7 +41,7 @@ pub struct Header {
 }
 
 /// What the octets of a header say, without the octets: small, where a [`Header`] has room for 137.
-#[derive(Clone, Copy, Debug)]
+#[derive(Clone, Copy, PartialEq, Eq, Debug)]
 pub struct HeaderFields {
     /// Where the first identifier octet stands, in octets from the start of the input.
     pub offset: u64,
@@ -60,11 +60,28 @@ impl Model for Header {
 
     ghost Value = { Heading };
 
-    ghost use Rattle.tlv_head.specs.HeaderFields.{heading_of, IsHeader};
+    ghost use Rattle.tlv_head.specs.HeaderFields.{heading_of, stored_header, IsHeader};
 
     ghost view = { heading_of };
 
     ghost invariant = { IsHeader };
+
+    ghost inverse = { stored_header };
+
+    ghost use Rattle.std.proofs.Common.{length-take-le, le_of_lt, sym, take-append-drop};
+
+    ghost inverse_ok = { λ h k i. record {
+      offset = h.offset;
+      class = h.class;
+      constructed = h.constructed;
+      number = h.number;
+      size = h.size;
+      raw = record { items = take-append-drop h.id_len h.raw.items i };
+      id_len = length-take-le h.id_len h.raw.items (le_of_lt k.0.0) i;
+      named = h.named;
+      number_octet = sym k.1 i;
+      length_octet = sym k.2 i;
+    } };
 }
 
 impl HeaderFields {
@@ -86,9 +103,9 @@ impl HeaderFields {
 }
 
 impl Header {
-    ghost use Rattle.std.specs.Prelude.{◌≤◌, length, slice_index, take};
+    ghost use Rattle.std.specs.Prelude.{◌≤◌, length, slice_index};
     ghost use Rattle.tlv_head.specs.Header.{octets_of, wraps};
-    ghost use Rattle.tlv_head.specs.Fields.{heading_with, Suits};
+    ghost use Rattle.tlv_head.specs.Fields.{fields_of, heading_with, Suits};
 
     /// The header with these fields and octets.
     #[inline]
@@ -136,9 +153,7 @@ impl Header {
 
     /// What the octets say.
     pub fn fields(&self) -> HeaderFields
-        ensures heading { heading_with result (octets_of self.now) ≡ self.now }
-        ensures identifier { take result.id_len (octets_of self.now) ≡ self.now.identifier }
-        ensures id_len { result.id_len ≡ length self.now.identifier }
+        ensures { result ≡ fields_of self.now }
     {
         HeaderFields {
             offset: self.offset,

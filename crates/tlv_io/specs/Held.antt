@@ -1,6 +1,14 @@
--- Texts that lines are made of.
-use Rattle.std.specs.Prelude.{ℕ, ◌-◌, List, [], ◌∷◌, ◌++◌, codes, decimal, flat_map, length, replicate}
+-- Lines that grow, and texts that they are made of.
+use Rattle.std.specs.Prelude.{◌≡◌, ℕ, ◌+◌, ◌-◌, ◌≤◌, List, [], ◌∷◌, ◌++◌, codes, decimal, flat_map, length, replicate}
 use Rattle.hex.specs.Hex.{encode_lower}
+
+-- a line of these octets has room for so many more
+abbrev pub HasRoomFor : List ℕ → ℕ → Type 0
+HasRoomFor line count = length line + count ≤ 4096
+
+-- the text was added to the line, if there was room for it
+abbrev pub AddsIfRoom : List ℕ → List ℕ → List ℕ → Type 0
+AddsIfRoom old new text = HasRoomFor old (length text) → new ≡ old ++ text
 
 abbrev pub spaces : ℕ → List ℕ
 spaces n = replicate n 0x20

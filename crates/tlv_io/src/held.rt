@@ -1,6 +1,6 @@
 //! Octets that are on their way to a drain.
 ghost use Rattle.std.specs.Prelude.{◌≡◌, ◌+◌, ◌*◌, ◌≤◌, ◌++◌, [], length, take};
-ghost use Rattle.tlv_io.specs.Held.{spaced_pairs as pairs_spaced, spaces as spaces_text};
+ghost use Rattle.tlv_io.specs.Held.{AddsIfRoom, HasRoomFor, spaced_pairs as pairs_spaced, spaces as spaces_text};
 
 mod numbers;
 mod texts;
@@ -71,7 +71,7 @@ impl Held {
     /// Adds octets, for which there is room.
     #[inline(always)]
     pub fn add(&mut self, octets: &[u8])
-        requires { length self.old + length octets.now ≤ 4096 }
+        requires { HasRoomFor self.old (length octets.now) }
         ensures { self.new ≡ self.old ++ octets.now }
     {
         let end = self.len + octets.len();
@@ -83,7 +83,7 @@ impl Held {
     #[inline(always)]
     pub fn add_front(&mut self, octets: &[u8; 32], count: usize)
         requires few { count ≤ 32 }
-        requires room { length self.old + 32 ≤ 4096 }
+        requires room { HasRoomFor self.old 32 }
         ensures { self.new ≡ self.old ++ take count octets.now }
     {
         self.octets[self.len..self.len + 32].copy_from_slice(octets);
@@ -93,7 +93,7 @@ impl Held {
     /// Adds octets, if there is room for them.
     #[inline]
     pub fn push(&mut self, octets: &[u8])
-        ensures { length self.old + length octets.now ≤ 4096 → self.new ≡ self.old ++ octets.now }
+        ensures { AddsIfRoom self.old self.new octets.now }
     {
         if octets.len() <= self.room() {
             self.add(octets);
@@ -103,7 +103,7 @@ impl Held {
     /// Adds spaces. There is room for 32 more, so that they can be copied many at a time.
     #[inline(always)]
     pub fn spaces(&mut self, count: usize)
-        requires { length self.old + count + 32 ≤ 4096 }
+        requires { HasRoomFor self.old (count + 32) }
         ensures { self.new ≡ self.old ++ spaces_text count }
     {
         fill_spaces(&mut self.octets[self.len..], count);
@@ -113,7 +113,7 @@ impl Held {
     /// Adds octets as pairs of digits, each behind a space.
     #[inline(always)]
     pub fn spaced_pairs(&mut self, octets: &[u8])
-        requires { length self.old + 3 * length octets.now ≤ 4096 }
+        requires { HasRoomFor self.old (3 * length octets.now) }
         ensures { self.new ≡ self.old ++ pairs_spaced octets.now }
     {
         write_pairs(octets, &mut self.octets[self.len..]);
@@ -123,7 +123,7 @@ impl Held {
     /// Adds 16 octets as pairs of digits, each behind a space.
     #[inline(always)]
     pub fn spaced_row(&mut self, octets: &[u8; 16])
-        requires { length self.old + 48 ≤ 4096 }
+        requires { HasRoomFor self.old 48 }
         ensures { self.new ≡ self.old ++ pairs_spaced octets.now }
     {
         write_row(octets, &mut self.octets[self.len..]);

@@ -1,6 +1,7 @@
 //! Octets on their way to a drain.
 
-ghost use Rattle.std.specs.Prelude.{◌≡◌, ◌+◌, ◌≤◌, ◌++◌, [], length, OnOk};
+ghost use Rattle.std.specs.Prelude.{◌≡◌, ◌≤◌, ◌++◌, [], length, OnOk};
+ghost use Rattle.tlv_io.specs.Held.{HasRoomFor};
 ghost use Rattle.tlv_io.specs.Out.{Puts, Sends, held_in, lender_of};
 
 use crate::drain::{Drain, WriteFault};
@@ -41,7 +42,7 @@ impl<'d, D: Drain> Out<'d, D> {
     #[inline(always)]
     pub fn make_room(&mut self) -> Result<(), WriteFault>
         ensures puts { Puts D.told self.old self.new [] result }
-        ensures room { OnOk result (length (held_in self.new) + 1024 ≤ 4096) }
+        ensures room { OnOk result (HasRoomFor (held_in self.new) 1024) }
     {
         if self.held.room() < LINE {
             return self.flush();

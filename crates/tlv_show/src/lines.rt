@@ -1,6 +1,7 @@
 //! The lines of a dump that are not those of primitives.
 ghost use Rattle.std.specs.Prelude.{◌≡◌, ◌+◌, ◌≤◌, ◌++◌, codes, length};
 ghost use Rattle.std.specs.Option.{option_map_or};
+ghost use Rattle.tlv_io.specs.Held.{HasRoomFor};
 ghost use Rattle.tlv_io.specs.Out.{Puts};
 ghost use Rattle.tlv_value.specs.Layout.{columns, margin, no_columns};
 ghost use Rattle.tlv_show.specs.Lines.{close_line, opening_line, padding_line, size_text};
@@ -55,7 +56,7 @@ pub(crate) fn put_padding<D: Drain>(
 /// Adds the line of an element that holds others, with a word behind its tag.
 #[inline(always)]
 fn write_opening(held: &mut Held, layout: Layout, header: &Header, word: &[u8])
-    requires room { length held.old + 1024 ≤ 4096 }
+    requires room { HasRoomFor held.old 1024 }
     requires short { length word.now ≤ 16 }
     ensures { held.new ≡ held.old ++ opening_line layout header.now word.now }
 {
@@ -68,7 +69,7 @@ fn write_opening(held: &mut Held, layout: Layout, header: &Header, word: &[u8])
 /// Begins a line with an offset and a length, or the word for the indefinite form.
 #[inline(always)]
 fn begin_opening(held: &mut Held, layout: Layout, offset: u64, size: Size)
-    requires { length held.old + 592 ≤ 4096 }
+    requires { HasRoomFor held.old 592 }
     ensures text { held.new ≡ held.old ++ margin layout.pure (columns offset (size_text size)) layout.level }
     ensures bound { length held.new ≤ length held.old + 553 }
 {
@@ -81,7 +82,7 @@ fn begin_opening(held: &mut Held, layout: Layout, offset: u64, size: Size)
 /// Adds the line of the end of an element that holds others.
 #[inline(always)]
 fn write_closing(held: &mut Held, layout: Layout, at: Option<u64>)
-    requires { length held.old + 1024 ≤ 4096 }
+    requires { HasRoomFor held.old 1024 }
     ensures { held.new ≡ held.old ++ close_line layout at }
 {
     begin_closing(held, layout, at);
@@ -91,7 +92,7 @@ fn write_closing(held: &mut Held, layout: Layout, at: Option<u64>)
 /// Begins a line with an offset and the word for an end, or without an offset.
 #[inline(always)]
 fn begin_closing(held: &mut Held, layout: Layout, at: Option<u64>)
-    requires { length held.old + 592 ≤ 4096 }
+    requires { HasRoomFor held.old 592 }
     ensures text { held.new
         ≡ held.old ++ margin layout.pure (option_map_or (λ at. columns at (codes "end")) at no_columns) layout.level }
     ensures bound { length held.new ≤ length held.old + 553 }
@@ -104,7 +105,7 @@ fn begin_closing(held: &mut Held, layout: Layout, at: Option<u64>)
 
 /// Adds the line of a run of padding.
 fn write_padding(held: &mut Held, layout: Layout, at: u64)
-    requires { length held.old + 1024 ≤ 4096 }
+    requires { HasRoomFor held.old 1024 }
     ensures { held.new ≡ held.old ++ padding_line layout at }
 {
     begin_word(held, layout, at, b"   pad");

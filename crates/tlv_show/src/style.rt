@@ -1,5 +1,6 @@
 //! How findings are written.
-ghost use Rattle.std.specs.Prelude.{◌≡◌, ◌+◌, ◌≤◌, ◌++◌, ◌∷◌, length};
+ghost use Rattle.std.specs.Prelude.{◌≡◌, ◌+◌, ◌++◌, ◌∷◌, length};
+ghost use Rattle.tlv_io.specs.Held.{HasRoomFor};
 ghost use Rattle.tlv_io.specs.Out.{Puts};
 ghost use Rattle.tlv_show.specs.CheckStep.{all_written, written};
 ghost use Rattle.tlv_show.specs.Private.CheckStep.{all_told};
@@ -68,7 +69,7 @@ fn put_finding<D: Drain>(
 
 /// Adds the line of a finding in an element at this level and offset.
 fn write_finding(held: &mut Held, style: Style, level: u8, at: u64, finding: Finding)
-    requires { length held.old + 1024 ≤ 4096 }
+    requires { HasRoomFor held.old 1024 }
     ensures { held.new ≡ held.old ++ written style level at finding }
 {
     match style {
@@ -86,7 +87,7 @@ fn write_finding(held: &mut Held, style: Style, level: u8, at: u64, finding: Fin
 
 /// Adds the line of a finding in a check.
 fn write_listed(held: &mut Held, at: u64, finding: Finding)
-    requires { length held.old + 1024 ≤ 4096 }
+    requires { HasRoomFor held.old 1024 }
     ensures { held.new ≡ held.old ++ listed at finding }
 {
     held.number(at);
@@ -99,7 +100,7 @@ fn write_listed(held: &mut Held, at: u64, finding: Finding)
 
 /// Adds the line of a finding in a dump; none where first columns are left out.
 fn write_between(held: &mut Held, layout: Layout, at: u64, finding: Finding)
-    requires { length held.old + 1024 ≤ 4096 }
+    requires { HasRoomFor held.old 1024 }
     ensures { held.new ≡ held.old ++ finding_line layout at finding }
 {
     if layout.pure {

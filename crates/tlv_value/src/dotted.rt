@@ -1,5 +1,6 @@
 //! Object identifiers as dotted texts.
 ghost use Rattle.std.specs.Prelude.{◌≡◌, ◌+◌, ◌<◌, ◌≤◌, ◌^◌, ◌++◌, ◌∷◌, [], if◌then◌else◌, is_some, length, true, unwrap_or};
+ghost use Rattle.tlv_io.specs.Held.{HasRoomFor};
 ghost use Rattle.tlv_value.specs.Arcs.{dotted_text, is_finished as is_finished_list};
 ghost use Rattle.tlv_value.specs.Private.Arcs.{dotted, first_arcs, part_text};
 
@@ -28,7 +29,7 @@ pub fn dotted_of(contents: &[u8], relative: bool, to: &mut ArrayVec<u8, 320>) ->
 /// text. Where there is none, nothing is added.
 pub(crate) fn write_dotted(held: &mut Held, contents: &[u8], relative: bool) -> bool
     requires short { length contents.now ≤ 64 }
-    requires room { length held.old + 320 ≤ 4096 }
+    requires room { HasRoomFor held.old 320 }
     ensures exists { result ≡ is_some (dotted_text relative contents.now) }
     ensures text { held.new
         ≡ (if result then held.old ++ 32 ∷ unwrap_or (dotted_text relative contents.now) [] else held.old) }
@@ -66,7 +67,7 @@ pub(crate) fn write_dotted(held: &mut Held, contents: &[u8], relative: bool) -> 
 fn write_short(held: &mut Held, contents: &[u8], relative: bool)
     requires finished { is_finished_list contents.now ≡ true }
     requires short { length contents.now ≤ 9 }
-    requires room { length held.old + 320 ≤ 4096 }
+    requires room { HasRoomFor held.old 320 }
     ensures exists { is_some (dotted_text relative contents.now) ≡ true }
     ensures text { held.new ≡ held.old ++ 32 ∷ unwrap_or (dotted_text relative contents.now) [] }
     ensures bound { length held.new ≤ length held.old + 259 }
@@ -94,7 +95,7 @@ fn is_finished(contents: &[u8]) -> bool
 /// Adds the arc or arcs that a subidentifier stands for, behind a dot where they are not the first.
 #[inline(always)]
 fn write_arcs(held: &mut Held, number: u128, first: bool, relative: bool)
-    requires { length held.old + 42 ≤ 4096 }
+    requires { HasRoomFor held.old 42 }
     ensures { held.new ≡ held.old ++ part_text first relative number }
 {
     if !first {
@@ -110,7 +111,7 @@ fn write_arcs(held: &mut Held, number: u128, first: bool, relative: bool)
 /// Adds the two arcs that the first subidentifier stands for.
 #[inline(always)]
 fn write_first_arcs(held: &mut Held, number: u128)
-    requires { length held.old + 42 ≤ 4096 }
+    requires { HasRoomFor held.old 42 }
     ensures { held.new ≡ held.old ++ dotted (first_arcs number) }
 {
     if number < 40 {

@@ -1,5 +1,6 @@
 //! How lines begin.
 ghost use Rattle.std.specs.Prelude.{◌≡◌, ◌+◌, ◌≤◌, ◌++◌, ◌∷◌, [], decimal, if◌then◌else◌, length, take};
+ghost use Rattle.tlv_io.specs.Held.{HasRoomFor};
 ghost use Rattle.tlv_head.specs.Tag.{tag_text_of};
 ghost use Rattle.tlv_value.specs.Layout.{columns, margin, no_columns, spaces};
 
@@ -10,7 +11,7 @@ use tlv_io::Held;
 /// Begins a line with its first columns, an offset and a length, and its indentation.
 #[inline(always)]
 pub fn begin_sized(held: &mut Held, layout: Layout, offset: u64, size: u64)
-    requires { length held.old + 592 ≤ 4096 }
+    requires { HasRoomFor held.old 592 }
     ensures text { held.new ≡ held.old ++ margin layout.pure (columns offset (decimal size)) layout.level }
     ensures bound { length held.new ≤ length held.old + 553 }
 {
@@ -21,7 +22,7 @@ pub fn begin_sized(held: &mut Held, layout: Layout, offset: u64, size: u64)
 /// Adds first columns with an offset and a length, unless they are left out.
 #[inline(always)]
 fn write_sized(held: &mut Held, pure: bool, offset: u64, size: u64)
-    requires { length held.old + 50 ≤ 4096 }
+    requires { HasRoomFor held.old 50 }
     ensures text { held.new ≡ held.old ++ (if pure then [] else columns offset (decimal size)) }
     ensures bound { length held.new ≤ length held.old + 43 }
 {
@@ -33,7 +34,7 @@ fn write_sized(held: &mut Held, pure: bool, offset: u64, size: u64)
 /// Begins a line with an offset and a word, which takes six places, and its indentation.
 #[inline(always)]
 pub fn begin_word(held: &mut Held, layout: Layout, offset: u64, word: &[u8; 6])
-    requires { length held.old + 592 ≤ 4096 }
+    requires { HasRoomFor held.old 592 }
     ensures text { held.new ≡ held.old ++ margin layout.pure (columns offset word.now) layout.level }
     ensures bound { length held.new ≤ length held.old + 553 }
 {
@@ -44,7 +45,7 @@ pub fn begin_word(held: &mut Held, layout: Layout, offset: u64, word: &[u8; 6])
 /// Adds first columns with an offset and a word, unless they are left out.
 #[inline(always)]
 fn write_worded(held: &mut Held, pure: bool, offset: u64, word: &[u8; 6])
-    requires { length held.old + 50 ≤ 4096 }
+    requires { HasRoomFor held.old 50 }
     ensures text { held.new ≡ held.old ++ (if pure then [] else columns offset word.now) }
     ensures bound { length held.new ≤ length held.old + 43 }
 {
@@ -56,7 +57,7 @@ fn write_worded(held: &mut Held, pure: bool, offset: u64, word: &[u8; 6])
 /// Begins a line that has no offset, with its indentation.
 #[inline(always)]
 pub fn begin_blank(held: &mut Held, layout: Layout)
-    requires { length held.old + 592 ≤ 4096 }
+    requires { HasRoomFor held.old 592 }
     ensures text { held.new ≡ held.old ++ margin layout.pure no_columns layout.level }
     ensures bound { length held.new ≤ length held.old + 553 }
 {
@@ -84,7 +85,7 @@ fn blank_columns(pure: bool) -> usize
 /// Adds the text of a tag: at most 40 octets.
 #[inline(always)]
 pub fn write_tag(held: &mut Held, class: Class, number: u64)
-    requires { length held.old + 40 ≤ 4096 }
+    requires { HasRoomFor held.old 40 }
     ensures text { held.new ≡ held.old ++ tag_text_of class number }
     ensures bound { length held.new ≤ length held.old + 40 }
 {
@@ -99,7 +100,7 @@ pub fn write_tag(held: &mut Held, class: Class, number: u64)
 /// Adds the text of a universal tag: the name of its type, where it has one.
 #[inline(always)]
 fn write_universal(held: &mut Held, number: u64)
-    requires { length held.old + 40 ≤ 4096 }
+    requires { HasRoomFor held.old 40 }
     ensures text { held.new ≡ held.old ++ tag_text_of Class.Universal number }
     ensures bound { length held.new ≤ length held.old + 40 }
 {
@@ -114,7 +115,7 @@ fn write_universal(held: &mut Held, number: u64)
 #[inline]
 fn write_bracketed(held: &mut Held, front: &[u8; 32], count: usize, number: u64)
     requires short { count ≤ 16 }
-    requires room { length held.old + 40 ≤ 4096 }
+    requires room { HasRoomFor held.old 40 }
     ensures text { held.new ≡ held.old ++ (take count front.now ++ decimal number ++ 93 ∷ []) }
     ensures bound { length held.new ≤ length held.old + 40 }
 {
@@ -133,7 +134,7 @@ pub fn write_element(
     number: u64,
     size: u64,
 )
-    requires { length held.old + 640 ≤ 4096 }
+    requires { HasRoomFor held.old 640 }
     ensures text { held.new
         ≡ held.old ++ (margin layout.pure (columns offset (decimal size)) layout.level ++ tag_text_of class number) }
     ensures bound { length held.new ≤ length held.old + 593 }

@@ -1,5 +1,6 @@
 //! A primitive by what its header says.
 ghost use Rattle.std.specs.Prelude.{◌≡◌, ◌+◌, ◌<◌, ◌≤◌, ◌++◌, ◌∷◌, [], IsTrue, None, OnOk, length, true, ◌↔◌};
+ghost use Rattle.tlv_io.specs.Held.{HasRoomFor};
 ghost use Rattle.tlv_io.specs.Out.{Puts, held_in};
 ghost use Rattle.tlv_value.specs.KindValues.{is_long as is_long_value, long_text};
 ghost use Rattle.tlv_value.specs.Private.KindValues.{plain_text};
@@ -72,7 +73,7 @@ impl Primitive {
     /// Begins its line, up to its tag text.
     #[inline(always)]
     fn write(&self, held: &mut Held)
-        requires { length held.old + 640 ≤ 4096 }
+        requires { HasRoomFor held.old 640 }
         ensures text { held.new ≡ held.old ++ front_of self.now }
         ensures bound { length held.new ≤ length held.old + 593 }
     {
@@ -89,7 +90,7 @@ impl Primitive {
     /// Adds its line without a value.
     #[inline(always)]
     fn write_bare(&self, held: &mut Held)
-        requires { length held.old + 1024 ≤ 4096 }
+        requires { HasRoomFor held.old 1024 }
         ensures { held.new ≡ held.old ++ line_of self.now [] }
     {
         self.write(held);
@@ -98,7 +99,7 @@ impl Primitive {
 
     /// Adds its line with the number of its bits, where it is a long BIT STRING.
     fn write_bits(&self, held: &mut Held, unused: u8)
-        requires room { length held.old + 1024 ≤ 4096 }
+        requires room { HasRoomFor held.old 1024 }
         requires long { 9 < self.now.size }
         ensures { held.new ≡ held.old ++ line_of self.now (long_text Kind.Bits self.now.size (unused ∷ [])) }
     {
@@ -110,7 +111,7 @@ impl Primitive {
     /// Adds its line, where its value stands in rows: with the number of its bits, where it is a BIT STRING.
     #[inline(always)]
     fn write_long(&self, held: &mut Held, contents: &[u8])
-        requires room { length held.old + 1024 ≤ 4096 }
+        requires room { HasRoomFor held.old 1024 }
         requires long { is_long_value self.now.kind self.now.size ≡ true }
         ensures { held.new ≡ held.old ++ line_of self.now (long_text self.now.kind self.now.size contents.now) }
     {
@@ -160,7 +161,7 @@ impl Primitive {
     #[inline(always)]
     fn put_front<D: Drain>(&self, out: &mut Out<'_, D>) -> Result<(), WriteFault>
         ensures puts { Puts D.told out.old out.new (front_of self.now) result }
-        ensures room { OnOk result (length (held_in out.new) + 400 ≤ 4096) }
+        ensures room { OnOk result (HasRoomFor (held_in out.new) 400) }
     {
         out.make_room()?;
         self.write(&mut out.held);

@@ -1,5 +1,6 @@
 //! The rest of lines on their way to an [`Out`], behind the tag texts.
 ghost use Rattle.std.specs.Prelude.{◌+◌, ◌≤◌, ◌++◌, [], codes, false, length, true};
+ghost use Rattle.tlv_io.specs.Held.{HasRoomFor};
 ghost use Rattle.tlv_io.specs.Out.{Puts, held_in};
 ghost use Rattle.tlv_value.specs.Private.ObjectLines.{object_lines, octets_lines};
 ghost use Rattle.tlv_value.specs.Value.{no_names};
@@ -19,7 +20,7 @@ pub(crate) fn put_object<N: NameTable, D: Drain>(
     names: &N,
     out: &mut Out<'_, D>,
 ) -> Result<(), WriteFault>
-    requires room { length (held_in out.old) + 400 ≤ 4096 }
+    requires room { HasRoomFor (held_in out.old) 400 }
     requires short { length contents.now ≤ 64 }
     ensures { Puts D.told out.old out.new (object_lines (N.name_of names.now) layout [] false contents.now) result }
 {
@@ -38,7 +39,7 @@ pub(crate) fn put_object<N: NameTable, D: Drain>(
 
 /// Puts a name, which may be of any length, and ends the line.
 fn put_name<D: Drain>(name: &[u8], out: &mut Out<'_, D>) -> Result<(), WriteFault>
-    requires { length (held_in out.old) + 2 ≤ 4096 }
+    requires { HasRoomFor (held_in out.old) 2 }
     ensures { Puts D.told out.old out.new ((codes " (" ++ name.now) ++ codes ")\n") result }
 {
     out.held.add(b" (");
@@ -52,7 +53,7 @@ pub(crate) fn put_relative<D: Drain>(
     contents: &[u8],
     out: &mut Out<'_, D>,
 ) -> Result<(), WriteFault>
-    requires room { length (held_in out.old) + 400 ≤ 4096 }
+    requires room { HasRoomFor (held_in out.old) 400 }
     requires short { length contents.now ≤ 64 }
     ensures { Puts D.told out.old out.new (object_lines no_names layout [] true contents.now) result }
 {
@@ -70,7 +71,7 @@ fn put_octets<D: Drain>(
     contents: &[u8],
     out: &mut Out<'_, D>,
 ) -> Result<(), WriteFault>
-    requires room { length (held_in out.old) + 400 ≤ 4096 }
+    requires room { HasRoomFor (held_in out.old) 400 }
     requires short { length contents.now ≤ 64 }
     ensures { Puts D.told out.old out.new (octets_lines layout [] contents.now) result }
 {

@@ -1,6 +1,7 @@
 //! The texts of characters.
 ghost use Rattle.std.specs.List.{list_all};
 ghost use Rattle.std.specs.Prelude.{◌≡◌, ◌+◌, ◌*◌, ◌<◌, ◌≤◌, ◌++◌, false, flat_map, length, slice_index, true};
+ghost use Rattle.tlv_io.specs.Held.{AddsIfRoom, HasRoomFor};
 ghost use Rattle.tlv_value.specs.Private.Plain.{ArePlain, IsPart, is_ascii, is_plain as is_plain_octet};
 ghost use Rattle.tlv_value.specs.Units.{
   escaped_number,
@@ -21,7 +22,7 @@ use tlv_io::Held;
 
 /// Adds the characters of a row, of which each octet may take five.
 pub(crate) fn write_characters(held: &mut Held, kind: Kind, row: &[u8])
-    requires { length held.old + 5 * length row.now ≤ 4096 }
+    requires { HasRoomFor held.old (5 * length row.now) }
     ensures { held.new ≡ held.old ++ flat_map (unit_text kind) (units kind 0 row.now) }
 {
     // Most rows stand as they are.
@@ -35,8 +36,7 @@ pub(crate) fn write_characters(held: &mut Held, kind: Kind, row: &[u8])
 /// Adds the units of a row of characters.
 #[inline(never)]
 fn write_units(held: &mut Held, kind: Kind, row: &[u8])
-    ensures { length held.old + length (flat_map (unit_text kind) (units kind 0 row.now)) ≤ 4096
-        → held.new ≡ held.old ++ flat_map (unit_text kind) (units kind 0 row.now) }
+    ensures { AddsIfRoom held.old held.new (flat_map (unit_text kind) (units kind 0 row.now)) }
 {
     let mut rest = row;
     while !rest.is_empty() {
@@ -64,8 +64,7 @@ fn write_part(held: &mut Held, kind: Kind, octets: &[u8]) -> usize
 
 /// Adds a unit: a character, or an octet that belongs to none.
 fn write_unit(held: &mut Held, kind: Kind, unit: &[u8])
-    ensures { length held.old + length (unit_text kind unit.now) ≤ 4096
-        → held.new ≡ held.old ++ unit_text kind unit.now }
+    ensures { AddsIfRoom held.old held.new (unit_text kind unit.now) }
 {
     match kind {
         Kind::Ucs2 => write_ucs2(held, unit),
@@ -81,8 +80,7 @@ fn write_unit(held: &mut Held, kind: Kind, unit: &[u8])
 
 /// Adds a unit of BMPString.
 fn write_ucs2(held: &mut Held, unit: &[u8])
-    ensures { length held.old + length (unit_text Kind.Ucs2 unit.now) ≤ 4096
-        → held.new ≡ held.old ++ unit_text Kind.Ucs2 unit.now }
+    ensures { AddsIfRoom held.old held.new (unit_text Kind.Ucs2 unit.now) }
 {
     match unit {
         [0, octet] if is_printable(*octet) => write_printable(held, *octet),
@@ -94,8 +92,7 @@ fn write_ucs2(held: &mut Held, unit: &[u8])
 
 /// Adds a unit of UniversalString.
 fn write_ucs4(held: &mut Held, unit: &[u8])
-    ensures { length held.old + length (unit_text Kind.Ucs4 unit.now) ≤ 4096
-        → held.new ≡ held.old ++ unit_text Kind.Ucs4 unit.now }
+    ensures { AddsIfRoom held.old held.new (unit_text Kind.Ucs4 unit.now) }
 {
     match unit {
         [0, 0, 0, octet] if is_printable(*octet) => write_printable(held, *octet),
@@ -107,8 +104,7 @@ fn write_ucs4(held: &mut Held, unit: &[u8])
 
 /// Adds a unit of UTF8String.
 fn write_utf8(held: &mut Held, unit: &[u8])
-    ensures { length held.old + length (unit_text Kind.Utf8 unit.now) ≤ 4096
-        → held.new ≡ held.old ++ unit_text Kind.Utf8 unit.now }
+    ensures { AddsIfRoom held.old held.new (unit_text Kind.Utf8 unit.now) }
 {
     match unit {
         [] => {}
@@ -129,7 +125,7 @@ fn write_utf8(held: &mut Held, unit: &[u8])
 
 /// Adds a character of one octet, or the octet's number.
 fn write_octet(held: &mut Held, octet: u8)
-    ensures { length held.old + length (octet_text octet) ≤ 4096 → held.new ≡ held.old ++ octet_text octet }
+    ensures { AddsIfRoom held.old held.new (octet_text octet) }
 {
     if is_printable(octet) {
         write_printable(held, octet);
@@ -140,7 +136,7 @@ fn write_octet(held: &mut Held, octet: u8)
 
 /// Adds a printable character; a quotation mark or a reverse solidus stands behind a reverse solidus.
 fn write_printable(held: &mut Held, octet: u8)
-    ensures { length held.old + length (printable_text octet) ≤ 4096 → held.new ≡ held.old ++ printable_text octet }
+    ensures { AddsIfRoom held.old held.new (printable_text octet) }
 {
     if octet == b'"' || octet == b'\\' {
         held.push(&[b'\\', octet]);
@@ -151,7 +147,7 @@ fn write_printable(held: &mut Held, octet: u8)
 
 /// Adds the number of an octet.
 fn write_escaped_octet(held: &mut Held, octet: u8)
-    ensures { length held.old + length (escaped_octet octet) ≤ 4096 → held.new ≡ held.old ++ escaped_octet octet }
+    ensures { AddsIfRoom held.old held.new (escaped_octet octet) }
 {
     let mut pair = [0; 2];
     let _ = hex::encode_to_slice([octet], &mut pair);
@@ -162,8 +158,7 @@ fn write_escaped_octet(held: &mut Held, octet: u8)
 /// Adds the number that up to four octets make, without leading zeros.
 fn write_escaped_number(held: &mut Held, octets: &[u8])
     requires { length octets.now ≤ 4 }
-    ensures { length held.old + length (escaped_number octets.now) ≤ 4096
-        → held.new ≡ held.old ++ escaped_number octets.now }
+    ensures { AddsIfRoom held.old held.new (escaped_number octets.now) }
 {
     let mut digits = [0; 8];
     let digits = &mut digits[..2 * octets.len()];

@@ -1,6 +1,7 @@
 //! The texts of values.
 ghost use Rattle.std.specs.Prelude.{◌≡◌, ◌+◌, ◌-◌, ◌*◌, ◌<◌, ◌≤◌, ◌++◌, ◌∷◌, [], length, true};
 ghost use Rattle.std.specs.Fmt.{signed_decimal};
+ghost use Rattle.tlv_io.specs.Held.{HasRoomFor};
 ghost use Rattle.tlv_value.specs.Bits.{last_bits};
 ghost use Rattle.tlv_value.specs.KindValues.{
   bits_value,
@@ -25,7 +26,7 @@ const SIGN: &[u8; 32] = b" -                              ";
 /// Adds a row of long contents behind a space.
 pub(crate) fn write_row(held: &mut Held, kind: Kind, row: &[u8])
     requires short { length row.now ≤ 64 }
-    requires room { length held.old + 400 ≤ 4096 }
+    requires room { HasRoomFor held.old 400 }
     ensures text { held.new ≡ held.old ++ 32 ∷ row_text kind row.now }
     ensures bound { length held.new ≤ length held.old + 323 }
 {
@@ -38,7 +39,7 @@ pub(crate) fn write_row(held: &mut Held, kind: Kind, row: &[u8])
 /// Adds pairs of digits behind a space, and with spaces between them.
 fn write_pairs(held: &mut Held, octets: &[u8])
     requires short { length octets.now ≤ 64 }
-    requires room { length held.old + 192 ≤ 4096 }
+    requires room { HasRoomFor held.old 192 }
     ensures { held.new ≡ held.old ++ 32 ∷ pairs_joined octets.now }
 {
     if octets.is_empty() {
@@ -53,7 +54,7 @@ fn write_pairs(held: &mut Held, octets: &[u8])
 #[inline(always)]
 pub(crate) fn write_value(held: &mut Held, kind: Kind, contents: &[u8])
     requires short { length contents.now ≤ most_held kind }
-    requires room { length held.old + 400 ≤ 4096 }
+    requires room { HasRoomFor held.old 400 }
     ensures text { held.new ≡ held.old ++ plain_text kind contents.now }
     ensures bound { length held.new ≤ length held.old + 330 }
 {
@@ -70,7 +71,7 @@ pub(crate) fn write_value(held: &mut Held, kind: Kind, contents: &[u8])
 #[inline(never)]
 fn write_text(held: &mut Held, kind: Kind, row: &[u8])
     requires short { length row.now ≤ 64 }
-    requires room { length held.old + 400 ≤ 4096 }
+    requires room { HasRoomFor held.old 400 }
     ensures { held.new ≡ held.old ++ 32 ∷ quoted_row kind row.now }
 {
     held.add(b" \"");
@@ -81,7 +82,7 @@ fn write_text(held: &mut Held, kind: Kind, row: &[u8])
 /// Adds a BOOLEAN (8.2.2).
 fn write_boolean(held: &mut Held, contents: &[u8])
     requires short { length contents.now ≤ 16 }
-    requires room { length held.old + 48 ≤ 4096 }
+    requires room { HasRoomFor held.old 48 }
     ensures { held.new ≡ held.old ++ (boolean_value contents.now).text }
 {
     match contents {
@@ -95,7 +96,7 @@ fn write_boolean(held: &mut Held, contents: &[u8])
 #[inline(always)]
 fn write_integer(held: &mut Held, contents: &[u8])
     requires short { length contents.now ≤ 16 }
-    requires room { length held.old + 48 ≤ 4096 }
+    requires room { HasRoomFor held.old 48 }
     ensures { held.new ≡ held.old ++ (integer_value contents.now).text }
 {
     if contents.len() > 8 {
@@ -111,7 +112,7 @@ fn write_integer(held: &mut Held, contents: &[u8])
 #[inline(never)]
 fn write_wide_integer(held: &mut Held, contents: &[u8])
     requires short { length contents.now ≤ 16 }
-    requires room { length held.old + 48 ≤ 4096 }
+    requires room { HasRoomFor held.old 48 }
     ensures { held.new ≡ held.old ++ (integer_value contents.now).text }
 {
     if let Some(number) = decimal_of(contents) {
@@ -122,7 +123,7 @@ fn write_wide_integer(held: &mut Held, contents: &[u8])
 
 /// Adds a number, behind a sign where it is negative.
 fn write_signed(held: &mut Held, number: i128)
-    requires { length held.old + 41 ≤ 4096 }
+    requires { HasRoomFor held.old 41 }
     ensures { held.new ≡ held.old ++ signed_decimal number }
 {
     if number < 0 {
@@ -135,7 +136,7 @@ fn write_signed(held: &mut Held, number: i128)
 #[inline(never)]
 fn write_bits(held: &mut Held, contents: &[u8])
     requires short { length contents.now ≤ 9 }
-    requires room { length held.old + 128 ≤ 4096 }
+    requires room { HasRoomFor held.old 128 }
     ensures { held.new ≡ held.old ++ (bits_value contents.now).text }
 {
     match contents {
@@ -151,7 +152,7 @@ fn write_bits(held: &mut Held, contents: &[u8])
 #[inline(always)]
 pub(crate) fn write_long_value(held: &mut Held, kind: Kind, size: u64, contents: &[u8])
     requires long { is_long kind size ≡ true }
-    requires room { length held.old + 64 ≤ 4096 }
+    requires room { HasRoomFor held.old 64 }
     ensures text { held.new ≡ held.old ++ long_text kind size contents.now }
     ensures bound { length held.new ≤ length held.old + 45 }
 {
@@ -164,7 +165,7 @@ pub(crate) fn write_long_value(held: &mut Held, kind: Kind, size: u64, contents:
 /// can be read.
 pub(crate) fn write_long_bits(held: &mut Held, size: u64, unused: u8)
     requires long { 9 < size }
-    requires room { length held.old + 64 ≤ 4096 }
+    requires room { HasRoomFor held.old 64 }
     ensures text { held.new ≡ held.old ++ long_text Kind.Bits size (unused ∷ []) }
     ensures bound { length held.new ≤ length held.old + 45 }
 {
@@ -176,7 +177,7 @@ pub(crate) fn write_long_bits(held: &mut Held, size: u64, unused: u8)
 /// Adds the number of bits of so many octets.
 fn write_bit_count(held: &mut Held, unused: u8, octets: u64)
     requires some { unused ≤ 8 * octets }
-    requires room { length held.old + 64 ≤ 4096 }
+    requires room { HasRoomFor held.old 64 }
     ensures text { held.new ≡ held.old ++ 32 ∷ bit_count_text unused octets }
     ensures bound { length held.new ≤ length held.old + 45 }
 {
@@ -189,7 +190,7 @@ fn write_bit_count(held: &mut Held, unused: u8, octets: u64)
 fn write_bit_digits(held: &mut Held, unused: u8, octets: &[u8])
     requires unused { unused ≤ 7 }
     requires short { length octets.now ≤ 8 }
-    requires room { length held.old + 65 ≤ 4096 }
+    requires room { HasRoomFor held.old 65 }
     ensures { held.new ≡ held.old ++ used_digits unused octets.now }
 {
     let Some((last, front)) = octets.split_last() else {

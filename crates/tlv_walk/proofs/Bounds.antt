@@ -10,7 +10,7 @@ use Rattle.tlv_walk.specs.Forest.{end_octets, lead}
 use Rattle.tlv_walk.proofs.Spellings.{length-opening}
 use Rattle.tlv_walk.specs.Place.{Fits, Place, inside_of, is_indefinite}
 use Rattle.tlv_walk.proofs.Lengths.{HasLength, LacksOctets}
-use Rattle.tlv_walk.specs.Machine.{bound_in}
+use Rattle.tlv_walk.specs.Private.Stack.{bound_in}
 
 -- the offset n is not past the bound
 abbrev pub within : Option ℕ → ℕ → Bool

@@ -11,13 +11,15 @@ use Rattle.tlv_walk.specs.Forest.{Forest, Stop, Closed, Zero, end_octets, extent
 use Rattle.tlv_walk.specs.Private.Forest.{contents_length}
 use Rattle.tlv_walk.specs.Wrappers.{enters}
 use Rattle.std.proofs.lemmas.Bool.{cases_Bool}
-use Rattle.tlv_walk.specs.Machine.{found_in, Machine, bound_in}
+use Rattle.tlv_walk.specs.Machine.{Machine}
+use Rattle.tlv_walk.specs.Private.Machine.{found_in}
 use Rattle.tlv_walk.specs.Place.{Fits, IsEntry, IsOpen, Place, after, is_indefinite}
 use Rattle.tlv_walk.proofs.Lengths.{HasLength}
 use Rattle.tlv_walk.specs.Stack.{Frame, IsFilled, IsInIndefinite, IsInWrapper, Within, bound_of}
-use Rattle.tlv_walk.specs.Private.Stack.{wraps_of}
+use Rattle.tlv_walk.specs.Private.Stack.{wraps_of, bound_in}
 use Rattle.tlv_walk.specs.Private.Tells.{Continues}
-use Rattle.tlv_walk.specs.State.{AreWhole, HasState, Layer, Tail, Between, InEnd, State, ending_of, events_layers, events_tail, frame_of, frames_of, place_in, place_of, spell_layers, spell_tail}
+use Rattle.tlv_walk.specs.Private.State.{AreWhole, HasState, Layer, Tail, Between, InEnd, State, events_layers, events_tail, frame_of, frames_of, place_in, place_of, spell_layers, spell_tail}
+use Rattle.tlv_walk.specs.State.{ending_of}
 use Rattle.tlv_walk.proofs.Moves.{began, between_tail, closed_here, continues_both, lone_tail, phase_at, tail_state, tells_zero, told_more, with_layers, with_tail}
 use Rattle.tlv_walk.proofs.Places.{definite-size, place-offset}
 use Rattle.tlv_walk.proofs.Spellings.{length-opening}

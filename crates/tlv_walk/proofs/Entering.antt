@@ -12,7 +12,7 @@ use Rattle.tlv_walk.specs.Machine.{Machine}
 use Rattle.tlv_walk.specs.Private.Machine.{behind_header}
 use Rattle.tlv_walk.specs.Place.{Fits, IsEntry, IsHeadAt, IsOpen, Place}
 use Rattle.tlv_walk.specs.Stack.{Frame, Within, bound_of}
-use Rattle.tlv_walk.specs.State.{HasState, IsPhaseOf, Layer, Tail, Between, InContents, BeforeUnused, InHeader, InEnd, State, events_layers, events_tail, frame_of, frames_of, place_in, place_of, spell_layers, spell_tail}
+use Rattle.tlv_walk.specs.Private.State.{HasState, IsPhaseOf, Layer, Tail, Between, InContents, BeforeUnused, InHeader, InEnd, State, events_layers, events_tail, frame_of, frames_of, place_in, place_of, spell_layers, spell_tail}
 use Rattle.tlv_walk.specs.Private.Tells.{Continues}
 use Rattle.tlv_walk.proofs.Moves.{between_tail, phase_at, spelled_behind, tail_state, told_behind, with_tail}
 use Rattle.tlv_walk.proofs.Places.{place-bound, place-depth, place-inside, place-offset}

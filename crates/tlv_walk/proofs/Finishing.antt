@@ -11,14 +11,14 @@ use Rattle.tlv_walk.specs.State.{Stands}
 use Rattle.tlv_walk.proofs.StateEndings.{state-done, state-empty, state-short}
 
 pub finish_done : (w : Machine) (b : List ℕ) (told : List Told) → Stands w b told → w.phase ≡ phase.Between → w.stack ≡ [] → w.has_element ≡ true → IsEnding w.framing b ending.Done
-finish_done w b told st e none some = state-done w b told st.state st.has_state e none some
+finish_done w b told st e none some = state-done w b told st.private_state.state st.private_state.has_state e none some
 
 pub finish_empty : (w : Machine) (b : List ℕ) (told : List Told) → Stands w b told → w.phase ≡ phase.Between → w.stack ≡ [] → w.has_element ≡ false
     → IsEnding w.framing b (ending.Fault (fault_at Empty w.offset))
 finish_empty w b told st e none no_element =
-    subst (λ (n : ℕ). IsEnding w.framing b (fault Empty n)) (sym st.has_state.offset) (state-empty w b told st.state st.has_state e none no_element)
+    subst (λ (n : ℕ). IsEnding w.framing b (fault Empty n)) (sym st.private_state.has_state.offset) (state-empty w b told st.private_state.state st.private_state.has_state e none no_element)
 
 pub finish_short : (w : Machine) (b : List ℕ) (told : List Told) → Stands w b told → (IsWaiting w → ⊥) → (w.phase ≡ phase.Between → w.stack ≡ [] → ⊥)
     → IsEnding w.framing b (ending.Fault (fault_at Short w.offset))
 finish_short w b told st idle inside =
-    subst (λ (n : ℕ). IsEnding w.framing b (fault Short n)) (sym st.has_state.offset) (state-short w b told st.state st.has_state idle inside)
+    subst (λ (n : ℕ). IsEnding w.framing b (fault Short n)) (sym st.private_state.has_state.offset) (state-short w b told st.private_state.state st.private_state.has_state idle inside)

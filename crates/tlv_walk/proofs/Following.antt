@@ -1,5 +1,5 @@
 -- What a follower comes to, event by event.
-use Rattle.std.proofs.Common.{◌≡◌, inl, inr, ℕ, List, [], ◌∷◌, ◌++◌, length, refl, sym, ap, ap₂, ◌∙◌, subst, arith, append_assoc, append-nil, length-append}
+use Rattle.std.proofs.Common.{◌≡◌, inl, inr, ℕ, List, [], ◌∷◌, ◌++◌, refl, sym, ap, ap₂, ◌∙◌, subst, append_assoc, append-nil}
 use Rattle.std.specs.Prelude.{Ok, Err, slice_get}
 use Rattle.tlv_head.specs.declared.fault.Fault.{Fault}
 use Rattle.tlv_io.specs.declared.drain.WriteFault.{WriteFault}
@@ -19,12 +19,15 @@ use Rattle.tlv_walk.specs.Follows.{Made}
 use Rattle.tlv_walk.specs.Private.Follows.{Fails, Follows, FollowsTo, GoesOnIn, Stops, Walked, WalkedTo}
 use Rattle.tlv_walk.specs.Forest.{Forest}
 use Rattle.tlv_walk.specs.Inside.{CanName}
-use Rattle.tlv_walk.specs.Machine.{Machine, Refuses, found_in}
+use Rattle.tlv_walk.specs.Machine.{Machine}
+use Rattle.tlv_walk.specs.Private.Machine.{found_in}
 use Rattle.tlv_io.specs.Out.{Puts}
 use Rattle.tlv_walk.specs.Place.{Place}
 use Rattle.tlv_walk.specs.Reading.{IsReading}
-use Rattle.tlv_walk.specs.State.{IsPhaseOf, Stands, Tail, place_of, waiting_of}
-use Rattle.tlv_walk.specs.Tells.{IsRefusedBehind, StandsRefused, StandsBehind, StandsStep}
+use Rattle.tlv_walk.specs.Private.State.{IsPhaseOf, Tail, place_of}
+use Rattle.tlv_walk.specs.State.{Stands, waiting_of}
+use Rattle.tlv_walk.specs.StepsTo.{StepsTo}
+use Rattle.tlv_walk.specs.Tells.{IsRefusedBehind, StandsRefused}
 use Rattle.tlv_walk.specs.Wrappers.{enters}
 use Rattle.tlv_walk.proofs.Followed.{events_more, events_one, followed-more, followed-one}
 use Rattle.tlv_walk.proofs.Joined.{apart-before, apart-from_joined, joined-from_apart}
@@ -34,7 +37,7 @@ use Rattle.tlv_walk.proofs.Unused.{told_unused}
 
 -- a walker that stands for octets was refused none
 never_failed : (w : Machine) (b : List ℕ) (told : List Told) (f : Fault) → Stands w b told → w.phase ≡ phase.Failed f → ⊥
-never_failed w b told f st e = no_phase st.state.tail (place_of w.framing st.state) (subst (λ (p : Phase). IsPhaseOf p st.state.tail (place_of w.framing st.state)) e st.has_state.phase)
+never_failed w b told f st e = no_phase st.private_state.state.tail (place_of w.framing st.private_state.state) (subst (λ (p : Phase). IsPhaseOf p st.private_state.state.tail (place_of w.framing st.private_state.state)) e st.private_state.has_state.phase)
   where
     no_phase : (t : Tail) (p : Place) → IsPhaseOf (phase.Failed f) t p → ⊥
     no_phase t p h = h
@@ -59,31 +62,29 @@ walked_both w u v before mid after es fs x y = record {
       (subst (λ (all : List Told). Stands v ((b ++ x.taken) ++ y.taken) all) (append_assoc told es fs) (y.stands (b ++ x.taken) (told ++ es) (x.stands b told s)));
 }
 
--- an event was told
-pub walked_event : (w v : Machine) (before after : List ℕ) (e : Told) → StandsBehind w v before after e → Walked w v before after (e ∷ [])
-walked_event w v before after e t = record { taken = t.0; piece = t.1; framing = t.2; stands = t.3 }
-
 -- an octet is refused behind what was walked over
-refused_there : (w u v : Machine) (piece mid after : List ℕ) (f : Fault) (more : List Told) (x : Walked w u piece mid more) (moved : Refuses u v mid after f) (o : List ℕ) (told : List Told)
-    → Stands w o told → Stands u (o ++ x.taken) (told ++ more) → StandsStep u v mid after (step.Fault f) → WalkedTo w v piece more f o told
-refused_there w u v piece mid after f more x moved o told st' st (inl r) =
-    let behind : IsRefusedBehind u.framing ((o ++ x.taken) ++ r.taken) r.octet (told ++ more) f = r.ends (o ++ x.taken) (told ++ more) st in
+refused_there : (w u v : Machine) (piece mid after : List ℕ) (f : Fault) (more : List Told) (x : Walked w u piece mid more) (o : List ℕ) (told : List Told)
+    → Stands u (o ++ x.taken) (told ++ more) → StepsTo u v mid after (step.Fault f) → WalkedTo w v piece more f o told
+refused_there w u v piece mid after f more x o told st (inl r) =
     let all : (o ++ x.taken) ++ r.taken ≡ o ++ (x.taken ++ r.taken) = append_assoc o x.taken r.taken in
+    let there : StandsRefused v (o ++ (x.taken ++ r.taken)) r.octet (told ++ more) f =
+    subst (λ (l : List ℕ). StandsRefused v l r.octet (told ++ more) f) all (r.stands (o ++ x.taken) (told ++ more) st) in
+    let framing : v.framing ≡ w.framing = r.framing ∙ x.framing in
     let refused : IsRefusedBehind w.framing (o ++ (x.taken ++ r.taken)) r.octet (told ++ more) f =
-    subst (λ (g : Framing). IsRefusedBehind g (o ++ (x.taken ++ r.taken)) r.octet (told ++ more) f) x.framing (subst (λ (l : List ℕ). IsRefusedBehind u.framing l r.octet (told ++ more) f) all behind) in record {
+    subst (λ (g : Framing). IsRefusedBehind g (o ++ (x.taken ++ r.taken)) r.octet (told ++ more) f) framing there.behind in record {
       taken = x.taken ++ r.taken;
       octet = r.octet;
       rest = r.rest;
       piece = x.piece ∙ ap (λ (l : List ℕ). x.taken ++ l) r.before_is ∙ sym (append_assoc x.taken r.taken (r.octet ∷ r.rest));
-      offset = omega (arith, moved.0, st.has_state.offset, ap length r.before_is, ap length r.after_is, length-append r.taken (r.octet ∷ r.rest), length-append (o ++ x.taken) r.taken, ap length all);
+      offset = there.offset;
       refused = refused;
       unused =
-          ap₂ (λ (g : Framing) (n : ℕ). slice_get g.inside n) (moved.3 ∙ x.framing) (moved.4 ∙ st.found ∙ ap (λ (g : Framing). found_in g.inside 0 (enters (told ++ more))) x.framing)
-          ∙ told_unused w.framing (told ++ more) [] refused.reading (subst (λ (g : Framing). CanName g.inside) x.framing st.named) (refused.stays []).is_open refl
+          ap₂ (λ (g : Framing) (n : ℕ). slice_get g.inside n) framing (r.wrappers ∙ st.private_state.found ∙ ap (λ (g : Framing). found_in g.inside 0 (enters (told ++ more))) x.framing)
+          ∙ told_unused w.framing (told ++ more) [] refused.reading (subst (λ (g : Framing). CanName g.inside) x.framing st.private_state.named) (refused.stays []).is_open refl
           (subst (λ (es : List Told). AreEqualJoined es (events refused.reading)) (sym (append-nil (told ++ more))) refused.all_told);
-      stands = subst (λ (l : List ℕ). StandsRefused v l r.octet (told ++ more) f) all (r.stands (o ++ x.taken) (told ++ more) st);
+      stands = there;
     }
-refused_there w u v piece mid after f more x moved o told st' st (inr r) = absurd (never_failed u (o ++ x.taken) (told ++ more) f st r.0)
+refused_there w u v piece mid after f more x o told st (inr r) = absurd (never_failed u (o ++ x.taken) (told ++ more) f st r.failed)
 
 -- what a walker told of the front of octets, others follow
 told_front : (w v : Machine) (b piece after : List ℕ) (told more : List Told) (f : Forest) → Walked w v piece after more → Stands w b told → IsReading w.framing (b ++ piece) f
@@ -144,13 +145,13 @@ module _ {S : Type 0} (next : S → Told → Following S) where
 
     -- it followed one event more
     pub follows_event : (w u v : Machine) (s t t' : S) (a b c : Out D) (piece mid after : List ℕ) (e : Told) (goes : Go) → Follows next w u s t piece mid (HasPut told a b) go.On
-        → StandsBehind u v mid after e → (t' ≡ (next t e).state) × (goes ≡ (next t e).goes) → (g : Go) → Puts {T = Go} {E = WriteFault} told b c (next t e).put (Ok g)
+        → Walked u v mid after (e ∷ []) → (t' ≡ (next t e).state) × (goes ≡ (next t e).goes) → (g : Go) → Puts {T = Go} {E = WriteFault} told b c (next t e).put (Ok g)
         → Follows next w v s t' piece after (HasPut told a c) goes
     follows_event w u v s t t' a b c piece mid after e goes x y z g p = record {
       more = x.more ++ e ∷ [];
       made = made_both s t t' x.more (e ∷ []) goes x.made (made_event t t' e goes z.0 z.1);
       put = puts_then_as told a b c (followed next s x.more).put (next t e).put (followed next s (x.more ++ e ∷ [])).put tt (Ok tt) x.put (puts_as told b c (next t e).put (next t e).put g tt p refl) (one_put s t x.more e x.made);
-      walked = walked_both w u v piece mid after x.more (e ∷ []) x.walked (walked_event u v mid after e y);
+      walked = walked_both w u v piece mid after x.more (e ∷ []) x.walked y;
     }
 
     -- the same was put, with another answer
@@ -161,17 +162,17 @@ module _ {S : Type 0} (next : S → Told → Following S) where
 
     -- the drain failed at an event
     pub fails_event : {T : Type 0} (w u v : Machine) (s t : S) (a b c : Out D) (piece mid after : List ℕ) (e : Told) → Follows next w u s t piece mid (HasPut told a b) go.On
-        → StandsBehind u v mid after e → (x y : WriteFault) → Puts {T = Go} {E = WriteFault} told b c (next t e).put (Err x)
+        → Walked u v mid after (e ∷ []) → (x y : WriteFault) → Puts {T = Go} {E = WriteFault} told b c (next t e).put (Err x)
         → Fails next w s piece (λ text. Puts {T = T} {E = WriteFault} told a c text (Err y))
     fails_event w u v s t a b c piece mid after e x y i j p = record {
       more = x.more ++ e ∷ [];
       put = puts_failed_last told a c _ i (Err j) (puts_then_as told a b c (followed next s x.more).put (next t e).put (followed next s (x.more ++ e ∷ [])).put tt (Err i) x.put p (one_put s t x.more e x.made)) refl;
-      tells = walked_goes_on w v piece after (x.more ++ e ∷ []) (walked_both w u v piece mid after x.more (e ∷ []) x.walked (walked_event u v mid after e y));
+      tells = walked_goes_on w v piece after (x.more ++ e ∷ []) (walked_both w u v piece mid after x.more (e ∷ []) x.walked y);
     }
 
     -- the piece is used up
     pub stops_used_up : (w u v : Machine) (s t : S) (a b : Out D) (piece mid after : List ℕ) → Follows next w u s t piece mid (HasPut told a b) go.On
-        → StandsStep u v mid after step.NeedMore → Stops next w v s t piece (λ text. Puts {T = Stop} {E = WriteFault} told a b text (Ok stop.UsedUp)) (Ok stop.UsedUp)
+        → StepsTo u v mid after step.NeedMore → Stops next w v s t piece (λ text. Puts {T = Stop} {E = WriteFault} told a b text (Ok stop.UsedUp)) (Ok stop.UsedUp)
     stops_used_up w u v s t a b piece mid after x y = (
       follows_as w v s t a b piece [] go.On stop.UsedUp (record {
         more = x.more;
@@ -180,19 +181,19 @@ module _ {S : Type 0} (next : S → Told → Following S) where
         walked = record {
           taken = x.walked.taken ++ mid;
           piece = x.walked.piece ∙ sym (append-nil (x.walked.taken ++ mid));
-          framing = y.1 ∙ x.walked.framing;
-          stands = λ o es st. subst (λ (all : List ℕ). Stands v all (es ++ x.more)) (append_assoc o x.walked.taken mid) (y.2 (o ++ x.walked.taken) (es ++ x.more) (x.walked.stands o es st)).0;
+          framing = y.framing ∙ x.walked.framing;
+          stands = λ o es st. subst (λ (all : List ℕ). Stands v all (es ++ x.more)) (append_assoc o x.walked.taken mid) (y.stands (o ++ x.walked.taken) (es ++ x.more) (x.walked.stands o es st));
         };
       }),
-      λ o es st. (y.2 (o ++ x.walked.taken) (es ++ x.more) (x.walked.stands o es st)).1,
+      λ o es st. y.nothing_waits,
     )
 
     -- an octet is refused
     pub stops_fault : (w u v : Machine) (s t : S) (a b : Out D) (piece mid after : List ℕ) (f : Fault) → Follows next w u s t piece mid (HasPut told a b) go.On
-        → StandsStep u v mid after (step.Fault f) → Refuses u v mid after f → FollowsTo next w v s t piece (λ text. Puts {T = Stop} {E = WriteFault} told a b text (Ok (stop.Fault f))) f
-    stops_fault w u v s t a b piece mid after f x y moved = record {
+        → StepsTo u v mid after (step.Fault f) → FollowsTo next w v s t piece (λ text. Puts {T = Stop} {E = WriteFault} told a b text (Ok (stop.Fault f))) f
+    stops_fault w u v s t a b piece mid after f x y = record {
       more = x.more;
       made = x.made;
       put = puts_as told a b (followed next s x.more).put (followed next s x.more).put tt (stop.Fault f) x.put refl;
-      walked = λ o es st. refused_there w u v piece mid after f x.more x.walked moved o es st (x.walked.stands o es st) y;
+      walked = λ o es st. refused_there w u v piece mid after f x.more x.walked o es (x.walked.stands o es st) y;
     }

@@ -1,5 +1,5 @@
 -- What a walker answers of what it has read.
-use Rattle.std.proofs.Common.{◌≡◌, ℕ, List, inl, inr, ◌++◌, ◌∷◌, length, sym, ap, ◌∙◌, subst}
+use Rattle.std.proofs.Common.{◌≡◌, ℕ, List, ◌++◌, ◌∷◌, length, sym, ap, ◌∙◌, subst}
 use Rattle.tlv_head.specs.declared.fault.Fault.{Fault}
 use Rattle.tlv_walk.specs.declared.ending.Ending.{Ending}
 use Rattle.tlv_walk.specs.declared.ending.Ending.TheVariants as ending
@@ -10,7 +10,7 @@ use Rattle.tlv_walk.specs.Machine.{Machine, unused_in}
 use Rattle.tlv_walk.specs.OpenCount.{open_count}
 use Rattle.tlv_walk.specs.Phase.{Failed}
 use Rattle.tlv_walk.specs.State.{NothingWaits, Stands}
-use Rattle.tlv_walk.specs.Tells.{HasRead, StandsAtEnd, took, stopped}
+use Rattle.tlv_walk.specs.Tells.{HasRead, StandsAtEnd, refused_one, stopped, took, took_all}
 use Rattle.tlv_walk.specs.Wrappers.{unused_of}
 use Rattle.tlv_walk.proofs.OpenCounts.{state-depth}
 use Rattle.tlv_walk.proofs.Readings.{reading-unique}
@@ -20,12 +20,12 @@ use Rattle.tlv_walk.proofs.Waiting.{idle}
 
 pub read_depth : (w : Machine) (b : List ℕ) (f : Forest) → HasRead w b f → NothingWaits w → length w.stack ≡ open_count f
 read_depth w b f (took told st e) none =
-    state-depth w b told st.state st.has_state (idle w none)
-    ∙ ap open_count (reading-unique w.framing b _ st.reading (state-reading w b told st.state st.has_state) st.is_reading ∙ e)
+    state-depth w b told st.private_state.state st.private_state.has_state (idle w none)
+    ∙ ap open_count (reading-unique w.framing b _ st.reading (state-reading w b told st.private_state.state st.private_state.has_state) st.is_reading ∙ e)
 read_depth w b f (stopped x told g st e) none = st.depth ∙ ap open_count e
 
 pub read_offset : (w : Machine) (b : List ℕ) (f : Forest) → HasRead w b f → w.offset ≡ length b
-read_offset w b f (took told st e) = st.has_state.offset
+read_offset w b f (took told st e) = st.private_state.has_state.offset
 read_offset w b f (stopped x told g st e) = st.offset
 
 pub read_unused : (w : Machine) (b : List ℕ) (f : Forest) → HasRead w b f → unused_in w ≡ unused_of w.framing.inside f
@@ -35,8 +35,7 @@ read_unused w b f (stopped x told g st e) = st.unused ∙ ap (unused_of w.framin
 -- at the end of the input, also where an octet was refused
 pub ends_by : (w : Machine) (o : List ℕ) (told : List Told) (e result : Ending) → ((b : List ℕ) (told : List Told) → Stands w b told → IsEnding w.framing b result)
     → ((f : Fault) → w.phase ≡ Failed f → result ≡ ending.Fault f) → StandsAtEnd w o told e → IsEnding w.framing o result
-ends_by w o told e result stands failed (inl st) = stands o told st.0
-ends_by w o told e result stands failed (inr r) =
-    let st = r.6 in
-    subst (λ (l : List ℕ). IsEnding w.framing l result) r.4
-    (subst (λ (k : Ending). IsEnding w.framing (r.0 ++ r.1 ∷ r.2) k) (sym (failed r.3 st.phase)) (st.behind.ends r.2))
+ends_by w o told e result stands failed (took_all st none) = stands o told st
+ends_by w o told e result stands failed (refused_one {f = f} at) =
+    subst (λ (l : List ℕ). IsEnding w.framing l result) at.octets_is
+    (subst (λ (k : Ending). IsEnding w.framing (at.front ++ at.octet ∷ at.rest) k) (sym (failed f at.stands.phase)) (at.stands.behind.ends at.rest))

@@ -13,15 +13,16 @@ use Rattle.tlv_walk.specs.Phase.{Phase}
 use Rattle.tlv_walk.specs.Phase as phase
 use Rattle.tlv_walk.specs.Events.{Told, Open, Begin, Enter}
 use Rattle.tlv_walk.specs.Forest.{Stop, lead}
-use Rattle.tlv_walk.specs.Machine.{Machine, found_in, frame_with, next_wrapper}
-use Rattle.tlv_walk.specs.Private.Machine.{CanEnter, Enters, behind_header}
+use Rattle.tlv_walk.specs.Machine.{Machine}
+use Rattle.tlv_walk.specs.Private.Stack.{frame_with}
+use Rattle.tlv_walk.specs.Private.Machine.{CanEnter, Enters, behind_header, found_in, next_wrapper}
 use Rattle.tlv_walk.specs.Wrappers.{enters}
 use Rattle.tlv_walk.specs.Inside.{is_among}
 use Rattle.tlv_walk.specs.Stack.{Frame, Within, bound_of}
 use Rattle.tlv_walk.specs.Private.Tells.{Continues}
 use Rattle.tlv_head.specs.Read.{BeginsWithFields}
 use Rattle.tlv_head.specs.Refusal.{BeginsWith}
-use Rattle.tlv_walk.specs.State.{HasState, InContents, Between, State, frame_of, place_of}
+use Rattle.tlv_walk.specs.Private.State.{HasState, InContents, Between, State, frame_of, place_of}
 use Rattle.tlv_walk.proofs.Entering.{AtHeader, Completed, at_new, holding_state, lead_by, lead_state, primitive_state}
 use Rattle.tlv_walk.proofs.Moves.{with_tail}
 use Rattle.tlv_walk.proofs.Places.{place-bound}

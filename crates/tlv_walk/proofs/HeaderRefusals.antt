@@ -21,7 +21,7 @@ use Rattle.tlv_walk.specs.Place.{Fits as FitsAt, IsHeadAt, Place}
 use Rattle.tlv_walk.specs.Private.ReadsOn.{HandsOver}
 use Rattle.tlv_walk.specs.Stack.{Frame, Within, bound_of}
 use Rattle.tlv_walk.specs.Private.Stack.{left_to}
-use Rattle.tlv_walk.specs.State.{HasState, InHeader, State, place_of}
+use Rattle.tlv_walk.specs.Private.State.{HasState, InHeader, State, place_of}
 use Rattle.tlv_walk.specs.Private.Tells.{RefusesOctet}
 use Rattle.tlv_walk.proofs.HeaderSteps.{HasTaken, TakenState, in_header, taken_state}
 use Rattle.tlv_walk.proofs.Moves.{phase_at, with_tail}
@@ -121,13 +121,13 @@ pub refuses_header : (w u : Machine) (r q : Progress) (before after rest : List 
     → (q.octets ≡ [] → left_to (bound_of u.stack) at ≢ Some 0) → IsRefused f.code q x (left_to (bound_of u.stack) at) depth → f.offset ≡ q.offset + length q.octets
     → RefusesOctet w before after f
 refuses_header w u r q before after rest x depth at f over k e within place deep room refused there =
-    let some : q.octets ≡ [] → ⊥ = λ none. refused-some f.code q x _ depth refused (room none) none in (
-      k.taken,
-      x,
-      rest,
-      k.piece ∙ ap (λ (l : List ℕ). k.taken ++ l) e,
-      e,
-      λ b told s has.
+    let some : q.octets ≡ [] → ⊥ = λ none. refused-some f.code q x _ depth refused (room none) none in record {
+      taken = k.taken;
+      octet = x;
+      rest = rest;
+      before_is = k.piece ∙ ap (λ (l : List ℕ). k.taken ++ l) e;
+      after_is = e;
+      refuses = λ b told s has.
           let t : TakenState w u q k.taken b told = taken_state w u r q before after over k some (subst (Within (bound_of u.stack)) (sym place) within) b told s has in
           let has' : HasState (in_header w q) (b ++ k.taken) told (with_tail t.state (InHeader q.octets)) =
           subst (λ (es : List Told). HasState (in_header w q) (b ++ k.taken) es (with_tail t.state (InHeader q.octets))) (append-nil told) t.has in
@@ -136,15 +136,15 @@ refuses_header w u r q before after rest x depth at f over k e within place deep
           ap (λ (fs : List Frame). left_to (bound_of fs) at) same ∙ ap (left_to (bound_of w.stack)) (sym place) in
           let faulty : IsFault (place_of w.framing t.state) x (Begun q.octets) f.code =
           refused_fault _ q _ depth x f.code (reader_there (in_header w q) (b ++ k.taken) told t.state q depth refl has' (deep ∙ ap length same))
-          (subst (λ (o : Option ℕ). IsRefused f.code q x o depth) left refused) in (
-            in_header w q,
-            with_tail t.state (InHeader q.octets),
-            has',
-            λ z. z,
-            there,
-            λ c. subst (λ (n : ℕ). IsEnding w.framing ((b ++ k.taken) ++ x ∷ c) (fault f.code n)) (sym has'.offset ∙ sym there)
-                (state-fault (in_header w q) (b ++ k.taken) told (with_tail t.state (InHeader q.octets)) x c f.code has' (λ z. z) faulty),
-            refl,
-            refl,
-          ),
-    )
+          (subst (λ (o : Option ℕ). IsRefused f.code q x o depth) left refused) in record {
+            walker = in_header w q;
+            state = with_tail t.state (InHeader q.octets);
+            has_state = has';
+            idle = λ z. z;
+            offset = there;
+            ends = λ c. subst (λ (n : ℕ). IsEnding w.framing ((b ++ k.taken) ++ x ∷ c) (fault f.code n)) (sym has'.offset ∙ sym there)
+                (state-fault (in_header w q) (b ++ k.taken) told (with_tail t.state (InHeader q.octets)) x c f.code has' (λ z. z) faulty);
+            framing = refl;
+            stack = refl;
+          };
+    }

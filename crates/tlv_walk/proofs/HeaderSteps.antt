@@ -16,13 +16,13 @@ use Rattle.tlv_walk.specs.Phase.{Phase}
 use Rattle.tlv_walk.specs.Phase as phase
 use Rattle.tlv_walk.specs.Events.{Told}
 use Rattle.tlv_walk.specs.declared.framing.Framing.{Framing}
-use Rattle.tlv_walk.specs.Machine.{Machine, found_in}
-use Rattle.tlv_walk.specs.Private.Machine.{CanEnter, Enters}
+use Rattle.tlv_walk.specs.Machine.{Machine}
+use Rattle.tlv_walk.specs.Private.Machine.{CanEnter, Enters, found_in}
 use Rattle.tlv_walk.specs.Wrappers.{enters}
 use Rattle.tlv_walk.specs.Private.ReadsOn.{HandsOver, Makes, TellsHeader}
 use Rattle.tlv_walk.specs.Stack.{Within, bound_of}
 use Rattle.tlv_walk.specs.Private.Stack.{left_to}
-use Rattle.tlv_walk.specs.State.{HasState, IsPhaseOf, Between, InHeader, State, place_of}
+use Rattle.tlv_walk.specs.Private.State.{HasState, IsPhaseOf, Between, InHeader, State, place_of}
 use Rattle.tlv_walk.specs.Private.Tells.{Continues, TellsEvent}
 use Rattle.tlv_walk.proofs.Entering.{AtHeader, Completed, at_front, at_new, front_state}
 use Rattle.tlv_walk.proofs.HeaderKinds.{enters_found, enters_framing, enters_state, event_of}
@@ -201,15 +201,15 @@ whole_enters u q x depth at h fewer place limit deep c f =
 -- and the walker tells it
 pub whole_tells : (w u new : Machine) (r q : Progress) (before after rest : List ℕ) (x : ℕ) (h : Heading) (e : Told) → HandsOver w u r → HasTaken r q before after → after ≡ x ∷ rest → Completes q x h
     → TellsHeader u new h e → TellsEvent w new before rest e
-whole_tells w u new r q before after rest x h e over k f c tells = (
-  k.taken ++ x ∷ [],
-  k.piece ∙ (ap (λ (l : List ℕ). k.taken ++ l) f ∙ sym (append_assoc k.taken (x ∷ []) rest)),
-  tells w r (k.taken ++ x ∷ []) over (record {
+whole_tells w u new r q before after rest x h e over k f c tells = record {
+  taken = k.taken ++ x ∷ [];
+  piece = k.piece ∙ (ap (λ (l : List ℕ). k.taken ++ l) f ∙ sym (append_assoc k.taken (x ∷ []) rest));
+  continues = tells w r (k.taken ++ x ∷ []) over (record {
     offset = c.offset ∙ k.offset;
     named = c.named ∙ k.named;
     octets = c.octets ∙ (ap (λ (l : List ℕ). l ++ x ∷ []) k.octets ∙ append_assoc r.octets k.taken (x ∷ []));
-  }),
-)
+  });
+}
 
 -- ---- what a reader has before an octet
 

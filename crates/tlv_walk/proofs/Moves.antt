@@ -9,12 +9,13 @@ use Rattle.tlv_walk.specs.Phase as phase
 use Rattle.tlv_walk.specs.Events.{AreEqualJoined, Told, Begin, Bytes, End, apart, events}
 use Rattle.tlv_walk.specs.Forest.{Forest, Stop, Fill, Whole, Closed, Partial, Entered, Awaiting, Begun, Zero, has_element, is_whole, spell}
 use Rattle.tlv_walk.specs.declared.framing.Framing.{Framing}
-use Rattle.tlv_walk.specs.Machine.{Machine, found_in, next_wrapper}
+use Rattle.tlv_walk.specs.Machine.{Machine}
+use Rattle.tlv_walk.specs.Private.Machine.{found_in, next_wrapper}
 use Rattle.tlv_walk.specs.Wrappers.{enters}
 use Rattle.tlv_walk.proofs.Wrappers.{enters-append}
 use Rattle.tlv_walk.specs.Place.{Fits, IsOpen, Place, after, is_indefinite}
 use Rattle.tlv_walk.specs.Stack.{Frame, IsInIndefinite, Within, bound_of}
-use Rattle.tlv_walk.specs.State.{AreWhole, HasState, IsContents, IsPhaseOf, Layer, Tail, Between, InContents, BeforeUnused, InHeader, InEnd, State, begins_among, events_layers, frames_of, place_in, place_of, spell_layers}
+use Rattle.tlv_walk.specs.Private.State.{AreWhole, HasState, IsContents, IsPhaseOf, Layer, Tail, Between, InContents, BeforeUnused, InHeader, InEnd, State, begins_among, events_layers, frames_of, place_in, place_of, spell_layers}
 use Rattle.tlv_walk.specs.Private.Tells.{Continues}
 use Rattle.tlv_walk.proofs.Joined.{apart-before, apart-from_joined, apart-more, joined-from_apart}
 use Rattle.tlv_walk.proofs.Spellings.{append_assoc-3}

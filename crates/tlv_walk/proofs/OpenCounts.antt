@@ -9,7 +9,7 @@ use Rattle.tlv_walk.specs.Machine.{Machine}
 use Rattle.tlv_walk.specs.Private.Machine.{IsWaiting}
 use Rattle.tlv_walk.specs.OpenCount.{open_count}
 use Rattle.tlv_walk.specs.Place.{Place}
-use Rattle.tlv_walk.specs.State.{AreLayers, HasState, Layer, Tail, Between, InContents, BeforeUnused, InHeader, InEnd, State, frames_of, place_of, stack_of}
+use Rattle.tlv_walk.specs.Private.State.{AreLayers, HasState, Layer, Tail, Between, InContents, BeforeUnused, InHeader, InEnd, State, frames_of, place_of, stack_of}
 use Rattle.tlv_walk.proofs.StateEndings.{forest_of, state-within}
 use Rattle.tlv_walk.proofs.Zipper.{behind, reading_of, within}
 

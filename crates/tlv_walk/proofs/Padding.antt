@@ -7,7 +7,7 @@ use Rattle.tlv_walk.specs.Events.{Told, Pad, apart, events}
 use Rattle.tlv_walk.specs.Forest.{Forest, Stop, Fill, has_element, is_whole, spell}
 use Rattle.tlv_walk.specs.Machine.{Machine}
 use Rattle.tlv_walk.specs.Place.{IsOpen, Place, after}
-use Rattle.tlv_walk.specs.State.{HasState, IsPhaseOf, Layer, Between, State, place_in, place_of}
+use Rattle.tlv_walk.specs.Private.State.{HasState, IsPhaseOf, Layer, Between, State, place_in, place_of}
 use Rattle.tlv_walk.specs.Private.Tells.{Continues}
 use Rattle.tlv_walk.proofs.Moves.{are_whole, element-either, between_tail, phase_at, spelled_whole, tail_state, told_whole, with_layers}
 use Rattle.tlv_walk.proofs.Zipper.{behind}

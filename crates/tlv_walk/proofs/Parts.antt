@@ -24,14 +24,14 @@ use Rattle.tlv_walk.proofs.Passing.{passed, tells_primitive}
 use Rattle.tlv_io.proofs.Puts.{HasPut, puts_as, puts_failed_last, puts_then_as}
 use Rattle.tlv_walk.proofs.Standing.{stands_all}
 
--- events were told
-pub walked_all : (w v : Machine) (before after : List ℕ) (es : List Told) → TellsAll w v before after es → Walked w v before after es
-walked_all w v before after es t = let u = stands_all w v before after es t in record { taken = u.0; piece = u.1; framing = u.2; stands = u.3 }
-
 -- a primitive that lies whole at the front of a piece
 pub walked_primitive : (w : Machine) (piece : List ℕ) (p : WholePrimitive) → CanPass w piece p
     → Walked w (passed w p 0) piece (drop p.octets piece) (whole_events (heading_at p piece) (take p.octets piece))
-walked_primitive w piece p can = walked_all w _ piece (drop p.octets piece) _ (take p.octets piece, sym (take-append-drop p.octets piece), tells_primitive w piece p 0 can)
+walked_primitive w piece p can = stands_all w _ piece (drop p.octets piece) _ (record {
+  taken = take p.octets piece;
+  piece = sym (take-append-drop p.octets piece);
+  continues = tells_primitive w piece p 0 can;
+})
 
 module _ {S : Type 0} (next : S → Told → Following S) where
   -- where more is wanted at the end, more was wanted behind each event
@@ -82,7 +82,7 @@ module _ {S : Type 0} (next : S → Told → Following S) where
         more = all;
         made = made_all s t all e g;
         put = puts_as told a b (followed next s all).put (followed next s all).put x y put refl;
-        walked = walked_all w v before after all (subst (λ (g : Heading). TellsAll w v before after (whole_events g (take p.octets before))) (sym same) tells);
+        walked = stands_all w v before after all (subst (λ (g : Heading). TellsAll w v before after (whole_events g (take p.octets before))) (sym same) tells);
       };
       passes = passes;
     }

@@ -5,9 +5,10 @@ use Rattle.tlv_head.specs.declared.header.Size.TheVariants.{Definite, Indefinite
 use Rattle.tlv_walk.specs.declared.framing.Framing.{Framing}
 use Rattle.tlv_walk.specs.Events.{Told}
 use Rattle.tlv_walk.specs.Forest.{opening, spell}
-use Rattle.tlv_walk.specs.Machine.{Machine, bound_in}
+use Rattle.tlv_walk.specs.Machine.{Machine}
+use Rattle.tlv_walk.specs.Private.Stack.{bound_in}
 use Rattle.tlv_walk.specs.Stack.{bound_of}
-use Rattle.tlv_walk.specs.State.{HasState, Layer, State, frames_of, place_in, place_of, spell_layers, spell_tail}
+use Rattle.tlv_walk.specs.Private.State.{HasState, Layer, State, frames_of, place_in, place_of, spell_layers, spell_tail}
 
 pub place-at : (w : Framing) (ls : List Layer) → (place_in w ls).at ≡ length (spell_layers ls)
 place-at w [] = refl

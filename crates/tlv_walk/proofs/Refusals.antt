@@ -13,7 +13,7 @@ use Rattle.tlv_walk.specs.Machine.{Machine}
 use Rattle.tlv_walk.specs.Private.Machine.{IsWaiting, IsWaitingIn, fault_at}
 use Rattle.tlv_walk.specs.Stack.{IsFilled, IsInIndefinite, Within, bound_of}
 use Rattle.tlv_walk.specs.Private.Stack.{left_to, room_of}
-use Rattle.tlv_walk.specs.State.{HasState, Layer, Between, BeforeUnused, InEnd, State, frames_of, place_in, place_of}
+use Rattle.tlv_walk.specs.Private.State.{HasState, Layer, Between, BeforeUnused, InEnd, State, frames_of, place_in, place_of}
 use Rattle.tlv_walk.specs.Private.Tells.{RefusesOctet}
 use Rattle.tlv_walk.proofs.Entering.{lead_tail}
 use Rattle.tlv_walk.proofs.Moves.{between_tail, lone_tail, phase_at, tail_state, with_tail}
@@ -47,25 +47,25 @@ refuses_front w piece f h r = subst (λ (o : List ℕ). RefusesOctet w o o f) (s
 pub refuses_here : (w : Machine) (x : ℕ) (rest : List ℕ) (code : FaultCode) → (IsWaiting w → ⊥)
     → ((b : List ℕ) (told : List Told) (s : State) → HasState w b told s → (t : State) × HasState w b told t × IsFault (place_of w.framing t) x (forest_of t.tail) code)
     → RefusesOctet w (x ∷ rest) (x ∷ rest) (fault_at code w.offset)
-refuses_here w x rest code idle faulty = (
-  [],
-  x,
-  rest,
-  refl,
-  refl,
-  λ b told s has.
-      let f = faulty b told s has in (
-        w,
-        f.0,
-        subst (λ (o : List ℕ). HasState w o told f.0) (sym (append-nil b)) f.1,
-        idle,
-        refl,
-        λ c. subst (λ (o : List ℕ). IsEnding w.framing (o ++ x ∷ c) (ending.Fault (fault_at code w.offset))) (sym (append-nil b))
-            (subst (λ (n : ℕ). IsEnding w.framing (b ++ x ∷ c) (fault code n)) (sym f.1.offset) (state-fault w b told f.0 x c code f.1 idle f.2)),
-        refl,
-        refl,
-      ),
-)
+refuses_here w x rest code idle faulty = record {
+  taken = [];
+  octet = x;
+  rest = rest;
+  before_is = refl;
+  after_is = refl;
+  refuses = λ b told s has.
+      let f = faulty b told s has in record {
+        walker = w;
+        state = f.0;
+        has_state = subst (λ (o : List ℕ). HasState w o told f.0) (sym (append-nil b)) f.1;
+        idle = idle;
+        offset = refl;
+        ends = λ c. subst (λ (o : List ℕ). IsEnding w.framing (o ++ x ∷ c) (ending.Fault (fault_at code w.offset))) (sym (append-nil b))
+            (subst (λ (n : ℕ). IsEnding w.framing (b ++ x ∷ c) (fault code n)) (sym f.1.offset) (state-fault w b told f.0 x c code f.1 idle f.2));
+        framing = refl;
+        stack = refl;
+      };
+}
 
 bound_there : (w : Machine) (b : List ℕ) (told : List Told) (s : State) → HasState w b told s → w.stack ≡ frames_of w.framing s.layers → bound_of w.stack ≡ (place_of w.framing s).bound
 bound_there w b told s has stack = ap bound_of stack ∙ sym (place-bound w.framing s.layers)

@@ -8,9 +8,10 @@ use Rattle.tlv_walk.specs.declared.framing.Framing.{Framing}
 use Rattle.tlv_walk.specs.Forest.{Forest, Stop, Closed, is_whole, opening, spell}
 use Rattle.tlv_walk.specs.Private.Forest.{contents_length}
 use Rattle.tlv_walk.specs.Place.{Fits, IsOpen, Place, after, inside_of, top}
-use Rattle.tlv_walk.specs.Machine.{bound_in}
+use Rattle.tlv_walk.specs.Private.Stack.{bound_in}
 use Rattle.tlv_walk.specs.Stack.{IsFilled}
-use Rattle.tlv_walk.specs.State.{AreLayers, AreWhole, Layer, frames_of, is_end, place_in, spell_layers}
+use Rattle.tlv_walk.specs.Private.State.{AreLayers, AreWhole, Layer, frames_of, place_in, spell_layers}
+use Rattle.tlv_walk.specs.State.{is_end}
 use Rattle.tlv_walk.proofs.Bounds.{IsFull, fits-inside, has_length, length-full}
 use Rattle.tlv_walk.proofs.PushSteps.{Spells, is_filled}
 use Rattle.tlv_walk.proofs.Push.{closed-sound, reaches, unfilled-lacks}

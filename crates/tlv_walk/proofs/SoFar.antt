@@ -13,10 +13,10 @@ use Rattle.tlv_walk.specs.Events.{Told, Open, Begin, Bytes, End, Close, Enter, U
 use Rattle.tlv_walk.specs.Follow.{Following, followed}
 use Rattle.tlv_walk.specs.Follows.{Made}
 use Rattle.tlv_walk.specs.Laws.{AreOctets}
-use Rattle.tlv_walk.specs.Machine.{Machine, new_machine}
+use Rattle.tlv_walk.specs.Machine.{new_machine}
 use Rattle.tlv_io.specs.Out.{Sends}
 use Rattle.tlv_walk.specs.State.{Stands, waiting_of}
-use Rattle.tlv_walk.specs.Turns.{GaveUpTo, given}
+use Rattle.tlv_walk.specs.Turns.{GaveUpTo, TurnState, given, turn_state}
 use Rattle.tlv_walk.specs.Wrappers.{enters}
 use Rattle.tlv_walk.proofs.Following.{made_none}
 use Rattle.tlv_io.proofs.Pieces.{GaveLast, Gathered, gathered_none}
@@ -65,18 +65,19 @@ enters_each (Pad c ∷ es) = enters_each es
 
 module _ {S : Type 0} (next : S → Told → Following S) where
   -- the walk so far: the octets given, the events told of them, and what was made of these
-  pub record Walking (framing : Framing) (w : Machine) (s t : S) (old new : Supply) (from to : Taken) : Type 0 where
-    pub gathered : Gathered old new
+  pub record Walking (framing : Framing) (s : S) (old : Supply) (from : Taken) (now : TurnState S) : Type 0 where
+    pub gathered : Gathered old now.source
     pub octets : AreOctets (concat gathered.pieces)
-    pub failures : new.failures ≡ old.failures
+    pub failures : now.source.failures ≡ old.failures
     pub told : List Told
-    pub made : Made next s t told go.On
-    pub sends : Sends {T = ⊤} {E = DeviceFault} from to (followed next s told).put (Ok tt)
-    pub same : w.framing ≡ framing
-    pub stands : Stands w (concat gathered.pieces) told
-    pub quiet : waiting_of w ≡ []
+    pub made : Made next s now.follower told go.On
+    pub sends : Sends {T = ⊤} {E = DeviceFault} from now.drain (followed next s told).put (Ok tt)
+    pub same : now.walker.framing ≡ framing
+    pub stands : Stands now.walker (concat gathered.pieces) told
+    pub quiet : waiting_of now.walker ≡ []
 
-  pub walking_none : (framing : Framing) (s : S) (old : Supply) (from : Taken) → Stands (new_machine framing) [] [] → Walking framing (new_machine framing) s s old old from from
+  pub walking_none : (framing : Framing) (s : S) (old : Supply) (from : Taken) → Stands (new_machine framing) [] []
+      → Walking framing s old from (turn_state (new_machine framing) s old from)
   walking_none framing s old from st = record {
     gathered = gathered_none old;
     octets = All-nil (λ x. x < 256);

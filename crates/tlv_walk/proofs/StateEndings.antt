@@ -13,7 +13,7 @@ use Rattle.tlv_walk.specs.Forest.{Forest, Stop, Partial, Awaiting, Begun, Zero, 
 use Rattle.tlv_walk.specs.Machine.{IsReady, IsReadyIn, Machine}
 use Rattle.tlv_walk.specs.Private.Machine.{IsWaiting, IsWaitingIn}
 use Rattle.tlv_walk.specs.Place.{Place, top}
-use Rattle.tlv_walk.specs.State.{HasState, IsPhaseOf, Layer, Tail, Between, InContents, BeforeUnused, InHeader, InEnd, State, begins_element, frames_of, place_in, place_of, spell_tail, stack_of}
+use Rattle.tlv_walk.specs.Private.State.{HasState, IsPhaseOf, Layer, Tail, Between, InContents, BeforeUnused, InHeader, InEnd, State, begins_element, frames_of, place_in, place_of, spell_tail, stack_of}
 use Rattle.tlv_walk.proofs.Endings.{halt-ending}
 use Rattle.tlv_walk.proofs.Faults.{fault-refused}
 use Rattle.tlv_walk.proofs.PushSteps.{Spells}

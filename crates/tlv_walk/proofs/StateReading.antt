@@ -9,11 +9,12 @@ use Rattle.tlv_walk.specs.Phase.{Phase}
 use Rattle.tlv_walk.specs.Phase as phase
 use Rattle.tlv_walk.specs.Events.{Told, AreEqualJoined, Begin, Bytes, End, apart, events}
 use Rattle.tlv_walk.specs.Forest.{Forest, Stop, Whole, Partial, Awaiting, Begun, Zero, is_whole, spell}
-use Rattle.tlv_walk.specs.Machine.{Machine, new_machine, found_in}
+use Rattle.tlv_walk.specs.Machine.{Machine, new_machine}
+use Rattle.tlv_walk.specs.Private.Machine.{found_in}
 use Rattle.tlv_walk.specs.Place.{IsOpen, Place, after, top}
 use Rattle.tlv_walk.specs.Reading.{IsReading}
-use Rattle.tlv_walk.specs.State.{AreLayers, AreWhole, HasState, IsContents, IsPhaseOf, Layer, Tail, Between, InContents, BeforeUnused, InHeader, InEnd, Stands, State, endings_at, events_layers, events_state, events_tail, frames_of, place_in, place_of, spell_layers, spell_state, spell_tail, stack_of, waiting_in, waiting_of}
-use Rattle.tlv_walk.specs.Private.State.{wrappers_layers, wrappers_state, wrappers_tail}
+use Rattle.tlv_walk.specs.State.{Stands, endings_at, waiting_in, waiting_of}
+use Rattle.tlv_walk.specs.Private.State.{AreLayers, AreWhole, HasState, IsContents, IsPhaseOf, Layer, Tail, Between, InContents, BeforeUnused, InHeader, InEnd, State, events_layers, events_state, events_tail, frames_of, place_in, place_of, spell_layers, spell_state, spell_tail, stack_of, wrappers_layers, wrappers_state, wrappers_tail}
 use Rattle.tlv_walk.specs.Inside.{CanName}
 use Rattle.tlv_walk.specs.Wrappers.{enters, wrappers}
 use Rattle.tlv_walk.proofs.Joined.{apart-before, apart-from_joined, joined-from_apart}
@@ -212,7 +213,7 @@ state-wrappers w b told s h = reading-wrappers w.framing s.layers s.here s.tail 
 -- a walker with a state stands for what was told and what was taken
 pub stands : (w : Machine) (b : List ℕ) (told : List Told) (s : State) → HasState w b told s → CanName w.framing.inside → w.wrappers ≡ found_in w.framing.inside 0 (enters told) → Stands w b told
 stands w b told s h n k =
-    record { reading = reading_of s; is_reading = state-reading w b told s h; all_told = state-events w b told s h; state = s; has_state = h; named = n; found = k }
+    record { reading = reading_of s; is_reading = state-reading w b told s h; all_told = state-events w b told s h; private_state = record { state = s; has_state = h; named = n; found = k } }
 
 -- the state of a new walker: nothing is open, and nothing came
 abbrev pub new_state : State

@@ -14,7 +14,8 @@ use Rattle.tlv_walk.specs.Events.{AreEqualJoined, Told, Open, Begin, Bytes, End,
 use Rattle.tlv_walk.specs.Forest.{Forest, Stop, Fill, Whole, Closed, Partial, Entered, Awaiting, Begun, Zero, end_octets, extent, is_whole, lead, opening, spell}
 use Rattle.tlv_walk.specs.Machine.{IsTold, Machine}
 use Rattle.tlv_walk.specs.Place.{IsHeadAt, IsOpen, Place, after, inside_of}
-use Rattle.tlv_walk.specs.State.{AreLayers, InContents, InHeader, HasState, IsPhaseOf, Layer, BeforeUnused, InEnd, Between, Stands, State, Tail, events_layers, events_state, events_tail, place_in, place_of, spell_layers, spell_tail}
+use Rattle.tlv_walk.specs.Private.State.{AreLayers, InContents, InHeader, HasState, IsPhaseOf, Layer, BeforeUnused, InEnd, Between, State, Tail, events_layers, events_state, events_tail, place_in, place_of, spell_layers, spell_tail}
+use Rattle.tlv_walk.specs.State.{Stands}
 use Rattle.tlv_walk.proofs.Joined.{apart-from_joined}
 
 -- ---- however they are cut into pieces
@@ -128,8 +129,8 @@ octets_tail f t p i k = absurd i
 -- a walker that has told an event of each octet
 pub stands-told_octets : (w : Machine) (b : List ℕ) (told : List Told) → Stands w b told → IsTold w.phase → flat_map octets_told told ≡ b
 stands-told_octets w b told st k =
-    let s : State = st.state in
-    let h : HasState w b told s = st.has_state in
+    let s : State = st.private_state.state in
+    let h : HasState w b told s = st.private_state.has_state in
     octets_joined told (events_state s) h.told_of
     ∙ octets_append (events_layers s.layers) (events s.here ++ events_tail s.tail)
     ∙ ap (λ (t : List ℕ). t ++ flat_map octets_told (events s.here ++ events_tail s.tail)) (octets_layers w.framing s.layers h.layers)

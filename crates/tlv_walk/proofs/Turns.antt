@@ -34,7 +34,8 @@ use Rattle.tlv_io.specs.Out.{Puts, Sends, held_in, lender_of}
 use Rattle.tlv_walk.specs.Place.{top}
 use Rattle.tlv_walk.specs.Reading.{IsReading}
 use Rattle.tlv_walk.specs.State.{Stands, waiting_of}
-use Rattle.tlv_walk.specs.Turns.{EndsBy, EndsIn, StandsOn, StopsIn, Turns}
+use Rattle.tlv_walk.specs.Tells.{StandsAtEnd, refused_one, took_all}
+use Rattle.tlv_walk.specs.Turns.{EndsBy, EndsIn, StandsOn, StopsIn, TurnState, TurnsTo}
 use Rattle.tlv_walk.specs.Wrappers.{enters, first_other, unused_of}
 use Rattle.tlv_walk.proofs.Finals.{refused-final}
 use Rattle.tlv_walk.proofs.Followed.{followed-front}
@@ -42,6 +43,7 @@ use Rattle.tlv_walk.proofs.Following.{walked_goes_on}
 use Rattle.tlv_io.proofs.Puts.{puts_failed_last, puts_then_as, sends_err, sends_flushed, sends_ok, sends_puts}
 use Rattle.tlv_walk.proofs.PushSteps.{Spells}
 use Rattle.tlv_walk.proofs.Readings.{reading-longer, reading-unique}
+use Rattle.tlv_walk.proofs.SoFar.{limit_behind}
 use Rattle.tlv_walk.proofs.StateReading.{state-reading, state-spells}
 use Rattle.tlv_walk.proofs.ToldOctets.{stands-told_octets}
 use Rattle.tlv_walk.proofs.Unused.{stands-entered, stands_unused}
@@ -52,8 +54,8 @@ use Rattle.tlv_walk.proofs.Zipper.{reading_of}
 -- a walker that stands for octets has read them all
 pub stands_spelled : (v : Machine) (b : List ℕ) (told : List Told) (f : Forest) → Stands v b told → IsReading v.framing b f → spell f ≡ b
 stands_spelled v b told f st r =
-    let spells : Spells (top v.framing) b (reading_of st.state) = state-spells v b told st.state st.has_state in
-    ap spell (reading-unique v.framing b f (reading_of st.state) r (state-reading v b told st.state st.has_state)) ∙ spells.spelled
+    let spells : Spells (top v.framing) b (reading_of st.private_state.state) = state-spells v b told st.private_state.state st.private_state.has_state in
+    ap spell (reading-unique v.framing b f (reading_of st.private_state.state) r (state-reading v b told st.private_state.state st.private_state.has_state)) ∙ spells.spelled
 
 -- where nothing waits, all events of the reading were told
 pub stands_told : (v : Machine) (b : List ℕ) (told : List Told) (f : Forest) → Stands v b told → waiting_of v ≡ [] → IsReading v.framing b f → AreEqualJoined told (events f)
@@ -123,48 +125,41 @@ module _ {S : Type 0} (next : S → Told → Following S) where
       tells = x.tells;
     }
 
-  -- ---- the piece is used up
+-- ---- what was made of a piece, by why it is not followed any further
 
-  pub used_up_on : (w v : Machine) (s t : S) (b piece : List ℕ) (told : List Told) (P Q : List ℕ → Type 0) → ((x : List ℕ) → P x → Q x) → Stops next w v s t piece P (Ok stop.UsedUp) → Stands w b told
-      → StandsOn next w v s t (b ++ piece) told Q
-  used_up_on w v s t b piece told P Q h x st = record {
+module _ {S : Type 0} (next : S → Told → Following S) (before after : TurnState S) (b piece : List ℕ) (told : List Told) (P : List ℕ → Type 0)
+    (sends : (x : List ℕ) → P x → Sends {T = ⊤} {E = DeviceFault} before.drain after.drain x (Ok tt)) (st : Stands before.walker b told) where
+  abbrev w : Machine
+  w = before.walker
+
+  abbrev v : Machine
+  v = after.walker
+
+  abbrev Stopped : Stop → Type 0
+  Stopped why = Stops next w v before.follower after.follower piece P (Ok why)
+
+  -- the piece is used up
+  pub used_up_on : Stopped stop.UsedUp → StandsOn next before after (b ++ piece) told
+  used_up_on x = record {
     more = x.0.more;
     made = x.0.made;
-    put = h (followed next s x.0.more).put x.0.put;
+    put = sends (followed next before.follower x.0.more).put x.0.put;
     framing = x.0.walked.framing;
     stands = subst (λ (o : List ℕ). Stands v (b ++ o) (told ++ x.0.more)) (sym (append-nil x.0.walked.taken) ∙ sym x.0.walked.piece) (x.0.walked.stands b told st);
     quiet = x.1 b told st;
   }
 
-  -- the input has ended
-  pub used_up_ends : (w v : Machine) (s t : S) (o : List ℕ) (told : List Told) (Q : List ℕ → Type 0) (run : Run) (e : Ending) → StandsOn next w v s t o told Q → IsRun run e false v → IsEnding v.framing o e
-      → EndsIn next w v s t o told Q run
-  used_up_ends w v s t o told Q run e x is ends =
-      let r : IsReading w.framing o x.stands.reading = subst (λ (g : Framing). IsReading g o x.stands.reading) x.framing x.stands.is_reading in record {
-        more = x.more;
-        made = x.made;
-        put = x.put;
-        reading = x.stands.reading;
-        is_reading = r;
-        tells = stands_told v o (told ++ x.more) x.stands.reading x.stands x.quiet x.stands.is_reading;
-        ending = subst (λ (k : Ending). IsEnding w.framing o k) (sym is.ending) (subst (λ (g : Framing). IsEnding g o e) x.framing ends);
-        spelled = is.octets ∙ x.stands.has_state.offset ∙ ap length (sym (stands_spelled v o (told ++ x.more) x.stands.reading x.stands x.stands.is_reading));
-        unused = is.unused ∙ stands_unused v o (told ++ x.more) x.stands ∙ ap (λ (g : Framing). unused_of g.inside x.stands.reading) x.framing;
-        walker = inl (x.stands, x.quiet);
-      }
-
-  -- ---- the follower had enough
-
-  pub enough_stops : (w v : Machine) (s t : S) (b piece : List ℕ) (told : List Told) (P Q : List ℕ → Type 0) → ((x : List ℕ) → P x → Q x) → Stops next w v s t piece P (Ok stop.Enough) → Stands w b told
-      → (f : Forest) → IsReading w.framing (b ++ piece) f → (run : Run) → IsRun run ending.Done true v → StopsIn next w v s t (b ++ piece) told Q run
-  enough_stops w v s t b piece told P Q h x st f read run is =
+  -- the follower had enough
+  pub enough_stops : Stopped stop.Enough → (f : Forest) → IsReading w.framing (b ++ piece) f → (run : Run) → IsRun run ending.Done true v
+      → StopsIn next before after (b ++ piece) told run
+  enough_stops x f read run is =
       let k = x.1 in
       let further = walked_goes_on w v piece x.0 k.more k.walked b told st f read in
       let there : Stands v (b ++ k.walked.taken) (told ++ k.more) = k.walked.stands b told st in
       let front : flat_map octets_told (told ++ k.more) ≡ b ++ k.walked.taken = stands-told_octets v (b ++ k.walked.taken) (told ++ k.more) there x.2 in record {
         more = k.more;
         made = k.made;
-        put = h (followed next s k.more).put k.put;
+        put = sends (followed next before.follower k.more).put k.put;
         reading = f;
         is_reading = read;
         others = further.0;
@@ -173,27 +168,45 @@ module _ {S : Type 0} (next : S → Told → Following S) where
         framing = k.walked.framing;
         is_front = (x.0, ap (λ (o : List ℕ). o ++ x.0) front ∙ append_assoc b k.walked.taken x.0 ∙ ap (λ (o : List ℕ). b ++ o) (sym k.walked.piece));
         stands = subst (λ (o : List ℕ). Stands v o (told ++ k.more)) (sym front) there;
-        spelled = is.octets ∙ there.has_state.offset ∙ ap length (sym front);
+        spelled = is.octets ∙ there.private_state.has_state.offset ∙ ap length (sym front);
         unused = is.unused ∙ stands-entered v (b ++ k.walked.taken) (told ++ k.more) there ∙ ap (λ (g : Framing). first_other g.inside (enters (told ++ k.more))) k.walked.framing;
       }
 
-  -- ---- an octet is refused
-
-  pub fault_ends : (w v : Machine) (s t : S) (b piece : List ℕ) (told : List Told) (P Q : List ℕ → Type 0) → ((x : List ℕ) → P x → Q x) → (e : Fault) → FollowsTo next w v s t piece P e → Stands w b told
-      → (run : Run) → IsRun run (ending.Fault e) false v → EndsIn next w v s t (b ++ piece) told Q run
-  fault_ends w v s t b piece told P Q h e x st run is =
+  -- an octet is refused
+  pub fault_ends : (e : Fault) → Stopped (stop.Fault e) → (run : Run) → IsRun run (ending.Fault e) false v → EndsIn next before after (b ++ piece) told run
+  fault_ends e x run is =
       let k : WalkedTo w v piece x.more e b told = x.walked b told st in record {
         more = x.more;
         made = x.made;
-        put = h (followed next s x.more).put x.put;
+        put = sends (followed next before.follower x.more).put x.put;
         reading = k.refused.reading;
         is_reading = fault_is_reading w v b piece told x.more e k;
         tells = k.refused.all_told;
         ending = subst (λ (g : Ending). IsEnding w.framing (b ++ piece) g) (sym is.ending) (subst (λ (o : List ℕ). IsEnding w.framing o (ending.Fault e)) (fault_octets w v b piece told x.more e k) (k.refused.ends k.rest));
         spelled = is.octets ∙ k.offset ∙ ap length (sym k.refused.spelled);
         unused = is.unused ∙ k.unused;
-        walker = inr (b ++ k.taken, k.octet, k.rest, e, fault_octets w v b piece told x.more e k, is.ending, k.stands);
+        walker = subst (StandsAtEnd v (b ++ piece) (told ++ x.more)) (sym is.ending)
+            (refused_one (record { front = b ++ k.taken; octet = k.octet; rest = k.rest; octets_is = fault_octets w v b piece told x.more e k; stands = k.stands }));
       }
+
+-- the input has ended
+used_up_ends : {S : Type 0} (next : S → Told → Following S) (before after : TurnState S) (o : List ℕ) (told : List Told) (run : Run) (e : Ending)
+    → StandsOn next before after o told → IsRun run e false after.walker → IsEnding after.walker.framing o e → EndsIn next before after o told run
+used_up_ends next before after o told run e x is ends =
+    let w : Machine = before.walker in
+    let v : Machine = after.walker in
+    let r : IsReading w.framing o x.stands.reading = subst (λ (g : Framing). IsReading g o x.stands.reading) x.framing x.stands.is_reading in record {
+      more = x.more;
+      made = x.made;
+      put = x.put;
+      reading = x.stands.reading;
+      is_reading = r;
+      tells = stands_told v o (told ++ x.more) x.stands.reading x.stands x.quiet x.stands.is_reading;
+      ending = subst (λ (k : Ending). IsEnding w.framing o k) (sym is.ending) (subst (λ (g : Framing). IsEnding g o e) x.framing ends);
+      spelled = is.octets ∙ x.stands.private_state.has_state.offset ∙ ap length (sym (stands_spelled v o (told ++ x.more) x.stands.reading x.stands x.stands.is_reading));
+      unused = is.unused ∙ stands_unused v o (told ++ x.more) x.stands ∙ ap (λ (g : Framing). unused_of g.inside x.stands.reading) x.framing;
+      walker = took_all x.stands x.quiet;
+    }
 
 -- ---- what a turn answers
 
@@ -204,86 +217,90 @@ taken_within limit at n p = elim (cases_lt (limit - at) n) [
   | inr more ↦ ap (λ (k : ℕ). take k p) (omega (arith, more)) ∙ sym (take_all (limit - at) (take n p) (omega (arith, more, length-take n p)))
 ]
 
-module _ {S : Type 0} (next : S → Told → Following S) (w v : Machine) (s t : S) (from to : Taken) (b : List ℕ) (told : List Told) (p piece r : List ℕ) (n m limit : ℕ)
-    (st : Stands w b told) (some : n ≤ length p) (below : w.offset ≤ limit) (is_m : m ≡ min (limit - w.offset) n) (is_piece : piece ≡ take m p) (is_r : r ≡ take n p)
-    (octets : AreOctets piece) where
+module _ {S : Type 0} (next : S → Told → Following S) (before after : TurnState S) (b : List ℕ) (told : List Told) (p piece r : List ℕ) (n m limit : ℕ)
+    (st : Stands before.walker b told) (some : n ≤ length p) (below : before.walker.offset ≤ limit) (is_m : m ≡ min (limit - before.walker.offset) n)
+    (is_piece : piece ≡ take m p) (is_r : r ≡ take n p) (octets : AreOctets piece) where
+  abbrev at : ℕ
+  at = before.walker.offset
+
   -- octets were sent, and a stop was answered
   abbrev Sent : Result Stop WriteFault → List ℕ → Type 0
-  Sent result text = Sends from to text result
+  Sent result text = Sends before.drain after.drain text result
 
   -- the same of a turn
-  sent : (why : Stop) (turn : Result Turn DeviceFault) → (x : List ℕ) → Sent (Ok why) x → Sends {T = ⊤} {E = DeviceFault} from to x (Ok tt)
-  sent why turn x q = sends_ok from to x x why tt q refl
-
-  within : piece ≡ take (limit - length b) r
-  within =
-      is_piece ∙ ap (λ (k : ℕ). take k p) is_m ∙ taken_within limit w.offset n p ∙ ap (λ (k : ℕ). take (limit - k) (take n p)) st.has_state.offset
-      ∙ ap (λ (o : List ℕ). take (limit - length b) o) (sym is_r)
+  sent : (why : Stop) → (x : List ℕ) → Sent (Ok why) x → Sends {T = ⊤} {E = DeviceFault} before.drain after.drain x (Ok tt)
+  sent why x q = sends_ok before.drain after.drain x x why tt q refl
 
   many : length r ≡ n
   many = ap length is_r ∙ length-take n p ∙ omega (arith, some)
 
-  -- the reading of the octets that are followed
-  read : (f : Forest) × IsReading w.framing (b ++ piece) f
+  -- the octets that are followed are those up to the limit
+  reached : b ++ piece ≡ take limit (b ++ r)
+  reached =
+      ap (λ (o : List ℕ). b ++ o) (
+      is_piece ∙ ap (λ (k : ℕ). take k p) is_m ∙ taken_within limit at n p ∙ ap (λ (k : ℕ). take (limit - k) (take n p)) st.private_state.has_state.offset
+      ∙ ap (λ (o : List ℕ). take (limit - length b) o) (sym is_r)
+      ) ∙ limit_behind limit b r (omega (arith, st.private_state.has_state.offset, below))
+
+  -- the reading of these
+  read : (f : Forest) × IsReading before.walker.framing (b ++ piece) f
   read =
-      reading-longer w.framing st.reading b piece octets st.is_reading (stands_spelled w b told st.reading st st.is_reading)
+      reading-longer before.walker.framing st.reading b piece octets st.is_reading (stands_spelled before.walker b told st.reading st st.is_reading)
 
   -- all octets are within the limit
   all_within : (m < n → ⊥) → piece ≡ r
   all_within e = is_piece ∙ ap (λ (k : ℕ). take k p) (omega (arith, e, is_m)) ∙ sym is_r
 
-  reached : b ++ piece ≡ b ++ take (limit - length b) r
-  reached = ap (λ (o : List ℕ). b ++ o) within
+  abbrev Followed : Stop → Stop → Type 0
+  Followed why stopped = Stops next before.walker after.walker before.follower after.follower piece (Sent (Ok why)) (Ok stopped)
 
-  abbrev Used : Stop → Type 0
-  Used why = Stops next w v s t piece (Sent (Ok why)) (Ok stop.UsedUp)
+  used : (why : Stop) → Followed why stop.UsedUp → StandsOn next before after (b ++ piece) told
+  used why x = used_up_on next before after b piece told _ (sent why) st x
 
-  used : (why : Stop) → Used why → StandsOn next w v s t (b ++ piece) told (λ text. Sends {T = ⊤} {E = DeviceFault} from to text (Ok tt))
-  used why x = used_up_on next w v s t b piece told _ (λ text. Sends {T = ⊤} {E = DeviceFault} from to text (Ok tt)) (sent why (Ok Again)) x st
+  turns_again : (why : Stop) → Followed why stop.UsedUp → (m < n → ⊥) → (n ≡ 0 → ⊥) → TurnsTo next before after limit b told r (Ok Again)
+  turns_again why x fits some' = record {
+    some = λ e. some' (sym many ∙ ap length e);
+    within = omega (arith, length-append b r, many, st.private_state.has_state.offset, fits, below, is_m);
+    stands_on = subst (λ (o : List ℕ). StandsOn next before after (b ++ o) told) (all_within fits) (used why x);
+  }
 
-  turns_again : (why : Stop) → Used why → (m < n → ⊥) → (n ≡ 0 → ⊥) → Turns next limit w v s t b told r from to (Ok Again)
-  turns_again why x fits some' = (
-    λ e. some' (sym many ∙ ap length e),
-    omega (arith, length-append b r, many, st.has_state.offset, fits, below, is_m),
-    subst (λ (o : List ℕ). StandsOn next w v s t (b ++ o) told (λ text. Sends {T = ⊤} {E = DeviceFault} from to text (Ok tt))) (all_within fits) (used why x),
-  )
+  turns_long : (why : Stop) → Followed why stop.UsedUp → m < n → TurnsTo next before after limit b told r (Err InputTooLong)
+  turns_long why x more = record {
+    beyond = omega (arith, length-append b r, many, st.private_state.has_state.offset, more, below, is_m);
+    stands_on = subst (λ (o : List ℕ). StandsOn next before after o told) reached (used why x);
+  }
 
-  turns_long : (why : Stop) → Used why → m < n → Turns next limit w v s t b told r from to (Err InputTooLong)
-  turns_long why x more = (
-    omega (arith, length-append b r, many, st.has_state.offset, more, below, is_m),
-    subst (λ (o : List ℕ). StandsOn next w v s t o told (λ text. Sends {T = ⊤} {E = DeviceFault} from to text (Ok tt))) reached (used why x),
-  )
-
-  ends_by : (run : Run) → run.enough ≡ false → EndsIn next w v s t (b ++ piece) told (λ text. Sends {T = ⊤} {E = DeviceFault} from to text (Ok tt)) run
-      → EndsBy next run.enough w v s t (b ++ take (limit - length b) r) told (λ text. Sends {T = ⊤} {E = DeviceFault} from to text (Ok tt)) run
+  ends_by : (run : Run) → run.enough ≡ false → EndsIn next before after (b ++ piece) told run → EndsBy next before after run.enough (take limit (b ++ r)) told run
   ends_by run is x =
-      let P : List ℕ → Type 0 = λ text. Sends {T = ⊤} {E = DeviceFault} from to text (Ok tt) in
-      subst (λ (k : Bool). EndsBy next k w v s t (b ++ take (limit - length b) r) told P run) (sym is) (subst (λ (o : List ℕ). EndsIn next w v s t o told P run) reached x)
+      subst (λ (k : Bool). EndsBy next before after k (take limit (b ++ r)) told run) (sym is) (subst (λ (o : List ℕ). EndsIn next before after o told run) reached x)
 
-  turns_end : (run : Run) (e : Ending) (why : Stop) → Used why → (n ≡ 0) → IsRun run e false v
-      → ((o : List ℕ) (es : List Told) → Stands v o es → IsEnding v.framing o e) → Turns next limit w v s t b told r from to (Ok (Ended run))
+  turns_end : (run : Run) (e : Ending) (why : Stop) → Followed why stop.UsedUp → (n ≡ 0) → IsRun run e false after.walker
+      → ((o : List ℕ) (es : List Told) → Stands after.walker o es → IsEnding after.walker.framing o e) → TurnsTo next before after limit b told r (Ok (Ended run))
   turns_end run e why x none is ends =
-      let on = used why x in
-      (ends_by run is.enough (used_up_ends next w v s t (b ++ piece) told _ run e on is (ends (b ++ piece) (told ++ on.more) on.stands)), inr (inr (is_r ∙ ap (λ (k : ℕ). take k p) none)))
+      let on = used why x in record {
+        ends = ends_by run is.enough (used_up_ends next before after (b ++ piece) told run e on is (ends (b ++ piece) (told ++ on.more) on.stands));
+        last = inr (inr (is_r ∙ ap (λ (k : ℕ). take k p) none));
+      }
 
-  turns_fault : (run : Run) (e : Fault) (why : Stop) → Stops next w v s t piece (Sent (Ok why)) (Ok (stop.Fault e)) → IsRun run (ending.Fault e) false v
-      → Turns next limit w v s t b told r from to (Ok (Ended run))
+  turns_fault : (run : Run) (e : Fault) (why : Stop) → Followed why (stop.Fault e) → IsRun run (ending.Fault e) false after.walker
+      → TurnsTo next before after limit b told r (Ok (Ended run))
   turns_fault run e why x is =
-      let k : WalkedTo w v piece x.more e b told = x.walked b told st in (
-        ends_by run is.enough (fault_ends next w v s t b piece told _ (λ text. Sends {T = ⊤} {E = DeviceFault} from to text (Ok tt)) (sent why (Ok Again)) e x st run is),
-        inr (inl (subst IsFinalEnding (sym is.ending) (refused-final w.framing (b ++ k.taken) k.octet [] e k.refused.offset (k.refused.ends [])))),
-      )
+      let k : WalkedTo before.walker after.walker piece x.more e b told = x.walked b told st in record {
+        ends = ends_by run is.enough (fault_ends next before after b piece told _ (sent why) st e x run is);
+        last = inr (inl (subst IsFinalEnding (sym is.ending) (refused-final before.walker.framing (b ++ k.taken) k.octet [] e k.refused.offset (k.refused.ends []))));
+      }
 
-  turns_enough : (run : Run) (why : Stop) → Stops next w v s t piece (Sent (Ok why)) (Ok stop.Enough) → IsRun run ending.Done true v → Turns next limit w v s t b told r from to (Ok (Ended run))
-  turns_enough run why x is =
-      let P : List ℕ → Type 0 = λ text. Sends {T = ⊤} {E = DeviceFault} from to text (Ok tt) in (
-        subst (λ (k : Bool). EndsBy next k w v s t (b ++ take (limit - length b) r) told P run) (sym is.enough)
-            (subst (λ (o : List ℕ). StopsIn next w v s t o told P run) reached (enough_stops next w v s t b piece told _ P (sent why (Ok Again)) x st read.0 read.1 run is)),
-        inl is.enough,
-      )
+  turns_enough : (run : Run) (why : Stop) → Followed why stop.Enough → IsRun run ending.Done true after.walker → TurnsTo next before after limit b told r (Ok (Ended run))
+  turns_enough run why x is = record {
+    ends =
+        subst (λ (k : Bool). EndsBy next before after k (take limit (b ++ r)) told run) (sym is.enough)
+        (subst (λ (o : List ℕ). StopsIn next before after o told run) reached (enough_stops next before after b piece told _ (sent why) st x read.0 read.1 run is));
+    last = inl is.enough;
+  }
 
   -- by why it stopped
-  pub turns_answered : (why : Stop) (result : Result Turn DeviceFault) → Stops next w v s t piece (Sent (Ok why)) (Ok why) → Answers n m v why result → Turns next limit w v s t b told r from to result
+  pub turns_answered : (why : Stop) (result : Result Turn DeviceFault) → Followed why why → Answers n m after.walker why result
+      → TurnsTo next before after limit b told r result
   turns_answered stop.Enough (Ok (Ended run)) x is = turns_enough run stop.Enough x is
   turns_answered (stop.Fault f) (Ok (Ended run)) x is = turns_fault run f (stop.Fault f) x is
   turns_answered stop.UsedUp (Err InputTooLong) x is = turns_long stop.UsedUp x is
@@ -296,13 +313,15 @@ module _ {S : Type 0} (next : S → Told → Following S) (w v : Machine) (s t :
   turns_answered stop.UsedUp (Err ReadFailed) x is = absurd is
   turns_answered stop.UsedUp (Err WriteFailed) x is = absurd is
 
-  pub turns_failed : (e : WriteFault) → Fails next w s piece (Sent (Err e)) → Turns next limit w v s t b told r from to (Err WriteFailed)
+  pub turns_failed : (e : WriteFault) → Fails next before.walker before.follower piece (Sent (Err e)) → TurnsTo next before after limit b told r (Err WriteFailed)
   turns_failed e x =
       let o = x.tells b told st read.0 read.1 in
-      let front = followed-front next s x.more o.0 in record {
+      let front = followed-front next before.follower x.more o.0 in record {
         more = x.more ++ o.0;
-        put = sends_err from to (followed next s x.more).put (followed next s (x.more ++ o.0)).put e WriteFailed x.put (record { rest = front.0; is = sym front.1 });
+        put =
+            sends_err before.drain after.drain (followed next before.follower x.more).put (followed next before.follower (x.more ++ o.0)).put e WriteFailed x.put
+            (record { rest = front.0; is = sym front.1 });
         reading = read.0;
-        is_reading = subst (λ (o : List ℕ). IsReading w.framing o read.0) reached read.1;
+        is_reading = subst (λ (o : List ℕ). IsReading before.walker.framing o read.0) reached read.1;
         tells = subst (λ (es : List Told). AreEqualJoined es (events read.0)) (append_assoc told x.more o.0) o.1;
       }

@@ -10,7 +10,8 @@ use Rattle.tlv_walk.specs.Phase as phase
 use Rattle.tlv_walk.specs.Events.{AreEqualJoined, Told, events}
 use Rattle.tlv_walk.specs.Forest.{Forest}
 use Rattle.tlv_walk.specs.Inside.{AreRising, CanName, is_among}
-use Rattle.tlv_walk.specs.Machine.{Machine, found_in, next_wrapper, unused_in}
+use Rattle.tlv_walk.specs.Machine.{Machine, unused_in}
+use Rattle.tlv_walk.specs.Private.Machine.{found_in, next_wrapper}
 use Rattle.tlv_walk.specs.Place.{IsOpen, top}
 use Rattle.tlv_walk.specs.State.{Stands, endings_at, is_end, waiting_in, waiting_of}
 use Rattle.tlv_walk.specs.Wrappers.{enters, first_other, unused_of, wrappers}
@@ -121,7 +122,7 @@ told_unused framing told waits f named v none e =
 
 pub stands_unused : (w : Machine) (b : List ℕ) (told : List Told) → (st : Stands w b told) → unused_in w ≡ unused_of w.framing.inside st.reading
 stands_unused w b told st =
-    ap (slice_get w.framing.inside) st.found ∙ told_unused w.framing told (waiting_of w) st.reading st.named st.is_reading.is_open (waits_enter_none w.phase w.stack w.offset) st.all_told
+    ap (slice_get w.framing.inside) st.private_state.found ∙ told_unused w.framing told (waiting_of w) st.reading st.private_state.named st.is_reading.is_open (waits_enter_none w.phase w.stack w.offset) st.all_told
 
 -- it is the first that no event told entered
 pub stands-entered : (w : Machine) (b : List ℕ) (told : List Told) → Stands w b told → unused_in w ≡ first_other w.framing.inside (enters told)

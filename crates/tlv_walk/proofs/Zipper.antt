@@ -10,9 +10,9 @@ use Rattle.tlv_walk.specs.Forest.{Forest, Stop, Fill, Whole, Closed, Partial, En
 use Rattle.tlv_walk.specs.Private.Forest.{contents_length}
 use Rattle.tlv_walk.specs.Place.{Fits, IsOpen, Place, after, is_indefinite, top}
 use Rattle.tlv_walk.proofs.Lengths.{LacksOctets}
-use Rattle.tlv_walk.specs.Machine.{bound_in}
+use Rattle.tlv_walk.specs.Private.Stack.{bound_in}
 use Rattle.tlv_walk.specs.Stack.{IsInIndefinite, bound_of}
-use Rattle.tlv_walk.specs.State.{AreLayers, AreWhole, Layer, Tail, Between, InContents, BeforeUnused, InHeader, InEnd, State, frames_of, place_in, spell_layers}
+use Rattle.tlv_walk.specs.Private.State.{AreLayers, AreWhole, Layer, Tail, Between, InContents, BeforeUnused, InHeader, InEnd, State, frames_of, place_in, spell_layers}
 use Rattle.tlv_walk.proofs.Bounds.{fits-inside}
 use Rattle.tlv_walk.proofs.PushSteps.{is_filled}
 use Rattle.tlv_walk.proofs.Spellings.{append_assoc-3, append_assoc-4, length-closed, length-whole}

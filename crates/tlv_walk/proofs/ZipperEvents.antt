@@ -8,8 +8,8 @@ use Rattle.tlv_walk.specs.declared.framing.Framing.{Framing}
 use Rattle.tlv_walk.specs.Events.{Told, Begin, Bytes, Close, End, Leave, Pad, closes, end_offset, events, opens}
 use Rattle.tlv_walk.specs.Forest.{Forest, Stop, Fill, Whole, Closed, Partial, Entered, Awaiting, Begun, Zero, end_octets, is_whole, spell}
 use Rattle.tlv_walk.specs.Private.Forest.{contents_length}
-use Rattle.tlv_walk.specs.State.{AreLayers, AreWhole, Layer, ending_of, endings_at, events_layers, frame_of, frames_of, place_in}
-use Rattle.tlv_walk.specs.Private.State.{wrappers_layers}
+use Rattle.tlv_walk.specs.State.{ending_of, endings_at}
+use Rattle.tlv_walk.specs.Private.State.{AreLayers, AreWhole, Layer, events_layers, frame_of, frames_of, place_in, wrappers_layers}
 use Rattle.tlv_walk.specs.Place.{Place, after}
 use Rattle.tlv_walk.specs.Wrappers.{wrapper_at, wrappers}
 use Rattle.tlv_walk.proofs.Bounds.{IsFull}

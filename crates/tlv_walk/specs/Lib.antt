@@ -13,6 +13,7 @@ pub mod WalkerFields
 pub mod Laws
 pub mod State
 pub mod Tells
+pub mod StepsTo
 pub mod OpenCount
 pub mod Follows
 pub mod Turns

@@ -1,14 +1,8 @@
 -- What contracts see of a `Walker`: the state of a machine that takes octets and tells events.
-use Rattle.std.specs.Prelude.{◌≡◌, ◌≢◌, ℕ, ◌+◌, ◌^◌, ◌≤◌, Bool, false, not, eqb, if◌then◌else◌, slice_get, List, [], ◌∷◌, length, Option, Some, None}
-use Rattle.std.specs.Option.{option_map_or}
-use Rattle.tlv_head.specs.declared.fault.Fault.{Fault as FaultOf}
-use Rattle.tlv_head.specs.Header.{definite_length}
+use Rattle.std.specs.Prelude.{◌≡◌, ◌≢◌, ℕ, ◌+◌, ◌^◌, ◌≤◌, Bool, false, slice_get, List, [], length, Option}
 use Rattle.tlv_head.specs.Progress.{Progress}
 use Rattle.tlv_walk.specs.declared.event.Event.{Event}
 use Rattle.tlv_walk.specs.declared.event.Event.TheVariants as event
-use Rattle.tlv_walk.specs.declared.event.Step.{Step}
-use Rattle.tlv_walk.specs.declared.event.Step.TheVariants as step
-use Rattle.tlv_head.specs.declared.header.Size.{Size}
 use Rattle.tlv_walk.specs.declared.framing.Framing.{Framing}
 use Rattle.tlv_walk.specs.Phase.{Phase, Between, InHeader, InContents, BeforeUnused, InEnd, Failed}
 use Rattle.tlv_walk.specs.Stack.{Frame, IsFilled, IsInIndefinite, IsInWrapper, IsNested, Within, bound_of}
@@ -76,21 +70,6 @@ IsTold BeforeUnused = Unit {0}
 IsTold InEnd = ⊥
 IsTold (Failed fault) = ⊥
 
--- so many octets were taken, and one event was told
-abbrev pub TellsOne : Machine → Machine → List ℕ → List ℕ → Type 0
-TellsOne old new before after =
-    (new.offset + length after ≡ old.offset + length before) × (new.events ≡ old.events + 1) × (new.events ≤ new.offset) × IsTold new.phase
-
--- all octets were taken, and no event was told nor waits
-abbrev pub TakesAll : Machine → Machine → List ℕ → List ℕ → Type 0
-TakesAll old new before after = (new.offset ≡ old.offset + length before) × (after ≡ []) × (new.events ≡ old.events) × IsReady new
-
--- an octet was refused, and no element ended
-abbrev pub Refuses : Machine → Machine → List ℕ → List ℕ → FaultOf → Type 0
-Refuses old new before after fault =
-    (new.offset + length after ≡ old.offset + length before) × (new.events ≡ old.events) × (new.phase ≡ Failed fault)
-    × (new.framing ≡ old.framing) × (new.wrappers ≡ old.wrappers) × (new.stack ≡ old.stack)
-
 -- parts of contents and of padding are not empty
 abbrev pub HasOctets : Event → Type 0
 HasOctets (event.Open h) = Unit {0}
@@ -103,29 +82,6 @@ HasOctets event.Unused = Unit {0}
 HasOctets event.Leave = Unit {0}
 HasOctets (event.Pad octets) = octets.now ≢ []
 
--- what a step took from the front of a piece
-abbrev pub Steps : Machine → Machine → List ℕ → List ℕ → Step → Type 0
-Steps old new before after (step.Event e) = TellsOne old new before after × HasOctets e
-Steps old new before after step.NeedMore = TakesAll old new before after
-Steps old new before after (step.Fault f) = Refuses old new before after f
-
--- how many of the named offsets, from the first on, are wrappers' once one was found at this offset
-abbrev pub next_wrapper : List ℕ → ℕ → ℕ → ℕ
-next_wrapper inside k at = option_map_or (λ n. if eqb n at then k + 1 else k) (slice_get inside k) k
-
--- the same, once wrappers were found at these offsets, one after another
-abbrev pub found_in : List ℕ → ℕ → List ℕ → ℕ
-found_in inside k [] = k
-found_in inside k (at ∷ ats) = found_in inside (next_wrapper inside k at) ats
-
 -- the first of the named offsets that is not known to be a wrapper's
 abbrev pub unused_in : Machine → Option ℕ
 unused_in w = slice_get w.framing.inside w.wrappers
-
--- 8.1.3.3: the end of contents that begin there, or else the bound outside
-abbrev pub bound_in : Size → ℕ → Option ℕ → Option ℕ
-bound_in size start outside = option_map_or (λ n. Some (start + n)) (definite_length size) outside
-
--- the frame of an element whose contents begin at the offset
-abbrev pub frame_with : ℕ → Option ℕ → Size → Bool → Frame
-frame_with start outer size constructed = record { end = bound_in size start None; bound = bound_in size start outer; wrapper = not constructed }

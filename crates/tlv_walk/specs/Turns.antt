@@ -1,5 +1,5 @@
 -- What one read of a source, followed, comes to.
-use Rattle.std.specs.Prelude.{◌≡◌, ◌≢◌, ◌⊎◌, ℕ, ◌-◌, ◌<◌, ◌≤◌, Bool, true, false, List, [], ◌++◌, flat_map, length, take, Result, Ok, Err, ⊤}
+use Rattle.std.specs.Prelude.{◌≡◌, ◌≢◌, ◌⊎◌, ℕ, ◌<◌, ◌≤◌, Bool, true, false, List, [], ◌++◌, flat_map, length, take, Result, Ok, Err, ⊤}
 use Rattle.std.specs.Io.KnownBytes.{Consumes, IsAtEnd}
 use Rattle.tlv_walk.specs.declared.ending.Ending.TheVariants as ending
 use Rattle.tlv_walk.specs.declared.follow.Go.TheVariants as go
@@ -16,6 +16,7 @@ use Rattle.tlv_walk.specs.Follow.{Following, followed}
 use Rattle.tlv_walk.specs.Follows.{Made}
 use Rattle.tlv_walk.specs.Forest.{Forest, spell}
 use Rattle.tlv_walk.specs.Job.{IsFinalEnding, of_drain, of_source}
+use Rattle.tlv_walk.specs.Laws.{AreOctets}
 use Rattle.tlv_walk.specs.Machine.{IsReady, Machine}
 use Rattle.tlv_io.specs.Out.{Sends}
 use Rattle.tlv_walk.specs.Reading.{IsPrefixOf, IsReading}
@@ -42,88 +43,135 @@ Gave room (Err ReadFailed) last = last ≡ failed
 Gave room (Err WriteFailed) last = GaveUpTo room last
 Gave room (Err InputTooLong) last = GaveUpTo room last
 
--- one read into this room, which then holds the piece, and writes
-pub record Calls (room : ℕ) (old new : Supply) (from to : Taken) (piece : List ℕ) (result : Result Turn DeviceFault) : Type 0 where
-  pub octets : Consumes old.left new.left (given new.last piece)
-  pub reads : new.reads ≡ counted old.reads
-  pub last : Gave room result new.last
-  pub at_end : new.last ≡ gave 0 → IsAtEnd new.left
-  pub failed_reads : new.failures ≡ failures_after (of_source result) old.failures
-  pub failed_writes : to.failures ≡ failures_after (of_drain result) from.failures
+-- what takes part in a turn, as it is before the turn or after it: the walker, the follower's state, and what the
+-- source and the drain show of themselves
+pub record TurnState (S : Type 0) : Type 0 where
+  pub walker : Machine
+  pub follower : S
+  pub source : Supply
+  pub drain : Taken
 
-module _ {S : Type 0} (next : S → Told → Following S) where
-  -- the walker stands behind all that the octets tell, and that was made of it
-  pub record StandsOn (w v : Machine) (s t : S) (octets : List ℕ) (told : List Told) (puts : List ℕ → Type 0) : Type 0 where
+abbrev pub turn_state : {S : Type 0} → Machine → S → Supply → Taken → TurnState S
+turn_state walker follower source drain =
+    record { walker = walker; follower = follower; source = source; drain = drain }
+
+-- one read, after which the piece is this, and writes
+pub record Calls {S : Type 0} (before after : TurnState S) (piece : List ℕ) (result : Result Turn DeviceFault)
+    : Type 0 where
+  pub octets : Consumes before.source.left after.source.left (given after.source.last piece)
+  pub reads : after.source.reads ≡ counted before.source.reads
+  pub last : Gave (length piece) result after.source.last
+  pub at_end : after.source.last ≡ gave 0 → IsAtEnd after.source.left
+  pub failed_reads : after.source.failures ≡ failures_after (of_source result) before.source.failures
+  pub failed_writes : after.drain.failures ≡ failures_after (of_drain result) before.drain.failures
+
+module _ {S : Type 0} (next : S → Told → Following S) (before after : TurnState S) where
+  -- what is made of these events was handed to the drain, with this result
+  abbrev pub SendsMade : List Told → Result ⊤ DeviceFault → Type 0
+  SendsMade more result = Sends before.drain after.drain (followed next before.follower more).put result
+
+  -- all that the octets tell was followed, and the walker stands for them
+  pub record StandsOn (octets : List ℕ) (told : List Told) : Type 0 where
     pub more : List Told
-    pub made : Made next s t more go.On
-    pub put : puts (followed next s more).put
-    pub framing : v.framing ≡ w.framing
-    pub stands : Stands v octets (told ++ more)
-    pub quiet : waiting_of v ≡ []
+    pub made : Made next before.follower after.follower more go.On
+    pub put : SendsMade more (Ok tt)
+    pub framing : after.walker.framing ≡ before.walker.framing
+    pub stands : Stands after.walker octets (told ++ more)
+    pub quiet : waiting_of after.walker ≡ []
 
   -- the walk has ended in these octets, of which all that they tell was followed
-  pub record EndsIn (w v : Machine) (s t : S) (octets : List ℕ) (told : List Told) (puts : List ℕ → Type 0) (run : Run) : Type 0 where
+  pub record EndsIn (octets : List ℕ) (told : List Told) (run : Run) : Type 0 where
     pub more : List Told
-    pub made : Made next s t more go.On
-    pub put : puts (followed next s more).put
+    pub made : Made next before.follower after.follower more go.On
+    pub put : SendsMade more (Ok tt)
     pub reading : Forest
-    pub is_reading : IsReading w.framing octets reading
+    pub is_reading : IsReading before.walker.framing octets reading
     pub tells : AreEqualJoined (told ++ more) (events reading)
-    pub ending : IsEnding w.framing octets run.ending
+    pub ending : IsEnding before.walker.framing octets run.ending
     pub spelled : run.octets ≡ length (spell reading)
-    pub unused : run.unused ≡ unused_of w.framing.inside reading
-    pub walker : StandsAtEnd v octets (told ++ more) run.ending
+    pub unused : run.unused ≡ unused_of before.walker.framing.inside reading
+    pub walker : StandsAtEnd after.walker octets (told ++ more) run.ending
 
-  -- the follower had enough with the last of these events, and the walker stands behind the octets that they tell of
-  pub record StopsIn (w v : Machine) (s t : S) (octets : List ℕ) (told : List Told) (puts : List ℕ → Type 0) (run : Run) : Type 0 where
+  -- the follower had enough with the last of these events, and the walker stands for the octets that they
+  -- tell of
+  pub record StopsIn (octets : List ℕ) (told : List Told) (run : Run) : Type 0 where
     pub more : List Told
-    pub made : Made next s t more go.Enough
-    pub put : puts (followed next s more).put
+    pub made : Made next before.follower after.follower more go.Enough
+    pub put : SendsMade more (Ok tt)
     pub reading : Forest
-    pub is_reading : IsReading w.framing octets reading
+    pub is_reading : IsReading before.walker.framing octets reading
     pub others : List Told
     pub tells : AreEqualJoined ((told ++ more) ++ others) (events reading)
     pub ending : run.ending ≡ ending.Done
-    pub framing : v.framing ≡ w.framing
+    pub framing : after.walker.framing ≡ before.walker.framing
     pub is_front : IsPrefixOf (flat_map octets_told (told ++ more)) octets
-    pub stands : Stands v (flat_map octets_told (told ++ more)) (told ++ more)
+    pub stands : Stands after.walker (flat_map octets_told (told ++ more)) (told ++ more)
     pub spelled : run.octets ≡ length (flat_map octets_told (told ++ more))
-    pub unused : run.unused ≡ first_other w.framing.inside (enters (told ++ more))
+    pub unused : run.unused ≡ first_other before.walker.framing.inside (enters (told ++ more))
 
-  abbrev pub EndsBy : Bool → Machine → Machine → S → S → List ℕ → List Told → (List ℕ → Type 0) → Run → Type 0
-  EndsBy false w v s t octets told puts run = EndsIn w v s t octets told puts run
-  EndsBy true w v s t octets told puts run = StopsIn w v s t octets told puts run
+  -- by whether the follower had enough
+  abbrev pub EndsBy : Bool → List ℕ → List Told → Run → Type 0
+  EndsBy false octets told run = EndsIn octets told run
+  EndsBy true octets told run = StopsIn octets told run
 
   -- the drain failed at a front of what is made of all that the octets tell
-  pub record FailsIn (w : Machine) (s : S) (octets : List ℕ) (told : List Told) (puts : List ℕ → Type 0) : Type 0 where
+  pub record FailsIn (octets : List ℕ) (told : List Told) : Type 0 where
     pub more : List Told
-    pub put : puts (followed next s more).put
+    pub put : SendsMade more (Err WriteFailed)
     pub reading : Forest
-    pub is_reading : IsReading w.framing octets reading
+    pub is_reading : IsReading before.walker.framing octets reading
     pub tells : AreEqualJoined (told ++ more) (events reading)
 
-  -- what a turn came to whose read gave r behind b. Of r only as many octets are followed as the limit leaves
-  abbrev pub TurnsTo : ℕ → Machine → Machine → S → S → List ℕ → List Told → List ℕ → (List ℕ → Type 0)
-      → Result Turn DeviceFault → Type 0
-  TurnsTo limit w v s t b told r puts (Ok Again) = (r ≢ []) × (length (b ++ r) ≤ limit) × StandsOn w v s t (b ++ r) told puts
-  TurnsTo limit w v s t b told r puts (Ok (Ended run)) =
-      EndsBy run.enough w v s t (b ++ take (limit - length b) r) told puts run
-      × ((run.enough ≡ true) ⊎ IsFinalEnding run.ending ⊎ (r ≡ []))
-  TurnsTo limit w v s t b told r puts (Err ReadFailed) = (v ≡ w) × (t ≡ s) × puts []
-  TurnsTo limit w v s t b told r puts (Err WriteFailed) = FailsIn w s (b ++ take (limit - length b) r) told puts
-  TurnsTo limit w v s t b told r puts (Err InputTooLong) =
-      (limit < length (b ++ r)) × StandsOn w v s t (b ++ take (limit - length b) r) told puts
+  -- walker and follower are as they were, and nothing was sent
+  pub record ReadsNothing : Type 0 where
+    pub walker : after.walker ≡ before.walker
+    pub follower : after.follower ≡ before.follower
+    pub put : SendsMade [] (Ok tt)
 
-  -- what was made of octets that a read gave behind b, of which these events were told
-  abbrev pub Turns : ℕ → Machine → Machine → S → S → List ℕ → List Told → List ℕ → Taken → Taken → Result Turn DeviceFault → Type 0
-  Turns limit w v s t b told r from to result =
-      TurnsTo limit w v s t b told r (λ text. Sends from to text (of_drain result)) result
+  -- a turn before which the walker stands for the octets b, of which these events were told, and whose read
+  -- gave r. Of all these octets no more than the limit are followed
+  module _ (limit : ℕ) (b : List ℕ) (told : List Told) (r : List ℕ) where
+    -- the input may have more octets
+    pub record GivesMore : Type 0 where
+      pub some : r ≢ []
+      pub within : length (b ++ r) ≤ limit
+      pub stands_on : StandsOn (b ++ r) told
 
--- how a walk can go on after a turn. Where more is to be read, or more was read than the limit allows, no event waits; after a
--- failed read nothing has changed
-abbrev pub CanGoOn : {S : Type 0} → ℕ → Machine → Machine → S → S → Result Turn DeviceFault → Type 0
-CanGoOn limit w v s t (Ok Again) = (w.offset < v.offset) × (v.offset ≤ limit) × IsReady v
-CanGoOn limit w v s t (Ok (Ended run)) = ⊤
-CanGoOn limit w v s t (Err ReadFailed) = (v ≡ w) × (t ≡ s)
-CanGoOn limit w v s t (Err WriteFailed) = ⊤
-CanGoOn limit w v s t (Err InputTooLong) = (v.offset ≡ limit) × IsReady v
+    -- the walk ends: with enough, with a fault that stays whatever follows, or with the end of the input
+    pub record GivesEnd (run : Run) : Type 0 where
+      pub ends : EndsBy run.enough (take limit (b ++ r)) told run
+      pub last : (run.enough ≡ true) ⊎ IsFinalEnding run.ending ⊎ (r ≡ [])
+
+    -- the input has more octets than the limit
+    pub record GivesTooMuch : Type 0 where
+      pub beyond : limit < length (b ++ r)
+      pub stands_on : StandsOn (take limit (b ++ r)) told
+
+    abbrev pub TurnsTo : Result Turn DeviceFault → Type 0
+    TurnsTo (Ok Again) = GivesMore
+    TurnsTo (Ok (Ended run)) = GivesEnd run
+    TurnsTo (Err ReadFailed) = ReadsNothing
+    TurnsTo (Err WriteFailed) = FailsIn (take limit (b ++ r)) told
+    TurnsTo (Err InputTooLong) = GivesTooMuch
+
+-- how a walk can go on after a turn. If more is to be read, or more was read than the limit allows, no event
+-- waits; after a failed read nothing has changed
+abbrev pub CanGoOn : {S : Type 0} → ℕ → TurnState S → TurnState S → Result Turn DeviceFault → Type 0
+CanGoOn limit before after (Ok Again) =
+    (before.walker.offset < after.walker.offset) × (after.walker.offset ≤ limit) × IsReady after.walker
+CanGoOn limit before after (Ok (Ended run)) = ⊤
+CanGoOn limit before after (Err ReadFailed) =
+    (after.walker ≡ before.walker) × (after.follower ≡ before.follower)
+CanGoOn limit before after (Err WriteFailed) = ⊤
+CanGoOn limit before after (Err InputTooLong) = (after.walker.offset ≡ limit) × IsReady after.walker
+
+-- one read of a source into a piece, followed and flushed
+pub record FollowsOneRead {S : Type 0} (next : S → Told → Following S) (limit : ℕ)
+    (before after : TurnState S) (piece : List ℕ) (result : Result Turn DeviceFault) : Type 0 where
+  -- what the devices did
+  pub calls : Calls before after piece result
+  pub octets : AreOctets piece
+  -- what was made of the octets that the read gave, if the walker stands for those before them
+  pub turned : (b : List ℕ) (told : List Told) → Stands before.walker b told
+      → TurnsTo next before after limit b told (given after.source.last piece) result
+  pub goes_on : CanGoOn limit before after result

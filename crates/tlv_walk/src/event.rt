@@ -2,7 +2,7 @@
 use tlv_head::{Fault, Header};
 
 /// What a walk tells, in the order of the octets.
-#[derive(Debug, Drop)]
+#[derive(Clone, PartialEq, Eq, Debug, Drop)]
 pub enum Event<'a> {
     /// The header of a constructed element.
     Open(Header),
@@ -26,7 +26,7 @@ pub enum Event<'a> {
 }
 
 /// What a step came to.
-#[derive(Debug, Drop)]
+#[derive(Clone, PartialEq, Eq, Debug, Drop)]
 pub enum Step<'a> {
     Event(Event<'a>),
     /// The piece is used up, and no event is waiting.

@@ -4,7 +4,7 @@ use std::marker::Model;
 
 /// The offsets of strings whose contents are to be read as encodings: at most 16, rising, each at
 /// most 2^40.
-#[derive(Debug, Drop)]
+#[derive(Clone, PartialEq, Eq, Debug, Drop)]
 pub struct Inside {
     offsets: ArrayVec<u64, 16>,
 }
@@ -19,10 +19,12 @@ impl Model for Inside {
     ghost view = { λ i. i.offsets.items };
 
     ghost invariant = { λ i. CanName i.offsets.items };
+
+    ghost inverse = { λ offsets. record { offsets = record { items = offsets } } };
 }
 
 /// How an input is to be read.
-#[derive(Debug, Drop)]
+#[derive(Clone, PartialEq, Eq, Debug, Drop)]
 pub struct Framing {
     /// The strings whose contents are to be read as encodings.
     pub inside: Inside,

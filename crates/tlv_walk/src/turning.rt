@@ -1,16 +1,14 @@
 //! One read of a source, followed.
-ghost use Rattle.std.specs.Prelude.{◌≡◌, ℕ, List, [], ◌+◌, ◌<◌, ◌≤◌, ◌^◌, IfOk, OnOk, length};
+ghost use Rattle.std.specs.Prelude.{◌≡◌, [], ◌+◌, ◌<◌, ◌≤◌, ◌^◌, IfOk, OnOk, length};
 ghost use Rattle.tlv_io.specs.Device.{failures_after};
-ghost use Rattle.tlv_walk.specs.Events.{Told};
 ghost use Rattle.tlv_walk.specs.Follow.{IsFollowed};
 ghost use Rattle.tlv_walk.specs.Private.Answers.{Answers, IsRun};
 ghost use Rattle.tlv_walk.specs.Private.Follows.{Parts, Stops};
 ghost use Rattle.tlv_walk.specs.Laws.{AreOctets};
 ghost use Rattle.tlv_walk.specs.Machine.{IsReady};
 ghost use Rattle.tlv_io.specs.Out.{Puts, Sends, held_in, lender_of};
-ghost use Rattle.tlv_walk.specs.State.{Stands};
 ghost use Rattle.tlv_walk.specs.Tells.{told_of};
-ghost use Rattle.tlv_walk.specs.Turns.{Calls, CanGoOn, Turns, given};
+ghost use Rattle.tlv_walk.specs.Turns.{FollowsOneRead, turn_state};
 
 use crate::{
     DeviceFault, Drain, Ending, Event, Follow, Go, Out, Run, Source, Step, Turn, Walker, WriteFault,
@@ -49,21 +47,17 @@ pub fn turn<F: Follow, S: Source, D: Drain>(
     requires limit { limit ≤ 2 ^ 40 }
     requires taken { walker.old.offset ≤ limit }
     requires ready { IsReady walker.old }
-    // What the devices did; what was made of it where the walker stands for octets; and how the walk can go on.
-    ensures calls { Calls (length piece.old) (S.told source.old) (S.told source.new)
-        (D.told drain.old) (D.told drain.new) piece.new result }
-    ensures turned { (b : List ℕ) (told : List Told) → Stands walker.old b told
-        → Turns F.next limit walker.old walker.new follower.old follower.new b told
-        (given (S.told source.new).last piece.new) (D.told drain.old) (D.told drain.new) result }
-    ensures octets { AreOctets piece.new }
-    ensures goes_on { CanGoOn limit walker.old walker.new follower.old follower.new result }
+    ensures { FollowsOneRead F.next limit
+        (turn_state walker.old follower.old (S.told source.old) (D.told drain.old))
+        (turn_state walker.new follower.new (S.told source.new) (D.told drain.new))
+        piece.new result }
 {
     let mut out = Out::new(drain);
     turn_to(walker, follower, source, &mut out, piece, limit)
 }
 
-/// [`turn`], to an `Out` that holds nothing, and holds nothing again where more is to be read. So one `Out` serves a whole run,
-/// and need not be made for each read.
+/// [`turn`], to an `Out` that holds nothing, and holds nothing again if more is to be read. So one `Out`
+/// serves a whole run, and need not be made for each read.
 pub(crate) fn turn_to<F: Follow, S: Source, D: Drain>(
     walker: &mut Walker,
     follower: &mut F,
@@ -77,14 +71,10 @@ pub(crate) fn turn_to<F: Follow, S: Source, D: Drain>(
     requires taken { walker.old.offset ≤ limit }
     requires ready { IsReady walker.old }
     requires empty { held_in out.old ≡ [] }
-    ensures calls { Calls (length piece.old) (S.told source.old) (S.told source.new)
-        (D.told (lender_of out.old).now) (D.told (lender_of out.new).now) piece.new result }
-    ensures turned { (b : List ℕ) (told : List Told) → Stands walker.old b told
-        → Turns F.next limit walker.old walker.new follower.old follower.new b told
-        (given (S.told source.new).last piece.new)
-        (D.told (lender_of out.old).now) (D.told (lender_of out.new).now) result }
-    ensures octets { AreOctets piece.new }
-    ensures goes_on { CanGoOn limit walker.old walker.new follower.old follower.new result }
+    ensures read { FollowsOneRead F.next limit
+        (turn_state walker.old follower.old (S.told source.old) (D.told (lender_of out.old).now))
+        (turn_state walker.new follower.new (S.told source.new) (D.told (lender_of out.new).now))
+        piece.new result }
     ensures same_reference { (lender_of out.new).ghost_name ≡ (lender_of out.old).ghost_name }
     ensures empty { IfOk result (λ t. t ≡ Turn.Again → held_in out.new ≡ []) }
 {
@@ -178,11 +168,17 @@ fn follow<F: Follow, D: Drain>(
                 }
                 None => match walker.contents_event(&mut rest) {
                     Some(event) => follower.on(&event, out)?,
-                    None => match walker.step(&mut rest) {
-                        Step::Event(event) => follow_event(follower, &event, out)?,
-                        Step::NeedMore => return Ok(Stop::UsedUp),
-                        Step::Fault(fault) => return Ok(Stop::Fault(fault)),
-                    },
+                    None => {
+                        // A copy is lent, so that `rest` itself stays in registers.
+                        let mut left = rest;
+                        let next = walker.step(&mut left);
+                        rest = left;
+                        match next {
+                            Step::Event(event) => follow_event(follower, &event, out)?,
+                            Step::NeedMore => return Ok(Stop::UsedUp),
+                            Step::Fault(fault) => return Ok(Stop::Fault(fault)),
+                        }
+                    }
                 },
             },
         };

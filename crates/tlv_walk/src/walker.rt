@@ -62,8 +62,8 @@ impl Model for Walker {
 impl Walker {
     ghost use Rattle.std.specs.Prelude.{List, [], false};
     ghost use Rattle.tlv_walk.specs.Phase as phases;
-    ghost use Rattle.tlv_walk.specs.Machine.{Steps, new_machine, unused_in};
-    ghost use Rattle.tlv_walk.specs.Private.Machine.{IsWaiting, fault_at};
+    ghost use Rattle.tlv_walk.specs.Machine.{new_machine, unused_in};
+    ghost use Rattle.tlv_walk.specs.Private.Machine.{IsWaiting, Steps, fault_at};
     ghost use Rattle.tlv_head.specs.declared.fault.Fault.{Fault as FaultOf};
     ghost use Rattle.tlv_walk.specs.Ending.{IsEnding};
     ghost use Rattle.tlv_walk.specs.Events.{Told};
@@ -71,7 +71,8 @@ impl Walker {
     ghost use Rattle.tlv_walk.specs.OpenCount.{open_count};
     ghost use Rattle.tlv_walk.specs.State.{NothingWaits, Stands};
     ghost use Rattle.tlv_walk.specs.Wrappers.{unused_of};
-    ghost use Rattle.tlv_walk.specs.Tells.{HasRead, StandsAtEnd, StandsStep};
+    ghost use Rattle.tlv_walk.specs.StepsTo.{RefusesAgain, StepsTo};
+    ghost use Rattle.tlv_walk.specs.Tells.{HasRead, StandsAtEnd};
     ghost use Rattle.tlv_walk.specs.Private.Tells.{TellsStep};
 
     /// A walker that has taken nothing.
@@ -192,9 +193,7 @@ impl Walker {
     #[inline(never)]
     pub fn step<'a>(&mut self, piece: &mut &'a [u8]) -> Step<'a>
         requires { self.old.offset + length piece.old.now ≤ 2 ^ 40 }
-        ensures steps { Steps self.old self.new piece.old.now piece.new.now result }
-        ensures stands { StandsStep self.old self.new piece.old.now piece.new.now result }
-        ensures again { (f : FaultOf) → self.old.phase ≡ phases.Failed f → (result ≡ Step.Fault f) × (self.new ≡ self.old) × (piece.new.now ≡ piece.old.now) }
+        ensures { StepsTo self.old self.new piece.old.now piece.new.now result }
     {
         self.take(piece)
     }
@@ -204,7 +203,8 @@ impl Walker {
         requires { self.old.offset + length piece.old.now ≤ 2 ^ 40 }
         ensures steps { Steps self.old self.new piece.old.now piece.new.now result }
         ensures tells { TellsStep self.old self.new piece.old.now piece.new.now result }
-        ensures again { (f : FaultOf) → self.old.phase ≡ phases.Failed f → (result ≡ Step.Fault f) × (self.new ≡ self.old) × (piece.new.now ≡ piece.old.now) }
+        ensures again { (f : FaultOf) → self.old.phase ≡ phases.Failed f
+            → (result ≡ Step.Fault f) × RefusesAgain self.old self.new piece.old.now piece.new.now f }
     {
         if let Phase::InContents(left) = self.phase {
             if left == 0 {

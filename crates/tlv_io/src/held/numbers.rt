@@ -1,6 +1,6 @@
 //! Numbers that are added to the octets held.
-ghost use Rattle.std.specs.Prelude.{◌≡◌, ◌+◌, ◌<◌, ◌≤◌, ◌^◌, ◌++◌, decimal, length};
-ghost use Rattle.tlv_io.specs.Held.{columns as columns_text, right as right_text};
+ghost use Rattle.std.specs.Prelude.{◌≡◌, ◌+◌, ◌<◌, ◌^◌, ◌++◌, decimal, length};
+ghost use Rattle.tlv_io.specs.Held.{HasRoomFor, columns as columns_text, right as right_text};
 
 use super::Held;
 use itoa::{Buffer, write_digits};
@@ -12,7 +12,7 @@ impl Held {
     /// Adds a number.
     #[inline(always)]
     pub fn number(&mut self, number: u64)
-        requires { length self.old + 20 ≤ 4096 }
+        requires { HasRoomFor self.old 20 }
         ensures { self.new ≡ self.old ++ decimal number }
     {
         let end = self.len + digit_count(number);
@@ -23,7 +23,7 @@ impl Held {
     /// Adds a number that may have more than 64 bits.
     #[inline(always)]
     pub fn wide(&mut self, number: u128)
-        requires { length self.old + 40 ≤ 4096 }
+        requires { HasRoomFor self.old 40 }
         ensures { self.new ≡ self.old ++ decimal number }
     {
         if number < 1 << 64 {
@@ -36,7 +36,7 @@ impl Held {
     /// Adds a number of more than 64 bits.
     #[inline(never)]
     fn wider(&mut self, number: u128)
-        requires { length self.old + 40 ≤ 4096 }
+        requires { HasRoomFor self.old 40 }
         ensures { self.new ≡ self.old ++ decimal number }
     {
         let mut digits = Buffer::new();
@@ -46,7 +46,7 @@ impl Held {
     /// Adds the columns that a line begins with: an offset and a size.
     #[inline(always)]
     pub fn columns(&mut self, offset: u64, size: u64)
-        requires { length self.old + 43 ≤ 4096 }
+        requires { HasRoomFor self.old 43 }
         ensures { self.new ≡ self.old ++ columns_text offset (decimal size) }
     {
         if offset >= 100_000_000 || size >= 1_000_000 {
@@ -62,7 +62,7 @@ impl Held {
     /// Adds the same columns, one behind the other, so that each can be as wide as it needs.
     #[inline(never)]
     fn wide_columns(&mut self, offset: u64, size: u64)
-        requires { length self.old + 43 ≤ 4096 }
+        requires { HasRoomFor self.old 43 }
         ensures { self.new ≡ self.old ++ columns_text offset (decimal size) }
     {
         self.right_8(offset);
@@ -74,7 +74,7 @@ impl Held {
     /// Adds the columns that a line begins with: an offset and a word.
     #[inline(always)]
     pub fn worded(&mut self, offset: u64, word: &[u8; 6])
-        requires { length self.old + 29 ≤ 4096 }
+        requires { HasRoomFor self.old 29 }
         ensures { self.new ≡ self.old ++ columns_text offset word.now }
     {
         if offset >= 100_000_000 {
@@ -90,7 +90,7 @@ impl Held {
     /// Adds the same columns, one behind the other, so that the offset can be as wide as it needs.
     #[inline(never)]
     fn wide_worded(&mut self, offset: u64, word: &[u8; 6])
-        requires { length self.old + 29 ≤ 4096 }
+        requires { HasRoomFor self.old 29 }
         ensures { self.new ≡ self.old ++ columns_text offset word.now }
     {
         self.right_8(offset);
@@ -102,7 +102,7 @@ impl Held {
     /// Adds a number at the right of eight places; a longer one takes as many as it needs.
     #[inline(always)]
     pub fn right_8(&mut self, number: u64)
-        requires { length self.old + 20 ≤ 4096 }
+        requires { HasRoomFor self.old 20 }
         ensures { self.new ≡ self.old ++ right_text 8 (decimal number) }
     {
         if number >= 100_000_000 {
@@ -118,7 +118,7 @@ impl Held {
     /// Adds a number at the right of six places; a longer one takes as many as it needs.
     #[inline(always)]
     pub fn right_6(&mut self, number: u64)
-        requires { length self.old + 20 ≤ 4096 }
+        requires { HasRoomFor self.old 20 }
         ensures { self.new ≡ self.old ++ right_text 6 (decimal number) }
     {
         if number >= 1_000_000 {

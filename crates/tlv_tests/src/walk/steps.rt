@@ -2,7 +2,7 @@
 use super::rows::fault;
 use crate::expect::expect_eq;
 use std::process::Abort;
-use tlv_head::FaultCode;
+use tlv_head::{Fault, FaultCode, Header, read_header};
 use tlv_walk::{Ending, Event, Framing, Inside, Step, Walker};
 
 /// The next step, with a short piece.
@@ -11,23 +11,31 @@ fn step<'a>(rt: &impl Abort, walker: &mut Walker, piece: &mut &'a [u8]) -> Step<
     walker.step(piece)
 }
 
-/// What a step tells, in a word.
-fn word(step: &Step<'_>) -> &'static str {
-    match step {
-        Step::Event(Event::Open(_)) => "open",
-        Step::Event(Event::Begin(_)) => "begin",
-        Step::Event(Event::End) => "end",
-        Step::Event(Event::Close(None)) => "close",
-        Step::Event(Event::Unused) => "unused",
-        Step::Event(Event::Leave) => "leave",
-        Step::Fault(_) => "fault",
-        _ => "other",
-    }
+/// Expects the next step to come to this.
+fn expect_step(rt: &impl Abort, walker: &mut Walker, piece: &mut &[u8], want: &Step<'_>) {
+    let got = step(rt, walker, piece);
+    assert!(rt; got == *want, "{:?} in place of {:?}", got, want);
 }
 
-/// Expects the next step to tell this.
-fn expect_step(rt: &impl Abort, walker: &mut Walker, piece: &mut &[u8], told: &str) {
-    expect_eq(rt, word(&step(rt, walker, piece)), told);
+/// Expects the next step to tell this event.
+fn expect_event(rt: &impl Abort, walker: &mut Walker, piece: &mut &[u8], want: Event<'_>) {
+    expect_step(rt, walker, piece, &Step::Event(want));
+}
+
+/// The header with these octets, at this offset.
+fn header(rt: &impl Abort, offset: u64, named: bool, octets: &[u8]) -> Header {
+    let Some((fields, count)) = read_header(offset, named, octets) else {
+        panic!(rt; "no header");
+    };
+    Header::new(&fields, &octets[..count])
+}
+
+fn open<'a>(rt: &impl Abort, offset: u64, octets: &[u8]) -> Event<'a> {
+    Event::Open(header(rt, offset, false, octets))
+}
+
+fn begin<'a>(rt: &impl Abort, offset: u64, octets: &[u8]) -> Event<'a> {
+    Event::Begin(header(rt, offset, false, octets))
 }
 
 /// What an input comes to whose octets are taken.
@@ -54,8 +62,7 @@ fn expect_state(
 /// The octets up to the next event do not lie in the piece.
 fn expect_need(rt: &impl Abort, walker: &mut Walker, octets: &[u8]) {
     let mut piece = octets;
-    let step = step(rt, walker, &mut piece);
-    assert!(rt; matches!(step, Step::NeedMore));
+    expect_step(rt, walker, &mut piece, &Step::NeedMore);
     assert!(rt; piece.is_empty());
 }
 
@@ -67,30 +74,17 @@ fn a_header_is_cut(rt: HostRuntime) {
     expect_state(&rt, &walker, 1, 0, 0, false);
     expect_need(&rt, &mut walker, b"");
     let mut piece: &[u8] = b"\x80\x05\x00\x00";
-    let Step::Event(Event::Open(header)) = step(&rt, &mut walker, &mut piece) else {
-        panic!(rt; "an element opens");
-    };
-    expect_eq(&rt, header.offset, 0);
-    expect_eq(&rt, header.raw(), b"\x30\x80".as_slice());
+    expect_event(&rt, &mut walker, &mut piece, open(&rt, 0, b"\x30\x80"));
     expect_eq(&rt, piece, b"\x05\x00\x00".as_slice());
     expect_state(&rt, &walker, 2, 1, 1, false);
-    let Step::Event(Event::Begin(header)) = step(&rt, &mut walker, &mut piece) else {
-        panic!(rt; "a primitive begins");
-    };
-    expect_eq(&rt, header.offset, 2);
-    expect_eq(&rt, header.raw(), b"\x05\x00".as_slice());
+    expect_event(&rt, &mut walker, &mut piece, begin(&rt, 2, b"\x05\x00"));
     expect_state(&rt, &walker, 4, 2, 1, true);
-    let Step::Event(Event::End) = step(&rt, &mut walker, &mut piece) else {
-        panic!(rt; "the primitive ends");
-    };
+    expect_event(&rt, &mut walker, &mut piece, Event::End);
     expect_state(&rt, &walker, 4, 3, 1, false);
     expect_need(&rt, &mut walker, piece);
     expect_state(&rt, &walker, 5, 3, 1, false);
     let mut piece: &[u8] = b"\x00";
-    let Step::Event(Event::Close(at)) = step(&rt, &mut walker, &mut piece) else {
-        panic!(rt; "the element ends");
-    };
-    expect_eq(&rt, at, Some(4));
+    expect_event(&rt, &mut walker, &mut piece, Event::Close(Some(4)));
     expect_state(&rt, &walker, 6, 4, 0, false);
     expect_eq(&rt, finish(&rt, &walker), Ending::Done);
     expect_need(&rt, &mut walker, b"");
@@ -101,35 +95,26 @@ fn a_header_is_cut(rt: HostRuntime) {
 fn contents_are_cut(rt: HostRuntime) {
     let mut walker = Walker::new(&Framing::plain());
     let mut piece: &[u8] = b"\x30\x05\x04\x03\xaa";
-    expect_step(&rt, &mut walker, &mut piece, "open");
-    expect_step(&rt, &mut walker, &mut piece, "begin");
-    let Step::Event(Event::Bytes(octets)) = step(&rt, &mut walker, &mut piece) else {
-        panic!(rt; "contents come");
-    };
-    expect_eq(&rt, octets, b"\xaa".as_slice());
+    expect_event(&rt, &mut walker, &mut piece, open(&rt, 0, b"\x30\x05"));
+    expect_event(&rt, &mut walker, &mut piece, begin(&rt, 2, b"\x04\x03"));
+    expect_event(&rt, &mut walker, &mut piece, Event::Bytes(b"\xaa"));
     expect_state(&rt, &walker, 5, 3, 1, false);
     let mut piece: &[u8] = b"\xbb\xcc\xdd";
-    let Step::Event(Event::Bytes(octets)) = step(&rt, &mut walker, &mut piece) else {
-        panic!(rt; "contents go on");
-    };
-    expect_eq(&rt, octets, b"\xbb\xcc".as_slice());
+    expect_event(&rt, &mut walker, &mut piece, Event::Bytes(b"\xbb\xcc"));
     expect_eq(&rt, piece, b"\xdd".as_slice());
     expect_state(&rt, &walker, 7, 4, 1, true);
     let mut none: &[u8] = b"";
-    expect_step(&rt, &mut walker, &mut none, "end");
+    expect_event(&rt, &mut walker, &mut none, Event::End);
     expect_state(&rt, &walker, 7, 5, 1, true);
-    expect_step(&rt, &mut walker, &mut none, "close");
+    expect_event(&rt, &mut walker, &mut none, Event::Close(None));
     expect_state(&rt, &walker, 7, 6, 0, false);
 }
 
-fn expect_fault(rt: &impl Abort, walker: &mut Walker, octets: &[u8], ending: Ending) {
+fn expect_fault(rt: &impl Abort, walker: &mut Walker, octets: &[u8], fault: Fault) {
     let mut piece = octets;
-    let Step::Fault(fault) = step(rt, walker, &mut piece) else {
-        panic!(rt; "an octet is refused");
-    };
-    expect_eq(rt, Ending::Fault(fault), ending);
+    expect_step(rt, walker, &mut piece, &Step::Fault(fault));
     expect_eq(rt, piece, octets);
-    expect_eq(rt, finish(rt, walker), ending);
+    expect_eq(rt, finish(rt, walker), Ending::Fault(fault));
 }
 
 /// Behind a fault the walker stands where it stood before the octet that is refused: here that of the third header's length.
@@ -137,17 +122,16 @@ fn expect_fault(rt: &impl Abort, walker: &mut Walker, octets: &[u8], ending: End
 fn what_is_open_stays_so_behind_a_fault(rt: HostRuntime) {
     let mut walker = Walker::new(&Framing::plain());
     let mut piece: &[u8] = b"\x30\x80\x30\x80\x04\x80";
-    for _ in 0..2 {
-        expect_step(&rt, &mut walker, &mut piece, "open");
-    }
-    expect_step(&rt, &mut walker, &mut piece, "fault");
+    expect_event(&rt, &mut walker, &mut piece, open(&rt, 0, b"\x30\x80"));
+    expect_event(&rt, &mut walker, &mut piece, open(&rt, 2, b"\x30\x80"));
+    let refused = Fault {
+        code: FaultCode::IndefinitePrimitive,
+        offset: 5,
+    };
+    expect_step(&rt, &mut walker, &mut piece, &Step::Fault(refused));
     expect_state(&rt, &walker, 5, 2, 2, false);
     expect_eq(&rt, piece, b"\x80".as_slice());
-    expect_eq(
-        &rt,
-        finish(&rt, &walker),
-        fault(FaultCode::IndefinitePrimitive, 5),
-    );
+    expect_eq(&rt, finish(&rt, &walker), Ending::Fault(refused));
     expect_eq(&rt, walker.unused(), None);
 }
 
@@ -156,9 +140,12 @@ fn what_is_open_stays_so_behind_a_fault(rt: HostRuntime) {
 fn a_fault_is_answered_again(rt: HostRuntime) {
     let mut walker = Walker::new(&Framing::plain());
     let mut piece: &[u8] = b"\x05\x00\x00";
-    expect_step(&rt, &mut walker, &mut piece, "begin");
-    expect_step(&rt, &mut walker, &mut piece, "end");
-    let stray = fault(FaultCode::StrayEnd, 2);
+    expect_event(&rt, &mut walker, &mut piece, begin(&rt, 0, b"\x05\x00"));
+    expect_event(&rt, &mut walker, &mut piece, Event::End);
+    let stray = Fault {
+        code: FaultCode::StrayEnd,
+        offset: 2,
+    };
     expect_fault(&rt, &mut walker, piece, stray);
     expect_state(&rt, &walker, 2, 2, 0, false);
     expect_fault(&rt, &mut walker, b"\x05\x00", stray);
@@ -171,14 +158,14 @@ fn a_fault_is_answered_again(rt: HostRuntime) {
 fn octets_before_a_fault_are_taken(rt: HostRuntime) {
     let mut walker = Walker::new(&Framing::plain());
     let mut piece: &[u8] = b"\x04\x86\x01";
-    let Step::Fault(refused) = step(&rt, &mut walker, &mut piece) else {
-        panic!(rt; "the length is refused");
+    let too_large = Fault {
+        code: FaultCode::LengthTooLarge,
+        offset: 2,
     };
-    let too_large = fault(FaultCode::LengthTooLarge, 2);
-    expect_eq(&rt, Ending::Fault(refused), too_large);
+    expect_step(&rt, &mut walker, &mut piece, &Step::Fault(too_large));
     expect_eq(&rt, piece, b"\x01".as_slice());
     expect_state(&rt, &walker, 2, 0, 0, false);
-    expect_eq(&rt, finish(&rt, &walker), too_large);
+    expect_eq(&rt, finish(&rt, &walker), Ending::Fault(too_large));
 }
 
 fn framing_of(rt: &impl Abort, offsets: &[u64], padding: bool) -> Framing {
@@ -193,19 +180,18 @@ fn a_string_wraps(rt: HostRuntime) {
     let mut walker = Walker::new(&framing_of(&rt, &[0, 7], false));
     expect_eq(&rt, walker.unused(), Some(0));
     let mut piece: &[u8] = b"\x03\x03\x00\x05\x00";
-    let Step::Event(Event::Enter(header)) = step(&rt, &mut walker, &mut piece) else {
-        panic!(rt; "the string wraps");
-    };
-    assert!(rt; header.wraps());
+    let string = header(&rt, 0, true, b"\x03\x03");
+    assert!(rt; string.wraps());
+    expect_event(&rt, &mut walker, &mut piece, Event::Enter(string));
     expect_eq(&rt, walker.unused(), Some(7));
     expect_state(&rt, &walker, 2, 1, 1, false);
     expect_eq(&rt, finish(&rt, &walker), fault(FaultCode::Short, 2));
-    expect_step(&rt, &mut walker, &mut piece, "unused");
+    expect_event(&rt, &mut walker, &mut piece, Event::Unused);
     expect_state(&rt, &walker, 3, 2, 1, false);
-    expect_step(&rt, &mut walker, &mut piece, "begin");
-    expect_step(&rt, &mut walker, &mut piece, "end");
+    expect_event(&rt, &mut walker, &mut piece, begin(&rt, 3, b"\x05\x00"));
+    expect_event(&rt, &mut walker, &mut piece, Event::End);
     expect_state(&rt, &walker, 5, 4, 1, true);
-    expect_step(&rt, &mut walker, &mut piece, "leave");
+    expect_event(&rt, &mut walker, &mut piece, Event::Leave);
     expect_state(&rt, &walker, 5, 5, 0, false);
     expect_eq(&rt, finish(&rt, &walker), Ending::Done);
     expect_eq(&rt, walker.unused(), Some(7));
@@ -215,17 +201,11 @@ fn a_string_wraps(rt: HostRuntime) {
 fn padding_is_told_in_parts(rt: HostRuntime) {
     let mut walker = Walker::new(&framing_of(&rt, &[], true));
     let mut piece: &[u8] = b"\x00\x00";
-    let Step::Event(Event::Pad(octets)) = step(&rt, &mut walker, &mut piece) else {
-        panic!(rt; "padding comes");
-    };
-    expect_eq(&rt, octets, b"\x00\x00".as_slice());
+    expect_event(&rt, &mut walker, &mut piece, Event::Pad(b"\x00\x00"));
     expect_state(&rt, &walker, 2, 1, 0, false);
     expect_eq(&rt, finish(&rt, &walker), fault(FaultCode::Empty, 2));
     let mut piece: &[u8] = b"\x00\x05";
-    let Step::Event(Event::Pad(octets)) = step(&rt, &mut walker, &mut piece) else {
-        panic!(rt; "padding goes on");
-    };
-    expect_eq(&rt, octets, b"\x00".as_slice());
+    expect_event(&rt, &mut walker, &mut piece, Event::Pad(b"\x00"));
     expect_need(&rt, &mut walker, piece);
     expect_eq(&rt, finish(&rt, &walker), fault(FaultCode::Short, 4));
 }
@@ -248,7 +228,7 @@ fn an_input_ends_before_an_event(rt: HostRuntime) {
 fn an_input_ends_inside_an_element(rt: HostRuntime) {
     let mut walker = Walker::new(&Framing::plain());
     let mut piece: &[u8] = b"\x30\x80";
-    expect_step(&rt, &mut walker, &mut piece, "open");
+    expect_event(&rt, &mut walker, &mut piece, open(&rt, 0, b"\x30\x80"));
     expect_eq(&rt, finish(&rt, &walker), fault(FaultCode::Short, 2));
     expect_need(&rt, &mut walker, b"\x00");
     expect_eq(&rt, finish(&rt, &walker), fault(FaultCode::Short, 3));

@@ -2,7 +2,7 @@
 use super::lines::Lines;
 use crate::expect::expect_eq;
 use crate::reads::{LENGTH, expect_again, expect_written};
-use tlv_walk::{DeviceFault, Ending, Framing, MemDrain, MemSource, Run, Step, Turn, Walker, turn};
+use tlv_walk::{DeviceFault, Ending, Framing, MemDrain, MemSource, Run, Turn, Walker, turn};
 
 /// A constructed string of definite length.
 const INPUT: &[u8] = b"\x3a\x09\x04\x03\x4a\x6f\x6e\x04\x02\x65\x73";
@@ -86,21 +86,18 @@ fn a_turn_behind_a_failed_read_goes_on(rt: HostRuntime) {
         LENGTH,
     );
     expect_written(&rt, &drain, &TEXT[..36]);
-    let failed = turn(
+    let Err(DeviceFault::ReadFailed) = turn(
         &mut walker,
         &mut lines,
         &mut source,
         &mut drain,
         &mut piece,
         LENGTH,
-    );
-    expect_eq(&rt, failed, Err(DeviceFault::ReadFailed));
+    ) else {
+        panic!(rt; "the read fails");
+    };
     expect_written(&rt, &drain, &TEXT[..36]);
     assert_eq!(rt; walker.offset(), 5);
-    let mut none: &[u8] = &[];
-    let Step::NeedMore = walker.step(&mut none) else {
-        panic!(rt; "an event waits");
-    };
     expect_again(
         &rt,
         &mut walker,

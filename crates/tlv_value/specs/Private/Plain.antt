@@ -1,5 +1,6 @@
 -- Characters that stand as they are.
-use Rattle.std.specs.Prelude.{◌≡◌, ℕ, ◌+◌, ◌<◌, ◌≤◌, Bool, true, false, ◌&&◌, ◌||◌, not, eqb, List, ◌++◌, drop, flat_map, length, slice_index}
+use Rattle.std.specs.Prelude.{◌≡◌, ℕ, ◌<◌, Bool, true, false, ◌&&◌, ◌||◌, not, eqb, List, ◌++◌, drop, flat_map, slice_index}
+use Rattle.tlv_io.specs.Held.{AddsIfRoom}
 use Rattle.tlv_value.specs.declared.kind.Kind.{Kind}
 use Rattle.tlv_value.specs.declared.kind.Kind.TheVariants.{Octets, Boolean, Integer, Bits, Object, Relative, Text, Utf8, Ucs2, Ucs4}
 use Rattle.tlv_value.specs.Units.{is_printable, unit_text, units}
@@ -28,11 +29,6 @@ ArePlain kind octets n = (0 < n → is_ascii kind ≡ true) × ((i : ℕ) → i 
 -- the first n of the octets were written behind what was held, where there is room
 abbrev pub IsPart : Kind → List ℕ → List ℕ → List ℕ → ℕ → Type 0
 IsPart kind octets held held' n =
-    (text : List ℕ) × (length held + length text ≤ 4096 → held' ≡ held ++ text)
-    × (flat_map (unit_text kind) (units kind 0 octets) ≡ text ++ flat_map (unit_text kind) (units kind 0 (drop n octets)))
-
--- the first n of the octets were written behind a line, where there is room
-abbrev pub IsLinePart : Kind → List ℕ → List ℕ → List ℕ → ℕ → Type 0
-IsLinePart kind octets line line' n =
-    (text : List ℕ) × (length line + length text ≤ 1024 → line' ≡ line ++ text)
-    × (flat_map (unit_text kind) (units kind 0 octets) ≡ text ++ flat_map (unit_text kind) (units kind 0 (drop n octets)))
+    (text : List ℕ) × AddsIfRoom held held' text
+    × (flat_map (unit_text kind) (units kind 0 octets)
+    ≡ text ++ flat_map (unit_text kind) (units kind 0 (drop n octets)))

@@ -1,5 +1,6 @@
 //! Rows on their way to an [`Out`].
 ghost use Rattle.std.specs.Prelude.{◌≡◌, ◌+◌, ◌<◌, ◌≤◌, ◌^◌, ◌++◌, [], codes, if◌then◌else◌, length, IsTrue, None, OnOk, ◌↔◌};
+ghost use Rattle.tlv_io.specs.Held.{HasRoomFor};
 ghost use Rattle.tlv_io.specs.Out.{Puts};
 ghost use Rattle.tlv_value.specs.Layout.{line, no_columns, row_line as row_line_of};
 ghost use Rattle.tlv_value.specs.Private.Rows.{full_line, full_lines};
@@ -200,7 +201,7 @@ fn put_dots<D: Drain>(
 /// Adds the line of a row.
 #[inline(always)]
 fn write_line(held: &mut Held, layout: Layout, kind: Kind, row: &[u8])
-    requires room { length held.old + 1024 ≤ 4096 }
+    requires room { HasRoomFor held.old 1024 }
     requires short { length row.now ≤ 64 }
     ensures { held.new ≡ held.old ++ line layout.pure no_columns (layout.level + 1) (row_text kind row.now) }
 {
@@ -212,7 +213,7 @@ fn write_line(held: &mut Held, layout: Layout, kind: Kind, row: &[u8])
 /// Adds the line of a full row of pairs of digits.
 #[inline(always)]
 fn write_full_line(held: &mut Held, layout: Layout, row: &[u8; 16])
-    requires { length held.old + 1024 ≤ 4096 }
+    requires { HasRoomFor held.old 1024 }
     ensures { held.new ≡ held.old ++ full_line layout row.now }
 {
     // Each pair brings the space before it.
@@ -223,7 +224,7 @@ fn write_full_line(held: &mut Held, layout: Layout, row: &[u8; 16])
 
 /// Adds the line of three dots.
 fn write_dots(held: &mut Held, layout: Layout)
-    requires { length held.old + 1024 ≤ 4096 }
+    requires { HasRoomFor held.old 1024 }
     ensures { held.new ≡ held.old ++ line layout.pure no_columns (layout.level + 1) (codes "...") }
 {
     held.spaces(row_indent(layout));

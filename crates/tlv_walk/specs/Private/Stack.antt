@@ -1,6 +1,8 @@
 -- What the functions of a stack answer.
-use Rattle.std.specs.Prelude.{ℕ, ◌-◌, Bool, List, [], ◌∷◌, Option, Some, None}
-use Rattle.std.specs.Option.{option_or}
+use Rattle.std.specs.Prelude.{ℕ, ◌+◌, ◌-◌, Bool, not, List, [], ◌∷◌, Option, Some, None}
+use Rattle.std.specs.Option.{option_map_or, option_or}
+use Rattle.tlv_head.specs.Header.{definite_length}
+use Rattle.tlv_head.specs.declared.header.Size.{Size}
 use Rattle.tlv_walk.specs.Stack.{Frame, bound_of}
 
 -- whether the innermost element wraps encodings, if there is one
@@ -19,3 +21,12 @@ left_to (Some b) offset = Some (b - offset)
 
 abbrev pub room_of : List Frame → ℕ → Option ℕ
 room_of stack offset = left_to (bound_of stack) offset
+
+-- 8.1.3.3: the end of contents that begin there, or else the bound outside
+abbrev pub bound_in : Size → ℕ → Option ℕ → Option ℕ
+bound_in size start outside = option_map_or (λ n. Some (start + n)) (definite_length size) outside
+
+-- the frame of an element whose contents begin at the offset
+abbrev pub frame_with : ℕ → Option ℕ → Size → Bool → Frame
+frame_with start outer size constructed =
+    record { end = bound_in size start None; bound = bound_in size start outer; wrapper = not constructed }

@@ -1,8 +1,8 @@
 //! How a walker takes the contents of primitives, and octets between encodings.
 ghost use Rattle.std.specs.Prelude.{◌≡◌, ◌≢◌, ℕ, ◌+◌, ◌^◌, ◌<◌, ◌≤◌, ◌∷◌, [], All, Some, length, slice_get, take, true};
 ghost use Rattle.tlv_walk.specs.Phase as phases;
-ghost use Rattle.tlv_walk.specs.Machine.{HasOctets, Steps, TellsOne};
-ghost use Rattle.tlv_walk.specs.Private.Machine.{Tells};
+ghost use Rattle.tlv_walk.specs.Machine.{HasOctets};
+ghost use Rattle.tlv_walk.specs.Private.Machine.{Steps, Tells, TellsOne};
 ghost use Rattle.tlv_walk.specs.Tells.{told_of};
 ghost use Rattle.tlv_walk.specs.Private.Tells.{Continues, TellsEvent, TellsStep};
 

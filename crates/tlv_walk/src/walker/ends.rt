@@ -1,8 +1,8 @@
 //! How a walker takes what stands between elements, and the ends of those that hold others.
 ghost use Rattle.std.specs.Prelude.{◌≡◌, ℕ, ◌+◌, ◌^◌, ◌≤◌, ◌∷◌, [], length};
 ghost use Rattle.tlv_walk.specs.Phase as phases;
-ghost use Rattle.tlv_walk.specs.Machine.{HasOctets, Steps};
-ghost use Rattle.tlv_walk.specs.Private.Machine.{StepsAtOnce, Tells, closes};
+ghost use Rattle.tlv_walk.specs.Machine.{HasOctets};
+ghost use Rattle.tlv_walk.specs.Private.Machine.{Steps, StepsAtOnce, Tells, closes};
 ghost use Rattle.tlv_walk.specs.Stack.{IsFilled};
 ghost use Rattle.tlv_walk.specs.Tells.{told_of};
 ghost use Rattle.tlv_walk.specs.Private.Tells.{Continues, TellsAtOnce, TellsStep};

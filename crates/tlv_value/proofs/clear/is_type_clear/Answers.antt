@@ -1,4 +1,4 @@
-use Rattle.std.proofs.Common.{◌≡◌, ℕ, false, eqb, List, [], refl, arith}
+use Rattle.std.proofs.Common.{◌≡◌, ℕ, false, eqb, List, [], refl, arith, rules}
 use Rattle.std.proofs.lemmas.Bool.Decides.{nat_tests}
 use Rattle.tlv_value.specs.Private.Checks.{findings_of}
 use Rattle.tlv_value.proofs.clear.is_type_clear.Goals as goal
@@ -16,3 +16,6 @@ returns-in_default c =
     (grind (arith, nat_tests)) (grind (arith, nat_tests)) (grind (arith, nat_tests)) (grind (arith, nat_tests))
     (grind (arith, nat_tests)) (grind (arith, nat_tests)) (grind (arith, nat_tests)) (grind (arith, nat_tests))
     (grind (arith, nat_tests)) (grind (arith, nat_tests)) (grind (arith, nat_tests)) (grind (arith, nat_tests))
+
+pub returns-in-5 : goal.returns-in-5
+returns-in-5 c = search rules

@@ -44,3 +44,6 @@ loop-octet-init c = search rules
 
 pub returns : goal.returns
 returns c = grind (arith, common_steps)
+
+pub returns-then-contents-gt16 : goal.returns-then-contents-gt16
+returns-then-contents-gt16 c = search rules

@@ -1,4 +1,4 @@
-use Rattle.std.proofs.Common.{◌≡◌, ℕ, ◌+◌, ◌*◌, ◌%◌, ◌++◌, ◌∷◌, true, List, get_or, refl, sym, ap, ◌∙◌, arith, append_assoc}
+use Rattle.std.proofs.Common.{◌≡◌, ℕ, ◌+◌, ◌*◌, ◌%◌, ◌++◌, ◌∷◌, true, List, get_or, refl, sym, ap, ◌∙◌, arith, append_assoc, rules}
 use Rattle.std.proofs.lemmas.Grind.{common_steps}
 use Rattle.tlv_value.specs.Arcs.{is_finished}
 use Rattle.tlv_value.specs.Private.Arcs.{part_text}
@@ -48,3 +48,21 @@ returns-clause-text c =
     let f : is_finished c.args.contents.now ≡ true = grind (arith, common_steps) in
     let (text, held, room, same) = c.loop-octet.invariant in
     rw (run-end c.args.relative c.args.contents.now text c.loop-octet.first c.loop-octet.number c.loop-octet.octet-index f (omega arith) (omega arith) same) held
+
+pub truncate-requires : goal.truncate-requires
+truncate-requires c = grind (arith, common_steps)
+
+pub returns-then-number-clause-text : goal.returns-then-number-clause-text
+returns-then-number-clause-text c = grind (arith, common_steps)
+
+pub returns-then-number-clause-bound : goal.returns-then-number-clause-bound
+returns-then-number-clause-bound c = grind (arith, common_steps)
+
+pub write_arcs-requires : goal.write_arcs-requires
+write_arcs-requires c = grind (arith, common_steps)
+
+pub returns-clause-bound : goal.returns-clause-bound
+returns-clause-bound c = grind (arith, common_steps)
+
+pub write_short-requires-clause-short : goal.write_short-requires-clause-short
+write_short-requires-clause-short c = search rules

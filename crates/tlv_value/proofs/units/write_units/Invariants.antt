@@ -1,11 +1,12 @@
-use Rattle.std.proofs.Common.{◌≡◌, ℕ, ◌+◌, ◌≤◌, ◌++◌, List, length}
+use Rattle.std.proofs.Common.{◌≡◌, ℕ, ◌++◌, List, length}
 use Rattle.std.specs.Prelude.{flat_map}
+use Rattle.tlv_io.specs.Held.{AddsIfRoom}
 use Rattle.tlv_value.specs.Units.{unit_text, units}
 use Rattle.tlv_value.proofs.units.write_units.Given as goal
 
 abbrev pub invariant-loop-rest : goal.invariant-loop-rest
 invariant-loop-rest l =
-    (text : List ℕ) × (length l.fn.held + length text ≤ 4096 → l.held ≡ l.fn.held ++ text)
+    (text : List ℕ) × AddsIfRoom l.fn.held l.held text
     × (text ++ flat_map (unit_text l.kind) (units l.kind 0 l.rest) ≡ flat_map (unit_text l.kind) (units l.kind 0 l.row))
 
 abbrev pub decreases-loop-rest : goal.decreases-loop-rest

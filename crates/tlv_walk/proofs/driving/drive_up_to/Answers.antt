@@ -1,8 +1,7 @@
-use Rattle.std.proofs.Common.{rules, ◌≡◌, ℕ, List, sym, subst}
+use Rattle.std.proofs.Common.{rules, ◌≡◌, ℕ, sym}
 use Rattle.std.specs.Prelude.{Result}
 use Rattle.std.proofs.lemmas.Result.{err_from_is_err_and}
 use Rattle.tlv_walk.specs.declared.run.DeviceFault.{DeviceFault}
-use Rattle.tlv_walk.specs.declared.run.Turn.{Turn}
 use Rattle.tlv_io.specs.Device.{Supply, Taken}
 use Rattle.tlv_walk.specs.declared.framing.Framing.{Framing}
 use Rattle.tlv_walk.specs.declared.run.Run.{Run}
@@ -10,14 +9,9 @@ use Rattle.tlv_walk.specs.Drives.{Drives}
 use Rattle.tlv_walk.specs.Events.{Told}
 use Rattle.tlv_walk.specs.Follow.{Following}
 use Rattle.tlv_io.specs.Out.{lender_of}
-use Rattle.tlv_walk.specs.Turns.{Calls}
 use Rattle.tlv_walk.proofs.SoFar.{walking_none}
 use Rattle.tlv_walk.proofs.Drives.{drives_ended, drives_err, walking_on}
 use Rattle.tlv_walk.proofs.driving.drive_up_to.Goals as goal
-
--- there is room for as many octets before a turn
-calls_there : (n : ℕ) (old new : Supply) (from to : Taken) (piece : List ℕ) (result : Result Turn DeviceFault) → n ≡ 4096 → Calls n old new from to piece result → Calls 4096 old new from to piece result
-calls_there n old new from to piece result e k = subst (λ (n : ℕ). Calls n old new from to piece result) e k
 
 -- what a walk comes to, said of the drain that was lent
 drives_lent : {S D : Type 0} (next : S → Told → Following S) (drain : D → Taken) (f : Framing) (limit : ℕ) (s t : S) (old new : Supply) (d d' e e' : D)
@@ -37,11 +31,11 @@ turns-init g c = record {
 pub turns-preserved : goal.turns-preserved
 turns-preserved g c =
     let law = g.met.F.Follow in
-    let x = c.turns.invariant.walking in
-    let calls = calls_there _ _ _ _ _ _ _ c.turns.invariant.piece c.turn_to.ensures.calls in
     record {
       taken = search rules;
-      walking = walking_on g.F.Follow.next law.bytes_join law.bytes_rest law.bytes_go_on law.pad_join law.pad_rest law.pad_go_on _ _ _ _ _ _ _ _ _ x _ _ _ _ _ _ calls (search rules) c.turn_to.ensures.octets c.turns.invariant.taken (search rules) (rw c.in-Again.is at c.in_ok-turn_to.ensures.turned _ x.told x.stands);
+      walking =
+          walking_on g.F.Follow.next law.bytes_join law.bytes_rest law.bytes_go_on law.pad_join law.pad_rest law.pad_go_on _ _ _ _ _ _ c.turns.invariant.walking
+          _ _ _ c.turn_to.ensures.read (search rules) c.turns.invariant.taken (search rules);
       ready = search rules;
       piece = search rules;
       empty = search rules;
@@ -51,18 +45,14 @@ turns-preserved g c =
 pub returns-in_err-turn_to : goal.returns-in_err-turn_to
 returns-in_err-turn_to g c =
     let law = g.met.F.Follow in
-    let x = c.turns.invariant.walking in
-    let calls = calls_there _ _ _ _ _ _ _ c.turns.invariant.piece c.turn_to.ensures.calls in
     let p = err_from_is_err_and c.from_residual.result c.from_residual.ensures.1 in rw (p.1, p.2)
     (drives_lent g.F.Follow.next g.D.Drain.told _ _ _ _ _ _ _ _ (lender_of c.new-out.result).now (lender_of c.turn_to.new.out).now _ (sym c.new-out.ensures.taken) (search rules)
-    (drives_err g.F.Follow.next law.bytes_join law.bytes_rest law.bytes_go_on law.pad_join law.pad_rest law.pad_go_on _ _ _ _ _ _ _ _ _ x _ _ _ _ _ _ calls (search rules) c.turn_to.ensures.octets c.turns.invariant.taken
-    c.in_err-turn_to.field-0.0 (search rules) (c.in_err-turn_to.ensures.turned _ x.told x.stands)))
+    (drives_err g.F.Follow.next law.bytes_join law.bytes_rest law.bytes_go_on law.pad_join law.pad_rest law.pad_go_on _ _ _ _ _ _ c.turns.invariant.walking
+    _ _ _ c.turn_to.ensures.read (search rules) c.turns.invariant.taken c.in_err-turn_to.field-0.0 (search rules)))
 
 pub returns-in-Ended : goal.returns-in-Ended
 returns-in-Ended g c =
     let law = g.met.F.Follow in
-    let x = c.turns.invariant.walking in
-    let calls = calls_there _ _ _ _ _ _ _ c.turns.invariant.piece c.turn_to.ensures.calls in
     drives_lent g.F.Follow.next g.D.Drain.told _ _ _ _ _ _ _ _ (lender_of c.new-out.result).now (lender_of c.turn_to.new.out).now _ (sym c.new-out.ensures.taken) (search rules)
-    (drives_ended g.F.Follow.next law.bytes_join law.bytes_rest law.bytes_go_on law.pad_join law.pad_rest law.pad_go_on _ _ _ _ _ _ _ _ _ x _ _ _ _ _ _ calls (search rules) c.turn_to.ensures.octets c.turns.invariant.taken
-    _ (search rules) (rw c.in-Ended.is at c.in_ok-turn_to.ensures.turned _ x.told x.stands))
+    (drives_ended g.F.Follow.next law.bytes_join law.bytes_rest law.bytes_go_on law.pad_join law.pad_rest law.pad_go_on _ _ _ _ _ _ c.turns.invariant.walking
+    _ _ _ c.turn_to.ensures.read (search rules) c.turns.invariant.taken _ (search rules))

@@ -1,5 +1,6 @@
-use Rattle.std.proofs.Common.{rules, inl}
+use Rattle.std.proofs.Common.{rules}
 use Rattle.tlv_walk.specs.declared.ending.Ending.TheVariants as ending
+use Rattle.tlv_walk.specs.Tells.{took_all}
 use Rattle.tlv_walk.proofs.Waiting.{ready-quiet}
 use Rattle.tlv_walk.proofs.turning.answer.Goals as goal
 
@@ -16,7 +17,7 @@ returns-in-UsedUp-2 c = rw c.in-UsedUp-2.is (
   (
     _,
     c.run_of-in-UsedUp-2.ensures,
-    λ o told st. c.finish.ensures.ending o told ending.Done (inl (st, ready-quiet c.args.walker.now (c.requires (search rules)))),
+    λ o told st. c.finish.ensures.ending o told ending.Done (took_all st (ready-quiet c.args.walker.now (c.requires (search rules)))),
   ),
 )
 

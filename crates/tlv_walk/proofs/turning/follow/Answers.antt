@@ -1,16 +1,16 @@
-use Rattle.std.proofs.Common.{rules, ◌≡◌, ℕ, ◌+◌, List, length, refl, ap₂, ◌∙◌, subst}
+use Rattle.std.proofs.Common.{rules, ◌≡◌, ℕ, ◌+◌, List, [], ◌∷◌, length, refl, ap₂, ◌∙◌, subst}
 use Rattle.std.proofs.lemmas.Result.{err_from_is_err_and}
 use Rattle.tlv_walk.specs.declared.event.Step.{Step}
 use Rattle.tlv_walk.specs.declared.event.Step.TheVariants as step
 use Rattle.tlv_walk.specs.declared.follow.Go.{Go}
 use Rattle.tlv_walk.specs.declared.follow.Go.TheVariants as go
 use Rattle.tlv_walk.specs.Events.{Open, Told}
-use Rattle.tlv_head.specs.declared.fault.Fault.{Fault}
-use Rattle.tlv_walk.specs.Machine.{Machine, Refuses}
-use Rattle.tlv_walk.specs.Tells.{StandsBehind, StandsStep}
+use Rattle.tlv_walk.specs.Machine.{Machine}
+use Rattle.tlv_walk.specs.StepsTo.{StepsTo}
+use Rattle.tlv_walk.specs.Private.Follows.{Walked}
 use Rattle.tlv_walk.proofs.Following.{fails_event, follows_as, follows_event, follows_none, stops_fault, stops_used_up}
 use Rattle.tlv_walk.proofs.Parts.{fails_both, follows_left, follows_part, left_walked, part_passes}
-use Rattle.tlv_walk.proofs.Standing.{stands_behind}
+use Rattle.tlv_walk.proofs.Standing.{event_offset, stands_all, walked_event}
 use Rattle.tlv_walk.proofs.turning.follow.Goals.{in-Some+in_ok-go-in-Some, in-None+in-Some-constructed+in_ok-go-in-Some-constructed, in-None+in-None-constructed+in-Some-contents_event+in_ok-go-in-Some-contents_event, in-None+in-None-constructed+in-None-contents_event+in-Event+in_ok-go-in-Event}
 use Rattle.tlv_walk.proofs.turning.follow.Goals as goal
 
@@ -19,14 +19,11 @@ unmoved : (v w : Machine) (xs ys : List ℕ) → v ≡ w → xs ≡ ys → v.off
 unmoved v w xs ys e f = ap₂ (λ (m : Machine) (o : List ℕ). m.offset + length o) e f
 
 -- so the next step is the first
-unmoved_event : (v w u : Machine) (xs ys after : List ℕ) (e : Told) → v ≡ w → xs ≡ ys → StandsBehind v u xs after e → StandsBehind w u ys after e
-unmoved_event v w u xs ys after e p q t = subst (λ (o : List ℕ). StandsBehind w u o after e) q (subst (λ (m : Machine). StandsBehind m u xs after e) p t)
+unmoved_event : (v w u : Machine) (xs ys after : List ℕ) (e : Told) → v ≡ w → xs ≡ ys → Walked v u xs after (e ∷ []) → Walked w u ys after (e ∷ [])
+unmoved_event v w u xs ys after e p q t = subst (λ (o : List ℕ). Walked w u o after (e ∷ [])) q (subst (λ (m : Machine). Walked m u xs after (e ∷ [])) p t)
 
-unmoved_stands : (v w u : Machine) (xs ys after : List ℕ) (s : Step) → v ≡ w → xs ≡ ys → StandsStep v u xs after s → StandsStep w u ys after s
-unmoved_stands v w u xs ys after s p q t = subst (λ (o : List ℕ). StandsStep w u o after s) q (subst (λ (m : Machine). StandsStep m u xs after s) p t)
-
-unmoved_refuses : (v w u : Machine) (xs ys after : List ℕ) (f : Fault) → v ≡ w → xs ≡ ys → Refuses v u xs after f → Refuses w u ys after f
-unmoved_refuses v w u xs ys after f p q t = subst (λ (o : List ℕ). Refuses w u o after f) q (subst (λ (m : Machine). Refuses m u xs after f) p t)
+unmoved_step : (v w u : Machine) (xs ys after : List ℕ) (s : Step) → v ≡ w → xs ≡ ys → StepsTo v u xs after s → StepsTo w u ys after s
+unmoved_step v w u xs ys after s p q t = subst (λ (o : List ℕ). StepsTo w u o after s) q (subst (λ (m : Machine). StepsTo m u xs after s) p t)
 
 not_enough : (g : Go) → (g ≡ go.Enough → ⊥) → g ≡ go.On
 not_enough go.On n = refl
@@ -51,20 +48,20 @@ events-preserved g c =
     let left = follows_left g.F.Follow.next g.D.Drain.told _ _ _ _ _ _ _ _ _ _ _ _ _ c.events.invariant.follows c.if-branch.false c.in_ok-follow_primitive.ensures.parts in
     elim c.match-close.branch [
       | in-Some+in_ok-go-in-Some w ↦ record {
-        follows = rw (w.out-is, w.follower-is, w.walker-is, w.rest-is, ← on, w.go-is) (follows_event g.F.Follow.next g.D.Drain.told _ _ _ _ _ _ _ _ _ _ _ _ _ _ left (stands_behind _ _ _ _ _ w.in-Some.ensures.tells) w.in_ok-go-in-Some.ensures.state _ w.in_ok-go-in-Some.ensures.puts);
-        walked = rw (w.walker-is, w.rest-is) (w.in-Some.ensures.steps.0.0 ∙ left_walked g.F.Follow.next g.D.Drain.told _ _ _ _ _ _ _ _ _ c.if-branch.false c.in_ok-follow_primitive.ensures.parts ∙ c.events.invariant.walked);
+        follows = rw (w.out-is, w.follower-is, w.walker-is, w.rest-is, ← on, w.go-is) (follows_event g.F.Follow.next g.D.Drain.told _ _ _ _ _ _ _ _ _ _ _ _ _ _ left (stands_all _ _ _ _ _ w.in-Some.ensures.tells) w.in_ok-go-in-Some.ensures.state _ w.in_ok-go-in-Some.ensures.puts);
+        walked = rw (w.walker-is, w.rest-is) (w.in-Some.ensures.steps.0.taken ∙ left_walked g.F.Follow.next g.D.Drain.told _ _ _ _ _ _ _ _ _ c.if-branch.false c.in_ok-follow_primitive.ensures.parts ∙ c.events.invariant.walked);
       }
-      | in-None+in-Some-constructed+in_ok-go-in-Some-constructed w ↦ let opened : StandsBehind c.close.new.self w.constructed.new.self c.close.new.piece.now w.constructed.new.piece.now (Open w.new.result) = rw w.new.ensures (stands_behind _ _ _ _ _ w.in-Some-constructed.ensures.tells) in record {
+      | in-None+in-Some-constructed+in_ok-go-in-Some-constructed w ↦ let opened : Walked c.close.new.self w.constructed.new.self c.close.new.piece.now w.constructed.new.piece.now (Open w.new.result ∷ []) = rw w.new.ensures (stands_all _ _ _ _ _ w.in-Some-constructed.ensures.tells) in record {
         follows = rw (w.out-is, w.follower-is, w.walker-is, w.rest-is, ← on, w.go-is) (follows_event g.F.Follow.next g.D.Drain.told _ _ _ _ _ _ _ _ _ _ _ _ _ _ left (unmoved_event _ _ _ _ _ _ _ (w.in-None.ensures.steps.0) (w.in-None.ensures.steps.1) opened) w.in_ok-go-in-Some-constructed.ensures.state _ w.in_ok-go-in-Some-constructed.ensures.puts);
-        walked = rw (w.walker-is, w.rest-is) (w.in-Some-constructed.ensures.steps.0.0 ∙ unmoved _ _ _ _ (w.in-None.ensures.steps.0) (w.in-None.ensures.steps.1) ∙ left_walked g.F.Follow.next g.D.Drain.told _ _ _ _ _ _ _ _ _ c.if-branch.false c.in_ok-follow_primitive.ensures.parts ∙ c.events.invariant.walked);
+        walked = rw (w.walker-is, w.rest-is) (w.in-Some-constructed.ensures.steps.0.taken ∙ unmoved _ _ _ _ (w.in-None.ensures.steps.0) (w.in-None.ensures.steps.1) ∙ left_walked g.F.Follow.next g.D.Drain.told _ _ _ _ _ _ _ _ _ c.if-branch.false c.in_ok-follow_primitive.ensures.parts ∙ c.events.invariant.walked);
       }
       | in-None+in-None-constructed+in-Some-contents_event+in_ok-go-in-Some-contents_event w ↦ record {
-        follows = rw (w.out-is, w.follower-is, w.walker-is, w.rest-is, ← on, w.go-is) (follows_event g.F.Follow.next g.D.Drain.told _ _ _ _ _ _ _ _ _ _ _ _ _ _ left (unmoved_event _ _ _ _ _ _ _ (w.in-None-constructed.ensures.steps.0 ∙ w.in-None.ensures.steps.0) (w.in-None-constructed.ensures.steps.1 ∙ w.in-None.ensures.steps.1) (stands_behind _ _ _ _ _ w.in-Some-contents_event.ensures.tells)) w.in_ok-go-in-Some-contents_event.ensures.state _ w.in_ok-go-in-Some-contents_event.ensures.puts);
-        walked = rw (w.walker-is, w.rest-is) (w.in-Some-contents_event.ensures.steps.0.0 ∙ unmoved _ _ _ _ (w.in-None-constructed.ensures.steps.0 ∙ w.in-None.ensures.steps.0) (w.in-None-constructed.ensures.steps.1 ∙ w.in-None.ensures.steps.1) ∙ left_walked g.F.Follow.next g.D.Drain.told _ _ _ _ _ _ _ _ _ c.if-branch.false c.in_ok-follow_primitive.ensures.parts ∙ c.events.invariant.walked);
+        follows = rw (w.out-is, w.follower-is, w.walker-is, w.rest-is, ← on, w.go-is) (follows_event g.F.Follow.next g.D.Drain.told _ _ _ _ _ _ _ _ _ _ _ _ _ _ left (unmoved_event _ _ _ _ _ _ _ (w.in-None-constructed.ensures.steps.0 ∙ w.in-None.ensures.steps.0) (w.in-None-constructed.ensures.steps.1 ∙ w.in-None.ensures.steps.1) (stands_all _ _ _ _ _ w.in-Some-contents_event.ensures.tells)) w.in_ok-go-in-Some-contents_event.ensures.state _ w.in_ok-go-in-Some-contents_event.ensures.puts);
+        walked = rw (w.walker-is, w.rest-is) (w.in-Some-contents_event.ensures.steps.0.taken ∙ unmoved _ _ _ _ (w.in-None-constructed.ensures.steps.0 ∙ w.in-None.ensures.steps.0) (w.in-None-constructed.ensures.steps.1 ∙ w.in-None.ensures.steps.1) ∙ left_walked g.F.Follow.next g.D.Drain.told _ _ _ _ _ _ _ _ _ c.if-branch.false c.in_ok-follow_primitive.ensures.parts ∙ c.events.invariant.walked);
       }
       | in-None+in-None-constructed+in-None-contents_event+in-Event+in_ok-go-in-Event w ↦ record {
-        follows = rw (w.out-is, w.follower-is, w.walker-is, w.rest-is, ← on, w.go-is) (follows_event g.F.Follow.next g.D.Drain.told _ _ _ _ _ _ _ _ _ _ _ _ _ _ left (unmoved_event _ _ _ _ _ _ _ (w.in-None-contents_event.ensures.steps.0 ∙ w.in-None-constructed.ensures.steps.0 ∙ w.in-None.ensures.steps.0) (w.in-None-contents_event.ensures.steps.1 ∙ w.in-None-constructed.ensures.steps.1 ∙ w.in-None.ensures.steps.1) w.in-Event.ensures.stands) w.in_ok-go-in-Event.ensures.state _ w.in_ok-go-in-Event.ensures.puts);
-        walked = rw (w.walker-is, w.rest-is) (w.in-Event.ensures.steps.0.0 ∙ unmoved _ _ _ _ (w.in-None-contents_event.ensures.steps.0 ∙ w.in-None-constructed.ensures.steps.0 ∙ w.in-None.ensures.steps.0) (w.in-None-contents_event.ensures.steps.1 ∙ w.in-None-constructed.ensures.steps.1 ∙ w.in-None.ensures.steps.1) ∙ left_walked g.F.Follow.next g.D.Drain.told _ _ _ _ _ _ _ _ _ c.if-branch.false c.in_ok-follow_primitive.ensures.parts ∙ c.events.invariant.walked);
+        follows = rw (w.out-is, w.follower-is, w.walker-is, w.rest-is, ← on, w.go-is) (follows_event g.F.Follow.next g.D.Drain.told _ _ _ _ _ _ _ _ _ _ _ _ _ _ left (unmoved_event _ _ _ _ _ _ _ (w.in-None-contents_event.ensures.steps.0 ∙ w.in-None-constructed.ensures.steps.0 ∙ w.in-None.ensures.steps.0) (w.in-None-contents_event.ensures.steps.1 ∙ w.in-None-constructed.ensures.steps.1 ∙ w.in-None.ensures.steps.1) (walked_event _ _ _ _ _ w.in-Event.ensures)) w.in_ok-go-in-Event.ensures.state _ w.in_ok-go-in-Event.ensures.puts);
+        walked = rw (w.walker-is, w.rest-is) (event_offset _ _ _ _ _ w.in-Event.ensures ∙ unmoved _ _ _ _ (w.in-None-contents_event.ensures.steps.0 ∙ w.in-None-constructed.ensures.steps.0 ∙ w.in-None.ensures.steps.0) (w.in-None-contents_event.ensures.steps.1 ∙ w.in-None-constructed.ensures.steps.1 ∙ w.in-None.ensures.steps.1) ∙ left_walked g.F.Follow.next g.D.Drain.told _ _ _ _ _ _ _ _ _ c.if-branch.false c.in_ok-follow_primitive.ensures.parts ∙ c.events.invariant.walked);
       }
     ]
 
@@ -78,13 +75,13 @@ returns-in_err-go-in-Some-clause-stops g c =
     let p = err_from_is_err_and c.from_residual-in_err-go-in-Some.result c.from_residual-in_err-go-in-Some.ensures.1 in
     let left = follows_left g.F.Follow.next g.D.Drain.told _ _ _ _ _ _ _ _ _ _ _ _ _ c.events.invariant.follows c.if-branch.false c.in_ok-follow_primitive.ensures.parts in
     rw p.1
-    (fails_event g.F.Follow.next g.D.Drain.told _ _ _ _ _ _ _ _ _ _ _ _ left (stands_behind _ _ _ _ _ c.in-Some.ensures.tells) _ _ c.in_err-go-in-Some.ensures.puts)
+    (fails_event g.F.Follow.next g.D.Drain.told _ _ _ _ _ _ _ _ _ _ _ _ left (stands_all _ _ _ _ _ c.in-Some.ensures.tells) _ _ c.in_err-go-in-Some.ensures.puts)
 
 pub returns-in_err-go-in-Some-constructed-clause-stops : goal.returns-in_err-go-in-Some-constructed-clause-stops
 returns-in_err-go-in-Some-constructed-clause-stops g c =
     let p = err_from_is_err_and c.from_residual-in_err-go-in-Some-constructed.result c.from_residual-in_err-go-in-Some-constructed.ensures.1 in
     let left = follows_left g.F.Follow.next g.D.Drain.told _ _ _ _ _ _ _ _ _ _ _ _ _ c.events.invariant.follows c.if-branch.false c.in_ok-follow_primitive.ensures.parts in
-    let opened : StandsBehind c.close.new.self c.constructed.new.self c.close.new.piece.now c.constructed.new.piece.now (Open c.new.result) = rw c.new.ensures (stands_behind _ _ _ _ _ c.in-Some-constructed.ensures.tells) in
+    let opened : Walked c.close.new.self c.constructed.new.self c.close.new.piece.now c.constructed.new.piece.now (Open c.new.result ∷ []) = rw c.new.ensures (stands_all _ _ _ _ _ c.in-Some-constructed.ensures.tells) in
     rw p.1
     (fails_event g.F.Follow.next g.D.Drain.told _ _ _ _ _ _ _ _ _ _ _ _ left (unmoved_event _ _ _ _ _ _ _ (c.in-None.ensures.steps.0) (c.in-None.ensures.steps.1) opened) _ _ c.in_err-go-in-Some-constructed.ensures.puts)
 
@@ -93,25 +90,24 @@ returns-in_err-go-in-Some-contents_event-clause-stops g c =
     let p = err_from_is_err_and c.from_residual-in_err-go-in-Some-contents_event.result c.from_residual-in_err-go-in-Some-contents_event.ensures.1 in
     let left = follows_left g.F.Follow.next g.D.Drain.told _ _ _ _ _ _ _ _ _ _ _ _ _ c.events.invariant.follows c.if-branch.false c.in_ok-follow_primitive.ensures.parts in
     rw p.1
-    (fails_event g.F.Follow.next g.D.Drain.told _ _ _ _ _ _ _ _ _ _ _ _ left (unmoved_event _ _ _ _ _ _ _ (c.in-None-constructed.ensures.steps.0 ∙ c.in-None.ensures.steps.0) (c.in-None-constructed.ensures.steps.1 ∙ c.in-None.ensures.steps.1) (stands_behind _ _ _ _ _ c.in-Some-contents_event.ensures.tells)) _ _ c.in_err-go-in-Some-contents_event.ensures.puts)
+    (fails_event g.F.Follow.next g.D.Drain.told _ _ _ _ _ _ _ _ _ _ _ _ left (unmoved_event _ _ _ _ _ _ _ (c.in-None-constructed.ensures.steps.0 ∙ c.in-None.ensures.steps.0) (c.in-None-constructed.ensures.steps.1 ∙ c.in-None.ensures.steps.1) (stands_all _ _ _ _ _ c.in-Some-contents_event.ensures.tells)) _ _ c.in_err-go-in-Some-contents_event.ensures.puts)
 
 pub returns-in_err-go-in-Event-clause-stops : goal.returns-in_err-go-in-Event-clause-stops
 returns-in_err-go-in-Event-clause-stops g c =
     let p = err_from_is_err_and c.from_residual-in_err-go-in-Event.result c.from_residual-in_err-go-in-Event.ensures.1 in
     let left = follows_left g.F.Follow.next g.D.Drain.told _ _ _ _ _ _ _ _ _ _ _ _ _ c.events.invariant.follows c.if-branch.false c.in_ok-follow_primitive.ensures.parts in
     rw p.1
-    (fails_event g.F.Follow.next g.D.Drain.told _ _ _ _ _ _ _ _ _ _ _ _ left (unmoved_event _ _ _ _ _ _ _ (c.in-None-contents_event.ensures.steps.0 ∙ c.in-None-constructed.ensures.steps.0 ∙ c.in-None.ensures.steps.0) (c.in-None-contents_event.ensures.steps.1 ∙ c.in-None-constructed.ensures.steps.1 ∙ c.in-None.ensures.steps.1) c.in-Event.ensures.stands) _ _ c.in_err-go-in-Event.ensures.puts)
+    (fails_event g.F.Follow.next g.D.Drain.told _ _ _ _ _ _ _ _ _ _ _ _ left (unmoved_event _ _ _ _ _ _ _ (c.in-None-contents_event.ensures.steps.0 ∙ c.in-None-constructed.ensures.steps.0 ∙ c.in-None.ensures.steps.0) (c.in-None-contents_event.ensures.steps.1 ∙ c.in-None-constructed.ensures.steps.1 ∙ c.in-None.ensures.steps.1) (walked_event _ _ _ _ _ c.in-Event.ensures)) _ _ c.in_err-go-in-Event.ensures.puts)
 
 pub returns-in-NeedMore-clause-stops : goal.returns-in-NeedMore-clause-stops
 returns-in-NeedMore-clause-stops g c =
-    stops_used_up g.F.Follow.next g.D.Drain.told _ _ _ _ _ _ _ _ _ c.step.new.piece.now (follows_left g.F.Follow.next g.D.Drain.told _ _ _ _ _ _ _ _ _ _ _ _ _ c.events.invariant.follows c.if-branch.false c.in_ok-follow_primitive.ensures.parts)
-    (unmoved_stands c.contents_event.new.self _ c.step.new.self c.contents_event.new.piece.now _ c.step.new.piece.now step.NeedMore (c.in-None-contents_event.ensures.steps.0 ∙ c.in-None-constructed.ensures.steps.0 ∙ c.in-None.ensures.steps.0) (c.in-None-contents_event.ensures.steps.1 ∙ c.in-None-constructed.ensures.steps.1 ∙ c.in-None.ensures.steps.1) c.in-NeedMore.ensures.stands)
+    stops_used_up g.F.Follow.next g.D.Drain.told _ _ _ _ _ _ _ _ _ c.step-next.new.piece.now (follows_left g.F.Follow.next g.D.Drain.told _ _ _ _ _ _ _ _ _ _ _ _ _ c.events.invariant.follows c.if-branch.false c.in_ok-follow_primitive.ensures.parts)
+    (unmoved_step c.contents_event.new.self _ c.step-next.new.self c.contents_event.new.piece.now _ c.step-next.new.piece.now step.NeedMore (c.in-None-contents_event.ensures.steps.0 ∙ c.in-None-constructed.ensures.steps.0 ∙ c.in-None.ensures.steps.0) (c.in-None-contents_event.ensures.steps.1 ∙ c.in-None-constructed.ensures.steps.1 ∙ c.in-None.ensures.steps.1) c.in-NeedMore.ensures)
 
 pub returns-in-Fault-clause-stops : goal.returns-in-Fault-clause-stops
 returns-in-Fault-clause-stops g c =
     stops_fault g.F.Follow.next g.D.Drain.told _ _ _ _ _ _ _ _ _ _ _ (follows_left g.F.Follow.next g.D.Drain.told _ _ _ _ _ _ _ _ _ _ _ _ _ c.events.invariant.follows c.if-branch.false c.in_ok-follow_primitive.ensures.parts)
-    (unmoved_stands c.contents_event.new.self _ c.step.new.self c.contents_event.new.piece.now _ c.step.new.piece.now (step.Fault c.in-Fault.fault) (c.in-None-contents_event.ensures.steps.0 ∙ c.in-None-constructed.ensures.steps.0 ∙ c.in-None.ensures.steps.0) (c.in-None-contents_event.ensures.steps.1 ∙ c.in-None-constructed.ensures.steps.1 ∙ c.in-None.ensures.steps.1) c.in-Fault.ensures.stands)
-    (unmoved_refuses c.contents_event.new.self _ c.step.new.self c.contents_event.new.piece.now _ c.step.new.piece.now c.in-Fault.fault (c.in-None-contents_event.ensures.steps.0 ∙ c.in-None-constructed.ensures.steps.0 ∙ c.in-None.ensures.steps.0) (c.in-None-contents_event.ensures.steps.1 ∙ c.in-None-constructed.ensures.steps.1 ∙ c.in-None.ensures.steps.1) c.in-Fault.ensures.steps)
+    (unmoved_step c.contents_event.new.self _ c.step-next.new.self c.contents_event.new.piece.now _ c.step-next.new.piece.now (step.Fault c.in-Fault.fault) (c.in-None-contents_event.ensures.steps.0 ∙ c.in-None-constructed.ensures.steps.0 ∙ c.in-None.ensures.steps.0) (c.in-None-contents_event.ensures.steps.1 ∙ c.in-None-constructed.ensures.steps.1 ∙ c.in-None.ensures.steps.1) c.in-Fault.ensures)
 
 pub returns-then-eq-clause-stops : goal.returns-then-eq-clause-stops
 returns-then-eq-clause-stops g c =
@@ -119,11 +115,11 @@ returns-then-eq-clause-stops g c =
     let left = follows_left g.F.Follow.next g.D.Drain.told _ _ _ _ _ _ _ _ _ _ _ _ _ c.events.invariant.follows c.if-branch.false c.in_ok-follow_primitive.ensures.parts in
     elim c.match-close.branch [
       | in-Some+in_ok-go-in-Some w ↦ rw (w.out-is, w.follower-is, w.walker-is, ← enough, w.go-is)
-          (_, follows_as g.F.Follow.next g.D.Drain.told _ _ _ _ _ _ _ _ _ _ (follows_event g.F.Follow.next g.D.Drain.told _ _ _ _ _ _ _ _ _ _ _ _ _ _ left (stands_behind _ _ _ _ _ w.in-Some.ensures.tells) w.in_ok-go-in-Some.ensures.state _ w.in_ok-go-in-Some.ensures.puts), w.in-Some.ensures.steps.0.3)
-      | in-None+in-Some-constructed+in_ok-go-in-Some-constructed w ↦ let opened : StandsBehind c.close.new.self w.constructed.new.self c.close.new.piece.now w.constructed.new.piece.now (Open w.new.result) = rw w.new.ensures (stands_behind _ _ _ _ _ w.in-Some-constructed.ensures.tells) in rw (w.out-is, w.follower-is, w.walker-is, ← enough, w.go-is)
-          (_, follows_as g.F.Follow.next g.D.Drain.told _ _ _ _ _ _ _ _ _ _ (follows_event g.F.Follow.next g.D.Drain.told _ _ _ _ _ _ _ _ _ _ _ _ _ _ left (unmoved_event _ _ _ _ _ _ _ (w.in-None.ensures.steps.0) (w.in-None.ensures.steps.1) opened) w.in_ok-go-in-Some-constructed.ensures.state _ w.in_ok-go-in-Some-constructed.ensures.puts), w.in-Some-constructed.ensures.steps.0.3)
+          (_, follows_as g.F.Follow.next g.D.Drain.told _ _ _ _ _ _ _ _ _ _ (follows_event g.F.Follow.next g.D.Drain.told _ _ _ _ _ _ _ _ _ _ _ _ _ _ left (stands_all _ _ _ _ _ w.in-Some.ensures.tells) w.in_ok-go-in-Some.ensures.state _ w.in_ok-go-in-Some.ensures.puts), w.in-Some.ensures.steps.0.told)
+      | in-None+in-Some-constructed+in_ok-go-in-Some-constructed w ↦ let opened : Walked c.close.new.self w.constructed.new.self c.close.new.piece.now w.constructed.new.piece.now (Open w.new.result ∷ []) = rw w.new.ensures (stands_all _ _ _ _ _ w.in-Some-constructed.ensures.tells) in rw (w.out-is, w.follower-is, w.walker-is, ← enough, w.go-is)
+          (_, follows_as g.F.Follow.next g.D.Drain.told _ _ _ _ _ _ _ _ _ _ (follows_event g.F.Follow.next g.D.Drain.told _ _ _ _ _ _ _ _ _ _ _ _ _ _ left (unmoved_event _ _ _ _ _ _ _ (w.in-None.ensures.steps.0) (w.in-None.ensures.steps.1) opened) w.in_ok-go-in-Some-constructed.ensures.state _ w.in_ok-go-in-Some-constructed.ensures.puts), w.in-Some-constructed.ensures.steps.0.told)
       | in-None+in-None-constructed+in-Some-contents_event+in_ok-go-in-Some-contents_event w ↦ rw (w.out-is, w.follower-is, w.walker-is, ← enough, w.go-is)
-          (_, follows_as g.F.Follow.next g.D.Drain.told _ _ _ _ _ _ _ _ _ _ (follows_event g.F.Follow.next g.D.Drain.told _ _ _ _ _ _ _ _ _ _ _ _ _ _ left (unmoved_event _ _ _ _ _ _ _ (w.in-None-constructed.ensures.steps.0 ∙ w.in-None.ensures.steps.0) (w.in-None-constructed.ensures.steps.1 ∙ w.in-None.ensures.steps.1) (stands_behind _ _ _ _ _ w.in-Some-contents_event.ensures.tells)) w.in_ok-go-in-Some-contents_event.ensures.state _ w.in_ok-go-in-Some-contents_event.ensures.puts), w.in-Some-contents_event.ensures.steps.0.3)
+          (_, follows_as g.F.Follow.next g.D.Drain.told _ _ _ _ _ _ _ _ _ _ (follows_event g.F.Follow.next g.D.Drain.told _ _ _ _ _ _ _ _ _ _ _ _ _ _ left (unmoved_event _ _ _ _ _ _ _ (w.in-None-constructed.ensures.steps.0 ∙ w.in-None.ensures.steps.0) (w.in-None-constructed.ensures.steps.1 ∙ w.in-None.ensures.steps.1) (stands_all _ _ _ _ _ w.in-Some-contents_event.ensures.tells)) w.in_ok-go-in-Some-contents_event.ensures.state _ w.in_ok-go-in-Some-contents_event.ensures.puts), w.in-Some-contents_event.ensures.steps.0.told)
       | in-None+in-None-constructed+in-None-contents_event+in-Event+in_ok-go-in-Event w ↦ rw (w.out-is, w.follower-is, w.walker-is, ← enough, w.go-is)
-          (_, follows_as g.F.Follow.next g.D.Drain.told _ _ _ _ _ _ _ _ _ _ (follows_event g.F.Follow.next g.D.Drain.told _ _ _ _ _ _ _ _ _ _ _ _ _ _ left (unmoved_event _ _ _ _ _ _ _ (w.in-None-contents_event.ensures.steps.0 ∙ w.in-None-constructed.ensures.steps.0 ∙ w.in-None.ensures.steps.0) (w.in-None-contents_event.ensures.steps.1 ∙ w.in-None-constructed.ensures.steps.1 ∙ w.in-None.ensures.steps.1) w.in-Event.ensures.stands) w.in_ok-go-in-Event.ensures.state _ w.in_ok-go-in-Event.ensures.puts), w.in-Event.ensures.steps.0.3)
+          (_, follows_as g.F.Follow.next g.D.Drain.told _ _ _ _ _ _ _ _ _ _ (follows_event g.F.Follow.next g.D.Drain.told _ _ _ _ _ _ _ _ _ _ _ _ _ _ left (unmoved_event _ _ _ _ _ _ _ (w.in-None-contents_event.ensures.steps.0 ∙ w.in-None-constructed.ensures.steps.0 ∙ w.in-None.ensures.steps.0) (w.in-None-contents_event.ensures.steps.1 ∙ w.in-None-constructed.ensures.steps.1 ∙ w.in-None.ensures.steps.1) (walked_event _ _ _ _ _ w.in-Event.ensures)) w.in_ok-go-in-Event.ensures.state _ w.in_ok-go-in-Event.ensures.puts), w.in-Event.ensures.phase)
     ]

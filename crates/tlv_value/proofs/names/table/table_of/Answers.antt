@@ -1,5 +1,6 @@
 use Rattle.std.proofs.Common.{◌≡◌, ℕ, List, ◌+◌, take, drop, length, length-drop, sym, ◌∙◌, ap, subst, arith}
 use Rattle.std.proofs.lemmas.Bool.{eqb-true, eqb-false}
+use Rattle.std.proofs.lemmas.Grind.{common_steps}
 use Rattle.std.proofs.lemmas.Result.{err_from_is_err_and}
 use Rattle.tlv_value.specs.Names.{line_of}
 use Rattle.tlv_value.specs.NamesSteps.{texts_in}
@@ -35,3 +36,6 @@ pub returns : goal.returns
 returns g c =
     done c.args.octets.now c.loop-rest.rest.now c.loop-rest.number (texts_in c.loop-rest.table) c.loop-rest.invariant.standing
     (eqb-true (length c.loop-rest.rest.now) 0 (sym c.is_empty.ensures ∙ c.loop-rest-test.false))
+
+pub loop-rest-smaller : goal.loop-rest-smaller
+loop-rest-smaller g c = grind (arith, common_steps)

@@ -9,11 +9,11 @@ use Rattle.tlv_walk.proofs.walker.Walker.constructed.Goals as goal
 pub returns-clause-tells : goal.returns-clause-tells
 returns-clause-tells c =
     let named = c.contains-named.result in
-    let begins : BeginsWithFields c.args.piece.now.now c.args.self.now.offset named c.in_ok-fields.fields c.in_ok-fields.count = rw (← c.self.view_is) c.in_ok-fields.ensures.begins in (
-      c.split_at.result.0.now,
-      search rules,
-      (subst (λ (k : Kind). Continues c.args.self.now c.enter.new.self c.split_at.result.0.now (event_of k (heading_with c.in_ok-fields.fields c.split_at.result.0.now) ∷ []))
+    let begins : BeginsWithFields c.args.piece.now.now c.args.self.now.offset named c.in_ok-fields.fields c.in_ok-fields.count = rw (← c.self.view_is) c.in_ok-fields.ensures.begins in record {
+      taken = c.split_at.result.0.now;
+      piece = search rules;
+      continues = (subst (λ (k : Kind). Continues c.args.self.now c.enter.new.self c.split_at.result.0.now (event_of k (heading_with c.in_ok-fields.fields c.split_at.result.0.now) ∷ []))
           (constructed_kind c.args.self.now c.enter.new.self c.in_ok-fields.fields _ c.enter.result (search rules) c.enter.ensures.enters)
           (fast_enters c.args.self.now c.enter.new.self c.args.piece.now.now named c.in_ok-fields.fields c.in_ok-fields.count c.split_at.result.0.now c.enter.result
-          (search rules) begins c.split_at.ensures.front (search rules) (search rules) (search rules) c.enter.ensures.enters)),
-    )
+          (search rules) begins c.split_at.ensures.front (search rules) (search rules) (search rules) c.enter.ensures.enters));
+    }

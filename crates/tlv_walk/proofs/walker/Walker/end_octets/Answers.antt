@@ -4,7 +4,11 @@ use Rattle.tlv_walk.proofs.Closing.{tells_both}
 use Rattle.tlv_walk.proofs.walker.Walker.end_octets.Goals as goal
 
 pub returns-clause-tells : goal.returns-clause-tells
-returns-clause-tells c = (0 ∷ 0 ∷ [], grind (arith, common_steps), rw (← c.self.view_is, c.pop.ensures.rest) (tells_both _ (search rules) (search rules) (search rules)))
+returns-clause-tells c = record {
+  taken = 0 ∷ 0 ∷ [];
+  piece = grind (arith, common_steps);
+  continues = rw (← c.self.view_is, c.pop.ensures.rest) (tells_both _ (search rules) (search rules) (search rules));
+}
 
 pub invariant_of-self : goal.invariant_of-self
 invariant_of-self c = search rules

@@ -3,4 +3,8 @@ use Rattle.tlv_walk.proofs.Padding.{tells_pad}
 use Rattle.tlv_walk.proofs.walker.Walker.padding.Goals as goal
 
 pub returns-clause-event : goal.returns-clause-event
-returns-clause-event c = (c.split_at.result.0.now, search rules, rw (← c.self.view_is) (tells_pad _ c.split_at.result.0.now c.zeros-count.result (search rules) (search rules) (search rules) (search rules) (search rules)))
+returns-clause-event c = record {
+  taken = c.split_at.result.0.now;
+  piece = search rules;
+  continues = rw (← c.self.view_is) (tells_pad _ c.split_at.result.0.now c.zeros-count.result (search rules) (search rules) (search rules) (search rules) (search rules));
+}

@@ -7,4 +7,8 @@ use Rattle.tlv_walk.proofs.walker.Walker.pass.Goals as goal
 pub returns-clause-tells : goal.returns-clause-tells
 returns-clause-tells c =
     let can = subst (λ (m : Machine). CanPass m c.args.piece.now.now c.args.primitive.now) (sym c.self.view_is) c.requires.can in
-    (take c.args.primitive.now.octets c.args.piece.now.now, search rules, rw (← c.self.view_is) (tells_primitive _ c.args.piece.now.now c.args.primitive.now _ can))
+    record {
+      taken = take c.args.primitive.now.octets c.args.piece.now.now;
+      piece = search rules;
+      continues = rw (← c.self.view_is) (tells_primitive _ c.args.piece.now.now c.args.primitive.now _ can);
+    }

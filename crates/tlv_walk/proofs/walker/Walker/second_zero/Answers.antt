@@ -13,4 +13,8 @@ returns-then-octet-ne0-clause-tells c =
     rw c.fail-then-octet-ne0.ensures.0 (inl (rw (← c.self.view_is) (refuses_front _ c.args.piece.now.now _ c.in-len1-up.len_at_least (refuses_second _ _ _ (search rules) (search rules) (search rules)))))
 
 pub returns-clause-tells : goal.returns-clause-tells
-returns-clause-tells c = (0 ∷ [], grind (arith, common_steps), rw (← c.self.view_is, c.pop.ensures.rest) (tells_second _ (search rules) (grind arith)))
+returns-clause-tells c = record {
+  taken = 0 ∷ [];
+  piece = grind (arith, common_steps);
+  continues = rw (← c.self.view_is, c.pop.ensures.rest) (tells_second _ (search rules) (grind arith));
+}

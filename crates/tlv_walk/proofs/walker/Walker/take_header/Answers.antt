@@ -11,28 +11,28 @@ enter-requires-clause-enter c =
     c.requires.fewer c.requires.limit (search rules) (search rules)
 
 pub returns-in-Constructed-clause-tells : goal.returns-in-Constructed-clause-tells
-returns-in-Constructed-clause-tells c = (
-  c.split_at.result.0.now,
-  search rules,
-  rw c.new.ensures (subst (λ (k : Kind). Continues c.args.self.now c.enter.new.self c.split_at.result.0.now (event_of k (heading_with c.args.fields.now c.split_at.result.0.now) ∷ [])) c.in-Constructed.is
+returns-in-Constructed-clause-tells c = record {
+  taken = c.split_at.result.0.now;
+  piece = search rules;
+  continues = rw c.new.ensures (subst (λ (k : Kind). Continues c.args.self.now c.enter.new.self c.split_at.result.0.now (event_of k (heading_with c.args.fields.now c.split_at.result.0.now) ∷ [])) c.in-Constructed.is
       (fast_enters c.args.self.now c.enter.new.self c.args.piece.now.now _ c.args.fields.now c.args.count c.split_at.result.0.now c.enter.result
-      c.requires.phase c.requires.begins c.split_at.ensures.front refl (search rules) (search rules) c.enter.ensures.enters)),
-)
+      c.requires.phase c.requires.begins c.split_at.ensures.front refl (search rules) (search rules) c.enter.ensures.enters));
+}
 
 pub returns-in-Wrapper-clause-tells : goal.returns-in-Wrapper-clause-tells
-returns-in-Wrapper-clause-tells c = (
-  c.split_at.result.0.now,
-  search rules,
-  rw c.new-in-Wrapper.ensures (subst (λ (k : Kind). Continues c.args.self.now c.enter.new.self c.split_at.result.0.now (event_of k (heading_with c.args.fields.now c.split_at.result.0.now) ∷ [])) c.in-Wrapper.is
+returns-in-Wrapper-clause-tells c = record {
+  taken = c.split_at.result.0.now;
+  piece = search rules;
+  continues = rw c.new-in-Wrapper.ensures (subst (λ (k : Kind). Continues c.args.self.now c.enter.new.self c.split_at.result.0.now (event_of k (heading_with c.args.fields.now c.split_at.result.0.now) ∷ [])) c.in-Wrapper.is
       (fast_enters c.args.self.now c.enter.new.self c.args.piece.now.now _ c.args.fields.now c.args.count c.split_at.result.0.now c.enter.result
-      c.requires.phase c.requires.begins c.split_at.ensures.front refl (search rules) (search rules) c.enter.ensures.enters)),
-)
+      c.requires.phase c.requires.begins c.split_at.ensures.front refl (search rules) (search rules) c.enter.ensures.enters));
+}
 
 pub returns-in-Primitive-clause-tells : goal.returns-in-Primitive-clause-tells
-returns-in-Primitive-clause-tells c = (
-  c.split_at.result.0.now,
-  search rules,
-  rw c.new-in-Primitive.ensures (subst (λ (k : Kind). Continues c.args.self.now c.enter.new.self c.split_at.result.0.now (event_of k (heading_with c.args.fields.now c.split_at.result.0.now) ∷ [])) c.in-Primitive.is
+returns-in-Primitive-clause-tells c = record {
+  taken = c.split_at.result.0.now;
+  piece = search rules;
+  continues = rw c.new-in-Primitive.ensures (subst (λ (k : Kind). Continues c.args.self.now c.enter.new.self c.split_at.result.0.now (event_of k (heading_with c.args.fields.now c.split_at.result.0.now) ∷ [])) c.in-Primitive.is
       (fast_enters c.args.self.now c.enter.new.self c.args.piece.now.now _ c.args.fields.now c.args.count c.split_at.result.0.now c.enter.result
-      c.requires.phase c.requires.begins c.split_at.ensures.front refl (search rules) (search rules) c.enter.ensures.enters)),
-)
+      c.requires.phase c.requires.begins c.split_at.ensures.front refl (search rules) (search rules) c.enter.ensures.enters));
+}

@@ -9,4 +9,8 @@ returns-then-octet-ne0-clause-tells c =
     rw c.fail.ensures.0 (inl (refuses_front _ c.args.piece.now.now _ c.in-len1-up.len_at_least (refuses_unused _ _ _ (search rules) (search rules))))
 
 pub returns-clause-tells : goal.returns-clause-tells
-returns-clause-tells c = (0 ∷ [], grind (arith, common_steps), rw (← c.self.view_is) (tells_unused _ (search rules)))
+returns-clause-tells c = record {
+  taken = 0 ∷ [];
+  piece = grind (arith, common_steps);
+  continues = rw (← c.self.view_is) (tells_unused _ (search rules));
+}

@@ -1,0 +1,224 @@
+"""The command line: which words are refused, and how."""
+from parts.harness import Done, message
+
+NULL = b"\x05\x00"
+NULL_LINE = b"       0      0: NULL\n"
+
+# Words that the parser refuses: status 4, its own text on standard error.
+REFUSED = [
+    "",
+    "dumpx",
+    "help",
+    "help dump",
+    "-h",
+    "-V",
+    "--dump",
+    "--pure dump",
+    "dump -h",
+    "dump -p",
+    "dump help extra",
+    "dump a b",
+    "dump -- a b",
+    "dump --limit",
+    "dump --limit -5",
+    "dump --limit 1 --limit 2",
+    "dump --limit=1 --limit=1",
+    "dump --lim 1",
+    "dump --limits 1",
+    "dump --limit 1 2 3",
+    "dump --names",
+    "dump --names a --names b",
+    "dump --inside",
+    "dump --inside -1",
+    "dump --inside 0 --inside 1",
+    "dump --pure --pure",
+    "dump --pure=1",
+    "dump --pure=true",
+    "dump --pur",
+    "dump --padding --padding",
+    "dump --padding=",
+    "dump --offset 0",
+    "dump --contents",
+    "dump --nonsense --limit x",
+    "dump --limit x --limit y",
+    "extract",
+    "extract --contents",
+    "extract --inside 0",
+    "extract --offset",
+    "extract --offset -1",
+    "extract --offset 0 --offset 0",
+    "extract --offset 0 --contents --contents",
+    "extract --offset 0 --contents=x",
+    "extract --offset 0 --pure",
+    "extract --offset 0 --limit 1",
+    "extract --offset 0 --names n",
+    "extract --offset 0 a b",
+    "extract --offset x --nonsense",
+    "dump --rules der --rules der",
+    "check --rules",
+    "check --limit 1",
+    "check --pure",
+    "check --names n",
+    "check --offset 0",
+    "check a b",
+    "extract --offset 0 --rules der",
+    "indef --rules der",
+    "indef --inside 0",
+    "indef --offset 0",
+    "indef --contents",
+    "indef --pure",
+    "indef --limit 1",
+    "indef --names n",
+    "indef --padding --padding",
+    "indef a b",
+]
+
+NO_NUMBERS = ["", "x", "+5", "-5", " 5", "5 ", "5.0", "0x10", "1_000", "1,000", "\u0665", "00000000000005"]
+NO_LISTS = ["", ",", "4,", ",4", "1,,2", "5,3", "3,3", "1, 2", " 1", "1;2", "-1", "+1", "0x1", "a"]
+NO_LISTS += ["1099511627777", "00000000000001", "0,1099511627777", ",".join(map(str, range(17)))]
+
+# The option whose value is out of range, and the words.
+VALUES = [("--limit", ["dump", f"--limit={text}"]) for text in NO_NUMBERS]
+VALUES += [("--limit", ["dump", "--limit", text]) for text in ("4294967296", "9999999999999", "")]
+VALUES += [("--offset", ["extract", f"--offset={text}"]) for text in NO_NUMBERS]
+VALUES += [("--offset", ["extract", "--offset", text]) for text in ("1099511627777", "9999999999999", "")]
+VALUES += [("--inside", ["dump", f"--inside={text}"]) for text in NO_LISTS]
+VALUES += [("--inside", ["extract", "--offset=0", f"--inside={text}"]) for text in NO_LISTS]
+NO_RULES = ["", "xer", "DER", "der ", "ber,der", "b"]
+VALUES += [("--rules", [command, f"--rules={text}"]) for command in ("dump", "check") for text in NO_RULES]
+VALUES += [("--inside", ["check", f"--inside={text}"]) for text in NO_LISTS]
+VALUES += [
+    ("--rules", ["dump", "--limit", "x", "--rules", "xer", "--inside", "y"]),
+    ("--rules", ["check", "--inside", "y", "--rules", "xer"]),
+    ("--limit", ["dump", "--limit", "x", "--inside", "y"]),
+    ("--limit", ["dump", "--inside", "y", "--limit", "x"]),
+    ("--offset", ["extract", "--inside", "y", "--offset", "x"]),
+    ("--offset", ["extract", "--offset", "x", "--inside", "y"]),
+    # The values pass before the names file and FILE.
+    ("--limit", ["dump", "--limit", "x", "--names", "missing", "missing"]),
+    ("--inside", ["dump", "--names", "missing", "--inside", "x"]),
+    ("--offset", ["extract", "--offset", "x", "missing"]),
+]
+
+# Words that are taken, for the octets 05 00, and what is written.
+TAKEN = [
+    ("dump", NULL_LINE),
+    ("dump --limit=1", NULL_LINE),
+    ("dump --limit 0", NULL_LINE),
+    ("dump --limit 4294967295", NULL_LINE),
+    ("dump --limit 0000000000001", NULL_LINE),
+    ("dump --limit=0004294967295", NULL_LINE),
+    ("dump --pure", b"NULL\n"),
+    ("dump --padding --pure --limit 3", b"NULL\n"),
+    ("dump --", NULL_LINE),
+    ("dump --pure --", b"NULL\n"),
+    ("dump --rules der", NULL_LINE),
+    ("dump --rules=cer --pure", b"NULL\n"),
+    ("check", b""),
+    ("check --rules ber", b""),
+    ("check --rules=cer --padding", b""),
+    ("extract --offset 0", NULL),
+    ("extract --offset=0", NULL),
+    ("extract --offset 0000000000000", NULL),
+    ("extract --contents --offset 0", b""),
+    ("extract --offset 0 --padding --contents", b""),
+    ("extract --offset 0 --inside 0,1099511627776", NULL),
+    ("extract --offset 0 --inside=0,0000000000001", NULL),
+    ("extract --offset 0 --inside " + ",".join(map(str, range(16))), NULL),
+    ("indef", NULL),
+    ("indef --padding", NULL),
+    ("indef --", NULL),
+]
+
+
+def refused(part):
+    for text in REFUSED:
+        got = part.run(text.split(), NULL)
+        fine = got.status == 4 and got.out == b"" and got.err.startswith(b"error: ")
+        part.expect(f"refused: {text or 'no words'}", fine and got.err.endswith(b"\n"), *got.lines())
+    for name, words in VALUES:
+        part.gives(words, NULL, 4, err=f"U2 value out of range: {name}")
+
+
+def taken(part):
+    for text, out in TAKEN:
+        part.gives(text.split(), NULL, 0, out)
+    far = "E4 no element at offset 1099511627776"
+    part.gives(["extract", "--offset", "1099511627776"], NULL, 1, err=far)
+
+
+# Octets that are no UTF-8, by themselves or within a word.
+NO_TEXTS = [b"\xff", b"\xff\xfe", b"\xc3", b"\x80", b"\xc0\x80", b"\xe2\x82", b"\xed\xa0\x80"]
+NO_TEXTS += [b"\xf0\x9f\x98", b"\xf4\x90\x80\x80", b"a\xffb", b"ab\xe9", b"\xc3\xa9\xff"]
+NO_TEXTS += [b"x" * 299 + b"\xff", b"\xff" * 300]
+
+# Where such a word can stand: * is the place.
+PLACES = [
+    "*",
+    "* dump",
+    "dump *",
+    "dump null *",
+    "dump * null",
+    "dump -- *",
+    "dump --limit *",
+    "dump --limit=*",
+    "dump --rules *",
+    "dump --names * null",
+    "dump --names=* null",
+    "dump --inside * null",
+    "dump --*",
+    "dump --pure=*",
+    "check *",
+    "check --rules=* null",
+    "extract --offset *",
+    "extract --offset 0 *",
+    "extract --offset=0 --inside=* null",
+    "indef *",
+    "indef --padding -- *",
+    # It passes before all that is refused for another reason, and before help.
+    "nonsense *",
+    "dump --nonsense *",
+    "dump a b *",
+    "dump --limit x *",
+    "dump --names missing missing *",
+    "dump missing *",
+    "--help *",
+    "--version *",
+    "dump --help *",
+]
+
+
+def not_utf_8(part):
+    part.write("null", NULL)
+    said = "U1 an argument is not UTF-8"
+    for place in PLACES:
+        for octets in NO_TEXTS if place in ("dump *", "dump --names=* null") else NO_TEXTS[:1]:
+            words = [word.encode().replace(b"*", octets) for word in place.split()]
+            got = part.run(words, NULL)
+            part.same(f"{place} with {octets[:20]}", got, Done(4, b"", message(said)))
+    # A file of such a name is not opened.
+    with open(part.path("f").encode() + b"\xff", "wb") as file:
+        file.write(NULL)
+    part.same("a file whose name is not UTF-8", part.run([b"dump", b"f\xff"]), Done(4, b"", message(said)))
+
+
+def files(part):
+    """Words that name files, with `--` and without."""
+    for name in ("--pure", "-", "a b", "dump", "\u00e9.der", "help"):
+        part.write(name, NULL)
+    for words in ("dump -- --pure", "dump -", "dump -- -", "dump dump", "dump \u00e9.der", "dump help"):
+        part.gives(words.split(), b"", 0, NULL_LINE)
+    part.gives(["dump", "a b"], b"", 0, NULL_LINE)
+    part.gives(["dump", "-", "--pure"], b"", 0, b"NULL\n")
+    part.gives(["dump", "--pure", "--", "--pure"], b"", 0, b"NULL\n")
+    part.gives(["extract", "-", "--offset", "0"], b"", 0, NULL)
+    part.gives(["indef", "--", "--pure"], b"", 0, NULL)
+    part.gives(["dump", "--", "--names"], NULL, 3, err="E5 cannot open the file")
+    part.gives(["dump", ""], NULL, 3, err="E5 cannot open the file")
+
+
+def test(part):
+    refused(part)
+    taken(part)
+    not_utf_8(part)
+    files(part)
