@@ -1,4 +1,4 @@
-"""./tlvdump: that it builds the program where that is missing or old, and what it tells meanwhile.
+"""./tlvdump: that it builds the program where that is missing or old, and what it prints meanwhile.
 
 In the place of the kit's rt stands a script that writes the lines of a build, slowly, and then puts the program of the tests.
 """
@@ -85,11 +85,11 @@ def not_on_a_terminal(part):
     status, out, err = run(part, script, ["dump"], octets)
     part.expect("a build, then the program", (status, out) == (wanted.status, wanted.out), str(status), str(out), err)
     lines = re.sub(r"\d+ s\b", "N s", err)
-    told = begin_of(script)
-    told += "tlvdump: tlv_low, crate 1 of 2: 3 functions proved, N s\n"
-    told += "tlvdump: tlvdump, crate 2 of 2: 3 functions proved, N s\n"
-    told += "tlvdump: built, N s\n" + wanted.err.decode()
-    part.expect("a line for each crate", lines == told, err)
+    printed = begin_of(script)
+    printed += "tlvdump: tlv_low, crate 1 of 2: 3 functions proved, N s\n"
+    printed += "tlvdump: tlvdump, crate 2 of 2: 3 functions proved, N s\n"
+    printed += "tlvdump: built, N s\n" + wanted.err.decode()
+    part.expect("a line for each crate", lines == printed, err)
     part.expect("what a build leaves", left_of(script) == [], *left_of(script))
     got = run(part, script, ["dump"], octets)
     part.expect("a program that is there", got == (wanted.status, wanted.out, wanted.err.decode()), *map(str, got))

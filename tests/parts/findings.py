@@ -13,7 +13,7 @@ def listed(rows):
     return "".join(f"{offset} {code} {text}\n" for offset, code, text in rows).encode()
 
 
-def told(rows):
+def count_of(rows):
     return f"findings: {len(rows)}"
 
 
@@ -21,24 +21,24 @@ def segments(part):
     """A string of 1000 segments: each but the first follows one that is not full, and all fit in one."""
     part.gives(["check", "--rules", "ber"], STRING, 0)
     rows = [(2 + 3 * number, "C04", SEGMENT) for number in range(1, 1000)] + [(0, "C05", FITS)]
-    part.gives(["check", "--rules", "cer"], STRING, 1, listed(rows), told(rows))
+    part.gives(["check", "--rules", "cer"], STRING, 1, listed(rows), count_of(rows))
     more = STRING[:-2] + b"\x04\x01\x00\x00\x00"
     rows = [(2 + 3 * number, "C04", SEGMENT) for number in range(1, 1001)]
-    part.gives(["check", "--rules", "cer"], more, 1, listed(rows), told(rows))
+    part.gives(["check", "--rules", "cer"], more, 1, listed(rows), count_of(rows))
 
 
 def levels(part):
     """128 levels deep, with a finding at each."""
     deep = b"\x30\x80" * 128 + b"\x00\x00" * 128
     rows = [(2 * level, "D01", "indefinite length") for level in range(128)]
-    part.gives(["check"], deep, 1, listed(rows), told(rows))
+    part.gives(["check"], deep, 1, listed(rows), count_of(rows))
     lines = ""
     for level in range(128):
         lines += f"{2 * level:>8}    D01: {'  ' * level}indefinite length\n"
         lines += f"{2 * level:>8}  indef: {'  ' * level}SEQUENCE {{\n"
     for level in reversed(range(128)):
         lines += f"{510 - 2 * level:>8}    end: {'  ' * level}}}\n"
-    part.gives(["dump", "--rules", "der"], deep, 1, lines.encode(), told(rows))
+    part.gives(["dump", "--rules", "der"], deep, 1, lines.encode(), count_of(rows))
 
 
 def explained(part):

@@ -1,7 +1,7 @@
 """Each request for memory refused in turn: the program answers U3 or N6 and does nothing else.
 
 tests/parts/refuse.c stands in front of the C library. It numbers the requests that the program makes,
-refuses some, and tells after how many of them each file is opened. So the tests know which requests are
+refuses some, and reports after how many of them each file is opened. So the tests know which requests are
 those of the words, and which are those of the names file: the words come first, then the names file is
 read, then FILE is opened, and a run takes no memory.
 """
@@ -43,7 +43,7 @@ TAKEN = [
     ("dump --inside 0,5 --padding --names names a.der", 0, INSIDE, "", "names a.der"),
     ("dump --names many", 0, NAMED, "", "many"),
     ("dump --rules=der --limit 9 --inside 0,5 --padding --names names a.der", 0, INSIDE, "", "names a.der"),
-    # If a file is missing too, or a value is out of range, whatever comes first is told.
+    # If a file is missing too, or a value is out of range, whatever comes first is reported.
     ("dump --names names missing", 3, b"", OPEN, "names missing"),
     ("dump --names missing missing", 4, b"", UNREAD, "missing"),
     ("dump --names wrong missing", 4, b"", "N1 line 2: not an object identifier", "wrong"),
@@ -62,7 +62,7 @@ class Program:
     """The program with refuse.c in front of the C library."""
 
     def __init__(self, part):
-        self.part, self.told, self.runs = part, part.path("told"), 0
+        self.part, self.log, self.runs = part, part.path("log"), 0
         source = os.path.join(HERE, "refuse.c")
         made = ["cc", "-O1", "-U_FORTIFY_SOURCE", "-shared", "-fPIC", "-o", "refuse.so", source]
         got = subprocess.run(made, cwd=part.folder, capture_output=True, text=True)
@@ -70,18 +70,18 @@ class Program:
         self.is_made = got.returncode == 0
 
     def run(self, words, first=0, last=0):
-        """Runs it with requests `first` to `last` refused. Returns what it did, and what was told."""
-        env = dict(os.environ, LD_PRELOAD="./refuse.so", REFUSE_TOLD=self.told)
+        """Runs it with requests `first` to `last` refused. Returns what it did, and what was reported."""
+        env = dict(os.environ, LD_PRELOAD="./refuse.so", REFUSE_TOLD=self.log)
         env |= {"REFUSE_FIRST": str(first), "REFUSE_LAST": str(last)}
-        if os.path.exists(self.told):
-            os.remove(self.told)
+        if os.path.exists(self.log):
+            os.remove(self.log)
         self.runs += 1
         got = self.part.run(words, OCTETS, env=env)
-        return got, Told(self.told)
+        return got, Requests(self.log)
 
 
-class Told:
-    """What refuse.c told: the files that were opened, with the requests before each, and all requests."""
+class Requests:
+    """What refuse.c reported: the files that were opened, with the requests before each, and all requests."""
 
     def __init__(self, path):
         self.opened, self.requests, self.refused = [], None, None
@@ -106,10 +106,10 @@ class Line:
     def __init__(self, program, text, may_pass=False):
         self.program, self.text, self.may_pass = program, text or "no words", may_pass
         self.words = text.split()
-        self.own, told = program.run(self.words)
-        self.files, self.requests = told.files(), told.requests or 0
+        self.own, log = program.run(self.words)
+        self.files, self.requests = log.files(), log.requests or 0
         # Those of the words end where the first file is opened.
-        self.of_words = told.opened[0][1] if told.opened else self.requests
+        self.of_words = log.opened[0][1] if log.opened else self.requests
 
     def wanted(self, number, is_alone):
         """Returns what may come of it if this request is refused, and the files that are opened then."""
@@ -124,13 +124,13 @@ class Line:
 
         Returns whether one was refused, and what came of it if that may not be.
         """
-        got, told = self.program.run(self.words, number, number if is_alone else LAST)
+        got, log = self.program.run(self.words, number, number if is_alone else LAST)
         wanted, files = self.wanted(number, is_alone)
-        if got in wanted and told.files() == files:
-            return told.refused, []
+        if got in wanted and log.files() == files:
+            return log.refused, []
         lines = [f"request {number}: wanted {done.lines()}" for done in wanted]
-        lines += [f"got {got.lines()}", f"opened {told.files()}, wanted {files}"]
-        return told.refused, lines
+        lines += [f"got {got.lines()}", f"opened {log.files()}, wanted {files}"]
+        return log.refused, lines
 
     def refuse_each(self):
         """Refuses each request in turn, until a run passes in which none was refused."""

@@ -105,7 +105,7 @@ class Part:
         return Done(child.returncode, out or b"", err or b"")
 
     def has(self, tool):
-        """Returns whether the machine has this tool. If it has not, that is a failure, or told in a note."""
+        """Returns whether the machine has this tool. If it has not, that is a failure, or reported in a note."""
         if shutil.which(tool):
             return True
         if tool in self.suite.may_be_missing:
@@ -115,7 +115,7 @@ class Part:
         return False
 
     def expect(self, what, fine, *lines):
-        """Counts one test, and tells of it where it fails."""
+        """Counts one test, and reports it if it fails."""
         if fine:
             self.suite.passed += 1
             return
@@ -128,8 +128,8 @@ class Part:
     def same(self, what, got, wanted):
         """Counts one test: that this run did what is wanted."""
         got_lines, wanted_lines = got.lines(), wanted.lines()
-        told = [f"wanted {w}\n       got {g}" for g, w in zip(got_lines, wanted_lines) if g != w]
-        self.expect(what, got == wanted, *told)
+        differing = [f"wanted {w}\n       got {g}" for g, w in zip(got_lines, wanted_lines) if g != w]
+        self.expect(what, got == wanted, *differing)
 
     def gives(self, words, given, status, out=b"", err="", **how):
         """Counts one test: that the program with these words gives status, output and message."""

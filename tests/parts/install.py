@@ -49,10 +49,10 @@ def places(part, prefix):
 
 def installed(part):
     """Puts, puts again, takes away."""
-    told = "".join(f"there/{place}\n" for place in PLACES)
+    printed = "".join(f"there/{place}\n" for place in PLACES)
     for what in ("first", "again"):
         got = install(part, "there")
-        part.expect(f"install, {what}", got == (0, told, ""), *map(str, got))
+        part.expect(f"install, {what}", got == (0, printed, ""), *map(str, got))
         places(part, "there")
     # What is installed works by itself.
     octets = part.write("cert", b"\x30\x07\x06\x03\x55\x04\x03\x05\x00")
@@ -68,8 +68,8 @@ def installed(part):
     part.expect("tlvdump-show, installed", fine, str(got))
     part.write("there/share/tlvdump/mine.txt", b"2.5.4.3 cn\n")
     got = install(part, "--remove", "there")
-    told = "".join(f"removed there/{place}\n" for place in PLACES)
-    part.expect("remove", got == (0, told, ""), *map(str, got))
+    printed = "".join(f"removed there/{place}\n" for place in PLACES)
+    part.expect("remove", got == (0, printed, ""), *map(str, got))
     part.expect("what it did not put stays", files_below(part.path("there")) == ["share/tlvdump/mine.txt"])
     got = install(part, "--remove", "there")
     part.expect("remove, again", got == (0, "", ""), *map(str, got))
@@ -173,7 +173,7 @@ def bash(part, options):
     part.expect("bash: --limit", completed("dump", "--limit", "") == set())
     rules = {"ber", "der", "cer"}
     part.expect("bash: --rules", completed("dump", "--rules", "") == rules)
-    # Bash splits words at "=", if it is not told otherwise.
+    # Bash splits words at "=", unless it is set otherwise.
     part.expect("bash: --rules=", completed("dump", "--rules", "=") == rules)
     part.expect("bash: --rules=d", completed("dump", "--rules", "=", "d") == {"der"})
     part.expect("bash: --rules=d, one word", completed("dump", "--rules=d") == {"--rules=der"})
@@ -181,8 +181,8 @@ def bash(part, options):
     part.expect("bash: --names=", completed("dump", "--names", "=", "str") == {"string"})
     part.expect("bash: --limit=", completed("dump", "--limit", "=") == set())
     for name in ("tlvdump-inside", "tlvdump-show"):
-        told = completed_by(name, "--")
-        part.expect(f"bash: options of {name}", told == script_options(part, name), str(told))
+        printed = completed_by(name, "--")
+        part.expect(f"bash: options of {name}", printed == script_options(part, name), str(printed))
         part.expect(f"bash: FILE of {name}", completed_by(name, "str") == {"string"})
     part.expect("bash: --as", completed_by("tlvdump-show", "--as", "") == {"ber", "pem", "base64", "hex", "dump"})
 
@@ -202,12 +202,12 @@ def zsh(part, options):
     commands = re.findall(r"^(\w+):", completed("tlvdump", ""), re.M)
     part.expect("zsh: commands", set(commands) == set(options) and len(commands) == len(options), completed("tlvdump", ""))
     for name, wanted in options.items():
-        told = completed("tlvdump", name, "--")
-        part.expect(f"zsh: options of {name}", set(re.findall(r"--[a-z]+", told)) == wanted and "1:file:_files" in told, told)
+        printed = completed("tlvdump", name, "--")
+        part.expect(f"zsh: options of {name}", set(re.findall(r"--[a-z]+", printed)) == wanted and "1:file:_files" in printed, printed)
     for name in ("tlvdump-inside", "tlvdump-show"):
-        told = completed(name, "--")
-        fine = set(re.findall(r"--[a-z]+", told)) == script_options(part, name) and "1:file:_files" in told
-        part.expect(f"zsh: options of {name}", fine, told)
+        printed = completed(name, "--")
+        fine = set(re.findall(r"--[a-z]+", printed)) == script_options(part, name) and "1:file:_files" in printed
+        part.expect(f"zsh: options of {name}", fine, printed)
 
 
 def test(part):

@@ -103,7 +103,7 @@ def unexpected(word):
 
 
 def long_words_refused(part):
-    """Long words that the parser refuses: each is told whole."""
+    """Long words that the parser refuses: each is reported whole."""
     for octets in (200, 256, 300, 5000):
         word, size = "x" * octets, f"{octets} octets"
         is_refused(part, f"a command of {size}", [word], f"unrecognized subcommand '{word}'")

@@ -26,9 +26,9 @@ def rendered(part, page):
         if not part.has(tool[0]):
             continue
         got = subprocess.run([*tool, page], capture_output=True, text=True)
-        # mandoc also tells which pages the machine lacks; that is no fault of this one.
-        told = [line for line in (got.stdout + got.stderr).splitlines() if "mandoc.db" not in line]
-        part.expect(" ".join(tool), got.returncode == 0 and not told, *told)
+        # mandoc also reports which pages the machine lacks; that is no fault of this one.
+        reported = [line for line in (got.stdout + got.stderr).splitlines() if "mandoc.db" not in line]
+        part.expect(" ".join(tool), got.returncode == 0 and not reported, *reported)
 
 
 def complete(part, text):
@@ -192,9 +192,9 @@ def recipes(part, text):
         if held:
             part.expect(f"{held[0]} of {block.strip()}", read(part, held[0]) == held[1])
     before = part.run(["dump", "damaged.ber"])
-    part.expect("the damage that the manual tells of", before.status == 2 and before.err.startswith(b"fault at 10: F11"))
+    part.expect("the damage that the manual has", before.status == 2 and before.err.startswith(b"fault at 10: F11"))
     name = b"OBJECT IDENTIFIER 2.5.4.3 (commonName)"
-    part.expect("the names that the manual tells of", name in wanted[5][1])
+    part.expect("the names that the manual has", name in wanted[5][1])
 
 
 def in_shell(part, script):

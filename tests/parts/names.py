@@ -80,7 +80,7 @@ def lines(part):
         refused(part, f"{line}", b"1.2.840 us\n" + line, "N2 line 2: no usable name")
     for line in (b"2.5.4.3 cn", b"2.5.4.3 commonName", b"\t2.5.4.3\tcn\r"):
         refused(part, f"{line}", b"# x\n2.5.4.3 commonName\n" + line + b"\n", "N3 line 3: repeated")
-    # The first refused line is told, and a line without a name passes before a repeated one.
+    # The first refused line is reported, and a line without a name passes before a repeated one.
     refused(part, "two lines", b"2.5.4.3\n1.40 x\n", "N2 line 1: no usable name")
     refused(part, "a repeat without a name", b"2.5.4.3 a\n2.5.4.3\n", "N2 line 2: no usable name")
 

@@ -58,9 +58,9 @@ def not_run(part, blocks):
 def synopsis(part, blocks, text):
     """The commands and options are those of the program's help."""
     lines = [line.split() for name, block in blocks if not name for line in block]
-    told = {words[1]: {word.strip("[]") for word in words if word.strip("[]").startswith("--")} for words in lines}
+    stated = {words[1]: {word.strip("[]") for word in words if word.strip("[]").startswith("--")} for words in lines}
     wanted = {name: options - {"--help"} for name, options in words_of(part).items()}
-    part.expect("the synopsis", told == wanted, str(told), str(wanted))
+    part.expect("the synopsis", stated == wanted, str(stated), str(wanted))
     table = re.findall(r"^\| `(--[a-z]+)", text, re.M)
     part.expect("the table of options", sorted(table) == sorted(set().union(*wanted.values())), *table)
 
@@ -76,11 +76,11 @@ def links(part, text):
 def faults(part):
     """The table of docs/USE.md has the texts that the program writes."""
     with open(os.path.join(part.root, "docs", "USE.md"), encoding="utf-8") as file:
-        told = re.findall(r"^\| (F\d\d) \| `(.*)` \|$", file.read(), re.M)
+        stated = re.findall(r"^\| (F\d\d) \| `(.*)` \|$", file.read(), re.M)
     inputs = [bytes.fromhex(octets) for octets in FAULTS]
     messages = [part.run(["check", *["--inside", "0"] * (at == 11)], octets).err.decode() for at, octets in enumerate(inputs)]
     written = [tuple(message.rstrip("\n").split(": ", 1)[-1].split(" ", 1)) for message in messages]
-    part.expect("the faults of docs/USE.md", told == written, *map(str, zip(told, written)))
+    part.expect("the faults of docs/USE.md", stated == written, *map(str, zip(stated, written)))
 
 
 def kit(part, text):
@@ -90,7 +90,7 @@ def kit(part, text):
     got = subprocess.run(["rt", "version"], cwd=part.root, capture_output=True, text=True)
     named = re.findall(r"^Proved with `([^`]*)` \(`rt version`\)\.$", text, re.M)
     fine = got.returncode == 0 and named == [got.stdout.strip()]
-    part.expect("the kit", fine, f"README names {named}", f"rt version tells {got.stdout.strip()}")
+    part.expect("the kit", fine, f"README names {named}", f"rt version prints {got.stdout.strip()}")
 
 
 def test(part):

@@ -105,11 +105,11 @@ class Row:
 
     def findings(self):
         """The number of findings that the run reports."""
-        told = re.fullmatch(r"findings: (\d+)", self.message)
+        match = re.fullmatch(r"findings: (\d+)", self.message)
         if self.counted is not None:
             return self.counted
-        if told:
-            return int(told[1])
+        if match:
+            return int(match[1])
         lines = self.out.splitlines() if self.words[0] in ("dump", "check") else []
         return sum(self.words[0] == "check" or FINDING.match(line) is not None for line in lines)
 

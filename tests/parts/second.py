@@ -11,5 +11,5 @@ def test(part):
     """Counts a test for each seed."""
     runner = Runner(part.program, part.folder)
     for seed in range(FIRST, FIRST + COUNT):
-        told = runner.differences(seed)
-        part.expect(f"tests/second --seed {seed} --count 1", not told, *"\n".join(told).splitlines())
+        differences = runner.differences(seed)
+        part.expect(f"tests/second --seed {seed} --count 1", not differences, *"\n".join(differences).splitlines())

@@ -66,7 +66,7 @@ def in_range(text, largest):
 
 
 def values_of(options):
-    """Returns the values; the first of rules, limit, offset and inside that is out of range is told (U2)."""
+    """Returns the values; the first of rules, limit, offset and inside that is out of range is reported (U2)."""
     rules = options.rules if options.rules is not None else "ber" if options.command == "dump" else "der"
     limit = options.limit if options.limit is not None else str(LARGEST_LIMIT)
     offset = options.offset if options.offset is not None else "0"

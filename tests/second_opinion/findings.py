@@ -46,7 +46,7 @@ UTC_TIME, GENERALIZED_TIME = 23, 24
 FULL = 1000
 
 
-def told(conditions, rules):
+def codes_by(conditions, rules):
     """Returns the codes whose condition holds, of these rules, in the order B, S, D, C, each by number."""
     order = sorted(conditions, key=lambda code: ("BSDC".index(code[0]), code))
     return [code for code in order if conditions[code] and code[0] in LETTERS[rules]]
@@ -67,7 +67,7 @@ def of_header(element, parent, previous, rules):
     is_segment = parent is not None and parent.constructed and is_string(parent)
     follows = is_segment and previous is not None
     in_bits = is_segment and parent.is_universal(BIT_STRING)
-    return told({
+    return codes_by({
         "B01": bool(high) and element.number < 31,
         "B02": bool(high) and high[0] & 0x7F == 0,
         "B03": element.tag_class == 0 and element.number not in values.TYPES,
@@ -103,8 +103,8 @@ def of_end(element, rules):
     if element.wraps or element.end is None:
         return []
     if element.constructed:
-        return told(of_segments(element), rules) if is_string(element) else []
-    return told(of_contents(element), rules)
+        return codes_by(of_segments(element), rules) if is_string(element) else []
+    return codes_by(of_contents(element), rules)
 
 
 def of_segments(element):

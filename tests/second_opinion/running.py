@@ -38,18 +38,18 @@ class Runner:
             return child.returncode, read_whole(out), read_whole(err)
 
     def differences(self, seed):
-        """Runs the case of a seed, and returns what is told of each difference."""
+        """Runs the case of a seed, and returns a text of each difference."""
         case = case_of(seed)
         self.write("input", case.octets)
         self.write("names", case.names)
-        told = []
+        texts = []
         for it in case.runs:
             wanted = run(it.options, case.octets, lambda: read_names(case.names))
             wanted = wanted.status, wanted.out, wanted.message.encode() + b"\n" * bool(wanted.message)
             got = self.run(it.words, case.octets if it.by_pipe else None)
             if got != wanted:
-                told.append(difference(case, it, wanted, got))
-        return told
+                texts.append(difference(case, it, wanted, got))
+        return texts
 
 
 def read_whole(file):

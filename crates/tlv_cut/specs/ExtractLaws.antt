@@ -1,10 +1,10 @@
 -- Laws of what `extract` writes.
 use Rattle.std.specs.Prelude.{◌≡◌, ℕ, Bool, true, false, if◌then◌else◌, List, [], ◌++◌, length}
-use Rattle.tlv_head.specs.Header.{Heading, IsHeading, octets_of}
+use Rattle.tlv_head.specs.Header.{HeaderValue, IsHeader, octets_of}
 use Rattle.tlv_walk.specs.declared.follow.Go.TheVariants.{Enough}
 use Rattle.tlv_walk.specs.declared.framing.Framing.{Framing}
-use Rattle.tlv_walk.specs.Events.{Told, End, Close, Leave, events}
-use Rattle.tlv_walk.specs.Follow.{Following, followed, goes_of}
+use Rattle.tlv_walk.specs.Events.{Close, End, EventValue, Leave, events}
+use Rattle.tlv_walk.specs.Follow.{Effect, effect_of, goes_of}
 use Rattle.tlv_walk.specs.Forest.{Forest, end_octets}
 use Rattle.tlv_walk.specs.Reading.{IsPrefixOf, IsReading}
 use Rattle.tlv_cut.specs.LongerInputs.{ForLongerInputs}
@@ -20,8 +20,8 @@ pub record IsInInput (b : List ℕ) (n : ℕ) (f : Forest) : Type 0 where
   pub octets : front ++ (extract_text n false f ++ rest) ≡ b
   pub place : length front ≡ n
   -- its header
-  pub head : Heading
-  pub valid : IsHeading head
+  pub head : HeaderValue
+  pub valid : IsHeader head
   pub offset : head.offset ≡ n
   pub parts : extract_text n false f ≡ octets_of head ++ (extract_text n true f
       ++ (if has_whole_element_at n f then end_octets head.size else []))
@@ -55,7 +55,7 @@ WholeElementsStay = ForLongerInputs (λ f g. (n : ℕ)
 
 -- what was put is what `extract` writes. It was enough if the element is whole, and the element was
 -- found if it is there
-pub record MakesExtract (n : ℕ) (contents_only : Bool) (f : Forest) (x : Following ExtractState)
+pub record MakesExtract (n : ℕ) (contents_only : Bool) (f : Forest) (x : Effect ExtractState)
     : Type 0 where
   pub put : x.put ≡ extract_text n contents_only f
   pub goes : x.goes ≡ goes_of (has_whole_element_at n f)
@@ -66,10 +66,10 @@ abbrev pub ExtractMakesItsText : Type 0
 ExtractMakesItsText = (framing : Framing) (b : List ℕ) (f : Forest) → IsReading framing b f
     → (n : ℕ) (contents_only : Bool)
     → MakesExtract n contents_only f
-    (followed extract_step (new_extract n contents_only) (events f))
+    (effect_of extract_step (new_extract n contents_only) (events f))
 
 -- an element ends
-abbrev pub is_end_event : Told → Bool
+abbrev pub is_end_event : EventValue → Bool
 is_end_event End = true
 is_end_event (Close at) = true
 is_end_event Leave = true
@@ -77,5 +77,5 @@ is_end_event _ = false
 
 -- an `Extract` has enough at the end of an element alone, whatever it followed before
 abbrev pub EnoughComesAtEnds : Type 0
-EnoughComesAtEnds = (s : ExtractState) (e : Told)
+EnoughComesAtEnds = (s : ExtractState) (e : EventValue)
     → (extract_step s e).goes ≡ Enough → is_end_event e ≡ true

@@ -1,11 +1,11 @@
 -- What an `Extract` makes of events.
 use Rattle.std.specs.Prelude.{ℕ, ◌+◌, ◌==◌, min, suc, zero, Bool, true, false, if◌then◌else◌}
 use Rattle.std.specs.Prelude.{List, [], ◌∷◌, Some, None}
-use Rattle.tlv_head.specs.Header.{Heading, octets_of}
+use Rattle.tlv_head.specs.Header.{HeaderValue, octets_of}
 use Rattle.tlv_walk.specs.declared.follow.Go.{Go}
 use Rattle.tlv_walk.specs.declared.follow.Go.TheVariants.{On, Enough}
-use Rattle.tlv_walk.specs.Events.{Told, Open, Begin, Bytes, End, Close, Enter, Unused, Leave, Pad}
-use Rattle.tlv_walk.specs.Follow.{Following, each_octet, stay}
+use Rattle.tlv_walk.specs.Events.{Begin, Bytes, Close, End, Enter, EventValue, Leave, Open, Pad, Unused}
+use Rattle.tlv_walk.specs.Follow.{Effect, each_octet, no_effect}
 use Rattle.tlv_cut.specs.declared.extract_follower.Position.{Position}
 use Rattle.tlv_cut.specs.declared.extract_follower.Position.TheVariants.{Before, Inside, After}
 
@@ -38,22 +38,22 @@ abbrev pub outer_octets : Bool → List ℕ → List ℕ
 outer_octets contents_only octets = if contents_only then [] else octets
 
 -- these octets are put, and the walk is at this position
-abbrev pub step_to : ExtractState → Position → List ℕ → Go → Following ExtractState
+abbrev pub step_to : ExtractState → Position → List ℕ → Go → Effect ExtractState
 step_to s position octets goes =
     record { state = record s { position = position }; put = octets; goes = goes }
 
 -- an element begins: the one wanted, one that it holds, or another. The count of those that it
 -- holds stops at 255
-abbrev pub begin_step : ExtractState → Heading → Following ExtractState
+abbrev pub begin_step : ExtractState → HeaderValue → Effect ExtractState
 begin_step s h = at s.position
   where
-    at : Position → Following ExtractState
+    at : Position → Effect ExtractState
     at Before =
         if h.offset == s.offset
         then step_to s (Inside 0) (outer_octets s.contents_only (octets_of h)) On
-        else stay s
+        else no_effect s
     at (Inside level) = step_to s (Inside (min (level + 1) 255)) (octets_of h) On
-    at After = stay s
+    at After = no_effect s
 
 -- of octets that come at this position, those of the element wanted
 abbrev pub wanted_octets : Position → List ℕ → List ℕ
@@ -62,25 +62,25 @@ wanted_octets (Inside level) octets = octets
 wanted_octets After octets = []
 
 -- a contents octet comes
-abbrev pub octet_step : ExtractState → ℕ → Following ExtractState
+abbrev pub octet_step : ExtractState → ℕ → Effect ExtractState
 octet_step s x = record { state = s; put = wanted_octets s.position (x ∷ []); goes = On }
 
 -- contents octets come
-abbrev pub contents_step : ExtractState → List ℕ → Following ExtractState
+abbrev pub contents_step : ExtractState → List ℕ → Effect ExtractState
 contents_step s octets = each_octet octet_step s octets
 
 -- an element ends, with these end-of-contents octets
-abbrev pub end_step : ExtractState → List ℕ → Following ExtractState
+abbrev pub end_step : ExtractState → List ℕ → Effect ExtractState
 end_step s octets = at s.position
   where
-    at : Position → Following ExtractState
-    at Before = stay s
+    at : Position → Effect ExtractState
+    at Before = no_effect s
     at (Inside zero) = step_to s After (outer_octets s.contents_only octets) Enough
     at (Inside (suc level)) = step_to s (Inside level) octets On
-    at After = stay s
+    at After = no_effect s
 
 -- an event comes
-abbrev pub extract_step : ExtractState → Told → Following ExtractState
+abbrev pub extract_step : ExtractState → EventValue → Effect ExtractState
 extract_step s (Open h) = begin_step s h
 extract_step s (Begin h) = begin_step s h
 extract_step s (Enter h) = begin_step s h
@@ -90,4 +90,4 @@ extract_step s (Close None) = end_step s []
 extract_step s (Close (Some at)) = end_step s (0 ∷ 0 ∷ [])
 extract_step s End = end_step s []
 extract_step s Leave = end_step s []
-extract_step s (Pad octets) = stay s
+extract_step s (Pad octets) = no_effect s

@@ -4,9 +4,9 @@ use Rattle.tlv_walk.specs.declared.ending.Ending.TheVariants.{Done}
 use Rattle.tlv_walk.specs.declared.follow.Go.TheVariants.{On}
 use Rattle.tlv_walk.specs.Ending.{IsEnding}
 use Rattle.tlv_walk.specs.Events.{events}
-use Rattle.tlv_walk.specs.Follow.{followed}
+use Rattle.tlv_walk.specs.Follow.{effect_of}
 use Rattle.tlv_walk.specs.Forest.{Forest, spell}
-use Rattle.tlv_walk.specs.Place.{IsOpen, top}
+use Rattle.tlv_walk.specs.Place.{IsOpen, top_place}
 use Rattle.tlv_walk.specs.Reading.{IsPrefixOf, IsReading}
 use Rattle.tlv_cut.specs.LongerInputs.{ForLongerInputs}
 use Rattle.tlv_cut.specs.IndefText.{indef_text}
@@ -17,7 +17,7 @@ use Rattle.tlv_cut.specs.IndefReading.{indef_reading}
 -- of the events of elements an `Indef` makes what `indef` writes, and it wants more
 abbrev pub IndefMakesItsText : Type 0
 IndefMakesItsText = (s : IndefState) (f : Forest)
-    → followed indef_step s (events f) ≡ record { state = s; put = indef_text f; goes = On }
+    → effect_of indef_step s (events f) ≡ record { state = s; put = indef_text f; goes = On }
 
 -- what is written for an input is a front of what is written for a longer one
 abbrev pub IndefTextGoesOn : Type 0
@@ -25,9 +25,9 @@ IndefTextGoesOn = ForLongerInputs (λ f g. IsPrefixOf (indef_text f) (indef_text
 
 -- what is written are the octets of elements that keep all rules
 abbrev pub IndefTextKeepsRules : Type 0
-IndefTextKeepsRules = (padding : Bool) (f : Forest) → IsOpen (top (indef_framing padding)) f
+IndefTextKeepsRules = (padding : Bool) (f : Forest) → IsOpen (top_place (indef_framing padding)) f
     → (spell (indef_reading f) ≡ indef_text f)
-    × IsOpen (top (indef_framing padding)) (indef_reading f)
+    × IsOpen (top_place (indef_framing padding)) (indef_reading f)
 
 -- what is written is read as those elements, and of these the same octets are written again
 abbrev pub IndefTextIsReadBack : Type 0

@@ -2,8 +2,8 @@
 use Rattle.std.specs.Prelude.{ℕ, if◌then◌else◌, List, [], ◌∷◌}
 use Rattle.tlv_head.specs.Header.{indefinite_octets, octets_of}
 use Rattle.tlv_walk.specs.declared.follow.Go.TheVariants.{On}
-use Rattle.tlv_walk.specs.Events.{Told, Open, Begin, Bytes, End, Close, Enter, Unused, Leave, Pad}
-use Rattle.tlv_walk.specs.Follow.{Following}
+use Rattle.tlv_walk.specs.Events.{Begin, Bytes, Close, End, Enter, EventValue, Leave, Open, Pad, Unused}
+use Rattle.tlv_walk.specs.Follow.{Effect}
 
 -- what contracts see of an `Indef`: nothing, since it keeps nothing
 pub record IndefState : Type 0 where
@@ -14,7 +14,7 @@ new_indef = record {}
 
 -- the octets that it puts for an event. The header of a primitive stays as it is, whichever event
 -- comes with it
-abbrev pub indef_event_text : Told → List ℕ
+abbrev pub indef_event_text : EventValue → List ℕ
 indef_event_text (Open h) = if h.constructed then indefinite_octets h else octets_of h
 indef_event_text (Begin h) = octets_of h
 indef_event_text (Bytes octets) = octets
@@ -26,5 +26,5 @@ indef_event_text Leave = []
 indef_event_text (Pad octets) = octets
 
 -- an event comes: more is always wanted
-abbrev pub indef_step : IndefState → Told → Following IndefState
+abbrev pub indef_step : IndefState → EventValue → Effect IndefState
 indef_step s e = record { state = s; put = indef_event_text e; goes = On }

@@ -1,12 +1,12 @@
 -- What `indef` writes: elements with indefinite lengths in place of definite ones (X.690 8.1.3.6).
 use Rattle.std.specs.Prelude.{ℕ, if◌then◌else◌, List, [], ◌∷◌, ◌++◌}
 use Rattle.tlv_head.specs.declared.header.Size.TheVariants.{Indefinite}
-use Rattle.tlv_head.specs.Header.{Heading}
+use Rattle.tlv_head.specs.Header.{HeaderValue}
 use Rattle.tlv_walk.specs.Forest.{Forest, Stop, Fill, Whole, Closed, Partial, Entered, Awaiting}
 use Rattle.tlv_walk.specs.Forest.{lead, spell}
 
 -- 8.1.3.6.1: the header with the octet 80 for its length octets
-abbrev pub indefinite_header : Heading → Heading
+abbrev pub indefinite_header : HeaderValue → HeaderValue
 indefinite_header h = record h { size = Indefinite; lengths = 128 ∷ [] }
 
 -- the same elements, each constructed one with an indefinite length. The octets of an unfinished

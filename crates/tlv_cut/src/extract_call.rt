@@ -38,7 +38,7 @@ pub fn extract<S: Source, D: Drain>(
     framing: &Framing,
 ) -> Result<Cut, DeviceFault>
     ensures { Runs (extract_job framing.now offset contents_only)
-        (S.told source.old) (S.told source.new) (D.told drain.old) (D.told drain.new) result }
+        (S.state source.old) (S.state source.new) (D.state drain.old) (D.state drain.new) result }
 {
     let mut follower = Extract::new(offset, contents_only);
     let run = drive(source, &mut follower, drain, framing)?;

@@ -1,6 +1,6 @@
 //! The follower of `extract`: it writes one element, or its contents.
 ghost use Rattle.std.specs.Prelude.{◌≡◌};
-ghost use Rattle.tlv_walk.specs.Follow.{IsFollowed};
+ghost use Rattle.tlv_walk.specs.Follow.{HasEffect};
 ghost use Rattle.tlv_io.specs.Out.{Puts};
 ghost use Rattle.tlv_cut.specs.ExtractStep.{begin_step, contents_step, end_step};
 ghost use Rattle.tlv_cut.specs.ExtractStep.{has_found, new_extract, octet_step};
@@ -64,8 +64,8 @@ impl Extract {
 
     /// An element begins: the one wanted, one that it holds, or another.
     fn begin<D: Drain>(&mut self, header: &Header, out: &mut Out<'_, D>) -> Result<Go, WriteFault>
-        ensures state { IsFollowed (begin_step self.old header.now) self.new result }
-        ensures puts { Puts D.told out.old out.new (begin_step self.old header.now).put result }
+        ensures state { HasEffect (begin_step self.old header.now) self.new result }
+        ensures puts { Puts D.state out.old out.new (begin_step self.old header.now).put result }
     {
         match self.position {
             Position::Before if header.offset == self.offset => {
@@ -85,8 +85,8 @@ impl Extract {
 
     /// Contents octets come.
     fn contents<D: Drain>(&self, octets: &[u8], out: &mut Out<'_, D>) -> Result<Go, WriteFault>
-        ensures state { IsFollowed (contents_step self.now octets.now) self.now result }
-        ensures puts { Puts D.told out.old out.new (contents_step self.now octets.now).put result }
+        ensures state { HasEffect (contents_step self.now octets.now) self.now result }
+        ensures puts { Puts D.state out.old out.new (contents_step self.now octets.now).put result }
     {
         self.put_contents(octets, out)?;
         Ok(Go::On)
@@ -94,7 +94,7 @@ impl Extract {
 
     /// Puts these contents octets if they come inside the element wanted.
     fn put_contents<D: Drain>(&self, octets: &[u8], out: &mut Out<'_, D>) -> Result<(), WriteFault>
-        ensures { Puts D.told out.old out.new (contents_step self.now octets.now).put result }
+        ensures { Puts D.state out.old out.new (contents_step self.now octets.now).put result }
     {
         match self.position {
             Position::Inside(_) => out.put(octets),
@@ -104,8 +104,8 @@ impl Extract {
 
     /// An element ends, with these end-of-contents octets.
     fn end<D: Drain>(&mut self, octets: &[u8], out: &mut Out<'_, D>) -> Result<Go, WriteFault>
-        ensures state { IsFollowed (end_step self.old octets.now) self.new result }
-        ensures puts { Puts D.told out.old out.new (end_step self.old octets.now).put result }
+        ensures state { HasEffect (end_step self.old octets.now) self.new result }
+        ensures puts { Puts D.state out.old out.new (end_step self.old octets.now).put result }
     {
         match self.position {
             Position::Inside(0) => {
@@ -127,7 +127,7 @@ impl Extract {
 
 impl Follow for Extract {
     ghost use Rattle.std.specs.Prelude.{refl};
-    ghost use Rattle.tlv_walk.proofs.Followed.{each_octet-goes_on, each_octet-joins};
+    ghost use Rattle.tlv_walk.proofs.FollowerLemmas.Followed.{each_octet-goes_on, each_octet-joins};
     ghost use Rattle.tlv_cut.specs.ExtractStep.{extract_step};
 
     ghost next = { extract_step };

@@ -25,7 +25,7 @@ pub fn indef<S: Source, D: Drain>(
     padding: bool,
 ) -> Result<Ending, DeviceFault>
     ensures { Runs (indef_job padding)
-        (S.told source.old) (S.told source.new) (D.told drain.old) (D.told drain.new) result }
+        (S.state source.old) (S.state source.new) (D.state drain.old) (D.state drain.new) result }
 {
     let framing = Framing {
         inside: Inside::none(),

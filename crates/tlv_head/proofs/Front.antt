@@ -6,14 +6,14 @@ use Rattle.tlv_head.specs.declared.header.Class.{Class}
 use Rattle.tlv_head.specs.declared.header.Size.{Size}
 use Rattle.tlv_head.specs.declared.header.Size.TheVariants.{Definite, Indefinite}
 use Rattle.tlv_head.specs.declared.header.HeaderFields.{HeaderFields}
-use Rattle.tlv_head.specs.declared.part.Identifier.{Identifier}
-use Rattle.tlv_head.specs.Fields.{heading_with, Suits}
-use Rattle.tlv_head.specs.declared.part.Part.{Part}
-use Rattle.tlv_head.specs.declared.part.Part.TheVariants.{Start, Number, Length, Digits, Done}
-use Rattle.tlv_head.specs.Header.{Heading, IsHeading, IsIdentifier, IsLength, octets_of}
-use Rattle.tlv_head.specs.Part.{Carries, is_done}
-use Rattle.tlv_head.specs.Private.Part.{BeginsWithIdentifier, BeginsWithLength, MakesHeader}
-use Rattle.tlv_head.specs.Read.{BeginsWithFields}
+use Rattle.tlv_head.specs.declared.next_octet.Identifier.{Identifier}
+use Rattle.tlv_head.specs.Fields.{Suits, header_with}
+use Rattle.tlv_head.specs.declared.next_octet.Part.{Part}
+use Rattle.tlv_head.specs.declared.next_octet.Part.TheVariants.{Start, Number, Length, Digits, Done}
+use Rattle.tlv_head.specs.Header.{HeaderValue, IsHeader, IsIdentifier, IsLength, octets_of}
+use Rattle.tlv_head.specs.HeaderSoFar.{Carries, is_done}
+use Rattle.tlv_head.specs.Private.NextOctet.{BeginsWithIdentifier, BeginsWithLength, MakesHeader}
+use Rattle.tlv_head.specs.ReadHeader.{BeginsWithFields}
 use Rattle.tlv_head.specs.Refusal.{BeginsWith, IsFront}
 use Rattle.tlv_head.proofs.Scan.{origin_of, scan, Fresh, Ready, no-front, scan-header}
 use Rattle.tlv_head.proofs.Unfinished.{unfinished_number, unfinished_identifier, unfinished_length}
@@ -37,14 +37,14 @@ rest_nil : (a b : List ℕ) → a ++ b ≡ [] → b ≡ []
 rest_nil [] b e = e
 rest_nil (x ∷ a) b e = absurd (cc)
 
-header-some : (h : Heading) → IsHeading h → octets_of h ≡ [] → ⊥
+header-some : (h : HeaderValue) → IsHeader h → octets_of h ≡ [] → ⊥
 header-some h v e =
     let ready : scan (origin_of h) (octets_of h) ≡ Ready h = scan-header h v in
     let fresh : Fresh ≡ Ready h = rw e at ready in
     cc
 
 -- no header is a front of what has only begun
-pub begun_none : (os : List ℕ) → IsBegun os → (h : Heading) (rest : List ℕ) → IsHeading h → octets_of h ++ rest ≡ os → ⊥
+pub begun_none : (os : List ℕ) → IsBegun os → (h : HeaderValue) (rest : List ℕ) → IsHeader h → octets_of h ++ rest ≡ os → ⊥
 begun_none os (inl none) h rest v e = header-some h v (front_nil (octets_of h) rest (e ∙ none))
 begun_none os (inr f) h rest v e =
     no-front h f.head (rest ++ f.more) v f.valid (λ z. f.proper (rest_nil rest f.more z))
@@ -64,7 +64,7 @@ length-some (Definite n) l (inr long) = rw long.octet (omega arith)
 length-some Indefinite l e = rw e (omega arith)
 
 -- a header has an identifier octet and a length octet at least
-pub header-two : (h : Heading) → IsHeading h → 2 ≤ length (octets_of h)
+pub header-two : (h : HeaderValue) → IsHeader h → 2 ≤ length (octets_of h)
 header-two h v = omega (arith, length-append h.identifier h.lengths, identifier-some h.class h.constructed h.number h.identifier v.identifier, length-some h.size h.lengths v.lengths)
 
 -- the header that was made
@@ -78,7 +78,7 @@ made_suits os f id size m e =
     record { identifier = omega (arith, e); few = omega (arith, e); room = omega arith }
 
 pub made_begins : (os rest : List ℕ) (at : ℕ) (named : Bool) (id : Identifier) (size : Size) → MakesHeader id size os
-    → BeginsWith (os ++ rest) at named (heading_with (record { offset = at; named = named; class = id.class; constructed = id.constructed; number = id.number; size = size; id_len = id.octets }) os)
+    → BeginsWith (os ++ rest) at named (header_with (record { offset = at; named = named; class = id.class; constructed = id.constructed; number = id.number; size = size; id_len = id.octets }) os)
 made_begins os rest at named id size m =
     let front : take id.octets os ≡ m.identifier = rw (m.octet, m.identified.count) (take-append_seam m.identifier m.lengths) in
     let back : drop id.octets os ≡ m.lengths = rw (m.octet, m.identified.count) (drop-append_seam m.identifier m.lengths) in
@@ -112,6 +112,6 @@ begins_short os at named id size before count i e l =
     record {
       within = within;
       suits = made_suits (take (before + count) os) _ id size made refl;
-      begins = subst (λ (xs : List ℕ). BeginsWith xs at named (heading_with (record { offset = at; named = named; class = id.class; constructed = id.constructed; number = id.number; size = size; id_len = id.octets }) (take (before + count) os)))
+      begins = subst (λ (xs : List ℕ). BeginsWith xs at named (header_with (record { offset = at; named = named; class = id.class; constructed = id.constructed; number = id.number; size = size; id_len = id.octets }) (take (before + count) os)))
           (take-append-drop (before + count) os) (made_begins (take (before + count) os) (drop (before + count) os) at named id size made);
     }

@@ -2,9 +2,9 @@
 use Rattle.std.proofs.Common.{◌≡◌, ◌≢◌, ◌⊎◌, inl, inr, ℕ, ◌+◌, ◌-◌, ◌%◌, ◌/◌, ◌<◌, ◌≤◌, Bool, true, false, cond, ◌&&◌, not, eqb, ltb, List, [], ◌∷◌, ◌++◌, length, refl, sym, ap, ◌∙◌, arith, append-nil, length-append, lt-ltb, le-ltb, eq-eqb, ne_eqb, ltb-true, subst, ⊎_elim}
 use Rattle.std.proofs.lemmas.Bool.{cases_lt, cases_eq, cases_Bool, and_parts, not-true, eqb-false}
 use Rattle.tlv_head.specs.declared.header.Class.{Class}
-use Rattle.tlv_head.specs.Header.{IsIdentifier, Heading, octets_of, IsHeading}
-use Rattle.tlv_head.specs.Laws.{IsRefusable, IsWhole}
-use Rattle.tlv_head.specs.Refusal.{BeginsNone, IsFront, IsRefusedOctet, tag_too_long, reserved_length, indefinite_primitive, length_too_large}
+use Rattle.tlv_head.specs.Header.{HeaderValue, IsHeader, IsIdentifier, octets_of}
+use Rattle.tlv_head.specs.Laws.{AreHeaderOctets, IsRefusable}
+use Rattle.tlv_head.specs.Refusal.{BeginsNoHeader, IsFront, IsRefusedOctet, indefinite_primitive, length_too_large, reserved_length, tag_too_long}
 use Rattle.tlv_head.specs.declared.fault.FaultCode.{FaultCode}
 use Rattle.tlv_head.specs.declared.fault.FaultCode.TheVariants.{StrayEnd, IndefinitePrimitive}
 use Rattle.tlv_head.proofs.Scan.{Scan, Origin, origin_of, start, Fresh, High, Named, Long, Ready, Stuck, Over, leads, class_of, step, scan, scan_from-append, scan_from-past, scan-moved, moved, is_more, more-from_front, no-front, same-header}
@@ -22,14 +22,14 @@ fronts (c ∷ a) (d ∷ b) x y e =
     (fronts a b x y (cc))
 
 -- octets that begin with a header begin with no other
-pub one-header : (h g : Heading) (x y : List ℕ) → IsHeading h → IsHeading g → origin_of h ≡ origin_of g → octets_of h ++ x ≡ octets_of g ++ y → (h ≡ g) × (x ≡ y)
+pub one-header : (h g : HeaderValue) (x y : List ℕ) → IsHeader h → IsHeader g → origin_of h ≡ origin_of g → octets_of h ++ x ≡ octets_of g ++ y → (h ≡ g) × (x ≡ y)
 one-header h g x y vh vg o e = ⊎_elim
     (λ (r : (z : List ℕ) × (octets_of h ++ z ≡ octets_of g) × (x ≡ z ++ y)). forward h g x y r.0 vh vg o r.1 r.2)
     (λ (r : (z : List ℕ) × (octets_of g ++ z ≡ octets_of h) × (y ≡ z ++ x)).
     let back : (g ≡ h) × (y ≡ x) = forward g h y x r.0 vg vh (sym o) r.1 r.2 in (sym back.0, sym back.1))
     (fronts (octets_of h) (octets_of g) x y e)
   where
-    forward : (h g : Heading) (x y z : List ℕ) → IsHeading h → IsHeading g → origin_of h ≡ origin_of g → octets_of h ++ z ≡ octets_of g → x ≡ z ++ y → (h ≡ g) × (x ≡ y)
+    forward : (h g : HeaderValue) (x y z : List ℕ) → IsHeader h → IsHeader g → origin_of h ≡ origin_of g → octets_of h ++ z ≡ octets_of g → x ≡ z ++ y → (h ≡ g) × (x ≡ y)
     forward h g x y [] vh vg o e f = (same-header h g vh vg o (sym (append-nil (octets_of h)) ∙ e), f)
     forward h g x y (b ∷ z) vh vg o e f = absurd (no-front h g (b ∷ z) vh vg (λ n. omega (arith, ap length n)) e)
 
@@ -70,7 +70,7 @@ explains-high at x c k ds o s = ⊎_elim
     (cases_lt (length ds) 8))
     (cases_lt x 128)
 
-explains-mark : (at : Origin) (x : ℕ) (c : Class) (k : Bool) (n : ℕ) (i o : List ℕ) (h : Heading) → IsIdentifier c k n i → o ≡ i → x ≡ 128 → Explains (cond k (Ready h) (Stuck IndefinitePrimitive)) o x
+explains-mark : (at : Origin) (x : ℕ) (c : Class) (k : Bool) (n : ℕ) (i o : List ℕ) (h : HeaderValue) → IsIdentifier c k n i → o ≡ i → x ≡ 128 → Explains (cond k (Ready h) (Stuck IndefinitePrimitive)) o x
 explains-mark at x c true n i o h id e m = tt
 explains-mark at x c false n i o h id e m = indefinite_primitive c n (subst (IsIdentifier c false n) (sym e) id) m
 
@@ -108,7 +108,7 @@ explains at x (Ready h) o m r = absurd (cc)
 explains at x (Stuck code) o m r = absurd (cc)
 explains at x Over o m r = absurd (cc)
 
-pub stuck-none : (at : Origin) (s : Scan) (o : List ℕ) → scan at o ≡ s → is_more s ≡ false → ((h : Heading) → s ≡ Ready h → ⊥) → BeginsNone o
+pub stuck-none : (at : Origin) (s : Scan) (o : List ℕ) → scan at o ≡ s → is_more s ≡ false → ((h : HeaderValue) → s ≡ Ready h → ⊥) → BeginsNoHeader o
 stuck-none at s o e m n h [] v f =
     let ready : scan at (o ++ []) ≡ Ready (moved at h) = rw f (scan-moved at h v) in
     let ready' : scan at o ≡ Ready (moved at h) = rw append-nil at ready in
@@ -120,8 +120,8 @@ stuck-none at s o e m n h (x ∷ more) v f =
 -- one more octet makes the front of a header, or a header, or begins none
 pub data Next (o : List ℕ) (x : ℕ) : Type 0 where
   continues : IsFront (o ++ x ∷ []) → Next o x
-  completes : (h : Heading) → IsHeading h → octets_of h ≡ o ++ x ∷ [] → Next o x
-  refuses : (code : FaultCode) → IsHeadRefusal code o x → BeginsNone (o ++ x ∷ []) → Next o x
+  completes : (h : HeaderValue) → IsHeader h → octets_of h ≡ o ++ x ∷ [] → Next o x
+  refuses : (code : FaultCode) → IsHeadRefusal code o x → BeginsNoHeader (o ++ x ∷ []) → Next o x
 
 next-from : (o : List ℕ) (x : ℕ) (s : Scan) → scan start (o ++ x ∷ []) ≡ s → Reads start s (o ++ x ∷ []) → Explains s o x → Next o x
 next-from o x Fresh e r w = absurd (omega (arith, ap length r, length-append o (x ∷ [])))
@@ -144,11 +144,11 @@ refused-octet StrayEnd o x first r = absurd (first r.0 r.1)
 refused-octet code o x first r = r
 
 -- a first octet other than 00 is refused for the octets alone
-pub classified : (o : List ℕ) (x : ℕ) → (o ≡ [] → x ≢ 0) → Next o x → IsFront (o ++ x ∷ []) ⊎ (IsWhole (o ++ x ∷ []) ⊎ IsRefusable o x)
+pub classified : (o : List ℕ) (x : ℕ) → (o ≡ [] → x ≢ 0) → Next o x → IsFront (o ++ x ∷ []) ⊎ (AreHeaderOctets (o ++ x ∷ []) ⊎ IsRefusable o x)
 classified o x first (continues f) = inl f
 classified o x first (completes h v e) = inr (inl (h, v, e))
 classified o x first (refuses code r none) = inr (inr (code, refused-octet code o x first r))
 
 -- what can go on is no header
-pub front-no_header : (o : List ℕ) (h : Heading) → IsFront o → IsHeading h → octets_of h ≡ o → ⊥
+pub front-no_header : (o : List ℕ) (h : HeaderValue) → IsFront o → IsHeader h → octets_of h ≡ o → ⊥
 front-no_header o h f v e = no-front h f.head f.more v f.valid f.proper (rw e f.front)

@@ -4,7 +4,7 @@ use Rattle.std.proofs.lemmas.Bool.Decides.{nat_tests}
 use Rattle.std.proofs.lemmas.List.{length-map}
 use Rattle.std.proofs.lemmas.List.Elements.{All-head, All-nil, All-push, All-tail}
 use Rattle.std.specs.Prelude.{slice_index}
-use Rattle.tlv_head.specs.Header.{Heading, IsHeading, IsLength, IsLongForm, announced, flagged, leading_octet, value_of}
+use Rattle.tlv_head.specs.Header.{HeaderValue, IsHeader, IsLength, IsLongForm, announced, leading_octet, value_of, with_bit_8}
 use Rattle.tlv_head.specs.declared.header.Size.{Size}
 use Rattle.tlv_head.specs.declared.header.Size.TheVariants.{Definite, Indefinite}
 use Rattle.tlv_head.proofs.Digits.{value_of-lt}
@@ -21,19 +21,19 @@ leading-zero b (suc x) xs some each =
 -- ---- identifier octets
 
 high-leading : (lead : ℕ) (ds : List ℕ) (last : ℕ) → All (λ d. d < 128) ds → last < 128
-    → let octets = lead ∷ (flagged ds ++ last ∷ []) in (slice_index octets 1 % 128 == 0) ≡ nat_lt (value_of 128 (ds ++ last ∷ [])) (128 ^ (length octets - 2))
+    → let octets = lead ∷ (with_bit_8 ds ++ last ∷ []) in (slice_index octets 1 % 128 == 0) ≡ nat_lt (value_of 128 (ds ++ last ∷ [])) (128 ^ (length octets - 2))
 high-leading lead [] last each below =
     let bits : last % 128 ≡ last = omega arith in
     rw bits (leading-zero 128 last [] (lit< tt) (All-nil (λ d. d < 128)))
 high-leading lead (d ∷ ds) last each below =
     let small : d < 128 = All-head (λ d. d < 128) d ds each in
     let bits : (128 + d) % 128 ≡ d = omega arith in
-    let count : length (lead ∷ (flagged (d ∷ ds) ++ last ∷ [])) - 2 ≡ length (ds ++ last ∷ []) =
-    omega (arith, length-append (flagged ds) (last ∷ []), length-append ds (last ∷ []), length-map ds (λ d. 128 + d)) in
+    let count : length (lead ∷ (with_bit_8 (d ∷ ds) ++ last ∷ [])) - 2 ≡ length (ds ++ last ∷ []) =
+    omega (arith, length-append (with_bit_8 ds) (last ∷ []), length-append ds (last ∷ []), length-map ds (λ d. 128 + d)) in
     rw (bits, count) (leading-zero 128 d (ds ++ last ∷ []) (lit< tt) (All-push (λ d. d < 128) ds last (All-tail (λ d. d < 128) d ds each) below))
 
 -- 8.1.2.4.2 c): bits 7 to 1 of the first subsequent octet are 0 exactly where one octet fewer holds the number
-pub leading_bits-zero : (h : Heading) → IsHeading h → 1 < length h.identifier
+pub leading_bits-zero : (h : HeaderValue) → IsHeader h → 1 < length h.identifier
     → (slice_index h.identifier 1 % 128 == 0) ≡ nat_lt h.number (128 ^ (length h.identifier - 2))
 leading_bits-zero h valid high = elim valid.identifier [
   | inl low ↦ absurd (omega (arith, ap length low.octet))
@@ -53,7 +53,7 @@ long-leading n octets f = rw (f.value, f.octet) (by-digits f.digits f.each f.som
         rw count (leading-zero 256 d ds (lit< tt) (All-tail (λ d. d < 256) d ds each))
 
 -- 10.1: the first subsequent octet is 0 exactly where one octet fewer holds the length
-pub first_length-zero : (h : Heading) → IsHeading h → 1 < length h.lengths
+pub first_length-zero : (h : HeaderValue) → IsHeader h → 1 < length h.lengths
     → (slice_index h.lengths 1 == 0) ≡ nat_lt (announced h.size) (256 ^ (length h.lengths - 2))
 first_length-zero h valid long = by-size h.size valid.lengths
   where

@@ -7,7 +7,7 @@ use Rattle.tlv_head.specs.declared.header.Class.{Class}
 use Rattle.tlv_head.specs.declared.header.Class.TheVariants.{Universal, Application, Context, Private}
 use Rattle.tlv_head.specs.declared.header.Size.{Size}
 use Rattle.tlv_head.specs.declared.header.Size.TheVariants.{Definite, Indefinite}
-use Rattle.tlv_head.specs.Header.{class_bits, leading_octet, value_of, IsIdentifier, IsLength, Heading, octets_of, IsHeading}
+use Rattle.tlv_head.specs.Header.{HeaderValue, IsHeader, IsIdentifier, IsLength, class_bits, leading_octet, octets_of, value_of}
 use Rattle.tlv_head.specs.Private.Header.{AllowsSize}
 use Rattle.tlv_head.specs.Refusal.{IsFront}
 use Rattle.tlv_head.specs.declared.fault.FaultCode.TheVariants.{IndefinitePrimitive}
@@ -36,7 +36,7 @@ Reads at Fresh o = o ≡ []
 Reads at (High c k ds) o = IsHighState c k ds o
 Reads at (Named c k n i) o = IsIdentifier c k n i × (o ≡ i)
 Reads at (Long c k n i m ds) o = IsLongState c k n i m ds o
-Reads at (Ready h) o = IsHeading h × (o ≡ octets_of h) × (origin_of h ≡ at)
+Reads at (Ready h) o = IsHeader h × (o ≡ octets_of h) × (origin_of h ≡ at)
 Reads at (Stuck code) o = Unit {0}
 Reads at Over o = Unit {0}
 
@@ -263,7 +263,7 @@ length-bytes (Definite n) l (inl short) = rw (short.1) (All-cons (λ x. x < 256)
 length-bytes (Definite n) l (inr long) = rw long.octet (All-cons (λ x. x < 256) _ _ (omega (arith, long.few)) long.each)
 length-bytes Indefinite l e = rw e (All-cons (λ x. x < 256) 128 [] (omega arith) (All-nil (λ x. x < 256)))
 
-header-bytes : (h : Heading) → IsHeading h → All (λ x. x < 256) (octets_of h)
+header-bytes : (h : HeaderValue) → IsHeader h → All (λ x. x < 256) (octets_of h)
 header-bytes h valid =
     All-append (λ x. x < 256) h.identifier h.lengths (identifier-bytes h.class h.constructed h.number h.identifier valid.identifier) (length-bytes h.size h.lengths valid.lengths)
 

@@ -5,8 +5,8 @@ use Rattle.std.proofs.lemmas.List.Elements.{All-head, All-tail}
 use Rattle.tlv_head.specs.declared.header.Class.{Class}
 use Rattle.tlv_head.specs.declared.fault.FaultCode.{FaultCode}
 use Rattle.tlv_head.specs.declared.fault.FaultCode.TheVariants.{TagTooLong, ReservedLength, IndefinitePrimitive, LengthTooLarge}
-use Rattle.tlv_head.specs.Header.{Heading, IsHeading, IsIdentifier, flagged, leading_octet, octets_of}
-use Rattle.tlv_head.specs.Refusal.{BeginsNone, BeginsWithNone, IsFront, IsRefusedOctet, tag_too_long, reserved_length, indefinite_primitive, length_too_large}
+use Rattle.tlv_head.specs.Header.{HeaderValue, IsHeader, IsIdentifier, leading_octet, octets_of, with_bit_8}
+use Rattle.tlv_head.specs.Refusal.{BeginsNoHeader, BeginsWithNoHeader, IsFront, IsRefusedOctet, indefinite_primitive, length_too_large, reserved_length, tag_too_long}
 use Rattle.tlv_head.proofs.Scan.{Scan, Origin, start, Fresh, High, Named, Long, Ready, Stuck, Over, step, scan_from, scan, scan_from-append, scan_from-over, scan-identifier, scan-moved, moved, step-leading, is_more, more-from_front}
 use Rattle.tlv_head.proofs.Headers.{fronts, stuck-none}
 
@@ -31,26 +31,26 @@ stuck-longer at s o more r = record {
 stuck-last : (at : Origin) (o : List ℕ) (code : FaultCode) → scan at o ≡ Stuck code → IsStuckFrom at Fresh o
 stuck-last at o code e = record { front = o; rest = []; code = code; stuck = e; octets = sym (append-nil o) }
 
-front-none : (o : List ℕ) (code : FaultCode) → scan start o ≡ Stuck code → BeginsNone o
+front-none : (o : List ℕ) (code : FaultCode) → scan start o ≡ Stuck code → BeginsNoHeader o
 front-none o code e = stuck-none start (Stuck code) o e refl (λ h z. cc)
 
 -- they begin no header
-stuck-begins-none : (o : List ℕ) → IsStuckFrom start Fresh o → BeginsNone o
+stuck-begins-none : (o : List ℕ) → IsStuckFrom start Fresh o → BeginsNoHeader o
 stuck-begins-none o r = λ h more v e.
     front-none r.front r.code r.stuck h (r.rest ++ more) v (sym (append_assoc r.front r.rest more) ∙ (ap (λ z. z ++ more) (sym r.octets) ∙ e))
 
-past-header : (at : Origin) (h : Heading) (z : List ℕ) (code : FaultCode) → scan_from at (Ready h) z ≡ Stuck code → ⊥
+past-header : (at : Origin) (h : HeaderValue) (z : List ℕ) (code : FaultCode) → scan_from at (Ready h) z ≡ Stuck code → ⊥
 past-header at h [] code e = cc
 past-header at h (y ∷ z) code e = let over : scan_from at Over z ≡ Over = scan_from-over at z in cc
 
 -- what is refused at its last octet begins with no header
-header-not_stuck : (h : Heading) (z o : List ℕ) (code : FaultCode) → IsHeading h → octets_of h ++ z ≡ o → scan start o ≡ Stuck code → ⊥
+header-not_stuck : (h : HeaderValue) (z o : List ℕ) (code : FaultCode) → IsHeader h → octets_of h ++ z ≡ o → scan start o ≡ Stuck code → ⊥
 header-not_stuck h z o code v e s =
     let whole : scan start (octets_of h ++ z) ≡ Stuck code = ap (scan start) e ∙ s in
     let split : scan_from start (scan start (octets_of h)) z ≡ Stuck code = sym (scan_from-append start Fresh (octets_of h) z) ∙ whole in
     past-header start (moved start h) z code (ap (λ (t : Scan). scan_from start t z) (sym (scan-moved start h v)) ∙ split)
 
-stuck-begins_with-none : (o : List ℕ) → IsStuckFrom start Fresh o → BeginsWithNone o
+stuck-begins_with-none : (o : List ℕ) → IsStuckFrom start Fresh o → BeginsWithNoHeader o
 stuck-begins_with-none o r = λ h rest v e. elim (fronts r.front (octets_of h) r.rest rest (sym r.octets ∙ e)) [
   | inl z ↦ front-none r.front r.code r.stuck h z.0 v z.1
   | inr z ↦ header-not_stuck h z.0 r.front r.code v z.1 r.stuck
@@ -62,7 +62,7 @@ scan-step at o x s code e f = rw (scan_from-append at Fresh o (x ∷ []), e) f
 
 -- subsequent identifier octets with bit 8 set
 scan-flagged : (at : Origin) (c : Class) (k : Bool) (ds es : List ℕ) → All (λ d. d < 128) es → length ds + length es ≤ 8
-    → scan_from at (High c k ds) (flagged es) ≡ High c k (ds ++ es)
+    → scan_from at (High c k ds) (with_bit_8 es) ≡ High c k (ds ++ es)
 scan-flagged at c k ds [] each few = ap (High c k) (sym (append-nil ds))
 scan-flagged at c k ds (e ∷ es) each few =
     let here : e < 128 = All-head (λ d. d < 128) e es each in
@@ -71,17 +71,17 @@ scan-flagged at c k ds (e ∷ es) each few =
     let back : 128 + e - 128 ≡ e = omega arith in
     let fewer : length (ds ++ e ∷ []) + length es ≤ 8 = omega (arith, length-append ds (e ∷ [])) in
     let one : step at (High c k ds) (128 + e) ≡ High c k (ds ++ e ∷ []) = rw (le-ltb (128 + e) 128 more, lt-ltb (length ds) 8 room, back) in
-    ap (λ (s : Scan). scan_from at s (flagged es)) one
+    ap (λ (s : Scan). scan_from at s (with_bit_8 es)) one
     ∙ rw (append_assoc ds (e ∷ []) es) at (scan-flagged at c k (ds ++ e ∷ []) es (All-tail (λ d. d < 128) e es each) fewer)
 
 -- a ninth such octet
 too_long-stuck : (at : Origin) (c : Class) (k : Bool) (ds o : List ℕ) (x : ℕ) → All (λ d. d < 128) ds → length ds ≡ 8
-    → o ≡ leading_octet c k 31 ∷ flagged ds → 128 ≤ x → scan at (o ++ x ∷ []) ≡ Stuck TagTooLong
+    → o ≡ leading_octet c k 31 ∷ with_bit_8 ds → 128 ≤ x → scan at (o ++ x ∷ []) ≡ Stuck TagTooLong
 too_long-stuck at c k ds o x each eight octets flag =
     let nonzero : leading_octet c k 31 ≡ 0 → ⊥ = omega arith in
     let below : 31 < 32 = omega arith in
     let front : scan at o ≡ High c k ds =
-    rw octets (ap (λ (s : Scan). scan_from at s (flagged ds)) (step-leading at c k 31 below nonzero)
+    rw octets (ap (λ (s : Scan). scan_from at s (with_bit_8 ds)) (step-leading at c k 31 below nonzero)
     ∙ scan-flagged at c k [] ds each (omega (arith, eight))) in
     scan-step at o x (High c k ds) TagTooLong front
     (rw (le-ltb x 128 flag, le-ltb (length ds) 8 (omega (arith, eight))))
@@ -160,11 +160,11 @@ refused-stuck_from code o x r = ⊎_elim
     (refused-last start code o x r)
 
 -- what is refused for the octets alone begins no header
-pub refused-none : (code : FaultCode) (o : List ℕ) (x : ℕ) → IsRefusedOctet o x code → BeginsNone (o ++ x ∷ [])
+pub refused-none : (code : FaultCode) (o : List ℕ) (x : ℕ) → IsRefusedOctet o x code → BeginsNoHeader (o ++ x ∷ [])
 refused-none code o x r = stuck-begins-none (o ++ x ∷ []) (refused-stuck_from code o x r)
 
 -- nor does it begin with one, whatever follows
-pub refused-with_none : (code : FaultCode) (o : List ℕ) (x : ℕ) (more : List ℕ) → IsRefusedOctet o x code → BeginsWithNone ((o ++ x ∷ []) ++ more)
+pub refused-with_none : (code : FaultCode) (o : List ℕ) (x : ℕ) (more : List ℕ) → IsRefusedOctet o x code → BeginsWithNoHeader ((o ++ x ∷ []) ++ more)
 refused-with_none code o x more r =
     stuck-begins_with-none ((o ++ x ∷ []) ++ more) (stuck-longer start Fresh (o ++ x ∷ []) more (refused-stuck_from code o x r))
 

@@ -9,7 +9,7 @@ use Rattle.tlv_head.specs.declared.header.Class.{Class}
 use Rattle.tlv_head.specs.declared.header.Class.TheVariants.{Universal, Application, Context, Private}
 use Rattle.tlv_head.specs.declared.header.Size.{Size}
 use Rattle.tlv_head.specs.declared.header.Size.TheVariants.{Definite, Indefinite}
-use Rattle.tlv_head.specs.Header.{Heading, flagged, IsHeading, IsIdentifier, IsLength, indefinite_octets, is_wrapper, octets_of}
+use Rattle.tlv_head.specs.Header.{HeaderValue, IsHeader, IsIdentifier, IsLength, indefinite_octets, is_wrapper, octets_of, with_bit_8}
 use Rattle.tlv_head.specs.Refusal.{BeginsWith, IsFront, IsRefusedOctet, tag_too_long, reserved_length, indefinite_primitive, length_too_large}
 use Rattle.tlv_head.specs.Tag.{tag_text_of}
 
@@ -36,7 +36,7 @@ constructed-zero = inl (record { small = lit< tt; octet = refl; nonzero = omega 
 zero-no_identifier : (class : Class) (constructed : Bool) (number : ℕ) → IsIdentifier class constructed number (0x00 ∷ []) → ⊥
 zero-no_identifier class constructed number (inl low) = low.nonzero (cc (low.octet))
 zero-no_identifier class constructed number (inr high) =
-    omega (arith, ap length high.octet, length-append (flagged high.digits) (high.last ∷ []))
+    omega (arith, ap length high.octet, length-append (with_bit_8 high.digits) (high.last ∷ []))
 
 -- 1f 02: INTEGER, the number 2 in the high form
 high-integer : IsIdentifier Universal false 2 (0x1f ∷ 0x02 ∷ [])
@@ -99,7 +99,7 @@ reserved-no_length (Definite n) digits (inr long) =
 reserved-no_length Indefinite digits e = omega (arith, ap (λ o. get_or o 0 0) e)
 
 -- a header at the start of an input, which is not named
-abbrev first : Class → Bool → ℕ → Size → List ℕ → List ℕ → Heading
+abbrev first : Class → Bool → ℕ → Size → List ℕ → List ℕ → HeaderValue
 first class constructed number size identifier lengths = record {
   offset = 0;
   named = false;
@@ -112,22 +112,22 @@ first class constructed number size identifier lengths = record {
 }
 
 -- 1f 02 01: an INTEGER of one contents octet
-high-integer_header : IsHeading (first Universal false 2 (Definite 1) (0x1f ∷ 0x02 ∷ []) (0x01 ∷ []))
+high-integer_header : IsHeader (first Universal false 2 (Definite 1) (0x1f ∷ 0x02 ∷ []) (0x01 ∷ []))
 high-integer_header = record { identifier = high-integer; lengths = inl (lit< tt, refl); allowed = refl }
 
 -- 04 82 00 80: an OCTET STRING of 128 contents octets
-octet-string_header : IsHeading (first Universal false 4 (Definite 128) (0x04 ∷ []) (0x82 ∷ 0x00 ∷ 0x80 ∷ []))
+octet-string_header : IsHeader (first Universal false 4 (Definite 128) (0x04 ∷ []) (0x82 ∷ 0x00 ∷ 0x80 ∷ []))
 octet-string_header = record { identifier = octet-string; lengths = padded-128; allowed = refl }
 
 -- 30 80: a SEQUENCE up to the end-of-contents octets
-sequence-header : IsHeading (first Universal true 16 Indefinite (0x30 ∷ []) (0x80 ∷ []))
+sequence-header : IsHeader (first Universal true 16 Indefinite (0x30 ∷ []) (0x80 ∷ []))
 sequence-header = record { identifier = sequence; lengths = refl; allowed = refl }
 
 -- 9f 81, seven 80, 00, fe, 125 octets 00 and 01: one contents octet, announced by the longest header there is
-abbrev longest : Heading
+abbrev longest : HeaderValue
 longest = first Context false 72057594037927936 (Definite 1) (0x9f ∷ 0x81 ∷ 0x80 ∷ 0x80 ∷ 0x80 ∷ 0x80 ∷ 0x80 ∷ 0x80 ∷ 0x80 ∷ 0x00 ∷ []) (0xfe ∷ (replicate 125 0x00 ++ 0x01 ∷ []))
 
-longest-header : IsHeading longest
+longest-header : IsHeader longest
 longest-header = record {
   identifier = nine-octets;
   lengths = inr (record {

@@ -7,7 +7,7 @@ use Rattle.tlv_head.specs.declared.header.Class.{Class}
 use Rattle.tlv_head.specs.declared.header.Class.TheVariants.{Universal, Application, Context, Private}
 use Rattle.tlv_head.specs.declared.header.Size.{Size}
 use Rattle.tlv_head.specs.declared.header.Size.TheVariants.{Definite, Indefinite}
-use Rattle.tlv_head.specs.Header.{class_bits, leading_octet, value_of, IsIdentifier, IsLength, Heading, octets_of, IsHeading}
+use Rattle.tlv_head.specs.Header.{HeaderValue, IsHeader, IsIdentifier, IsLength, class_bits, leading_octet, octets_of, value_of}
 use Rattle.tlv_head.specs.Private.Header.{AllowsSize}
 use Rattle.tlv_head.specs.Refusal.{IsFront}
 use Rattle.tlv_head.specs.declared.fault.FaultCode.{FaultCode}
@@ -19,7 +19,7 @@ pub record Origin : Type 0 where
   pub offset : ℕ
   pub named : Bool
 
-abbrev pub origin_of : Heading → Origin
+abbrev pub origin_of : HeaderValue → Origin
 origin_of h = record { offset = h.offset; named = h.named }
 
 abbrev pub start : Origin
@@ -34,7 +34,7 @@ pub data Scan : Type 0 where
   Named : (class : Class) (constructed : Bool) (number : ℕ) (identifier : List ℕ) → Scan
   -- the identifier, how many length octets follow the first, and those so far
   Long : (class : Class) (constructed : Bool) (number : ℕ) (identifier : List ℕ) (count : ℕ) (digits : List ℕ) → Scan
-  Ready : (head : Heading) → Scan
+  Ready : (head : HeaderValue) → Scan
   -- the last octet was refused
   Stuck : (code : FaultCode) → Scan
   -- an octet past a header or a refusal
@@ -151,7 +151,7 @@ long-test ds e es m total limit = ⊎_elim
     (cases_lt (length es) 5))
     (cases_eq e 0)
 
-abbrev long_head : Origin → Class → Bool → ℕ → List ℕ → ℕ → List ℕ → Heading
+abbrev long_head : Origin → Class → Bool → ℕ → List ℕ → ℕ → List ℕ → HeaderValue
 long_head at c k n i m ds = record { offset = at.offset; named = at.named; class = c; constructed = k; number = n; size = Definite (value_of 256 ds); identifier = i; lengths = (128 + m) ∷ ds }
 
 scan-long : (at : Origin) (c : Class) (k : Bool) (n : ℕ) (i : List ℕ) (m : ℕ) (ds : List ℕ) (e : ℕ) (es : List ℕ) → length ds + suc (length es) ≡ m → value_of 256 (ds ++ e ∷ es) < 2 ^ 40
@@ -165,7 +165,7 @@ scan-long at c k n i m ds e (f ∷ es) total limit =
     (rw same at (scan-long at c k n i m (ds ++ e ∷ []) f es next (rw same limit)))
 
 -- the header with these octets, read at that place
-abbrev pub head_of : Origin → Class → Bool → ℕ → List ℕ → Size → List ℕ → Heading
+abbrev pub head_of : Origin → Class → Bool → ℕ → List ℕ → Size → List ℕ → HeaderValue
 head_of at c k n i size l = record { offset = at.offset; named = at.named; class = c; constructed = k; number = n; size = size; identifier = i; lengths = l }
 
 scan-digits : (at : Origin) (c : Class) (k : Bool) (n : ℕ) (i : List ℕ) (ds : List ℕ) → 1 ≤ length ds → length ds ≤ 126 → value_of 256 ds < 2 ^ 40
@@ -188,7 +188,7 @@ scan-length at c true n i Indefinite l e allowed = rw e
 scan-length at c false n i Indefinite l e allowed = absurd (cc (allowed))
 
 -- the octets of each header lead to it
-pub scan-header : (h : Heading) → IsHeading h → scan (origin_of h) (octets_of h) ≡ Ready h
+pub scan-header : (h : HeaderValue) → IsHeader h → scan (origin_of h) (octets_of h) ≡ Ready h
 scan-header h valid =
     rw (scan_from-append (origin_of h) Fresh h.identifier h.lengths, scan-identifier (origin_of h) h.class h.constructed h.number h.identifier valid.identifier)
     (scan-length (origin_of h) h.class h.constructed h.number h.identifier h.size h.lengths valid.lengths valid.allowed)
@@ -217,7 +217,7 @@ scan_from-over at [] = refl
 scan_from-over at (x ∷ xs) = scan_from-over at xs
 
 -- nothing may follow a header or a refusal
-pub scan_from-past : (at : Origin) (s : Scan) (xs : List ℕ) (h : Heading) → is_more s ≡ false → xs ≢ [] → scan_from at s xs ≡ Ready h → ⊥
+pub scan_from-past : (at : Origin) (s : Scan) (xs : List ℕ) (h : HeaderValue) → is_more s ≡ false → xs ≢ [] → scan_from at s xs ≡ Ready h → ⊥
 scan_from-past at s [] h e some r = some refl
 scan_from-past at Fresh (x ∷ xs) h e some r = cc
 scan_from-past at (High c k ds) (x ∷ xs) h e some r = cc
@@ -228,13 +228,13 @@ scan_from-past at (Stuck code) (x ∷ xs) h e some r = cc (scan_from-over at xs)
 scan_from-past at Over (x ∷ xs) h e some r = cc (scan_from-over at xs)
 
 -- a header read at any offset
-abbrev pub moved : Origin → Heading → Heading
+abbrev pub moved : Origin → HeaderValue → HeaderValue
 moved at h = head_of at h.class h.constructed h.number h.identifier h.size h.lengths
 
-pub scan-moved : (at : Origin) (h : Heading) → IsHeading h → scan at (octets_of h) ≡ Ready (moved at h)
+pub scan-moved : (at : Origin) (h : HeaderValue) → IsHeader h → scan at (octets_of h) ≡ Ready (moved at h)
 scan-moved at h valid = scan-header (moved at h) (record { identifier = valid.identifier; lengths = valid.lengths; allowed = valid.allowed })
 
-more-cases : (at : Origin) (s : Scan) (xs : List ℕ) (h : Heading) → xs ≢ [] → scan_from at s xs ≡ Ready h → (t : Bool) → is_more s ≡ t → is_more s ≡ true
+more-cases : (at : Origin) (s : Scan) (xs : List ℕ) (h : HeaderValue) → xs ≢ [] → scan_from at s xs ≡ Ready h → (t : Bool) → is_more s ≡ t → is_more s ≡ true
 more-cases at s xs h some r true e = e
 more-cases at s xs h some r false e = absurd (scan_from-past at s xs h e some r)
 
@@ -245,7 +245,7 @@ more-from_front at o f =
     more-cases at (scan at o) f.more (moved at f.head) f.proper (rw (scan_from-append at Fresh o f.more) at whole) (is_more (scan at o)) refl
 
 -- a header is no proper front of another
-pub no-front : (h g : Heading) (xs : List ℕ) → IsHeading h → IsHeading g → xs ≢ [] → octets_of h ++ xs ≡ octets_of g → ⊥
+pub no-front : (h g : HeaderValue) (xs : List ℕ) → IsHeader h → IsHeader g → xs ≢ [] → octets_of h ++ xs ≡ octets_of g → ⊥
 no-front h g xs vh vg some e =
     let whole : scan start (octets_of h ++ xs) ≡ Ready (moved start g) = rw e (scan-moved start g vg) in
     let split : scan_from start (scan start (octets_of h)) xs ≡ Ready (moved start g) = rw (scan_from-append start Fresh (octets_of h) xs) at whole in
@@ -253,7 +253,7 @@ no-front h g xs vh vg some e =
     scan_from-past start (Ready (moved start h)) xs (moved start g) refl some past
 
 -- one list of octets is one header
-pub same-header : (h g : Heading) → IsHeading h → IsHeading g → origin_of h ≡ origin_of g → octets_of h ≡ octets_of g → h ≡ g
+pub same-header : (h g : HeaderValue) → IsHeader h → IsHeader g → origin_of h ≡ origin_of g → octets_of h ≡ octets_of g → h ≡ g
 same-header h g vh vg o e =
     let left : scan (origin_of h) (octets_of h) ≡ Ready h = scan-header h vh in
     let right : scan (origin_of h) (octets_of g) ≡ Ready g = rw o (scan-header g vg) in

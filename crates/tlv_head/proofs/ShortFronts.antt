@@ -6,16 +6,16 @@ use Rattle.tlv_head.specs.declared.header.Class.{Class}
 use Rattle.tlv_head.specs.declared.header.Size.{Size}
 use Rattle.tlv_head.specs.declared.header.Size.TheVariants.{Definite, Indefinite}
 use Rattle.tlv_head.specs.declared.fault.FaultCode.{FaultCode}
-use Rattle.tlv_head.specs.declared.part.Identifier.{Identifier}
-use Rattle.tlv_head.specs.declared.part.Part.{Part}
-use Rattle.tlv_head.specs.declared.part.Part.TheVariants.{Start, Number, Length, Digits, Done}
-use Rattle.tlv_head.specs.declared.part.Next.{Next}
-use Rattle.tlv_head.specs.declared.part.Next.TheVariants.{Unfinished, Finished, Refused}
-use Rattle.tlv_head.specs.Header.{IsIdentifier, IsLength, flagged, leading_octet}
+use Rattle.tlv_head.specs.declared.next_octet.Identifier.{Identifier}
+use Rattle.tlv_head.specs.declared.next_octet.Part.{Part}
+use Rattle.tlv_head.specs.declared.next_octet.Part.TheVariants.{Start, Number, Length, Digits, Done}
+use Rattle.tlv_head.specs.declared.next_octet.Next.{Next}
+use Rattle.tlv_head.specs.declared.next_octet.Next.TheVariants.{Unfinished, Finished, Refused}
+use Rattle.tlv_head.specs.Header.{IsIdentifier, IsLength, leading_octet, with_bit_8}
 use Rattle.tlv_head.specs.Private.Header.{AllowsSize}
-use Rattle.tlv_head.specs.Part.{Carries, CarriesIdentifier, CarriesNumber}
-use Rattle.tlv_head.specs.Private.Part.{BeginsWithIdentifier, BeginsWithNoIdentifier, BeginsWithNoLength, Follows}
-use Rattle.tlv_head.specs.Read.{BeginsWithNoShort}
+use Rattle.tlv_head.specs.HeaderSoFar.{Carries, CarriesIdentifier, CarriesNumber}
+use Rattle.tlv_head.specs.Private.NextOctet.{BeginsWithIdentifier, BeginsWithNoIdentifier, BeginsWithNoLength, MakesNext}
+use Rattle.tlv_head.specs.ReadHeader.{BeginsWithNoShort}
 use Rattle.tlv_head.specs.Refusal.{IsRefusedOctet, indefinite_primitive, length_too_large, reserved_length, tag_too_long}
 use Rattle.tlv_head.proofs.Scan.{Named, scan, scan-identifier, start}
 use Rattle.tlv_head.proofs.Steps.{ends_number}
@@ -28,15 +28,15 @@ forms-apart c d false true n h e = omega (arith, e)
 forms-apart c d false false n h e = omega (arith, e)
 
 -- digits with bit 8 set end at the first octet without it
-flagged-end : (ds es : List ℕ) (l m : ℕ) (x y : List ℕ) → l < 128 → m < 128 → (flagged ds ++ l ∷ []) ++ x ≡ (flagged es ++ m ∷ []) ++ y
-    → flagged ds ++ l ∷ [] ≡ flagged es ++ m ∷ []
+flagged-end : (ds es : List ℕ) (l m : ℕ) (x y : List ℕ) → l < 128 → m < 128 → (with_bit_8 ds ++ l ∷ []) ++ x ≡ (with_bit_8 es ++ m ∷ []) ++ y
+    → with_bit_8 ds ++ l ∷ [] ≡ with_bit_8 es ++ m ∷ []
 flagged-end [] [] l m x y h k e = let same : l ≡ m = cc in ap (λ (u : ℕ). u ∷ []) same
 flagged-end [] (b ∷ es) l m x y h k e = let same : l ≡ 128 + b = cc in absurd (omega arith)
 flagged-end (a ∷ ds) [] l m x y h k e = let same : 128 + a ≡ m = cc in absurd (omega arith)
 flagged-end (a ∷ ds) (b ∷ es) l m x y h k e =
     let same : 128 + a ≡ 128 + b = cc in
-    let rest : (flagged ds ++ l ∷ []) ++ x ≡ (flagged es ++ m ∷ []) ++ y = cc in
-    ap (λ (u : ℕ). u ∷ (flagged ds ++ l ∷ [])) same ∙ ap (λ (t : List ℕ). (128 + b) ∷ t) (flagged-end ds es l m x y h k rest)
+    let rest : (with_bit_8 ds ++ l ∷ []) ++ x ≡ (with_bit_8 es ++ m ∷ []) ++ y = cc in
+    ap (λ (u : ℕ). u ∷ (with_bit_8 ds ++ l ∷ [])) same ∙ ap (λ (t : List ℕ). (128 + b) ∷ t) (flagged-end ds es l m x y h k rest)
 
 -- octets begin with one identifier at most
 one-identifier : (c d : Class) (k j : Bool) (n m : ℕ) (i o x y : List ℕ) → IsIdentifier c k n i → IsIdentifier d j m o → i ++ x ≡ o ++ y → i ≡ o
@@ -45,20 +45,20 @@ one-identifier c d k j n m i o x y (inl p) (inl q) e =
     let same : leading_octet c k n ≡ leading_octet d j m = cc in
     p.octet ∙ (ap (λ (u : ℕ). u ∷ []) same ∙ sym q.octet)
 one-identifier c d k j n m i o x y (inl p) (inr q) e =
-    let whole : leading_octet c k n ∷ x ≡ leading_octet d j 31 ∷ ((flagged q.digits ++ q.last ∷ []) ++ y) =
+    let whole : leading_octet c k n ∷ x ≡ leading_octet d j 31 ∷ ((with_bit_8 q.digits ++ q.last ∷ []) ++ y) =
     ap (λ (z : List ℕ). z ++ x) (sym p.octet) ∙ (e ∙ ap (λ (z : List ℕ). z ++ y) q.octet) in
     absurd (forms-apart c d k j n p.small (cc))
 one-identifier c d k j n m i o x y (inr p) (inl q) e =
-    let whole : leading_octet d j m ∷ y ≡ leading_octet c k 31 ∷ ((flagged p.digits ++ p.last ∷ []) ++ x) =
+    let whole : leading_octet d j m ∷ y ≡ leading_octet c k 31 ∷ ((with_bit_8 p.digits ++ p.last ∷ []) ++ x) =
     ap (λ (z : List ℕ). z ++ y) (sym q.octet) ∙ (sym e ∙ ap (λ (z : List ℕ). z ++ x) p.octet) in
     absurd (forms-apart d c j k m q.small (cc))
 one-identifier c d k j n m i o x y (inr p) (inr q) e =
-    let whole : leading_octet c k 31 ∷ ((flagged p.digits ++ p.last ∷ []) ++ x) ≡ leading_octet d j 31 ∷ ((flagged q.digits ++ q.last ∷ []) ++ y) =
+    let whole : leading_octet c k 31 ∷ ((with_bit_8 p.digits ++ p.last ∷ []) ++ x) ≡ leading_octet d j 31 ∷ ((with_bit_8 q.digits ++ q.last ∷ []) ++ y) =
     ap (λ (z : List ℕ). z ++ x) (sym p.octet) ∙ (e ∙ ap (λ (z : List ℕ). z ++ y) q.octet) in
     let same : leading_octet c k 31 ≡ leading_octet d j 31 = cc in
-    let rest : (flagged p.digits ++ p.last ∷ []) ++ x ≡ (flagged q.digits ++ q.last ∷ []) ++ y = cc in
-    let digits : flagged p.digits ++ p.last ∷ [] ≡ flagged q.digits ++ q.last ∷ [] = flagged-end p.digits q.digits p.last q.last x y p.last_digit q.last_digit rest in
-    p.octet ∙ (ap (λ (u : ℕ). u ∷ (flagged p.digits ++ p.last ∷ [])) same ∙ (ap (λ (t : List ℕ). leading_octet d j 31 ∷ t) digits ∙ sym q.octet))
+    let rest : (with_bit_8 p.digits ++ p.last ∷ []) ++ x ≡ (with_bit_8 q.digits ++ q.last ∷ []) ++ y = cc in
+    let digits : with_bit_8 p.digits ++ p.last ∷ [] ≡ with_bit_8 q.digits ++ q.last ∷ [] = flagged-end p.digits q.digits p.last q.last x y p.last_digit q.last_digit rest in
+    p.octet ∙ (ap (λ (u : ℕ). u ∷ (with_bit_8 p.digits ++ p.last ∷ [])) same ∙ (ap (λ (t : List ℕ). leading_octet d j 31 ∷ t) digits ∙ sym q.octet))
 
 -- and it says one form
 one-form : (c d : Class) (k j : Bool) (n m : ℕ) (i o : List ℕ) → IsIdentifier c k n i → IsIdentifier d j m o → i ≡ o → k ≡ j
@@ -118,7 +118,7 @@ unrefused code id o x h few (indefinite_primitive c n i mark) = unended id o c f
 unrefused code id o x h few (length_too_large c k n i digits left p each octet most many nonzero) = unended id o c k n i _ h p octet
 
 -- so an octet is taken, and makes no header
-pub always-unfinished : (r : Next) (id : Identifier) (o : List ℕ) (x : ℕ) → CarriesNumber id o → length o ≤ 8 → Follows o x r
+pub always-unfinished : (r : Next) (id : Identifier) (o : List ℕ) (x : ℕ) → CarriesNumber id o → length o ≤ 8 → MakesNext o x r
     → ((p : Part) → r ≡ Unfinished p → ⊥) → ⊥
 always-unfinished (Unfinished p) id o x h few f not = not p refl
 always-unfinished (Finished d size) id o x h few f not =
@@ -126,11 +126,11 @@ always-unfinished (Finished d size) id o x h few f not =
 always-unfinished (Refused code) id o x h few f not = unrefused code id o x h few f
 
 -- what is answered is carried
-followed : (r : Next) (p : Part) (o : List ℕ) (x : ℕ) → Follows o x r → r ≡ Unfinished p → Carries p (o ++ x ∷ [])
-followed r p o x f e = subst (Follows o x) e f
+followed : (r : Next) (p : Part) (o : List ℕ) (x : ℕ) → MakesNext o x r → r ≡ Unfinished p → Carries p (o ++ x ∷ [])
+followed r p o x f e = subst (MakesNext o x) e f
 
 -- the high form, which goes on
-pub still-high : (r : Next) (p : Part) (d : Identifier) (o : List ℕ) (x : ℕ) → Follows o x r → r ≡ Unfinished p → p ≡ Number d → CarriesNumber d (o ++ x ∷ [])
+pub still-high : (r : Next) (p : Part) (d : Identifier) (o : List ℕ) (x : ℕ) → MakesNext o x r → r ≡ Unfinished p → p ≡ Number d → CarriesNumber d (o ++ x ∷ [])
 still-high r p d o x f e g = followed r (Number d) o x f (e ∙ ap (λ (q : Part). Unfinished q) g)
 
 -- the high form so far, whatever it says
@@ -147,11 +147,11 @@ carried-on (Digits d n left) id o x h f not =
     absurd (unended-length id o x d.class d.constructed d.number f.identifier _ h f.front.identified (omega arith) f.front.octet)
 carried-on Done id o x h f not = absurd (snoc≢nil o x f)
 
-pub goes-on : (r : Next) (p : Part) (id : Identifier) (o : List ℕ) (x : ℕ) → CarriesNumber id o → Follows o x r → r ≡ Unfinished p
+pub goes-on : (r : Next) (p : Part) (id : Identifier) (o : List ℕ) (x : ℕ) → CarriesNumber id o → MakesNext o x r → r ≡ Unfinished p
     → ((d : Identifier) → p ≡ Length d → ⊥) → IsUnended (o ++ x ∷ [])
 goes-on r p id o x h f e not = let on = carried-on p id o x h (followed r p o x f e) not in (on.0, on.2)
 
-pub no-other : (r : Next) (p : Part) (id : Identifier) (o : List ℕ) (x : ℕ) → CarriesNumber id o → Follows o x r → r ≡ Unfinished p
+pub no-other : (r : Next) (p : Part) (id : Identifier) (o : List ℕ) (x : ℕ) → CarriesNumber id o → MakesNext o x r → r ≡ Unfinished p
     → ((d : Identifier) → p ≡ Length d → ⊥) → ((d : Identifier) → p ≡ Number d → ⊥) → ⊥
 no-other r p id o x h f e not nor = let on = carried-on p id o x h (followed r p o x f e) not in nor on.0 on.1
 

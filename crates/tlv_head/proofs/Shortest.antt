@@ -7,7 +7,7 @@ use Rattle.std.specs.Prelude.{slice_index}
 use Rattle.tlv_head.specs.declared.header.Class.{Class}
 use Rattle.tlv_head.specs.declared.header.Size.{Size}
 use Rattle.tlv_head.specs.declared.header.Size.TheVariants.{Definite, Indefinite}
-use Rattle.tlv_head.specs.Header.{Heading, IsHeading, IsHighForm, IsIdentifier, IsLength, announced, flagged, leading_octet, value_of}
+use Rattle.tlv_head.specs.Header.{HeaderValue, IsHeader, IsHighForm, IsIdentifier, IsLength, announced, leading_octet, value_of, with_bit_8}
 use Rattle.tlv_head.specs.Shortest.{HaveOneTag, IsShortestIdentifier, IsShortestLength, ShortestHeadersAreOne, ShortestHeadersAreShortest}
 use Rattle.tlv_head.proofs.OneValue.{fewest-digits, same-digits}
 
@@ -20,14 +20,14 @@ all_digits f = f.digits ++ f.last ∷ []
 count-high : (class : Class) (constructed : Bool) (n : ℕ) (octets : List ℕ) (f : IsHighForm class constructed n octets)
     → length octets ≡ 1 + length (all_digits f)
 count-high class constructed n octets f =
-    omega (arith, ap length f.octet, length-append (flagged f.digits) (f.last ∷ []), length-append f.digits (f.last ∷ []), length-map f.digits (λ d. 128 + d))
+    omega (arith, ap length f.octet, length-append (with_bit_8 f.digits) (f.last ∷ []), length-append f.digits (f.last ∷ []), length-map f.digits (λ d. 128 + d))
 
 each-high : (class : Class) (constructed : Bool) (n : ℕ) (octets : List ℕ) (f : IsHighForm class constructed n octets) → All (λ d. d < 128) (all_digits f)
 each-high class constructed n octets f = All-push (λ d. d < 128) f.digits f.last f.each f.last_digit
 
 -- the first of them, without bit 8
 pub high-first : (lead : ℕ) (ds : List ℕ) (last : ℕ) → All (λ d. d < 128) ds → last < 128
-    → slice_index (lead ∷ (flagged ds ++ last ∷ [])) 1 % 128 ≡ slice_index (ds ++ last ∷ []) 0
+    → slice_index (lead ∷ (with_bit_8 ds ++ last ∷ [])) 1 % 128 ≡ slice_index (ds ++ last ∷ []) 0
 high-first lead [] last each below = omega arith
 high-first lead (d ∷ ds) last each below = let small : d < 128 = All-head (λ d. d < 128) d ds each in omega arith
 
@@ -58,7 +58,7 @@ high-same class constructed n xs ys f g e =
     same-digits 128 (all_digits f) (all_digits g) (lit< tt) (each-high class constructed n xs f) (each-high class constructed n ys g) count
     (sym f.value ∙ g.value) in
     let parts : (f.digits ≡ g.digits) × (f.last ≡ g.last) = same_from_push f.digits g.digits f.last g.last digits in
-    f.octet ∙ ap₂ (λ (ds : List ℕ) (last : ℕ). leading_octet class constructed 31 ∷ (flagged ds ++ last ∷ [])) parts.0 parts.1 ∙ sym g.octet
+    f.octet ∙ ap₂ (λ (ds : List ℕ) (last : ℕ). leading_octet class constructed 31 ∷ (with_bit_8 ds ++ last ∷ [])) parts.0 parts.1 ∙ sym g.octet
 
 -- as many identifier octets
 pub identifier-same : (class : Class) (constructed : Bool) (n : ℕ) (xs ys : List ℕ) → IsIdentifier class constructed n xs → IsIdentifier class constructed n ys
@@ -97,18 +97,18 @@ length-same (Definite n) xs ys (inr f) (inr g) e =
 -- ---- both
 
 -- the other's octets, as they say the first's fields
-moved-identifier : (h g : Heading) → IsHeading g → HaveOneTag h g → IsIdentifier h.class h.constructed h.number g.identifier
+moved-identifier : (h g : HeaderValue) → IsHeader g → HaveOneTag h g → IsIdentifier h.class h.constructed h.number g.identifier
 moved-identifier h g valid tag = rw (tag.class, tag.constructed, tag.number) valid.identifier
 
-moved-lengths : (h g : Heading) → IsHeading g → h.size ≡ g.size → IsLength h.size g.lengths
+moved-lengths : (h g : HeaderValue) → IsHeader g → h.size ≡ g.size → IsLength h.size g.lengths
 moved-lengths h g valid size = rw size valid.lengths
 
 -- no other is shorter
-pub shortest-identifier : (h g : Heading) → IsHeading h → IsHeading g → HaveOneTag h g → IsShortestIdentifier h.number h.identifier
+pub shortest-identifier : (h g : HeaderValue) → IsHeader h → IsHeader g → HaveOneTag h g → IsShortestIdentifier h.number h.identifier
     → length h.identifier ≤ length g.identifier
 shortest-identifier h g u v tag s = identifier-le h.class h.constructed h.number h.identifier g.identifier u.identifier (moved-identifier h g v tag) s
 
-pub shortest-length : (h g : Heading) → IsHeading h → IsHeading g → h.size ≡ g.size → IsShortestLength (announced h.size) h.lengths
+pub shortest-length : (h g : HeaderValue) → IsHeader h → IsHeader g → h.size ≡ g.size → IsShortestLength (announced h.size) h.lengths
     → length h.lengths ≤ length g.lengths
 shortest-length h g u v size s = length-le h.size h.lengths g.lengths u.lengths (moved-lengths h g v size) s
 
@@ -116,7 +116,7 @@ pub shortest_are_shortest : ShortestHeadersAreShortest
 shortest_are_shortest h g u v tag size s = (shortest-identifier h g u v tag s.identifier, shortest-length h g u v size s.lengths)
 
 -- the other way round
-turned : (h g : Heading) → HaveOneTag h g → HaveOneTag g h
+turned : (h g : HeaderValue) → HaveOneTag h g → HaveOneTag g h
 turned h g tag = record { class = sym tag.class; constructed = sym tag.constructed; number = sym tag.number }
 
 pub shortest_are_one : ShortestHeadersAreOne
@@ -146,7 +146,7 @@ single-octet n m least some large small = elim (cases_lt 1 n) [
   | inr le ↦ omega arith
 ]
 
-pub identifier-from : (h : Heading) → IsHeading h → (1 < length h.identifier → (31 ≤ h.number) × (slice_index h.identifier 1 % 128 ≢ 0))
+pub identifier-from : (h : HeaderValue) → IsHeader h → (1 < length h.identifier → (31 ≤ h.number) × (slice_index h.identifier 1 % 128 ≢ 0))
     → IsShortestIdentifier h.number h.identifier
 identifier-from h valid high = record {
   single =
@@ -154,7 +154,7 @@ identifier-from h valid high = record {
   leading = λ more. (high more).1;
 }
 
-pub lengths-from : (h : Heading) → IsHeading h → (1 < length h.lengths → (128 ≤ announced h.size) × (slice_index h.lengths 1 ≢ 0))
+pub lengths-from : (h : HeaderValue) → IsHeader h → (1 < length h.lengths → (128 ≤ announced h.size) × (slice_index h.lengths 1 ≢ 0))
     → IsShortestLength (announced h.size) h.lengths
 lengths-from h valid long = record {
   single = single-octet (length h.lengths) (announced h.size) 128 (lengths-some h.size h.lengths valid.lengths) (λ more. (long more).0);

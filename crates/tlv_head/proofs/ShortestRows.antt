@@ -3,11 +3,11 @@ use Rattle.std.proofs.Common.{ℕ, false, List, [], ◌∷◌, refl, arith}
 use Rattle.tlv_head.specs.declared.header.Class.{Class}
 use Rattle.tlv_head.specs.declared.header.Class.TheVariants.{Universal, Context}
 use Rattle.tlv_head.specs.declared.header.Size.TheVariants.{Definite}
-use Rattle.tlv_head.specs.Header.{Heading}
+use Rattle.tlv_head.specs.Header.{HeaderValue}
 use Rattle.tlv_head.specs.Shortest.{IsShortest}
 
 -- a primitive
-abbrev header : Class → ℕ → ℕ → List ℕ → List ℕ → Heading
+abbrev header : Class → ℕ → ℕ → List ℕ → List ℕ → HeaderValue
 header class number length identifier lengths = record {
   offset = 0;
   named = false;

@@ -6,7 +6,7 @@ use Rattle.std.specs.Prelude.{slice_index}
 use Rattle.tlv_head.specs.declared.header.Class.{Class}
 use Rattle.tlv_head.specs.declared.header.Size.{Size}
 use Rattle.tlv_head.specs.declared.header.Size.TheVariants.{Definite, Indefinite}
-use Rattle.tlv_head.specs.Header.{Heading, IsHeading, IsIdentifier, IsLength, announced, flagged, leading_octet, value_of}
+use Rattle.tlv_head.specs.Header.{HeaderValue, IsHeader, IsIdentifier, IsLength, announced, leading_octet, value_of, with_bit_8}
 use Rattle.tlv_head.specs.Shortest.{HasShorter, HeadersHaveAShortest, IsShortestIdentifier, IsShortestLength}
 use Rattle.tlv_head.proofs.Shortest.{high-first, identifier-le, identifier-same, length-le, length-same, shortest-identifier, shortest-length}
 
@@ -61,7 +61,7 @@ high-form class constructed n digits last large each below few e =
     let value : n ≡ value_of 128 (r.kept ++ last ∷ []) = e ∙ sym r.value in
     let nonzero : slice_index (r.kept ++ last ∷ []) 0 ≢ 0 = first-kept r.kept last n large value r.first in
     record {
-      octets = leading_octet class constructed 31 ∷ (flagged r.kept ++ last ∷ []);
+      octets = leading_octet class constructed 31 ∷ (with_bit_8 r.kept ++ last ∷ []);
       valid = inr (record { digits = r.kept; last = last; each = r.each; last_digit = below; few = omega (arith, r.fewer); value = value; octet = refl });
       shortest = record {
         single = λ small. absurd (omega (arith, small, large));
@@ -123,10 +123,10 @@ short-length (Definite n) octets (inr f) = elim (cases_lt n 128) [
 
 -- ---- headers
 
-with_identifier : (h : Heading) → IsHeading h → (i : ShortIdentifier h.class h.constructed h.number) → IsHeading (record h { identifier = i.octets })
+with_identifier : (h : HeaderValue) → IsHeader h → (i : ShortIdentifier h.class h.constructed h.number) → IsHeader (record h { identifier = i.octets })
 with_identifier h valid i = record { identifier = i.valid; lengths = valid.lengths; allowed = valid.allowed }
 
-with_lengths : (h : Heading) → IsHeading h → (l : ShortLength h.size) → IsHeading (record h { lengths = l.octets })
+with_lengths : (h : HeaderValue) → IsHeader h → (l : ShortLength h.size) → IsHeader (record h { lengths = l.octets })
 with_lengths h valid l = record { identifier = valid.identifier; lengths = l.valid; allowed = valid.allowed }
 
 pub shortest-there : HeadersHaveAShortest
@@ -141,7 +141,7 @@ shortest-there h valid nonzero =
     )
 
 -- a header that is not as short as it can be has a shorter one
-pub shorter-identifier : (h : Heading) → IsHeading h → leading_octet h.class h.constructed h.number ≢ 0
+pub shorter-identifier : (h : HeaderValue) → IsHeader h → leading_octet h.class h.constructed h.number ≢ 0
     → (IsShortestIdentifier h.number h.identifier → ⊥) → HasShorter (λ k. k.identifier) h
 shorter-identifier h valid nonzero none =
     let i : ShortIdentifier h.class h.constructed h.number = short-identifier h.class h.constructed h.number h.identifier valid.identifier nonzero in
@@ -161,7 +161,7 @@ shorter-identifier h valid nonzero none =
           absurd (none (subst (IsShortestIdentifier h.number) same i.shortest))
     ]
 
-pub shorter-length : (h : Heading) → IsHeading h → (IsShortestLength (announced h.size) h.lengths → ⊥) → HasShorter (λ k. k.lengths) h
+pub shorter-length : (h : HeaderValue) → IsHeader h → (IsShortestLength (announced h.size) h.lengths → ⊥) → HasShorter (λ k. k.lengths) h
 shorter-length h valid none =
     let l : ShortLength h.size = short-length h.size h.lengths valid.lengths in
     elim (cases_lt (length l.octets) (length h.lengths)) [
@@ -179,8 +179,8 @@ shorter-length h valid none =
     ]
 
 -- and one that is has none
-pub no-shorter_identifier : (h : Heading) → IsHeading h → IsShortestIdentifier h.number h.identifier → HasShorter (λ k. k.identifier) h → ⊥
+pub no-shorter_identifier : (h : HeaderValue) → IsHeader h → IsShortestIdentifier h.number h.identifier → HasShorter (λ k. k.identifier) h → ⊥
 no-shorter_identifier h valid s r = omega (arith, r.fewer, shortest-identifier h r.other valid r.valid r.tag s)
 
-pub no-shorter_length : (h : Heading) → IsHeading h → IsShortestLength (announced h.size) h.lengths → HasShorter (λ k. k.lengths) h → ⊥
+pub no-shorter_length : (h : HeaderValue) → IsHeader h → IsShortestLength (announced h.size) h.lengths → HasShorter (λ k. k.lengths) h → ⊥
 no-shorter_length h valid s r = omega (arith, r.fewer, shortest-length h r.other valid r.valid r.size s)

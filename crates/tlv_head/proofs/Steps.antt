@@ -7,10 +7,10 @@ use Rattle.std.proofs.Math.Nat.{pow-suc, pow-le-pow_right, one-le-pow}
 use Rattle.tlv_head.specs.Header.{IsIdentifier, value_of}
 use Rattle.tlv_head.specs.Refusal.{IsRefusedOctet, tag_too_long, reserved_length, indefinite_primitive, length_too_large}
 use Rattle.tlv_head.specs.declared.fault.FaultCode.TheVariants.{TagTooLong, ReservedLength, IndefinitePrimitive, LengthTooLarge}
-use Rattle.tlv_head.specs.Part.{CarriesNumber, CarriesIdentifier, CarriesLength}
-use Rattle.tlv_head.specs.Private.Part.{MakesHeader}
+use Rattle.tlv_head.specs.HeaderSoFar.{CarriesNumber, CarriesIdentifier, CarriesLength}
+use Rattle.tlv_head.specs.Private.NextOctet.{MakesHeader}
 use Rattle.tlv_head.specs.declared.header.Size.TheVariants.{Definite}
-use Rattle.tlv_head.specs.declared.part.Identifier.{Identifier}
+use Rattle.tlv_head.specs.declared.next_octet.Identifier.{Identifier}
 use Rattle.tlv_head.proofs.Digits.{value_of-snoc, value_of-lt}
 use Rattle.tlv_head.proofs.Meaning.{allows_definite}
 

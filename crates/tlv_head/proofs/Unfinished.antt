@@ -1,17 +1,17 @@
 -- What a reader carries can be made a header.
 use Rattle.std.proofs.Common.{◌≡◌, ◌≢◌, ℕ, suc, zero, Bool, true, false, ◌||◌, ◌+◌, ◌*◌, ◌-◌, ◌<◌, ◌≤◌, inl, inr, List, [], ◌∷◌, ◌++◌, length, Option, refl, ap, sym, ◌∙◌, arith, length-append, append_assoc, lit<, take, drop}
 use Rattle.std.proofs.lemmas.Bool.{cases_eq}
-use Rattle.tlv_head.specs.Header.{Heading, IsHeading, is_wrapper}
-use Rattle.tlv_head.specs.Progress.{Progress, Fits}
+use Rattle.tlv_head.specs.Header.{HeaderValue, IsHeader, is_wrapper}
+use Rattle.tlv_head.specs.HeadReaderState.{ContentsFit, HeadReaderState}
 use Rattle.tlv_head.specs.Refusal.{IsFront}
 use Rattle.tlv_head.specs.Push.{Completes, IsTooDeep, EndsPast}
-use Rattle.tlv_head.specs.Part.{Carries, CarriesNumber, CarriesIdentifier, CarriesLength, is_done}
-use Rattle.tlv_head.specs.Private.Part.{MakesHeader}
+use Rattle.tlv_head.specs.HeaderSoFar.{Carries, CarriesNumber, CarriesIdentifier, CarriesLength, is_done}
+use Rattle.tlv_head.specs.Private.NextOctet.{MakesHeader}
 use Rattle.tlv_head.specs.declared.header.Size.{Size}
 use Rattle.tlv_head.specs.declared.header.Size.TheVariants.{Definite}
-use Rattle.tlv_head.specs.declared.part.Identifier.{Identifier}
-use Rattle.tlv_head.specs.declared.part.Part.{Part}
-use Rattle.tlv_head.specs.declared.part.Part.TheVariants.{Start, Number, Length, Digits, Done}
+use Rattle.tlv_head.specs.declared.next_octet.Identifier.{Identifier}
+use Rattle.tlv_head.specs.declared.next_octet.Part.{Part}
+use Rattle.tlv_head.specs.declared.next_octet.Part.TheVariants.{Start, Number, Length, Digits, Done}
 use Rattle.std.proofs.lemmas.List.{length-map}
 use Rattle.std.proofs.Math.Seq.{drop-append_seam, take-append_seam}
 use Rattle.tlv_head.proofs.Steps.{ends_number, ends_length, more_length}
@@ -31,7 +31,7 @@ length-carried (Digits id n left) os h =
 length-carried Done os h = rw h (omega arith)
 
 -- the header that is made
-abbrev pub made : (at : ℕ) (named : Bool) (id : Identifier) (size : Size) (os : List ℕ) → MakesHeader id size os → Heading
+abbrev pub made : (at : ℕ) (named : Bool) (id : Identifier) (size : Size) (os : List ℕ) → MakesHeader id size os → HeaderValue
 made at named id size os m = record {
   offset = at;
   named = named;
@@ -43,10 +43,10 @@ made at named id size os m = record {
   lengths = m.lengths;
 }
 
-made-valid : (at : ℕ) (named : Bool) (id : Identifier) (size : Size) (os : List ℕ) (m : MakesHeader id size os) → IsHeading (made at named id size os m)
+made-valid : (at : ℕ) (named : Bool) (id : Identifier) (size : Size) (os : List ℕ) (m : MakesHeader id size os) → IsHeader (made at named id size os m)
 made-valid at named id size os m = record { identifier = m.identified.identified; lengths = m.sized; allowed = m.allowed }
 
-made_completes : (r : Progress) (id : Identifier) (size : Size) (os : List ℕ) (x : ℕ) (m : MakesHeader id size (os ++ x ∷ [])) → os ≡ r.octets
+made_completes : (r : HeadReaderState) (id : Identifier) (size : Size) (os : List ℕ) (x : ℕ) (m : MakesHeader id size (os ++ x ∷ [])) → os ≡ r.octets
     → Completes r x (made r.offset r.named id size (os ++ x ∷ []) m)
 made_completes r id size os x m e = record {
   valid = made-valid r.offset r.named id size _ m;
@@ -55,7 +55,7 @@ made_completes r id size os x m e = record {
   octets = sym m.octet ∙ ap (λ s. s ++ x ∷ []) e;
 }
 
-pub made_too_deep : (r : Progress) (id : Identifier) (size : Size) (os : List ℕ) (x depth : ℕ) → MakesHeader id size (os ++ x ∷ []) → os ≡ r.octets
+pub made_too_deep : (r : HeadReaderState) (id : Identifier) (size : Size) (os : List ℕ) (x depth : ℕ) → MakesHeader id size (os ++ x ∷ []) → os ≡ r.octets
     → (id.constructed || is_wrapper r.named id.class id.constructed id.number size) ≡ true → 128 ≤ depth → IsTooDeep r x depth
 made_too_deep r id size os x depth m e c low = record {
   head = made r.offset r.named id size (os ++ x ∷ []) m;
@@ -64,8 +64,8 @@ made_too_deep r id size os x depth m e c low = record {
   deep = low;
 }
 
-pub made_ends_past : (r : Progress) (id : Identifier) (size : Size) (os : List ℕ) (x depth : ℕ) (room : Option ℕ) → MakesHeader id size (os ++ x ∷ []) → os ≡ r.octets
-    → ((id.constructed || is_wrapper r.named id.class id.constructed id.number size) ≡ true → depth < 128) → (Fits size room → ⊥) → EndsPast r x room depth
+pub made_ends_past : (r : HeadReaderState) (id : Identifier) (size : Size) (os : List ℕ) (x depth : ℕ) (room : Option ℕ) → MakesHeader id size (os ++ x ∷ []) → os ≡ r.octets
+    → ((id.constructed || is_wrapper r.named id.class id.constructed id.number size) ≡ true → depth < 128) → (ContentsFit size room → ⊥) → EndsPast r x room depth
 made_ends_past r id size os x depth room m e c past = record {
   head = made r.offset r.named id size (os ++ x ∷ []) m;
   completes = made_completes r id size os x m e;
@@ -74,7 +74,7 @@ made_ends_past r id size os x depth room m e c past = record {
 }
 
 -- the octets that make a header, cut behind its identifier
-pub made_whole : (r : Progress) (id : Identifier) (size : Size) (os : List ℕ) (x : ℕ) (m : MakesHeader id size (os ++ x ∷ [])) → os ≡ r.octets
+pub made_whole : (r : HeadReaderState) (id : Identifier) (size : Size) (os : List ℕ) (x : ℕ) (m : MakesHeader id size (os ++ x ∷ [])) → os ≡ r.octets
     → Completes r x (record {
       offset = r.offset;
       named = r.named;

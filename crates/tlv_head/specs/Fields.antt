@@ -1,11 +1,11 @@
 -- The fields of a header, and its octets.
 use Rattle.std.specs.Prelude.{ℕ, ◌<◌, ◌≤◌, List, length, take, drop}
 use Rattle.tlv_head.specs.declared.header.HeaderFields.{HeaderFields}
-use Rattle.tlv_head.specs.Header.{Heading}
+use Rattle.tlv_head.specs.Header.{HeaderValue}
 
 -- the header with these fields and octets
-abbrev pub heading_with : HeaderFields → List ℕ → Heading
-heading_with f octets = record {
+abbrev pub header_with : HeaderFields → List ℕ → HeaderValue
+header_with f octets = record {
   offset = f.offset;
   named = f.named;
   class = f.class;
@@ -17,7 +17,7 @@ heading_with f octets = record {
 }
 
 -- what a header says, without its octets
-abbrev pub fields_of : Heading → HeaderFields
+abbrev pub fields_of : HeaderValue → HeaderFields
 fields_of h = record {
   offset = h.offset;
   named = h.named;

@@ -23,8 +23,8 @@ value_of base [] = 0
 value_of base (d ∷ ds) = d * base ^ length ds + value_of base ds
 
 -- 8.1.2.4.2 a): bit 8 set
-abbrev pub flagged : List ℕ → List ℕ
-flagged digits = map (λ d. 128 + d) digits
+abbrev pub with_bit_8 : List ℕ → List ℕ
+with_bit_8 digits = map (λ d. 128 + d) digits
 
 -- 8.1.2.2: one octet, for a number up to 30. It is not 00, with which 8.1.5 ends contents
 pub record IsLowForm (class : Class) (constructed : Bool) (number : ℕ) (octets : List ℕ) : Type 0 where
@@ -61,9 +61,9 @@ abbrev pub IsLength : Size → List ℕ → Type 0
 IsLength (Definite n) octets = ((n < 128) × (octets ≡ n ∷ [])) ⊎ IsLongForm n octets
 IsLength Indefinite octets = octets ≡ 128 ∷ []
 
--- what contracts see of a `Header`: what its octets say, where its first octet stands, and whether the
+-- what contracts see of a `Header`: what its octets say, where its first octet is, and whether the
 -- offset is one of those that the user named
-pub record Heading : Type 0 where
+pub record HeaderValue : Type 0 where
   pub offset : ℕ
   pub named : Bool
   pub class : Class
@@ -74,16 +74,16 @@ pub record Heading : Type 0 where
   pub lengths : List ℕ
 
 -- 8.1.1.1: identifier octets, then length octets
-abbrev pub octets_of : Heading → List ℕ
+abbrev pub octets_of : HeaderValue → List ℕ
 octets_of h = h.identifier ++ h.lengths
 
--- 8.1.3.3: the length, where it is definite
+-- 8.1.3.3: the length, if it is definite
 abbrev pub definite_length : Size → Option ℕ
 definite_length (Definite n) = Some n
 definite_length Indefinite = None
 
 -- 8.1.2, 8.1.3: the fields are those that the octets say
-pub record IsHeading (h : Heading) : Type 0 where
+pub record IsHeader (h : HeaderValue) : Type 0 where
   pub identifier : IsIdentifier h.class h.constructed h.number h.identifier
   pub lengths : IsLength h.size h.lengths
   -- 8.1.3.2 a): a primitive has a definite length
@@ -104,13 +104,13 @@ is_wrapper named class constructed number size =
     named && not constructed && is_universal class && (eqb number 4 || (eqb number 3 && not (eqb (announced size) 0)))
 
 -- the same, of the element with this header
-abbrev pub wraps : Heading → Bool
+abbrev pub wraps : HeaderValue → Bool
 wraps h = is_wrapper h.named h.class h.constructed h.number h.size
 
 -- 8.1.2.5: the contents are encodings: the element is constructed, or wraps them
-abbrev pub holds : Heading → Bool
+abbrev pub holds : HeaderValue → Bool
 holds h = h.constructed || wraps h
 
 -- 8.1.3.6: identifier octets, and the indefinite form
-abbrev pub indefinite_octets : Heading → List ℕ
+abbrev pub indefinite_octets : HeaderValue → List ℕ
 indefinite_octets h = h.identifier ++ 128 ∷ []

@@ -1,10 +1,10 @@
 -- What the fields of a `Header` say.
 use Rattle.std.specs.Prelude.{◌≡◌, ◌<◌, ◌≤◌, take, drop, length, slice_index}
-use Rattle.tlv_head.specs.Header.{Heading, octets_of}
+use Rattle.tlv_head.specs.Header.{HeaderValue, octets_of}
 use Rattle.tlv_head.specs.declared.header.Header.TheInside.{Inside}
 
-abbrev pub heading_of : Inside → Heading
-heading_of h = record {
+abbrev pub header_value_of : Inside → HeaderValue
+header_value_of h = record {
   offset = h.offset;
   named = h.named;
   class = h.class;
@@ -16,7 +16,7 @@ heading_of h = record {
 }
 
 -- the header of which contracts see this, as it is stored
-abbrev pub stored_header : Heading → Inside
+abbrev pub stored_header : HeaderValue → Inside
 stored_header h = record {
   offset = h.offset;
   class = h.class;
@@ -35,8 +35,8 @@ abbrev pub IsWithinRoom : Inside → Type 0
 IsWithinRoom h = (h.id_len < length h.raw.items) × (h.id_len ≤ 10) × (length h.raw.items ≤ 137)
 
 -- and the octets that are kept beside them are the second ones of the identifier and of the length
-abbrev pub IsHeader : Inside → Type 0
-IsHeader h =
+abbrev pub HeaderFieldsAgree : Inside → Type 0
+HeaderFieldsAgree h =
     IsWithinRoom h
     × (h.number_octet ≡ slice_index (take h.id_len h.raw.items) 1)
     × (h.length_octet ≡ slice_index (drop h.id_len h.raw.items) 1)

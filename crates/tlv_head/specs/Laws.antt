@@ -1,52 +1,53 @@
 -- Laws of headers.
 use Rattle.std.specs.Prelude.{◌≡◌, ◌≢◌, ◌⊎◌, ℕ, ◌<◌, Bool, List, [], ◌∷◌, ◌++◌, Option}
 use Rattle.tlv_head.specs.declared.fault.FaultCode.{FaultCode}
-use Rattle.tlv_head.specs.Header.{Heading, IsHeading, octets_of}
+use Rattle.tlv_head.specs.Header.{HeaderValue, IsHeader, octets_of}
 use Rattle.tlv_head.specs.declared.reader.Head.{Head}
-use Rattle.tlv_head.specs.Progress.{Progress}
-use Rattle.tlv_head.specs.Push.{Answers}
+use Rattle.tlv_head.specs.HeadReaderState.{HeadReaderState}
+use Rattle.tlv_head.specs.Push.{Pushes}
 use Rattle.tlv_head.specs.declared.header.HeaderFields.{HeaderFields}
-use Rattle.tlv_head.specs.Read.{BeginsWithFields}
-use Rattle.tlv_head.specs.Refusal.{BeginsNone, BeginsWith, BeginsWithNone, IsFront, IsRefusedOctet}
+use Rattle.tlv_head.specs.ReadHeader.{BeginsWithFields}
+use Rattle.tlv_head.specs.Refusal.{BeginsNoHeader, BeginsWith, BeginsWithNoHeader, IsFront, IsRefusedOctet}
 
 -- two headers with which an input begins at one offset are the same, and so is what follows them
 abbrev pub OctetsBeginOneHeader : Type 0
-OctetsBeginOneHeader = (input : List ℕ) (offset : ℕ) (named : Bool) (h g : Heading)
+OctetsBeginOneHeader = (input : List ℕ) (offset : ℕ) (named : Bool) (h g : HeaderValue)
     → (p : BeginsWith input offset named h) → (q : BeginsWith input offset named g) → (h ≡ g) × (p.rest ≡ q.rest)
 
 -- no header's octets can be made another header by adding one or more
 abbrev pub HeadersAreNoFronts : Type 0
-HeadersAreNoFronts = (h : Heading) → IsHeading h → IsFront (octets_of h) → ⊥
+HeadersAreNoFronts = (h : HeaderValue) → IsHeader h → IsFront (octets_of h) → ⊥
 
--- where an octet is refused with F06 to F09, no header begins with the octets up to it, that one included
+-- if an octet is refused with F06 to F09, no header begins with the octets up to it, that one included
 abbrev pub RefusalsAreFinal : Type 0
 RefusalsAreFinal = (code : FaultCode) (octets : List ℕ) (x : ℕ) → IsRefusedOctet octets x code
-    → BeginsNone (octets ++ x ∷ [])
+    → BeginsNoHeader (octets ++ x ∷ [])
 
--- and no input that goes on behind them begins with a header
+-- and no input that goes on after them begins with a header
 abbrev pub RefusedInputsBeginWithNone : Type 0
 RefusedInputsBeginWithNone = (code : FaultCode) (octets : List ℕ) (x : ℕ) (more : List ℕ) → IsRefusedOctet octets x code
-    → BeginsWithNone ((octets ++ x ∷ []) ++ more)
+    → BeginsWithNoHeader ((octets ++ x ∷ []) ++ more)
 
 -- the octets are a header
-abbrev pub IsWhole : List ℕ → Type 0
-IsWhole octets = (h : Heading) × IsHeading h × (octets_of h ≡ octets)
+abbrev pub AreHeaderOctets : List ℕ → Type 0
+AreHeaderOctets octets = (h : HeaderValue) × IsHeader h × (octets_of h ≡ octets)
 
 -- the octet is refused with one of F06 to F09
 abbrev pub IsRefusable : List ℕ → ℕ → Type 0
 IsRefusable octets x = (code : FaultCode) × IsRefusedOctet octets x code
 
--- behind the front of a header an octet makes a longer front or a header, or is refused; so does a first octet other than 00
+-- after the front of a header an octet makes a longer front or a header, or is refused; so does a first octet other
+-- than 00
 abbrev pub OctetsGoOnOrAreRefused : Type 0
 OctetsGoOnOrAreRefused = (octets : List ℕ) (x : ℕ) → x < 256 → (octets ≡ []) ⊎ IsFront octets → (octets ≡ [] → x ≢ 0)
-    → IsFront (octets ++ x ∷ []) ⊎ (IsWhole (octets ++ x ∷ []) ⊎ IsRefusable octets x)
+    → IsFront (octets ++ x ∷ []) ⊎ (AreHeaderOctets (octets ++ x ∷ []) ⊎ IsRefusable octets x)
 
--- what a reader answers is determined by what it stands for, the octet, the room and the depth
+-- what a reader returns is determined by what it stands for, the octet, the room and the depth
 abbrev pub PushesHaveOneAnswer : Type 0
-PushesHaveOneAnswer = (old new other : Progress) (x : ℕ) (room : Option ℕ) (depth : ℕ) (a b : Head)
-    → Answers old x room depth new a → Answers old x room depth other b → a ≡ b
+PushesHaveOneAnswer = (old new other : HeadReaderState) (x : ℕ) (room : Option ℕ) (depth : ℕ) (a b : Head)
+    → Pushes old x room depth new a → Pushes old x room depth other b → a ≡ b
 
--- what `read_header` finds is determined by the octets and where they stand
+-- what `read_header` finds is determined by the octets and where they are
 abbrev pub HeadersHaveOneReading : Type 0
 HeadersHaveOneReading = (octets : List ℕ) (offset : ℕ) (named : Bool) (f g : HeaderFields) (m n : ℕ)
     → BeginsWithFields octets offset named f m → BeginsWithFields octets offset named g n → (f ≡ g) × (m ≡ n)

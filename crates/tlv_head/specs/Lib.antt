@@ -4,10 +4,10 @@ pub mod Fields
 pub mod Fault
 pub mod Tag
 pub mod Refusal
-pub mod Progress
+pub mod HeadReaderState
 pub mod Push
-pub mod Part
-pub mod Read
+pub mod HeaderSoFar
+pub mod ReadHeader
 pub mod Laws
 pub mod Shortest
 pub mod Private

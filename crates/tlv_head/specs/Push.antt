@@ -1,50 +1,50 @@
--- Reading a header, one octet at a time: what `HeadReader` answers.
+-- Reading a header, one octet at a time: what `HeadReader` returns.
 use Rattle.std.specs.Prelude.{◌≡◌, ◌≢◌, ◌⊎◌, ℕ, ◌+◌, ◌<◌, ◌≤◌, true, [], ◌∷◌, ◌++◌, length, Option, Some}
 use Rattle.tlv_head.specs.declared.fault.FaultCode.{FaultCode}
 use Rattle.tlv_head.specs.declared.fault.FaultCode.TheVariants.{TooDeep, Overrun}
 use Rattle.tlv_head.specs.declared.reader.Head.{Head}
 use Rattle.tlv_head.specs.declared.reader.Head.TheVariants.{More, Whole, Refused}
-use Rattle.tlv_head.specs.Header.{Heading, IsHeading, holds, octets_of}
-use Rattle.tlv_head.specs.Progress.{Progress, Fits, with_octet}
+use Rattle.tlv_head.specs.Header.{HeaderValue, IsHeader, holds, octets_of}
+use Rattle.tlv_head.specs.HeadReaderState.{ContentsFit, HeadReaderState, with_octet}
 use Rattle.tlv_head.specs.Refusal.{IsFront, IsRefusedOctet}
 
 -- the octet completes this header
-pub record Completes (r : Progress) (x : ℕ) (h : Heading) : Type 0 where
-  pub valid : IsHeading h
+pub record Completes (r : HeadReaderState) (x : ℕ) (h : HeaderValue) : Type 0 where
+  pub valid : IsHeader h
   pub offset : h.offset ≡ r.offset
   pub named : h.named ≡ r.named
   pub octets : octets_of h ≡ r.octets ++ x ∷ []
 
 -- a header may stand there: an element that holds others is not inside 128, and the contents announced
 -- end within the bound
-pub record FitsThere (h : Heading) (room : Option ℕ) (depth : ℕ) : Type 0 where
+pub record FitsThere (h : HeaderValue) (room : Option ℕ) (depth : ℕ) : Type 0 where
   pub shallow : holds h ≡ true → depth < 128
-  pub within : Fits h.size room
+  pub within : ContentsFit h.size room
 
 -- F10: the octet completes the header of an element that holds others, inside 128 of them
-pub record IsTooDeep (r : Progress) (x depth : ℕ) : Type 0 where
-  pub head : Heading
+pub record IsTooDeep (r : HeadReaderState) (x depth : ℕ) : Type 0 where
+  pub head : HeaderValue
   pub completes : Completes r x head
   pub holding : holds head ≡ true
   pub deep : 128 ≤ depth
 
 -- F11: the octet completes a header whose contents end past the bound
-pub record EndsPast (r : Progress) (x : ℕ) (room : Option ℕ) (depth : ℕ) : Type 0 where
-  pub head : Heading
+pub record EndsPast (r : HeadReaderState) (x : ℕ) (room : Option ℕ) (depth : ℕ) : Type 0 where
+  pub head : HeaderValue
   pub completes : Completes r x head
   pub shallow : holds head ≡ true → depth < 128
-  pub past : Fits head.size room → ⊥
+  pub past : ContentsFit head.size room → ⊥
 
 -- why an octet is refused, in order: the bound is reached (F11); what the octets say (F06 to F09); the
--- depth (F10); the bound behind the contents (F11)
-abbrev pub IsRefused : FaultCode → Progress → ℕ → Option ℕ → ℕ → Type 0
-IsRefused Overrun r x room depth = (room ≡ Some 0) ⊎ ((room ≢ Some 0) × EndsPast r x room depth)
-IsRefused TooDeep r x room depth = (room ≢ Some 0) × IsTooDeep r x depth
-IsRefused code r x room depth = (room ≢ Some 0) × IsRefusedOctet r.octets x code
+-- depth (F10); the bound after the contents (F11)
+abbrev pub IsRefusedPush : FaultCode → HeadReaderState → ℕ → Option ℕ → ℕ → Type 0
+IsRefusedPush Overrun r x room depth = (room ≡ Some 0) ⊎ ((room ≢ Some 0) × EndsPast r x room depth)
+IsRefusedPush TooDeep r x room depth = (room ≢ Some 0) × IsTooDeep r x depth
+IsRefusedPush code r x room depth = (room ≢ Some 0) × IsRefusedOctet r.octets x code
 
--- what `push` answers, and the reader that it leaves
-abbrev pub Answers : Progress → ℕ → Option ℕ → ℕ → Progress → Head → Type 0
-Answers old x room depth new More = (room ≢ Some 0) × IsFront (old.octets ++ x ∷ []) × (new ≡ with_octet old x)
-Answers old x room depth new (Whole h) = Completes old x h × FitsThere h room depth × (new.done ≡ true)
-Answers old x room depth new (Refused f) =
-    IsRefused f.code old x room depth × (f.offset ≡ old.offset + length old.octets) × (new ≡ old)
+-- what `push` returns, and the reader that it leaves
+abbrev pub Pushes : HeadReaderState → ℕ → Option ℕ → ℕ → HeadReaderState → Head → Type 0
+Pushes old x room depth new More = (room ≢ Some 0) × IsFront (old.octets ++ x ∷ []) × (new ≡ with_octet old x)
+Pushes old x room depth new (Whole h) = Completes old x h × FitsThere h room depth × (new.done ≡ true)
+Pushes old x room depth new (Refused f) =
+    IsRefusedPush f.code old x room depth × (f.offset ≡ old.offset + length old.octets) × (new ≡ old)

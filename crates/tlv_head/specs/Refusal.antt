@@ -1,35 +1,35 @@
--- The front of a header, and the octets that no header has behind it: X.690 8.1.2 and 8.1.3.
+-- The front of a header, and the octets that no header has after it: X.690 8.1.2 and 8.1.3.
 use Rattle.std.specs.Prelude.{◌≡◌, ◌≢◌, ℕ, ◌+◌, ◌<◌, ◌≤◌, Bool, false, List, [], ◌∷◌, ◌++◌, length, map, All}
 use Rattle.tlv_head.specs.declared.header.Class.{Class}
 use Rattle.tlv_head.specs.declared.fault.FaultCode.{FaultCode}
 use Rattle.tlv_head.specs.declared.fault.FaultCode.TheVariants.{TagTooLong, ReservedLength, IndefinitePrimitive, LengthTooLarge}
-use Rattle.tlv_head.specs.Header.{Heading, IsHeading, IsIdentifier, leading_octet, octets_of}
+use Rattle.tlv_head.specs.Header.{HeaderValue, IsHeader, IsIdentifier, leading_octet, octets_of}
 
 -- 8.1.2, 8.1.3: octets to which one or more others can be added to make a header
 pub record IsFront (octets : List ℕ) : Type 0 where
-  pub head : Heading
+  pub head : HeaderValue
   pub more : List ℕ
-  pub valid : IsHeading head
+  pub valid : IsHeader head
   pub proper : more ≢ []
   pub front : octets ++ more ≡ octets_of head
 
 -- octets with which no header begins
-abbrev pub BeginsNone : List ℕ → Type 0
-BeginsNone octets = (h : Heading) (more : List ℕ) → IsHeading h → octets ++ more ≡ octets_of h → ⊥
+abbrev pub BeginsNoHeader : List ℕ → Type 0
+BeginsNoHeader octets = (h : HeaderValue) (more : List ℕ) → IsHeader h → octets ++ more ≡ octets_of h → ⊥
 
--- the octets begin with this header, which stands at that offset
-pub record BeginsWith (input : List ℕ) (at : ℕ) (is_named : Bool) (h : Heading) : Type 0 where
-  pub valid : IsHeading h
+-- the octets begin with this header, which is at that offset
+pub record BeginsWith (input : List ℕ) (at : ℕ) (is_named : Bool) (h : HeaderValue) : Type 0 where
+  pub valid : IsHeader h
   pub offset : h.offset ≡ at
   pub named : h.named ≡ is_named
   pub rest : List ℕ
   pub octets : input ≡ octets_of h ++ rest
 
 -- no header is a front of the octets
-abbrev pub BeginsWithNone : List ℕ → Type 0
-BeginsWithNone octets = (h : Heading) (rest : List ℕ) → IsHeading h → octets ≡ octets_of h ++ rest → ⊥
+abbrev pub BeginsWithNoHeader : List ℕ → Type 0
+BeginsWithNoHeader octets = (h : HeaderValue) (rest : List ℕ) → IsHeader h → octets ≡ octets_of h ++ rest → ⊥
 
--- why the octet x is refused behind the front of a header, wherever that stands: a line for each cause
+-- why the octet x is refused after the front of a header, wherever that is: a line for each cause
 pub data IsRefusedOctet (octets : List ℕ) (x : ℕ) : FaultCode → Type 0 where
   -- F06, 8.1.2.4.2: a ninth subsequent identifier octet with bit 8 set
   tag_too_long : (class : Class) (constructed : Bool) (digits : List ℕ) → All (λ d. d < 128) digits → length digits ≡ 8

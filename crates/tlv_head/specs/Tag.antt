@@ -17,11 +17,11 @@ universal_names =
     ∷ (33, codes "DATE-TIME") ∷ (34, codes "DURATION") ∷ (35, codes "OID-IRI") ∷ (36, codes "RELATIVE-OID-IRI") ∷ []
 
 -- a tag without a name, by its class and number
-abbrev pub bracketed : List ℕ → ℕ → List ℕ
-bracketed class number = 91 ∷ class ++ decimal number ++ 93 ∷ []
+abbrev pub bracketed_tag : List ℕ → ℕ → List ℕ
+bracketed_tag class number = 91 ∷ class ++ decimal number ++ 93 ∷ []
 
 abbrev pub tag_text_of : Class → ℕ → List ℕ
-tag_text_of Universal number = unwrap_or (lookup (eqb number) universal_names) (bracketed (codes "UNIVERSAL ") number)
-tag_text_of Application number = bracketed (codes "APPLICATION ") number
-tag_text_of Context number = bracketed [] number
-tag_text_of Private number = bracketed (codes "PRIVATE ") number
+tag_text_of Universal number = unwrap_or (lookup (eqb number) universal_names) (bracketed_tag (codes "UNIVERSAL ") number)
+tag_text_of Application number = bracketed_tag (codes "APPLICATION ") number
+tag_text_of Context number = bracketed_tag [] number
+tag_text_of Private number = bracketed_tag (codes "PRIVATE ") number

@@ -39,11 +39,11 @@ pub struct Fault {
 
 impl FaultCode {
     ghost use Rattle.std.specs.Prelude.{◌≡◌, length};
-    ghost use Rattle.tlv_head.specs.Fault.{code_of};
+    ghost use Rattle.tlv_head.specs.Fault.{fault_code};
 
     /// The three characters that name the code, as `F01`.
     pub fn name(self) -> &'static [u8]
-        ensures name { result.now ≡ code_of self }
+        ensures name { result.now ≡ fault_code self }
         ensures short { length result.now ≡ 3 }
     {
         match self {
@@ -65,11 +65,11 @@ impl FaultCode {
 
 impl Fault {
     ghost use Rattle.std.specs.Prelude.{◌≡◌, ◌≤◌, length};
-    ghost use Rattle.tlv_head.specs.Fault.{text_of};
+    ghost use Rattle.tlv_head.specs.Fault.{fault_text};
 
     /// What the code says, in ASCII: at most 64 octets.
     pub fn text(&self) -> &'static [u8]
-        ensures text { result.now ≡ text_of self.now.code }
+        ensures text { result.now ≡ fault_text self.now.code }
         ensures short { length result.now ≤ 64 }
     {
         match self.code {

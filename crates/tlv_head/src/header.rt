@@ -23,7 +23,7 @@ pub enum Size {
 /// Identifier and length octets of an element, with what they say.
 #[derive(Clone, PartialEq, Eq, Debug, Drop)]
 pub struct Header {
-    /// Where the first identifier octet stands, in octets from the start of the input.
+    /// Where the first identifier octet is, in octets from the start of the input.
     pub offset: u64,
     pub class: Class,
     /// Whether the element is constructed; otherwise it is primitive (8.1.2.5).
@@ -40,10 +40,10 @@ pub struct Header {
     pub(crate) length_octet: u8,
 }
 
-/// What the octets of a header say, without the octets: small, where a [`Header`] has room for 137.
+/// What the octets of a header say, without the octets: small, while a [`Header`] has room for 137.
 #[derive(Clone, Copy, PartialEq, Eq, Debug)]
 pub struct HeaderFields {
-    /// Where the first identifier octet stands, in octets from the start of the input.
+    /// Where the first identifier octet is, in octets from the start of the input.
     pub offset: u64,
     /// Whether the user named this offset as that of a string which holds encodings.
     pub named: bool,
@@ -56,15 +56,15 @@ pub struct HeaderFields {
 }
 
 impl Model for Header {
-    ghost use Rattle.tlv_head.specs.Header.{Heading};
+    ghost use Rattle.tlv_head.specs.Header.{HeaderValue};
 
-    ghost Value = { Heading };
+    ghost Value = { HeaderValue };
 
-    ghost use Rattle.tlv_head.specs.HeaderFields.{heading_of, stored_header, IsHeader};
+    ghost use Rattle.tlv_head.specs.HeaderFields.{HeaderFieldsAgree, header_value_of, stored_header};
 
-    ghost view = { heading_of };
+    ghost view = { header_value_of };
 
-    ghost invariant = { IsHeader };
+    ghost invariant = { HeaderFieldsAgree };
 
     ghost inverse = { stored_header };
 
@@ -105,13 +105,13 @@ impl HeaderFields {
 impl Header {
     ghost use Rattle.std.specs.Prelude.{◌≤◌, length, slice_index};
     ghost use Rattle.tlv_head.specs.Header.{octets_of, wraps};
-    ghost use Rattle.tlv_head.specs.Fields.{fields_of, heading_with, Suits};
+    ghost use Rattle.tlv_head.specs.Fields.{Suits, fields_of, header_with};
 
     /// The header with these fields and octets.
     #[inline]
     pub fn new(fields: &HeaderFields, octets: &[u8]) -> Header
         requires { Suits fields.now octets.now }
-        ensures { result ≡ heading_with fields.now octets.now }
+        ensures { result ≡ header_with fields.now octets.now }
     {
         let mut raw = ArrayVec::new();
         let _ = raw.try_extend_from_slice(octets);
@@ -131,10 +131,10 @@ impl Header {
     }
 
     /// The header with these fields and octets, which are moved. ([`Header::new`] reads what it keeps of them from the slice
-    /// that it is given, so that nothing need be written where nobody asks for the octets.)
+    /// that it is given, so that nothing need be written if nobody asks for the octets.)
     pub(crate) fn with_raw(fields: &HeaderFields, raw: ArrayVec<u8, 137>) -> Header
         requires { Suits fields.now raw.items }
-        ensures { result ≡ heading_with fields.now raw.items }
+        ensures { result ≡ header_with fields.now raw.items }
     {
         let (number_octet, length_octet) = seconds(fields.id_len, raw.as_slice());
         Header {
@@ -166,7 +166,7 @@ impl Header {
         }
     }
 
-    /// The octets as they stand: the identifier octets, of which there are [`Header::id_len`], and
+    /// The octets as they are: the identifier octets, of which there are [`Header::id_len`], and
     /// then the length octets. There are at most 137.
     pub fn raw(&self) -> &[u8]
         ensures value { result.now ≡ octets_of self.now }
@@ -183,7 +183,7 @@ impl Header {
         &self.raw.as_slice()[..usize::from(self.id_len)]
     }
 
-    /// The first subsequent identifier octet (8.1.2.4.2), or 0 where there is none.
+    /// The first subsequent identifier octet (8.1.2.4.2), or 0 if there is none.
     #[inline]
     pub fn number_octet(&self) -> u8
         ensures { result ≡ slice_index self.now.identifier 1 }
@@ -191,7 +191,7 @@ impl Header {
         self.number_octet
     }
 
-    /// The first subsequent length octet (8.1.3.5), or 0 where there is none.
+    /// The first subsequent length octet (8.1.3.5), or 0 if there is none.
     #[inline]
     pub fn length_octet(&self) -> u8
         ensures { result ≡ slice_index self.now.lengths 1 }
@@ -211,7 +211,7 @@ impl Header {
 ghost use Rattle.std.specs.Prelude.{◌≡◌, ◌≤◌, drop, eqb, length, slice_index, take, true};
 ghost use Rattle.tlv_head.specs.Header.{announced, indefinite_octets, is_wrapper as is_wrapper_of};
 
-/// The second octets of an identifier of so many octets and of the length behind it, or 0 where there is none.
+/// The second octets of an identifier of so many octets and of the length after it, or 0 if there is none.
 pub(crate) fn seconds(id_len: u8, octets: &[u8]) -> (u8, u8)
     requires { id_len ≤ length octets.now }
     ensures number { result.0 ≡ slice_index (take id_len octets.now) 1 }
@@ -221,7 +221,7 @@ pub(crate) fn seconds(id_len: u8, octets: &[u8]) -> (u8, u8)
     (second_of(identifier), second_of(lengths))
 }
 
-/// The second octet, or 0 where there is none.
+/// The second octet, or 0 if there is none.
 fn second_of(octets: &[u8]) -> u8
     ensures { result ≡ slice_index octets.now 1 }
 {

@@ -2,7 +2,7 @@
 ghost use Rattle.tlv_head.specs.Laws.{HeadersAreNoFronts, HeadersHaveOneReading, OctetsBeginOneHeader, OctetsGoOnOrAreRefused, PushesHaveOneAnswer, RefusalsAreFinal, RefusedInputsBeginWithNone};
 ghost use Rattle.tlv_head.specs.Shortest.{HeadersHaveAShortest, ShortestHeadersAreOne, ShortestHeadersAreShortest};
 
-/// Octets begin with one header at most: two headers that stand at one offset and are both fronts of
+/// Octets begin with one header at most: two headers that are at one offset and are both fronts of
 /// one input are the same, and the same octets follow them.
 pub fn one_header()
     ensures { OctetsBeginOneHeader }
@@ -13,23 +13,23 @@ pub fn headers_are_no_fronts()
     ensures { HeadersAreNoFronts }
 {}
 
-/// A refusal with F06 to F09 is final: no octets behind the refused one make a header of it.
+/// A refusal with F06 to F09 is final: no octets after the refused one make a header of it.
 pub fn refusals_are_final()
     ensures { RefusalsAreFinal }
 {}
 
-/// An input that goes on behind such an octet begins with no header.
+/// An input that goes on after such an octet begins with no header.
 pub fn refused_inputs_begin_with_none()
     ensures { RefusedInputsBeginWithNone }
 {}
 
-/// No octet is refused without a cause: behind the front of a header it makes a longer front or a
+/// No octet is refused without a cause: after the front of a header it makes a longer front or a
 /// header, unless it is one that F06 to F09 refuse.
 pub fn octets_go_on_or_are_refused()
     ensures { OctetsGoOnOrAreRefused }
 {}
 
-/// What [`HeadReader::push`](crate::HeadReader::push) promises leaves it one answer.
+/// What [`HeadReader::push`](crate::HeadReader::push) promises leaves it one result.
 pub fn one_answer()
     ensures { PushesHaveOneAnswer }
 {}
@@ -39,7 +39,7 @@ pub fn one_reading()
     ensures { HeadersHaveOneReading }
 {}
 
-/// Two headers of one class, form, number and size have the same octets where both are as short as X.690 8.1.2 and 10.1
+/// Two headers of one class, form, number and size have the same octets if both are as short as X.690 8.1.2 and 10.1
 /// say: a number below 31, and a length below 128, in one octet, and else no digits 0 in front.
 pub fn one_shortest_header()
     ensures { ShortestHeadersAreOne }

@@ -2,15 +2,15 @@
 //! octet at a time, the texts of tags, and the faults of an input.
 #![tactic(auto)]
 
-mod beginning;
+mod header_at_once;
 mod fault;
 mod header;
 pub mod laws;
-mod part;
+mod next_octet;
 mod reader;
 mod tag;
 
-pub use beginning::{read_header, read_short};
+pub use header_at_once::{read_header, read_short};
 pub use fault::{Fault, FaultCode};
 pub use header::{Class, Header, HeaderFields, Size, spell_indefinite};
 pub use reader::{Head, HeadReader};

@@ -1,10 +1,10 @@
 //! Reads a header, one octet at a time.
 ghost use Rattle.std.specs.Prelude.{◌≡◌, ◌≢◌, ◌↔◌, [], ◌||◌, false, IsTrue, Some};
 ghost use Rattle.tlv_head.specs.Header.{is_wrapper as is_wrapper_of};
-ghost use Rattle.tlv_head.specs.Progress.{Fits};
+ghost use Rattle.tlv_head.specs.HeadReaderState.{ContentsFit};
 
 use crate::header::is_wrapper;
-use crate::part::{Identifier, Next, Part, fields_of, read_octet};
+use crate::next_octet::{Identifier, Next, Part, fields_of, read_octet};
 use crate::{Fault, FaultCode, Header, Size};
 use arrayvec::ArrayVec;
 use std::marker::Model;
@@ -30,24 +30,24 @@ pub struct HeadReader {
 }
 
 impl Model for HeadReader {
-    ghost use Rattle.tlv_head.specs.Progress.{Progress};
+    ghost use Rattle.tlv_head.specs.HeadReaderState.{HeadReaderState};
 
-    ghost Value = { Progress };
+    ghost Value = { HeadReaderState };
 
-    ghost use Rattle.tlv_head.specs.Part.{progress_of, Carries};
+    ghost use Rattle.tlv_head.specs.HeaderSoFar.{Carries, head_reader_state_of};
 
-    ghost view = { progress_of };
+    ghost view = { head_reader_state_of };
 
     ghost invariant = { λ r. Carries r.part r.raw.items };
 }
 
 impl HeadReader {
     ghost use Rattle.std.specs.Prelude.{true};
-    ghost use Rattle.tlv_head.specs.Header.{Heading};
-    ghost use Rattle.tlv_head.specs.Push.{Answers, Completes, FitsThere};
-    ghost use Rattle.tlv_head.specs.Progress.{CanPush};
+    ghost use Rattle.tlv_head.specs.Header.{HeaderValue};
+    ghost use Rattle.tlv_head.specs.Push.{Completes, FitsThere, Pushes};
+    ghost use Rattle.tlv_head.specs.HeadReaderState.{CanPush};
 
-    /// A reader of the header whose first octet stands at `offset`. `named` says that the user named
+    /// A reader of the header whose first octet is at `offset`. `named` says that the user named
     /// this offset as that of a string which holds encodings ([`Header::wraps`]).
     pub fn new(offset: u64, named: bool) -> HeadReader
         ensures { result ≡ record { offset = offset; named = named; octets = []; done = false } }
@@ -73,15 +73,15 @@ impl HeadReader {
     ///
     /// [`Head::Whole`] comes exactly with the octet that completes a header whose element may stand
     /// there. [`Head::Refused`] leaves the reader as it was; the refusals are decided in this order:
-    /// Overrun where the bound is reached; TagTooLong, ReservedLength, IndefinitePrimitive and
+    /// Overrun if the bound is reached; TagTooLong, ReservedLength, IndefinitePrimitive and
     /// LengthTooLarge by what the octets say; TooDeep at the header of an element that holds others
     /// inside 128; Overrun at the header of contents that end past the bound.
     pub fn push(&mut self, octet: u8, room: Option<u64>, depth: u8) -> Head
         requires { CanPush self.old octet room depth }
-        ensures answer { Answers self.old octet room depth self.new result }
+        ensures pushes { Pushes self.old octet room depth self.new result }
 
-        // No other answer is given to the octet that completes a header that may stand there.
-        ensures whole { (h : Heading) → Completes self.old octet h → room ≢ Some 0 → FitsThere h room depth
+        // Nothing else is returned for the octet that completes a header that may stand there.
+        ensures whole { (h : HeaderValue) → Completes self.old octet h → room ≢ Some 0 → FitsThere h room depth
             → result ≡ Head.Whole h }
     {
         let offset = self.offset + self.raw.len() as u64;
@@ -134,7 +134,7 @@ fn holds(identifier: Identifier, size: Size, named: bool) -> bool
 /// Whether contents of this size end within the room that the header's last octet has.
 fn fits(size: Size, room: Option<u64>) -> bool
     requires { room ≢ Some 0 }
-    ensures { IsTrue result ↔ Fits size room }
+    ensures { IsTrue result ↔ ContentsFit size room }
 {
     match (size, room) {
         (Size::Definite(length), Some(room)) => length < room,

@@ -8,7 +8,7 @@ use crate::Class;
 use arrayvec::ArrayVec;
 use itoa::Buffer;
 
-/// The name of a universal type (X.680, table 1), in ASCII, as `INTEGER`: at most 17 octets. `None` where the number is
+/// The name of a universal type (X.680, table 1), in ASCII, as `INTEGER`: at most 17 octets. `None` if the number is
 /// not that of a type.
 pub fn type_name(number: u64) -> Option<&'static [u8]>
     ensures name { option_copied result ≡ lookup (eqb number) universal_names }
@@ -18,8 +18,8 @@ pub fn type_name(number: u64) -> Option<&'static [u8]>
     Some(&name[..size])
 }
 
-/// The name of a universal type with spaces behind it, so that it can be copied at once, and how many octets it has.
-/// `None` where the number is not that of a type.
+/// The name of a universal type with spaces after it, so that it can be copied at once, and how many octets it has.
+/// `None` if the number is not that of a type.
 #[inline(always)]
 pub fn padded_name(number: u64) -> Option<(&'static [u8; 32], usize)>
     ensures name { option_map (λ padded. take padded.1 padded.0.now) result ≡ lookup (eqb number) universal_names }

@@ -1,3 +1,3 @@
 pub mod Puts
-pub mod HeldTexts
+pub mod BufferTexts
 pub mod Pieces

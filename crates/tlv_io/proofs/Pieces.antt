@@ -5,7 +5,7 @@ use Rattle.std.proofs.KnownBytes.{Consumes-nil, Consumes-trans}
 use Rattle.std.specs.Prelude.{All}
 use Rattle.std.specs.Io.KnownBytes.{Consumes}
 use Rattle.std.specs.List.{concat}
-use Rattle.tlv_io.specs.Device.{Last, Pieces, Supply, counted, failed, gave}
+use Rattle.tlv_io.specs.Device.{Last, Pieces, SourceState, failed, gave, next_count}
 
 -- a read that is not the last
 abbrev pub IsPiece : List ℕ → Type 0
@@ -18,11 +18,11 @@ GaveLast last octets = (last ≡ gave (length octets)) ⊎ ((last ≡ failed) ×
 -- a count after so many more
 abbrev pub counted_by : ℕ → ℕ → ℕ
 counted_by zero r = r
-counted_by (suc n) r = counted (counted_by n r)
+counted_by (suc n) r = next_count (counted_by n r)
 
-pub counted-all : (n r : ℕ) → counted (counted_by n r) ≡ min (r + (n + 1)) (2 ^ 64 - 1)
+pub counted-all : (n r : ℕ) → next_count (counted_by n r) ≡ min (r + (n + 1)) (2 ^ 64 - 1)
 counted-all zero r = refl
-counted-all (suc n) r = ap counted (counted-all n r) ∙ omega arith
+counted-all (suc n) r = ap next_count (counted-all n r) ∙ omega arith
 
 -- pieces, and one more
 pub together_more : (pieces : List (List ℕ)) (r : List ℕ) → concat (pieces ++ r ∷ []) ≡ concat pieces ++ r
@@ -34,16 +34,16 @@ count_more [] r = refl
 count_more (p ∷ pieces) r = ap suc (count_more pieces r)
 
 -- the reads so far, none of which was the last
-pub record Gathered (old new : Supply) : Type 0 where
+pub record Gathered (old new : SourceState) : Type 0 where
   pub pieces : List (List ℕ)
   pub each : All IsPiece pieces
   pub reads : new.reads ≡ counted_by (length pieces) old.reads
   pub consumed : Consumes old.left new.left (concat pieces)
 
-abbrev pub gathered_none : (old : Supply) → Gathered old old
+abbrev pub gathered_none : (old : SourceState) → Gathered old old
 gathered_none old = record { pieces = []; each = All-nil IsPiece; reads = refl; consumed = Consumes-nil old.left }
 
-module _ (old mid new : Supply) (x : Gathered old mid) (r : List ℕ) (consumed : Consumes mid.left new.left r) (read : new.reads ≡ counted mid.reads) where
+module _ (old mid new : SourceState) (x : Gathered old mid) (r : List ℕ) (consumed : Consumes mid.left new.left r) (read : new.reads ≡ next_count mid.reads) where
   pub all_consumed : Consumes old.left new.left (concat x.pieces ++ r)
   all_consumed = Consumes-trans old.left mid.left new.left (concat x.pieces) r x.consumed consumed
 
@@ -52,7 +52,7 @@ module _ (old mid new : Supply) (x : Gathered old mid) (r : List ℕ) (consumed 
   gathered_more p = record {
     pieces = x.pieces ++ r ∷ [];
     each = All-push IsPiece x.pieces r x.each p;
-    reads = read ∙ ap counted x.reads ∙ ap (λ (n : ℕ). counted_by n old.reads) (sym (count_more x.pieces r));
+    reads = read ∙ ap next_count x.reads ∙ ap (λ (n : ℕ). counted_by n old.reads) (sym (count_more x.pieces r));
     consumed = subst (Consumes old.left new.left) (sym (together_more x.pieces r)) all_consumed;
   }
 
@@ -64,6 +64,6 @@ module _ (old mid new : Supply) (x : Gathered old mid) (r : List ℕ) (consumed 
     each = x.each;
     short = s;
     gave_last = g;
-    reads = read ∙ ap counted x.reads ∙ counted-all (length x.pieces) old.reads;
+    reads = read ∙ ap next_count x.reads ∙ counted-all (length x.pieces) old.reads;
     consumed = all_consumed;
   }

@@ -11,8 +11,8 @@ use Rattle.std.proofs.lemmas.Result.{on_err_weaker, on_ok_weaker}
 use Rattle.std.specs.Borrow.{MutBor}
 use Rattle.tlv_io.specs.declared.out.Out.{Out}
 use Rattle.tlv_io.specs.declared.drain.WriteFault.{WriteFault}
-use Rattle.tlv_io.specs.Device.{Taken, failures_after}
-use Rattle.tlv_io.specs.Out.{Puts, Sends, held_in, lender_of}
+use Rattle.tlv_io.specs.Device.{DrainState, failures_after}
+use Rattle.tlv_io.specs.Out.{Puts, Sends, buffer_of, drain_of}
 
 -- ---- octets that a drain took
 
@@ -41,7 +41,7 @@ more_left (x ∷ xs) ys some none = cc (none)
 
 module _ {T E : Type 0} (result : Result T E) where
   -- the first i octets were sent, and then no more
-  pub sends_part : (old mid new : Taken) (octets : List ℕ) (i : ℕ) → Appends old.octets mid.octets (take i octets) → mid.failures ≡ old.failures
+  pub sends_part : (old mid new : DrainState) (octets : List ℕ) (i : ℕ) → Appends old.octets mid.octets (take i octets) → mid.failures ≡ old.failures
       → Keeps mid.octets new.octets → new.failures ≡ failures_after result mid.failures → OnOk result (drop i octets ≡ []) → OnErr result (i < length octets)
       → Sends old new octets result
   sends_part old mid new octets i took failures kept failed all some = record {
@@ -57,8 +57,8 @@ module _ {T E : Type 0} (result : Result T E) where
 -- ---- one put behind another
 
 -- what was put so far
-abbrev pub HasPut : {D : Type 0} → (D → Taken) → Out D → Out D → List ℕ → Type 0
-HasPut told a b xs = Puts {T = ⊤} {E = WriteFault} told a b xs (Ok tt)
+abbrev pub HasPut : {D : Type 0} → (D → DrainState) → Out D → Out D → List ℕ → Type 0
+HasPut state_of a b xs = Puts {T = ⊤} {E = WriteFault} state_of a b xs (Ok tt)
 
 -- zs begin with xs
 pub record IsFront (xs zs : List ℕ) : Type 0 where
@@ -80,10 +80,10 @@ front_behind xs ys zs f = record { rest = f.rest; is = append_assoc xs ys f.rest
 pub front_within : (xs ys zs : List ℕ) → IsFront xs ys → IsFront xs (ys ++ zs)
 front_within xs ys zs f = record { rest = f.rest ++ zs; is = sym (append_assoc xs f.rest zs) ∙ ap (λ (l : List ℕ). l ++ zs) f.is }
 
-module _ {D : Type 0} (told : D → Taken) where
+module _ {D : Type 0} (state_of : D → DrainState) where
   module _ {T U E : Type 0} where
     -- octets were put, and then others
-    pub puts_then_as : (a b c : Out D) (xs ys zs : List ℕ) (x : T) (r : Result U E) → Puts {T = T} {E = E} told a b xs (Ok x) → Puts told b c ys r → xs ++ ys ≡ zs → Puts told a c zs r
+    pub puts_then_as : (a b c : Out D) (xs ys zs : List ℕ) (x : T) (r : Result U E) → Puts {T = T} {E = E} state_of a b xs (Ok x) → Puts state_of b c ys r → xs ++ ys ≡ zs → Puts state_of a c zs r
     puts_then_as a b c xs ys zs x r p q e = record {
       same_reference = q.same_reference ∙ p.same_reference;
       sent = p.sent ++ q.sent;
@@ -93,48 +93,48 @@ module _ {D : Type 0} (told : D → Taken) where
           ∙ ap (λ (l : List ℕ). p.sent ++ l) (q.front ∙ ap (λ (l : List ℕ). l ++ ys) p.held)
           ∙ sym (append_assoc p.sent p.left ys)
           ∙ ap (λ (l : List ℕ). l ++ ys) p.front
-          ∙ append_assoc (held_in a) xs ys
-          ∙ ap (λ (l : List ℕ). held_in a ++ l) e;
-      took = Appends-trans (told (lender_of a).now).octets (told (lender_of b).now).octets (told (lender_of c).now).octets p.sent q.sent p.took q.took;
+          ∙ append_assoc (buffer_of a) xs ys
+          ∙ ap (λ (l : List ℕ). buffer_of a ++ l) e;
+      took = Appends-trans (state_of (drain_of a).now).octets (state_of (drain_of b).now).octets (state_of (drain_of c).now).octets p.sent q.sent p.took q.took;
       held = q.held;
       lost = q.lost;
       failures = q.failures ∙ ap (failures_after r) p.failures;
     }
 
-    pub puts_then : (a b c : Out D) (xs ys : List ℕ) (x : T) (r : Result U E) → Puts {T = T} {E = E} told a b xs (Ok x) → Puts told b c ys r → Puts told a c (xs ++ ys) r
+    pub puts_then : (a b c : Out D) (xs ys : List ℕ) (x : T) (r : Result U E) → Puts {T = T} {E = E} state_of a b xs (Ok x) → Puts state_of b c ys r → Puts state_of a c (xs ++ ys) r
     puts_then a b c xs ys x r p q = puts_then_as a b c xs ys (xs ++ ys) x r p q refl
 
     -- they could not be put, and others are not
-    pub puts_failed_in : (a b : Out D) (xs zs : List ℕ) (e : E) (r : Result U E) → Puts {T = T} {E = E} told a b xs (Err e) → IsErr r → IsFront xs zs → Puts told a b zs r
+    pub puts_failed_in : (a b : Out D) (xs zs : List ℕ) (e : E) (r : Result U E) → Puts {T = T} {E = E} state_of a b xs (Err e) → IsErr r → IsFront xs zs → Puts state_of a b zs r
     puts_failed_in a b xs zs e (Ok x) p h z = absurd (true≢false (sym h))
     puts_failed_in a b xs zs e (Err f) p h z = record {
       same_reference = p.same_reference;
       sent = p.sent;
       left = p.left ++ z.rest;
-      front = sym (append_assoc p.sent p.left z.rest) ∙ ap (λ (l : List ℕ). l ++ z.rest) p.front ∙ append_assoc (held_in a) xs z.rest ∙ ap (λ (l : List ℕ). held_in a ++ l) z.is;
+      front = sym (append_assoc p.sent p.left z.rest) ∙ ap (λ (l : List ℕ). l ++ z.rest) p.front ∙ append_assoc (buffer_of a) xs z.rest ∙ ap (λ (l : List ℕ). buffer_of a ++ l) z.is;
       took = p.took;
       held = tt;
       lost = more_left p.left z.rest p.lost;
       failures = p.failures;
     }
 
-    pub puts_failed : (a b : Out D) (xs ys : List ℕ) (e : E) (r : Result U E) → Puts {T = T} {E = E} told a b xs (Err e) → IsErr r → Puts told a b (xs ++ ys) r
+    pub puts_failed : (a b : Out D) (xs ys : List ℕ) (e : E) (r : Result U E) → Puts {T = T} {E = E} state_of a b xs (Err e) → IsErr r → Puts state_of a b (xs ++ ys) r
     puts_failed a b xs ys e r p h = puts_failed_in a b xs (xs ++ ys) e r p h (front_first xs ys)
 
-    pub puts_failed_last : (a b : Out D) (xs : List ℕ) (e : E) (r : Result U E) → Puts {T = T} {E = E} told a b xs (Err e) → IsErr r → Puts told a b xs r
+    pub puts_failed_last : (a b : Out D) (xs : List ℕ) (e : E) (r : Result U E) → Puts {T = T} {E = E} state_of a b xs (Err e) → IsErr r → Puts state_of a b xs r
     puts_failed_last a b xs e r p h = puts_failed_in a b xs xs e r p h (front_all xs)
 
     -- nothing was to be put yet
-    pub puts_no_room : (a b : Out D) (xs : List ℕ) (e : E) (r : Result U E) → Puts {T = T} {E = E} told a b [] (Err e) → IsErr r → Puts told a b xs r
+    pub puts_no_room : (a b : Out D) (xs : List ℕ) (e : E) (r : Result U E) → Puts {T = T} {E = E} state_of a b [] (Err e) → IsErr r → Puts state_of a b xs r
     puts_no_room a b xs e r p h = puts_failed_in a b [] xs e r p h (front_none xs)
 
     -- the same was put, and another answer is given
-    pub puts_as : (a b : Out D) (xs zs : List ℕ) (x : T) (y : U) → Puts {T = T} {E = E} told a b xs (Ok x) → xs ≡ zs → Puts {T = U} {E = E} told a b zs (Ok y)
+    pub puts_as : (a b : Out D) (xs zs : List ℕ) (x : T) (y : U) → Puts {T = T} {E = E} state_of a b xs (Ok x) → xs ≡ zs → Puts {T = U} {E = E} state_of a b zs (Ok y)
     puts_as a b xs zs x y p z = record {
       same_reference = p.same_reference;
       sent = p.sent;
       left = p.left;
-      front = p.front ∙ ap (λ (l : List ℕ). held_in a ++ l) z;
+      front = p.front ∙ ap (λ (l : List ℕ). buffer_of a ++ l) z;
       took = p.took;
       held = p.held;
       lost = tt;
@@ -143,38 +143,38 @@ module _ {D : Type 0} (told : D → Taken) where
 
   module _ {T E : Type 0} where
     -- the same octets
-    pub puts_text : (a b : Out D) (xs ys : List ℕ) (r : Result T E) → xs ≡ ys → Puts told a b xs r → Puts told a b ys r
-    puts_text a b xs ys r e p = subst (λ (l : List ℕ). Puts told a b l r) e p
+    pub puts_text : (a b : Out D) (xs ys : List ℕ) (r : Result T E) → xs ≡ ys → Puts state_of a b xs r → Puts state_of a b ys r
+    puts_text a b xs ys r e p = subst (λ (l : List ℕ). Puts state_of a b l r) e p
 
     -- nothing is put
-    pub puts_nothing : (a : Out D) (x : T) → Puts {T = T} {E = E} told a a [] (Ok x)
+    pub puts_nothing : (a : Out D) (x : T) → Puts {T = T} {E = E} state_of a a [] (Ok x)
     puts_nothing a x = record {
       same_reference = refl;
       sent = [];
-      left = held_in a;
-      front = sym (append-nil (held_in a));
-      took = Appends-nil (told (lender_of a).now).octets;
+      left = buffer_of a;
+      front = sym (append-nil (buffer_of a));
+      took = Appends-nil (state_of (drain_of a).now).octets;
       held = refl;
       lost = tt;
       failures = refl;
     }
 
     -- octets were added to those that are held
-    pub puts_held : (a b : Out D) (xs : List ℕ) (x : T) → lender_of b ≡ lender_of a → held_in b ≡ held_in a ++ xs → Puts {T = T} {E = E} told a b xs (Ok x)
+    pub puts_held : (a b : Out D) (xs : List ℕ) (x : T) → drain_of b ≡ drain_of a → buffer_of b ≡ buffer_of a ++ xs → Puts {T = T} {E = E} state_of a b xs (Ok x)
     puts_held a b xs x same more = record {
       same_reference = ap (λ (l : MutBor D). l.ghost_name) same;
       sent = [];
-      left = held_in b;
+      left = buffer_of b;
       front = more;
-      took = subst (λ (l : MutBor D). Appends (told (lender_of a).now).octets (told l.now).octets []) (sym same) (Appends-nil (told (lender_of a).now).octets);
+      took = subst (λ (l : MutBor D). Appends (state_of (drain_of a).now).octets (state_of l.now).octets []) (sym same) (Appends-nil (state_of (drain_of a).now).octets);
       held = refl;
       lost = tt;
-      failures = ap (λ (l : MutBor D). (told l.now).failures) same;
+      failures = ap (λ (l : MutBor D). (state_of l.now).failures) same;
     }
 
     -- nothing was held, and octets are handed to the drain
-    pub puts_sent : (a b : Out D) (xs : List ℕ) (r : Result T E) → held_in a ≡ [] → held_in b ≡ [] → (lender_of b).ghost_name ≡ (lender_of a).ghost_name
-        → Sends (told (lender_of a).now) (told (lender_of b).now) xs r → Puts told a b xs r
+    pub puts_sent : (a b : Out D) (xs : List ℕ) (r : Result T E) → buffer_of a ≡ [] → buffer_of b ≡ [] → (drain_of b).ghost_name ≡ (drain_of a).ghost_name
+        → Sends (state_of (drain_of a).now) (state_of (drain_of b).now) xs r → Puts state_of a b xs r
     puts_sent a b xs r e f same q = record {
       same_reference = same;
       sent = q.sent;
@@ -188,7 +188,7 @@ module _ {D : Type 0} (told : D → Taken) where
 
   module _ {T U E : Type 0} where
     -- room was made, and then octets were added
-    pub puts_line : (a b c : Out D) (xs : List ℕ) (x : T) (y : U) → Puts {T = T} {E = E} told a b [] (Ok x) → lender_of c ≡ lender_of b → held_in c ≡ held_in b ++ xs → Puts {T = U} {E = E} told a c xs (Ok y)
+    pub puts_line : (a b c : Out D) (xs : List ℕ) (x : T) (y : U) → Puts {T = T} {E = E} state_of a b [] (Ok x) → drain_of c ≡ drain_of b → buffer_of c ≡ buffer_of b ++ xs → Puts {T = U} {E = E} state_of a c xs (Ok y)
     puts_line a b c xs x y p same more = puts_then_as {T = T} {U = U} {E = E} a b c [] xs xs x (Ok y) p (puts_held {T = U} {E = E} b c xs y same more) refl
 
 -- what a function that makes a line where an `Out` holds it needs
@@ -201,7 +201,7 @@ pub ruleset puts = (puts_then, puts_failed, puts_failed_last)
 
 module _ {T U E : Type 0} where
   -- octets were sent, and then others
-  pub sends_then : (a b c : Taken) (xs ys : List ℕ) (x : T) (r : Result U E) → Sends {T = T} {E = E} a b xs (Ok x) → Sends b c ys r → Sends a c (xs ++ ys) r
+  pub sends_then : (a b c : DrainState) (xs ys : List ℕ) (x : T) (r : Result U E) → Sends {T = T} {E = E} a b xs (Ok x) → Sends b c ys r → Sends a c (xs ++ ys) r
   sends_then a b c xs ys x r p q = record {
     sent = p.sent ++ q.sent;
     left = q.left;
@@ -217,11 +217,11 @@ module _ {T U E : Type 0} where
 
 module _ {T U E F : Type 0} where
   -- the same, with another result of the same kind
-  pub sends_ok : (a b : Taken) (xs ys : List ℕ) (x : T) (y : U) → Sends {T = T} {E = E} a b xs (Ok x) → xs ≡ ys → Sends {T = U} {E = F} a b ys (Ok y)
+  pub sends_ok : (a b : DrainState) (xs ys : List ℕ) (x : T) (y : U) → Sends {T = T} {E = E} a b xs (Ok x) → xs ≡ ys → Sends {T = U} {E = F} a b ys (Ok y)
   sends_ok a b xs ys x y p z = record { sent = p.sent; left = p.left; front = p.front ∙ z; took = p.took; all = p.all; not_all = tt; failures = p.failures }
 
   -- a front of the octets is one of more octets
-  pub sends_err : (a b : Taken) (xs ys : List ℕ) (e : E) (f : F) → Sends {T = T} {E = E} a b xs (Err e) → IsFront xs ys → Sends {T = U} {E = F} a b ys (Err f)
+  pub sends_err : (a b : DrainState) (xs ys : List ℕ) (e : E) (f : F) → Sends {T = T} {E = E} a b xs (Err e) → IsFront xs ys → Sends {T = U} {E = F} a b ys (Err f)
   sends_err a b xs ys e f p z = record {
     sent = p.sent;
     left = p.left ++ z.rest;
@@ -234,11 +234,11 @@ module _ {T U E F : Type 0} where
 
 module _ {T E : Type 0} where
   -- where the call did not fail, the drain has all of them
-  pub sends_appends : (a b : Taken) (xs : List ℕ) (x : T) → Sends {T = T} {E = E} a b xs (Ok x) → Appends a.octets b.octets xs
+  pub sends_appends : (a b : DrainState) (xs : List ℕ) (x : T) → Sends {T = T} {E = E} a b xs (Ok x) → Appends a.octets b.octets xs
   sends_appends a b xs x p = subst (Appends a.octets b.octets) (sym (append-nil p.sent) ∙ ap (λ (l : List ℕ). p.sent ++ l) (sym p.all) ∙ p.front) p.took
 
   -- nothing is sent
-  pub sends_nothing : (a : Taken) (x : T) → Sends {T = T} {E = E} a a [] (Ok x)
+  pub sends_nothing : (a : DrainState) (x : T) → Sends {T = T} {E = E} a a [] (Ok x)
   sends_nothing a x = record { sent = []; left = []; front = refl; took = Appends-nil a.octets; all = refl; not_all = tt; failures = refl }
 
 -- ---- octet by octet
@@ -250,30 +250,30 @@ text_more text xs i h =
     ∙ flat_map-append text (take i xs) (get_or xs i 0 ∷ [])
     ∙ ap (λ (l : List ℕ). flat_map text (take i xs) ++ l) (append-nil (text (get_or xs i 0))))
 
-module _ {D : Type 0} (told : D → Taken) (text : ℕ → List ℕ) where
+module _ {D : Type 0} (state_of : D → DrainState) (text : ℕ → List ℕ) where
   -- the text of an octet more was put
   pub puts_octet : (a b c : Out D) (xs : List ℕ) (i : ℕ) → i < length xs
-      → HasPut told a b (flat_map text (take i xs)) → HasPut told b c (text (get_or xs i 0)) → HasPut told a c (flat_map text (take (i + 1) xs))
-  puts_octet a b c xs i h p q = puts_then_as told a b c _ _ _ tt (Ok tt) p q (text_more text xs i h)
+      → HasPut state_of a b (flat_map text (take i xs)) → HasPut state_of b c (text (get_or xs i 0)) → HasPut state_of a c (flat_map text (take (i + 1) xs))
+  puts_octet a b c xs i h p q = puts_then_as state_of a b c _ _ _ tt (Ok tt) p q (text_more text xs i h)
 
   -- it could not be put
   pub fails_octet : (a b c : Out D) (xs : List ℕ) (i : ℕ) (e : WriteFault) (r : Result ⊤ WriteFault) → i < length xs
-      → HasPut told a b (flat_map text (take i xs)) → Puts {T = ⊤} {E = WriteFault} told b c (text (get_or xs i 0)) (Err e) → IsErr r → Puts told a c (flat_map text xs) r
+      → HasPut state_of a b (flat_map text (take i xs)) → Puts {T = ⊤} {E = WriteFault} state_of b c (text (get_or xs i 0)) (Err e) → IsErr r → Puts state_of a c (flat_map text xs) r
   fails_octet a b c xs i e r h p q f =
-      puts_failed_in told a c _ _ e r (puts_then_as told a b c _ _ _ tt (Err e) p q (text_more text xs i h)) f record {
+      puts_failed_in state_of a c _ _ e r (puts_then_as state_of a b c _ _ _ tt (Err e) p q (text_more text xs i h)) f record {
         rest = flat_map text (drop (i + 1) xs);
         is = sym (flat_map-append text (take (i + 1) xs) (drop (i + 1) xs)) ∙ ap (flat_map text) (take-append-drop (i + 1) xs);
       }
 
 -- ---- to a drain, by way of an `Out`
 
-module _ {D : Type 0} (told : D → Taken) where
+module _ {D : Type 0} (state_of : D → DrainState) where
   module _ {T E : Type 0} where
     -- the drain that was lent, before and behind
-    pub sends_puts : (a c : Out D) (d d' : D) (xs : List ℕ) (r : Result T E) → (lender_of a).now ≡ d → held_in a ≡ [] → d' ≡ (lender_of c).now
-        → Puts told a c xs r → OnOk r (held_in c ≡ []) → Sends (told d) (told d') xs r
+    pub sends_puts : (a c : Out D) (d d' : D) (xs : List ℕ) (r : Result T E) → (drain_of a).now ≡ d → buffer_of a ≡ [] → d' ≡ (drain_of c).now
+        → Puts state_of a c xs r → OnOk r (buffer_of c ≡ []) → Sends (state_of d) (state_of d') xs r
     sends_puts a c d d' xs r from none to p empty =
-        subst (λ (x : D). Sends (told x) (told d') xs r) from (subst (λ (x : D). Sends (told (lender_of a).now) (told x) xs r) (sym to) record {
+        subst (λ (x : D). Sends (state_of x) (state_of d') xs r) from (subst (λ (x : D). Sends (state_of (drain_of a).now) (state_of x) xs r) (sym to) record {
           sent = p.sent;
           left = p.left;
           front = p.front ∙ ap (λ (l : List ℕ). l ++ xs) none;
@@ -283,24 +283,24 @@ module _ {D : Type 0} (told : D → Taken) where
           failures = p.failures;
         })
       where
-        both : (r : Result T E) → OnOk r (held_in c ≡ p.left) → OnOk r (held_in c ≡ []) → OnOk r (p.left ≡ [])
+        both : (r : Result T E) → OnOk r (buffer_of c ≡ p.left) → OnOk r (buffer_of c ≡ []) → OnOk r (p.left ≡ [])
         both (Ok x) h e = sym h ∙ e
         both (Err x) h e = tt
 
   module _ {T U E : Type 0} where
     -- octets were put, and then it was flushed
-    pub sends_flushed : (a b c : Out D) (d d' : D) (xs : List ℕ) (x : T) (y : U) → (lender_of a).now ≡ d → held_in a ≡ [] → d' ≡ (lender_of c).now
-        → Puts {T = T} {E = E} told a b xs (Ok x) → Puts {T = U} {E = E} told b c [] (Ok y) → held_in c ≡ [] → Sends {T = T} {E = E} (told d) (told d') xs (Ok x)
+    pub sends_flushed : (a b c : Out D) (d d' : D) (xs : List ℕ) (x : T) (y : U) → (drain_of a).now ≡ d → buffer_of a ≡ [] → d' ≡ (drain_of c).now
+        → Puts {T = T} {E = E} state_of a b xs (Ok x) → Puts {T = U} {E = E} state_of b c [] (Ok y) → buffer_of c ≡ [] → Sends {T = T} {E = E} (state_of d) (state_of d') xs (Ok x)
     sends_flushed a b c d d' xs x y from none to p f empty =
-        sends_puts a c d d' xs (Ok x) from none to (puts_as told a c xs xs y x (puts_then_as told a b c xs [] xs x (Ok y) p f (append-nil xs)) refl) empty
+        sends_puts a c d d' xs (Ok x) from none to (puts_as state_of a c xs xs y x (puts_then_as state_of a b c xs [] xs x (Ok y) p f (append-nil xs)) refl) empty
 
     -- it could not be flushed
-    pub sends_failed : (a b c : Out D) (d d' : D) (xs : List ℕ) (x : T) (e : E) (r : Result T E) → (lender_of a).now ≡ d → held_in a ≡ [] → d' ≡ (lender_of c).now
-        → Puts {T = T} {E = E} told a b xs (Ok x) → Puts {T = U} {E = E} told b c [] (Err e) → IsErr r → Sends (told d) (told d') xs r
+    pub sends_failed : (a b c : Out D) (d d' : D) (xs : List ℕ) (x : T) (e : E) (r : Result T E) → (drain_of a).now ≡ d → buffer_of a ≡ [] → d' ≡ (drain_of c).now
+        → Puts {T = T} {E = E} state_of a b xs (Ok x) → Puts {T = U} {E = E} state_of b c [] (Err e) → IsErr r → Sends (state_of d) (state_of d') xs r
     sends_failed a b c d d' xs x e r from none to p f err =
-        sends_puts a c d d' xs r from none to (puts_failed_last told a c xs e r (puts_then_as told a b c xs [] xs x (Err e) p f (append-nil xs)) err) (no_ok r err)
+        sends_puts a c d d' xs r from none to (puts_failed_last state_of a c xs e r (puts_then_as state_of a b c xs [] xs x (Err e) p f (append-nil xs)) err) (no_ok r err)
       where
-        no_ok : (r : Result T E) → IsErr r → OnOk r (held_in c ≡ [])
+        no_ok : (r : Result T E) → IsErr r → OnOk r (buffer_of c ≡ [])
         no_ok (Ok x) h = absurd (true≢false (sym h))
         no_ok (Err e) h = tt
 

@@ -1,4 +1,4 @@
--- What sources and drains tell of themselves, and what one call makes of that.
+-- What sources and drains show of themselves, and what one call makes of that.
 use Rattle.std.specs.Prelude.{◌≡◌, ◌⊎◌, ◌+◌, ◌-◌, ◌^◌, ◌<◌, ◌≤◌, ℕ, List, [], ◌++◌, All, Option, Result, Ok, Err, min, IfOk, length}
 use Rattle.std.specs.List.{concat}
 use Rattle.std.specs.Io.{ReadsAtMost}
@@ -16,25 +16,25 @@ pub record Reads : Type 0 where
   pub last : Last
   pub failures : ℕ
 
--- what a source tells: the octets still to give, where it knows them, and its reads
-pub record Supply : Type 0 where
+-- what a source shows of itself: the octets still to give, if it knows them, and its reads
+pub record SourceState : Type 0 where
   pub left : Option (List ℕ)
   pub reads : ℕ
   pub last : Last
   pub failures : ℕ
 
--- what a drain tells: the octets that it took, where it knows them, and how many writes failed
-pub record Taken : Type 0 where
+-- what a drain shows of itself: the octets that it took, if it knows them, and how many writes failed
+pub record DrainState : Type 0 where
   pub octets : Option (List ℕ)
   pub failures : ℕ
 
 -- a source with these octets, of which nothing was read
-abbrev pub unread : Option (List ℕ) → Supply
-unread left = record { left = left; reads = 0; last = never; failures = 0 }
+abbrev pub new_source : Option (List ℕ) → SourceState
+new_source left = record { left = left; reads = 0; last = never; failures = 0 }
 
 -- a count after one more; it stops at 2^64 - 1
-abbrev pub counted : ℕ → ℕ
-counted n = min (n + 1) (2 ^ 64 - 1)
+abbrev pub next_count : ℕ → ℕ
+next_count n = min (n + 1) (2 ^ 64 - 1)
 
 module _ {T E : Type 0} where
   -- the failures after a call with this result; the count stops at 2^64 - 1
@@ -44,27 +44,27 @@ module _ {T E : Type 0} where
 
 module _ {E : Type 0} where
   -- what a read with this result gave
-  abbrev pub last_of : Result ℕ E → Last
-  last_of (Ok n) = gave n
-  last_of (Err e) = failed
+  abbrev pub last_after : Result ℕ E → Last
+  last_after (Ok n) = gave n
+  last_after (Err e) = failed
 
   -- one read into room that then holds these octets
-  pub record ReadsOnce (old new : Supply) (result : Result ℕ E) (to : List ℕ) : Type 0 where
+  pub record ReadsOnce (old new : SourceState) (result : Result ℕ E) (to : List ℕ) : Type 0 where
     pub octets : ReadConsumes old.left new.left result to
     pub bound : ReadsAtMost result to
-    pub reads : new.reads ≡ counted old.reads
-    pub last : new.last ≡ last_of result
+    pub reads : new.reads ≡ next_count old.reads
+    pub last : new.last ≡ last_after result
     pub failures : new.failures ≡ failures_after result old.failures
 
   -- one write of octets from the front of these: at least one, or it fails
-  pub record WritesOnce (old new : Taken) (result : Result ℕ E) (from : List ℕ) : Type 0 where
+  pub record WritesOnce (old new : DrainState) (result : Result ℕ E) (from : List ℕ) : Type 0 where
     pub octets : WriteAppends old.octets new.octets result from
     pub some : IfOk result (λ n. (0 < n) × (n ≤ length from))
     pub failures : new.failures ≡ failures_after result old.failures
 
 -- reads of a source, one or more: the octets that each gave, and the last. Each but the last gave between one octet and 4096.
--- The last gave as many as the source tells of it, or failed and gave none
-pub record Pieces (old new : Supply) : Type 0 where
+-- The last gave as many as the source says, or failed and gave none
+pub record Pieces (old new : SourceState) : Type 0 where
   pub pieces : List (List ℕ)
   pub last : List ℕ
   pub each : All (λ octets. (0 < length octets) × (length octets ≤ 4096)) pieces
@@ -74,5 +74,5 @@ pub record Pieces (old new : Supply) : Type 0 where
   pub consumed : Consumes old.left new.left (concat pieces ++ last)
 
 -- the octets that the reads gave
-abbrev pub given_in : {old new : Supply} → Pieces old new → List ℕ
-given_in p = concat p.pieces ++ p.last
+abbrev pub octets_given : {old new : SourceState} → Pieces old new → List ℕ
+octets_given p = concat p.pieces ++ p.last

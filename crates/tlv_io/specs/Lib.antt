@@ -1,6 +1,6 @@
 pub mod Device
 pub mod MemDrain
 pub mod MemSource
-pub mod Held
+pub mod LineTexts
 pub mod Out
 pub mod Private

@@ -1,33 +1,33 @@
 -- A drain over memory, as contracts see it.
 use Rattle.std.specs.Prelude.{◌-◌, ℕ, List, Some, min, max, length, take}
 use Rattle.std.specs.Borrow.{MutBor}
-use Rattle.tlv_io.specs.Device.{Taken}
+use Rattle.tlv_io.specs.Device.{DrainState}
 use Rattle.tlv_io.specs.declared.memory.MemDrain.{MemDrain}
 
 -- the room that it was lent
-abbrev pub room_of : MemDrain → MutBor (List ℕ)
-room_of drain = drain.room
+abbrev pub drain_room : MemDrain → MutBor (List ℕ)
+drain_room drain = drain.room
 
--- the octets taken, which stand at the front of the room
-abbrev pub taken_by : MemDrain → List ℕ
-taken_by drain = take drain.used (room_of drain).now
+-- the octets taken, which are at the front of the room
+abbrev pub octets_taken : MemDrain → List ℕ
+octets_taken drain = take drain.used (drain_room drain).now
 
 -- how many octets it still has room for
-abbrev pub free_in : MemDrain → ℕ
-free_in drain = length (room_of drain).now - length (taken_by drain)
+abbrev pub free_room : MemDrain → ℕ
+free_room drain = length (drain_room drain).now - length (octets_taken drain)
 
 -- how many octets one write takes at most
-abbrev pub most_of : MemDrain → ℕ
-most_of drain = max 1 drain.most
+abbrev pub write_limit : MemDrain → ℕ
+write_limit drain = max 1 drain.most
 
 -- how many octets the next write takes of this many
-abbrev pub taken_count : MemDrain → ℕ → ℕ
-taken_count drain count = min count (min (most_of drain) (free_in drain))
+abbrev pub write_count : MemDrain → ℕ → ℕ
+write_count drain count = min count (min (write_limit drain) (free_room drain))
 
 -- how many writes failed
-abbrev pub failures_of : MemDrain → ℕ
-failures_of drain = drain.failures
+abbrev pub drain_failures : MemDrain → ℕ
+drain_failures drain = drain.failures
 
--- what it tells
-abbrev pub told_of : MemDrain → Taken
-told_of drain = record { octets = Some (taken_by drain); failures = failures_of drain }
+-- what it shows of itself
+abbrev pub drain_state_of : MemDrain → DrainState
+drain_state_of drain = record { octets = Some (octets_taken drain); failures = drain_failures drain }

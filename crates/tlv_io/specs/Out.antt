@@ -3,20 +3,20 @@ use Rattle.std.specs.Prelude.{◌≡◌, ◌≢◌, ◌++◌, ℕ, List, [], Res
 use Rattle.std.specs.Io.KnownBytes.{Appends}
 use Rattle.std.specs.Borrow.{MutBor}
 use Rattle.tlv_io.specs.declared.out.Out.{Out}
-use Rattle.tlv_io.specs.Device.{Taken, failures_after}
+use Rattle.tlv_io.specs.Device.{DrainState, failures_after}
 
 module _ {D : Type 0} where
   -- the drain that is lent
-  abbrev pub lender_of : Out D → MutBor D
-  lender_of out = out.drain
+  abbrev pub drain_of : Out D → MutBor D
+  drain_of out = out.drain
 
   -- the octets held, which the drain has still to take
-  abbrev pub held_in : Out D → List ℕ
-  held_in out = out.held
+  abbrev pub buffer_of : Out D → List ℕ
+  buffer_of out = out.held
 
 module _ {T E : Type 0} where
-  -- one call that hands octets to a drain: all of them, or, where it fails, a front of them that is not all
-  pub record Sends (old new : Taken) (octets : List ℕ) (result : Result T E) : Type 0 where
+  -- one call that hands octets to a drain: all of them, or, if it fails, a front of them that is not all
+  pub record Sends (old new : DrainState) (octets : List ℕ) (result : Result T E) : Type 0 where
     pub sent : List ℕ
     pub left : List ℕ
     pub front : sent ++ left ≡ octets
@@ -26,13 +26,13 @@ module _ {T E : Type 0} where
     pub failures : new.failures ≡ failures_after result old.failures
 
   -- a call that puts octets to an `Out`. The drain takes a front of what was held and then these, and what it had stays
-  -- in front of that; what it does not take is held. Where the call fails that is lost, one octet or more
-  pub record Puts {D : Type 0} (told : D → Taken) (old new : Out D) (octets : List ℕ) (result : Result T E) : Type 0 where
-    pub same_reference : (lender_of new).ghost_name ≡ (lender_of old).ghost_name
+  -- in front of that; what it does not take is held. If the call fails that is lost, one octet or more
+  pub record Puts {D : Type 0} (state_of : D → DrainState) (old new : Out D) (octets : List ℕ) (result : Result T E) : Type 0 where
+    pub same_reference : (drain_of new).ghost_name ≡ (drain_of old).ghost_name
     pub sent : List ℕ
     pub left : List ℕ
-    pub front : sent ++ left ≡ held_in old ++ octets
-    pub took : Appends (told (lender_of old).now).octets (told (lender_of new).now).octets sent
-    pub held : OnOk result (held_in new ≡ left)
+    pub front : sent ++ left ≡ buffer_of old ++ octets
+    pub took : Appends (state_of (drain_of old).now).octets (state_of (drain_of new).now).octets sent
+    pub held : OnOk result (buffer_of new ≡ left)
     pub lost : OnErr result (left ≢ [])
-    pub failures : (told (lender_of new).now).failures ≡ failures_after result (told (lender_of old).now).failures
+    pub failures : (state_of (drain_of new).now).failures ≡ failures_after result (state_of (drain_of old).now).failures

@@ -1,23 +1,23 @@
 //! What octets are written to.
 
 ghost use Rattle.std.specs.Prelude.{◌<◌, length};
-ghost use Rattle.tlv_io.specs.Device.{Taken, WritesOnce};
+ghost use Rattle.tlv_io.specs.Device.{DrainState, WritesOnce};
 
 /// A write failed.
 #[derive(Clone, Copy, Debug, PartialEq, Eq)]
 pub struct WriteFault;
 
-/// What octets are written to, in order. The count that it tells stops at 2^64 - 1.
+/// What octets are written to, in order. Its count stops at 2^64 - 1.
 pub trait Drain {
-    /// What it tells: its octets and its failures.
-    ghost told: { Self → Taken };
+    /// What it shows of itself: its octets and its failures.
+    ghost state: { Self → DrainState };
 
     /// Takes octets from the front of `from`, which holds at least one. Returns how many: one or more.
     ///
     /// # Errors
     ///
-    /// `WriteFault` where the write failed. It then took nothing.
+    /// `WriteFault` if the write failed. It then took nothing.
     fn write(&mut self, from: &[u8]) -> Result<usize, WriteFault>
         requires { 0 < length from.now }
-        ensures { WritesOnce (told self.old) (told self.new) result from.now };
+        ensures { WritesOnce (state self.old) (state self.new) result from.now };
 }

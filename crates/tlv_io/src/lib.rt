@@ -2,14 +2,14 @@
 #![tactic(auto)]
 
 mod drain;
-mod held;
+mod buffer;
 mod memory;
 mod out;
 mod source;
 mod stream;
 
 pub use drain::{Drain, WriteFault};
-pub use held::Held;
+pub use buffer::Held;
 pub use memory::{MemDrain, MemSource};
 pub use out::Out;
 pub use source::{ReadFault, Source};

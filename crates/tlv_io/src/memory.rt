@@ -2,7 +2,7 @@
 
 ghost use Rattle.std.specs.Prelude.{◌≡◌, ◌<◌, ◌≤◌, ◌↔◌, [], IfOk, IsErr, Some, drop, length, max, take};
 ghost use Rattle.tlv_io.specs.Device.{ReadsOnce, WritesOnce, never};
-ghost use Rattle.tlv_io.specs.MemSource.{cut_to, given_count, told_by};
+ghost use Rattle.tlv_io.specs.MemSource.{cut_to, read_count, source_state_of};
 
 use crate::drain::{Drain, WriteFault};
 use crate::source::{ReadFault, ReadLog, Source};
@@ -18,9 +18,9 @@ pub struct MemSource<'a> {
 }
 
 impl<'a> Model for MemSource<'a> {
-    ghost use Rattle.tlv_io.specs.MemSource.{MemSupply};
+    ghost use Rattle.tlv_io.specs.MemSource.{MemSourceState};
 
-    ghost Value = { MemSupply };
+    ghost Value = { MemSourceState };
 
     ghost view = { λ source. record {
       left = source.octets.now;
@@ -34,7 +34,7 @@ impl<'a> MemSource<'a> {
     /// A source that gives `octets` and then ends.
     ///
     /// Read `i`, counted from 0, gives at most `cuts[i]` octets, and past the end of `cuts` as many as there is room
-    /// for. A cut of 0 counts as 1, so a read gives none only where none are left. Read `fail_at` fails.
+    /// for. A cut of 0 counts as 1, so a read gives none only if none are left. Read `fail_at` fails.
     pub fn new(octets: &'a [u8], cuts: &'a [u64], fail_at: Option<u64>) -> MemSource<'a>
         ensures { result ≡ record {
           left = octets.now;
@@ -53,16 +53,16 @@ impl<'a> MemSource<'a> {
 }
 
 impl Source for MemSource<'_> {
-    ghost told = { told_by };
+    ghost state = { source_state_of };
 
     fn read(&mut self, to: &mut [u8]) -> Result<usize, ReadFault>
         requires { 0 < length to.old }
 
         // What each source promises.
-        ensures told { ReadsOnce (told_by self.old) (told_by self.new) result to.new }
+        ensures reads { ReadsOnce (source_state_of self.old) (source_state_of self.new) result to.new }
 
         // How many octets it gives, and which read fails.
-        ensures count { IfOk result (λ n. n ≡ given_count self.old (length to.old)) }
+        ensures count { IfOk result (λ n. n ≡ read_count self.old (length to.old)) }
         ensures fails { IsErr result ↔ (self.old.fail_at ≡ Some self.old.log.reads) }
 
         // What stays.
@@ -102,17 +102,17 @@ pub struct MemDrain<'a> {
 }
 
 impl<'a> MemDrain<'a> {
-    ghost use Rattle.tlv_io.specs.MemDrain.{failures_of, most_of, room_of, taken_by};
+    ghost use Rattle.tlv_io.specs.MemDrain.{drain_failures, drain_room, octets_taken, write_limit};
 
     /// A drain that fills `room` from the front.
     ///
     /// A write takes as many octets as fit, at most `most`, where 0 counts as 1. It fails where no room is left.
     pub fn new(room: &'a mut [u8], most: usize) -> MemDrain<'a>
-        ensures same_reference { (room_of result).ghost_name ≡ room.entry.ghost_name }
-        ensures room { (room_of result).now ≡ room.old }
-        ensures empty { taken_by result ≡ [] }
-        ensures most { most_of result ≡ max 1 most }
-        ensures failures { failures_of result ≡ 0 }
+        ensures same_reference { (drain_room result).ghost_name ≡ room.entry.ghost_name }
+        ensures room { (drain_room result).now ≡ room.old }
+        ensures empty { octets_taken result ≡ [] }
+        ensures most { write_limit result ≡ max 1 most }
+        ensures failures { drain_failures result ≡ 0 }
     {
         MemDrain {
             room,
@@ -124,34 +124,34 @@ impl<'a> MemDrain<'a> {
 
     /// The octets taken, in order: the front of the room.
     pub fn written(&self) -> &[u8]
-        ensures taken { result.now ≡ taken_by self.now }
-        ensures front { result.now ≡ take (length result.now) (room_of self.now).now }
+        ensures taken { result.now ≡ octets_taken self.now }
+        ensures front { result.now ≡ take (length result.now) (drain_room self.now).now }
     {
         &self.room[..self.used]
     }
 }
 
 impl Drain for MemDrain<'_> {
-    ghost use Rattle.tlv_io.specs.MemDrain.{free_in, most_of, room_of, taken_by, taken_count, told_of};
+    ghost use Rattle.tlv_io.specs.MemDrain.{drain_room, drain_state_of, free_room, octets_taken, write_count, write_limit};
 
-    ghost told = { told_of };
+    ghost state = { drain_state_of };
 
     fn write(&mut self, from: &[u8]) -> Result<usize, WriteFault>
         requires { 0 < length from.now }
 
         // What each drain promises.
-        ensures told { WritesOnce (told_of self.old) (told_of self.new) result from.now }
+        ensures writes { WritesOnce (drain_state_of self.old) (drain_state_of self.new) result from.now }
 
         // How many octets it takes, and when it fails.
-        ensures count { IfOk result (λ n. n ≡ taken_count self.old (length from.now)) }
-        ensures fails { IsErr result ↔ (free_in self.old ≡ 0) }
+        ensures count { IfOk result (λ n. n ≡ write_count self.old (length from.now)) }
+        ensures fails { IsErr result ↔ (free_room self.old ≡ 0) }
 
-        // What stays: the limit, the room, and what stands behind the octets taken.
-        ensures most { most_of self.new ≡ most_of self.old }
-        ensures same_reference { (room_of self.new).ghost_name ≡ (room_of self.old).ghost_name }
-        ensures size { length (room_of self.new).now ≡ length (room_of self.old).now }
-        ensures rest { let used = length (taken_by self.new) in
-            drop used (room_of self.new).now ≡ drop used (room_of self.old).now }
+        // What stays: the limit, the room, and what is after the octets taken.
+        ensures most { write_limit self.new ≡ write_limit self.old }
+        ensures same_reference { (drain_room self.new).ghost_name ≡ (drain_room self.old).ghost_name }
+        ensures size { length (drain_room self.new).now ≡ length (drain_room self.old).now }
+        ensures rest { let used = length (octets_taken self.new) in
+            drop used (drain_room self.new).now ≡ drop used (drain_room self.old).now }
     {
         let used = self.used;
         let free = self.room.len() - used;

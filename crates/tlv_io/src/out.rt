@@ -1,11 +1,11 @@
 //! Octets on their way to a drain.
 
 ghost use Rattle.std.specs.Prelude.{◌≡◌, ◌≤◌, ◌++◌, [], length, OnOk};
-ghost use Rattle.tlv_io.specs.Held.{HasRoomFor};
-ghost use Rattle.tlv_io.specs.Out.{Puts, Sends, held_in, lender_of};
+ghost use Rattle.tlv_io.specs.LineTexts.{HasRoomFor};
+ghost use Rattle.tlv_io.specs.Out.{Puts, Sends, buffer_of, drain_of};
 
 use crate::drain::{Drain, WriteFault};
-use crate::held::{CAPACITY, Held};
+use crate::buffer::{CAPACITY, Held};
 
 /// Room for the longest line: an element's, at level 255, with 64 octets of contents.
 const LINE: usize = 1024;
@@ -17,16 +17,16 @@ const LINE: usize = 1024;
 #[derive(Drop)]
 pub struct Out<'d, D> {
     drain: &'d mut D,
-    /// The octets that are held. A line is made at their end, behind [`Out::make_room`].
+    /// The octets that are held. A line is made at their end, after [`Out::make_room`].
     pub held: Held,
 }
 
 impl<'d, D: Drain> Out<'d, D> {
     /// An `Out` to this drain, which holds no octet yet.
     pub fn new(drain: &'d mut D) -> Out<'d, D>
-        ensures same_reference { (lender_of result).ghost_name ≡ drain.entry.ghost_name }
-        ensures taken { (lender_of result).now ≡ drain.old }
-        ensures empty { held_in result ≡ [] }
+        ensures same_reference { (drain_of result).ghost_name ≡ drain.entry.ghost_name }
+        ensures taken { (drain_of result).now ≡ drain.old }
+        ensures empty { buffer_of result ≡ [] }
     {
         Out {
             drain,
@@ -34,15 +34,15 @@ impl<'d, D: Drain> Out<'d, D> {
         }
     }
 
-    /// Makes room for a line of up to 1024 octets behind those that are held.
+    /// Makes room for a line of up to 1024 octets after those that are held.
     ///
     /// # Errors
     ///
     /// As for [`Out::flush`].
     #[inline(always)]
     pub fn make_room(&mut self) -> Result<(), WriteFault>
-        ensures puts { Puts D.told self.old self.new [] result }
-        ensures room { OnOk result (HasRoomFor (held_in self.new) 1024) }
+        ensures puts { Puts D.state self.old self.new [] result }
+        ensures room { OnOk result (HasRoomFor (buffer_of self.new) 1024) }
     {
         if self.held.room() < LINE {
             return self.flush();
@@ -50,15 +50,15 @@ impl<'d, D: Drain> Out<'d, D> {
         Ok(())
     }
 
-    /// Puts the octets behind those that were put before: they are held, or handed to the drain.
+    /// Puts the octets after those that were put before: they are held, or handed to the drain.
     ///
     /// # Errors
     ///
-    /// `WriteFault` where a write failed. The drain then has a prefix of what was put before and these octets.
+    /// `WriteFault` if a write failed. The drain then has a prefix of what was put before and these octets.
     #[inline]
     pub fn put(&mut self, octets: &[u8]) -> Result<(), WriteFault>
-        ensures puts { Puts D.told self.old self.new octets.now result }
-        ensures bound { length (held_in self.new) ≤ 4096 }
+        ensures puts { Puts D.state self.old self.new octets.now result }
+        ensures bound { length (buffer_of self.new) ≤ 4096 }
     {
         if octets.len() < self.held.room() {
             self.held.add(octets);
@@ -71,13 +71,13 @@ impl<'d, D: Drain> Out<'d, D> {
     #[cold]
     #[inline(never)]
     fn put_past_room(&mut self, octets: &[u8]) -> Result<(), WriteFault>
-        ensures puts { Puts D.told self.old self.new octets.now result }
-        ensures bound { length (held_in self.new) ≤ 4096 }
+        ensures puts { Puts D.state self.old self.new octets.now result }
+        ensures bound { length (buffer_of self.new) ≤ 4096 }
     {
         if octets.len() > self.held.room() {
             self.flush()?;
         }
-        // Nothing is held by now where there are so many octets, and they need not be gathered.
+        // Nothing is held by now if there are so many octets, and they need not be gathered.
         if octets.len() >= CAPACITY {
             return send(self.drain, octets);
         }
@@ -89,12 +89,12 @@ impl<'d, D: Drain> Out<'d, D> {
     ///
     /// # Errors
     ///
-    /// `WriteFault` where a write failed. The drain then has a prefix of what was put.
+    /// `WriteFault` if a write failed. The drain then has a prefix of what was put.
     #[inline(never)]
     pub fn flush(&mut self) -> Result<(), WriteFault>
-        ensures puts { Puts D.told self.old self.new [] result }
-        ensures empty { OnOk result (held_in self.new ≡ []) }
-        ensures bound { length (held_in self.new) ≤ 4096 }
+        ensures puts { Puts D.state self.old self.new [] result }
+        ensures empty { OnOk result (buffer_of self.new ≡ []) }
+        ensures bound { length (buffer_of self.new) ≤ 4096 }
     {
         send(self.drain, self.held.as_slice())?;
         self.held.clear();
@@ -104,7 +104,7 @@ impl<'d, D: Drain> Out<'d, D> {
 
 /// Hands all of the octets to the drain, in as many writes as that needs.
 fn send<D: Drain>(drain: &mut D, octets: &[u8]) -> Result<(), WriteFault>
-    ensures { Sends (D.told drain.old) (D.told drain.new) octets.now result }
+    ensures { Sends (D.state drain.old) (D.state drain.new) octets.now result }
 {
     let mut sent = 0;
     while sent < octets.len() {

@@ -1,7 +1,7 @@
 //! What octets are read from.
 
 ghost use Rattle.std.specs.Prelude.{◌≡◌, ◌<◌, length};
-ghost use Rattle.tlv_io.specs.Device.{ReadsOnce, Supply, never};
+ghost use Rattle.tlv_io.specs.Device.{ReadsOnce, SourceState, never};
 ghost use Rattle.tlv_io.specs.Private.Device.{after_read};
 
 use std::marker::Model;
@@ -10,19 +10,19 @@ use std::marker::Model;
 #[derive(Clone, Copy, Debug, PartialEq, Eq)]
 pub struct ReadFault;
 
-/// What octets are read from, in order and each one once. The counts that it tells stop at 2^64 - 1.
+/// What octets are read from, in order and each one once. Its counts stop at 2^64 - 1.
 pub trait Source {
-    /// What it tells: its octets, its reads and its failures.
-    ghost told: { Self → Supply };
+    /// What it shows of itself: its octets, its reads and its failures.
+    ghost state: { Self → SourceState };
 
     /// Reads octets into the front of `to`, which has room for at least one. Returns how many; 0 is the end.
     ///
     /// # Errors
     ///
-    /// `ReadFault` where the read failed. It then gave nothing, and no octet is lost.
+    /// `ReadFault` if the read failed. It then gave nothing, and no octet is lost.
     fn read(&mut self, to: &mut [u8]) -> Result<usize, ReadFault>
         requires { 0 < length to.old }
-        ensures { ReadsOnce (told self.old) (told self.new) result to.new };
+        ensures { ReadsOnce (state self.old) (state self.new) result to.new };
 }
 
 #[derive(Clone, Copy, Debug, PartialEq, Eq)]
@@ -68,7 +68,7 @@ impl ReadLog {
         self.reads
     }
 
-    /// Counts a read with this answer, and passes the answer on.
+    /// Counts a read with this result, and returns the result.
     pub(crate) fn count(&mut self, answer: Result<usize, ReadFault>) -> Result<usize, ReadFault>
         ensures same { result ≡ answer }
         ensures log { self.new ≡ after_read answer self.old }

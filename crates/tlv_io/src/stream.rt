@@ -1,7 +1,7 @@
 //! A reader as a source, and a writer as a drain.
 
 ghost use Rattle.std.specs.Prelude.{◌≡◌};
-ghost use Rattle.tlv_io.specs.Device.{unread};
+ghost use Rattle.tlv_io.specs.Device.{new_source};
 
 use crate::drain::{Drain, WriteFault};
 use crate::source::{ReadFault, ReadLog, Source};
@@ -17,7 +17,7 @@ pub struct ReadSource<R> {
 impl<R: Read + Drop> ReadSource<R> {
     /// A source that gives the octets that `reader` has left.
     pub fn new(reader: R) -> ReadSource<R>
-        ensures { ⟦<ReadSource<R> as Source>⟧.told result ≡ unread (R.remaining reader) }
+        ensures { ⟦<ReadSource<R> as Source>⟧.state result ≡ new_source (R.remaining reader) }
     {
         ReadSource {
             reader,
@@ -27,7 +27,7 @@ impl<R: Read + Drop> ReadSource<R> {
 }
 
 impl<R: Read + Drop> Source for ReadSource<R> {
-    ghost told = { λ source. record {
+    ghost state = { λ source. record {
       left = R.remaining source.reader;
       reads = source.log.reads;
       last = source.log.last;
@@ -49,9 +49,9 @@ pub struct WriteDrain<W> {
 }
 
 impl<W: Write + Drop> WriteDrain<W> {
-    /// A drain that writes behind what `writer` holds.
+    /// A drain that writes after what `writer` holds.
     pub fn new(writer: W) -> WriteDrain<W>
-        ensures { ⟦<WriteDrain<W> as Drain>⟧.told result ≡ record { octets = W.contents writer; failures = 0 } }
+        ensures { ⟦<WriteDrain<W> as Drain>⟧.state result ≡ record { octets = W.contents writer; failures = 0 } }
     {
         WriteDrain {
             writer,
@@ -61,7 +61,7 @@ impl<W: Write + Drop> WriteDrain<W> {
 }
 
 impl<W: Write + Drop> Drain for WriteDrain<W> {
-    ghost told = { λ drain. record { octets = W.contents drain.writer; failures = drain.failures } };
+    ghost state = { λ drain. record { octets = W.contents drain.writer; failures = drain.failures } };
 
     fn write(&mut self, from: &[u8]) -> Result<usize, WriteFault> {
         match self.writer.write(from) {

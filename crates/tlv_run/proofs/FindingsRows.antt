@@ -268,7 +268,7 @@ row-34 : result (check Ber plain) (octets "30 80 05 00 00 00")
 unfolding digits encode_with is_utf8 chars encode
 row-34 = refl
 
--- the fault is told, and the count of findings stays
+-- the fault is reported, and the count of findings stays
 row-35 : result (check Der plain) (octets "30 80 05 00 30 05")
     ≡ faulty 1 Short 6 "fault at 6: F02 input ends inside an encoding" (lines (
     "0 D01 indefinite length" ∷ []))

@@ -9,34 +9,34 @@ use Rattle.std.proofs.Math.Seq.{take-append-add, take-append_seam}
 use Rattle.std.specs.Prelude.{if◌then◌else◌, Option, Some, None, Result, Ok, Err, ⊤}
 use Rattle.std.specs.Io.KnownBytes.{Appends, Consumes, IsAtEnd}
 use Rattle.tlv_value.specs.Names.{Table}
-use Rattle.tlv_walk.proofs.Enough.{ends_with, settled_by}
+use Rattle.tlv_walk.proofs.FollowerLemmas.Enough.{ends_with, settled_by}
 use Rattle.tlv_io.proofs.Pieces.{GaveLast}
-use Rattle.tlv_walk.proofs.Endings.{IsRefused, fault-halt}
+use Rattle.tlv_walk.proofs.GrammarLemmas.Endings.{IsRefused, fault-halt}
 use Rattle.tlv_io.proofs.Puts.{more_left, sends_appends}
-use Rattle.tlv_walk.proofs.Readings.{halt-longest, reading-unique}
+use Rattle.tlv_walk.proofs.GrammarLemmas.Readings.{halt-longest, reading-unique}
 use Rattle.tlv_walk.specs.declared.ending.Ending.{Ending}
 use Rattle.tlv_walk.specs.declared.ending.Ending.TheVariants as ending
 use Rattle.tlv_walk.specs.declared.framing.Framing.{Framing}
 use Rattle.tlv_walk.specs.declared.run.DeviceFault.{DeviceFault}
 use Rattle.tlv_walk.specs.declared.run.DeviceFault.TheVariants.{ReadFailed, WriteFailed, InputTooLong}
 use Rattle.std.specs.List.{concat}
-use Rattle.tlv_io.specs.Device.{Last, Supply, Taken, counted, failed, gave, given_in, never, unread}
+use Rattle.tlv_io.specs.Device.{DrainState, Last, SourceState, failed, gave, never, new_source, next_count, octets_given}
 use Rattle.tlv_walk.specs.Ending.{IsEnding}
 use Rattle.tlv_walk.specs.Forest.{Forest, spell}
 use Rattle.tlv_walk.specs.Job.{AreSound, EndsWith, IsFinalEnding, Job, Runs}
 use Rattle.tlv_walk.specs.Laws.{AreOctets}
-use Rattle.tlv_io.specs.MemSource.{MemSupply}
+use Rattle.tlv_io.specs.MemSource.{MemSourceState}
 use Rattle.tlv_io.specs.Out.{Sends}
 use Rattle.tlv_walk.specs.Reading.{IsPrefixOf, IsReading}
 use Rattle.tlv_run.proofs.Results.{Stays, one_made, settled_stays, stays_for, text_on}
-use Rattle.tlv_run.proofs.SaidJobs.{said-end}
+use Rattle.tlv_run.proofs.JobReports.{report-end}
 use Rattle.tlv_run.specs.declared.command.Command.{Command}
-use Rattle.tlv_run.specs.Private.Held.{or_failed, told_ending, told_failing, told_room}
-use Rattle.tlv_run.specs.Octets.{IsSaid, MakesOf, RunsOctets, broken, ended, settled, too_long}
-use Rattle.tlv_run.specs.Report.{Said, said_of_device}
-use Rattle.tlv_run.specs.Results.{IsSettled, Made, Makes, made_of, command_job}
-use Rattle.tlv_run.specs.Runs.{Ran}
-use Rattle.tlv_run.specs.Private.Runs.{said_at_end}
+use Rattle.tlv_run.specs.Private.MemoryDevices.{ending_source_state, failing_source_state, or_failed, room_state}
+use Rattle.tlv_run.specs.Octets.{IsReport, MakesResultOf, RunsOctets, broken, ended, settled, too_long}
+use Rattle.tlv_run.specs.Report.{ReportValue, report_of_device}
+use Rattle.tlv_run.specs.Results.{CommandResult, IsSettled, MakesResult, command_job, command_result}
+use Rattle.tlv_run.specs.Runs.{RunsAndReports}
+use Rattle.tlv_run.proofs.ReportAtEnd.{report_at_end}
 
 -- what a slice holds of numbers that fit an octet
 octets_of : (xs : List ℕ) → ((i : ℕ) → Fits w8 (slice_index_or xs i 0)) → AreOctets xs
@@ -100,7 +100,7 @@ failed_none : (l : Last) (xs : List ℕ) → l ≡ failed → GaveLast l xs → 
 failed_none l xs e (inl g) = absurd (cc)
 failed_none l xs e (inr g) = g.1
 
-module _ (job : Job Said) (stays : Stays job)
+module _ (job : Job ReportValue) (stays : Stays job)
     (goes_on : (b c : List ℕ) (f g : Forest) → length (b ++ c) ≤ job.limit
     → IsReading job.framing b f → IsReading job.framing (b ++ c) g → IsPrefixOf (job.text f) (job.text g))
     (octets : List ℕ) (all : AreOctets octets) (read_fails : Bool) where
@@ -108,7 +108,7 @@ module _ (job : Job Said) (stays : Stays job)
   seen = take job.limit octets
 
   -- octets that hold neither a fault nor enough settle nothing
-  unsettled : (b : List ℕ) (made : Made) → (x : Makes job b made) → AreSound job b → IsSettled x → ⊥
+  unsettled : (b : List ℕ) (made : CommandResult) → (x : MakesResult job b made) → AreSound job b → IsSettled x → ⊥
   unsettled b made x s k =
       let same : x.reading ≡ s.0 = reading-unique job.framing b x.reading s.0 x.is_reading s.1 in
       let not_enough : job.is_enough x.reading ≡ false = ap job.is_enough same ∙ s.3 in
@@ -119,16 +119,16 @@ module _ (job : Job Said) (stays : Stays job)
             spelled_on job.framing b s.0 made.ending s.1 s.2 ends final
       ]
 
-  module _ (old new : Supply) (from to : Taken) (room : ℕ) (written : List ℕ)
+  module _ (old new : SourceState) (from to : DrainState) (room : ℕ) (written : List ℕ)
       (known : old.left ≡ Some octets) (quiet : old.failures ≡ 0)
       (fails : new.failures ≡ 1 → (read_fails ≡ true) × IsAtEnd new.left)
       (ends : new.failures ≡ 0 → new.last ≡ gave 0 → read_fails ≡ false)
       (empty : from.octets ≡ Some []) (unfailed : from.failures ≡ 0)
       (took : to.octets ≡ Some written) (fits : length written ≤ room) (full : to.failures ≡ 1 → length written ≡ room) where
     -- all was written
-    whole : (made : Made) (said : Said) → (x : MakesOf job octets read_fails made)
-        → written ≡ made.output → IsSaid job octets read_fails x said → RunsOctets job octets read_fails room written said
-    whole made said x e s = record {
+    whole : (made : CommandResult) (report : ReportValue) → (x : MakesResultOf job octets read_fails made)
+        → written ≡ made.output → IsReport job octets read_fails x report → RunsOctets job octets read_fails room written report
+    whole made report x e s = record {
       made = made;
       is_made = x;
       output = e ∙ sym (take_all room made.output (omega (arith, fits, ap length e)));
@@ -137,8 +137,8 @@ module _ (job : Job Said) (stays : Stays job)
     }
 
     -- a front was written, which fills the room, and there is more
-    short : (made : Made) (rest : List ℕ) → (x : MakesOf job octets read_fails made)
-        → made.output ≡ written ++ rest → rest ≢ [] → length written ≡ room → RunsOctets job octets read_fails room written (said_of_device WriteFailed)
+    short : (made : CommandResult) (rest : List ℕ) → (x : MakesResultOf job octets read_fails made)
+        → made.output ≡ written ++ rest → rest ≢ [] → length written ≡ room → RunsOctets job octets read_fails room written (report_of_device WriteFailed)
     short made rest x e more n = record {
       made = made;
       is_made = x;
@@ -151,25 +151,25 @@ module _ (job : Job Said) (stays : Stays job)
     all_sent : (text : List ℕ) → Sends {T = ⊤} {E = DeviceFault} from to text (Ok tt) → written ≡ text
     all_sent text s = taken_of from.octets to.octets written text empty took (sends_appends from to text tt s)
 
-    one_failure : counted 0 ≡ 1
+    one_failure : next_count 0 ≡ 1
     one_failure = refl
 
-    run_ok : (said : Said) → Runs job old new from to (Ok said) → RunsOctets job octets read_fails room written said
-    run_ok said x =
-        let given : List ℕ = given_in x.pieces in
+    run_ok : (report : ReportValue) → Runs job old new from to (Ok report) → RunsOctets job octets read_fails room written report
+    run_ok report x =
+        let given : List ℕ = octets_given x.pieces in
         let left = left_of old.left new.left octets given known x.pieces.consumed in
         let e : Ending = x.comes.0 in
-        let m : Made = made_of job x.reading e in
+        let m : CommandResult = command_result job x.reading e in
         let b : List ℕ = take job.limit given in
-        let same : m.said ≡ said = sym x.comes.1 in
-        let y : Makes job b m = record { reading = x.reading; is_reading = x.is_reading; ends = ends_with job.framing b (job.is_enough x.reading) e (IsFinalEnding e ⊎ ((new.last ≡ gave 0) × IsAtEnd new.left)) x.comes.2; is_made = refl } in
+        let same : m.report ≡ report = sym x.comes.1 in
+        let y : MakesResult job b m = record { reading = x.reading; is_reading = x.is_reading; ends = ends_with job.framing b (job.is_enough x.reading) e (IsFinalEnding e ⊎ ((new.last ≡ gave 0) × IsAtEnd new.left)) x.comes.2; is_made = refl } in
         let sent : written ≡ m.output = all_sent (job.text x.reading) x.sends in
         let front = take_front job.limit given left.0 in
         let is : seen ≡ b ++ front.0 = ap (take job.limit) left.2 ∙ front.1 in
-        let final : IsSettled y → RunsOctets job octets read_fails room written said = λ (k : IsSettled y).
+        let final : IsSettled y → RunsOctets job octets read_fails room written report = λ (k : IsSettled y).
         let z = settled_stays job stays b front.0 m (subst AreOctets is (All-take (λ x. x < 256) job.limit octets all)) y k in
-        let z' : (z : Makes job seen m) × IsSettled z = subst (λ (o : List ℕ). (z : Makes job o m) × IsSettled z) (sym is) z in
-        whole m said z'.0 sent (subst (λ (s : Said). IsSaid job octets read_fails z'.0 s) same (settled z'.1)) in
+        let z' : (z : MakesResult job seen m) × IsSettled z = subst (λ (o : List ℕ). (z : MakesResult job o m) × IsSettled z) (sym is) z in
+        whole m report z'.0 sent (subst (λ (s : ReportValue). IsReport job octets read_fails z'.0 s) same (settled z'.1)) in
         elim (settled_by job.framing b (job.is_enough x.reading) e (IsFinalEnding e ⊎ ((new.last ≡ gave 0) × IsAtEnd new.left)) x.comes.2) [
           | inl enough ↦ final (inl enough)
           | inr rest ↦ elim rest [
@@ -180,54 +180,54 @@ module _ (job : Job Said) (stays : Stays job)
                 let last : x.pieces.last ≡ [] = gave_none new.last x.pieces.last end.0 x.pieces.gave_last in
                 let few : length octets ≤ job.limit =
                 omega (arith, x.within, ap length whole_given, length-append (concat x.pieces.pieces) x.pieces.last, ap length last) in
-                let z : Makes job seen m = subst (λ (o : List ℕ). Makes job o m) (sym (ap (take job.limit) whole_given)) y in
-                whole m said z sent (subst (λ (s : Said). IsSaid job octets read_fails z s) same (ended (ends (x.failures ∙ quiet) end.0) few))
+                let z : MakesResult job seen m = subst (λ (o : List ℕ). MakesResult job o m) (sym (ap (take job.limit) whole_given)) y in
+                whole m report z sent (subst (λ (s : ReportValue). IsReport job octets read_fails z s) same (ended (ends (x.failures ∙ quiet) end.0) few))
           ]
         ]
 
     -- of octets that settle nothing, all of them or too many, all was written
-    unsettled_all : (f : Forest) (said : Said) → IsReading job.framing seen f → AreSound job seen → written ≡ job.text f
-        → ((made : Made) → (x : MakesOf job octets read_fails made) → (IsSettled x → ⊥) → IsSaid job octets read_fails x said)
-        → RunsOctets job octets read_fails room written said
-    unsettled_all f said r s sent says =
+    unsettled_all : (f : Forest) (report : ReportValue) → IsReading job.framing seen f → AreSound job seen → written ≡ job.text f
+        → ((made : CommandResult) → (x : MakesResultOf job octets read_fails made) → (IsSettled x → ⊥) → IsReport job octets read_fails x report)
+        → RunsOctets job octets read_fails room written report
+    unsettled_all f report r s sent says =
         let one = one_made job seen (All-take (λ x. x < 256) job.limit octets all) in
         let same : f ≡ one.1.reading = reading-unique job.framing seen f one.1.reading r one.1.is_reading in
-        whole one.0 said one.1 (sent ∙ ap job.text same ∙ sym (ap (λ (m : Made). m.output) one.1.is_made)) (says one.0 one.1 (unsettled seen one.0 one.1 s))
+        whole one.0 report one.1 (sent ∙ ap job.text same ∙ sym (ap (λ (m : CommandResult). m.output) one.1.is_made)) (says one.0 one.1 (unsettled seen one.0 one.1 s))
 
-    run_broken : Runs job old new from to (Err ReadFailed) → RunsOctets job octets read_fails room written (said_of_device ReadFailed)
+    run_broken : Runs job old new from to (Err ReadFailed) → RunsOctets job octets read_fails room written (report_of_device ReadFailed)
     run_broken x =
-        let given : List ℕ = given_in x.pieces in
+        let given : List ℕ = octets_given x.pieces in
         let before : List ℕ = concat x.pieces.pieces in
         let left = left_of old.left new.left octets given known x.pieces.consumed in
-        let behind = fails (x.failures ∙ ap counted quiet ∙ one_failure) in
+        let behind = fails (x.failures ∙ ap next_count quiet ∙ one_failure) in
         let none : left.0 ≡ [] = at_end new.left left.0 left.1 behind.1 in
         let last : x.pieces.last ≡ [] = failed_none new.last x.pieces.last x.comes x.pieces.gave_last in
         let given_before : given ≡ before = ap (λ (l : List ℕ). before ++ l) last ∙ append-nil before in
         let is_given : octets ≡ given = left.2 ∙ ap (λ (l : List ℕ). given ++ l) none ∙ append-nil given in
         let few : length octets ≤ job.limit = omega (arith, x.within, ap length is_given, ap length given_before) in
         let seen_is : seen ≡ before = take_all job.limit octets few ∙ is_given ∙ given_before in
-        unsettled_all x.reading (said_of_device ReadFailed)
+        unsettled_all x.reading (report_of_device ReadFailed)
         (subst (λ (o : List ℕ). IsReading job.framing (take job.limit o) x.reading) (sym is_given) x.is_reading)
         (subst (AreSound job) (sym seen_is) x.sound)
         (all_sent (job.text x.reading) x.sends)
-        (λ (made : Made) y apart. broken apart behind.0 few)
+        (λ (made : CommandResult) y apart. broken apart behind.0 few)
 
-    run_long : Runs job old new from to (Err InputTooLong) → RunsOctets job octets read_fails room written (said_of_device InputTooLong)
+    run_long : Runs job old new from to (Err InputTooLong) → RunsOctets job octets read_fails room written (report_of_device InputTooLong)
     run_long x =
-        let given : List ℕ = given_in x.pieces in
+        let given : List ℕ = octets_given x.pieces in
         let left = left_of old.left new.left octets given known x.pieces.consumed in
         let many : job.limit < length given = x.comes.0 in
         let is : seen ≡ take job.limit given = ap (take job.limit) left.2 ∙ take-append-le job.limit given left.0 (omega (arith, many)) in
         let more : job.limit < length octets = omega (arith, many, ap length left.2, length-append given left.0) in
-        unsettled_all x.reading (said_of_device InputTooLong)
+        unsettled_all x.reading (report_of_device InputTooLong)
         (subst (λ (o : List ℕ). IsReading job.framing o x.reading) (sym is) x.is_reading)
         (subst (AreSound job) (sym is) x.comes.1)
         (all_sent (job.text x.reading) x.sends)
-        (λ (made : Made) y apart. too_long apart more)
+        (λ (made : CommandResult) y apart. too_long apart more)
 
-    run_short : Runs job old new from to (Err WriteFailed) → RunsOctets job octets read_fails room written (said_of_device WriteFailed)
+    run_short : Runs job old new from to (Err WriteFailed) → RunsOctets job octets read_fails room written (report_of_device WriteFailed)
     run_short x =
-        let given : List ℕ = given_in x.pieces in
+        let given : List ℕ = octets_given x.pieces in
         let left = left_of old.left new.left octets given known x.pieces.consumed in
         let b : List ℕ = take job.limit given in
         let front = take_front job.limit given left.0 in
@@ -237,31 +237,31 @@ module _ (job : Job Said) (stays : Stays job)
         let reads : IsReading job.framing (b ++ front.0) one.1.reading = subst (λ (o : List ℕ). IsReading job.framing o one.1.reading) is one.1.is_reading in
         let on = goes_on b front.0 x.reading one.1.reading few x.is_reading reads in
         let sent : written ≡ x.sends.sent = taken_of from.octets to.octets written x.sends.sent empty took x.sends.took in
-        let text : job.text x.reading ++ on.0 ≡ one.0.output = on.1 ∙ sym (ap (λ (m : Made). m.output) one.1.is_made) in
+        let text : job.text x.reading ++ on.0 ≡ one.0.output = on.1 ∙ sym (ap (λ (m : CommandResult). m.output) one.1.is_made) in
         let output : one.0.output ≡ written ++ (x.sends.left ++ on.0) =
         front_and_rest written x.sends.sent x.sends.left (job.text x.reading) on.0 one.0.output sent x.sends.front text in
-        short one.0 (x.sends.left ++ on.0) one.1 output (more_left x.sends.left on.0 x.sends.not_all) (full (x.sends.failures ∙ ap counted unfailed ∙ one_failure))
+        short one.0 (x.sends.left ++ on.0) one.1 output (more_left x.sends.left on.0 x.sends.not_all) (full (x.sends.failures ∙ ap next_count unfailed ∙ one_failure))
 
-    run_in : (result : Result Said DeviceFault) → Runs job old new from to result → RunsOctets job octets read_fails room written (said_at_end result)
-    run_in (Ok said) x = run_ok said x
+    run_in : (result : Result ReportValue DeviceFault) → Runs job old new from to result → RunsOctets job octets read_fails room written (report_at_end result)
+    run_in (Ok report) x = run_ok report x
     run_in (Err ReadFailed) x = run_broken x
     run_in (Err WriteFailed) x = run_short x
     run_in (Err InputTooLong) x = run_long x
 
-    pub runs_octets : (said : Said) → Ran job old new from to said → RunsOctets job octets read_fails room written said
-    runs_octets said x = subst (RunsOctets job octets read_fails room written) (sym (said-end x)) (run_in x.result x.runs)
+    pub runs_octets : (report : ReportValue) → RunsAndReports job old new from to report → RunsOctets job octets read_fails room written report
+    runs_octets report x = subst (RunsOctets job octets read_fails room written) (sym (report-end x)) (run_in x.result x.runs)
 
--- what a room tells that has failed: it is full
-full_room : (room : ℕ) (xs : List ℕ) (failures : ℕ) → (told_room room xs failures).failures ≡ 1 → length xs ≤ room → length xs ≡ room
+-- what a room shows that has failed: it is full
+full_room : (room : ℕ) (xs : List ℕ) (failures : ℕ) → (room_state room xs failures).failures ≡ 1 → length xs ≤ room → length xs ≡ room
 full_room room xs failures e few = elim (cases_lt (length xs) room) [
-  | inl less ↦ absurd (apart ((told_room room xs failures).failures) (ap (λ (k : Bool). if k then 0 else failures) (lt-ltb (length xs) room less)) e)
+  | inl less ↦ absurd (apart ((room_state room xs failures).failures) (ap (λ (k : Bool). if k then 0 else failures) (lt-ltb (length xs) room less)) e)
   | inr more ↦ omega (arith, few, more)
 ] where
   apart : (n : ℕ) → n ≡ 0 → n ≡ 1 → ⊥
   apart n e d = cc (e, d)
 
--- what a source tells that has failed behind its octets: it has nothing left
-spent : (s : MemSupply) (failures : ℕ) → failures ≡ 1 → IsAtEnd (told_failing s failures).left
+-- what a source shows that has failed behind its octets: it has nothing left
+spent : (s : MemSourceState) (failures : ℕ) → failures ≡ 1 → IsAtEnd (failing_source_state s failures).left
 spent s zero e = absurd (cc (e))
 spent s (suc n) e = refl
 
@@ -274,30 +274,30 @@ gave_some failed e = cc (e)
 
 module _ (command : Command) (names : Table) (octets : List ℕ) (fit : (i : ℕ) → Fits w8 (slice_index_or octets i 0)) (room : ℕ)
     (written kept : ArrayVec ℕ) (same : written ≡ kept) (fits : length written.items ≤ room) (failures : ℕ)
-    (from : Taken) (from_is : from ≡ record { octets = Some []; failures = 0 }) (said : Said) where
+    (from : DrainState) (from_is : from ≡ record { octets = Some []; failures = 0 }) (report : ReportValue) where
   kept_is : written.items ≡ kept.items
   kept_is = ap (λ (v : ArrayVec ℕ). v.items) same
 
-  filled : (told_room room kept.items failures).failures ≡ 1 → length written.items ≡ room
+  filled : (room_state room kept.items failures).failures ≡ 1 → length written.items ≡ room
   filled k = ap length kept_is ∙ full_room room kept.items failures k (omega (arith, ap length kept_is, fits))
 
-  pub to_end : (old : Supply) (new : MemSupply) → old ≡ unread (Some octets)
-      → Ran (command_job command names) old (told_ending new) from (told_room room kept.items failures) said
-      → RunsOctets (command_job command names) octets false room written.items said
+  pub to_end : (old : SourceState) (new : MemSourceState) → old ≡ new_source (Some octets)
+      → RunsAndReports (command_job command names) old (ending_source_state new) from (room_state room kept.items failures) report
+      → RunsOctets (command_job command names) octets false room written.items report
   to_end old new e x =
       runs_octets (command_job command names) (stays_for command names) (text_on command names) octets
       (octets_of octets fit) false
-      old (told_ending new) from (told_room room kept.items failures) room written.items
-      (ap (λ (s : Supply). s.left) e) (ap (λ (s : Supply). s.failures) e) (λ k. absurd (cc (k))) (λ _ _. refl)
-      (ap (λ (t : Taken). t.octets) from_is) (ap (λ (t : Taken). t.failures) from_is) (ap Some (sym kept_is)) fits filled said x
+      old (ending_source_state new) from (room_state room kept.items failures) room written.items
+      (ap (λ (s : SourceState). s.left) e) (ap (λ (s : SourceState). s.failures) e) (λ k. absurd (cc (k))) (λ _ _. refl)
+      (ap (λ (t : DrainState). t.octets) from_is) (ap (λ (t : DrainState). t.failures) from_is) (ap Some (sym kept_is)) fits filled report x
 
-  pub until_failure : (old : Supply) (new : MemSupply) (failed_reads : ℕ) → old ≡ unread (Some octets)
-      → Ran (command_job command names) old (told_failing new failed_reads) from
-      (told_room room kept.items failures) said
-      → RunsOctets (command_job command names) octets true room written.items said
+  pub until_failure : (old : SourceState) (new : MemSourceState) (failed_reads : ℕ) → old ≡ new_source (Some octets)
+      → RunsAndReports (command_job command names) old (failing_source_state new failed_reads) from
+      (room_state room kept.items failures) report
+      → RunsOctets (command_job command names) octets true room written.items report
   until_failure old new failed_reads e x =
       runs_octets (command_job command names) (stays_for command names) (text_on command names) octets
       (octets_of octets fit) true
-      old (told_failing new failed_reads) from (told_room room kept.items failures) room written.items
-      (ap (λ (s : Supply). s.left) e) (ap (λ (s : Supply). s.failures) e) (λ k. (refl, spent new failed_reads k)) (λ _ k. absurd (gave_some new.log.last k))
-      (ap (λ (t : Taken). t.octets) from_is) (ap (λ (t : Taken). t.failures) from_is) (ap Some (sym kept_is)) fits filled said x
+      old (failing_source_state new failed_reads) from (room_state room kept.items failures) room written.items
+      (ap (λ (s : SourceState). s.left) e) (ap (λ (s : SourceState). s.failures) e) (λ k. (refl, spent new failed_reads k)) (λ _ k. absurd (gave_some new.log.last k))
+      (ap (λ (t : DrainState). t.octets) from_is) (ap (λ (t : DrainState). t.failures) from_is) (ap Some (sym kept_is)) fits filled report x

@@ -122,7 +122,7 @@ row-13 : result (dump Ber None false (framed (1099511627776 ∷ []) false)) (oct
 unfolding digits encode_with is_utf8 chars encode
 row-13 = refl
 
--- At a fault E7 is not told
+-- At a fault E7 is not reported
 row-14 : result (dump Ber None false (framed (7 ∷ []) false)) (octets "30 01 02")
     ≡ faulty 0 Short 3 "fault at 3: F02 input ends inside an encoding" (lines (
     "       0      1: SEQUENCE {" ∷ []))
@@ -185,7 +185,7 @@ row-22 : result (extract 0 false (framed (0 ∷ []) false)) (octets "04 02 00 00
 unfolding digits encode_with is_utf8 chars encode
 row-22 = refl
 
--- extract tells no E7
+-- extract reports no E7
 row-23 : result (extract 0 false (framed (1 ∷ 2 ∷ []) false)) (octets "05 00")
     ≡ clean_with (octets "05 00")
 unfolding digits encode_with is_utf8 chars encode
@@ -300,7 +300,7 @@ row-38 : result (check Der (framed (0 ∷ []) false)) (octets "03 00 00")
 unfolding digits encode_with is_utf8 chars encode
 row-38 = refl
 
--- of offsets without a string nothing is told
+-- of offsets without a string nothing is reported
 row-39 : result (extract 0 false (framed (1 ∷ []) false)) (octets "05 00")
     ≡ clean_with (octets "05 00")
 unfolding digits encode_with is_utf8 chars encode

@@ -3,46 +3,46 @@ use Rattle.std.proofs.Common.{◌≡◌, ◌⊎◌, inl, inr, ℕ, ◌-◌, ◌^
 use Rattle.std.proofs.lemmas.List.{take_all}
 use Rattle.std.specs.Prelude.{Some, Result, Ok, Err}
 use Rattle.std.specs.Io.KnownBytes.{Appends, IsAtEnd}
-use Rattle.tlv_walk.proofs.Enough.{ends_with, settled_by}
+use Rattle.tlv_walk.proofs.FollowerLemmas.Enough.{ends_with, settled_by}
 use Rattle.tlv_io.proofs.Puts.{sends_appends}
 use Rattle.tlv_walk.specs.declared.ending.Ending.{Ending}
 use Rattle.tlv_walk.specs.declared.run.DeviceFault.{DeviceFault}
 use Rattle.tlv_walk.specs.declared.run.DeviceFault.TheVariants.{ReadFailed, WriteFailed, InputTooLong}
-use Rattle.tlv_io.specs.Device.{Supply, Taken, counted, gave, given_in}
+use Rattle.tlv_io.specs.Device.{DrainState, SourceState, gave, next_count, octets_given}
 use Rattle.tlv_walk.specs.Job.{IsFinalEnding, Job, Runs}
 use Rattle.tlv_walk.specs.Laws.{AreOctets}
 use Rattle.tlv_run.proofs.InMemory.{at_end, left_of}
 use Rattle.tlv_run.proofs.Results.{Stays, limit_is, settled_stays, stays_for}
-use Rattle.tlv_run.proofs.SaidJobs.{said-end}
+use Rattle.tlv_run.proofs.JobReports.{report-end}
 use Rattle.tlv_run.specs.Laws.{RunsAreResults}
-use Rattle.tlv_run.specs.Report.{Said}
-use Rattle.tlv_run.specs.Results.{IsSettled, Made, Makes, made_of, command_job}
-use Rattle.tlv_run.specs.Private.Runs.{said_at_end}
+use Rattle.tlv_run.specs.Report.{ReportValue}
+use Rattle.tlv_run.specs.Results.{CommandResult, IsSettled, MakesResult, command_job, command_result}
+use Rattle.tlv_run.proofs.ReportAtEnd.{report_at_end}
 
 -- a count below its end goes on
-goes_up : (n : ℕ) → n < 2 ^ 64 - 1 → counted n ≡ n → ⊥
+goes_up : (n : ℕ) → n < 2 ^ 64 - 1 → next_count n ≡ n → ⊥
 goes_up n less e = omega (arith, less, e)
 
-module _ (job : Job Said) (stays : Stays job) (octets : List ℕ) (all : AreOctets octets) (few : length octets ≤ job.limit)
-    (old new : Supply) (from to : Taken) (known : old.left ≡ Some octets) where
-  -- the result of the octets was written, and this is said
-  Gives : Said → Type 0
-  Gives said = (made : Made) × Makes job octets made × Appends from.octets to.octets made.output × (said ≡ made.said)
+module _ (job : Job ReportValue) (stays : Stays job) (octets : List ℕ) (all : AreOctets octets) (few : length octets ≤ job.limit)
+    (old new : SourceState) (from to : DrainState) (known : old.left ≡ Some octets) where
+  -- the result of the octets was written, and this is reported
+  Gives : ReportValue → Type 0
+  Gives report = (made : CommandResult) × MakesResult job octets made × Appends from.octets to.octets made.output × (report ≡ made.report)
 
-  gives_ok : (said : Said) → Runs job old new from to (Ok said) → Gives said
+  gives_ok : (report : ReportValue) → Runs job old new from to (Ok report) → Gives report
   unfolding Gives
-  gives_ok said x =
-      let given : List ℕ = given_in x.pieces in
+  gives_ok report x =
+      let given : List ℕ = octets_given x.pieces in
       let left = left_of old.left new.left octets given known x.pieces.consumed in
       let e : Ending = x.comes.0 in
-      let m : Made = made_of job x.reading e in
+      let m : CommandResult = command_result job x.reading e in
       let short : length given ≤ job.limit = omega (arith, few, ap length left.2, length-append given left.0) in
       let is : octets ≡ take job.limit given ++ left.0 = left.2 ∙ ap (λ (l : List ℕ). l ++ left.0) (sym (take_all job.limit given short)) in
-      let y : Makes job (take job.limit given) m = record { reading = x.reading; is_reading = x.is_reading; ends = ends_with job.framing (take job.limit given) (job.is_enough x.reading) e (IsFinalEnding e ⊎ ((new.last ≡ gave 0) × IsAtEnd new.left)) x.comes.2; is_made = refl } in
+      let y : MakesResult job (take job.limit given) m = record { reading = x.reading; is_reading = x.is_reading; ends = ends_with job.framing (take job.limit given) (job.is_enough x.reading) e (IsFinalEnding e ⊎ ((new.last ≡ gave 0) × IsAtEnd new.left)) x.comes.2; is_made = refl } in
       let sent : Appends from.octets to.octets m.output = sends_appends from to (job.text x.reading) tt x.sends in
-      let final : IsSettled y → Gives said = λ (k : IsSettled y).
+      let final : IsSettled y → Gives report = λ (k : IsSettled y).
       let z = settled_stays job stays (take job.limit given) left.0 m (subst AreOctets is all) y k in
-      (m, subst (λ (o : List ℕ). Makes job o m) (sym is) z.0, sent, x.comes.1) in
+      (m, subst (λ (o : List ℕ). MakesResult job o m) (sym is) z.0, sent, x.comes.1) in
       elim (settled_by job.framing (take job.limit given) (job.is_enough x.reading) e (IsFinalEnding e ⊎ ((new.last ≡ gave 0) × IsAtEnd new.left)) x.comes.2) [
         | inl enough ↦ final (inl enough)
         | inr rest ↦ elim rest [
@@ -50,22 +50,22 @@ module _ (job : Job Said) (stays : Stays job) (octets : List ℕ) (all : AreOcte
           | inr end ↦
               let none : left.0 ≡ [] = at_end new.left left.0 left.1 end.1 in
               let same : octets ≡ take job.limit given = is ∙ ap (λ (l : List ℕ). take job.limit given ++ l) none ∙ append-nil (take job.limit given) in
-              (m, subst (λ (o : List ℕ). Makes job o m) (sym same) y, sent, x.comes.1)
+              (m, subst (λ (o : List ℕ). MakesResult job o m) (sym same) y, sent, x.comes.1)
         ]
       ]
 
   gives : old.failures < 2 ^ 64 - 1 → new.failures ≡ old.failures → from.failures < 2 ^ 64 - 1 → to.failures ≡ from.failures
-      → (result : Result Said DeviceFault) → Runs job old new from to result → Gives (said_at_end result)
-  gives old_few quiet from_few took (Ok said) x = gives_ok said x
+      → (result : Result ReportValue DeviceFault) → Runs job old new from to result → Gives (report_at_end result)
+  gives old_few quiet from_few took (Ok report) x = gives_ok report x
   gives old_few quiet from_few took (Err ReadFailed) x = absurd (goes_up old.failures old_few (sym x.failures ∙ quiet))
   gives old_few quiet from_few took (Err WriteFailed) x = absurd (goes_up from.failures from_few (sym x.sends.failures ∙ took))
   gives old_few quiet from_few took (Err InputTooLong) x =
-      let left = left_of old.left new.left octets (given_in x.pieces) known x.pieces.consumed in
-      absurd (omega (arith, few, x.comes.0, ap length left.2, length-append (given_in x.pieces) left.0))
+      let left = left_of old.left new.left octets (octets_given x.pieces) known x.pieces.consumed in
+      absurd (omega (arith, few, x.comes.0, ap length left.2, length-append (octets_given x.pieces) left.0))
 
 pub run_results : RunsAreResults
 unfolding Gives
-run_results command names octets old new from to said all few known old_few quiet from_few took x =
+run_results command names octets old new from to report all few known old_few quiet from_few took x =
     let job = command_job command names in
     let y = gives job (stays_for command names) octets all (subst (λ (n : ℕ). length octets ≤ n) (sym (limit_is command names)) few) old new from to known old_few quiet from_few took x.result x.runs in
-    (y.0, y.1, y.2, said-end x ∙ y.3)
+    (y.0, y.1, y.2, report-end x ∙ y.3)

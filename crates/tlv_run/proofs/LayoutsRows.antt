@@ -74,7 +74,7 @@ row-7 : result (dump Ber (Some 1) false plain) (octets "04 31" ++ replicate 32 0
 unfolding digits encode_with is_utf8 chars encode
 row-7 = refl
 
--- it is not full, and nothing is said of it
+-- it is not full, and nothing is reported of it
 row-8 : result (dump Ber (Some 1) false plain) (octets "04 31" ++ replicate 31 0x11)
     ≡ faulty 0 Short 33 "fault at 33: F02 input ends inside an encoding" (lines (
     "       0     49: OCTET STRING" ∷

@@ -14,7 +14,9 @@ pub mod LayoutsRows
 pub mod PaddingRows
 pub mod Results
 pub mod RowWords
-pub mod SaidJobs
+pub mod JobReports
 pub mod Statuses
 pub mod TimesRows
 pub mod ValuesRows
+pub mod ReportAtEnd
+pub mod CleanReport

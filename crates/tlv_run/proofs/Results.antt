@@ -8,11 +8,11 @@ use Rattle.tlv_cut.specs.ExtractText.{extract_text, has_element_at}
 use Rattle.tlv_cut.specs.IndefJob.{indef_framing}
 use Rattle.tlv_cut.specs.IndefReading.{indef_reading}
 use Rattle.tlv_cut.specs.IndefText.{indef_text}
-use Rattle.tlv_show.proofs.Longer.{checks_on, dumps_on}
+use Rattle.tlv_show.proofs.DumpLemmas.Longer.{checks_on, dumps_on}
 use Rattle.tlv_value.specs.Names.{Table}
-use Rattle.tlv_walk.proofs.Endings.{ending, is-ending}
-use Rattle.tlv_walk.proofs.Readings.{is-reading, reading, reading-unique}
-use Rattle.tlv_walk.proofs.Unique.{ending-unique, refused-for-good}
+use Rattle.tlv_walk.proofs.GrammarLemmas.Endings.{ending, is-ending}
+use Rattle.tlv_walk.proofs.GrammarLemmas.Readings.{is-reading, reading, reading-unique}
+use Rattle.tlv_walk.proofs.GrammarLemmas.Unique.{ending-unique, refused-for-good}
 use Rattle.tlv_walk.specs.declared.ending.Ending.{Ending}
 use Rattle.tlv_walk.specs.declared.ending.Ending.TheVariants as ending
 use Rattle.tlv_walk.specs.declared.framing.Framing.{Framing}
@@ -22,9 +22,9 @@ use Rattle.tlv_walk.specs.Job.{EndsWith, IsFinalEnding, Job}
 use Rattle.tlv_walk.specs.Laws.{AreOctets}
 use Rattle.tlv_walk.specs.Reading.{IsPrefixOf, IsReading}
 use Rattle.tlv_run.specs.Laws.{InputsHaveOneResult, OutputsGoOn, SecondIndefIsTheFirst, SettledResultsStay}
-use Rattle.tlv_run.specs.Report.{Said, said_of_cut}
-use Rattle.tlv_run.specs.Private.Report.{said_of_indef}
-use Rattle.tlv_run.specs.Results.{IsSettled, Made, Makes, made_of, command_job}
+use Rattle.tlv_run.specs.Report.{ReportValue, report_of_cut}
+use Rattle.tlv_run.specs.Private.Report.{report_of_indef}
+use Rattle.tlv_run.specs.Results.{CommandResult, IsSettled, MakesResult, command_job, command_result}
 use Rattle.tlv_run.specs.declared.command.Command.{Command}
 use Rattle.tlv_run.specs.declared.command.Command.TheVariants.{Check, Dump, Extract, Indef}
 
@@ -51,37 +51,37 @@ final_stays framing b c f false (ending.Fault k) final r x = refused-for-good fr
 
 -- ---- any job
 
-module _ (job : Job Said) where
+module _ (job : Job ReportValue) where
   -- octets have one result at most
-  pub makes_unique : (b : List ℕ) (m n : Made) → Makes job b m → Makes job b n → m ≡ n
+  pub makes_unique : (b : List ℕ) (m n : CommandResult) → MakesResult job b m → MakesResult job b n → m ≡ n
   makes_unique b m n x y =
       let same : x.reading ≡ y.reading = reading-unique job.framing b x.reading y.reading x.is_reading y.is_reading in
       let here : EndsWith job.framing b (job.is_enough y.reading) m.ending =
       subst (λ (f : Forest). EndsWith job.framing b (job.is_enough f) m.ending) same x.ends in
       let end : m.ending ≡ n.ending = end_unique job.framing b (job.is_enough y.reading) m.ending n.ending here y.ends in
-      x.is_made ∙ ap (λ (f : Forest). made_of job f m.ending) same ∙ ap (made_of job y.reading) end ∙ sym y.is_made
+      x.is_made ∙ ap (λ (f : Forest). command_result job f m.ending) same ∙ ap (command_result job y.reading) end ∙ sym y.is_made
 
   -- the result, computed
-  abbrev pub result_of : List ℕ → Made
-  result_of b = let f = reading job.framing b in made_of job f (end_of job.framing b (job.is_enough f))
+  abbrev pub result_of : List ℕ → CommandResult
+  result_of b = let f = reading job.framing b in command_result job f (end_of job.framing b (job.is_enough f))
 
-  pub is_result : (b : List ℕ) → AreOctets b → Makes job b (result_of b)
+  pub is_result : (b : List ℕ) → AreOctets b → MakesResult job b (result_of b)
   is_result b octets =
       let f : Forest = reading job.framing b in
       record { reading = f; is_reading = is-reading job.framing b octets; ends = is_end job.framing b octets (job.is_enough f); is_made = refl }
 
-  pub one_made : (b : List ℕ) → AreOctets b → (made : Made) × Makes job b made × ((other : Made) → Makes job b other → other ≡ made)
+  pub one_made : (b : List ℕ) → AreOctets b → (made : CommandResult) × MakesResult job b made × ((other : CommandResult) → MakesResult job b other → other ≡ made)
   one_made b octets =
       let x = is_result b octets in
-      (result_of b, x, λ (other : Made) y. makes_unique b other (result_of b) y x)
+      (result_of b, x, λ (other : CommandResult) y. makes_unique b other (result_of b) y x)
 
   -- where nothing more is wanted, the same is made of every longer input
   abbrev pub Stays : Type 0
   Stays = (b c : List ℕ) (f g : Forest) → IsReading job.framing b f → IsReading job.framing (b ++ c) g → job.is_enough f ≡ true
-      → (job.is_enough g ≡ true) × ((e : Ending) → made_of job g e ≡ made_of job f e)
+      → (job.is_enough g ≡ true) × ((e : Ending) → command_result job g e ≡ command_result job f e)
 
-  pub settled_stays : Stays → (b c : List ℕ) (made : Made) → AreOctets (b ++ c) → (x : Makes job b made)
-      → IsSettled x → (y : Makes job (b ++ c) made) × IsSettled y
+  pub settled_stays : Stays → (b c : List ℕ) (made : CommandResult) → AreOctets (b ++ c) → (x : MakesResult job b made)
+      → IsSettled x → (y : MakesResult job (b ++ c) made) × IsSettled y
   settled_stays stays b c made octets x s = elim s [
     | inl enough ↦
         let g : Forest = reading job.framing (b ++ c) in
@@ -106,8 +106,8 @@ module _ (job : Job Said) where
 pub one_result : InputsHaveOneResult
 one_result command names = one_made (command_job command names)
 
-abbrev made : List ℕ → Ending → Said → Made
-made t e said = record { output = t; ending = e; said = said }
+abbrev made : List ℕ → Ending → ReportValue → CommandResult
+made t e report = record { output = t; ending = e; report = report }
 
 pub stays_for : (command : Command) (names : Table) → Stays (command_job command names)
 stays_for (Dump options names_file file) names b c f g r s e = absurd (true≢false (sym e))
@@ -117,9 +117,9 @@ stays_for (Extract offset contents framing file) names b c f g r s e =
     same_extract_text framing b c f g r s offset contents e in
     let found : has_element_at offset g ≡ has_element_at offset f = same_found framing b c f g r s offset contents e in (
       same_whole framing b c f g r s offset contents e ∙ e,
-      λ (d : Ending). ap (λ (t : List ℕ). made t d (said_of_cut offset (record { ending = d; found = has_element_at offset g }))) text
+      λ (d : Ending). ap (λ (t : List ℕ). made t d (report_of_cut offset (record { ending = d; found = has_element_at offset g }))) text
           ∙ ap (λ (k : Bool). made (extract_text offset contents f) d
-          (said_of_cut offset (record { ending = d; found = k }))) found,
+          (report_of_cut offset (record { ending = d; found = k }))) found,
     )
 stays_for (Indef padding file) names b c f g r s e = absurd (true≢false (sym e))
 
@@ -146,23 +146,23 @@ text_on (Indef padding file) names b c f g few r s = indef_text_goes_on _ b c f 
 pub outputs_on : OutputsGoOn
 outputs_on command names b c made more few x y =
     let shorter : (command_job command names).text x.reading ≡ made.output =
-    sym (ap (λ (m : Made). m.output) x.is_made) in
+    sym (ap (λ (m : CommandResult). m.output) x.is_made) in
     let longer : (command_job command names).text y.reading ≡ more.output =
-    sym (ap (λ (m : Made). m.output) y.is_made) in
+    sym (ap (λ (m : CommandResult). m.output) y.is_made) in
     let front = text_on command names b c x.reading y.reading (subst (λ (n : ℕ). length (b ++ c) ≤ n) (sym (limit_is command names)) few) x.is_reading y.is_reading in
     (front.0, ap (λ (l : List ℕ). l ++ front.0) (sym shorter) ∙ front.1 ∙ longer)
 
 pub second_indef : SecondIndefIsTheFirst
 second_indef padding file names b m n x y =
-    let job : Job Said = command_job (Indef padding file) names in
-    let first : m.output ≡ indef_text x.reading = ap (λ (m : Made). m.output) x.is_made in
+    let job : Job ReportValue = command_job (Indef padding file) names in
+    let first : m.output ≡ indef_text x.reading = ap (λ (m : CommandResult). m.output) x.is_made in
     let again = indef_text_is_read_back padding b x.reading x.is_reading in
     let z : IsReading (indef_framing padding) (indef_text x.reading) y.reading =
     subst (λ (o : List ℕ). IsReading (indef_framing padding) o y.reading) first y.is_reading in
     let same : y.reading ≡ indef_reading x.reading =
     reading-unique (indef_framing padding) (indef_text x.reading) y.reading (indef_reading x.reading) z again.0 in
     let output : n.output ≡ m.output =
-    ap (λ (m : Made). m.output) y.is_made ∙ ap indef_text same ∙ again.1 ∙ sym first in (
+    ap (λ (m : CommandResult). m.output) y.is_made ∙ ap indef_text same ∙ again.1 ∙ sym first in (
       output,
       λ (done : m.ending ≡ ending.Done).
           let e : IsEnding (indef_framing padding) b ending.Done =
@@ -173,7 +173,7 @@ second_indef padding file names b m n x y =
           subst (λ (o : List ℕ). IsEnding (indef_framing padding) o n.ending) first y.ends in
           let end : n.ending ≡ m.ending =
           ending-unique (indef_framing padding) (indef_text x.reading) n.ending ending.Done d' d ∙ sym done in
-          y.is_made ∙ ap (λ (e : Ending). made_of job y.reading e) end
-          ∙ ap (λ (o : List ℕ). made o m.ending (said_of_indef m.ending)) (ap indef_text same ∙ again.1)
+          y.is_made ∙ ap (λ (e : Ending). command_result job y.reading e) end
+          ∙ ap (λ (o : List ℕ). made o m.ending (report_of_indef m.ending)) (ap indef_text same ∙ again.1)
           ∙ sym x.is_made,
     )

@@ -7,19 +7,19 @@ use Rattle.std.specs.FinMap as finite
 use Rattle.std.specs.Ordering.{nat_cmp}
 use Prim.Native.String.{String}
 use Rattle.tlv_head.specs.declared.fault.FaultCode.{FaultCode}
-use Rattle.tlv_show.specs.Dumps.{top_layout}
+use Rattle.tlv_show.specs.DumpJob.{top_layout}
 use Rattle.tlv_show.specs.Texts.{dump_text}
 use Rattle.tlv_show.specs.declared.options.Options.{Options}
 use Rattle.tlv_show.specs.declared.rules.Rules.{Rules}
 use Rattle.tlv_value.specs.Names.{Table}
 use Rattle.tlv_value.specs.Value.{NameOf, no_names}
-use Rattle.tlv_walk.proofs.Readings.{reading}
+use Rattle.tlv_walk.proofs.GrammarLemmas.Readings.{reading}
 use Rattle.tlv_walk.specs.Ending.{fault}
 use Rattle.tlv_walk.specs.declared.ending.Ending.TheVariants.{Done}
 use Rattle.tlv_walk.specs.declared.framing.Framing.{Framing}
 use Rattle.tlv_run.proofs.Results.{result_of}
-use Rattle.tlv_run.specs.Private.Report.{clean}
-use Rattle.tlv_run.specs.Results.{Made, command_job}
+use Rattle.tlv_run.proofs.CleanReport.{clean}
+use Rattle.tlv_run.specs.Results.{CommandResult, command_job}
 use Rattle.tlv_run.specs.declared.command.Command.{Command}
 use Rattle.tlv_run.specs.declared.command.Command.TheVariants.{Check, Dump, Extract, Indef}
 
@@ -65,32 +65,32 @@ indef padding = Indef padding None
 
 -- ---- what is made of an input
 
-abbrev pub result_with : Table → Command → List ℕ → Made
+abbrev pub result_with : Table → Command → List ℕ → CommandResult
 result_with names command octets = result_of (command_job command names) octets
 
-abbrev pub result : Command → List ℕ → Made
+abbrev pub result : Command → List ℕ → CommandResult
 result command octets = result_with finite.empty command octets
 
 abbrev pub lines : List String → List ℕ
 lines texts = flat_map (λ text. codes text ++ 10 ∷ []) texts
 
 -- status 0, and no message
-abbrev pub clean_with : List ℕ → Made
-clean_with output = record { output = output; ending = Done; said = clean }
+abbrev pub clean_with : List ℕ → CommandResult
+clean_with output = record { output = output; ending = Done; report = clean }
 
 -- status 1 with so many findings and this message
-abbrev pub noted : ℕ → String → List ℕ → Made
-noted findings message output = record { output = output; ending = Done; said = record { status = 1; findings = findings; message = codes message } }
+abbrev pub noted : ℕ → String → List ℕ → CommandResult
+noted findings message output = record { output = output; ending = Done; report = record { status = 1; findings = findings; message = codes message } }
 
 -- status 2: so many findings, and a fault of this code at this offset, with this message
-abbrev pub faulty : ℕ → FaultCode → ℕ → String → List ℕ → Made
+abbrev pub faulty : ℕ → FaultCode → ℕ → String → List ℕ → CommandResult
 faulty findings code offset message output =
-    record { output = output; ending = fault code offset; said = record { status = 2; findings = findings; message = codes message } }
+    record { output = output; ending = fault code offset; report = record { status = 2; findings = findings; message = codes message } }
 
 -- ---- names of object identifiers
 
 -- a dump, by the names themselves in place of the table of names
-abbrev dumped_by : Rules → Option ℕ → Bool → Framing → NameOf → List ℕ → Made
+abbrev dumped_by : Rules → Option ℕ → Bool → Framing → NameOf → List ℕ → CommandResult
 dumped_by rules limit pure framing name_of octets =
     record (result (dump rules limit pure framing) octets) { output = dump_text name_of (top_layout (options_of rules limit pure framing)) rules (reading framing octets) }
 

@@ -3,40 +3,40 @@ use Rattle.std.proofs.Common.{◌≡◌, ◌==◌, ℕ, Bool, true, false, if◌
 use Rattle.std.specs.Prelude.{Option, Some, None, codes, decimal}
 use Rattle.tlv_cut.specs.ExtractText.{has_element_at}
 use Rattle.tlv_show.specs.declared.outcome.Outcome.{Outcome}
-use Rattle.tlv_show.specs.Checks.{checking}
-use Rattle.tlv_show.specs.Dumps.{dumping}
+use Rattle.tlv_show.specs.CheckJob.{check_job}
+use Rattle.tlv_show.specs.DumpJob.{dump_job}
 use Rattle.tlv_value.specs.Names.{Table}
-use Rattle.tlv_walk.proofs.Endings.{done-sound, sound-done}
-use Rattle.tlv_walk.proofs.Unique.{ending-unique}
+use Rattle.tlv_walk.proofs.GrammarLemmas.Endings.{done-sound, sound-done}
+use Rattle.tlv_walk.proofs.GrammarLemmas.Unique.{ending-unique}
 use Rattle.tlv_walk.specs.declared.ending.Ending.{Ending}
 use Rattle.tlv_walk.specs.declared.ending.Ending.TheVariants as ending
 use Rattle.tlv_walk.specs.Ending.{IsEnding}
 use Rattle.tlv_walk.specs.Forest.{Forest}
 use Rattle.tlv_walk.specs.Job.{EndsWith}
-use Rattle.tlv_run.specs.Laws.{StatusesTellOfSoundness}
-use Rattle.tlv_run.specs.Report.{said_of_findings, said_of_unused, saying}
-use Rattle.tlv_run.specs.Private.Report.{said_of_found}
-use Rattle.tlv_run.specs.Results.{Made, command_job}
+use Rattle.tlv_run.specs.Laws.{StatusesShowSoundness}
+use Rattle.tlv_run.specs.Report.{report_of_findings, report_of_unused, report_with}
+use Rattle.tlv_run.specs.Private.Report.{report_of_found}
+use Rattle.tlv_run.specs.Results.{CommandResult, command_job}
 use Rattle.tlv_run.specs.declared.command.Command.{Command}
 use Rattle.tlv_run.specs.declared.command.Command.TheVariants.{Check, Dump, Extract, Indef}
 
--- what is said where there is no fault
-quiet : (unused : Option ℕ) (findings : ℕ) → (said_of_unused unused (said_of_findings findings)).status ≡ 2 → ⊥
+-- what is reported where there is no fault
+quiet : (unused : Option ℕ) (findings : ℕ) → (report_of_unused unused (report_of_findings findings)).status ≡ 2 → ⊥
 quiet None findings e = by-test (findings == 0) e
   where
-    by-test : (none : Bool) → (if none then saying 0 [] else saying 1 (codes "findings: " ++ decimal findings)).status ≡ 2 → ⊥
+    by-test : (none : Bool) → (if none then report_with 0 [] else report_with 1 (codes "findings: " ++ decimal findings)).status ≡ 2 → ⊥
     by-test true e = absurd (cc (e))
     by-test false e = absurd (cc (e))
 quiet (Some offset) findings e = absurd (cc (e))
 
-found_quiet : (offset : ℕ) (found : Bool) → (said_of_found offset found).status ≡ 2 → ⊥
+found_quiet : (offset : ℕ) (found : Bool) → (report_of_found offset found).status ≡ 2 → ⊥
 found_quiet offset true e = absurd (cc (e))
 found_quiet offset false e = absurd (cc (e))
 
 done_quiet : (command : Command) (names : Table) (f : Forest)
     → ((command_job command names).answer f ending.Done).status ≡ 2 → ⊥
-done_quiet (Dump options names_file file) names f e = let outcome : Outcome = (dumping options names).answer f ending.Done in quiet outcome.unused outcome.findings e
-done_quiet (Check rules framing file) names f e = let outcome : Outcome = (checking rules framing).answer f ending.Done in quiet outcome.unused outcome.findings e
+done_quiet (Dump options names_file file) names f e = let outcome : Outcome = (dump_job options names).answer f ending.Done in quiet outcome.unused outcome.findings e
+done_quiet (Check rules framing file) names f e = let outcome : Outcome = (check_job rules framing).answer f ending.Done in quiet outcome.unused outcome.findings e
 done_quiet (Extract offset contents framing file) names f e = found_quiet offset (has_element_at offset f) e
 done_quiet (Indef padding file) names f e = absurd (cc (e))
 
@@ -48,11 +48,11 @@ fault_loud (Check rules framing file) names f (ending.Fault k) apart = refl
 fault_loud (Extract offset contents framing file) names f (ending.Fault k) apart = refl
 fault_loud (Indef padding file) names f (ending.Fault k) apart = refl
 
-pub statuses : StatusesTellOfSoundness
+pub statuses : StatusesShowSoundness
 statuses command names b made x open_ =
     let job = command_job command names in
     let ends : IsEnding job.framing b made.ending = subst (λ (k : Bool). EndsWith job.framing b k made.ending) open_ x.ends in
-    let status : made.said.status ≡ (job.answer x.reading made.ending).status = ap (λ (m : Made). m.said.status) x.is_made in (
+    let status : made.report.status ≡ (job.answer x.reading made.ending).status = ap (λ (m : CommandResult). m.report.status) x.is_made in (
       λ two sound. done_quiet command names x.reading
           (ap (λ (e : Ending). (job.answer x.reading e).status) (sym (ending-unique job.framing b made.ending ending.Done ends (sound-done job.framing b sound))) ∙ sym status ∙ two),
       λ unsound. status ∙ fault_loud command names x.reading made.ending (λ done. unsound (done-sound job.framing b (subst (IsEnding job.framing b) done ends))),

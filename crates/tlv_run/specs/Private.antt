@@ -1,3 +1,2 @@
-pub mod Held
+pub mod MemoryDevices
 pub mod Report
-pub mod Runs

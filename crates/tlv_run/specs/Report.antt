@@ -1,11 +1,11 @@
 -- What the program says of a run: the exit status, the number of findings, and the message.
 use Rattle.std.specs.Prelude.{◌∷◌, ⊤, ℕ, ◌==◌, if◌then◌else◌, List, [], ◌++◌, Option, Some, None, Result, Ok, Err, codes, decimal}
 use Rattle.tlv_cut.specs.declared.extract_call.Cut.{Cut}
-use Rattle.tlv_head.specs.Fault.{code_of, text_of}
+use Rattle.tlv_head.specs.Fault.{fault_code, fault_text}
 use Rattle.tlv_show.specs.declared.outcome.Outcome.{Outcome}
 use Rattle.tlv_value.specs.declared.names.fault.NamesFault.{NamesFault}
 use Rattle.tlv_value.specs.declared.names.fault.NamesFault.TheVariants as names
-use Rattle.tlv_io.specs.Device.{Taken}
+use Rattle.tlv_io.specs.Device.{DrainState}
 use Rattle.tlv_io.specs.Out.{Sends}
 use Rattle.tlv_io.specs.declared.drain.WriteFault.{WriteFault}
 use Rattle.tlv_walk.specs.declared.ending.Ending.{Ending}
@@ -15,76 +15,76 @@ use Rattle.tlv_walk.specs.declared.run.DeviceFault.TheVariants.{ReadFailed, Writ
 use Rattle.tlv_run.specs.declared.report.Report.{Report}
 
 -- the message is one line without its end, or nothing
-pub record Said : Type 0 where
+pub record ReportValue : Type 0 where
   pub status : ℕ
   pub findings : ℕ
   pub message : List ℕ
 
-abbrev pub said_in : Report → Said
-said_in report = record { status = report.status; findings = report.findings; message = report.message.items }
+abbrev pub report_value : Report → ReportValue
+report_value report = record { status = report.status; findings = report.findings; message = report.message.items }
 
-abbrev pub saying : ℕ → List ℕ → Said
-saying status message = record { status = status; findings = 0; message = message }
+abbrev pub report_with : ℕ → List ℕ → ReportValue
+report_with status message = record { status = status; findings = 0; message = message }
 
--- ---- what an input comes to. Where there is nothing to say, the status is 0 and there is no message
+-- ---- what an input comes to. If there is nothing to say, the status is 0 and there is no message
 
 -- a fault of the encoding, by its offset, its code and its text, takes precedence over what else there is to say
-abbrev pub said_of_ending : Ending → Said → Said
-said_of_ending (ending.Fault f) other = saying 2 (codes "fault at " ++ decimal f.offset ++ codes ": " ++ code_of f.code ++ codes " " ++ text_of f.code)
-said_of_ending ending.Done other = other
+abbrev pub report_of_ending : Ending → ReportValue → ReportValue
+report_of_ending (ending.Fault f) other = report_with 2 (codes "fault at " ++ decimal f.offset ++ codes ": " ++ fault_code f.code ++ codes " " ++ fault_text f.code)
+report_of_ending ending.Done other = other
 
 -- the first of the named offsets at which there is no string to read takes precedence over findings
-abbrev pub said_of_unused : Option ℕ → Said → Said
-said_of_unused None other = other
-said_of_unused (Some offset) other = saying 1 (codes "E7 no string to read at offset " ++ decimal offset)
+abbrev pub report_of_unused : Option ℕ → ReportValue → ReportValue
+report_of_unused None other = other
+report_of_unused (Some offset) other = report_with 1 (codes "E7 no string to read at offset " ++ decimal offset)
 
-abbrev pub said_of_findings : ℕ → Said
-said_of_findings n = if n == 0 then saying 0 [] else saying 1 (codes "findings: " ++ decimal n)
+abbrev pub report_of_findings : ℕ → ReportValue
+report_of_findings n = if n == 0 then report_with 0 [] else report_with 1 (codes "findings: " ++ decimal n)
 
--- a dump or a check: the count stays, whatever is said
-abbrev pub said_of_outcome : Outcome → Said
-said_of_outcome outcome =
-    record (said_of_ending outcome.ending (said_of_unused outcome.unused (said_of_findings outcome.findings))) { findings = outcome.findings }
+-- a dump or a check: the count stays, whatever is reported
+abbrev pub report_of_outcome : Outcome → ReportValue
+report_of_outcome outcome =
+    record (report_of_ending outcome.ending (report_of_unused outcome.unused (report_of_findings outcome.findings))) { findings = outcome.findings }
 
 -- an extract of the element at this offset
-abbrev pub said_of_cut : ℕ → Cut → Said
-said_of_cut offset cut = said_of_ending cut.ending (if cut.found then saying 0 [] else saying 1 (codes "E4 no element at offset " ++ decimal offset))
+abbrev pub report_of_cut : ℕ → Cut → ReportValue
+report_of_cut offset cut = report_of_ending cut.ending (if cut.found then report_with 0 [] else report_with 1 (codes "E4 no element at offset " ++ decimal offset))
 
 -- ---- devices
 
-abbrev pub said_of_device : DeviceFault → Said
-said_of_device ReadFailed = saying 3 (codes "E1 read failed")
-said_of_device WriteFailed = saying 3 (codes "E2 write failed")
-said_of_device InputTooLong = saying 3 (codes "E3 input too long")
+abbrev pub report_of_device : DeviceFault → ReportValue
+report_of_device ReadFailed = report_with 3 (codes "E1 read failed")
+report_of_device WriteFailed = report_with 3 (codes "E2 write failed")
+report_of_device InputTooLong = report_with 3 (codes "E3 input too long")
 
 -- the file to read does not open
-abbrev pub said_of_closed : Said
-said_of_closed = saying 3 (codes "E5 cannot open the file")
+abbrev pub report_of_closed : ReportValue
+report_of_closed = report_with 3 (codes "E5 cannot open the file")
 
-abbrev pub said_of : {A : Type 0} → (A → Said) → Result A DeviceFault → Said
-said_of say (Ok a) = say a
-said_of say (Err fault) = said_of_device fault
+abbrev pub report_of : {A : Type 0} → (A → ReportValue) → Result A DeviceFault → ReportValue
+report_of say (Ok a) = say a
+report_of say (Err fault) = report_of_device fault
 
 -- ---- the names file
 
 abbrev pub line_with : List ℕ → ℕ → List ℕ → List ℕ
 line_with code line text = code ++ codes " line " ++ decimal line ++ text
 
-abbrev pub said_of_names : NamesFault → Said
-said_of_names (names.BadOid line) = saying 4 (line_with (codes "N1") line (codes ": not an object identifier"))
-said_of_names (names.BadName line) = saying 4 (line_with (codes "N2") line (codes ": no usable name"))
-said_of_names (names.Repeated line) = saying 4 (line_with (codes "N3") line (codes ": repeated"))
-said_of_names names.TooLarge = saying 4 (codes "N4 names file too large")
-said_of_names names.ReadFailed = saying 4 (codes "N5 names file not read")
-said_of_names names.Memory = saying 5 (codes "N6 out of memory")
+abbrev pub report_of_names : NamesFault → ReportValue
+report_of_names (names.BadOid line) = report_with 4 (line_with (codes "N1") line (codes ": not an object identifier"))
+report_of_names (names.BadName line) = report_with 4 (line_with (codes "N2") line (codes ": no usable name"))
+report_of_names (names.Repeated line) = report_with 4 (line_with (codes "N3") line (codes ": repeated"))
+report_of_names names.TooLarge = report_with 4 (codes "N4 names file too large")
+report_of_names names.ReadFailed = report_with 4 (codes "N5 names file not read")
+report_of_names names.Memory = report_with 5 (codes "N6 out of memory")
 
--- ---- how it is told
+-- ---- how it is written
 
--- the message with its line feed, where there is one
-abbrev pub line_of : List ℕ → List ℕ
-line_of [] = []
-line_of (x ∷ xs) = (x ∷ xs) ++ 10 ∷ []
+-- the message with its line feed, if there is one
+abbrev pub message_line : List ℕ → List ℕ
+message_line [] = []
+message_line (x ∷ xs) = (x ∷ xs) ++ 10 ∷ []
 
 -- a line was written, or a write failed and the drain took a front of it
-abbrev pub IsTold : List ℕ → Taken → Taken → Type 0
-IsTold line old new = (result : Result ⊤ WriteFault) × Sends old new line result
+abbrev pub WritesMessage : List ℕ → DrainState → DrainState → Type 0
+WritesMessage line old new = (result : Result ⊤ WriteFault) × Sends old new line result

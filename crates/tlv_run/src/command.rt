@@ -26,7 +26,7 @@ pub enum Command {
     },
     /// Writes the octets of one element, or its contents alone.
     Extract {
-        /// Where the element's first identifier octet stands, in octets from the start of the input.
+        /// Where the element's first identifier octet is, in octets from the start of the input.
         offset: u64,
         contents: bool,
         framing: Framing,

@@ -1,14 +1,14 @@
 //! Laws of what commands make of inputs: each is the contract of a function that does nothing.
 
-ghost use Rattle.tlv_run.specs.Laws.{InputsHaveOneResult, OutputsGoOn, RunsAreResults, SecondIndefIsTheFirst, SettledResultsStay, StatusesTellOfSoundness};
+ghost use Rattle.tlv_run.specs.Laws.{InputsHaveOneResult, OutputsGoOn, RunsAreResults, SecondIndefIsTheFirst, SettledResultsStay, StatusesShowSoundness};
 
 /// Each input has a result under each command, and only one.
 pub fn one_result()
     ensures { InputsHaveOneResult }
 {}
 
-/// Where a source knows its octets, and neither device fails, a run writes and says what is the result of these octets, in whatever
-/// pieces the source gives them. This follows from the contract of `run` alone.
+/// If a source knows its octets, and neither device fails, a run writes and reports what is the result of these
+/// octets, in whatever pieces the source gives them. This follows from the contract of `run` alone.
 pub fn runs_are_results()
     ensures { RunsAreResults }
 {}
@@ -24,14 +24,14 @@ pub fn outputs_go_on()
     ensures { OutputsGoOn }
 {}
 
-/// What `indef` wrote, read again by `indef`, is written as it stands. Where the input ended without a fault, so does what was
-/// written.
+/// What `indef` wrote, read again by `indef`, is written unchanged. If the input ended without a fault, so does what
+/// was written.
 pub fn second_indef_is_the_first()
     ensures { SecondIndefIsTheFirst }
 {}
 
-/// The status is 2 exactly where the input is no sound list of encodings, read as the command says. Of `extract` that holds where
-/// its element is not whole; where it is, the status is 0, whatever follows.
+/// The status is 2 exactly if the input is no sound list of encodings, read as the command says. Of `extract` that
+/// holds if its element is not whole; if it is, the status is 0, whatever follows.
 pub fn statuses_tell_of_soundness()
-    ensures { StatusesTellOfSoundness }
+    ensures { StatusesShowSoundness }
 {}

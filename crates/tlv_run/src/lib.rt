@@ -2,7 +2,7 @@
 #![tactic(auto)]
 
 mod command;
-mod held;
+mod memory_devices;
 pub mod laws;
 mod message;
 mod octets;

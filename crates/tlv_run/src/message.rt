@@ -1,27 +1,27 @@
-//! How a message is told.
+//! How a message is written.
 ghost use Rattle.std.specs.Prelude.{◌≡◌, ◌≤◌, length};
 ghost use Rattle.tlv_io.specs.Out.{Sends};
-ghost use Rattle.tlv_run.specs.Report.{IsTold, line_of};
+ghost use Rattle.tlv_run.specs.Report.{WritesMessage, message_line};
 
 use crate::report::Report;
 use arrayvec::ArrayVec;
 use tlv_walk::{Drain, Out, WriteFault};
 
-/// Writes the message with a line feed behind it, where there is one, and returns the exit status. A failed write
+/// Writes the message with a line feed after it, if there is one, and returns the exit status. A failed write
 /// changes no status.
 pub fn tell<D: Drain>(report: &Report, drain: &mut D) -> u8
     ensures status { result ≡ report.now.status }
-    ensures told { IsTold (line_of report.now.message.items) (D.told drain.old) (D.told drain.new) }
+    ensures writes { WritesMessage (message_line report.now.message.items) (D.state drain.old) (D.state drain.new) }
 {
     let line = whole_line(report.message.as_slice());
     let _ = send(line.as_slice(), drain);
     report.status
 }
 
-/// The message with a line feed behind it, where there is one.
+/// The message with a line feed after it, if there is one.
 fn whole_line(message: &[u8]) -> ArrayVec<u8, 129>
     requires { length message.now ≤ 128 }
-    ensures { result.items ≡ line_of message.now }
+    ensures { result.items ≡ message_line message.now }
 {
     let mut line = ArrayVec::new();
     if !message.is_empty() {
@@ -34,7 +34,7 @@ fn whole_line(message: &[u8]) -> ArrayVec<u8, 129>
 /// Hands the octets to the drain.
 #[tactic(auto, using(tlv_io::proofs::Puts::sends))]
 fn send<D: Drain>(octets: &[u8], drain: &mut D) -> Result<(), WriteFault>
-    ensures { Sends (D.told drain.old) (D.told drain.new) octets.now result }
+    ensures { Sends (D.state drain.old) (D.state drain.new) octets.now result }
 {
     let mut out = Out::new(drain);
     out.put(octets)?;

@@ -1,11 +1,11 @@
 //! A run of a command over octets in memory.
 ghost use Rattle.std.specs.Prelude.{true, false};
 ghost use Rattle.tlv_run.specs.Octets.{RunsOctets};
-ghost use Rattle.tlv_run.specs.Report.{said_in};
+ghost use Rattle.tlv_run.specs.Report.{report_value};
 ghost use Rattle.tlv_run.specs.Results.{command_job};
 
 use crate::command::Command;
-use crate::held::{EndingSource, FailingSource, Room};
+use crate::memory_devices::{EndingSource, FailingSource, Room};
 use crate::report::Report;
 use crate::runner::run;
 use arrayvec::ArrayVec;
@@ -21,8 +21,8 @@ pub struct Shown<const N: usize> {
 /// Runs the command over `octets`, with room for `N` octets of output.
 ///
 /// Read `i`, counted from 0, gives at most `cuts[i]` octets, where 0 counts as 1, and past the end of `cuts` as many as there
-/// is room for. Behind the octets the input ends, or a read fails. Where there is room for all of the output, it is written,
-/// whatever the cuts; else the first `N` octets of it, and the report tells of a failed write.
+/// is room for. After the octets the input ends, or a read fails. If there is room for all of the output, it is
+/// written, whatever the cuts; else the first `N` octets of it, and the report is that of a failed write.
 pub fn run_octets<const N: usize>(
     command: &Command,
     names: &Names,
@@ -31,7 +31,7 @@ pub fn run_octets<const N: usize>(
     read_fails: bool,
 ) -> Shown<N>
     ensures { RunsOctets (command_job command.now names.now) octets.now read_fails N
-        result.written.items (said_in result.report) }
+        result.written.items (report_value result.report) }
 {
     if read_fails {
         run_until_failure(command, names, octets, cuts)
@@ -47,7 +47,7 @@ fn run_until_failure<const N: usize>(
     cuts: &[u64],
 ) -> Shown<N>
     ensures { RunsOctets (command_job command.now names.now) octets.now true N
-        result.written.items (said_in result.report) }
+        result.written.items (report_value result.report) }
 {
     let mut room = Room::new();
     let report = run(
@@ -67,7 +67,7 @@ fn run_to_end<const N: usize>(
     cuts: &[u64],
 ) -> Shown<N>
     ensures { RunsOctets (command_job command.now names.now) octets.now false N
-        result.written.items (said_in result.report) }
+        result.written.items (report_value result.report) }
 {
     let mut room = Room::new();
     let report = run(

@@ -1,10 +1,10 @@
-//! What is said of a run: the exit status and the message.
+//! What is reported of a run: the exit status and the message.
 ghost use Rattle.std.specs.Prelude.{◌≡◌, ◌+◌, ◌++◌, ◌≤◌, [], decimal, length};
-ghost use Rattle.tlv_run.specs.Report.{line_with, said_in, said_of, saying as saying_of};
+ghost use Rattle.tlv_run.specs.Report.{line_with, report_of, report_value, report_with};
 ghost use Rattle.tlv_run.specs.Private.Report.{fault_line};
-ghost use Rattle.tlv_run.specs.Report.{said_of_cut, said_of_ending, said_of_findings, said_of_outcome, said_of_unused};
-ghost use Rattle.tlv_run.specs.Private.Report.{said_of_found, said_of_indef};
-ghost use Rattle.tlv_run.specs.Report.{said_of_closed, said_of_device, said_of_names};
+ghost use Rattle.tlv_run.specs.Report.{report_of_cut, report_of_ending, report_of_findings, report_of_outcome, report_of_unused};
+ghost use Rattle.tlv_run.specs.Private.Report.{report_of_found, report_of_indef};
+ghost use Rattle.tlv_run.specs.Report.{report_of_closed, report_of_device, report_of_names};
 
 use arrayvec::ArrayVec;
 use itoa::Buffer;
@@ -30,14 +30,14 @@ impl Report {
     /// A report with this status and this message, of at most 128 octets, and without findings.
     pub fn saying(status: u8, line: &[u8]) -> Report
         requires { length line.now ≤ 128 }
-        ensures { said_in result ≡ saying_of status line.now }
+        ensures { report_value result ≡ report_with status line.now }
     {
         reporting(status, text(line))
     }
 
     /// A report with this status, without a message and without findings.
     pub fn silent(status: u8) -> Report
-        ensures { said_in result ≡ saying_of status [] }
+        ensures { report_value result ≡ report_with status [] }
     {
         reporting(status, ArrayVec::new())
     }
@@ -45,7 +45,7 @@ impl Report {
 
 /// The report of a dump or a check: a fault, else an offset without a string, else findings. Their count stays.
 pub(crate) fn shown_report(came: Result<Outcome, DeviceFault>) -> Report
-    ensures { said_in result ≡ said_of said_of_outcome came }
+    ensures { report_value result ≡ report_of report_of_outcome came }
 {
     match came {
         Ok(outcome) => {
@@ -60,7 +60,7 @@ pub(crate) fn shown_report(came: Result<Outcome, DeviceFault>) -> Report
 
 /// The report of an extract of the element at this offset.
 pub(crate) fn cut_report(offset: u64, came: Result<Cut, DeviceFault>) -> Report
-    ensures { said_in result ≡ said_of (said_of_cut offset) came }
+    ensures { report_value result ≡ report_of (report_of_cut offset) came }
 {
     match came {
         Ok(cut) => ending_report(cut.ending, found_report(offset, cut.found)),
@@ -70,7 +70,7 @@ pub(crate) fn cut_report(offset: u64, came: Result<Cut, DeviceFault>) -> Report
 
 /// The report of an input written with indefinite lengths.
 pub(crate) fn indef_report(came: Result<Ending, DeviceFault>) -> Report
-    ensures { said_in result ≡ said_of said_of_indef came }
+    ensures { report_value result ≡ report_of report_of_indef came }
 {
     match came {
         Ok(ending) => ending_report(ending, Report::silent(0)),
@@ -80,7 +80,7 @@ pub(crate) fn indef_report(came: Result<Ending, DeviceFault>) -> Report
 
 /// A fault, or else what there is to say of an input without one.
 fn ending_report(ending: Ending, other: Report) -> Report
-    ensures { said_in result ≡ said_of_ending ending (said_in other) }
+    ensures { report_value result ≡ report_of_ending ending (report_value other) }
 {
     match ending {
         Ending::Fault(fault) => reporting(2, fault_message(fault)),
@@ -89,7 +89,7 @@ fn ending_report(ending: Ending, other: Report) -> Report
 }
 
 fn unused_report(unused: Option<u64>, other: Report) -> Report
-    ensures { said_in result ≡ said_of_unused unused (said_in other) }
+    ensures { report_value result ≡ report_of_unused unused (report_value other) }
 {
     match unused {
         Some(offset) => reporting(1, numbered(b"E7 no string to read at offset ", offset)),
@@ -98,7 +98,7 @@ fn unused_report(unused: Option<u64>, other: Report) -> Report
 }
 
 fn findings_report(findings: u64) -> Report
-    ensures { said_in result ≡ said_of_findings findings }
+    ensures { report_value result ≡ report_of_findings findings }
 {
     if findings == 0 {
         Report::silent(0)
@@ -108,7 +108,7 @@ fn findings_report(findings: u64) -> Report
 }
 
 fn found_report(offset: u64, found: bool) -> Report
-    ensures { said_in result ≡ said_of_found offset found }
+    ensures { report_value result ≡ report_of_found offset found }
 {
     if found {
         Report::silent(0)
@@ -117,9 +117,9 @@ fn found_report(offset: u64, found: bool) -> Report
     }
 }
 
-/// The report where a device failed, or the input is too long.
+/// The report if a device failed, or the input is too long.
 pub fn device_report(fault: DeviceFault) -> Report
-    ensures { said_in result ≡ said_of_device fault }
+    ensures { report_value result ≡ report_of_device fault }
 {
     match fault {
         DeviceFault::ReadFailed => Report::saying(3, b"E1 read failed"),
@@ -128,16 +128,16 @@ pub fn device_report(fault: DeviceFault) -> Report
     }
 }
 
-/// The report where the file to read does not open.
+/// The report if the file to read does not open.
 pub fn closed_report() -> Report
-    ensures { said_in result ≡ said_of_closed }
+    ensures { report_value result ≡ report_of_closed }
 {
     Report::saying(3, b"E5 cannot open the file")
 }
 
-/// The report where the names file is refused.
+/// The report if the names file is refused.
 pub fn names_report(fault: NamesFault) -> Report
-    ensures { said_in result ≡ said_of_names fault }
+    ensures { report_value result ≡ report_of_names fault }
 {
     match fault {
         NamesFault::BadOid(line) => reporting(
@@ -154,7 +154,7 @@ pub fn names_report(fault: NamesFault) -> Report
 
 /// A report without findings.
 fn reporting(status: u8, message: ArrayVec<u8, 128>) -> Report
-    ensures { said_in result ≡ saying_of status message.items }
+    ensures { report_value result ≡ report_with status message.items }
 {
     Report {
         status,
@@ -172,7 +172,7 @@ fn text(line: &[u8]) -> ArrayVec<u8, 128>
     message
 }
 
-/// A text and a number behind it.
+/// A text and a number after it.
 fn numbered(line: &[u8], number: u64) -> ArrayVec<u8, 128>
     requires { length line.now ≤ 64 }
     ensures text { result.items ≡ line.now ++ decimal number }

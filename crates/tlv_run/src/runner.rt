@@ -1,7 +1,7 @@
 //! A run of a command over a source and a drain.
-ghost use Rattle.tlv_run.specs.Report.{said_in};
+ghost use Rattle.tlv_run.specs.Report.{report_value};
 ghost use Rattle.tlv_run.specs.Results.{command_job};
-ghost use Rattle.tlv_run.specs.Runs.{Ran};
+ghost use Rattle.tlv_run.specs.Runs.{RunsAndReports};
 
 use crate::command::Command;
 use crate::report::{Report, cut_report, indef_report, shown_report};
@@ -19,8 +19,8 @@ pub fn run<S: Source, D: Drain>(
     source: &mut S,
     drain: &mut D,
 ) -> Report
-    ensures { Ran (command_job command.now names.now) (S.told source.old) (S.told source.new)
-        (D.told drain.old) (D.told drain.new) (said_in result) }
+    ensures { RunsAndReports (command_job command.now names.now) (S.state source.old) (S.state source.new)
+        (D.state drain.old) (D.state drain.new) (report_value result) }
 {
     match command {
         Command::Dump { options, .. } => shown_report(dump(source, drain, options, names)),

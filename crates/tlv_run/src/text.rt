@@ -24,7 +24,7 @@ impl Text {
     ///
     /// # Errors
     ///
-    /// Where memory is refused.
+    /// If memory is refused.
     pub fn new(alloc: Global, text: &str) -> Result<Text, AllocError>
         ensures { IfOk result (λ t. t ≡ text.now) }
     {

@@ -5,14 +5,14 @@ use Rattle.std.specs.Fmt.{digits}
 use Rattle.tlv_head.specs.declared.header.Class.TheVariants.{Universal}
 use Rattle.tlv_head.specs.declared.header.Size.{Size}
 use Rattle.tlv_head.specs.declared.header.Size.TheVariants.{Definite, Indefinite}
-use Rattle.tlv_head.specs.Header.{Heading}
+use Rattle.tlv_head.specs.Header.{HeaderValue}
 use Rattle.hex.specs.Hex.{encode_with}
-use Rattle.tlv_walk.specs.Events.{Told, Open, Begin, Bytes, End, Close, Enter, Leave, Pad}
-use Rattle.tlv_walk.specs.Follow.{followed}
-use Rattle.tlv_show.specs.Dumped.{dumped, fresh}
+use Rattle.tlv_walk.specs.Events.{Begin, Bytes, Close, End, Enter, EventValue, Leave, Open, Pad}
+use Rattle.tlv_walk.specs.Follow.{effect_of}
+use Rattle.tlv_show.specs.LinesStep.{lines_step, new_lines}
 
 -- a universal header of two octets
-universal : ℕ → Bool → ℕ → Size → List ℕ → List ℕ → Heading
+universal : ℕ → Bool → ℕ → Size → List ℕ → List ℕ → HeaderValue
 universal offset constructed number size identifier lengths = record {
   offset = offset;
   named = false;
@@ -27,8 +27,8 @@ universal offset constructed number size identifier lengths = record {
 ended : List ℕ → List ℕ
 ended text = text ++ 10 ∷ []
 
-dump_of : List Told → List ℕ
-dump_of es = (followed dumped (fresh (record { level = 0; limit = None; pure = false }) finite.empty) es).put
+dump_of : List EventValue → List ℕ
+dump_of es = (effect_of lines_step (new_lines (record { level = 0; limit = None; pure = false }) finite.empty) es).put
 
 -- 3a 09 04 03 4a 6f 6e 04 02 65 73
 constructed-string : dump_of

@@ -1,20 +1,20 @@
 -- Elements that differ in their spelling alone: short inputs, each shown by computing.
 use Rattle.std.proofs.Common.{◌≡◌, Bool, true, false, ℕ, List, [], ◌∷◌, refl}
-use Rattle.tlv_head.specs.Header.{Heading}
+use Rattle.tlv_head.specs.Header.{HeaderValue}
 use Rattle.tlv_head.specs.Shortest.{HaveOneTag}
 use Rattle.tlv_walk.specs.declared.framing.Framing.{Framing}
 use Rattle.tlv_walk.specs.Alike.{AreAlike, holders, nothing, padding, primitives}
-use Rattle.tlv_walk.proofs.Readings.{reading}
+use Rattle.tlv_walk.proofs.GrammarLemmas.Readings.{reading}
 use Rattle.tlv_show.specs.declared.rules.Rules.{Rules}
 use Rattle.tlv_show.specs.declared.rules.Rules.TheVariants.{Ber, Der, Cer}
 use Rattle.tlv_show.specs.Spellings.{is_misspelled}
 use Rattle.tlv_show.proofs.RowWords.{naming, padded, plain}
 
--- whether findings under these rules tell of the spelling
+-- whether findings under these rules report of the spelling
 abbrev misspelled : Framing → Rules → List ℕ → Bool
 misspelled framing rules b = is_misspelled rules (reading framing b)
 
-one_tag : (h k : Heading) → h.class ≡ k.class → h.constructed ≡ k.constructed → h.number ≡ k.number → HaveOneTag h k
+one_tag : (h k : HeaderValue) → h.class ≡ k.class → h.constructed ≡ k.constructed → h.number ≡ k.number → HaveOneTag h k
 one_tag h k c f n = record { class = c; constructed = f; number = n }
 
 -- 02 01 05 and 02 81 01 05

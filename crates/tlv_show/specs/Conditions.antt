@@ -1,7 +1,7 @@
 -- What is found in an element by the rules of X.690: each finding beside its condition, in the order of the codes.
 use Rattle.std.specs.Prelude.{ℕ, ◌+◌, ◌-◌, ◌%◌, Bool, false, ◌&&◌, ◌||◌, not, ◌==◌, nat_le, nat_lt, if◌then◌else◌, List, [], ◌∷◌, length, slice_index, Some, sum_by}
 use Rattle.std.specs.List.{list_all}
-use Rattle.tlv_head.specs.Header.{Heading, announced, is_universal}
+use Rattle.tlv_head.specs.Header.{HeaderValue, announced, is_universal}
 use Rattle.tlv_value.specs.declared.finding.Finding.{Finding}
 use Rattle.tlv_value.specs.declared.finding.Finding.TheVariants.{B01, B02, B03, B04, B05, B16, B17, S01, D01, D02, C01, C02, C03, C04, C05, C06}
 use Rattle.tlv_value.specs.Types.{bit_string, constructed_types, has_segments, is_a, is_one_of, is_primitive, is_string, octet_string, primitive_types}
@@ -11,7 +11,7 @@ use Rattle.tlv_show.specs.Site.{Before, Sibling, Site, in_bit_string, in_string}
 -- ---- With the header
 
 -- 8.1.2.4: there are subsequent identifier octets
-abbrev pub has_high_form : Heading → Bool
+abbrev pub has_high_form : HeaderValue → Bool
 has_high_form h = nat_lt 1 (length h.identifier)
 
 -- 8.6.2.2: a primitive BIT STRING with unused bits
@@ -24,7 +24,7 @@ abbrev pub is_not_full : Before → Bool
 is_not_full (Sibling h first) = h.constructed || not (announced h.size == 1000)
 is_not_full _ = false
 
-abbrev pub header_conditions : Site → Heading → List (Bool × Finding)
+abbrev pub header_conditions : Site → HeaderValue → List (Bool × Finding)
 header_conditions s h =
     -- 8.1.2.2: a number below 31 is in the single identifier octet
     (has_high_form h && nat_lt h.number 31, B01)
@@ -59,20 +59,20 @@ header_conditions s h =
 -- ---- With the end of an element that holds others
 
 -- 8.6.2: the octet for unused bits, with which the contents of a BIT STRING begin
-abbrev pub bits_octet : Heading → ℕ
+abbrev pub bits_octet : HeaderValue → ℕ
 bits_octet h = if is_a bit_string h then 1 else 0
 
 -- 9.2: how many contents octets a string with these segments would have as a primitive: those of each segment but for its
 -- octet for unused bits, and one such octet for the whole string
-abbrev pub total : Heading → List Heading → ℕ
-total h segments = bits_octet h + sum_by (λ (g : Heading). announced g.size - bits_octet h) segments
+abbrev pub total : HeaderValue → List HeaderValue → ℕ
+total h segments = bits_octet h + sum_by (λ (g : HeaderValue). announced g.size - bits_octet h) segments
 
--- whether the last of the elements is a primitive without contents octets, behind one that is or is not
-abbrev pub ends_empty : Bool → List Heading → Bool
+-- whether the last of the elements is a primitive without contents octets, after one that is or is not
+abbrev pub ends_empty : Bool → List HeaderValue → Bool
 ends_empty empty [] = empty
 ends_empty empty (h ∷ hs) = ends_empty (is_primitive h && announced h.size == 0) hs
 
-abbrev pub end_conditions : Heading → List Heading → List (Bool × Finding)
+abbrev pub end_conditions : HeaderValue → List HeaderValue → List (Bool × Finding)
 end_conditions h inside =
     -- 9.2: a string of at most 1000 contents octets is primitive
     (has_segments h && list_all is_primitive inside && nat_le (total h inside) 1000, C05)
@@ -83,11 +83,11 @@ end_conditions h inside =
 -- ---- Words of proofs and of private functions alone
 
 -- 8.1.3.5: there are subsequent length octets
-abbrev pub has_long_form : Heading → Bool
+abbrev pub has_long_form : HeaderValue → Bool
 has_long_form h = nat_lt 1 (length h.lengths)
 
-abbrev pub leading_bits : Heading → ℕ
+abbrev pub leading_bits : HeaderValue → ℕ
 leading_bits h = slice_index h.identifier 1 % 128
 
-abbrev pub first_length : Heading → ℕ
+abbrev pub first_length : HeaderValue → ℕ
 first_length h = slice_index h.lengths 1

@@ -1,12 +1,13 @@
--- What is kept of elements so that what is found in them can be told event by event, and what is told. Nothing here is to be
--- believed: `Items` has what is told, and a law has that it is the same.
+-- What is kept of elements so that what is found in them can be reported event by event, and what is reported.
+-- Nothing here is to be
+-- believed: `Items` has what is reported, and a law has that it is the same.
 use Rattle.std.specs.Prelude.{ℕ, ◌+◌, ◌-◌, ◌^◌, Bool, true, false, ◌&&◌, ◌||◌, not, ◌==◌, nat_le, nat_lt, if◌then◌else◌, List, [], ◌∷◌, ◌++◌, length, max, min, take, Option, Some, None}
 use Rattle.std.specs.List.{filter}
-use Rattle.tlv_head.specs.Header.{Heading, announced}
+use Rattle.tlv_head.specs.Header.{HeaderValue, announced}
 use Rattle.tlv_value.specs.declared.finding.Finding.{Finding}
 use Rattle.tlv_value.specs.declared.finding.Finding.TheVariants.{B01, B02, B03, B04, B05, B16, B17, S01, D01, D02, C01, C02, C03, C04, C05, C06}
-use Rattle.tlv_value.specs.CheckNotes.{where_it}
-use Rattle.tlv_value.specs.CheckState.{CheckState, checked, found_in, has_unused, unchecked}
+use Rattle.tlv_value.specs.CheckNotes.{finding_if}
+use Rattle.tlv_value.specs.CheckState.{CheckState, check_after, findings_in, has_unused, new_check}
 use Rattle.tlv_value.specs.Types.{bit_string, constructed_types, has_segments, is_a, is_one_of, is_primitive, is_string, is_unassigned, octet_string, primitive_types}
 use Rattle.tlv_walk.specs.Place.{is_indefinite}
 use Rattle.tlv_show.specs.declared.frames.Frame.{Frame}
@@ -33,7 +34,7 @@ top_frame = record {
 }
 
 -- inside an element that holds others
-abbrev pub frame_of : Heading → Frame
+abbrev pub frame_of : HeaderValue → Frame
 frame_of h = record {
   at = h.offset;
   size = announced h.size;
@@ -47,13 +48,14 @@ frame_of h = record {
   is_empty = false;
 }
 
--- inside an element that others hold. Of one that is no string and stands in none nothing is to be known
-abbrev pub frame_under : Frame → Heading → Frame
+-- inside an element that others hold. Of one that is no string and is in none nothing is to be known
+abbrev pub frame_under : Frame → HeaderValue → Frame
 frame_under w h = if w.has_segments || has_segments h then frame_of h else top_frame
 
--- behind a segment more: whether it is primitive, how many contents octets it announces, and whether bits of it are unused
-abbrev pub segment_noted : Frame → Bool → ℕ → Bool → Frame
-segment_noted w primitive size unused = record w {
+-- after a segment more: whether it is primitive, how many contents octets it announces, and whether bits of it are
+-- unused
+abbrev pub frame_after_segment : Frame → Bool → ℕ → Bool → Frame
+frame_after_segment w primitive size unused = record w {
   is_unused = unused;
   is_not_full = not (primitive && size == 1000);
   all_primitive = w.all_primitive && primitive;
@@ -61,36 +63,36 @@ segment_noted w primitive size unused = record w {
   is_empty = primitive && size == 0;
 }
 
--- behind an element more: outside of strings nothing is asked of it
-abbrev pub noted : Frame → Bool → ℕ → Bool → Frame
-noted w primitive size unused = if w.has_segments then segment_noted w primitive size unused else w
+-- after an element more: outside of strings nothing is asked of it
+abbrev pub frame_after : Frame → Bool → ℕ → Bool → Frame
+frame_after w primitive size unused = if w.has_segments then frame_after_segment w primitive size unused else w
 
 -- ---- Findings, by a frame
 
-abbrev pub basic_notes : Frame → Heading → List Finding
+abbrev pub basic_notes : Frame → HeaderValue → List Finding
 basic_notes w h =
-    where_it (has_high_form h && nat_lt h.number 31) B01
-    ++ where_it (has_high_form h && leading_bits h == 0) B02
-    ++ where_it (is_unassigned h) B03
-    ++ where_it (h.constructed && is_one_of primitive_types h) B04
-    ++ where_it (is_primitive h && is_one_of constructed_types h) B05
-    ++ where_it (w.has_segments && w.has_bits && w.is_unused) B16
-    ++ where_it (w.has_segments && not (is_a (if w.has_bits then bit_string else octet_string) h)) B17
+    finding_if (has_high_form h && nat_lt h.number 31) B01
+    ++ finding_if (has_high_form h && leading_bits h == 0) B02
+    ++ finding_if (is_unassigned h) B03
+    ++ finding_if (h.constructed && is_one_of primitive_types h) B04
+    ++ finding_if (is_primitive h && is_one_of constructed_types h) B05
+    ++ finding_if (w.has_segments && w.has_bits && w.is_unused) B16
+    ++ finding_if (w.has_segments && not (is_a (if w.has_bits then bit_string else octet_string) h)) B17
 
-abbrev pub length_notes : Heading → List Finding
-length_notes h = where_it (has_long_form h && (nat_lt (announced h.size) 128 || first_length h == 0)) S01
+abbrev pub length_notes : HeaderValue → List Finding
+length_notes h = finding_if (has_long_form h && (nat_lt (announced h.size) 128 || first_length h == 0)) S01
 
-abbrev pub der_notes : Heading → List Finding
-der_notes h = where_it (is_indefinite h.size) D01 ++ where_it (has_segments h) D02
+abbrev pub der_notes : HeaderValue → List Finding
+der_notes h = finding_if (is_indefinite h.size) D01 ++ finding_if (has_segments h) D02
 
-abbrev pub cer_notes : Frame → Heading → List Finding
+abbrev pub cer_notes : Frame → HeaderValue → List Finding
 cer_notes w h =
-    where_it (h.constructed && not (is_indefinite h.size)) C01
-    ++ where_it (is_primitive h && is_string h && nat_lt 1000 (announced h.size)) C02
-    ++ where_it (h.constructed && w.has_segments) C03
-    ++ where_it (w.has_segments && w.is_not_full) C04
+    finding_if (h.constructed && not (is_indefinite h.size)) C01
+    ++ finding_if (is_primitive h && is_string h && nat_lt 1000 (announced h.size)) C02
+    ++ finding_if (h.constructed && w.has_segments) C03
+    ++ finding_if (w.has_segments && w.is_not_full) C04
 
-abbrev pub header_notes : Rules → Frame → Heading → List Finding
+abbrev pub header_notes : Rules → Frame → HeaderValue → List Finding
 header_notes Ber w h = basic_notes w h
 header_notes Der w h = basic_notes w h ++ length_notes h ++ der_notes h
 header_notes Cer w h = basic_notes w h ++ length_notes h ++ cer_notes w h
@@ -100,8 +102,8 @@ abbrev pub end_notes : Rules → Frame → List Finding
 end_notes Ber w = []
 end_notes Der w = []
 end_notes Cer w =
-    where_it (w.has_segments && w.all_primitive && nat_le ((if w.has_bits then 1 else 0) + w.octets) 1000) C05
-    ++ where_it (w.has_segments && w.is_empty) C06
+    finding_if (w.has_segments && w.all_primitive && nat_le ((if w.has_bits then 1 else 0) + w.octets) 1000) C05
+    ++ finding_if (w.has_segments && w.is_empty) C06
 
 -- ---- What contracts see of a `Finder`
 
@@ -116,11 +118,11 @@ pub record FinderState : Type 0 where
   pub frame : Frame
   pub outer : List Frame
   pub value : Option OpenValue
-  -- how many findings were told; it stops at 2^64 - 1
+  -- how many findings were reported; it stops at 2^64 - 1
   pub count : ℕ
 
-abbrev pub no_findings : Rules → FinderState
-no_findings rules = record { rules = rules; frame = top_frame; outer = []; value = None; count = 0 }
+abbrev pub new_finder : Rules → FinderState
+new_finder rules = record { rules = rules; frame = top_frame; outer = []; value = None; count = 0 }
 
 -- it becomes `state`, and these are found in the element that begins at the offset and that so many elements hold
 pub record Finds : Type 0 where
@@ -142,45 +144,45 @@ finds_nothing s = record { state = s; level = 0; at = 0; found = [] }
 -- ---- What it makes of an event
 
 -- an element that holds others begins. Past 128 of them no frame is kept
-abbrev pub entered_in : FinderState → Heading → FinderState
-entered_in s h = if nat_lt (length s.outer) 128 then record s { frame = frame_under s.frame h; outer = s.frame ∷ s.outer } else s
+abbrev pub finder_inside : FinderState → HeaderValue → FinderState
+finder_inside s h = if nat_lt (length s.outer) 128 then record s { frame = frame_under s.frame h; outer = s.frame ∷ s.outer } else s
 
-abbrev pub find_open : FinderState → Heading → Finds
-find_open s h = finds (entered_in s h) (length s.outer) h.offset (header_notes s.rules s.frame h)
+abbrev pub find_open : FinderState → HeaderValue → Finds
+find_open s h = finds (finder_inside s h) (length s.outer) h.offset (header_notes s.rules s.frame h)
 
 -- a primitive begins
-abbrev pub begun_in : FinderState → Heading → FinderState
-begun_in s h = record s { value = Some (record { at = h.offset; check = unchecked h }) }
+abbrev pub finder_at_value : FinderState → HeaderValue → FinderState
+finder_at_value s h = record s { value = Some (record { at = h.offset; check = new_check h }) }
 
-abbrev pub find_begin : FinderState → Heading → Finds
-find_begin s h = finds (begun_in s h) (length s.outer) h.offset (header_notes s.rules s.frame h)
+abbrev pub find_begin : FinderState → HeaderValue → Finds
+find_begin s h = finds (finder_at_value s h) (length s.outer) h.offset (header_notes s.rules s.frame h)
 
 -- contents octets: no more count than were announced
-abbrev pub checked_by : Option OpenValue → List ℕ → Option OpenValue
-checked_by None octets = None
-checked_by (Some v) octets = Some (record v { check = checked v.check (take v.check.left octets) })
+abbrev pub open_value_after : Option OpenValue → List ℕ → Option OpenValue
+open_value_after None octets = None
+open_value_after (Some v) octets = Some (record v { check = check_after v.check (take v.check.left octets) })
 
 abbrev pub find_bytes : FinderState → List ℕ → FinderState
-find_bytes s octets = if length octets == 0 then s else record s { value = checked_by s.value octets }
+find_bytes s octets = if length octets == 0 then s else record s { value = open_value_after s.value octets }
 
 -- a primitive ends, of which all contents octets have come
 abbrev pub contents_notes : Rules → CheckState → List Finding
-contents_notes rules t = if t.left == 0 then filter (shows rules) (found_in t) else []
+contents_notes rules t = if t.left == 0 then filter (shows rules) (findings_in t) else []
 
-abbrev pub ended_by : FinderState → Option OpenValue → Finds
-ended_by s None = finds_nothing s
-ended_by s (Some v) =
-    finds (record s { frame = noted s.frame true v.check.size (has_unused v.check); value = None }) (length s.outer) v.at (contents_notes s.rules v.check)
+abbrev pub find_value_end : FinderState → Option OpenValue → Finds
+find_value_end s None = finds_nothing s
+find_value_end s (Some v) =
+    finds (record s { frame = frame_after s.frame true v.check.size (has_unused v.check); value = None }) (length s.outer) v.at (contents_notes s.rules v.check)
 
 abbrev pub find_end : FinderState → Finds
-find_end s = ended_by s s.value
+find_end s = find_value_end s s.value
 
 -- an element that holds others ends
-abbrev pub closed_by : FinderState → List Frame → Finds
-closed_by s [] = finds_nothing s
-closed_by s (w ∷ outer) =
-    finds (record s { frame = noted w s.frame.is_primitive s.frame.size false; outer = outer }) (length outer) s.frame.at
+abbrev pub find_frame_end : FinderState → List Frame → Finds
+find_frame_end s [] = finds_nothing s
+find_frame_end s (w ∷ outer) =
+    finds (record s { frame = frame_after w s.frame.is_primitive s.frame.size false; outer = outer }) (length outer) s.frame.at
     (end_notes s.rules s.frame)
 
 abbrev pub find_close : FinderState → Finds
-find_close s = closed_by s s.outer
+find_close s = find_frame_end s s.outer

@@ -1,10 +1,10 @@
 -- What is found in an element, by rules.
 use Rattle.std.specs.Prelude.{ℕ, Bool, List, eqb, slice_index, codes}
 use Rattle.std.specs.List.{filter, list_any}
-use Rattle.tlv_head.specs.Header.{Heading}
+use Rattle.tlv_head.specs.Header.{HeaderValue}
 use Rattle.tlv_value.specs.declared.finding.Finding.{Finding}
-use Rattle.tlv_value.specs.Checks.{contents_findings as found_on_contents, held}
-use Rattle.tlv_value.specs.Finding.{wording_of}
+use Rattle.tlv_value.specs.Checks.{findings_by, findings_on_contents}
+use Rattle.tlv_value.specs.Finding.{finding_wording}
 use Rattle.tlv_show.specs.declared.rules.Rules.{Rules}
 use Rattle.tlv_show.specs.declared.rules.Rules.TheVariants.{Ber, Der, Cer}
 use Rattle.tlv_show.specs.Conditions.{header_conditions}
@@ -17,13 +17,13 @@ letters Der = codes "BSD"
 letters Cer = codes "BSC"
 
 abbrev pub shows : Rules → Finding → Bool
-shows rules finding = list_any (eqb (slice_index (wording_of finding).0 0)) (letters rules)
+shows rules finding = list_any (eqb (slice_index (finding_wording finding).0 0)) (letters rules)
 
 -- ---- Words of laws, proofs and private functions alone
 
 -- with the header; with the last octet of a primitive; with the end of an element that holds others, by the headers of these
-abbrev pub header_findings : Rules → Site → Heading → List Finding
-header_findings rules s h = filter (shows rules) (held (header_conditions s h))
+abbrev pub header_findings : Rules → Site → HeaderValue → List Finding
+header_findings rules s h = filter (shows rules) (findings_by (header_conditions s h))
 
-abbrev pub contents_findings : Rules → Heading → List ℕ → List Finding
-contents_findings rules h c = filter (shows rules) (found_on_contents h c)
+abbrev pub contents_findings : Rules → HeaderValue → List ℕ → List Finding
+contents_findings rules h c = filter (shows rules) (findings_on_contents h c)

@@ -1,31 +1,31 @@
--- What is told of elements, item by item. The lines of a dump and of a check and the number of findings are those of the
--- items, so their order is this one.
+-- What is reported of elements, item by item. The lines of a dump and of a check and the number of findings are those
+-- of the items, so their order is this one.
 use Rattle.std.specs.Prelude.{ℕ, ◌+◌, Bool, if◌then◌else◌, List, [], ◌∷◌, ◌++◌, filter, length, map, None, Option, slice_get}
-use Rattle.tlv_head.specs.Header.{Heading, octets_of}
+use Rattle.tlv_head.specs.Header.{HeaderValue, octets_of}
 use Rattle.tlv_value.specs.declared.finding.Finding.{Finding}
-use Rattle.tlv_value.specs.Checks.{contents_conditions, held}
+use Rattle.tlv_value.specs.Checks.{contents_conditions, findings_by}
 use Rattle.tlv_walk.specs.Forest.{Forest, Fill, Whole, Closed, Partial, Entered, Awaiting, extent}
 use Rattle.tlv_show.specs.declared.rules.Rules.{Rules}
 use Rattle.tlv_show.specs.Conditions.{end_conditions, header_conditions}
-use Rattle.tlv_show.specs.DumpText.{end_place}
+use Rattle.tlv_show.specs.EndPlace.{end_place}
 use Rattle.tlv_show.specs.Found.{shows}
-use Rattle.tlv_show.specs.Site.{Padding, Sibling, Site, inside_of, is_padding, onward}
+use Rattle.tlv_show.specs.Site.{Padding, Sibling, Site, is_padding, onward, site_inside}
 
 -- an item, with its level: how many elements hold what it is about
 pub data Item : Type 0 where
   -- something is found in the element that begins at this offset
   FindingAt : (level offset : ℕ) (finding : Finding) → Item
-  -- an element that holds others begins, and ends: with the offset of its end-of-contents octets, where it has them
-  OpeningLine : (level : ℕ) (head : Heading) → Item
+  -- an element that holds others begins, and ends: with the offset of its end-of-contents octets, if it has them
+  OpeningLine : (level : ℕ) (head : HeaderValue) → Item
   ClosingLine : (level : ℕ) (offset : Option ℕ) → Item
   -- a primitive, and one that lacks contents octets
-  WholePrimitive : (level : ℕ) (head : Heading) (contents : List ℕ) → Item
-  OpenPrimitive : (level : ℕ) (head : Heading) (contents : List ℕ) → Item
+  WholePrimitive : (level : ℕ) (head : HeaderValue) (contents : List ℕ) → Item
+  OpenPrimitive : (level : ℕ) (head : HeaderValue) (contents : List ℕ) → Item
   -- padding begins at this offset
   PaddingLine : (level offset : ℕ) → Item
 
 -- the headers of whole elements one after another
-abbrev pub heads : Forest → List Heading
+abbrev pub heads : Forest → List HeaderValue
 heads (Fill rest) = heads rest
 heads (Whole h c rest) = h ∷ heads rest
 heads (Closed h inside rest) = h ∷ heads rest
@@ -33,19 +33,20 @@ heads _ = []
 
 module _ (rules : Rules) where
   -- what is found in an element, in order: of these conditions, what the rules show
-  abbrev pub told : Site → Heading → List (Bool × Finding) → List Item
-  told s h conditions = map (FindingAt s.level h.offset) (filter (shows rules) (held conditions))
+  abbrev pub finding_items : Site → HeaderValue → List (Bool × Finding) → List Item
+  finding_items s h conditions = map (FindingAt s.level h.offset) (filter (shows rules) (findings_by conditions))
 
-  -- of elements from there on. What is found with the header comes before the element's first line, all else behind its last
+  -- of elements from there on. What is found with the header comes before the element's first line, all else after
+  -- its last
   abbrev pub items : Site → Forest → List Item
   -- a run of padding has one line
   items s (Fill rest) = (if is_padding s.before then [] else PaddingLine s.level s.at ∷ []) ++ items (onward s 1 Padding) rest
-  items s (Whole h c rest) = told s h (header_conditions s h) ++ (WholePrimitive s.level h c ∷ told s h (contents_conditions h c)
+  items s (Whole h c rest) = finding_items s h (header_conditions s h) ++ (WholePrimitive s.level h c ∷ finding_items s h (contents_conditions h c)
       ++ items (onward s (length (octets_of h) + length c) (Sibling h (slice_get c 0))) rest)
   items s (Closed h inside rest) =
-      told s h (header_conditions s h) ++ (OpeningLine s.level h ∷ items (inside_of s h) inside
-      ++ (ClosingLine s.level (end_place h inside) ∷ told s h (end_conditions h (heads inside)) ++ items (onward s (extent h inside) (Sibling h None)) rest))
-  items s (Partial h c) = told s h (header_conditions s h) ++ OpenPrimitive s.level h c ∷ []
-  items s (Entered h inside) = told s h (header_conditions s h) ++ OpeningLine s.level h ∷ items (inside_of s h) inside
-  items s (Awaiting h) = told s h (header_conditions s h) ++ OpeningLine s.level h ∷ []
+      finding_items s h (header_conditions s h) ++ (OpeningLine s.level h ∷ items (site_inside s h) inside
+      ++ (ClosingLine s.level (end_place h inside) ∷ finding_items s h (end_conditions h (heads inside)) ++ items (onward s (extent h inside) (Sibling h None)) rest))
+  items s (Partial h c) = finding_items s h (header_conditions s h) ++ OpenPrimitive s.level h c ∷ []
+  items s (Entered h inside) = finding_items s h (header_conditions s h) ++ OpeningLine s.level h ∷ items (site_inside s h) inside
+  items s (Awaiting h) = finding_items s h (header_conditions s h) ++ OpeningLine s.level h ∷ []
   items s _ = []

@@ -3,35 +3,35 @@ use Rattle.std.specs.Prelude.{◌≡◌, ℕ, ◌^◌, ◌≤◌, List, [], ◌�
 use Rattle.std.specs.FinMap as finite
 use Rattle.std.specs.List.{filter}
 use Rattle.tlv_show.specs.Items.{Item, FindingAt, OpeningLine, ClosingLine, WholePrimitive, OpenPrimitive, PaddingLine, items}
-use Rattle.tlv_show.specs.Site.{top}
+use Rattle.tlv_show.specs.Site.{top_site}
 use Rattle.tlv_show.specs.declared.rules.Rules.TheVariants.{Ber}
-use Rattle.tlv_show.specs.Dumps.{top_layout}
-use Rattle.tlv_show.specs.FinderState.{no_findings}
-use Rattle.tlv_show.specs.Texts.{check_line, check_text, found_count}
+use Rattle.tlv_show.specs.DumpJob.{top_layout}
+use Rattle.tlv_show.specs.FinderState.{new_finder}
+use Rattle.tlv_show.specs.Texts.{check_line, check_text, finding_count}
 use Rattle.tlv_show.specs.CheckStep.{check_step}
-use Rattle.tlv_show.specs.DumpStep.{nothing_shown}
-use Rattle.tlv_head.specs.Header.{Heading, announced}
+use Rattle.tlv_show.specs.DumpStep.{new_dump}
+use Rattle.tlv_head.specs.Header.{HeaderValue, announced}
 use Rattle.tlv_value.specs.Names.{Table}
-use Rattle.tlv_value.specs.State.{whole_lines}
+use Rattle.tlv_value.specs.TextState.{whole_lines}
 use Rattle.tlv_walk.specs.Events.{Begin, Bytes, End, events}
-use Rattle.tlv_walk.specs.Follow.{followed}
+use Rattle.tlv_walk.specs.Follow.{effect_of}
 use Rattle.tlv_walk.specs.Forest.{Forest}
 use Rattle.tlv_walk.specs.Reading.{IsPrefixOf, IsReading}
 use Rattle.tlv_walk.specs.declared.framing.Framing.{Framing}
 use Rattle.tlv_show.specs.declared.options.Options.{Options}
 use Rattle.tlv_show.specs.declared.rules.Rules.{Rules}
 use Rattle.tlv_walk.specs.declared.follow.Go.TheVariants.{On}
-use Rattle.tlv_show.specs.declared.style.Style.TheVariants.{Dump}
-use Rattle.tlv_show.specs.CheckStep.{all_written}
-use Rattle.tlv_show.specs.DumpStep.{Showing, dump_step, found_lines}
+use Rattle.tlv_show.specs.declared.finding_lines.Style.TheVariants.{Dump}
+use Rattle.tlv_show.specs.CheckStep.{styled_lines}
+use Rattle.tlv_show.specs.DumpStep.{DumpState, dump_step, finding_lines}
 use Rattle.tlv_show.specs.FinderState.{find_begin}
 use Rattle.tlv_show.specs.Found.{contents_findings, shows}
-use Rattle.tlv_show.specs.Dumps.{dumped_text}
+use Rattle.tlv_show.specs.DumpJob.{dump_job_text}
 
 -- the text of a longer input, of no more octets than are dumped, begins with that of the shorter
 abbrev pub DumpsGoOn : Type 0
 DumpsGoOn = (options : Options) (names : Table) (b c : List ℕ) (f g : Forest) → length (b ++ c) ≤ 2 ^ 40
-    → IsReading options.framing b f → IsReading options.framing (b ++ c) g → IsPrefixOf (dumped_text options names f) (dumped_text options names g)
+    → IsReading options.framing b f → IsReading options.framing (b ++ c) g → IsPrefixOf (dump_job_text options names f) (dump_job_text options names g)
 
 -- likewise what a check lists
 abbrev pub ChecksGoOn : Type 0
@@ -41,31 +41,31 @@ ChecksGoOn = (rules : Rules) (framing : Framing) (b c : List ℕ) (f g : Forest)
 -- a primitive with as many contents octets as its header announces has the lines of its whole contents, between those of what
 -- is found with its header and on its contents. Nothing of it is kept
 abbrev pub PrimitivesAreShown : Type 0
-PrimitivesAreShown = (s : Showing) (h : Heading) (c : List ℕ) → announced h.size ≡ length c
-    → (shown : Showing)
+PrimitivesAreShown = (s : DumpState) (h : HeaderValue) (c : List ℕ) → announced h.size ≡ length c
+    → (shown : DumpState)
     × (shown.lines.value ≡ None)
     × (shown.finder.value ≡ None)
-    × (followed dump_step s (Begin h ∷ Bytes c ∷ End ∷ [])
+    × (effect_of dump_step s (Begin h ∷ Bytes c ∷ End ∷ [])
     ≡ record {
       state = shown;
       put =
-          found_lines s (find_begin s.finder h)
+          finding_lines s (find_begin s.finder h)
           ++ (whole_lines (finite.get s.lines.names) h s.lines.layout c
-          ++ all_written (Dump s.lines.layout.pure) (length s.finder.outer) h.offset (contents_findings s.finder.rules h c));
+          ++ styled_lines (Dump s.lines.layout.pure) (length s.finder.outer) h.offset (contents_findings s.finder.rules h c));
       goes = On;
     })
 
 -- a `Dump` puts the text of a reading of no more octets than are dumped, counts its findings, and never has enough
 abbrev pub DumpsMakeTexts : Type 0
 DumpsMakeTexts = (options : Options) (names : Table) (b : List ℕ) (f : Forest) → length b ≤ 2 ^ 40 → IsReading options.framing b f
-    → let made = followed dump_step (nothing_shown options.rules (top_layout options) names) (events f) in
-    (made.put ≡ dumped_text options names f) × (made.state.finder.count ≡ found_count options.rules f) × (made.goes ≡ On)
+    → let made = effect_of dump_step (new_dump options.rules (top_layout options) names) (events f) in
+    (made.put ≡ dump_job_text options names f) × (made.state.finder.count ≡ finding_count options.rules f) × (made.goes ≡ On)
 
 -- likewise a `Check`
 abbrev pub ChecksMakeTexts : Type 0
 ChecksMakeTexts = (rules : Rules) (framing : Framing) (b : List ℕ) (f : Forest) → length b ≤ 2 ^ 40 → IsReading framing b f
-    → let made = followed check_step (no_findings rules) (events f) in
-    (made.put ≡ check_text rules f) × (made.state.count ≡ found_count rules f) × (made.goes ≡ On)
+    → let made = effect_of check_step (new_finder rules) (events f) in
+    (made.put ≡ check_text rules f) × (made.state.count ≡ finding_count rules f) × (made.goes ≡ On)
 
 -- a finding of BER
 abbrev pub is_basic : Item → Bool
@@ -78,4 +78,4 @@ is_basic (PaddingLine level offset) = false
 
 -- what a check lists under BER is what it lists under other rules, but for the findings that these rules add
 abbrev pub BasicFindingsStay : Type 0
-BasicFindingsStay = (rules : Rules) (f : Forest) → check_text Ber f ≡ flat_map check_line (filter is_basic (items rules top f))
+BasicFindingsStay = (rules : Rules) (f : Forest) → check_text Ber f ≡ flat_map check_line (filter is_basic (items rules top_site f))

@@ -1,7 +1,7 @@
 pub mod Lines
-pub mod Dumped
-pub mod Dumps
-pub mod DumpText
+pub mod LinesStep
+pub mod DumpJob
+pub mod EndPlace
 pub mod Site
 pub mod Conditions
 pub mod Found
@@ -10,8 +10,8 @@ pub mod Texts
 pub mod FinderState
 pub mod CheckStep
 pub mod DumpStep
-pub mod Shows
+pub mod ShowJob
 pub mod Laws
-pub mod Checks
+pub mod CheckJob
 pub mod Spellings
 pub mod Private

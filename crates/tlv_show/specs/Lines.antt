@@ -1,8 +1,8 @@
--- Parts of the lines of a dump. The lines of all items stand in `Texts`.
+-- Parts of the lines of a dump. The lines of all items are in `Texts`.
 use Rattle.std.specs.Prelude.{ℕ, List, ◌++◌, Option, codes, decimal}
 use Rattle.std.specs.Option.{option_map_or}
 use Rattle.tlv_head.specs.declared.header.Size.{Size}
-use Rattle.tlv_head.specs.Header.{Heading, definite_length}
+use Rattle.tlv_head.specs.Header.{HeaderValue, definite_length}
 use Rattle.tlv_head.specs.Tag.{tag_text_of}
 use Rattle.tlv_value.specs.declared.layout.Layout.{Layout}
 use Rattle.tlv_value.specs.Layout.{columns, line, no_columns}
@@ -16,8 +16,8 @@ size_text size = option_map_or decimal (definite_length size) (codes "indef")
 abbrev pub text_line : Layout → List ℕ → List ℕ → List ℕ
 text_line layout first text = line layout.pure first layout.level text
 
--- an element that holds others, with a word behind its tag
-abbrev pub opening_line : Layout → Heading → List ℕ → List ℕ
+-- an element that holds others, with a word after its tag
+abbrev pub opening_line : Layout → HeaderValue → List ℕ → List ℕ
 opening_line layout h word = text_line layout (columns h.offset (size_text h.size)) (tag_text_of h.class h.number ++ word)
 
 abbrev pub close_line : Layout → Option ℕ → List ℕ

@@ -1,9 +1,4 @@
 pub mod CheckStep
-pub mod Conditions
-pub mod Dumped
+pub mod LinesStep
 pub mod FinderState
 pub mod Nesting
-pub mod Found
-pub mod Items
-pub mod Lines
-pub mod Site

@@ -1,18 +1,18 @@
--- Where an element stands among others: X.690 8.1.1, 8.1.4.
+-- Where an element is among others: X.690 8.1.1, 8.1.4.
 use Rattle.std.specs.Prelude.{ℕ, ◌+◌, Bool, true, false, ◌&&◌, List, length, Option, Some, None, slice_get}
 use Rattle.std.specs.Option.{option_map_or}
-use Rattle.tlv_head.specs.Header.{Heading, octets_of}
+use Rattle.tlv_head.specs.Header.{HeaderValue, octets_of}
 use Rattle.tlv_value.specs.Types.{bit_string, has_segments, is_a}
 use Rattle.tlv_walk.specs.Forest.{Forest, extent, opening}
 
--- what stands right before an element, in what holds it
+-- what is right before an element, in what holds it
 pub data Before : Type 0 where
   -- nothing: it is the first
   Start : Before
   -- octets 00 between encodings
   Padding : Before
   -- an element. Of a primitive that wraps nothing the first contents octet is kept, if there is one
-  Sibling : (head : Heading) (first : Option ℕ) → Before
+  Sibling : (head : HeaderValue) (first : Option ℕ) → Before
 
 pub record Site : Type 0 where
   -- the offset of its first octet
@@ -20,20 +20,20 @@ pub record Site : Type 0 where
   -- how many elements hold it
   pub level : ℕ
   -- the innermost of these
-  pub holder : Option Heading
+  pub holder : Option HeaderValue
   pub before : Before
 
 -- the start of the input
-abbrev pub top : Site
-top = record { at = 0; level = 0; holder = None; before = Start }
+abbrev pub top_site : Site
+top_site = record { at = 0; level = 0; holder = None; before = Start }
 
--- so many octets on, behind this
+-- so many octets on, after this
 abbrev pub onward : Site → ℕ → Before → Site
 onward s octets before = record s { at = s.at + octets; before = before }
 
 -- inside an element that holds others
-abbrev pub inside_of : Site → Heading → Site
-inside_of s h = record { at = s.at + length (opening h); level = s.level + 1; holder = Some h; before = Start }
+abbrev pub site_inside : Site → HeaderValue → Site
+site_inside s h = record { at = s.at + length (opening h); level = s.level + 1; holder = Some h; before = Start }
 
 abbrev pub is_padding : Before → Bool
 is_padding Padding = true
@@ -46,14 +46,3 @@ in_string s = option_map_or has_segments s.holder false
 abbrev pub in_bit_string : Site → Bool
 in_bit_string s = option_map_or (λ h. has_segments h && is_a bit_string h) s.holder false
 
--- ---- Words of proofs alone
-
--- behind a primitive, behind an element that holds others, and behind an octet of padding
-abbrev pub behind : Site → Heading → List ℕ → Site
-behind s h c = onward s (length (octets_of h) + length c) (Sibling h (slice_get c 0))
-
-abbrev pub behind_holder : Site → Heading → Forest → Site
-behind_holder s h inside = onward s (extent h inside) (Sibling h None)
-
-abbrev pub behind_padding : Site → Site
-behind_padding s = onward s 1 Padding

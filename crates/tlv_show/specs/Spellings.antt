@@ -1,7 +1,7 @@
 -- Encodings by DER and by CER have one spelling: X.690 8.1.2, 9.1 and 10.1.
 use Rattle.std.specs.Prelude.{◌≡◌, ◌≢◌, ◌↔◌, ℕ, ◌^◌, ◌≤◌, Bool, true, false, List, length}
 use Rattle.std.specs.List.{list_any}
-use Rattle.tlv_head.specs.Header.{Heading, IsHeading, leading_octet}
+use Rattle.tlv_head.specs.Header.{HeaderValue, IsHeader, leading_octet}
 use Rattle.tlv_head.specs.Shortest.{HasShorter}
 use Rattle.tlv_value.specs.declared.finding.Finding.{Finding}
 use Rattle.tlv_value.specs.declared.finding.Finding.TheVariants.{B01, B02, S01, D01, C01}
@@ -17,7 +17,7 @@ use Rattle.tlv_show.specs.declared.rules.Rules.{Rules}
 use Rattle.tlv_show.specs.declared.rules.Rules.TheVariants.{Ber}
 use Rattle.tlv_show.specs.Found.{header_findings}
 use Rattle.tlv_show.specs.Items.{Item, FindingAt, items}
-use Rattle.tlv_show.specs.Site.{Site, top}
+use Rattle.tlv_show.specs.Site.{Site, top_site}
 
 -- a finding on how a tag number or a length is spelled
 abbrev pub is_on_spelling : Finding → Bool
@@ -28,13 +28,13 @@ is_on_spelling D01 = true
 is_on_spelling C01 = true
 is_on_spelling finding = false
 
-abbrev pub tells_of_spelling : Item → Bool
-tells_of_spelling (FindingAt level at finding) = is_on_spelling finding
-tells_of_spelling _ = false
+abbrev pub is_item_on_spelling : Item → Bool
+is_item_on_spelling (FindingAt level at finding) = is_on_spelling finding
+is_item_on_spelling _ = false
 
 -- such a finding is among those of the elements
 abbrev pub is_misspelled : Rules → Forest → Bool
-is_misspelled rules f = list_any tells_of_spelling (items rules top f)
+is_misspelled rules f = list_any is_item_on_spelling (items rules top_site f)
 
 -- an input that is sound, with its reading, in which there is no such finding
 pub record IsWellSpelled (rules : Rules) (framing : Framing) (b : List ℕ) (f : Forest) : Type 0 where
@@ -47,9 +47,9 @@ abbrev pub OneSpelling : Type 0
 OneSpelling = (rules : Rules) (framing other : Framing) (b c : List ℕ) (f g : Forest) → rules ≢ Ber
     → IsWellSpelled rules framing b f → IsWellSpelled rules other c g → AreAlike f g → b ≡ c
 
--- by DER and by CER, the elements of a sound input have such a spelling, where none is the universal primitive 0, and the input
--- has at most 2^38 octets, so that lengths stay below 2^40. In it the strings that hold elements are named, and no others; a
--- user may name those offsets if those of the input may be named
+-- by DER and by CER, the elements of a sound input have such a spelling, if none is the universal primitive 0, and
+-- the input has at most 2^38 octets, so that lengths stay below 2^40. In it the strings that hold elements are named,
+-- and no others; a user may name those offsets if those of the input may be named
 abbrev pub SomeSpelling : Type 0
 SomeSpelling = (rules : Rules) (framing : Framing) (b : List ℕ) (f : Forest) → rules ≢ Ber → length b ≤ 2 ^ 38
     → IsEnding framing b Done → IsReading framing b f → HaveLowForms f
@@ -66,12 +66,12 @@ abbrev pub is_on_lengths : Finding → Bool
 is_on_lengths S01 = true
 is_on_lengths finding = false
 
--- B01 or B02 is found exactly where fewer identifier octets say the same. The universal primitive 0 alone has no low form
+-- B01 or B02 is found exactly if fewer identifier octets say the same. The universal primitive 0 alone has no low form
 abbrev pub LongerIdentifiersAreFound : Type 0
-LongerIdentifiersAreFound = (rules : Rules) (s : Site) (h : Heading) → IsHeading h → leading_octet h.class h.constructed h.number ≢ 0
+LongerIdentifiersAreFound = (rules : Rules) (s : Site) (h : HeaderValue) → IsHeader h → leading_octet h.class h.constructed h.number ≢ 0
     → (list_any is_on_identifier (header_findings rules s h) ≡ true) ↔ HasShorter (λ k. k.identifier) h
 
--- by DER and by CER, S01 is found exactly where fewer length octets say the same
+-- by DER and by CER, S01 is found exactly if fewer length octets say the same
 abbrev pub LongerLengthsAreFound : Type 0
-LongerLengthsAreFound = (rules : Rules) (s : Site) (h : Heading) → rules ≢ Ber → IsHeading h
+LongerLengthsAreFound = (rules : Rules) (s : Site) (h : HeaderValue) → rules ≢ Ber → IsHeader h
     → (list_any is_on_lengths (header_findings rules s h) ≡ true) ↔ HasShorter (λ k. k.lengths) h

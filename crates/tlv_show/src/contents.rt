@@ -4,7 +4,7 @@ ghost use Rattle.tlv_walk.specs.Follow.{IsWhole, contents_in as contents_in_octe
 
 use tlv_head::Header;
 
-/// Of the octets of a primitive, those behind its header.
+/// Of the octets of a primitive, those after its header.
 #[inline(always)]
 pub(crate) fn contents_in<'a>(header: &Header, octets: &'a [u8]) -> &'a [u8]
     requires { IsWhole header.now octets.now }

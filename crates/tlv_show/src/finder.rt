@@ -2,10 +2,10 @@
 ghost use Rattle.std.specs.Prelude.{◌≡◌, [], if◌then◌else◌, length};
 ghost use Rattle.std.specs.List.{filter};
 ghost use Rattle.tlv_head.specs.Header.{announced};
-ghost use Rattle.tlv_value.specs.CheckState.{found_in};
-ghost use Rattle.tlv_walk.specs.Tells.{told_of};
-ghost use Rattle.tlv_show.specs.FinderState.{begun_in, end_notes, entered_in, find_begin, find_bytes, find_close, find_end, find_open, finds, finds_nothing, header_notes, no_findings};
-ghost use Rattle.tlv_show.specs.Private.FinderState.{PassesOrStays, Tells, find as find_in, stands};
+ghost use Rattle.tlv_value.specs.CheckState.{findings_in};
+ghost use Rattle.tlv_walk.specs.HasRead.{event_value};
+ghost use Rattle.tlv_show.specs.FinderState.{end_notes, find_begin, find_bytes, find_close, find_end, find_open, finder_at_value, finder_inside, finds, finds_nothing, header_notes, new_finder};
+ghost use Rattle.tlv_show.specs.Private.FinderState.{PassesOrStays, ReportsFindings, find_step, with_state};
 ghost use Rattle.tlv_show.specs.Found.{shows};
 
 use crate::Rules;
@@ -31,21 +31,21 @@ pub(crate) struct Finder {
     /// What is noted of the primitive that is open, or of the last one. It is used again for the next primitive, so its
     /// room is not filled anew each time.
     check: ValueCheck,
-    /// How many findings were told.
+    /// How many findings there are so far.
     count: u64,
-    /// What the last event told. It is kept here so that nothing is moved where nothing is found.
-    told: Told,
+    /// The findings of the last event. They are kept here so that nothing is moved if nothing is found.
+    last: LastFindings,
 }
 
 /// Findings in an element, in order: how many others hold it, and where it begins.
 #[derive(Drop)]
-struct Told {
+struct LastFindings {
     level: u8,
     at: u64,
     findings: ArrayVec<Finding, 16>,
 }
 
-impl Told {
+impl LastFindings {
     /// Begins anew, for the element at this level and offset.
     #[inline(always)]
     fn restart(&mut self, level: u8, at: u64)
@@ -73,16 +73,16 @@ impl Model for Finder {
         value = open_by f.is_open f.at f.check;
         count = f.count;
       };
-      level = f.told.level;
-      at = f.told.at;
-      found = f.told.findings.items;
+      level = f.last.level;
+      at = f.last.at;
+      found = f.last.findings.items;
     } };
 }
 
 impl Finder {
-    /// Of an input of which nothing was told.
+    /// A finder of which no event has come.
     pub fn new(rules: Rules) -> Finder
-        ensures { result ≡ finds_nothing (no_findings rules) }
+        ensures { result ≡ finds_nothing (new_finder rules) }
     {
         Finder {
             rules,
@@ -91,7 +91,7 @@ impl Finder {
             is_open: false,
             check: ValueCheck::of_type(0, 0),
             count: 0,
-            told: Told {
+            last: LastFindings {
                 level: 0,
                 at: 0,
                 findings: ArrayVec::new(),
@@ -99,40 +99,40 @@ impl Finder {
         }
     }
 
-    /// How many findings were told.
+    /// How many findings there are so far.
     pub fn count(&self) -> u64
         ensures { result ≡ self.now.state.count }
     {
         self.count
     }
 
-    /// The findings that the last event told, in order.
+    /// The findings of the last event, in order.
     #[inline(always)]
     pub fn findings(&self) -> &[Finding]
         ensures { result.now ≡ self.now.found }
     {
-        self.told.findings.as_slice()
+        self.last.findings.as_slice()
     }
 
     /// How many elements hold the one with these findings.
     pub fn level(&self) -> u8
         ensures { result ≡ self.now.level }
     {
-        self.told.level
+        self.last.level
     }
 
     /// Where the element with these findings begins.
     pub fn at(&self) -> u64
         ensures { result ≡ self.now.at }
     {
-        self.told.at
+        self.last.at
     }
 
-    /// Takes an event. Answers whether there may be findings; where not, it told none, and what the events before it told
+    /// Takes an event. Returns whether there may be findings; if not, it has none, and what the events before it left
     /// is left as it is.
     #[inline(always)]
     pub fn find(&mut self, event: &Event<'_>) -> bool
-        ensures { Tells (find_in self.old.state (told_of event.now)) self.new result }
+        ensures { ReportsFindings (find_step self.old.state (event_value event.now)) self.new result }
     {
         match event {
             Event::Open(header) | Event::Enter(header) => self.open(header),
@@ -148,7 +148,7 @@ impl Finder {
     }
 
     /// Takes a primitive of which all contents are at hand: its header, its contents and its end. Returns whether nothing is
-    /// found with them, as far as a short look tells. Where there may be findings, it takes nothing.
+    /// found with them, as far as a short look shows. If there may be findings, it takes nothing.
     #[inline(always)]
     pub fn passes(&mut self, header: &Header, contents: &[u8]) -> bool
         requires { announced header.now.size ≡ length contents.now }
@@ -165,10 +165,10 @@ impl Finder {
         true
     }
 
-    /// Tells what is found with a header. Answers whether there may be findings.
+    /// Finds what is to be found with a header. Returns whether there may be findings.
     #[inline(always)]
     fn header(&mut self, header: &Header) -> bool
-        ensures { Tells (finds self.old.state (length self.old.state.outer) header.now.offset
+        ensures { ReportsFindings (finds self.old.state (length self.old.state.outer) header.now.offset
             (header_notes self.old.state.rules self.old.state.frame header.now)) self.new result }
     {
         if is_plain(self.rules, self.holders.frame(), header) {
@@ -185,20 +185,20 @@ impl Finder {
             (header_notes self.old.state.rules self.old.state.frame header.now) }
     {
         let level = self.holders.level();
-        self.told.restart(level, header.offset);
+        self.last.restart(level, header.offset);
         note_header(
             self.rules,
             self.holders.frame(),
             header,
-            &mut self.told.findings,
+            &mut self.last.findings,
         );
-        self.count = self.count.saturating_add(self.told.findings.len() as u64);
+        self.count = self.count.saturating_add(self.last.findings.len() as u64);
     }
 
     /// Keeps the frame of an element that holds others and begins.
     #[inline(always)]
     fn enter(&mut self, header: &Header)
-        ensures { self.new ≡ stands (entered_in self.old.state header.now) self.old }
+        ensures { self.new ≡ with_state (finder_inside self.old.state header.now) self.old }
     {
         self.holders.enter(header);
     }
@@ -206,7 +206,7 @@ impl Finder {
     /// Keeps where a primitive begins, and that nothing of its contents has come.
     #[inline(always)]
     fn enter_value(&mut self, header: &Header)
-        ensures { self.new ≡ stands (begun_in self.old.state header.now) self.old }
+        ensures { self.new ≡ with_state (finder_at_value self.old.state header.now) self.old }
     {
         self.at = header.offset;
         self.is_open = true;
@@ -216,7 +216,7 @@ impl Finder {
     /// An element that holds others begins.
     #[inline(always)]
     pub fn open(&mut self, header: &Header) -> bool
-        ensures { Tells (find_open self.old.state header.now) self.new result }
+        ensures { ReportsFindings (find_open self.old.state header.now) self.new result }
     {
         // Most such elements are no strings, and nothing is found with them.
         if is_plain(self.rules, self.holders.frame(), header) {
@@ -231,17 +231,17 @@ impl Finder {
     /// A primitive begins.
     #[inline(always)]
     pub fn begin(&mut self, header: &Header) -> bool
-        ensures { Tells (find_begin self.old.state header.now) self.new result }
+        ensures { ReportsFindings (find_begin self.old.state header.now) self.new result }
     {
-        let tells = self.header(header);
+        let has_findings = self.header(header);
         self.enter_value(header);
-        tells
+        has_findings
     }
 
     /// Contents of a primitive go on. Those past the octets that were announced do not count.
     #[inline(always)]
     pub fn bytes(&mut self, octets: &[u8])
-        ensures { self.new ≡ stands (find_bytes self.old.state octets.now) self.old }
+        ensures { self.new ≡ with_state (find_bytes self.old.state octets.now) self.old }
     {
         if self.is_open && !octets.is_empty() {
             let count = self.check.left().min(octets.len() as u64) as usize;
@@ -252,7 +252,7 @@ impl Finder {
     /// A primitive ends.
     #[inline(always)]
     pub fn end(&mut self) -> bool
-        ensures { Tells (find_end self.old.state) self.new result }
+        ensures { ReportsFindings (find_end self.old.state) self.new result }
     {
         if !self.is_open {
             return false;
@@ -265,32 +265,32 @@ impl Finder {
             return false;
         }
         let level = self.holders.level();
-        self.told.restart(level, self.at);
-        note_found(self.rules, check, &mut self.told.findings);
-        self.count = self.count.saturating_add(self.told.findings.len() as u64);
+        self.last.restart(level, self.at);
+        note_found(self.rules, check, &mut self.last.findings);
+        self.count = self.count.saturating_add(self.last.findings.len() as u64);
         true
     }
 
     /// An element that holds others ends.
     #[inline(always)]
     pub fn close(&mut self) -> bool
-        ensures { Tells (find_close self.old.state) self.new result }
+        ensures { ReportsFindings (find_close self.old.state) self.new result }
     {
         match self.holders.leave() {
-            Some(closed) => self.tell_end(&closed),
+            Some(closed) => self.look_at_end(&closed),
             None => false,
         }
     }
 
-    /// Tells what is found with the end of an element that held segments.
+    /// Finds what is to be found with the end of an element that held segments.
     #[inline(never)]
-    fn tell_end(&mut self, closed: &Frame) -> bool
-        ensures { Tells (finds self.old.state (length self.old.state.outer) closed.now.at
+    fn look_at_end(&mut self, closed: &Frame) -> bool
+        ensures { ReportsFindings (finds self.old.state (length self.old.state.outer) closed.now.at
             (end_notes self.old.state.rules closed.now)) self.new result }
     {
-        self.told.restart(self.holders.level(), closed.at);
-        note_end(self.rules, closed, &mut self.told.findings);
-        self.count = self.count.saturating_add(self.told.findings.len() as u64);
+        self.last.restart(self.holders.level(), closed.at);
+        note_end(self.rules, closed, &mut self.last.findings);
+        self.count = self.count.saturating_add(self.last.findings.len() as u64);
         true
     }
 }
@@ -300,7 +300,7 @@ impl Finder {
 fn note_found(rules: Rules, check: &ValueCheck, found: &mut ArrayVec<Finding, 16>)
     requires left { check.now.left ≡ 0 }
     requires none { found.old.items ≡ [] }
-    ensures { found.new.items ≡ filter (shows rules) (found_in check.now) }
+    ensures { found.new.items ≡ filter (shows rules) (findings_in check.now) }
 {
     for finding in check.end().as_slice() {
         if is_shown(rules, *finding) {

@@ -1,6 +1,6 @@
-//! What is kept of the elements that stand beside one another.
+//! What is kept of the elements that are beside one another.
 ghost use Rattle.std.specs.Prelude.{◌≡◌, ◌<◌, ◌∷◌, [], drop, length};
-ghost use Rattle.tlv_show.specs.FinderState.{frame_of as frame_inside, noted, top_frame};
+ghost use Rattle.tlv_show.specs.FinderState.{frame_after, frame_of as frame_inside, top_frame};
 ghost use Rattle.tlv_show.specs.Private.Nesting.{innermost_of};
 
 use crate::headers::{is_bit_string, is_string, size_of};
@@ -64,7 +64,7 @@ pub(crate) fn frame_of(header: &Header) -> Frame
 /// and whether bits of it are unused. Nothing is asked of the others.
 #[inline(always)]
 pub(crate) fn note_element(frame: &mut Frame, is_primitive: bool, size: u64, is_unused: bool)
-    ensures { frame.new ≡ noted frame.old is_primitive size is_unused }
+    ensures { frame.new ≡ frame_after frame.old is_primitive size is_unused }
 {
     if !frame.has_segments {
         return;

@@ -1,16 +1,9 @@
 //! What is found with a header, and with the end of an element that holds others.
 ghost use Rattle.std.specs.Prelude.{IsTrue, false, ◌≡◌, ◌<◌, ◌≤◌, ◌+◌, ◌++◌, ◌&&◌, ◌||◌, ◌==◌, if◌then◌else◌, nat_le, nat_lt, length, []};
-ghost use Rattle.tlv_value.specs.CheckNotes.{where_it};
-ghost use Rattle.tlv_value.specs.Types.{
-  constructed_types,
-  has_segments,
-  is_one_of,
-  is_primitive as is_primitive_of,
-  is_unassigned as is_unassigned_of,
-  primitive_types,
-};
+ghost use Rattle.tlv_value.specs.CheckNotes.{finding_if};
+ghost use Rattle.tlv_value.specs.Types.{constructed_types, has_segments, is_one_of, is_primitive, is_unassigned as is_unassigned_of, primitive_types};
 ghost use Rattle.tlv_show.specs.Conditions.{has_high_form as has_high_form_of, leading_bits};
-ghost use Rattle.tlv_show.specs.FinderState.{basic_notes, cer_notes, der_notes, end_notes as end_notes_of, header_notes, length_notes};
+ghost use Rattle.tlv_show.specs.FinderState.{basic_notes, cer_notes, der_notes, end_notes, header_notes, length_notes};
 
 use crate::Rules;
 use crate::frames::Frame;
@@ -47,7 +40,7 @@ pub(crate) fn note_header(
     }
 }
 
-/// Whether nothing is found with a header, as far as a short look tells.
+/// Whether nothing is found with a header, as far as a short look shows.
 #[inline(always)]
 pub(crate) fn is_plain(rules: Rules, frame: &Frame, header: &Header) -> bool
     ensures notes { IsTrue result → header_notes rules frame.now header.now ≡ [] }
@@ -81,7 +74,7 @@ fn is_tag_usual(header: &Header) -> bool
 fn is_usual(header: &Header) -> bool
     ensures assigned { IsTrue result → is_unassigned_of header.now ≡ false }
     ensures primitive { IsTrue result → (header.now.constructed && is_one_of primitive_types header.now) ≡ false }
-    ensures constructed { IsTrue result → (is_primitive_of header.now && is_one_of constructed_types header.now) ≡ false }
+    ensures constructed { IsTrue result → (is_primitive header.now && is_one_of constructed_types header.now) ≡ false }
     ensures segments { IsTrue result → has_segments header.now ≡ false }
 {
     if !is_universal(header) {
@@ -98,7 +91,7 @@ fn is_usual(header: &Header) -> bool
 #[inline(always)]
 pub(crate) fn note_end(rules: Rules, frame: &Frame, found: &mut ArrayVec<Finding, 16>)
     requires { found.old.items ≡ [] }
-    ensures { found.new.items ≡ end_notes_of rules frame.now }
+    ensures { found.new.items ≡ end_notes rules frame.now }
 {
     if matches!(rules, Rules::Cer) {
         note(
@@ -118,11 +111,11 @@ fn fits(frame: &Frame) -> bool
     frame.octets <= if frame.has_bits { 999 } else { 1000 }
 }
 
-/// Adds a finding, where it is there.
+/// Adds a finding, if it is there.
 #[inline(always)]
 fn note(there: bool, finding: Finding, found: &mut ArrayVec<Finding, 16>)
     requires { length found.old.items < 16 }
-    ensures items { found.new.items ≡ found.old.items ++ where_it there finding }
+    ensures items { found.new.items ≡ found.old.items ++ finding_if there finding }
     ensures few { length found.new.items ≤ length found.old.items + 1 }
 {
     if there {

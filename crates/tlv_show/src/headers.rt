@@ -1,16 +1,7 @@
 //! What a header says of its element.
 ghost use Rattle.std.specs.Prelude.{◌≡◌, ◌&&◌, ◌||◌, ◌==◌, if◌then◌else◌, nat_lt};
 ghost use Rattle.tlv_head.specs.Header.{announced, is_universal as is_universal_class};
-ghost use Rattle.tlv_value.specs.Types.{
-  bit_string,
-  constructed_types,
-  is_a,
-  is_one_of,
-  is_string as is_string_of,
-  is_unassigned as is_unassigned_of,
-  octet_string,
-  primitive_types,
-};
+ghost use Rattle.tlv_value.specs.Types.{bit_string, constructed_types, is_a, is_one_of, is_string as is_string_of, is_unassigned as is_unassigned_of, octet_string, primitive_types};
 ghost use Rattle.tlv_walk.specs.Place.{is_indefinite as is_indefinite_of};
 ghost use Rattle.tlv_show.specs.Conditions.{first_length, has_high_form as has_high_form_of, has_long_form};
 

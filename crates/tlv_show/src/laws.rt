@@ -25,7 +25,7 @@ pub fn checks_go_on()
 {}
 
 /// A primitive is shown with all of its contents octets, by the definition of a value's lines, between what is found with its
-/// header and on its contents. Where it has ended nothing of it is kept.
+/// header and on its contents. Once it has ended nothing of it is kept.
 pub fn primitives_are_shown()
     ensures { PrimitivesAreShown }
 {}
@@ -35,9 +35,9 @@ pub fn basic_findings_stay()
     ensures { BasicFindingsStay }
 {}
 
-/// Encodings by DER, and by CER, have one spelling. Two sound inputs are the same octets where their elements agree, one by
-/// one, in class, form, number and contents, with as much padding between them, and where a check under DER, or under CER,
-/// finds none of B01, B02, S01, D01 and C01 in either (X.690 8.1.2.2, 8.1.2.4.2 c), 9.1 and 10.1).
+/// Encodings by DER, and by CER, have one spelling. Two sound inputs are the same octets if their elements agree, one
+/// by one, in class, form, number and contents, with as much padding between them, and if a check under DER, or under
+/// CER, finds none of B01, B02, S01, D01 and C01 in either (X.690 8.1.2.2, 8.1.2.4.2 c), 9.1 and 10.1).
 pub fn one_spelling()
     ensures { OneSpelling }
 {}
@@ -50,14 +50,15 @@ pub fn some_spelling()
     ensures { SomeSpelling }
 {}
 
-/// B01 or B02 is found with a header exactly where another header of that class, form, number and size has fewer identifier
-/// octets. Of the universal primitive 0 nothing is said: its low form would be the `00` of end-of-contents octets (8.1.5).
+/// B01 or B02 is found with a header exactly if another header of that class, form, number and size has fewer
+/// identifier octets. Of the universal primitive 0 nothing is said: its low form would be the `00` of end-of-contents
+/// octets (8.1.5).
 pub fn longer_identifiers_are_found()
     ensures { LongerIdentifiersAreFound }
 {}
 
-/// Under DER and under CER, S01 is found with a header exactly where another header of that class, form, number and size has
-/// fewer length octets.
+/// Under DER and under CER, S01 is found with a header exactly if another header of that class, form, number and size
+/// has fewer length octets.
 pub fn longer_lengths_are_found()
     ensures { LongerLengthsAreFound }
 {}

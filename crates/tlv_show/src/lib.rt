@@ -1,12 +1,12 @@
 //! What `dump` writes: a line for each element, and rows for the contents of a long primitive.
 #![tactic(auto)]
 
-mod checker;
-mod checking;
+mod check_follower;
+mod check_call;
 mod contents;
-mod dumping;
+mod dump_call;
 mod finder;
-mod follower;
+mod dump_follower;
 mod frames;
 mod header_findings;
 mod headers;
@@ -17,12 +17,12 @@ mod nesting;
 mod options;
 mod outcome;
 mod rules;
-mod style;
+mod finding_lines;
 
-pub use checker::Check;
-pub use checking::check;
-pub use dumping::dump;
-pub use follower::Dump;
+pub use check_follower::Check;
+pub use check_call::check;
+pub use dump_call::dump;
+pub use dump_follower::Dump;
 pub use options::Options;
 pub use outcome::Outcome;
 pub use rules::Rules;

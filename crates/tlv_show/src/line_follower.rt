@@ -3,22 +3,12 @@ ghost use Rattle.std.specs.Prelude.{◌≡◌, ◌≤◌, ◌-◌, ◌^◌, OnOk
 ghost use Rattle.tlv_walk.specs.Events.{Unused};
 ghost use Rattle.tlv_walk.specs.Follow.{each_octet};
 ghost use Rattle.tlv_io.specs.Out.{Puts};
-ghost use Rattle.tlv_show.specs.Dumped.{
-  dumped,
-  dumped_begin,
-  dumped_close,
-  dumped_end,
-  dumped_open,
-  entered,
-  fresh,
-  one_dumped,
-  one_padded,
-};
+ghost use Rattle.tlv_show.specs.LinesStep.{lines_begin_step, lines_close_step, lines_end_step, lines_octet_step, lines_open_step, lines_padding_step, lines_step, new_lines, past_header};
 
 mod whole;
 
 use crate::lines::{put_closing, put_opening, put_padding};
-use crate::style::Style;
+use crate::finding_lines::Style;
 use std::marker::Model;
 use tlv_head::Header;
 use tlv_value::{Layout, Names, ValueText};
@@ -31,7 +21,7 @@ pub(crate) struct Lines<'n> {
     /// How lines are laid out: the level is how many elements are open that hold others.
     layout: Layout,
     names: &'n Names,
-    /// Where the next octet stands.
+    /// Where the next octet is.
     offset: u64,
     /// Whether the last octets were padding.
     in_padding: bool,
@@ -43,11 +33,11 @@ pub(crate) struct Lines<'n> {
 
 impl<'n> Model for Lines<'n> {
     ghost use Rattle.std.specs.Coded.{codes};
-    ghost use Rattle.tlv_show.specs.Dumped.{Dumping};
-    ghost use Rattle.tlv_show.specs.Private.Dumped.{if_open};
+    ghost use Rattle.tlv_show.specs.LinesStep.{LinesState};
+    ghost use Rattle.tlv_show.specs.Private.LinesStep.{if_open};
     ghost use Rattle.tlv_value.specs.Names.{table_code};
 
-    ghost Value = { Dumping };
+    ghost Value = { LinesState };
 
     ghost coded = { Prim.hlevel (codes, table_code) };
 
@@ -63,7 +53,7 @@ impl<'n> Model for Lines<'n> {
 impl<'n> Lines<'n> {
     /// Lines in this layout, of which none is written.
     pub fn new(layout: Layout, names: &'n Names) -> Lines<'n>
-        ensures { result ≡ fresh layout names.now }
+        ensures { result ≡ new_lines layout names.now }
     {
         Lines {
             layout,
@@ -85,15 +75,15 @@ impl<'n> Lines<'n> {
     /// The count of unused bits of a BIT STRING that wraps encodings: it has no line.
     #[inline(always)]
     pub fn unused(&mut self)
-        ensures { self.new ≡ (dumped self.old Unused).state }
+        ensures { self.new ≡ (lines_step self.old Unused).state }
     {
         self.offset = self.offset.saturating_add(1);
     }
 
-    /// An element begins: padding ends, and its contents stand behind its header.
+    /// An element begins: padding ends, and its contents are after its header.
     #[inline(always)]
     fn enter(&mut self, header: &Header)
-        ensures { self.new ≡ entered self.old header.now }
+        ensures { self.new ≡ past_header self.old header.now }
     {
         self.offset = header.offset.saturating_add(header.raw().len() as u64);
         self.in_padding = false;
@@ -108,8 +98,8 @@ impl<'n> Lines<'n> {
         out: &mut Out<'_, D>,
     ) -> Result<(), WriteFault>
         requires { length word.now ≤ 16 }
-        ensures state { OnOk result (self.new ≡ (dumped_open self.old header.now word.now).state) }
-        ensures puts { Puts D.told out.old out.new (dumped_open self.old header.now word.now).put result }
+        ensures state { OnOk result (self.new ≡ (lines_open_step self.old header.now word.now).state) }
+        ensures puts { Puts D.state out.old out.new (lines_open_step self.old header.now word.now).put result }
     {
         put_opening(self.layout, header, word, out)?;
         self.layout.level = self.layout.level.saturating_add(1);
@@ -117,14 +107,14 @@ impl<'n> Lines<'n> {
         Ok(())
     }
 
-    /// An element that holds others ends: `at` is where its end-of-contents octets stand.
+    /// An element that holds others ends: `at` is where its end-of-contents octets are.
     pub fn close<D: Drain>(
         &mut self,
         at: Option<u64>,
         out: &mut Out<'_, D>,
     ) -> Result<(), WriteFault>
-        ensures state { OnOk result (self.new ≡ (dumped_close self.old at).state) }
-        ensures puts { Puts D.told out.old out.new (dumped_close self.old at).put result }
+        ensures state { OnOk result (self.new ≡ (lines_close_step self.old at).state) }
+        ensures puts { Puts D.state out.old out.new (lines_close_step self.old at).put result }
     {
         self.layout.level = self.layout.level.saturating_sub(1);
         if let Some(at) = at {
@@ -140,8 +130,8 @@ impl<'n> Lines<'n> {
         header: &Header,
         out: &mut Out<'_, D>,
     ) -> Result<(), WriteFault>
-        ensures state { OnOk result (self.new ≡ (dumped_begin self.old header.now).state) }
-        ensures puts { Puts D.told out.old out.new (dumped_begin self.old header.now).put result }
+        ensures state { OnOk result (self.new ≡ (lines_begin_step self.old header.now).state) }
+        ensures puts { Puts D.state out.old out.new (lines_begin_step self.old header.now).put result }
     {
         self.enter(header);
         self.is_open = true;
@@ -152,8 +142,8 @@ impl<'n> Lines<'n> {
     /// Contents of a primitive go on.
     #[inline(always)]
     pub fn bytes<D: Drain>(&mut self, octets: &[u8], out: &mut Out<'_, D>) -> Result<(), WriteFault>
-        ensures state { OnOk result (self.new ≡ (each_octet one_dumped self.old octets.now).state) }
-        ensures puts { Puts D.told out.old out.new (each_octet one_dumped self.old octets.now).put result }
+        ensures state { OnOk result (self.new ≡ (each_octet lines_octet_step self.old octets.now).state) }
+        ensures puts { Puts D.state out.old out.new (each_octet lines_octet_step self.old octets.now).put result }
     {
         self.offset = self.offset.saturating_add(octets.len() as u64);
         put_bytes(self.is_open, &mut self.value, octets, out)
@@ -161,8 +151,8 @@ impl<'n> Lines<'n> {
 
     /// A primitive ends.
     pub fn end<D: Drain>(&mut self, out: &mut Out<'_, D>) -> Result<(), WriteFault>
-        ensures state { self.new ≡ (dumped_end self.old).state }
-        ensures puts { Puts D.told out.old out.new (dumped_end self.old).put result }
+        ensures state { self.new ≡ (lines_end_step self.old).state }
+        ensures puts { Puts D.state out.old out.new (lines_end_step self.old).put result }
     {
         let put = put_end(self.is_open, &mut self.value, self.names, out);
         self.is_open = false;
@@ -171,8 +161,8 @@ impl<'n> Lines<'n> {
 
     /// Padding goes on. A run of it has one line, which comes with its first octet.
     pub fn pad<D: Drain>(&mut self, octets: &[u8], out: &mut Out<'_, D>) -> Result<(), WriteFault>
-        ensures state { OnOk result (self.new ≡ (each_octet one_padded self.old octets.now).state) }
-        ensures puts { Puts D.told out.old out.new (each_octet one_padded self.old octets.now).put result }
+        ensures state { OnOk result (self.new ≡ (each_octet lines_padding_step self.old octets.now).state) }
+        ensures puts { Puts D.state out.old out.new (each_octet lines_padding_step self.old octets.now).put result }
     {
         if octets.is_empty() {
             return Ok(());
@@ -187,11 +177,11 @@ impl<'n> Lines<'n> {
     }
 }
 
-ghost use Rattle.tlv_show.specs.Dumped.{value_after, value_ended, value_told};
-ghost use Rattle.tlv_show.specs.Private.Dumped.{if_open};
+ghost use Rattle.tlv_show.specs.LinesStep.{value_after, value_contents_lines, value_end_lines};
+ghost use Rattle.tlv_show.specs.Private.LinesStep.{if_open};
 
-/// Puts what more contents octets tell of the primitive that is open. Of octets past those that were announced
-/// nothing is told.
+/// Writes the lines that more contents octets of the open primitive make known. Of octets past those that were
+/// announced nothing is written.
 fn put_bytes<D: Drain>(
     is_open: bool,
     value: &mut ValueText,
@@ -199,7 +189,7 @@ fn put_bytes<D: Drain>(
     out: &mut Out<'_, D>,
 ) -> Result<(), WriteFault>
     ensures state { OnOk result (if_open is_open value.new ≡ value_after (if_open is_open value.old) octets.now) }
-    ensures puts { Puts D.told out.old out.new (value_told (if_open is_open value.old) octets.now) result }
+    ensures puts { Puts D.state out.old out.new (value_contents_lines (if_open is_open value.old) octets.now) result }
 {
     if !is_open {
         return Ok(());
@@ -208,14 +198,14 @@ fn put_bytes<D: Drain>(
     value.bytes(&octets[..count], out)
 }
 
-/// Puts what the end tells of the primitive that is open, if all its contents octets have come.
+/// Writes the lines that come with the end of the open primitive, if all its contents octets have come.
 fn put_end<D: Drain>(
     is_open: bool,
     value: &mut ValueText,
     names: &Names,
     out: &mut Out<'_, D>,
 ) -> Result<(), WriteFault>
-    ensures { Puts D.told out.old out.new (value_ended names.now (if_open is_open value.old)) result }
+    ensures { Puts D.state out.old out.new (value_end_lines names.now (if_open is_open value.old)) result }
 {
     if !is_open || value.left() != 0 {
         return Ok(());

@@ -1,7 +1,7 @@
 //! The lines of a dump that are not those of primitives.
 ghost use Rattle.std.specs.Prelude.{◌≡◌, ◌+◌, ◌≤◌, ◌++◌, codes, length};
 ghost use Rattle.std.specs.Option.{option_map_or};
-ghost use Rattle.tlv_io.specs.Held.{HasRoomFor};
+ghost use Rattle.tlv_io.specs.LineTexts.{HasRoomFor};
 ghost use Rattle.tlv_io.specs.Out.{Puts};
 ghost use Rattle.tlv_value.specs.Layout.{columns, margin, no_columns};
 ghost use Rattle.tlv_show.specs.Lines.{close_line, opening_line, padding_line, size_text};
@@ -10,7 +10,7 @@ use tlv_head::{Header, Size};
 use tlv_value::{Layout, begin_blank, begin_sized, begin_word, write_tag};
 use tlv_walk::{Drain, Held, Out, WriteFault};
 
-/// Puts the line of an element that holds others, with a word behind its tag.
+/// Puts the line of an element that holds others, with a word after its tag.
 #[inline(always)]
 pub(crate) fn put_opening<D: Drain>(
     layout: Layout,
@@ -19,7 +19,7 @@ pub(crate) fn put_opening<D: Drain>(
     out: &mut Out<'_, D>,
 ) -> Result<(), WriteFault>
     requires { length word.now ≤ 16 }
-    ensures { Puts D.told out.old out.new (opening_line layout header.now word.now) result }
+    ensures { Puts D.state out.old out.new (opening_line layout header.now word.now) result }
 {
     out.make_room()?;
     write_opening(&mut out.held, layout, header, word);
@@ -33,7 +33,7 @@ pub(crate) fn put_closing<D: Drain>(
     at: Option<u64>,
     out: &mut Out<'_, D>,
 ) -> Result<(), WriteFault>
-    ensures { Puts D.told out.old out.new (close_line layout at) result }
+    ensures { Puts D.state out.old out.new (close_line layout at) result }
 {
     out.make_room()?;
     write_closing(&mut out.held, layout, at);
@@ -46,14 +46,14 @@ pub(crate) fn put_padding<D: Drain>(
     at: u64,
     out: &mut Out<'_, D>,
 ) -> Result<(), WriteFault>
-    ensures { Puts D.told out.old out.new (padding_line layout at) result }
+    ensures { Puts D.state out.old out.new (padding_line layout at) result }
 {
     out.make_room()?;
     write_padding(&mut out.held, layout, at);
     Ok(())
 }
 
-/// Adds the line of an element that holds others, with a word behind its tag.
+/// Adds the line of an element that holds others, with a word after its tag.
 #[inline(always)]
 fn write_opening(held: &mut Held, layout: Layout, header: &Header, word: &[u8])
     requires room { HasRoomFor held.old 1024 }

@@ -1,9 +1,9 @@
 //! The frames of the elements that are open, without those of which nothing is to be known.
 ghost use Rattle.std.specs.Prelude.{◌≡◌, ◌||◌, false, length, true};
-ghost use Rattle.tlv_head.specs.Header.{Heading};
+ghost use Rattle.tlv_head.specs.Header.{HeaderValue};
 ghost use Rattle.tlv_value.specs.Types.{has_segments};
-ghost use Rattle.tlv_show.specs.FinderState.{header_notes, noted};
-ghost use Rattle.tlv_show.specs.Private.Nesting.{TakesBack, at_top, entered, left_in, segments_left};
+ghost use Rattle.tlv_show.specs.FinderState.{frame_after, header_notes};
+ghost use Rattle.tlv_show.specs.Private.Nesting.{TakesBack, nesting_inside, nesting_outside, new_nesting, segments_left};
 ghost use Rattle.tlv_show.specs.declared.rules.Rules.{Rules};
 
 use crate::frames::{Frame, Frames, Kept, frame_of, note_element, top};
@@ -12,7 +12,7 @@ use std::marker::Model;
 use tlv_head::Header;
 
 /// The frames of the open elements that hold others, of which at most 128 are kept. An element that is no string and
-/// stands in none is counted alone: such elements are many, and a frame is long.
+/// is in none is counted alone: such elements are many, and a frame is long.
 #[derive(Drop)]
 pub(crate) struct Nesting {
     /// How many elements are open that hold others.
@@ -26,9 +26,9 @@ pub(crate) struct Nesting {
 
 impl Model for Nesting {
     ghost use Rattle.std.specs.Prelude.{◌≡◌, ◌≤◌, length};
-    ghost use Rattle.tlv_show.specs.Private.Nesting.{AreKept, IsKept, Nest, all_frames, innermost, outside};
+    ghost use Rattle.tlv_show.specs.Private.Nesting.{AreKept, IsKept, NestingState, all_frames, innermost, outside};
 
-    ghost Value = { Nest };
+    ghost Value = { NestingState };
 
     ghost view = { λ n. record {
       frame = innermost n.frame n.plain;
@@ -46,7 +46,7 @@ impl Model for Nesting {
 impl Nesting {
     /// At the top, where no element is open.
     pub fn new() -> Nesting
-        ensures { result ≡ at_top }
+        ensures { result ≡ new_nesting }
     {
         Nesting {
             level: 0,
@@ -64,11 +64,11 @@ impl Nesting {
         self.level
     }
 
-    /// A frame that tells of headers what the innermost one tells.
+    /// A frame that says of headers what the innermost one says.
     #[inline(always)]
     pub fn frame(&self) -> &Frame
         ensures segments { result.now.has_segments ≡ self.now.frame.has_segments }
-        ensures notes { (rules : Rules) (h : Heading) → header_notes rules result.now h ≡ header_notes rules self.now.frame h }
+        ensures notes { (rules : Rules) (h : HeaderValue) → header_notes rules result.now h ≡ header_notes rules self.now.frame h }
     {
         &self.frame
     }
@@ -76,7 +76,7 @@ impl Nesting {
     /// An element that holds others begins.
     #[inline(always)]
     pub fn enter(&mut self, header: &Header)
-        ensures { self.new ≡ entered self.old header.now }
+        ensures { self.new ≡ nesting_inside self.old header.now }
     {
         if !has_frame(&self.frame, header) {
             return self.enter_plain(header);
@@ -93,11 +93,11 @@ impl Nesting {
         self.plain = 0;
     }
 
-    /// An element that holds others begins, which is no string and stands in none.
+    /// An element that holds others begins, which is no string and is in none.
     #[inline(always)]
     pub fn enter_plain(&mut self, header: &Header)
         requires { (self.old.frame.has_segments || has_segments header.now) ≡ false }
-        ensures { self.new ≡ entered self.old header.now }
+        ensures { self.new ≡ nesting_inside self.old header.now }
     {
         if self.level < 128 {
             self.level += 1;
@@ -108,7 +108,7 @@ impl Nesting {
     /// A primitive ends: how many contents octets it announces, and whether bits of it are unused.
     #[inline(always)]
     pub fn note_primitive(&mut self, size: u64, is_unused: bool)
-        ensures { self.new ≡ record self.old { frame = noted self.old.frame true size is_unused } }
+        ensures { self.new ≡ record self.old { frame = frame_after self.old.frame true size is_unused } }
     {
         note_element(&mut self.frame, true, size, is_unused);
     }
@@ -116,7 +116,7 @@ impl Nesting {
     /// An element that holds others ends. Returns its frame, if what it held were segments.
     #[inline(always)]
     pub fn leave(&mut self) -> Option<Frame>
-        ensures nest { self.new ≡ left_in self.old }
+        ensures nest { self.new ≡ nesting_outside self.old }
         ensures segments { result ≡ segments_left self.old }
     {
         if self.level == 0 {
@@ -145,8 +145,8 @@ fn has_frame(frame: &Frame, header: &Header) -> bool
     frame.has_segments || (header.constructed && is_string(header))
 }
 
-/// An element that has a frame ends: the frame outside is the innermost one again, and tells of the element what has to be
-/// known of it.
+/// An element that has a frame ends: the frame outside is the innermost one again, and says of the element what has
+/// to be known of it.
 #[inline(never)]
 fn take_back(frame: &mut Frame, plain: &mut u8, outer: &mut Frames)
     ensures { TakesBack frame.old outer.old frame.new plain.new outer.new }

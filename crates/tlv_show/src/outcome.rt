@@ -5,7 +5,7 @@ use tlv_walk::Ending;
 #[derive(Clone, Copy, Debug, PartialEq, Eq)]
 pub struct Outcome {
     pub ending: Ending,
-    /// How many findings there are, also where their lines are left out.
+    /// How many findings there are, also if their lines are left out.
     pub findings: u64,
     /// The first of the named offsets at which no string was found whose contents are encodings.
     pub unused: Option<u64>,

@@ -1,6 +1,6 @@
-//! Whose rules are told of.
+//! Whose rules findings are reported by.
 
-/// Whose rules are told of: findings are of the basic rules, and of those that each of the other two adds.
+/// Whose rules findings are reported by: findings are of the basic rules, and of those that each of the other two adds.
 #[derive(Clone, Copy, Debug, PartialEq, Eq)]
 pub enum Rules {
     /// The basic encoding rules.

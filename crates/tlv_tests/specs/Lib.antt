@@ -1,1 +1,1 @@
-pub mod Lined
+pub mod TestStep

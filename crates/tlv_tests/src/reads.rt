@@ -1,6 +1,6 @@
 //! Reads that are followed one by one.
 ghost use Rattle.std.specs.Prelude.{◌<◌, ◌≤◌, ◌^◌, length};
-ghost use Rattle.tlv_walk.specs.Machine.{IsReady};
+ghost use Rattle.tlv_walk.specs.WalkerState.{CanTake};
 
 use crate::expect::expect_eq;
 use std::process::Abort;
@@ -22,9 +22,9 @@ pub(crate) fn expect_again<F: Follow>(
     requires piece { (0 < length piece.old) × (length piece.old ≤ 4096) }
     requires limit { limit ≤ 2 ^ 40 }
     requires taken { walker.old.offset ≤ limit }
-    requires ready { IsReady walker.old }
+    requires ready { CanTake walker.old }
     ensures taken { walker.new.offset ≤ limit }
-    ensures ready { IsReady walker.new }
+    ensures ready { CanTake walker.new }
 {
     let Ok(Turn::Again) = turn(walker, follower, source, drain, piece, limit) else {
         panic!(rt; "more is to be read");

@@ -2,7 +2,7 @@
 use Rattle.std.proofs.Common.{◌≡◌, [], ◌∷◌, ◌++◌, true, false, refl}
 use Rattle.std.specs.Prelude.{Ok, Err, codes, replicate}
 use Rattle.std.specs.FinMap as finite
-use Rattle.tlv_value.specs.Names.{nothing, named, no_oid, no_name, too_long, is_dotted, lines, line_of, names_of}
+use Rattle.tlv_value.specs.Names.{entry, is_dotted, lines, long_line, names_line, names_of, no_entry, no_name, no_oid}
 use Rattle.tlv_value.specs.declared.names.fault.NamesFault.TheVariants.{BadOid, BadName, Repeated, TooLarge}
 
 -- after a last LF there is no line
@@ -12,23 +12,23 @@ two-lines = refl
 last-line-without-end : lines (97 ∷ 10 ∷ 98 ∷ []) ≡ (97 ∷ []) ∷ (98 ∷ []) ∷ []
 last-line-without-end = refl
 
-comment : line_of (codes "  # 2.5.4.3 commonName") ≡ nothing
+comment : names_line (codes "  # 2.5.4.3 commonName") ≡ no_entry
 comment = refl
 
-blank : line_of (codes " " ++ 9 ∷ 13 ∷ []) ≡ nothing
+blank : names_line (codes " " ++ 9 ∷ 13 ∷ []) ≡ no_entry
 blank = refl
 
-common-name : line_of (codes " 2.5.4.3" ++ 9 ∷ codes "  common name " ++ 13 ∷ []) ≡ named (codes "2.5.4.3") (codes "common name")
+common-name : names_line (codes " 2.5.4.3" ++ 9 ∷ codes "  common name " ++ 13 ∷ []) ≡ entry (codes "2.5.4.3") (codes "common name")
 common-name = refl
 
 -- one CR alone is dropped
-two-returns : line_of (codes "2.5.4.3 cn" ++ 13 ∷ 13 ∷ []) ≡ no_name
+two-returns : names_line (codes "2.5.4.3 cn" ++ 13 ∷ 13 ∷ []) ≡ no_name
 two-returns = refl
 
-no-name-at-all : line_of (codes "2.5.4.3 ") ≡ no_name
+no-name-at-all : names_line (codes "2.5.4.3 ") ≡ no_name
 no-name-at-all = refl
 
-second-arc-past-39 : line_of (codes "1.40 x") ≡ no_oid
+second-arc-past-39 : names_line (codes "1.40 x") ≡ no_oid
 second-arc-past-39 = refl
 
 second-arc-of-39 : is_dotted (codes "1.39") ≡ true
@@ -37,7 +37,7 @@ second-arc-of-39 = refl
 second-arc-under-2 : is_dotted (codes "2.999") ≡ true
 second-arc-under-2 = refl
 
-first-arc-past-2 : line_of (codes "3.1 x") ≡ no_oid
+first-arc-past-2 : names_line (codes "3.1 x") ≡ no_oid
 first-arc-past-2 = refl
 
 one-arc : is_dotted (codes "2") ≡ false
@@ -56,13 +56,13 @@ dot-at-the-end : is_dotted (codes "2.5.") ≡ false
 dot-at-the-end = refl
 
 -- 20 is from 20 to 7e, 7f and e9 are not
-octets-of-a-name : line_of (codes "2.5 " ++ 126 ∷ 32 ∷ 127 ∷ []) ≡ no_name
+octets-of-a-name : names_line (codes "2.5 " ++ 126 ∷ 32 ∷ 127 ∷ []) ≡ no_name
 octets-of-a-name = refl
 
-line-of-400 : line_of (35 ∷ replicate 399 120) ≡ nothing
+line-of-400 : names_line (35 ∷ replicate 399 120) ≡ no_entry
 line-of-400 = refl
 
-line-of-401 : line_of (35 ∷ replicate 400 120) ≡ too_long
+line-of-401 : names_line (35 ∷ replicate 400 120) ≡ long_line
 line-of-401 = refl
 
 no-lines : names_of [] ≡ Ok (finite.from_entries [])

@@ -3,7 +3,7 @@ use Rattle.std.specs.Prelude.{ℕ, ◌-◌, ◌%◌, ◌^◌, Bool, true, false,
 use Rattle.std.specs.List.{join_by, list_all, onto_first}
 use Rattle.tlv_head.specs.Header.{value_of}
 
--- 8.19.2: the octets are cut behind each that has bit 8 clear
+-- 8.19.2: the octets are cut after each that has bit 8 clear
 abbrev pub parts_of : List ℕ → List (List ℕ)
 parts_of [] = []
 parts_of (x ∷ xs) = if nat_lt x 128 then (x ∷ []) ∷ parts_of xs else onto_first x (parts_of xs)
@@ -31,6 +31,3 @@ dotted_text relative octets =
     else None
 
 -- ---- A word of private functions and of proofs
-
-abbrev pub subidentifier : List ℕ → ℕ
-subidentifier part = value_of 128 (map (λ x. x % 128) part)

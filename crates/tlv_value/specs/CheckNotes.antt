@@ -5,9 +5,9 @@ use Rattle.tlv_value.specs.declared.finding.Finding.TheVariants.{B06, B07, B08, 
 use Rattle.tlv_value.specs.Checks.{is_padded_integer}
 use Rattle.tlv_value.specs.Times.{canonical_general_time, canonical_utc_time, general_time, has_form, utc_time}
 
--- a finding, where it is there
-abbrev pub where_it : Bool → Finding → List Finding
-where_it there finding = if there then finding ∷ [] else []
+-- a finding, if it is there
+abbrev pub finding_if : Bool → Finding → List Finding
+finding_if there finding = if there then finding ∷ [] else []
 
 -- OBJECT IDENTIFIER, RELATIVE-OID
 abbrev pub is_object : ℕ → Bool
@@ -15,7 +15,7 @@ is_object number = eqb number 6 || eqb number 13
 
 -- what the findings go by: the number of octets, the first two, those of a time, the last, whether a subidentifier is
 -- padded, and whether the characters are those of the type
-pub record Noted : Type 0 where
+pub record Notes : Type 0 where
   pub size : ℕ
   pub front : List ℕ
   pub time : List ℕ
@@ -23,53 +23,53 @@ pub record Noted : Type 0 where
   pub padded : Bool
   pub allowed : Bool
 
-abbrev pub first_of : Noted → ℕ
-first_of n = slice_index n.front 0
+abbrev pub front_octet : Notes → ℕ
+front_octet n = slice_index n.front 0
 
 -- 8.2.1, 11.1
-abbrev pub boolean_findings : Noted → List Finding
-boolean_findings n = where_it (not (eqb n.size 1)) B06 ++ where_it (eqb n.size 1 && not (eqb (first_of n) 0 || eqb (first_of n) 255)) S02
+abbrev pub boolean_findings : Notes → List Finding
+boolean_findings n = finding_if (not (eqb n.size 1)) B06 ++ finding_if (eqb n.size 1 && not (eqb (front_octet n) 0 || eqb (front_octet n) 255)) S02
 
 -- 8.3.1, 8.3.2
-abbrev pub integer_findings : Noted → List Finding
-integer_findings n = where_it (eqb n.size 0) B07 ++ where_it (is_padded_integer n.front) B08
+abbrev pub integer_findings : Notes → List Finding
+integer_findings n = finding_if (eqb n.size 0) B07 ++ finding_if (is_padded_integer n.front) B08
 
 -- 8.6.2, 11.2.1
-abbrev pub bits_findings : Noted → List Finding
+abbrev pub bits_findings : Notes → List Finding
 bits_findings n =
-    where_it (eqb n.size 0) B13
-    ++ where_it (nat_lt 7 (first_of n)) B14
-    ++ where_it (eqb n.size 1 && nat_le 1 (first_of n) && nat_le (first_of n) 7) B15
-    ++ where_it (nat_le 2 n.size && nat_le (first_of n) 7 && not (eqb (n.last % 2 ^ first_of n) 0)) S03
+    finding_if (eqb n.size 0) B13
+    ++ finding_if (nat_lt 7 (front_octet n)) B14
+    ++ finding_if (eqb n.size 1 && nat_le 1 (front_octet n) && nat_le (front_octet n) 7) B15
+    ++ finding_if (nat_le 2 n.size && nat_le (front_octet n) 7 && not (eqb (n.last % 2 ^ front_octet n) 0)) S03
 
 -- 8.8.2
-abbrev pub null_findings : Noted → List Finding
-null_findings n = where_it (not (eqb n.size 0)) B09
+abbrev pub null_findings : Notes → List Finding
+null_findings n = finding_if (not (eqb n.size 0)) B09
 
 -- 8.20.2
-abbrev pub relative_findings : Noted → List Finding
-relative_findings n = where_it n.padded B11 ++ where_it (nat_le 128 n.last) B12
+abbrev pub relative_findings : Notes → List Finding
+relative_findings n = finding_if n.padded B11 ++ finding_if (nat_le 128 n.last) B12
 
 -- 8.19.2
-abbrev pub object_findings : Noted → List Finding
-object_findings n = where_it (eqb n.size 0) B10 ++ relative_findings n
+abbrev pub object_findings : Notes → List Finding
+object_findings n = finding_if (eqb n.size 0) B10 ++ relative_findings n
 
 -- the grammar, and then the canonical form (11.7, 11.8)
 abbrev pub time_findings : Bool → Bool → List Finding
-time_findings of_grammar is_canonical = if of_grammar then where_it (not is_canonical) S04 else B19 ∷ []
+time_findings of_grammar is_canonical = if of_grammar then finding_if (not is_canonical) S04 else B19 ∷ []
 
 -- of a time of at most 64 octets
-abbrev pub utc_findings : Noted → List Finding
+abbrev pub utc_findings : Notes → List Finding
 utc_findings n = if nat_le n.size 64 then time_findings (has_form utc_time n.time) (has_form canonical_utc_time n.time) else []
 
-abbrev pub general_findings : Noted → List Finding
+abbrev pub general_findings : Notes → List Finding
 general_findings n = if nat_le n.size 64 then time_findings (has_form general_time n.time) (has_form canonical_general_time n.time) else []
 
-abbrev pub text_findings : Noted → List Finding
-text_findings n = where_it (not n.allowed) B18
+abbrev pub text_findings : Notes → List Finding
+text_findings n = finding_if (not n.allowed) B18
 
 -- on a primitive with this universal number
-abbrev pub universal_findings : ℕ → Noted → List Finding
+abbrev pub universal_findings : ℕ → Notes → List Finding
 universal_findings number n =
     if eqb number 1 then boolean_findings n
     else if eqb number 2 then integer_findings n

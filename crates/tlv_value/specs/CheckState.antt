@@ -1,11 +1,11 @@
--- What is to be kept of the contents of a primitive, so that what is found on them can be told at their end.
+-- What is to be kept of the contents of a primitive, so that what is found on them can be reported at their end.
 use Rattle.std.specs.Prelude.{ℕ, ◌-◌, ◌%◌, Bool, true, false, ◌&&◌, ◌||◌, not, eqb, if◌then◌else◌, List, [], ◌∷◌, ◌++◌, length, take}
 use Rattle.std.specs.Str.{is_utf8}
-use Rattle.tlv_head.specs.Header.{Heading, announced, is_universal}
+use Rattle.tlv_head.specs.Header.{HeaderValue, announced, is_universal}
 use Rattle.tlv_value.specs.declared.kind.Kind.TheVariants.{Utf8}
 use Rattle.tlv_value.specs.declared.finding.Finding.{Finding}
-use Rattle.tlv_value.specs.Checks.{allows_octet, every, is_padded_behind, last_of}
-use Rattle.tlv_value.specs.CheckNotes.{Noted, is_object, universal_findings}
+use Rattle.tlv_value.specs.Checks.{allows_octet, every, is_padded_after, last_octet_of}
+use Rattle.tlv_value.specs.CheckNotes.{Notes, is_object, universal_findings}
 use Rattle.tlv_value.specs.Rows.{full_rows, open_row}
 use Rattle.tlv_value.specs.Types.{bit_string, octet_string}
 
@@ -20,7 +20,7 @@ pub record CheckState : Type 0 where
   pub size : ℕ
   -- how many octets are still to come
   pub left : ℕ
-  -- the first two octets, and the last one, where the type asks for them
+  -- the first two octets, and the last one, if the type asks for them
   pub front : List ℕ
   pub last : ℕ
   -- whether each octet is one of its type, and whether a subidentifier is padded
@@ -33,12 +33,12 @@ pub record CheckState : Type 0 where
   pub time : List ℕ
 
 -- the universal number of the type; of another class that of OCTET STRING, on whose contents nothing is found
-abbrev pub type_noted : Heading → ℕ
-type_noted h = if is_universal h.class then h.number else octet_string
+abbrev pub type_number : HeaderValue → ℕ
+type_number h = if is_universal h.class then h.number else octet_string
 
 -- of so many octets
-abbrev pub unchecked_of : ℕ → ℕ → CheckState
-unchecked_of number size = record {
+abbrev pub new_check_of : ℕ → ℕ → CheckState
+new_check_of number size = record {
   number = number;
   size = size;
   left = size;
@@ -51,8 +51,8 @@ unchecked_of number size = record {
   time = [];
 }
 
-abbrev pub unchecked : Heading → CheckState
-unchecked h = unchecked_of (type_noted h) (announced h.size)
+abbrev pub new_check : HeaderValue → CheckState
+new_check h = new_check_of (type_number h) (announced h.size)
 
 -- the first octets are looked at, and the last one: BOOLEAN, INTEGER, BIT STRING, ENUMERATED
 abbrev pub notes_front : ℕ → Bool
@@ -67,32 +67,32 @@ notes_each number =
 abbrev pub notes_time : ℕ → Bool
 notes_time number = eqb number 23 || eqb number 24
 
-abbrev pub front_noted : CheckState → List ℕ → CheckState
-front_noted s octets = record s { front = take 2 (s.front ++ octets); last = last_of s.last octets }
+abbrev pub with_front : CheckState → List ℕ → CheckState
+with_front s octets = record s { front = take 2 (s.front ++ octets); last = last_octet_of s.last octets }
 
-abbrev pub each_noted : CheckState → List ℕ → CheckState
-each_noted s octets = record s {
+abbrev pub with_each : CheckState → List ℕ → CheckState
+with_each s octets = record s {
   allowed = s.allowed && every (allows_octet s.number) octets;
-  padded = if is_object s.number then s.padded || is_padded_behind s.last octets else s.padded;
+  padded = if is_object s.number then s.padded || is_padded_after s.last octets else s.padded;
   formed = if eqb s.number 12 then s.formed && all_utf8 (full_rows Utf8 s.row octets) else s.formed;
   row = if eqb s.number 12 then open_row Utf8 s.row octets else s.row;
-  last = last_of s.last octets;
+  last = last_octet_of s.last octets;
 }
 
-abbrev pub time_noted : CheckState → List ℕ → CheckState
-time_noted s octets = record s { time = take 64 (s.time ++ octets) }
+abbrev pub with_time : CheckState → List ℕ → CheckState
+with_time s octets = record s { time = take 64 (s.time ++ octets) }
 
 -- what is noted of more octets
-abbrev pub more_noted : CheckState → List ℕ → CheckState
-more_noted s octets =
-    if notes_front s.number then front_noted s octets
-    else if notes_each s.number then each_noted s octets
-    else if notes_time s.number then time_noted s octets
+abbrev pub with_notes : CheckState → List ℕ → CheckState
+with_notes s octets =
+    if notes_front s.number then with_front s octets
+    else if notes_each s.number then with_each s octets
+    else if notes_time s.number then with_time s octets
     else s
 
 -- the state after more octets
-abbrev pub checked : CheckState → List ℕ → CheckState
-checked s octets = record (more_noted s octets) { number = s.number; size = s.size; left = s.left - length octets }
+abbrev pub check_after : CheckState → List ℕ → CheckState
+check_after s octets = record (with_notes s octets) { number = s.number; size = s.size; left = s.left - length octets }
 
 -- 8.6.2.2: it is a BIT STRING whose first contents octet is not 0
 abbrev pub is_not_zero : List ℕ → Bool
@@ -103,17 +103,17 @@ abbrev pub has_unused : CheckState → Bool
 has_unused s = eqb s.number bit_string && is_not_zero s.front
 
 -- the characters are those of the type
-abbrev pub allowed_in : CheckState → Bool
-allowed_in s =
+abbrev pub is_allowed_in : CheckState → Bool
+is_allowed_in s =
     (if eqb s.number 12 then s.formed && is_utf8 s.row
     else if eqb s.number 30 then eqb (s.size % 2) 0
     else if eqb s.number 28 then eqb (s.size % 4) 0
     else true)
     && s.allowed
 
-abbrev pub noted_in : CheckState → Noted
-noted_in s = record { size = s.size; front = s.front; time = s.time; last = s.last; padded = s.padded; allowed = allowed_in s }
+abbrev pub notes_in : CheckState → Notes
+notes_in s = record { size = s.size; front = s.front; time = s.time; last = s.last; padded = s.padded; allowed = is_allowed_in s }
 
 -- what is found at the end
-abbrev pub found_in : CheckState → List Finding
-found_in s = universal_findings s.number (noted_in s)
+abbrev pub findings_in : CheckState → List Finding
+findings_in s = universal_findings s.number (notes_in s)

@@ -1,30 +1,31 @@
--- What is found on the contents of a primitive: X.690 8 and 11. The conditions stand at the end, with what they speak of
+-- What is found on the contents of a primitive: X.690 8 and 11. The conditions are at the end, with what they speak of
 -- before them.
 use Rattle.std.specs.Prelude.{ℕ, ◌%◌, ◌^◌, Bool, true, false, ◌&&◌, ◌||◌, not, ◌==◌, eqb, nat_le, nat_lt, if◌then◌else◌, List, [], ◌∷◌, flat_map, length, slice_index, codes}
 use Rattle.std.specs.Char.{is_ascii_alphabetic, is_ascii_digit}
 use Rattle.std.specs.List.{list_all, list_any}
 use Rattle.std.specs.Str.{is_utf8}
-use Rattle.tlv_head.specs.Header.{Heading, is_universal}
+use Rattle.tlv_head.specs.Header.{HeaderValue, is_universal}
 use Rattle.tlv_value.specs.declared.finding.Finding.{Finding}
 use Rattle.tlv_value.specs.declared.finding.Finding.TheVariants.{B06, B07, B08, B09, B10, B11, B12, B13, B14, B15, B18, B19, S02, S03, S04}
 use Rattle.tlv_value.specs.Times as times
-use Rattle.tlv_value.specs.Types.{bit_string, boolean, integer_types, is_a, is_one_of, null, object_identifier, object_types, utc_time}
+use Rattle.tlv_value.specs.Types.{bit_string, boolean, integer_types, is_a, is_one_of, null, object_identifier, object_types, utc_time_type}
 use Rattle.tlv_value.specs.Units.{is_printable}
 
-abbrev pub last_of : ℕ → List ℕ → ℕ
-last_of before [] = before
-last_of before (x ∷ xs) = last_of x xs
+abbrev pub last_octet_of : ℕ → List ℕ → ℕ
+last_octet_of before [] = before
+last_octet_of before (x ∷ xs) = last_octet_of x xs
 
 -- 8.3.2: the first nine bits are all equal
 abbrev pub is_padded_integer : List ℕ → Bool
 is_padded_integer (x ∷ y ∷ ys) = (eqb x 0 && nat_lt y 128) || (eqb x 255 && nat_le 128 y)
 is_padded_integer octets = false
 
--- 8.19.2, 8.20.2: an octet 80 that begins a subidentifier: it stands behind an octet with bit 8 clear. The first octet begins one
--- too: before it 0 is taken to stand
-abbrev pub is_padded_behind : ℕ → List ℕ → Bool
-is_padded_behind before [] = false
-is_padded_behind before (x ∷ xs) = (nat_lt before 128 && eqb x 128) || is_padded_behind x xs
+-- 8.19.2, 8.20.2: an octet 80 that begins a subidentifier: it is after an octet with bit 8 clear. The first octet
+-- begins one
+-- too: the octet before it is taken to be 0
+abbrev pub is_padded_after : ℕ → List ℕ → Bool
+is_padded_after before [] = false
+is_padded_after before (x ∷ xs) = (nat_lt before 128 && eqb x 128) || is_padded_after x xs
 
 abbrev pub is_digit_or_space : ℕ → Bool
 is_digit_or_space x = eqb x 32 || is_ascii_digit x
@@ -49,25 +50,25 @@ allows number octets =
 -- ---- The findings
 
 -- findings beside their conditions: those whose conditions hold, in the same order
-abbrev pub held : List (Bool × Finding) → List Finding
-held rows = flat_map (λ row. if row.0 then row.1 ∷ [] else []) rows
+abbrev pub findings_by : List (Bool × Finding) → List Finding
+findings_by rows = flat_map (λ row. if row.0 then row.1 ∷ [] else []) rows
 
 -- the first contents octet. In a BIT STRING it is the number of unused bits
 abbrev pub first : List ℕ → ℕ
 first c = slice_index c 0
 
 -- 8.25: a UTCTime or GeneralizedTime of at most 64 octets: of a longer one the form is not looked at
-abbrev pub is_short_time : Heading → List ℕ → Bool
+abbrev pub is_short_time : HeaderValue → List ℕ → Bool
 is_short_time h c = is_one_of (23 ∷ 24 ∷ []) h && nat_le (length c) 64
 
-abbrev pub time_form : Heading → times.Form
-time_form h = if is_a utc_time h then times.utc_time else times.general_time
+abbrev pub time_form : HeaderValue → times.Form
+time_form h = if is_a utc_time_type h then times.utc_time else times.general_time
 
-abbrev pub canonical_form : Heading → times.Form
-canonical_form h = if is_a utc_time h then times.canonical_utc_time else times.canonical_general_time
+abbrev pub canonical_form : HeaderValue → times.Form
+canonical_form h = if is_a utc_time_type h then times.canonical_utc_time else times.canonical_general_time
 
 -- what may be found on the contents of a primitive with this header
-abbrev pub contents_conditions : Heading → List ℕ → List (Bool × Finding)
+abbrev pub contents_conditions : HeaderValue → List ℕ → List (Bool × Finding)
 contents_conditions h c =
     -- 8.2.1: a BOOLEAN has one octet
     (is_a boolean h && not (length c == 1), B06)
@@ -80,14 +81,14 @@ contents_conditions h c =
     -- 8.19.2: an OBJECT IDENTIFIER has one subidentifier or more
     ∷ (is_a object_identifier h && length c == 0, B10)
     -- 8.19.2, 8.20.2: no subidentifier begins with 80
-    ∷ (is_one_of object_types h && is_padded_behind 0 c, B11)
+    ∷ (is_one_of object_types h && is_padded_after 0 c, B11)
     -- 8.19.2, 8.20.2: bit 8 is clear in the last octet of a subidentifier
-    ∷ (is_one_of object_types h && nat_le 128 (last_of 0 c), B12)
+    ∷ (is_one_of object_types h && nat_le 128 (last_octet_of 0 c), B12)
     -- 8.6.2: a BIT STRING has a first octet, the number of unused bits
     ∷ (is_a bit_string h && length c == 0, B13)
     -- 8.6.2.2: it is at most 7
     ∷ (is_a bit_string h && nat_lt 7 (first c), B14)
-    -- 8.6.2.3: it is 0 where no other octet follows
+    -- 8.6.2.3: it is 0 if no other octet follows
     ∷ (is_a bit_string h && length c == 1 && nat_le 1 (first c) && nat_le (first c) 7, B15)
     -- X.680 41: a string of characters has those of its type
     ∷ (is_universal h.class && not (allows h.number c), B18)
@@ -96,14 +97,14 @@ contents_conditions h c =
     -- 11.1: TRUE is ff
     ∷ (is_a boolean h && length c == 1 && not (first c == 0 || first c == 0xff), S02)
     -- 11.2.1: unused bits are 0
-    ∷ (is_a bit_string h && nat_le 2 (length c) && nat_le (first c) 7 && not (last_of 0 c % 2 ^ first c == 0), S03)
+    ∷ (is_a bit_string h && nat_le 2 (length c) && nat_le (first c) 7 && not (last_octet_of 0 c % 2 ^ first c == 0), S03)
     -- 11.7, 11.8: a time is in the canonical form
     ∷ (is_short_time h c && times.has_form (time_form h) c && not (times.has_form (canonical_form h) c), S04)
     ∷ []
 
 -- what is found, by the rules of BER, CER or DER, in order
-abbrev pub contents_findings : Heading → List ℕ → List Finding
-contents_findings h c = held (contents_conditions h c)
+abbrev pub findings_on_contents : HeaderValue → List ℕ → List Finding
+findings_on_contents h c = findings_by (contents_conditions h c)
 
 -- ---- Words of the checker and of proofs: what each octet may be, and what all of them
 

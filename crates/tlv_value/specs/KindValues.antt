@@ -6,19 +6,19 @@ use Rattle.tlv_value.specs.declared.kind.Kind.{Kind}
 use Rattle.tlv_value.specs.declared.kind.Kind.TheVariants.{Octets, Boolean, Integer, Bits, Object, Relative}
 use Rattle.tlv_value.specs.Arcs.{dotted_text}
 use Rattle.tlv_value.specs.Number.{twos_complement}
-use Rattle.tlv_value.specs.Units.{quoted}
-use Rattle.tlv_value.specs.Value.{NameOf, Value, bit_count, most_held, no_names, octets_value, shown_with, used_digits}
+use Rattle.tlv_value.specs.Units.{quoted_text}
+use Rattle.tlv_value.specs.Value.{NameOf, Value, bit_count, most_on_line, no_names, octets_value, used_digits, value_on_line}
 
 -- 8.2.2: FALSE is zero
 abbrev pub boolean_value : List ℕ → Value
-boolean_value (x ∷ []) = shown_with (if eqb x 0 then codes "FALSE" else codes "TRUE")
+boolean_value (x ∷ []) = value_on_line (if eqb x 0 then codes "FALSE" else codes "TRUE")
 boolean_value octets = octets_value octets
 
 abbrev pub integer_value : List ℕ → Value
 integer_value [] = octets_value []
-integer_value (x ∷ xs) = shown_with (signed_decimal (twos_complement (x ∷ xs)))
+integer_value (x ∷ xs) = value_on_line (signed_decimal (twos_complement (x ∷ xs)))
 
--- 8.6.2: at most 7 unused bits, and none where there is no octet for them
+-- 8.6.2: at most 7 unused bits, and none if there is no octet for them
 abbrev pub is_readable : ℕ → ℕ → Bool
 is_readable unused octets = nat_le unused 7 && (eqb unused 0 || not (eqb octets 0))
 
@@ -27,18 +27,18 @@ abbrev pub bits_value : List ℕ → Value
 bits_value [] = octets_value []
 bits_value (unused ∷ octets) =
     if is_readable unused (length octets)
-    then shown_with (bit_count unused (length octets) ++ used_digits unused octets)
+    then value_on_line (bit_count unused (length octets) ++ used_digits unused octets)
     else octets_value (unused ∷ octets)
 
--- a name behind its object identifier
+-- a name after its object identifier
 abbrev pub name_text : Option (List ℕ) → List ℕ
 name_text name = option_map_or (λ text. codes " (" ++ text ++ codes ")") name []
 
 abbrev pub object_text : NameOf → Option (List ℕ) → List ℕ → Value
-object_text name_of dotted octets = option_map_or (λ text. shown_with (text ++ name_text (name_of text))) dotted (octets_value octets)
+object_text name_of dotted octets = option_map_or (λ text. value_on_line (text ++ name_text (name_of text))) dotted (octets_value octets)
 
 abbrev pub is_long : Kind → ℕ → Bool
-is_long kind n = nat_lt (most_held kind) n
+is_long kind n = nat_lt (most_on_line kind) n
 
 -- a held value by its kind
 abbrev pub kind_value : NameOf → Kind → List ℕ → Value
@@ -48,13 +48,13 @@ kind_value name_of Integer octets = integer_value octets
 kind_value name_of Bits octets = bits_value octets
 kind_value name_of Object octets = object_text name_of (dotted_text false octets) octets
 kind_value name_of Relative octets = object_text no_names (dotted_text true octets) octets
-kind_value name_of kind octets = shown_with (quoted kind octets)
+kind_value name_of kind octets = value_on_line (quoted_text kind octets)
 
--- long contents: what stands on the line of n octets of which the first has come, and the octets that stand in rows
+-- long contents: what is on the line of n octets of which the first has come, and the octets that are in rows
 abbrev pub long_text : Kind → ℕ → List ℕ → List ℕ
 long_text Bits n (unused ∷ octets) = if nat_le unused 7 then 0x20 ∷ bit_count unused (n - 1) else []
 long_text kind n octets = []
 
-abbrev pub in_rows : Kind → List ℕ → List ℕ
-in_rows Bits (unused ∷ octets) = if nat_le unused 7 then octets else unused ∷ octets
-in_rows kind octets = octets
+abbrev pub row_octets : Kind → List ℕ → List ℕ
+row_octets Bits (unused ∷ octets) = if nat_le unused 7 then octets else unused ∷ octets
+row_octets kind octets = octets

@@ -1,28 +1,28 @@
 -- Laws of the lines of a primitive.
 use Rattle.std.specs.Prelude.{◌≡◌, ℕ, List, [], ◌++◌, length}
-use Rattle.tlv_head.specs.Header.{Heading, announced}
+use Rattle.tlv_head.specs.Header.{HeaderValue, announced}
 use Rattle.tlv_value.specs.declared.layout.Layout.{Layout}
-use Rattle.tlv_value.specs.State.{TextState, after, begun, ended, open_lines, start, told, whole_lines}
+use Rattle.tlv_value.specs.TextState.{TextState, begin_lines, contents_lines, end_lines, new_text, open_lines, text_after, whole_lines}
 use Rattle.tlv_value.specs.Value.{NameOf}
 
 -- the state that stands for contents of which these octets have come
-abbrev pub state_for : Heading → Layout → List ℕ → TextState
-state_for h layout octets = after (start h layout) octets
+abbrev pub state_for : HeaderValue → Layout → List ℕ → TextState
+state_for h layout octets = text_after (new_text h layout) octets
 
--- two pieces, one behind the other, are as one
+-- two pieces, one after the other, are as one
 abbrev pub PiecesJoin : Type 0
-PiecesJoin = (s : TextState) (x y : List ℕ) → (after (after s x) y ≡ after s (x ++ y)) × (told s (x ++ y) ≡ told s x ++ told (after s x) y)
+PiecesJoin = (s : TextState) (x y : List ℕ) → (text_after (text_after s x) y ≡ text_after s (x ++ y)) × (contents_lines s (x ++ y) ≡ contents_lines s x ++ contents_lines (text_after s x) y)
 
 -- with the header, the lines of a primitive without contents so far
 abbrev pub LinesBegin : Type 0
-LinesBegin = (h : Heading) (layout : Layout) → open_lines h layout [] ≡ begun (start h layout)
+LinesBegin = (h : HeaderValue) (layout : Layout) → open_lines h layout [] ≡ begin_lines (new_text h layout)
 
 -- with more octets, what is new in the lines of the primitive, which is still open
 abbrev pub LinesGoOn : Type 0
-LinesGoOn = (h : Heading) (layout : Layout) (octets x : List ℕ)
-    → open_lines h layout (octets ++ x) ≡ open_lines h layout octets ++ told (state_for h layout octets) x
+LinesGoOn = (h : HeaderValue) (layout : Layout) (octets x : List ℕ)
+    → open_lines h layout (octets ++ x) ≡ open_lines h layout octets ++ contents_lines (state_for h layout octets) x
 
 -- with the end, the rest of the lines of the whole primitive
 abbrev pub LinesEnd : Type 0
-LinesEnd = (name_of : NameOf) (h : Heading) (layout : Layout) (octets : List ℕ) → length octets ≡ announced h.size
-    → whole_lines name_of h layout octets ≡ open_lines h layout octets ++ ended name_of (state_for h layout octets)
+LinesEnd = (name_of : NameOf) (h : HeaderValue) (layout : Layout) (octets : List ℕ) → length octets ≡ announced h.size
+    → whole_lines name_of h layout octets ≡ open_lines h layout octets ++ end_lines name_of (state_for h layout octets)

@@ -2,7 +2,7 @@
 use Rattle.std.specs.Prelude.{ℕ, ◌+◌, ◌*◌, Bool, eqb, nat_lt, if◌then◌else◌, List, [], ◌∷◌, ◌++◌, Option, Some, None, codes}
 use Rattle.std.specs.Option.{option_map_or}
 use Rattle.tlv_value.specs.declared.layout.Layout.{Layout}
-pub use Rattle.tlv_io.specs.Held.{columns, right, spaces}
+pub use Rattle.tlv_io.specs.LineTexts.{columns, right, spaces}
 
 -- the first columns of a row
 abbrev pub no_columns : List ℕ
@@ -13,13 +13,13 @@ abbrev pub line : Bool → List ℕ → ℕ → List ℕ → List ℕ
 line pure first level text = (if pure then [] else first) ++ spaces (2 * level) ++ text ++ 10 ∷ []
 
 -- a row of this number, from 0 on: above the limit the first row is three dots, and the others have no line
-abbrev pub limited : Option ℕ → ℕ → List ℕ → Option (List ℕ)
-limited None i text = Some text
-limited (Some limit) i text = if nat_lt i limit then Some text else (if eqb i limit then Some (codes "...") else None)
+abbrev pub row_within_limit : Option ℕ → ℕ → List ℕ → Option (List ℕ)
+row_within_limit None i text = Some text
+row_within_limit (Some limit) i text = if nat_lt i limit then Some text else (if eqb i limit then Some (codes "...") else None)
 
 abbrev pub row_line : Layout → ℕ → List ℕ → List ℕ
-row_line layout i text = option_map_or (line layout.pure no_columns (layout.level + 1)) (limited layout.limit i text) []
+row_line layout i text = option_map_or (line layout.pure no_columns (layout.level + 1)) (row_within_limit layout.limit i text) []
 
--- what stands before the text of a line
+-- what is before the text of a line
 abbrev pub margin : Bool → List ℕ → ℕ → List ℕ
 margin pure first level = (if pure then [] else first) ++ spaces (2 * level)

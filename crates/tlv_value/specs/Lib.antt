@@ -9,7 +9,7 @@ pub mod Units
 pub mod Layout
 pub mod Value
 pub mod KindValues
-pub mod State
+pub mod TextState
 pub mod TextFields
 pub mod Laws
 pub mod Types

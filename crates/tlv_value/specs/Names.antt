@@ -43,92 +43,92 @@ abbrev pub without_last_blanks : List ℕ → List ℕ
 without_last_blanks [] = []
 without_last_blanks (x ∷ xs) = if list_all is_blank (x ∷ xs) then [] else x ∷ without_last_blanks xs
 
-abbrev pub trimmed : List ℕ → List ℕ
-trimmed octets = without_last_blanks (without_first_blanks octets)
+abbrev pub without_outer_blanks : List ℕ → List ℕ
+without_outer_blanks octets = without_last_blanks (without_first_blanks octets)
 
 -- 48 is the digit 0, 57 is 9
-abbrev pub is_digit : ℕ → Bool
-is_digit x = nat_le 48 x && nat_le x 57
+abbrev pub is_arc_digit : ℕ → Bool
+is_arc_digit x = nat_le 48 x && nat_le x 57
 
 -- the number that decimal digits stand for
-abbrev pub number : List ℕ → ℕ
-number digits = value_of 10 (map (λ x. x - 48) digits)
+abbrev pub decimal_number : List ℕ → ℕ
+decimal_number digits = value_of 10 (map (λ x. x - 48) digits)
 
 -- digits without a leading zero; 0 itself is an arc
 abbrev pub is_arc : List ℕ → Bool
-is_arc part = not (length part == 0) && list_all is_digit part && ((length part == 1) || not (slice_index part 0 == 48))
+is_arc part = not (length part == 0) && list_all is_arc_digit part && ((length part == 1) || not (slice_index part 0 == 48))
 
 -- X.660: the first arc is 0, 1 or 2, and below 0 and 1 the second is at most 39
 abbrev pub may_begin : List ℕ → List ℕ → Bool
-may_begin first second = (number first == 2) || (nat_lt (number first) 2 && nat_le (number second) 39)
+may_begin first second = (decimal_number first == 2) || (nat_lt (decimal_number first) 2 && nat_le (decimal_number second) 39)
 
 abbrev pub are_first_arcs : List (List ℕ) → Bool
 are_first_arcs [] = false
 are_first_arcs (first ∷ []) = false
 are_first_arcs (first ∷ second ∷ more) = may_begin first second
 
--- what stands between dots
-abbrev pub parts : List ℕ → List (List ℕ)
-parts text = slice_split (λ x. x == 46) text
+-- what is between dots
+abbrev pub dotted_parts : List ℕ → List (List ℕ)
+dotted_parts text = slice_split (λ x. x == 46) text
 
 -- two or more arcs, with dots between them
 abbrev pub is_dotted : List ℕ → Bool
-is_dotted text = list_all is_arc (parts text) && are_first_arcs (parts text)
+is_dotted text = list_all is_arc (dotted_parts text) && are_first_arcs (dotted_parts text)
 
-abbrev pub is_printable : ℕ → Bool
-is_printable x = nat_le 32 x && nat_le x 126
+abbrev pub is_name_octet : ℕ → Bool
+is_name_octet x = nat_le 32 x && nat_le x 126
 
 -- one or more printable octets
 abbrev pub is_name : List ℕ → Bool
-is_name text = not (length text == 0) && list_all is_printable text
+is_name text = not (length text == 0) && list_all is_name_octet text
 
 -- what a line says
 pub data Line : Type 0 where
   -- nothing: it is blank or a comment
-  nothing : Line
+  no_entry : Line
   -- a dotted text, and its name
-  named : List ℕ → List ℕ → Line
+  entry : List ℕ → List ℕ → Line
   no_oid : Line
   no_name : Line
-  too_long : Line
+  long_line : Line
 
 abbrev pub pair_line : List ℕ → List ℕ → Line
-pair_line dotted name = if is_dotted dotted then (if is_name name then named dotted name else no_name) else no_oid
+pair_line dotted name = if is_dotted dotted then (if is_name name then entry dotted name else no_name) else no_oid
 
 -- 35 is the mark of a comment
-abbrev pub text_line : List ℕ → Line
-text_line [] = nothing
-text_line (x ∷ xs) = if x == 35 then nothing else pair_line (before_first is_blank (x ∷ xs)) (without_first_blanks (after_first is_blank (x ∷ xs)))
+abbrev pub entry_line : List ℕ → Line
+entry_line [] = no_entry
+entry_line (x ∷ xs) = if x == 35 then no_entry else pair_line (before_first is_blank (x ∷ xs)) (without_first_blanks (after_first is_blank (x ∷ xs)))
 
 -- a line of at most 400 octets
-abbrev pub line_of : List ℕ → Line
-line_of octets = if nat_lt 400 (length octets) then too_long else text_line (trimmed (without_return octets))
+abbrev pub names_line : List ℕ → Line
+names_line octets = if nat_lt 400 (length octets) then long_line else entry_line (without_outer_blanks (without_return octets))
 
-abbrev pub entry_of : Line → List Entry
-entry_of nothing = []
-entry_of (named dotted name) = (dotted, name) ∷ []
-entry_of no_oid = []
-entry_of no_name = []
-entry_of too_long = []
+abbrev pub line_entries : Line → List Entry
+line_entries no_entry = []
+line_entries (entry dotted name) = (dotted, name) ∷ []
+line_entries no_oid = []
+line_entries no_name = []
+line_entries long_line = []
 
 abbrev pub entries_of : List Line → List Entry
-entries_of lines = flat_map entry_of lines
+entries_of lines = flat_map line_entries lines
 
--- the dotted text stands in one of the entries
-abbrev pub is_among : List ℕ → List Entry → Bool
-is_among dotted entries = list_any (λ e. bytes_eq dotted e.0) entries
+-- the dotted text is in one of the entries
+abbrev pub has_entry : List ℕ → List Entry → Bool
+has_entry dotted entries = list_any (λ e. bytes_eq dotted e.0) entries
 
--- why a line is refused that stands below others, if it is; lines are numbered from 1
+-- why a line is refused that is below others, if it is; lines are numbered from 1
 abbrev pub refusal : List Line → Line → Option NamesFault
-refusal above nothing = None
-refusal above (named dotted name) =
-    if is_among dotted (entries_of above) then Some (Repeated (length above + 1))
+refusal above no_entry = None
+refusal above (entry dotted name) =
+    if has_entry dotted (entries_of above) then Some (Repeated (length above + 1))
     else (if nat_le 65536 (length (entries_of above)) then Some TooLarge else None)
 refusal above no_oid = Some (BadOid (length above + 1))
 refusal above no_name = Some (BadName (length above + 1))
-refusal above too_long = Some TooLarge
+refusal above long_line = Some TooLarge
 
--- the first refusal among lines that stand below others
+-- the first refusal among lines that are below others
 abbrev pub first_refusal : List Line → List Line → Option NamesFault
 first_refusal above [] = None
 first_refusal above (line ∷ below) = option_or (refusal above line) (first_refusal (above ++ line ∷ []) below)
@@ -138,4 +138,4 @@ table_of lines = option_map_or Err (first_refusal [] lines) (Ok (finite.from_ent
 
 -- what the octets of a names file say: the table of all lines, or the first refusal
 abbrev pub names_of : List ℕ → Result Table NamesFault
-names_of octets = table_of (map line_of (lines octets))
+names_of octets = table_of (map names_line (lines octets))

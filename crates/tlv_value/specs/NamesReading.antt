@@ -1,41 +1,41 @@
 -- What reading a names file from a source comes to.
 use Rattle.std.specs.Prelude.{◌≡◌, ℕ, ◌+◌, ◌<◌, ◌≤◌, ◌⊎◌, List, length, Result, Ok, Err}
 use Rattle.std.specs.Io.KnownBytes.{IsAtEnd}
-use Rattle.tlv_io.specs.Device.{Last, Pieces, Supply, counted, failed, gave, given_in}
+use Rattle.tlv_io.specs.Device.{Last, Pieces, SourceState, failed, gave, next_count, octets_given}
 use Rattle.tlv_value.specs.Names.{Table, names_of}
 use Rattle.tlv_value.specs.declared.names.fault.NamesFault.{NamesFault}
 use Rattle.tlv_value.specs.declared.names.fault.NamesFault.TheVariants.{BadOid, BadName, Repeated, TooLarge, ReadFailed, Memory}
 
 -- the source has ended, within the limit of octets, and these say the result
-abbrev pub IsSaid : Supply → List ℕ → Result Table NamesFault → Type 0
-IsSaid new octets result = (new.last ≡ gave 0) × IsAtEnd new.left × (length octets ≤ 1048576) × (names_of octets ≡ result)
+abbrev pub IsWholeFile : SourceState → List ℕ → Result Table NamesFault → Type 0
+IsWholeFile new octets result = (new.last ≡ gave 0) × IsAtEnd new.left × (length octets ≤ 1048576) × (names_of octets ≡ result)
 
 -- the last read gave the first octet past the limit
 abbrev pub IsTooLong : Last → List ℕ → Type 0
 IsTooLong last octets = (n : ℕ) × (last ≡ gave n) × (1048576 < length octets) × (length octets ≤ 1048576 + n)
 
 -- the result of reading these octets, by what the last read gave and what is left to read
-abbrev pub ReadsNames : Supply → List ℕ → Result Table NamesFault → Type 0
-ReadsNames new octets (Ok table) = IsSaid new octets (Ok table)
-ReadsNames new octets (Err (BadOid n)) = IsSaid new octets (Err (BadOid n))
-ReadsNames new octets (Err (BadName n)) = IsSaid new octets (Err (BadName n))
-ReadsNames new octets (Err (Repeated n)) = IsSaid new octets (Err (Repeated n))
-ReadsNames new octets (Err TooLarge) = IsSaid new octets (Err TooLarge) ⊎ IsTooLong new.last octets
+abbrev pub ReadsNames : SourceState → List ℕ → Result Table NamesFault → Type 0
+ReadsNames new octets (Ok table) = IsWholeFile new octets (Ok table)
+ReadsNames new octets (Err (BadOid n)) = IsWholeFile new octets (Err (BadOid n))
+ReadsNames new octets (Err (BadName n)) = IsWholeFile new octets (Err (BadName n))
+ReadsNames new octets (Err (Repeated n)) = IsWholeFile new octets (Err (Repeated n))
+ReadsNames new octets (Err TooLarge) = IsWholeFile new octets (Err TooLarge) ⊎ IsTooLong new.last octets
 ReadsNames new octets (Err ReadFailed) = (new.last ≡ failed) × (length octets ≤ 1048576)
 ReadsNames new octets (Err Memory) = length octets ≤ 1048576
 
--- the failures of a source: one more where a read failed
+-- the failures of a source: one more if a read failed
 abbrev pub failures_of : {T : Type 0} → Result T NamesFault → ℕ → ℕ
 failures_of (Ok table) before = before
 failures_of (Err (BadOid n)) before = before
 failures_of (Err (BadName n)) before = before
 failures_of (Err (Repeated n)) before = before
 failures_of (Err TooLarge) before = before
-failures_of (Err ReadFailed) before = counted before
+failures_of (Err ReadFailed) before = next_count before
 failures_of (Err Memory) before = before
 
 -- some octets are read, in pieces, and the result is theirs
-pub record ReadsFrom (old new : Supply) (result : Result Table NamesFault) : Type 0 where
+pub record ReadsFrom (old new : SourceState) (result : Result Table NamesFault) : Type 0 where
   pub pieces : Pieces old new
-  pub said : ReadsNames new (given_in pieces) result
+  pub result_is : ReadsNames new (octets_given pieces) result
   pub failures : new.failures ≡ failures_of result old.failures

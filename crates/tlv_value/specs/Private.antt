@@ -6,4 +6,4 @@ pub mod ObjectLines
 pub mod Plain
 pub mod Room
 pub mod Rows
-pub mod State
+pub mod PrimitiveLines

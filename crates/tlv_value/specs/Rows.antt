@@ -10,16 +10,16 @@ abbrev pub row_size : Kind → ℕ
 row_size kind = if is_text kind then 64 else 16
 
 -- how many octets want to stand in one row, from this one on. RFC 3629, 4: those of a character, by its first octet
-abbrev pub announced : Kind → ℕ → ℕ
-announced Utf8 x = if is_in_range 0xc2 0xdf x then 2 else if is_in_range 0xe0 0xef x then 3 else if is_in_range 0xf0 0xf4 x then 4 else 1
-announced _ x = 1
+abbrev pub character_length : Kind → ℕ → ℕ
+character_length Utf8 x = if is_in_range 0xc2 0xdf x then 2 else if is_in_range 0xe0 0xef x then 3 else if is_in_range 0xf0 0xf4 x then 4 else 1
+character_length _ x = 1
 
--- the rows of octets behind a row that has begun: a row is full with its last octet, or with the octet behind it that has no
--- room in it. The last row stands among them where it is full, and where the contents are whole if it has octets
+-- the rows of octets after a row that has begun: a row is full with its last octet, or with the octet after it that
+-- has no room in it. The last row is among them if it is full, and, if the contents are whole, if it has octets
 abbrev pub rows_from : Kind → Bool → List ℕ → List ℕ → List (List ℕ)
 rows_from kind whole row [] = if whole && not (length row == 0) then row ∷ [] else []
 rows_from kind whole row (x ∷ xs) =
-    if nat_le (length row + announced kind x) (row_size kind)
+    if nat_le (length row + character_length kind x) (row_size kind)
     then (if eqb (length row + 1) (row_size kind) then (row ++ x ∷ []) ∷ rows_from kind whole [] xs else rows_from kind whole (row ++ x ∷ []) xs)
     else row ∷ rows_from kind whole (x ∷ []) xs
 
@@ -30,11 +30,11 @@ abbrev pub rows_of : Kind → List ℕ → List (List ℕ)
 rows_of kind octets = rows_from kind true [] octets
 
 abbrev pub utf8_length : ℕ → ℕ
-utf8_length x = announced Utf8 x
+utf8_length x = character_length Utf8 x
 
 -- the octet has room in a row of so many octets
 abbrev pub has_room : Kind → ℕ → ℕ → Bool
-has_room kind octets x = nat_le (octets + announced kind x) (row_size kind)
+has_room kind octets x = nat_le (octets + character_length kind x) (row_size kind)
 
 -- the rows that are full
 abbrev pub full_rows : Kind → List ℕ → List ℕ → List (List ℕ)

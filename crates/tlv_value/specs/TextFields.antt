@@ -4,11 +4,11 @@ use Rattle.tlv_value.specs.declared.kind.Kind.TheVariants.{Bits}
 use Rattle.tlv_value.specs.declared.text.ValueText.TheInside.{Inside}
 use Rattle.tlv_value.specs.Kind.{kind_of}
 use Rattle.tlv_value.specs.Rows.{row_size}
-use Rattle.tlv_value.specs.State.{TextState}
+use Rattle.tlv_value.specs.TextState.{TextState}
 use Rattle.tlv_value.specs.KindValues.{is_long}
 
-abbrev pub state_of : Inside → TextState
-state_of t = record {
+abbrev pub text_state_of : Inside → TextState
+text_state_of t = record {
   offset = t.value.offset;
   class = t.value.class;
   number = t.value.number;
@@ -18,7 +18,7 @@ state_of t = record {
   kept = record { lined = t.has_line; rows = t.rows; row = t.row.items };
 }
 
-pub record HangTogether (t : Inside) : Type 0 where
+pub record TextFieldsAgree (t : Inside) : Type 0 where
   pub kind : t.value.kind ≡ kind_of t.value.class t.value.number
   pub counted : t.rows + length t.row.items + t.left ≤ t.value.size
   -- of a long value the row that has begun is not full

@@ -22,11 +22,11 @@ infixr 15 ◌or◌
 abbrev pub ◌or◌ : Form → Form → Form
 (first or second) octets = first octets ++ second octets
 
-abbrev pub nothing : Form
-nothing octets = octets ∷ []
+abbrev pub no_octets : Form
+no_octets octets = octets ∷ []
 
 abbrev pub maybe : Form → Form
-maybe form = form or nothing
+maybe form = form or no_octets
 
 -- one octet from low to high
 abbrev pub one : ℕ → ℕ → Form

@@ -4,7 +4,7 @@ use Rattle.std.specs.Str.{is_utf8}
 use Rattle.hex.specs.Hex.{encode_lower}
 use Rattle.tlv_value.specs.declared.kind.Kind.{Kind}
 use Rattle.tlv_value.specs.declared.kind.Kind.TheVariants.{Utf8, Ucs2, Ucs4}
-use Rattle.tlv_value.specs.Rows.{announced}
+use Rattle.tlv_value.specs.Rows.{character_length}
 
 -- 22 is the quotation mark, 5c the reverse solidus
 abbrev pub printable_text : ℕ → List ℕ
@@ -41,10 +41,10 @@ three_octets n = n / 65536 % 256 ∷ n / 256 % 256 ∷ n % 256 ∷ []
 abbrev pub unit_size : Kind → List ℕ → ℕ
 unit_size Ucs2 octets = if nat_le 2 (length octets) then 2 else 1
 unit_size Ucs4 octets = if nat_le 4 (length octets) then 4 else 1
-unit_size Utf8 xs = if is_utf8 (take (announced Utf8 (slice_index xs 0)) xs) then length (take (announced Utf8 (slice_index xs 0)) xs) else 1
+unit_size Utf8 xs = if is_utf8 (take (character_length Utf8 (slice_index xs 0)) xs) then length (take (character_length Utf8 (slice_index xs 0)) xs) else 1
 unit_size _ octets = 1
 
--- the units in order, behind octets that belong to one before them
+-- the units in order, after octets that belong to one before them
 abbrev pub units : Kind → ℕ → List ℕ → List (List ℕ)
 units kind skipped [] = []
 units kind zero (x ∷ xs) = take (unit_size kind (x ∷ xs)) (x ∷ xs) ∷ units kind (unit_size kind (x ∷ xs) - 1) xs
@@ -64,8 +64,8 @@ unit_text Utf8 (a ∷ b ∷ more) = escaped_number (three_octets (utf8_number (a
 unit_text kind (a ∷ more) = if is_printable a then printable_text a else escaped_octet a
 
 -- a row of characters, in quotation marks
-abbrev pub quoted : Kind → List ℕ → List ℕ
-quoted kind row = 0x22 ∷ flat_map (unit_text kind) (units kind 0 row) ++ 0x22 ∷ []
+abbrev pub quoted_text : Kind → List ℕ → List ℕ
+quoted_text kind row = 0x22 ∷ flat_map (unit_text kind) (units kind 0 row) ++ 0x22 ∷ []
 
 -- ---- A word of private functions and proofs
 

@@ -1,12 +1,12 @@
 //! What is found on the contents of a primitive.
 ghost use Rattle.std.specs.Prelude.{◌≡◌, ◌+◌, ◌≤◌, ◌&&◌, ℕ, List, length, slice_index};
-ghost use Rattle.tlv_head.specs.Header.{Heading, announced};
-ghost use Rattle.tlv_value.specs.CheckState.{allowed_in, checked, each_noted, found_in, front_noted, has_unused, type_noted, unchecked, unchecked_of};
-ghost use Rattle.tlv_value.specs.Checks.{contents_findings, is_padded_integer};
+ghost use Rattle.tlv_head.specs.Header.{HeaderValue, announced};
+ghost use Rattle.tlv_value.specs.CheckState.{check_after, findings_in, has_unused, is_allowed_in, new_check, new_check_of, type_number, with_each, with_front};
+ghost use Rattle.tlv_value.specs.Checks.{findings_on_contents, is_padded_integer};
 
 mod characters;
 mod findings;
-mod noting;
+mod notes;
 mod rows;
 mod times;
 
@@ -14,8 +14,8 @@ use crate::Finding;
 use arrayvec::ArrayVec;
 pub(crate) use characters::are_allowed;
 pub(crate) use findings::are_set;
-use noting::{is_each_noted, is_front_noted, is_time, padded_after};
-pub(crate) use noting::{is_padded, last_octet};
+use notes::{is_each_noted, is_front_noted, is_time, padded_after};
+pub(crate) use notes::{is_padded, last_octet};
 pub(crate) use rows::is_well_formed;
 use rows::take_rows;
 use std::marker::Model;
@@ -30,11 +30,11 @@ pub struct ValueCheck {
     size: u64,
     /// How many octets are still to come.
     left: u64,
-    /// The first two octets, where the type asks for them, and how many of them have come.
+    /// The first two octets, if the type asks for them, and how many of them have come.
     first: u8,
     second: u8,
     known: u8,
-    /// The last octet, where the type asks for it; 0 before the first.
+    /// The last octet, if the type asks for it; 0 before the first.
     last: u8,
     /// Whether each octet is one that the type has.
     allowed: bool,
@@ -63,14 +63,14 @@ impl Model for ValueCheck {
 impl ValueCheck {
     /// For the primitive with this header, of whose contents no octet has come.
     pub fn new(header: &Header) -> ValueCheck
-        ensures { result ≡ unchecked header.now }
+        ensures { result ≡ new_check header.now }
     {
         ValueCheck::of_type(type_of(header), size_of(header))
     }
 
     /// For a primitive of the universal type with this number, with so many contents octets, of which none has come.
     pub fn of_type(number: u64, size: u64) -> ValueCheck
-        ensures { result ≡ unchecked_of number size }
+        ensures { result ≡ new_check_of number size }
     {
         ValueCheck {
             number,
@@ -91,7 +91,7 @@ impl ValueCheck {
     /// Begins anew, for the primitive with this header.
     #[inline(always)]
     pub fn restart(&mut self, header: &Header)
-        ensures { self.new ≡ unchecked header.now }
+        ensures { self.new ≡ new_check header.now }
     {
         let size = size_of(header);
         self.number = type_of(header);
@@ -135,7 +135,7 @@ impl ValueCheck {
     #[inline(always)]
     pub fn bytes(&mut self, octets: &[u8])
         requires { length octets.now ≤ self.old.left }
-        ensures state { self.new ≡ checked self.old octets.now }
+        ensures state { self.new ≡ check_after self.old octets.now }
         ensures left { self.new.left + length octets.now ≡ self.old.left }
     {
         self.left -= octets.len() as u64;
@@ -151,7 +151,7 @@ impl ValueCheck {
     /// Notes the first two of the octets, and the last one.
     #[inline(always)]
     fn note_front(&mut self, octets: &[u8])
-        ensures { self.new ≡ front_noted self.old octets.now }
+        ensures { self.new ≡ with_front self.old octets.now }
     {
         match octets {
             [] => {}
@@ -175,7 +175,7 @@ impl ValueCheck {
     /// Notes what must be known of each of the octets.
     #[inline(always)]
     fn note_each(&mut self, octets: &[u8])
-        ensures { self.new ≡ each_noted self.old octets.now }
+        ensures { self.new ≡ with_each self.old octets.now }
     {
         match self.number {
             6 | 13 => self.padded = padded_after(self.padded, self.last, octets),
@@ -189,13 +189,13 @@ impl ValueCheck {
     #[inline(always)]
     pub fn end(&self) -> ArrayVec<Finding, 16>
         requires { self.now.left ≡ 0 }
-        ensures found { result.items ≡ found_in self.now }
-        ensures whole { (h : Heading) (c : List ℕ) → self.now ≡ checked (unchecked h) c → length c ≡ announced h.size → result.items ≡ contents_findings h c }
+        ensures found { result.items ≡ findings_in self.now }
+        ensures whole { (h : HeaderValue) (c : List ℕ) → self.now ≡ check_after (new_check h) c → length c ≡ announced h.size → result.items ≡ findings_on_contents h c }
     {
         self.found()
     }
 
-    /// The first octet, where the type asks for it; 0 before the first.
+    /// The first octet, if the type asks for it; 0 before the first.
     #[inline(always)]
     fn first(&self) -> u8
         ensures { result ≡ slice_index self.now.front 0 }
@@ -221,7 +221,7 @@ impl ValueCheck {
     /// Whether the contents have the characters of their type.
     #[inline(always)]
     fn is_allowed(&self) -> bool
-        ensures { result ≡ allowed_in self.now }
+        ensures { result ≡ is_allowed_in self.now }
     {
         let all = match self.number {
             12 => both(self.formed, is_well_formed(self.row.as_slice())),
@@ -236,7 +236,7 @@ impl ValueCheck {
 /// The universal number of the type. Of another class it is that of OCTET STRING, on whose contents nothing is found.
 #[inline(always)]
 fn type_of(header: &Header) -> u64
-    ensures { result ≡ type_noted header.now }
+    ensures { result ≡ type_number header.now }
 {
     if matches!(header.class, Class::Universal) {
         header.number

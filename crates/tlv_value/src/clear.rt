@@ -1,7 +1,7 @@
 //! A short look at all of the contents of a primitive.
 ghost use Rattle.std.specs.Prelude.{◌≡◌, ◌%◌, ◌^◌, ◌&&◌, ◌||◌, ◌==◌, [], IsTrue, eqb, false, length, nat_le, nat_lt, not, true};
 ghost use Rattle.tlv_value.specs.CheckNotes.{time_findings};
-ghost use Rattle.tlv_value.specs.Checks.{contents_findings, first, is_padded_behind, is_padded_integer, last_of};
+ghost use Rattle.tlv_value.specs.Checks.{findings_on_contents, first, is_padded_after, is_padded_integer, last_octet_of};
 ghost use Rattle.tlv_value.specs.Private.Checks.{findings_of};
 ghost use Rattle.tlv_value.specs.Times.{canonical_general_time, canonical_utc_time, general_time, has_form, utc_time};
 
@@ -9,15 +9,15 @@ use crate::check::{are_allowed, are_set, is_padded, is_well_formed, last_octet};
 use crate::time::{general_canonical, utc_canonical};
 use tlv_head::{Class, Header};
 
-/// Whether nothing is found on these contents of a primitive with this header, as far as a short look tells.
+/// Whether nothing is found on these contents of a primitive with this header, as far as a short look shows.
 #[inline(always)]
 pub fn is_clear(header: &Header, contents: &[u8]) -> bool
-    ensures { IsTrue result → contents_findings header.now contents.now ≡ [] }
+    ensures { IsTrue result → findings_on_contents header.now contents.now ≡ [] }
 {
     !matches!(header.class, Class::Universal) || is_type_clear(header.number, contents)
 }
 
-/// Whether nothing is found on these contents of the universal type with this number, as far as a short look tells.
+/// Whether nothing is found on these contents of the universal type with this number, as far as a short look shows.
 #[inline(always)]
 fn is_type_clear(number: u64, contents: &[u8]) -> bool
     ensures { IsTrue result → findings_of number contents.now ≡ [] }
@@ -60,8 +60,8 @@ fn is_shortest(contents: &[u8]) -> bool
     let [first, ..] = contents else {
         return false;
     };
-    // No branch asks for the length, which often is another than that of the number before. Where there is no second octet, one
-    // stands in for it whose first bit is not that of the first.
+    // No branch asks for the length, which often is another than that of the number before. If there is no second
+    // octet, one is in for it whose first bit is not that of the first.
     let is_single = contents.len() == 1;
     let flip = if is_single { 255 } else { 0 };
     let second = contents[usize::from(!is_single)] ^ flip;
@@ -78,7 +78,7 @@ fn has_clear_bits(contents: &[u8]) -> bool
         (length contents.now == 1 && nat_le 1 (first contents.now) && nat_le (first contents.now) 7) ≡ false }
     ensures zero { IsTrue result →
         (nat_le 2 (length contents.now) && nat_le (first contents.now) 7
-        && not (last_of 0 contents.now % 2 ^ first contents.now == 0)) ≡ false }
+        && not (last_octet_of 0 contents.now % 2 ^ first contents.now == 0)) ≡ false }
 {
     match contents {
         [0, ..] => true,
@@ -90,15 +90,15 @@ fn has_clear_bits(contents: &[u8]) -> bool
 /// Whether each subidentifier begins and ends as it has to (8.19.2, 8.20.2).
 #[inline(always)]
 fn are_arcs(contents: &[u8]) -> bool
-    ensures begun { IsTrue result → is_padded_behind 0 contents.now ≡ false }
-    ensures ended { IsTrue result → nat_le 128 (last_of 0 contents.now) ≡ false }
+    ensures begun { IsTrue result → is_padded_after 0 contents.now ≡ false }
+    ensures ended { IsTrue result → nat_le 128 (last_octet_of 0 contents.now) ≡ false }
 {
     last_octet(0, contents) < 128 && !is_padded(0, contents)
 }
 
 /// Whether nothing is found on a UTCTime.
 #[inline(never)]
-#[tactic(auto, using(crate::proofs::Within::utc_clear))]
+#[tactic(auto, using(crate::proofs::CheckLemmas::Within::utc_clear))]
 fn is_utc_clear(time: &[u8]) -> bool
     ensures { result ≡ eqb (length (time_findings (has_form utc_time time.now) (has_form canonical_utc_time time.now))) 0 }
 {
@@ -108,7 +108,7 @@ fn is_utc_clear(time: &[u8]) -> bool
 
 /// Whether nothing is found on a GeneralizedTime.
 #[inline(never)]
-#[tactic(auto, using(crate::proofs::Within::general_clear))]
+#[tactic(auto, using(crate::proofs::CheckLemmas::Within::general_clear))]
 fn is_general_clear(time: &[u8]) -> bool
     ensures { result ≡ eqb (length (time_findings (has_form general_time time.now) (has_form canonical_general_time time.now))) 0 }
 {

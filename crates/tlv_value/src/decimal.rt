@@ -2,7 +2,7 @@
 ghost use Rattle.std.specs.Prelude.{◌≡◌, ◌≤◌, length};
 ghost use Rattle.tlv_value.specs.Number.{number_of};
 
-/// The number that up to eight octets stand for, in two's complement. None where there are no octets.
+/// The number that up to eight octets stand for, in two's complement. None if there are no octets.
 #[inline(always)]
 pub(crate) fn short_number(contents: &[u8]) -> Option<i64>
     requires { length contents.now ≤ 8 }
@@ -19,7 +19,7 @@ pub(crate) fn short_number(contents: &[u8]) -> Option<i64>
     Some(number)
 }
 
-/// The number that the contents of an INTEGER or ENUMERATED stand for, in two's complement (8.3.3). None where there are
+/// The number that the contents of an INTEGER or ENUMERATED stand for, in two's complement (8.3.3). None if there are
 /// no octets, or more than 16.
 pub fn decimal_of(contents: &[u8]) -> Option<i128>
     ensures { result ≡ number_of contents.now }

@@ -1,8 +1,8 @@
 //! Object identifiers as dotted texts.
 ghost use Rattle.std.specs.Prelude.{◌≡◌, ◌+◌, ◌<◌, ◌≤◌, ◌^◌, ◌++◌, ◌∷◌, [], if◌then◌else◌, is_some, length, true, unwrap_or};
-ghost use Rattle.tlv_io.specs.Held.{HasRoomFor};
+ghost use Rattle.tlv_io.specs.LineTexts.{HasRoomFor};
 ghost use Rattle.tlv_value.specs.Arcs.{dotted_text, is_finished as is_finished_list};
-ghost use Rattle.tlv_value.specs.Private.Arcs.{dotted, first_arcs, part_text};
+ghost use Rattle.tlv_value.specs.Private.Arcs.{dotted_arcs, first_arcs, part_text};
 
 use arrayvec::ArrayVec;
 use tlv_io::Held;
@@ -10,7 +10,7 @@ use tlv_io::Held;
 /// Leaves in `to` the arcs of an object identifier in decimal, with dots between them (8.19), or those of a relative
 /// one (8.20). What `to` held before is dropped.
 ///
-/// Returns whether there is such a text. There is none, and `to` is empty, where the contents are empty, end inside
+/// Returns whether there is such a text. There is none, and `to` is empty, if the contents are empty, end inside
 /// a subidentifier, have more than 64 octets, or have a subidentifier of 2^128 or more.
 pub fn dotted_of(contents: &[u8], relative: bool, to: &mut ArrayVec<u8, 320>) -> bool
     ensures exists { result ≡ is_some (dotted_text relative contents.now) }
@@ -25,8 +25,8 @@ pub fn dotted_of(contents: &[u8], relative: bool, to: &mut ArrayVec<u8, 320>) ->
     true
 }
 
-/// Adds the dotted text of an object identifier, or of a relative one, behind a space. Returns whether there is such a
-/// text. Where there is none, nothing is added.
+/// Adds the dotted text of an object identifier, or of a relative one, after a space. Returns whether there is such a
+/// text. If there is none, nothing is added.
 pub(crate) fn write_dotted(held: &mut Held, contents: &[u8], relative: bool) -> bool
     requires short { length contents.now ≤ 64 }
     requires room { HasRoomFor held.old 320 }
@@ -61,7 +61,7 @@ pub(crate) fn write_dotted(held: &mut Held, contents: &[u8], relative: bool) -> 
     true
 }
 
-/// Adds the dotted text of at most nine octets, behind a space. Their numbers fit into 64 bits, which saves work at
+/// Adds the dotted text of at most nine octets, after a space. Their numbers fit into 64 bits, which saves work at
 /// each octet.
 #[inline(always)]
 fn write_short(held: &mut Held, contents: &[u8], relative: bool)
@@ -92,7 +92,7 @@ fn is_finished(contents: &[u8]) -> bool
     matches!(contents.last(), Some(octet) if *octet < 128)
 }
 
-/// Adds the arc or arcs that a subidentifier stands for, behind a dot where they are not the first.
+/// Adds the arc or arcs that a subidentifier stands for, after a dot if they are not the first.
 #[inline(always)]
 fn write_arcs(held: &mut Held, number: u128, first: bool, relative: bool)
     requires { HasRoomFor held.old 42 }
@@ -112,7 +112,7 @@ fn write_arcs(held: &mut Held, number: u128, first: bool, relative: bool)
 #[inline(always)]
 fn write_first_arcs(held: &mut Held, number: u128)
     requires { HasRoomFor held.old 42 }
-    ensures { held.new ≡ held.old ++ dotted (first_arcs number) }
+    ensures { held.new ≡ held.old ++ dotted_arcs (first_arcs number) }
 {
     if number < 40 {
         held.add(b"0.");

@@ -1,6 +1,6 @@
 //! What may be found on an element.
 
-/// What the rules of X.690 find on an element. The letter tells whose rule is broken: `B` of all encodings (clause 8),
+/// What the rules of X.690 find on an element. The letter says whose rule is broken: `B` of all encodings (clause 8),
 /// `S` of both CER and DER (clauses 9 to 11), `D` of DER alone (10), `C` of CER alone (9).
 #[derive(Clone, Copy, Debug, Default, PartialEq, Eq)]
 pub enum Finding {
@@ -33,9 +33,9 @@ pub enum Finding {
     B13,
     /// More than 7 unused bits (8.6.2.2).
     B14,
-    /// Unused bits where there is no octet for them (8.6.2.3).
+    /// Unused bits although there is no octet for them (8.6.2.3).
     B15,
-    /// A segment behind one with unused bits (8.6.4).
+    /// A segment after one with unused bits (8.6.4).
     B16,
     /// A segment with another tag than its string's segments have (8.6.4.1, 8.7.3.2).
     B17,
@@ -61,7 +61,7 @@ pub enum Finding {
     C02,
     /// A segment that is constructed (9.2).
     C03,
-    /// A segment behind one that has not 1000 contents octets (9.2).
+    /// A segment after one that has not 1000 contents octets (9.2).
     C04,
     /// A constructed string that fits in 1000 contents octets (9.2).
     C05,
@@ -71,11 +71,11 @@ pub enum Finding {
 
 impl Finding {
     ghost use Rattle.std.specs.Prelude.{◌≡◌};
-    ghost use Rattle.tlv_value.specs.Finding.{code_of, text_of};
+    ghost use Rattle.tlv_value.specs.Finding.{finding_code, finding_text};
 
     /// The three characters that name the finding, as `B01`.
     pub fn code(self) -> &'static [u8]
-        ensures { result.now ≡ code_of self }
+        ensures { result.now ≡ finding_code self }
     {
         match self {
             Finding::B01 => b"B01",
@@ -114,7 +114,7 @@ impl Finding {
 
     /// What is found, in ASCII.
     pub fn text(self) -> &'static [u8]
-        ensures { result.now ≡ text_of self }
+        ensures { result.now ≡ finding_text self }
     {
         match self {
             Finding::B01 => b"high form for a number below 31",

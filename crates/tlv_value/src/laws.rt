@@ -29,12 +29,12 @@ pub fn checks_join()
     ensures { ChecksJoin }
 {}
 
-/// At the end of the contents [`ValueCheck`](crate::ValueCheck) tells all that is found on them.
+/// At the end of the contents [`ValueCheck`](crate::ValueCheck) reports all that is found on them.
 pub fn findings_end()
     ensures { FindingsEnd }
 {}
 
-/// Contents are well-formed UTF-8 exactly where each of their rows is.
+/// Contents are well-formed UTF-8 exactly if each of their rows is.
 pub fn rows_are_formed()
     ensures { RowsAreFormed }
 {}
@@ -50,7 +50,7 @@ pub fn rows_have_one_cut()
     ensures { RowsHaveOneCut }
 {}
 
-/// The rows that are written before the end of the contents are those of the cut, but for the last one where it has room
+/// The rows that are written before the end of the contents are those of the cut, but for the last one if it has room
 /// for more.
 pub fn full_rows_are_of_the_cut()
     ensures { FullRowsAreOfTheCut }

@@ -1,6 +1,6 @@
 //! How lines begin.
 ghost use Rattle.std.specs.Prelude.{◌≡◌, ◌+◌, ◌≤◌, ◌++◌, ◌∷◌, [], decimal, if◌then◌else◌, length, take};
-ghost use Rattle.tlv_io.specs.Held.{HasRoomFor};
+ghost use Rattle.tlv_io.specs.LineTexts.{HasRoomFor};
 ghost use Rattle.tlv_head.specs.Tag.{tag_text_of};
 ghost use Rattle.tlv_value.specs.Layout.{columns, margin, no_columns, spaces};
 
@@ -64,7 +64,7 @@ pub fn begin_blank(held: &mut Held, layout: Layout)
     held.spaces(blank_columns(layout.pure) + 2 * usize::from(layout.level));
 }
 
-/// How many spaces stand before a row.
+/// How many spaces are before a row.
 #[inline(always)]
 pub(crate) fn row_indent(layout: Layout) -> usize
     ensures text { spaces result ≡ margin layout.pure no_columns (layout.level + 1) }
@@ -74,7 +74,7 @@ pub(crate) fn row_indent(layout: Layout) -> usize
     blank_columns(layout.pure) + 2 * (usize::from(layout.level) + 1)
 }
 
-/// How many spaces stand in place of the first columns.
+/// How many spaces are in place of the first columns.
 #[inline(always)]
 fn blank_columns(pure: bool) -> usize
     ensures { result ≡ (if pure then 0 else 17) }
@@ -97,7 +97,7 @@ pub fn write_tag(held: &mut Held, class: Class, number: u64)
     }
 }
 
-/// Adds the text of a universal tag: the name of its type, where it has one.
+/// Adds the text of a universal tag: the name of its type, if it has one.
 #[inline(always)]
 fn write_universal(held: &mut Held, number: u64)
     requires { HasRoomFor held.old 40 }

@@ -45,7 +45,7 @@ impl Names {
 }
 
 impl<A: Allocator> Names<A> {
-    /// Reads a names file to its end, and then judges its lines in order. Makes no read behind the end.
+    /// Reads a names file to its end, and then judges its lines in order. Makes no read after the end.
     ///
     /// A line is the octets up to an LF or the end, of which a CR at its end and the spaces and tabs at both ends are
     /// dropped. A line that is then empty or begins with `#` says nothing. Any other is the dotted text of an object
@@ -53,15 +53,15 @@ impl<A: Allocator> Names<A> {
     ///
     /// # Errors
     ///
-    /// `ReadFailed` exactly where the source's failures rose in the call, and `TooLarge` once it gave more than
+    /// `ReadFailed` exactly if the source's failures rose in the call, and `TooLarge` once it gave more than
     /// 1,048,576 octets; nothing more is read then. Of the lines the first refusal counts: `TooLarge` for one of more
-    /// than 400 octets, with its CR, `BadOid` and `BadName` for its parts, `Repeated` where its dotted text stands in
-    /// an earlier line, and `TooLarge` for an entry past the first 65,536. `Memory` at any time, where memory is
+    /// than 400 octets, with its CR, `BadOid` and `BadName` for its parts, `Repeated` if its dotted text is in
+    /// an earlier line, and `TooLarge` for an entry past the first 65,536. `Memory` at any time, if memory is
     /// refused.
     pub fn read<S: Source>(alloc: A, source: &mut S) -> Result<Names<A>, NamesFault>
     where
         A: Copy,
-        ensures { ReadsFrom (S.told source.old) (S.told source.new) result }
+        ensures { ReadsFrom (S.state source.old) (S.state source.new) result }
     {
         let table = read_in(alloc, source)?;
         Ok(Names { table: Some(table) })

@@ -1,16 +1,16 @@
 //! A primitive by what its header says.
 ghost use Rattle.std.specs.Prelude.{◌≡◌, ◌+◌, ◌<◌, ◌≤◌, ◌++◌, ◌∷◌, [], IsTrue, None, OnOk, length, true, ◌↔◌};
-ghost use Rattle.tlv_io.specs.Held.{HasRoomFor};
-ghost use Rattle.tlv_io.specs.Out.{Puts, held_in};
+ghost use Rattle.tlv_io.specs.LineTexts.{HasRoomFor};
+ghost use Rattle.tlv_io.specs.Out.{Puts, buffer_of};
 ghost use Rattle.tlv_value.specs.KindValues.{is_long as is_long_value, long_text};
 ghost use Rattle.tlv_value.specs.Private.KindValues.{plain_text};
-ghost use Rattle.tlv_value.specs.Private.State.{front_of, line_of, primitive_of, shown};
+ghost use Rattle.tlv_value.specs.Private.PrimitiveLines.{front_of, primitive_line, primitive_lines, primitive_of};
 ghost use Rattle.tlv_value.specs.Rows.{row_size as row_size_of};
-ghost use Rattle.tlv_value.specs.Value.{most_held};
+ghost use Rattle.tlv_value.specs.Value.{most_on_line};
 
 use crate::kind::{Kind, kind_of};
 use crate::line::write_element;
-use crate::putting::{put_object, put_relative};
+use crate::value_lines::{put_object, put_relative};
 use crate::rows::row_size;
 use crate::value::{write_long_bits, write_long_value, write_value};
 use crate::{Layout, NameTable};
@@ -91,29 +91,29 @@ impl Primitive {
     #[inline(always)]
     fn write_bare(&self, held: &mut Held)
         requires { HasRoomFor held.old 1024 }
-        ensures { held.new ≡ held.old ++ line_of self.now [] }
+        ensures { held.new ≡ held.old ++ primitive_line self.now [] }
     {
         self.write(held);
         held.add(b"\n");
     }
 
-    /// Adds its line with the number of its bits, where it is a long BIT STRING.
+    /// Adds its line with the number of its bits, if it is a long BIT STRING.
     fn write_bits(&self, held: &mut Held, unused: u8)
         requires room { HasRoomFor held.old 1024 }
         requires long { 9 < self.now.size }
-        ensures { held.new ≡ held.old ++ line_of self.now (long_text Kind.Bits self.now.size (unused ∷ [])) }
+        ensures { held.new ≡ held.old ++ primitive_line self.now (long_text Kind.Bits self.now.size (unused ∷ [])) }
     {
         self.write(held);
         write_long_bits(held, self.size, unused);
         held.add(b"\n");
     }
 
-    /// Adds its line, where its value stands in rows: with the number of its bits, where it is a BIT STRING.
+    /// Adds its line, if its value is in rows: with the number of its bits, if it is a BIT STRING.
     #[inline(always)]
     fn write_long(&self, held: &mut Held, contents: &[u8])
         requires room { HasRoomFor held.old 1024 }
         requires long { is_long_value self.now.kind self.now.size ≡ true }
-        ensures { held.new ≡ held.old ++ line_of self.now (long_text self.now.kind self.now.size contents.now) }
+        ensures { held.new ≡ held.old ++ primitive_line self.now (long_text self.now.kind self.now.size contents.now) }
     {
         self.write(held);
         write_long_value(held, self.kind, self.size, contents);
@@ -123,25 +123,25 @@ impl Primitive {
     /// Puts its line without a value.
     #[inline(always)]
     pub fn put_bare<D: Drain>(&self, out: &mut Out<'_, D>) -> Result<(), WriteFault>
-        ensures { Puts D.told out.old out.new (line_of self.now []) result }
+        ensures { Puts D.state out.old out.new (primitive_line self.now []) result }
     {
         out.make_room()?;
         self.write_bare(&mut out.held);
         Ok(())
     }
 
-    /// Puts its line with the number of its bits, where it is a long BIT STRING.
+    /// Puts its line with the number of its bits, if it is a long BIT STRING.
     pub fn put_bits<D: Drain>(&self, unused: u8, out: &mut Out<'_, D>) -> Result<(), WriteFault>
         requires { 9 < self.now.size }
-        ensures { Puts D.told out.old out.new
-            (line_of self.now (long_text Kind.Bits self.now.size (unused ∷ []))) result }
+        ensures { Puts D.state out.old out.new
+            (primitive_line self.now (long_text Kind.Bits self.now.size (unused ∷ []))) result }
     {
         out.make_room()?;
         self.write_bits(&mut out.held, unused);
         Ok(())
     }
 
-    /// Puts its line, where its value stands in rows: with the number of its bits, where it is a BIT STRING.
+    /// Puts its line, if its value is in rows: with the number of its bits, if it is a BIT STRING.
     #[inline(always)]
     pub fn put_long<D: Drain>(
         &self,
@@ -149,8 +149,8 @@ impl Primitive {
         out: &mut Out<'_, D>,
     ) -> Result<(), WriteFault>
         requires { is_long_value self.now.kind self.now.size ≡ true }
-        ensures { Puts D.told out.old out.new
-            (line_of self.now (long_text self.now.kind self.now.size contents.now)) result }
+        ensures { Puts D.state out.old out.new
+            (primitive_line self.now (long_text self.now.kind self.now.size contents.now)) result }
     {
         out.make_room()?;
         self.write_long(&mut out.held, contents);
@@ -160,15 +160,15 @@ impl Primitive {
     /// Begins its line where an `Out` holds it, up to its tag text, and leaves room for the rest.
     #[inline(always)]
     fn put_front<D: Drain>(&self, out: &mut Out<'_, D>) -> Result<(), WriteFault>
-        ensures puts { Puts D.told out.old out.new (front_of self.now) result }
-        ensures room { OnOk result (HasRoomFor (held_in out.new) 400) }
+        ensures puts { Puts D.state out.old out.new (front_of self.now) result }
+        ensures room { OnOk result (HasRoomFor (buffer_of out.new) 400) }
     {
         out.make_room()?;
         self.write(&mut out.held);
         Ok(())
     }
 
-    /// Puts its lines, where its value stands on its line.
+    /// Puts its lines, if its value is on its line.
     #[inline(always)]
     pub fn put<N: NameTable, D: Drain>(
         &self,
@@ -176,8 +176,8 @@ impl Primitive {
         names: &N,
         out: &mut Out<'_, D>,
     ) -> Result<(), WriteFault>
-        requires { length contents.now ≤ most_held self.now.kind }
-        ensures { Puts D.told out.old out.new (shown (N.name_of names.now) self.now contents.now) result }
+        requires { length contents.now ≤ most_on_line self.now.kind }
+        ensures { Puts D.state out.old out.new (primitive_lines (N.name_of names.now) self.now contents.now) result }
     {
         self.put_front(out)?;
         match self.kind {

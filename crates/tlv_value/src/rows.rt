@@ -1,7 +1,7 @@
 //! Where a row of long contents ends.
 ghost use Rattle.std.specs.Prelude.{◌≡◌, ◌+◌, ◌<◌, ◌≤◌, false, length, slice_index};
 ghost use Rattle.tlv_value.specs.Private.Room.{HaveRoom};
-ghost use Rattle.tlv_value.specs.Rows.{announced as announced_by, has_room, row_size as row_size_of, utf8_length as utf8_length_of};
+ghost use Rattle.tlv_value.specs.Rows.{character_length, has_room, row_size as row_size_of, utf8_length as utf8_length_of};
 
 use crate::kind::Kind;
 

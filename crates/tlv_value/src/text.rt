@@ -1,24 +1,24 @@
 //! The lines of a primitive, from its contents in pieces.
 ghost use Rattle.std.specs.Prelude.{◌≡◌, ◌+◌, ◌<◌, ◌≤◌, ◌^◌, ◌∷◌, [], length, OnOk, None, true, false};
 ghost use Rattle.tlv_io.specs.Out.{Puts};
-ghost use Rattle.tlv_value.specs.Kind.{kind_of as kind_of_tag};
-ghost use Rattle.tlv_value.specs.Private.State.{start_of};
-ghost use Rattle.tlv_value.specs.State.{after, begun, ended, start, told};
-ghost use Rattle.tlv_value.specs.KindValues.{in_rows};
+ghost use Rattle.tlv_value.specs.Kind.{kind_of};
+ghost use Rattle.tlv_value.specs.Private.PrimitiveLines.{new_text_of};
+ghost use Rattle.tlv_value.specs.TextState.{begin_lines, contents_lines, end_lines, new_text, text_after};
+ghost use Rattle.tlv_value.specs.KindValues.{row_octets};
 
 use crate::kind::Kind;
 use crate::primitive::Primitive;
-use crate::putting::{put_last, put_rows};
+use crate::value_lines::{put_last, put_rows};
 use crate::{Layout, NameTable};
 use arrayvec::ArrayVec;
 use std::marker::Model;
 use tlv_head::{Class, Header};
 use tlv_io::{Drain, Out, WriteFault};
 
-/// Begins the first row of a long BIT STRING: with the first contents octet, where that cannot be read.
+/// Begins the first row of a long BIT STRING: with the first contents octet, if that cannot be read.
 fn begin_row(unused: u8, row: &mut ArrayVec<u8, 64>)
     requires { row.old.items ≡ [] }
-    ensures { row.new.items ≡ in_rows Kind.Bits (unused ∷ []) }
+    ensures { row.new.items ≡ row_octets Kind.Bits (unused ∷ []) }
 {
     if unused > 7 {
         row.push(unused);
@@ -44,22 +44,22 @@ pub struct ValueText {
 }
 
 impl Model for ValueText {
-    ghost use Rattle.tlv_value.specs.State.{TextState};
+    ghost use Rattle.tlv_value.specs.TextState.{TextState};
 
     ghost Value = { TextState };
 
-    ghost use Rattle.tlv_value.specs.TextFields.{state_of, HangTogether};
+    ghost use Rattle.tlv_value.specs.TextFields.{TextFieldsAgree, text_state_of};
 
-    ghost view = { state_of };
+    ghost view = { text_state_of };
 
-    ghost invariant = { HangTogether };
+    ghost invariant = { TextFieldsAgree };
 }
 
 impl ValueText {
     /// For the primitive with this header, of whose contents no octet has come.
     #[inline(always)]
     pub fn new(header: &Header, layout: Layout) -> ValueText
-        ensures { result ≡ start header.now layout }
+        ensures { result ≡ new_text header.now layout }
     {
         ValueText::of(Primitive::new(header, layout))
     }
@@ -67,8 +67,8 @@ impl ValueText {
     /// For this primitive, of whose contents no octet has come.
     #[inline(always)]
     pub(crate) fn of(value: Primitive) -> ValueText
-        requires { value.kind ≡ kind_of_tag value.class value.number }
-        ensures { result ≡ start_of value }
+        requires { value.kind ≡ kind_of value.class value.number }
+        ensures { result ≡ new_text_of value }
     {
         ValueText {
             value,
@@ -123,10 +123,10 @@ impl ValueText {
     ///
     /// # Errors
     ///
-    /// `WriteFault` exactly where the drain's failures rose in the call.
+    /// `WriteFault` exactly if the drain's failures rose in the call.
     #[inline(always)]
     pub fn begin<D: Drain>(&self, out: &mut Out<'_, D>) -> Result<(), WriteFault>
-        ensures { Puts D.told out.old out.new (begun self.now) result }
+        ensures { Puts D.state out.old out.new (begin_lines self.now) result }
     {
         if !self.value.is_long() || !self.has_line {
             return Ok(());
@@ -138,11 +138,11 @@ impl ValueText {
     ///
     /// # Errors
     ///
-    /// `WriteFault` exactly where the drain's failures rose in the call.
+    /// `WriteFault` exactly if the drain's failures rose in the call.
     pub fn bytes<D: Drain>(&mut self, octets: &[u8], out: &mut Out<'_, D>) -> Result<(), WriteFault>
         requires { length octets.now ≤ self.old.left }
-        ensures state { OnOk result (self.new ≡ after self.old octets.now) }
-        ensures puts { Puts D.told out.old out.new (told self.old octets.now) result }
+        ensures state { OnOk result (self.new ≡ text_after self.old octets.now) }
+        ensures puts { Puts D.state out.old out.new (contents_lines self.old octets.now) result }
     {
         self.left -= octets.len() as u64;
         if !self.value.is_long() {
@@ -166,7 +166,7 @@ impl ValueText {
     ///
     /// # Errors
     ///
-    /// `WriteFault` exactly where the drain's failures rose in the call.
+    /// `WriteFault` exactly if the drain's failures rose in the call.
     pub fn end<N: NameTable, D: Drain>(
         &mut self,
         names: &N,
@@ -174,7 +174,7 @@ impl ValueText {
     ) -> Result<(), WriteFault>
         requires { self.old.left ≡ 0 }
         ensures state { self.new ≡ self.old }
-        ensures puts { Puts D.told out.old out.new (ended (N.name_of names.now) self.old) result }
+        ensures puts { Puts D.state out.old out.new (end_lines (N.name_of names.now) self.old) result }
     {
         let contents = self.row.as_slice();
         if self.value.is_long() {

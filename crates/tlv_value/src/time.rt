@@ -1,35 +1,9 @@
 //! Times as texts: UTCTime and GeneralizedTime (X.680 46 and 47), and their canonical forms (11.7, 11.8).
 //!
-//! A part of a form is a function that answers what follows the part in front of the octets, or none where they do not
+//! A part of a form is a function that returns what follows the part in front of the octets, or none if they do not
 //! begin with it.
 ghost use Rattle.std.specs.Prelude.{◌≡◌, option_copied, option_to_list};
-ghost use Rattle.tlv_value.specs.Times.{
-  canonical_clock,
-  canonical_fraction,
-  canonical_general_time,
-  canonical_second,
-  canonical_utc_time,
-  day,
-  digits,
-  fraction,
-  general_hour,
-  general_time,
-  general_zone,
-  has_form,
-  hour,
-  mark,
-  maybe,
-  minute,
-  one,
-  second,
-  sign,
-  two,
-  utc_minute,
-  utc_time,
-  utc_zone,
-  ◌or◌,
-  ◌then◌,
-};
+ghost use Rattle.tlv_value.specs.Times.{canonical_clock, canonical_fraction, canonical_general_time, canonical_second, canonical_utc_time, day, digits, fraction, general_hour, general_time, general_zone, has_form, hour, mark, maybe, minute, one, second, sign, two, utc_minute, utc_time, utc_zone, ◌or◌, ◌then◌};
 
 /// Whether the octets are of the grammar of UTCTime: `YYMMDDhhmm`, `ss` or nothing, and `Z`, `+hhmm` or `-hhmm`.
 #[inline(never)]
@@ -56,7 +30,7 @@ pub fn utc_canonical(contents: &[u8]) -> bool
 }
 
 /// Whether the octets are of the grammar of GeneralizedTime: `YYYYMMDDhh`, `mm`, `mmss` or nothing, a fraction of one
-/// or more digits behind `.` or `,` or nothing, and `Z`, `+hh`, `-hh`, `+hhmm`, `-hhmm` or nothing.
+/// or more digits after `.` or `,` or nothing, and `Z`, `+hh`, `-hh`, `+hhmm`, `-hhmm` or nothing.
 #[inline(never)]
 pub fn general_ok(contents: &[u8]) -> bool
     ensures { result ≡ has_form general_time contents.now }

@@ -1,20 +1,9 @@
 //! The texts of characters.
 ghost use Rattle.std.specs.List.{list_all};
 ghost use Rattle.std.specs.Prelude.{◌≡◌, ◌+◌, ◌*◌, ◌<◌, ◌≤◌, ◌++◌, false, flat_map, length, slice_index, true};
-ghost use Rattle.tlv_io.specs.Held.{AddsIfRoom, HasRoomFor};
+ghost use Rattle.tlv_io.specs.LineTexts.{AddsIfRoom, HasRoomFor};
 ghost use Rattle.tlv_value.specs.Private.Plain.{ArePlain, IsPart, is_ascii, is_plain as is_plain_octet};
-ghost use Rattle.tlv_value.specs.Units.{
-  escaped_number,
-  escaped_octet,
-  is_printable as is_printable_octet,
-  octet_text,
-  printable_text,
-  unit_size as unit_size_of,
-  unit_text,
-  units,
-  utf8_number as utf8_number_of,
-  without_zeros,
-};
+ghost use Rattle.tlv_value.specs.Units.{escaped_number, escaped_octet, is_printable as is_printable_octet, octet_text, printable_text, unit_size as unit_size_of, unit_text, units, utf8_number as utf8_number_of, without_zeros};
 
 use crate::kind::Kind;
 use crate::rows::utf8_length;
@@ -25,7 +14,7 @@ pub(crate) fn write_characters(held: &mut Held, kind: Kind, row: &[u8])
     requires { HasRoomFor held.old (5 * length row.now) }
     ensures { held.new ≡ held.old ++ flat_map (unit_text kind) (units kind 0 row.now) }
 {
-    // Most rows stand as they are.
+    // Most rows are written as they are.
     if has_ascii(kind) && are_plain(row) {
         held.add(row);
     } else {
@@ -45,7 +34,7 @@ fn write_units(held: &mut Held, kind: Kind, row: &[u8])
     }
 }
 
-/// Adds the octets in front that stand as they are, or else a unit. Returns how many octets these are.
+/// Adds the octets in front that are written as they are, or else a unit. Returns how many octets these are.
 fn write_part(held: &mut Held, kind: Kind, octets: &[u8]) -> usize
     requires { 1 ≤ length octets.now }
     ensures some { 1 ≤ result }
@@ -134,7 +123,7 @@ fn write_octet(held: &mut Held, octet: u8)
     }
 }
 
-/// Adds a printable character; a quotation mark or a reverse solidus stands behind a reverse solidus.
+/// Adds a printable character; a quotation mark or a reverse solidus is after a reverse solidus.
 fn write_printable(held: &mut Held, octet: u8)
     ensures { AddsIfRoom held.old held.new (printable_text octet) }
 {
@@ -188,7 +177,7 @@ fn is_printable(octet: u8) -> bool
     matches!(octet, 0x20..=0x7e)
 }
 
-/// Whether the octet stands as it is: it is printable, and neither the quotation mark nor the reverse solidus.
+/// Whether the octet is written as it is: it is printable, and neither the quotation mark nor the reverse solidus.
 fn is_plain(octet: u8) -> bool
     ensures { result ≡ is_plain_octet octet }
 {
@@ -202,7 +191,7 @@ fn has_ascii(kind: Kind) -> bool
     matches!(kind, Kind::Text | Kind::Utf8)
 }
 
-/// Whether all of the octets stand as they are.
+/// Whether all of the octets are written as they are.
 #[inline(always)]
 fn are_plain(octets: &[u8]) -> bool
     ensures { result ≡ list_all is_plain_octet octets.now }
@@ -215,7 +204,7 @@ fn are_plain(octets: &[u8]) -> bool
     all
 }
 
-/// How many octets in front stand as they are.
+/// How many octets in front are written as they are.
 fn plain_size(kind: Kind, octets: &[u8]) -> usize
     ensures within { result ≤ length octets.now }
     ensures plain { ArePlain kind octets.now result }

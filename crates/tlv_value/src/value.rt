@@ -1,19 +1,12 @@
 //! The texts of values.
 ghost use Rattle.std.specs.Prelude.{◌≡◌, ◌+◌, ◌-◌, ◌*◌, ◌<◌, ◌≤◌, ◌++◌, ◌∷◌, [], length, true};
 ghost use Rattle.std.specs.Fmt.{signed_decimal};
-ghost use Rattle.tlv_io.specs.Held.{HasRoomFor};
+ghost use Rattle.tlv_io.specs.LineTexts.{HasRoomFor};
 ghost use Rattle.tlv_value.specs.Bits.{last_bits};
-ghost use Rattle.tlv_value.specs.KindValues.{
-  bits_value,
-  boolean_value,
-  integer_value,
-  is_long,
-  is_readable as is_readable_by,
-  long_text,
-};
-ghost use Rattle.tlv_value.specs.Private.KindValues.{digits_of, joined_pairs as pairs_joined, plain_text};
-ghost use Rattle.tlv_value.specs.Units.{quoted as quoted_row};
-ghost use Rattle.tlv_value.specs.Value.{bit_count as bit_count_text, most_held, row_text, used_digits};
+ghost use Rattle.tlv_value.specs.KindValues.{bits_value, boolean_value, integer_value, is_long, is_readable as is_readable_by, long_text};
+ghost use Rattle.tlv_value.specs.Private.KindValues.{digits_of, joined_pairs, plain_text};
+ghost use Rattle.tlv_value.specs.Units.{quoted_text};
+ghost use Rattle.tlv_value.specs.Value.{bit_count, most_on_line, row_text, used_digits};
 
 use crate::decimal::{decimal_of, short_number};
 use crate::kind::Kind;
@@ -23,7 +16,7 @@ use tlv_io::Held;
 /// A space, a sign, and spaces up to 32 octets.
 const SIGN: &[u8; 32] = b" -                              ";
 
-/// Adds a row of long contents behind a space.
+/// Adds a row of long contents after a space.
 pub(crate) fn write_row(held: &mut Held, kind: Kind, row: &[u8])
     requires short { length row.now ≤ 64 }
     requires room { HasRoomFor held.old 400 }
@@ -36,11 +29,11 @@ pub(crate) fn write_row(held: &mut Held, kind: Kind, row: &[u8])
     }
 }
 
-/// Adds pairs of digits behind a space, and with spaces between them.
+/// Adds pairs of digits after a space, and with spaces between them.
 fn write_pairs(held: &mut Held, octets: &[u8])
     requires short { length octets.now ≤ 64 }
     requires room { HasRoomFor held.old 192 }
-    ensures { held.new ≡ held.old ++ 32 ∷ pairs_joined octets.now }
+    ensures { held.new ≡ held.old ++ 32 ∷ joined_pairs octets.now }
 {
     if octets.is_empty() {
         held.add(b" ");
@@ -50,10 +43,10 @@ fn write_pairs(held: &mut Held, octets: &[u8])
     }
 }
 
-/// Adds a held value with a space before it, where there is one. An object identifier is shown in hexadecimal.
+/// Adds a held value with a space before it, if there is one. An object identifier is shown in hexadecimal.
 #[inline(always)]
 pub(crate) fn write_value(held: &mut Held, kind: Kind, contents: &[u8])
-    requires short { length contents.now ≤ most_held kind }
+    requires short { length contents.now ≤ most_on_line kind }
     requires room { HasRoomFor held.old 400 }
     ensures text { held.new ≡ held.old ++ plain_text kind contents.now }
     ensures bound { length held.new ≤ length held.old + 330 }
@@ -67,12 +60,12 @@ pub(crate) fn write_value(held: &mut Held, kind: Kind, contents: &[u8])
     }
 }
 
-/// Adds a row of characters behind a space, in quotation marks.
+/// Adds a row of characters after a space, in quotation marks.
 #[inline(never)]
 fn write_text(held: &mut Held, kind: Kind, row: &[u8])
     requires short { length row.now ≤ 64 }
     requires room { HasRoomFor held.old 400 }
-    ensures { held.new ≡ held.old ++ 32 ∷ quoted_row kind row.now }
+    ensures { held.new ≡ held.old ++ 32 ∷ quoted_text kind row.now }
 {
     held.add(b" \"");
     write_characters(held, kind, row);
@@ -121,7 +114,7 @@ fn write_wide_integer(held: &mut Held, contents: &[u8])
     }
 }
 
-/// Adds a number, behind a sign where it is negative.
+/// Adds a number, after a sign if it is negative.
 fn write_signed(held: &mut Held, number: i128)
     requires { HasRoomFor held.old 41 }
     ensures { held.new ≡ held.old ++ signed_decimal number }
@@ -148,7 +141,7 @@ fn write_bits(held: &mut Held, contents: &[u8])
     }
 }
 
-/// Adds what stands on the line of a long value of this size: of a BIT STRING the number of its bits.
+/// Adds what is on the line of a long value of this size: of a BIT STRING the number of its bits.
 #[inline(always)]
 pub(crate) fn write_long_value(held: &mut Held, kind: Kind, size: u64, contents: &[u8])
     requires long { is_long kind size ≡ true }
@@ -161,7 +154,7 @@ pub(crate) fn write_long_value(held: &mut Held, kind: Kind, size: u64, contents:
     }
 }
 
-/// Adds what stands on the line of a long BIT STRING of this size: the number of its bits, if its first contents octet
+/// Adds what is on the line of a long BIT STRING of this size: the number of its bits, if its first contents octet
 /// can be read.
 pub(crate) fn write_long_bits(held: &mut Held, size: u64, unused: u8)
     requires long { 9 < size }
@@ -178,7 +171,7 @@ pub(crate) fn write_long_bits(held: &mut Held, size: u64, unused: u8)
 fn write_bit_count(held: &mut Held, unused: u8, octets: u64)
     requires some { unused ≤ 8 * octets }
     requires room { HasRoomFor held.old 64 }
-    ensures text { held.new ≡ held.old ++ 32 ∷ bit_count_text unused octets }
+    ensures text { held.new ≡ held.old ++ 32 ∷ bit_count unused octets }
     ensures bound { length held.new ≤ length held.old + 45 }
 {
     held.add(b" ");
@@ -186,7 +179,7 @@ fn write_bit_count(held: &mut Held, unused: u8, octets: u64)
     held.add(b" bits");
 }
 
-/// Adds the bits of octets, without those that are not used, behind a space where there are any.
+/// Adds the bits of octets, without those that are not used, after a space if there are any.
 fn write_bit_digits(held: &mut Held, unused: u8, octets: &[u8])
     requires unused { unused ≤ 7 }
     requires short { length octets.now ≤ 8 }

@@ -1,17 +1,17 @@
-//! The lines of a primitive of which all contents are at hand. Those of a value that stands on its line, or in rows of
+//! The lines of a primitive of which all contents are at hand. Those of a value that is on its line, or in rows of
 //! pairs of digits, are made at once: no contents are copied, and its type is asked for once.
 ghost use Rattle.std.specs.Prelude.{◌≡◌, ◌++◌, None, length, true};
 ghost use Rattle.tlv_head.specs.Header.{announced};
 ghost use Rattle.tlv_io.specs.Out.{Puts};
-ghost use Rattle.tlv_value.specs.Kind.{kind_of as kind_of_tag};
-ghost use Rattle.tlv_value.specs.KindValues.{in_rows, is_long, long_text};
-ghost use Rattle.tlv_value.specs.Private.State.{line_of, lines_in_steps, start_of};
+ghost use Rattle.tlv_value.specs.Kind.{kind_of};
+ghost use Rattle.tlv_value.specs.KindValues.{is_long, long_text, row_octets};
+ghost use Rattle.tlv_value.specs.Private.PrimitiveLines.{lines_in_steps, new_text_of, primitive_line};
 ghost use Rattle.tlv_value.specs.Rows.{row_size, rows_of};
-ghost use Rattle.tlv_value.specs.State.{row_lines, whole_lines};
+ghost use Rattle.tlv_value.specs.TextState.{row_lines, whole_lines};
 
 use crate::kind::Kind;
 use crate::primitive::Primitive;
-use crate::putting::put_pair_rows;
+use crate::value_lines::put_pair_rows;
 use crate::{Layout, NameTable, ValueText};
 use tlv_head::Header;
 use tlv_io::{Drain, Out, WriteFault};
@@ -21,7 +21,7 @@ use tlv_io::{Drain, Out, WriteFault};
 ///
 /// # Errors
 ///
-/// `WriteFault` exactly where the drain's failures rose in the call.
+/// `WriteFault` exactly if the drain's failures rose in the call.
 #[inline(always)]
 pub fn put_whole<N: NameTable, D: Drain>(
     header: &Header,
@@ -31,7 +31,7 @@ pub fn put_whole<N: NameTable, D: Drain>(
     out: &mut Out<'_, D>,
 ) -> Result<(), WriteFault>
     requires { announced header.now.size ≡ length contents.now }
-    ensures { Puts D.told out.old out.new (whole_lines (N.name_of names.now) header.now layout contents.now) result }
+    ensures { Puts D.state out.old out.new (whole_lines (N.name_of names.now) header.now layout contents.now) result }
 {
     let value = Primitive::new(header, layout);
     if value.is_long() {
@@ -51,11 +51,11 @@ fn put_long<N: NameTable, D: Drain>(
     names: &N,
     out: &mut Out<'_, D>,
 ) -> Result<(), WriteFault>
-    requires kind { value.now.kind ≡ kind_of_tag value.now.class value.now.number }
+    requires kind { value.now.kind ≡ kind_of value.now.class value.now.number }
     requires long { is_long value.now.kind value.now.size ≡ true }
     requires whole { length contents.now ≡ value.now.size }
-    ensures { Puts D.told out.old out.new
-        (lines_in_steps (N.name_of names.now) (start_of value.now) contents.now) result }
+    ensures { Puts D.state out.old out.new
+        (lines_in_steps (N.name_of names.now) (new_text_of value.now) contents.now) result }
 {
     if value.has_pairs() {
         put_pairs(value, contents, out)
@@ -64,7 +64,7 @@ fn put_long<N: NameTable, D: Drain>(
     }
 }
 
-/// Puts the lines of a primitive whose value stands in rows of pairs of digits, from where its contents stand. This
+/// Puts the lines of a primitive whose value is in rows of pairs of digits, from where its contents are. This
 /// saves the state of a [`ValueText`].
 #[inline(always)]
 fn put_pairs<D: Drain>(
@@ -75,19 +75,19 @@ fn put_pairs<D: Drain>(
     requires pairs { row_size value.now.kind ≡ 16 }
     requires endless { value.now.layout.limit ≡ None }
     requires long { is_long value.now.kind value.now.size ≡ true }
-    ensures { Puts D.told out.old out.new
-        (line_of value.now (long_text value.now.kind value.now.size contents.now)
+    ensures { Puts D.state out.old out.new
+        (primitive_line value.now (long_text value.now.kind value.now.size contents.now)
         ++ row_lines value.now.kind value.now.layout 0
-        (rows_of value.now.kind (in_rows value.now.kind contents.now))) result }
+        (rows_of value.now.kind (row_octets value.now.kind contents.now))) result }
 {
     value.put_long(contents, out)?;
     put_pair_rows(value.layout, octets_in_rows(value.kind, contents), out)
 }
 
-/// The contents octets that stand in rows: of a BIT STRING all but the first, where that can be read.
+/// The contents octets that are in rows: of a BIT STRING all but the first, if that can be read.
 #[inline(always)]
 fn octets_in_rows(kind: Kind, contents: &[u8]) -> &[u8]
-    ensures { result.now ≡ in_rows kind contents.now }
+    ensures { result.now ≡ row_octets kind contents.now }
 {
     match contents {
         [0..=7, rest @ ..] if matches!(kind, Kind::Bits) => rest,
@@ -103,10 +103,10 @@ fn put_in_steps<N: NameTable, D: Drain>(
     names: &N,
     out: &mut Out<'_, D>,
 ) -> Result<(), WriteFault>
-    requires kind { value.now.kind ≡ kind_of_tag value.now.class value.now.number }
+    requires kind { value.now.kind ≡ kind_of value.now.class value.now.number }
     requires whole { length contents.now ≡ value.now.size }
-    ensures { Puts D.told out.old out.new
-        (lines_in_steps (N.name_of names.now) (start_of value.now) contents.now) result }
+    ensures { Puts D.state out.old out.new
+        (lines_in_steps (N.name_of names.now) (new_text_of value.now) contents.now) result }
 {
     let mut text = ValueText::of(*value);
     text.begin(out)?;

@@ -4,9 +4,9 @@ use Rattle.tlv_head.specs.declared.fault.FaultCode.TheVariants.{Empty, Short, St
 use Rattle.tlv_walk.specs.declared.ending.Ending.TheVariants.{Done}
 use Rattle.tlv_walk.specs.declared.framing.Framing.{Framing}
 use Rattle.tlv_walk.specs.Ending.{fault}
-use Rattle.tlv_walk.specs.Wrappers.{wrappers, unused_of}
-use Rattle.tlv_walk.proofs.Readings.{reading}
-use Rattle.tlv_walk.proofs.Endings.{ending}
+use Rattle.tlv_walk.specs.Wrappers.{first_unused, wrappers}
+use Rattle.tlv_walk.proofs.GrammarLemmas.Readings.{reading}
+use Rattle.tlv_walk.proofs.GrammarLemmas.Endings.{ending}
 
 -- neither padding nor a string that is to be read
 abbrev plain : Framing
@@ -42,7 +42,7 @@ wrapped-octets = refl
 wrapped-octets-wrapper : wrappers (reading wrapping (4 ∷ 2 ∷ 5 ∷ 0 ∷ [])) ≡ 0 ∷ []
 wrapped-octets-wrapper = refl
 
-wrapped-octets-other : unused_of (0 ∷ 5 ∷ []) (reading wrapping (4 ∷ 2 ∷ 5 ∷ 0 ∷ [])) ≡ Some 5
+wrapped-octets-other : first_unused (0 ∷ 5 ∷ []) (reading wrapping (4 ∷ 2 ∷ 5 ∷ 0 ∷ [])) ≡ Some 5
 wrapped-octets-other = refl
 
 wrapped-bits : ending wrapping (3 ∷ 3 ∷ 0 ∷ 5 ∷ 0 ∷ []) ≡ Done

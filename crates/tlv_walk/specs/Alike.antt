@@ -1,6 +1,6 @@
 -- Elements that differ in their spelling alone: X.690 8.1.
 use Rattle.std.specs.Prelude.{◌≢◌, List, ℕ}
-use Rattle.tlv_head.specs.Header.{Heading, leading_octet}
+use Rattle.tlv_head.specs.Header.{HeaderValue, leading_octet}
 use Rattle.tlv_head.specs.Shortest.{HaveOneTag}
 use Rattle.tlv_walk.specs.Forest.{Forest, Stop, Fill, Whole, Closed, Partial, Entered, Awaiting, Begun, Zero}
 
@@ -9,9 +9,9 @@ use Rattle.tlv_walk.specs.Forest.{Forest, Stop, Fill, Whole, Closed, Partial, En
 pub data AreAlike : Forest → Forest → Type 0 where
   nothing : AreAlike Stop Stop
   padding : (f g : Forest) → AreAlike f g → AreAlike (Fill f) (Fill g)
-  primitives : (h k : Heading) (contents : List ℕ) (f g : Forest) → HaveOneTag h k → AreAlike f g
+  primitives : (h k : HeaderValue) (contents : List ℕ) (f g : Forest) → HaveOneTag h k → AreAlike f g
       → AreAlike (Whole h contents f) (Whole k contents g)
-  holders : (h k : Heading) (inside within f g : Forest) → HaveOneTag h k → AreAlike inside within → AreAlike f g
+  holders : (h k : HeaderValue) (inside within f g : Forest) → HaveOneTag h k → AreAlike inside within → AreAlike f g
       → AreAlike (Closed h inside f) (Closed k within g)
 
 -- no primitive of the elements is the universal 0, whose low form would be the octet 00 of end-of-contents octets

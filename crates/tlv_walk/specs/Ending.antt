@@ -2,28 +2,28 @@
 use Rattle.std.specs.Prelude.{◌≡◌, ◌≢◌, ℕ, ◌+◌, ◌<◌, ◌≤◌, true, false, List, [], ◌∷◌, ◌++◌, length}
 use Rattle.tlv_head.specs.declared.fault.FaultCode.{FaultCode}
 use Rattle.tlv_head.specs.declared.fault.FaultCode.TheVariants.{Empty, Short, StrayEnd, BadEnd, MissingEnd, TooDeep, Overrun, BadInside}
-use Rattle.tlv_head.specs.Header.{Heading, announced, holds, octets_of}
+use Rattle.tlv_head.specs.Header.{HeaderValue, announced, holds, octets_of}
 use Rattle.tlv_head.specs.Refusal.{IsRefusedOctet}
 use Rattle.tlv_walk.specs.declared.framing.Framing.{Framing}
 use Rattle.tlv_walk.specs.declared.ending.Ending.{Ending}
 use Rattle.tlv_walk.specs.declared.ending.Ending.TheVariants.{Done, Fault}
 use Rattle.tlv_walk.specs.Forest.{Forest, Stop, Fill, Whole, Closed, Entered, Awaiting, Begun, Zero, extent, has_element, is_whole, spell}
-use Rattle.tlv_walk.specs.Place.{Fits, IsHeadAt, Place, after, inside_of, top}
+use Rattle.tlv_walk.specs.Place.{Fits, IsHeadAt, Place, place_after, place_inside, top_place}
 use Rattle.tlv_walk.specs.Reading.{IsReading}
 
--- where the innermost open end of a forest that begins there begins, and what stands there: nothing between encodings (`Stop`),
--- or a primitive, a wrapping BIT STRING, a header or end-of-contents octets that lack octets
+-- where the innermost open end of a forest that begins there begins, and what is there: nothing between encodings
+-- (`Stop`), or a primitive, a wrapping BIT STRING, a header or end-of-contents octets that lack octets
 abbrev pub tip : Place → Forest → Place × Forest
-tip p (Fill rest) = tip (after p 1) rest
-tip p (Whole h c rest) = tip (after p (length (octets_of h) + length c)) rest
-tip p (Closed h inside rest) = tip (after p (extent h inside)) rest
-tip p (Entered h inside) = tip (inside_of p h) inside
+tip p (Fill rest) = tip (place_after p 1) rest
+tip p (Whole h c rest) = tip (place_after p (length (octets_of h) + length c)) rest
+tip p (Closed h inside rest) = tip (place_after p (extent h inside)) rest
+tip p (Entered h inside) = tip (place_inside p h) inside
 tip p end = (p, end)
 
 -- why the octet x is refused at an open end that begins at p: a line for each cause. The bound is looked at before the octet
 pub data IsFault (p : Place) (x : ℕ) : Forest → FaultCode → Type 0 where
   -- 8.6.2.2: a wrapping BIT STRING must begin with 00
-  bad_inside : {h : Heading} → x ≢ 0 → IsFault p x (Awaiting h) BadInside
+  bad_inside : {h : HeaderValue} → x ≢ 0 → IsFault p x (Awaiting h) BadInside
   -- 8.1.5: the second 00 is missing at the bound, or is another octet
   missing_end : (Fits p 2 → ⊥) → IsFault p x Zero MissingEnd
   bad_end : Fits p 2 → x ≢ 0 → IsFault p x Zero BadEnd
@@ -32,10 +32,10 @@ pub data IsFault (p : Place) (x : ℕ) : Forest → FaultCode → Type 0 where
   -- F06 to F09: no header goes on with that octet
   refused_octet : {o : List ℕ} {code : FaultCode} → Fits p (length o + 1) → IsRefusedOctet o x code → IsFault p x (Begun o) code
   -- 8.1.4: the header of an element that holds others, inside 128 of them
-  too_deep : {o : List ℕ} → Fits p (length o + 1) → (h : Heading) → IsHeadAt p true h → octets_of h ≡ o ++ x ∷ [] → 128 ≤ p.depth
+  too_deep : {o : List ℕ} → Fits p (length o + 1) → (h : HeaderValue) → IsHeadAt p true h → octets_of h ≡ o ++ x ∷ [] → 128 ≤ p.depth
       → IsFault p x (Begun o) TooDeep
   -- 8.1.3.3: the header of contents that end past the bound
-  overrun : {o : List ℕ} → Fits p (length o + 1) → (h : Heading) → IsHeadAt p (holds h) h → octets_of h ≡ o ++ x ∷ []
+  overrun : {o : List ℕ} → Fits p (length o + 1) → (h : HeaderValue) → IsHeadAt p (holds h) h → octets_of h ≡ o ++ x ∷ []
       → (holds h ≡ true → p.depth < 128) → (Fits p (length (octets_of h) + announced h.size) → ⊥) → IsFault p x (Begun o) Overrun
   -- 8.1.5: no end-of-contents octets before the bound
   no_end : p.indefinite ≡ true → (Fits p 1 → ⊥) → IsFault p x Stop MissingEnd
@@ -53,6 +53,6 @@ pub data IsEnding (framing : Framing) (b : List ℕ) : Ending → Type 0 where
   short : (f : Forest) → IsReading framing b f → spell f ≡ b → is_whole f ≡ false → IsEnding framing b (fault Short (length b))
   -- one or more elements, and nothing is open
   done : (f : Forest) → IsReading framing b f → spell f ≡ b → has_element f ≡ true → is_whole f ≡ true → IsEnding framing b Done
-  -- the octet behind the reading is refused
+  -- the octet after the reading is refused
   refused : (f : Forest) (x : ℕ) (rest : List ℕ) (code : FaultCode) → IsReading framing b f → spell f ++ x ∷ rest ≡ b
-      → IsFault (tip (top framing) f).0 x (tip (top framing) f).1 code → IsEnding framing b (fault code (length (spell f)))
+      → IsFault (tip (top_place framing) f).0 x (tip (top_place framing) f).1 code → IsEnding framing b (fault code (length (spell f)))

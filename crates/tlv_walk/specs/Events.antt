@@ -1,78 +1,78 @@
--- What a walk over elements tells, in order.
+-- What a walk over elements yields, in order.
 use Rattle.std.specs.Prelude.{◌≡◌, ℕ, ◌+◌, if◌then◌else◌, List, [], ◌∷◌, ◌++◌, length, map, Option, Some, None}
 use Rattle.tlv_head.specs.declared.header.Size.{Size}
 use Rattle.tlv_head.specs.declared.header.Size.TheVariants.{Definite, Indefinite}
-use Rattle.tlv_head.specs.Header.{Heading}
+use Rattle.tlv_head.specs.Header.{HeaderValue}
 use Rattle.tlv_walk.specs.Forest.{Forest, Stop, Fill, Whole, Closed, Partial, Entered, Awaiting, Begun, Zero, lead, opening, spell}
 
--- what is told: an event, apart from where its octets lie in memory
-pub data Told : Type 0 where
+-- an event, apart from where its octets lie in memory
+pub data EventValue : Type 0 where
   -- 8.1.2.5: a constructed element begins
-  Open : (head : Heading) → Told
+  Open : (head : HeaderValue) → EventValue
   -- 8.1.2.5: a primitive begins, gives contents octets, and ends
-  Begin : (head : Heading) → Told
-  Bytes : (octets : List ℕ) → Told
-  End : Told
-  -- 8.1.5: a constructed element ends, with the offset of its end-of-contents octets, where it has them
-  Close : (offset : Option ℕ) → Told
+  Begin : (head : HeaderValue) → EventValue
+  Bytes : (octets : List ℕ) → EventValue
+  End : EventValue
+  -- 8.1.5: a constructed element ends, with the offset of its end-of-contents octets, if it has them
+  Close : (offset : Option ℕ) → EventValue
   -- 8.6.2, 8.7.2: a wrapper begins, gives the first contents octet of a BIT STRING, and ends
-  Enter : (head : Heading) → Told
-  Unused : Told
-  Leave : Told
+  Enter : (head : HeaderValue) → EventValue
+  Unused : EventValue
+  Leave : EventValue
   -- octets 00 between encodings
-  Pad : (octets : List ℕ) → Told
+  Pad : (octets : List ℕ) → EventValue
 
--- 8.1.5: the offset of the end-of-contents octets, where there are any
+-- 8.1.5: the offset of the end-of-contents octets, if there are any
 abbrev pub end_offset : Size → ℕ → Option ℕ
 end_offset (Definite n) at = None
 end_offset Indefinite at = Some at
 
 -- an element that holds others begins
-abbrev pub opens : Heading → List Told
-opens h = (if h.constructed then Open h else Enter h) ∷ map (λ z. Unused) (lead h)
+abbrev pub opening_events : HeaderValue → List EventValue
+opening_events h = (if h.constructed then Open h else Enter h) ∷ map (λ z. Unused) (lead h)
 
 -- an element that holds others ends
-abbrev pub closes : Heading → Forest → Told
-closes h inside = if h.constructed then Close (end_offset h.size (h.offset + length (opening h) + length (spell inside))) else Leave
+abbrev pub closing_event : HeaderValue → Forest → EventValue
+closing_event h inside = if h.constructed then Close (end_offset h.size (h.offset + length (opening h) + length (spell inside))) else Leave
 
 -- an open forest read off in order
-abbrev pub events : Forest → List Told
+abbrev pub events : Forest → List EventValue
 events Stop = []
 events (Fill rest) = Pad (0 ∷ []) ∷ events rest
 events (Whole h c rest) = Begin h ∷ Bytes c ∷ End ∷ events rest
-events (Closed h inside rest) = opens h ++ (events inside ++ closes h inside ∷ events rest)
+events (Closed h inside rest) = opening_events h ++ (events inside ++ closing_event h inside ∷ events rest)
 events (Partial h c) = Begin h ∷ Bytes c ∷ []
-events (Entered h inside) = opens h ++ events inside
+events (Entered h inside) = opening_events h ++ events inside
 events (Awaiting h) = Enter h ∷ []
 events (Begun octets) = []
 events Zero = []
 
 -- each octet by itself
-abbrev pub apart : List Told → List Told
-apart [] = []
-apart (Bytes c ∷ es) = map (λ x. Bytes (x ∷ [])) c ++ apart es
-apart (Pad c ∷ es) = map (λ x. Pad (x ∷ [])) c ++ apart es
-apart (e ∷ es) = e ∷ apart es
+abbrev pub single_octets : List EventValue → List EventValue
+single_octets [] = []
+single_octets (Bytes c ∷ es) = map (λ x. Bytes (x ∷ [])) c ++ single_octets es
+single_octets (Pad c ∷ es) = map (λ x. Pad (x ∷ [])) c ++ single_octets es
+single_octets (e ∷ es) = e ∷ single_octets es
 
 -- contents octets, and then these events: put together with contents octets that come first
-abbrev pub with_bytes : List ℕ → List Told → List Told
+abbrev pub with_bytes : List ℕ → List EventValue → List EventValue
 with_bytes [] es = es
 with_bytes (x ∷ b) (Bytes c ∷ es) = Bytes (x ∷ b ++ c) ∷ es
 with_bytes (x ∷ b) es = Bytes (x ∷ b) ∷ es
 
 -- padding, and then these events: put together with padding that comes first
-abbrev pub with_pad : List ℕ → List Told → List Told
+abbrev pub with_pad : List ℕ → List EventValue → List EventValue
 with_pad [] es = es
 with_pad (x ∷ b) (Pad c ∷ es) = Pad (x ∷ b ++ c) ∷ es
 with_pad (x ∷ b) es = Pad (x ∷ b) ∷ es
 
 -- adjacent `Bytes`, and adjacent `Pad`s, put together, and empty ones dropped
-abbrev pub joined : List Told → List Told
-joined [] = []
-joined (Bytes b ∷ es) = with_bytes b (joined es)
-joined (Pad b ∷ es) = with_pad b (joined es)
-joined (e ∷ es) = e ∷ joined es
+abbrev pub joined_events : List EventValue → List EventValue
+joined_events [] = []
+joined_events (Bytes b ∷ es) = with_bytes b (joined_events es)
+joined_events (Pad b ∷ es) = with_pad b (joined_events es)
+joined_events (e ∷ es) = e ∷ joined_events es
 
 -- the same events, however contents and padding are cut into pieces
-abbrev pub AreEqualJoined : List Told → List Told → Type 0
-AreEqualJoined xs ys = joined xs ≡ joined ys
+abbrev pub AreEqualJoined : List EventValue → List EventValue → Type 0
+AreEqualJoined xs ys = joined_events xs ≡ joined_events ys

@@ -2,7 +2,7 @@
 use Rattle.std.specs.Prelude.{ℕ, ◌+◌, Bool, true, false, eqb, if◌then◌else◌, List, [], ◌∷◌, ◌++◌, length}
 use Rattle.tlv_head.specs.declared.header.Size.{Size}
 use Rattle.std.specs.Option.{is_some}
-use Rattle.tlv_head.specs.Header.{Heading, definite_length, octets_of}
+use Rattle.tlv_head.specs.Header.{HeaderValue, definite_length, octets_of}
 
 -- 8.1.1.1, 8.1.4: whole elements, one after another, and then at most one open end
 pub data Forest : Type 0 where
@@ -11,26 +11,26 @@ pub data Forest : Type 0 where
   -- an octet 00 between encodings
   Fill : (rest : Forest) → Forest
   -- a primitive with all its contents octets
-  Whole : (head : Heading) (contents : List ℕ) (rest : Forest) → Forest
+  Whole : (head : HeaderValue) (contents : List ℕ) (rest : Forest) → Forest
   -- an element that holds others and has ended: constructed, or a wrapper
-  Closed : (head : Heading) (inside rest : Forest) → Forest
+  Closed : (head : HeaderValue) (inside rest : Forest) → Forest
   -- a primitive with fewer contents octets than its length
-  Partial : (head : Heading) (contents : List ℕ) → Forest
+  Partial : (head : HeaderValue) (contents : List ℕ) → Forest
   -- an element that holds others and has not ended, with what it holds so far
-  Entered : (head : Heading) (inside : Forest) → Forest
+  Entered : (head : HeaderValue) (inside : Forest) → Forest
   -- a wrapping BIT STRING without its first contents octet
-  Awaiting : (head : Heading) → Forest
+  Awaiting : (head : HeaderValue) → Forest
   -- the front of a header
   Begun : (octets : List ℕ) → Forest
   -- the first of the end-of-contents octets
   Zero : Forest
 
 -- 8.6.2.2: the contents octets of a wrapper before what it holds: in a BIT STRING 00, no bit unused
-abbrev pub lead : Heading → List ℕ
+abbrev pub lead : HeaderValue → List ℕ
 lead h = if h.constructed then [] else (if eqb h.number 3 then 0 ∷ [] else [])
 
 -- 8.1.1.1: what comes before the elements that an element holds
-abbrev pub opening : Heading → List ℕ
+abbrev pub opening : HeaderValue → List ℕ
 opening h = octets_of h ++ lead h
 
 -- 8.1.5: what ends the contents
@@ -50,7 +50,7 @@ spell (Begun octets) = octets
 spell Zero = 0 ∷ []
 
 -- 8.1.1.1: the number of octets of an element that holds others and has ended
-abbrev pub extent : Heading → Forest → ℕ
+abbrev pub extent : HeaderValue → Forest → ℕ
 extent h inside = length (opening h) + (length (spell inside) + length (end_octets h.size))
 
 -- nothing is open

@@ -8,7 +8,7 @@ use Rattle.tlv_walk.specs.declared.ending.Ending.TheVariants as ending
 use Rattle.tlv_walk.specs.declared.framing.Framing.{Framing}
 use Rattle.tlv_walk.specs.declared.run.DeviceFault.{DeviceFault}
 use Rattle.tlv_walk.specs.declared.run.DeviceFault.TheVariants.{ReadFailed, WriteFailed, InputTooLong}
-use Rattle.tlv_io.specs.Device.{Pieces, Supply, Taken, gave, given_in, failed, failures_after}
+use Rattle.tlv_io.specs.Device.{DrainState, Pieces, SourceState, failed, failures_after, gave, octets_given}
 use Rattle.tlv_walk.specs.Ending.{IsEnding}
 use Rattle.tlv_walk.specs.Forest.{Forest, spell}
 use Rattle.tlv_io.specs.Out.{Sends}
@@ -28,23 +28,23 @@ pub record Job (A : Type 0) : Type 0 where
 
 module _ {A : Type 0} where
   -- what a result says of one device alone, the source or the drain: that it failed, or nothing
-  abbrev pub of_device : DeviceFault → Result A DeviceFault → Result ⊤ DeviceFault
-  of_device ReadFailed (Err ReadFailed) = Err ReadFailed
-  of_device WriteFailed (Err WriteFailed) = Err WriteFailed
-  of_device device result = Ok tt
+  abbrev pub device_result : DeviceFault → Result A DeviceFault → Result ⊤ DeviceFault
+  device_result ReadFailed (Err ReadFailed) = Err ReadFailed
+  device_result WriteFailed (Err WriteFailed) = Err WriteFailed
+  device_result device result = Ok tt
 
-  abbrev pub of_source : Result A DeviceFault → Result ⊤ DeviceFault
-  of_source result = of_device ReadFailed result
+  abbrev pub source_result : Result A DeviceFault → Result ⊤ DeviceFault
+  source_result result = device_result ReadFailed result
 
-  abbrev pub of_drain : Result A DeviceFault → Result ⊤ DeviceFault
-  of_drain result = of_device WriteFailed result
+  abbrev pub drain_result : Result A DeviceFault → Result ⊤ DeviceFault
+  drain_result result = device_result WriteFailed result
 
 -- a fault that is the ending whatever follows: one other than F01 and F02, which alone say that the input ends too early
 abbrev pub IsFinalEnding : Ending → Type 0
 IsFinalEnding ending.Done = ⊥
 IsFinalEnding (ending.Fault f) = (f.code ≢ Empty) × (f.code ≢ Short)
 
--- the ending: Done where there was enough, otherwise what the octets come to
+-- the ending: Done if there was enough, otherwise what the octets come to
 abbrev pub EndsWith : Framing → List ℕ → Bool → Ending → Type 0
 EndsWith framing octets true e = e ≡ ending.Done
 EndsWith framing octets false e = IsEnding framing octets e
@@ -55,7 +55,7 @@ module _ {A : Type 0} (job : Job A) where
   AreSound octets = (f : Forest) × IsReading job.framing octets f × (spell f ≡ octets) × (job.is_enough f ≡ false)
 
   -- by the result, for octets that were given and their reading: what is returned, or why it is not
-  abbrev pub ComesTo : List ℕ → Forest → Supply → Result A DeviceFault → Type 0
+  abbrev pub ComesTo : List ℕ → Forest → SourceState → Result A DeviceFault → Type 0
   -- there was enough, or the ending is that of the octets, and stays whatever follows, or nothing follows
   ComesTo given f new (Ok a) = (e : Ending) × (a ≡ job.answer f e) × (
       ((job.is_enough f ≡ true) × (e ≡ ending.Done))
@@ -65,14 +65,14 @@ module _ {A : Type 0} (job : Job A) where
   ComesTo given f new (Err InputTooLong) = (job.limit < length given) × AreSound (take job.limit given)
 
   -- a source was read to its end, to a fault or to enough, and what that makes was sent to a drain
-  pub record Runs (old new : Supply) (from to : Taken) (result : Result A DeviceFault) : Type 0 where
+  pub record Runs (old new : SourceState) (from to : DrainState) (result : Result A DeviceFault) : Type 0 where
     pub pieces : Pieces old new
-    pub failures : new.failures ≡ failures_after (of_device ReadFailed result) old.failures
+    pub failures : new.failures ≡ failures_after (device_result ReadFailed result) old.failures
     -- before the last read there was no reason to stop
     pub sound : AreSound (concat pieces.pieces)
     pub within : length (concat pieces.pieces) ≤ job.limit
     -- no more octets are read as encodings than the limit
     pub reading : Forest
-    pub is_reading : IsReading job.framing (take job.limit (given_in pieces)) reading
-    pub sends : Sends from to (job.text reading) (of_device WriteFailed result)
-    pub comes : ComesTo (given_in pieces) reading new result
+    pub is_reading : IsReading job.framing (take job.limit (octets_given pieces)) reading
+    pub sends : Sends from to (job.text reading) (device_result WriteFailed result)
+    pub comes : ComesTo (octets_given pieces) reading new result

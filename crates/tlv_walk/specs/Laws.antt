@@ -7,7 +7,7 @@ use Rattle.tlv_walk.specs.declared.framing.Framing.{Framing}
 use Rattle.tlv_walk.specs.Forest.{Forest, spell}
 use Rattle.tlv_walk.specs.Place.{IsOpen, Place}
 use Rattle.tlv_walk.specs.Reading.{IsPrefixOf, IsReading, IsSoundList}
-use Rattle.tlv_walk.specs.Events.{AreEqualJoined, Told, events}
+use Rattle.tlv_walk.specs.Events.{AreEqualJoined, EventValue, events}
 use Rattle.tlv_walk.specs.Ending.{IsEnding, fault}
 
 -- octets, each below 256
@@ -15,8 +15,8 @@ abbrev pub AreOctets : List ℕ → Type 0
 AreOctets b = All (λ x. x < 256) b
 
 -- a code other than F01 and F02, which alone say that the input ends too early
-abbrev pub IsFinal : FaultCode → Type 0
-IsFinal code = (code ≢ Empty) × (code ≢ Short)
+abbrev pub IsFinalCode : FaultCode → Type 0
+IsFinalCode code = (code ≢ Empty) × (code ≢ Short)
 
 -- each front of an open forest's spelling is the spelling of an open forest
 abbrev pub FrontsAreOpen : Type 0
@@ -39,16 +39,16 @@ OctetsHaveOneEnding = (framing : Framing) (b : List ℕ) → AreOctets b
 
 -- whatever follows an input with a fault other than F01 and F02, the ending and the reading stay
 abbrev pub FaultsAreFinal : Type 0
-FaultsAreFinal = (framing : Framing) (b c : List ℕ) (code : FaultCode) (offset : ℕ) (f : Forest) → IsFinal code
+FaultsAreFinal = (framing : Framing) (b c : List ℕ) (code : FaultCode) (offset : ℕ) (f : Forest) → IsFinalCode code
     → IsEnding framing b (fault code offset) → IsReading framing b f
     → IsEnding framing (b ++ c) (fault code offset) × IsReading framing (b ++ c) f
 
 -- whatever follows such an input, it is no sound list
 abbrev pub FaultsAreRight : Type 0
-FaultsAreRight = (framing : Framing) (b c : List ℕ) (code : FaultCode) (offset : ℕ) → IsFinal code
+FaultsAreRight = (framing : Framing) (b c : List ℕ) (code : FaultCode) (offset : ℕ) → IsFinalCode code
     → IsEnding framing b (fault code offset) → IsSoundList framing (b ++ c) → ⊥
 
 -- the events of a longer input are, joined, those of the shorter and then others
 abbrev pub EventsGoOn : Type 0
 EventsGoOn = (framing : Framing) (b c : List ℕ) (f g : Forest) → IsReading framing b f → IsReading framing (b ++ c) g
-    → (others : List Told) × AreEqualJoined (events g) (events f ++ others)
+    → (others : List EventValue) × AreEqualJoined (events g) (events f ++ others)

@@ -1,13 +1,13 @@
 -- What the next octet of an input belongs to.
 use Rattle.std.specs.Prelude.{ℕ}
 use Rattle.tlv_head.specs.declared.fault.Fault.{Fault}
-use Rattle.tlv_head.specs.Progress.{Progress}
+use Rattle.tlv_head.specs.HeadReaderState.{HeadReaderState}
 
 pub data Phase : Type 0 where
   -- a new element, or the end of the innermost one
   Between : Phase
   -- a header that has begun
-  InHeader : (reader : Progress) → Phase
+  InHeader : (reader : HeadReaderState) → Phase
   -- a primitive's contents, of which so many octets are to follow
   InContents : (left : ℕ) → Phase
   -- a wrapping BIT STRING, whose first contents octet is to follow

@@ -3,13 +3,13 @@ use Rattle.std.specs.Prelude.{◌≡◌, ◌≢◌, ℕ, ◌+◌, ◌<◌, ◌�
 use Rattle.std.specs.Option.{is_none, option_map_or}
 use Rattle.tlv_head.specs.declared.header.Size.{Size}
 use Rattle.tlv_head.specs.declared.header.Size.TheVariants.{Definite}
-use Rattle.tlv_head.specs.Header.{Heading, IsHeading, announced, definite_length, holds, octets_of}
+use Rattle.tlv_head.specs.Header.{HeaderValue, IsHeader, announced, definite_length, holds, octets_of}
 use Rattle.tlv_head.specs.Refusal.{IsFront}
 use Rattle.tlv_walk.specs.declared.framing.Framing.{Framing}
 use Rattle.tlv_walk.specs.Inside.{is_among}
 use Rattle.tlv_walk.specs.Forest.{Forest, Stop, Fill, Whole, Closed, Partial, Entered, Awaiting, Begun, Zero, extent, is_whole, lead, opening, spell}
 
--- where a forest stands
+-- where a forest is
 pub record Place : Type 0 where
   -- the offset of its first octet
   pub at : ℕ
@@ -25,21 +25,21 @@ pub record Place : Type 0 where
   pub inside : List ℕ
 
 -- the start of the input
-abbrev pub top : Framing → Place
-top framing = record { at = 0; depth = 0; bound = None; indefinite = false; padding = framing.padding; inside = framing.inside }
+abbrev pub top_place : Framing → Place
+top_place framing = record { at = 0; depth = 0; bound = None; indefinite = false; padding = framing.padding; inside = framing.inside }
 
 -- n octets on
-abbrev pub after : Place → ℕ → Place
-after p n = record p { at = p.at + n }
+abbrev pub place_after : Place → ℕ → Place
+place_after p n = record p { at = p.at + n }
 
 -- 8.1.3.6: the length is indefinite
 abbrev pub is_indefinite : Size → Bool
 is_indefinite size = is_none (definite_length size)
 
--- 8.1.4: where the elements stand that an element with this header holds: where its length is definite, the end of its
+-- 8.1.4: where the elements stand that an element with this header holds: if its length is definite, the end of its
 -- contents is the bound
-abbrev pub inside_of : Place → Heading → Place
-inside_of p h = record p {
+abbrev pub place_inside : Place → HeaderValue → Place
+place_inside p h = record p {
   at = p.at + length (opening h);
   depth = p.depth + 1;
   indefinite = is_indefinite h.size;
@@ -51,42 +51,42 @@ inside_of p h = record p {
 abbrev pub Fits : Place → ℕ → Type 0
 Fits p n = IfSome p.bound (λ b. p.at + n ≤ b)
 
--- 8.1.2, 8.1.3: a header stands there, of an element that holds others or of one that does not
-pub record IsHeadAt (p : Place) (holding : Bool) (h : Heading) : Type 0 where
-  pub valid : IsHeading h
+-- 8.1.2, 8.1.3: a header is there, of an element that holds others or of one that does not
+pub record IsHeadAt (p : Place) (holding : Bool) (h : HeaderValue) : Type 0 where
+  pub valid : IsHeader h
   pub offset : h.offset ≡ p.at
   pub named : h.named ≡ is_among p.at p.inside
   pub form : holds h ≡ holding
 
--- 8.1.4: an element stands there, in at most 127 others where it holds others, and n octets of it do not pass the bound
-pub record IsElementAt (p : Place) (holding : Bool) (h : Heading) (n : ℕ) : Type 0 where
+-- 8.1.4: an element is there, in at most 127 others if it holds others, and n octets of it do not pass the bound
+pub record IsElementAt (p : Place) (holding : Bool) (h : HeaderValue) (n : ℕ) : Type 0 where
   pub header : IsHeadAt p holding h
   pub depth : holding ≡ true → p.depth < 128
   pub fits : Fits p n
 
 -- 8.1.3.3: the same of its header and all the contents octets that are announced
-abbrev pub IsEntry : Place → Bool → Heading → Type 0
+abbrev pub IsEntry : Place → Bool → HeaderValue → Type 0
 IsEntry p holding h = IsElementAt p holding h (length (octets_of h) + announced h.size)
 
 -- an open forest: each element in it stands by the rules, and no octet and no announced end lies past the bound
 abbrev pub IsOpen : Place → Forest → Type 0
 IsOpen p Stop = Unit {0}
 -- an octet 00 between encodings
-IsOpen p (Fill rest) = ((p.padding ≡ true) × (p.indefinite ≡ false) × Fits p 1) × IsOpen (after p 1) rest
+IsOpen p (Fill rest) = ((p.padding ≡ true) × (p.indefinite ≡ false) × Fits p 1) × IsOpen (place_after p 1) rest
 -- 8.1.4: a primitive with all its contents octets
 IsOpen p (Whole h c rest) =
-    (IsElementAt p false h (length (octets_of h) + length c) × (h.size ≡ Definite (length c))) × IsOpen (after p (length (octets_of h) + length c)) rest
+    (IsElementAt p false h (length (octets_of h) + length c) × (h.size ≡ Definite (length c))) × IsOpen (place_after p (length (octets_of h) + length c)) rest
 -- 8.1.4, 8.1.5: an element that holds others and has ended. 8.1.3.3: a definite length is that of the contents
 IsOpen p (Closed h inside rest) =
     (IsElementAt p true h (extent h inside) × (is_whole inside ≡ true) × IfSome (definite_length h.size) (λ n. length (lead h) + length (spell inside) ≡ n))
-    × IsOpen (inside_of p h) inside × IsOpen (after p (extent h inside)) rest
+    × IsOpen (place_inside p h) inside × IsOpen (place_after p (extent h inside)) rest
 -- 8.1.4: a primitive that lacks contents octets
 IsOpen p (Partial h c) = IsEntry p false h × (length c < announced h.size)
--- 8.1.4: an element that holds others and has not ended: where what it holds is whole, and the length is
+-- 8.1.4: an element that holds others and has not ended: if what it holds is whole, and the length is
 -- definite, contents octets are lacking
 IsOpen p (Entered h inside) =
     (IsEntry p true h × (is_whole inside ≡ true → IfSome (definite_length h.size) (λ n. length (lead h) + length (spell inside) < n)))
-    × IsOpen (inside_of p h) inside
+    × IsOpen (place_inside p h) inside
 -- 8.6.2.2: a wrapping BIT STRING of which the header alone is there
 IsOpen p (Awaiting h) = IsEntry p true h × (lead h ≡ 0 ∷ [])
 -- the front of a header, or the first of the end-of-contents octets, inside the bound

@@ -1,9 +1,8 @@
-pub mod Answers
-pub mod Follows
-pub mod Forest
+pub mod ResultOfStop
+pub mod FollowsPiece
 pub mod FrameFields
-pub mod Machine
+pub mod WalkerState
 pub mod ReadsOn
 pub mod Stack
-pub mod State
-pub mod Tells
+pub mod Zipper
+pub mod Steps

@@ -4,7 +4,7 @@ use Rattle.tlv_head.specs.declared.header.Size.TheVariants.{Definite}
 use Rattle.tlv_head.specs.Header.{definite_length, octets_of}
 use Rattle.tlv_walk.specs.declared.framing.Framing.{Framing}
 use Rattle.tlv_walk.specs.Forest.{Forest, Stop, Fill, Whole, Closed, extent, has_element, lead, spell}
-use Rattle.tlv_walk.specs.Place.{IsHeadAt, IsOpen, Place, after, inside_of, top}
+use Rattle.tlv_walk.specs.Place.{IsHeadAt, IsOpen, Place, place_after, place_inside, top_place}
 
 -- p is a front of b
 abbrev pub IsPrefixOf : List ℕ → List ℕ → Type 0
@@ -12,25 +12,25 @@ IsPrefixOf p b = (rest : List ℕ) × (p ++ rest ≡ b)
 
 -- the reading of an input: the open forest that spells the longest front of it that any open forest spells
 pub record IsReading (framing : Framing) (b : List ℕ) (f : Forest) : Type 0 where
-  pub is_open : IsOpen (top framing) f
+  pub is_open : IsOpen (top_place framing) f
   pub front : (rest : List ℕ) × (spell f ++ rest ≡ b)
-  pub longest : (g : Forest) → IsOpen (top framing) g → (rest : List ℕ) × (spell g ++ rest ≡ b) → length (spell g) ≤ length (spell f)
+  pub longest : (g : Forest) → IsOpen (top_place framing) g → (rest : List ℕ) × (spell g ++ rest ≡ b) → length (spell g) ≤ length (spell f)
 
 -- 8.1.1 to 8.1.5: nothing is open, each definite length is that of the contents, and no element is held by
--- more than 127 others; padding stands between the outermost elements alone
+-- more than 127 others; padding is between the outermost elements alone
 abbrev pub IsSound : Place → Forest → Type 0
 IsSound p Stop = Unit {0}
-IsSound p (Fill rest) = (p.padding ≡ true) × IsSound (after p 1) rest
+IsSound p (Fill rest) = (p.padding ≡ true) × IsSound (place_after p 1) rest
 IsSound p (Whole h c rest) =
-    IsHeadAt p false h × (h.size ≡ Definite (length c)) × IsSound (after p (length (octets_of h) + length c)) rest
+    IsHeadAt p false h × (h.size ≡ Definite (length c)) × IsSound (place_after p (length (octets_of h) + length c)) rest
 IsSound p (Closed h inside rest) =
     IsHeadAt p true h × IfSome (definite_length h.size) (λ n. length (lead h) + length (spell inside) ≡ n) × (p.depth < 128)
-    × IsSound (inside_of p h) inside × IsSound (after p (extent h inside)) rest
+    × IsSound (place_inside p h) inside × IsSound (place_after p (extent h inside)) rest
 IsSound p end = ⊥
 
--- the octets of one or more sound elements, with padding where the framing has it
+-- the octets of one or more sound elements, with padding if the framing has it
 pub record IsSoundList (framing : Framing) (b : List ℕ) : Type 0 where
   pub forest : Forest
-  pub sound : IsSound (top framing) forest
+  pub sound : IsSound (top_place framing) forest
   pub some : has_element forest ≡ true
   pub octets : spell forest ≡ b

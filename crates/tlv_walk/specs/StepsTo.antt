@@ -5,45 +5,45 @@ use Rattle.tlv_walk.specs.declared.event.Event.{Event}
 use Rattle.tlv_walk.specs.declared.event.Step.{Step}
 use Rattle.tlv_walk.specs.declared.event.Step.TheVariants as step
 use Rattle.tlv_walk.specs.Phase.{Failed}
-use Rattle.tlv_walk.specs.Events.{Told}
-use Rattle.tlv_walk.specs.Machine.{HasOctets, IsReady, IsTold, Machine}
-use Rattle.tlv_walk.specs.State.{NothingWaits, Stands}
-use Rattle.tlv_walk.specs.Tells.{StandsRefused, told_of}
+use Rattle.tlv_walk.specs.Events.{EventValue}
+use Rattle.tlv_walk.specs.WalkerState.{CanTake, HasOctets, IsAfterEvent, WalkerState}
+use Rattle.tlv_walk.specs.Stands.{IsIdle, Stands}
+use Rattle.tlv_walk.specs.HasRead.{StandsRefused, event_value}
 
 -- octets were taken from the front of a piece, or none, and the walker stands for them and for one event more
-pub record ReportsEvent (old new : Machine) (before after : List ℕ) (e : Event) : Type 0 where
+pub record YieldsNext (old new : WalkerState) (before after : List ℕ) (e : Event) : Type 0 where
   pub not_failed : (g : Fault) → old.phase ≢ Failed g
   pub taken : List ℕ
   pub piece : before ≡ taken ++ after
-  pub stands : (b : List ℕ) (told : List Told) → Stands old b told → Stands new (b ++ taken) (told ++ told_of e ∷ [])
+  pub stands : (b : List ℕ) (past : List EventValue) → Stands old b past → Stands new (b ++ taken) (past ++ event_value e ∷ [])
   -- parts of contents and of padding are not empty
   pub has_octets : HasOctets e
   pub framing : new.framing ≡ old.framing
   pub offset : new.offset ≡ old.offset + length taken
   pub events : new.events ≡ old.events + 1
   pub fewer : new.events ≤ new.offset
-  pub phase : IsTold new.phase
+  pub phase : IsAfterEvent new.phase
 
 -- all octets of a piece were taken, and no event is to come before the next octet
-pub record UsesUpPiece (old new : Machine) (before after : List ℕ) : Type 0 where
+pub record UsesUpPiece (old new : WalkerState) (before after : List ℕ) : Type 0 where
   pub not_failed : (g : Fault) → old.phase ≢ Failed g
   pub none_left : after ≡ []
-  pub stands : (b : List ℕ) (told : List Told) → Stands old b told → Stands new (b ++ before) told
-  pub nothing_waits : NothingWaits new
-  pub ready : IsReady new
+  pub stands : (b : List ℕ) (past : List EventValue) → Stands old b past → Stands new (b ++ before) past
+  pub idle : IsIdle new
+  pub ready : CanTake new
   pub framing : new.framing ≡ old.framing
   pub offset : new.offset ≡ old.offset + length before
   pub events : new.events ≡ old.events
 
 -- octets were taken from the front of a piece, or none, and the next one is refused: no element ends with it
-pub record RefusesNext (old new : Machine) (before after : List ℕ) (f : Fault) : Type 0 where
+pub record RefusesNext (old new : WalkerState) (before after : List ℕ) (f : Fault) : Type 0 where
   pub not_failed : (g : Fault) → old.phase ≢ Failed g
   pub taken : List ℕ
   pub octet : ℕ
   pub rest : List ℕ
   pub before_is : before ≡ taken ++ octet ∷ rest
   pub after_is : after ≡ octet ∷ rest
-  pub stands : (b : List ℕ) (told : List Told) → Stands old b told → StandsRefused new (b ++ taken) octet told f
+  pub stands : (b : List ℕ) (past : List EventValue) → Stands old b past → StandsRefused new (b ++ taken) octet past f
   pub phase : new.phase ≡ Failed f
   pub framing : new.framing ≡ old.framing
   pub offset : new.offset ≡ old.offset + length taken
@@ -52,13 +52,13 @@ pub record RefusesNext (old new : Machine) (before after : List ℕ) (f : Fault)
   pub wrappers : new.wrappers ≡ old.wrappers
 
 -- an octet was refused before: the same fault again, and nothing has changed
-pub record RefusesAgain (old new : Machine) (before after : List ℕ) (f : Fault) : Type 0 where
+pub record RefusesAgain (old new : WalkerState) (before after : List ℕ) (f : Fault) : Type 0 where
   pub failed : old.phase ≡ Failed f
   pub same : new ≡ old
   pub piece : after ≡ before
 
 -- what a step makes of a walker and of the front of a piece
-abbrev pub StepsTo : Machine → Machine → List ℕ → List ℕ → Step → Type 0
-StepsTo old new before after (step.Event e) = ReportsEvent old new before after e
+abbrev pub StepsTo : WalkerState → WalkerState → List ℕ → List ℕ → Step → Type 0
+StepsTo old new before after (step.Event e) = YieldsNext old new before after e
 StepsTo old new before after step.NeedMore = UsesUpPiece old new before after
 StepsTo old new before after (step.Fault f) = RefusesNext old new before after f ⊎ RefusesAgain old new before after f

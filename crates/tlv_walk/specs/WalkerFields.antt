@@ -1,13 +1,13 @@
 -- What the fields of a `Walker` say.
-use Rattle.tlv_head.specs.Progress.{Progress}
-use Rattle.tlv_walk.specs.Machine.{Machine}
+use Rattle.tlv_head.specs.HeadReaderState.{HeadReaderState}
+use Rattle.tlv_walk.specs.WalkerState.{WalkerState}
 use Rattle.tlv_walk.specs.Phase.{Phase, Between, InHeader, InContents, BeforeUnused, InEnd, Failed}
 use Rattle.tlv_walk.specs.declared.walker.Phase.{Phase as Kept}
 use Rattle.tlv_walk.specs.declared.walker.Phase.TheVariants as kept
 use Rattle.tlv_walk.specs.declared.walker.Walker.TheInside.{Inside}
 
 -- the reader is that of the header that has begun, if one has
-abbrev pub phase_of : Kept → Progress → Phase
+abbrev pub phase_of : Kept → HeadReaderState → Phase
 phase_of kept.Between reader = Between
 phase_of kept.InHeader reader = InHeader reader
 phase_of (kept.InContents left) reader = InContents left
@@ -15,8 +15,8 @@ phase_of kept.BeforeUnused reader = BeforeUnused
 phase_of kept.InEnd reader = InEnd
 phase_of (kept.Failed fault) reader = Failed fault
 
-abbrev pub machine_of : Inside → Machine
-machine_of w = record {
+abbrev pub walker_state_of : Inside → WalkerState
+walker_state_of w = record {
   stack = w.stack;
   phase = phase_of w.phase w.reader;
   offset = w.offset;

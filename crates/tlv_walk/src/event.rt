@@ -1,7 +1,7 @@
-//! What a walk tells.
+//! The events of a walk.
 use tlv_head::{Fault, Header};
 
-/// What a walk tells, in the order of the octets.
+/// An event of a walk. Events come in the order of the octets.
 #[derive(Clone, PartialEq, Eq, Debug, Drop)]
 pub enum Event<'a> {
     /// The header of a constructed element.

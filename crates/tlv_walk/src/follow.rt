@@ -1,8 +1,8 @@
 //! What follows a walk.
-ghost use Rattle.tlv_walk.specs.Events.{Bytes, Pad, Told};
-ghost use Rattle.tlv_walk.specs.Follow.{Following, GoesOn, IsFollowed, IsFollowedOrLeft, IsWhole, Joins, Rests, followed, put_or_left, whole_events};
+ghost use Rattle.tlv_walk.specs.Events.{Bytes, EventValue, Pad};
+ghost use Rattle.tlv_walk.specs.Follow.{Effect, GoesOn, HasEffect, HasEffectOrNone, IsWhole, Joins, Rests, effect_of, put_if_followed, whole_events};
 ghost use Rattle.tlv_io.specs.Out.{Puts};
-ghost use Rattle.tlv_walk.specs.Tells.{told_of};
+ghost use Rattle.tlv_walk.specs.HasRead.{event_value};
 
 use crate::{Drain, Event, Out, WriteFault};
 use tlv_head::Header;
@@ -21,21 +21,21 @@ pub enum Go {
 /// does shows into which pieces the octets of an input were cut (`laws::pieces_do_not_show`).
 pub trait Follow {
     /// What the follower makes of an event.
-    ghost next: { Self → Told → Following Self };
+    ghost next: { Self → EventValue → Effect Self };
 
     /// Follows the next event.
     ///
     /// # Errors
     ///
-    /// `WriteFault` exactly where the drain's failures rose in the call. The drain then has a prefix
+    /// `WriteFault` exactly if the drain's failures rose in the call. The drain then has a prefix
     /// of what was put before and what was to be put now.
     fn on<D: Drain>(&mut self, event: &Event<'_>, out: &mut Out<'_, D>) -> Result<Go, WriteFault>
-        ensures puts { Puts D.told out.old out.new (next self.old (told_of event.now)).put result }
-        ensures state { IsFollowed (next self.old (told_of event.now)) self.new result };
+        ensures puts { Puts D.state out.old out.new (next self.old (event_value event.now)).put result }
+        ensures state { HasEffect (next self.old (event_value event.now)) self.new result };
 
     /// Follows a primitive of which all octets are at hand, header and contents: its header, its contents and its end, one after
-    /// another, and wants more behind each. Returns whether it did. It may always leave them to [`Follow::on`]: then nothing was
-    /// put, and nothing changed.
+    /// another, and wants more after each. Returns whether it did. It may always leave them to [`Follow::on`]: then
+    /// nothing was put, and nothing changed.
     ///
     /// # Errors
     ///
@@ -48,9 +48,9 @@ pub trait Follow {
         out: &mut Out<'_, D>,
     ) -> Result<bool, WriteFault>
         requires whole { IsWhole header.now octets.now }
-        ensures puts { Puts D.told out.old out.new
-            (put_or_left result (followed next self.old (whole_events header.now octets.now)).put) result }
-        ensures state { IsFollowedOrLeft (followed next self.old (whole_events header.now octets.now)) self.old self.new result }
+        ensures puts { Puts D.state out.old out.new
+            (put_if_followed result (effect_of next self.old (whole_events header.now octets.now)).put) result }
+        ensures state { HasEffectOrNone (effect_of next self.old (whole_events header.now octets.now)) self.old self.new result }
     {
         Ok(false)
     }

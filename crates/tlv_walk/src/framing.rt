@@ -36,7 +36,7 @@ impl Inside {
     ghost use Rattle.std.specs.Prelude.{◌≡◌, IfNone, IfSome, [], slice_get};
     ghost use Rattle.tlv_walk.specs.Inside.{CanName, is_among};
 
-    /// The offsets, where there are at most 16, each larger than the one before and at most 2^40;
+    /// The offsets, if there are at most 16, each larger than the one before and at most 2^40;
     /// otherwise nothing. There may be none.
     pub fn new(offsets: &[u64]) -> Option<Inside>
         ensures named { IfSome result (λ inside. inside ≡ offsets.now) }

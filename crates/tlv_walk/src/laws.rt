@@ -4,19 +4,11 @@ ghost use Rattle.std.specs.Prelude.{◌≡◌, ◌↔◌, ℕ, List, true};
 ghost use Rattle.tlv_walk.specs.declared.ending.Ending.TheVariants.{Done};
 ghost use Rattle.tlv_walk.specs.declared.framing.Framing.{Framing};
 ghost use Rattle.tlv_walk.specs.Ending.{IsEnding};
-ghost use Rattle.tlv_walk.specs.Events.{AreEqualJoined, Told, apart};
-ghost use Rattle.tlv_walk.specs.Follow.{followed};
+ghost use Rattle.tlv_walk.specs.Events.{AreEqualJoined, EventValue, single_octets};
+ghost use Rattle.tlv_walk.specs.Follow.{effect_of};
 ghost use Rattle.tlv_walk.specs.Forest.{Forest, is_whole};
-ghost use Rattle.tlv_walk.specs.Laws.{
-  EventsGoOn,
-  FaultsAreFinal,
-  FaultsAreRight,
-  FrontsAreOpen,
-  OctetsHaveOneEnding,
-  OctetsHaveOneReading,
-  SpellingsAreExact,
-};
-ghost use Rattle.tlv_walk.specs.Place.{IsOpen, top};
+ghost use Rattle.tlv_walk.specs.Laws.{EventsGoOn, FaultsAreFinal, FaultsAreRight, FrontsAreOpen, OctetsHaveOneEnding, OctetsHaveOneReading, SpellingsAreExact};
+ghost use Rattle.tlv_walk.specs.Place.{IsOpen, top_place};
 ghost use Rattle.tlv_walk.specs.Reading.{IsSound, IsSoundList};
 
 use crate::Follow;
@@ -48,7 +40,7 @@ pub fn faults_are_final()
     ensures { FaultsAreFinal }
 {}
 
-/// No false alarm: with whatever an input goes on behind a fault other than F01 and F02, it is no sound
+/// No false alarm: with whatever an input goes on after a fault other than F01 and F02, it is no sound
 /// list of encodings.
 pub fn faults_are_right()
     ensures { FaultsAreRight }
@@ -59,25 +51,25 @@ pub fn done_is_sound()
     ensures { (framing : Framing) (b : List ℕ) → IsEnding framing b Done ↔ IsSoundList framing b }
 {}
 
-/// What has been told stays true: the events of a longer input are those of the shorter, and then others,
+/// What has been yielded stays true: the events of a longer input are those of the shorter, and then others,
 /// however contents octets and padding are cut into pieces.
 pub fn events_go_on()
     ensures { EventsGoOn }
 {}
 
-/// Events are equal joined where they are equal with contents and padding cut into single octets.
+/// Events are equal joined if they are equal with contents and padding cut into single octets.
 pub fn joined_is_apart()
-    ensures { (xs ys : List Told) → AreEqualJoined xs ys ↔ (apart xs ≡ apart ys) }
+    ensures { (xs ys : List EventValue) → AreEqualJoined xs ys ↔ (single_octets xs ≡ single_octets ys) }
 {}
 
 /// A sound list is an open forest in which nothing is open.
 pub fn sound_is_whole()
     ensures { (framing : Framing) (f : Forest)
-        → IsSound (top framing) f ↔ (IsOpen (top framing) f × (is_whole f ≡ true)) }
+        → IsSound (top_place framing) f ↔ (IsOpen (top_place framing) f × (is_whole f ≡ true)) }
 {}
 
 /// Nothing that a follower does shows how contents and padding were cut into pieces: of events that
 /// are equal joined it makes the same state and the same octets.
 pub fn pieces_do_not_show<F: Follow>(_follower: &F)
-    ensures { (s : F) (xs ys : List Told) → AreEqualJoined xs ys → followed F.next s xs ≡ followed F.next s ys }
+    ensures { (s : F) (xs ys : List EventValue) → AreEqualJoined xs ys → effect_of F.next s xs ≡ effect_of F.next s ys }
 {}

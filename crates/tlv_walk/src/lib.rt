@@ -1,8 +1,8 @@
 //! A walk over BER, CER and DER encodings (ITU-T X.690): in whatever pieces the octets come, what is
-//! told is what a recursive grammar of identifier, length and contents octets gives.
+//! yielded is what a recursive grammar of identifier, length and contents octets gives.
 #![tactic(auto)]
 
-mod driving;
+mod drive_call;
 mod ending;
 mod event;
 mod follow;
@@ -10,10 +10,10 @@ mod framing;
 pub mod laws;
 mod run;
 mod stack;
-mod turning;
+mod one_turn;
 mod walker;
 
-pub use driving::{drive, drive_up_to};
+pub use drive_call::{drive, drive_up_to};
 pub use ending::Ending;
 pub use event::{Event, Step};
 pub use follow::{Follow, Go};
@@ -22,5 +22,5 @@ pub use run::{DeviceFault, INPUT_LIMIT, Run, Turn};
 pub use tlv_io::{
     Drain, Held, MemDrain, MemSource, Out, ReadFault, ReadSource, Source, WriteDrain, WriteFault,
 };
-pub use turning::turn;
+pub use one_turn::turn;
 pub use walker::Walker;

@@ -8,7 +8,7 @@ pub const INPUT_LIMIT: u64 = 1 << 40;
 /// What a walk came to.
 #[derive(Clone, Copy, Debug, PartialEq, Eq)]
 pub struct Run {
-    /// Done where the follower had enough; otherwise what the input comes to.
+    /// Done if the follower had enough; otherwise what the input comes to.
     pub ending: Ending,
     /// How many octets were walked over: those before a fault, or up to the last event followed.
     pub octets: u64,

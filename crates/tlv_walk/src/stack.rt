@@ -87,7 +87,7 @@ impl Stack {
         });
     }
 
-    /// Closes the innermost element, and answers whether it wraps encodings.
+    /// Closes the innermost element, and returns whether it wraps encodings.
     pub fn pop(&mut self) -> Option<bool>
         ensures value { result ≡ wraps_of self.old }
         ensures rest { self.new ≡ drop 1 self.old }

@@ -29,7 +29,7 @@ enum Phase {
     Failed(Fault),
 }
 
-/// Takes the octets of an input in whatever pieces they come, and answers event after event. It
+/// Takes the octets of an input in whatever pieces they come, and yields event after event. It
 /// holds a frame for each open element, and no contents.
 #[derive(Drop)]
 pub struct Walker {
@@ -47,37 +47,37 @@ pub struct Walker {
 }
 
 impl Model for Walker {
-    ghost use Rattle.tlv_walk.specs.Machine.{Machine};
+    ghost use Rattle.tlv_walk.specs.WalkerState.{WalkerState};
 
-    ghost Value = { Machine };
+    ghost Value = { WalkerState };
 
-    ghost use Rattle.tlv_walk.specs.WalkerFields.{machine_of};
-    ghost use Rattle.tlv_walk.specs.Machine.{IsMachine};
+    ghost use Rattle.tlv_walk.specs.WalkerFields.{walker_state_of};
+    ghost use Rattle.tlv_walk.specs.WalkerState.{IsWalkerState};
 
-    ghost view = { machine_of };
+    ghost view = { walker_state_of };
 
-    ghost invariant = { λ w. IsMachine (machine_of w) };
+    ghost invariant = { λ w. IsWalkerState (walker_state_of w) };
 }
 
 impl Walker {
     ghost use Rattle.std.specs.Prelude.{List, [], false};
     ghost use Rattle.tlv_walk.specs.Phase as phases;
-    ghost use Rattle.tlv_walk.specs.Machine.{new_machine, unused_in};
-    ghost use Rattle.tlv_walk.specs.Private.Machine.{IsWaiting, Steps, fault_at};
+    ghost use Rattle.tlv_walk.specs.WalkerState.{first_unused_in, new_walker};
+    ghost use Rattle.tlv_walk.specs.Private.WalkerState.{EventWaits, Steps, fault_at};
     ghost use Rattle.tlv_head.specs.declared.fault.Fault.{Fault as FaultOf};
     ghost use Rattle.tlv_walk.specs.Ending.{IsEnding};
-    ghost use Rattle.tlv_walk.specs.Events.{Told};
+    ghost use Rattle.tlv_walk.specs.Events.{EventValue};
     ghost use Rattle.tlv_walk.specs.Forest.{Forest};
     ghost use Rattle.tlv_walk.specs.OpenCount.{open_count};
-    ghost use Rattle.tlv_walk.specs.State.{NothingWaits, Stands};
-    ghost use Rattle.tlv_walk.specs.Wrappers.{unused_of};
+    ghost use Rattle.tlv_walk.specs.Stands.{IsIdle, Stands};
+    ghost use Rattle.tlv_walk.specs.Wrappers.{first_unused};
     ghost use Rattle.tlv_walk.specs.StepsTo.{RefusesAgain, StepsTo};
-    ghost use Rattle.tlv_walk.specs.Tells.{HasRead, StandsAtEnd};
-    ghost use Rattle.tlv_walk.specs.Private.Tells.{TellsStep};
+    ghost use Rattle.tlv_walk.specs.HasRead.{HasRead, StandsAtEnd};
+    ghost use Rattle.tlv_walk.specs.Private.Steps.{YieldsStep};
 
     /// A walker that has taken nothing.
     pub fn new(framing: &Framing) -> Walker
-        ensures machine { result ≡ new_machine framing.now }
+        ensures state { result ≡ new_walker framing.now }
         ensures stands { Stands result [] [] }
     {
         Walker {
@@ -97,7 +97,7 @@ impl Walker {
     pub fn depth(&self) -> u8
         ensures value { result ≡ length self.now.stack }
         ensures within { result ≤ 128 }
-        ensures open_elements { (b : List ℕ) (f : Forest) → HasRead self.now b f → NothingWaits self.now
+        ensures open_elements { (b : List ℕ) (f : Forest) → HasRead self.now b f → IsIdle self.now
             → result ≡ open_count f }
     {
         self.stack.len()
@@ -112,7 +112,7 @@ impl Walker {
         self.offset
     }
 
-    /// How many events were answered: no more than octets were taken.
+    /// How many events were yielded: no more than octets were taken.
     pub fn events(&self) -> u64
         ensures value { result ≡ self.now.events }
         ensures within { result ≤ self.now.offset }
@@ -122,23 +122,23 @@ impl Walker {
 
     /// The first of the named offsets at which no string was found whose contents are encodings.
     pub fn unused(&self) -> Option<u64>
-        ensures value { result ≡ unused_in self.now }
+        ensures value { result ≡ first_unused_in self.now }
         ensures first { (b : List ℕ) (f : Forest) → HasRead self.now b f
-            → result ≡ unused_of self.now.framing.inside f }
+            → result ≡ first_unused self.now.framing.inside f }
     {
         self.framing.inside.get(self.wrappers)
     }
 
     /// Whether an event is still to come that needs no further octet.
     pub fn waiting(&self) -> bool
-        ensures { (result ≡ false) ↔ NothingWaits self.now }
+        ensures { (result ≡ false) ↔ IsIdle self.now }
     {
         self.is_waiting()
     }
 
     /// Whether the phase and the stack say that an event waits.
     fn is_waiting(&self) -> bool
-        ensures { IsTrue result ↔ IsWaiting self.now }
+        ensures { IsTrue result ↔ EventWaits self.now }
     {
         match &self.phase {
             Phase::InContents(left) => *left == 0,
@@ -149,8 +149,8 @@ impl Walker {
 
     /// What the input comes to, if it ends here. After a fault it is that fault.
     pub fn finish(&self) -> Ending
-        requires { NothingWaits self.now }
-        ensures ending { (o : List ℕ) (told : List Told) (e : Ending) → StandsAtEnd self.now o told e
+        requires { IsIdle self.now }
+        ensures ending { (o : List ℕ) (past : List EventValue) (e : Ending) → StandsAtEnd self.now o past e
             → IsEnding self.now.framing o result }
         ensures failed { (f : FaultOf) → self.now.phase ≡ phases.Failed f → result ≡ Ending.Fault f }
     {
@@ -188,7 +188,7 @@ impl Walker {
 
     /// Takes octets from the front of `piece`, up to the next event.
     ///
-    /// `NeedMore` comes only with an empty piece and no event waiting. After a fault each step answers
+    /// `NeedMore` comes only with an empty piece and no event waiting. After a fault each step returns
     /// the same fault and takes nothing.
     #[inline(never)]
     pub fn step<'a>(&mut self, piece: &mut &'a [u8]) -> Step<'a>
@@ -202,7 +202,7 @@ impl Walker {
     fn take<'a>(&mut self, piece: &mut &'a [u8]) -> Step<'a>
         requires { self.old.offset + length piece.old.now ≤ 2 ^ 40 }
         ensures steps { Steps self.old self.new piece.old.now piece.new.now result }
-        ensures tells { TellsStep self.old self.new piece.old.now piece.new.now result }
+        ensures yields { YieldsStep self.old self.new piece.old.now piece.new.now result }
         ensures again { (f : FaultOf) → self.old.phase ≡ phases.Failed f
             → (result ≡ Step.Fault f) × RefusesAgain self.old self.new piece.old.now piece.new.now f }
     {

@@ -2,10 +2,10 @@
 use Rattle.std.proofs.Common.{◌≡◌, ℕ, List, [], ◌∷◌, ◌++◌, refl, ap, ◌∙◌}
 use Rattle.std.specs.Prelude.{Result, Ok, ⊤}
 use Rattle.tlv_walk.specs.declared.follow.Go.TheVariants.{On}
-use Rattle.tlv_walk.specs.Follow.{Following, each_octet}
+use Rattle.tlv_walk.specs.Follow.{Effect, each_octet}
 use Rattle.tlv_io.specs.declared.drain.WriteFault.{WriteFault}
 use Rattle.tlv_io.specs.declared.out.Out.{Out}
-use Rattle.tlv_io.specs.Device.{Taken}
+use Rattle.tlv_io.specs.Device.{DrainState}
 use Rattle.tlv_io.specs.Out.{Puts}
 use Rattle.tlv_io.proofs.Puts.{HasPut, puts_nothing}
 use Rattle.tlv_cut.specs.declared.extract_follower.Position.{Position}
@@ -24,7 +24,7 @@ wanted_octets-more (Inside level) x xs = refl
 wanted_octets-more After x xs = refl
 
 -- the octets are put, and the state stays
-abbrev pub put_step : ExtractState → List ℕ → Following ExtractState
+abbrev pub put_step : ExtractState → List ℕ → Effect ExtractState
 put_step s octets = record { state = s; put = octets; goes = On }
 
 -- octets that come one by one put the same as all at once
@@ -32,23 +32,23 @@ pub all_contents : (s : ExtractState) (xs : List ℕ)
     → each_octet octet_step s xs ≡ put_step s (wanted_octets s.position xs)
 all_contents s [] = ap (put_step s) (wanted_octets-none s.position)
 all_contents s (x ∷ xs) =
-    ap (λ (u : Following ExtractState). record u { put = wanted_octets s.position (x ∷ []) ++ u.put })
+    ap (λ (u : Effect ExtractState). record u { put = wanted_octets s.position (x ∷ []) ++ u.put })
     (all_contents s xs)
     ∙ ap (put_step s) (wanted_octets-more s.position x xs)
 
 module _ (s : ExtractState) (w : Position) (xs : List ℕ) (e : s.position ≡ w) where
   contents_put : (each_octet octet_step s xs).put ≡ wanted_octets w xs
   contents_put =
-      ap (λ (t : Following ExtractState). t.put) (all_contents s xs) ∙ ap (λ (w : Position). wanted_octets w xs) e
+      ap (λ (t : Effect ExtractState). t.put) (all_contents s xs) ∙ ap (λ (w : Position). wanted_octets w xs) e
 
   -- what is put of octets at this position
-  pub puts_contents : {D : Type 0} (state_of : D → Taken) (a b : Out D) (r : Result ⊤ WriteFault)
+  pub puts_contents : {D : Type 0} (state_of : D → DrainState) (a b : Out D) (r : Result ⊤ WriteFault)
       → Puts {T = ⊤} {E = WriteFault} state_of a b (wanted_octets w xs) r
       → Puts state_of a b (each_octet octet_step s xs).put r
   puts_contents state_of a b r p = rw (contents_put) p
 
 -- outside the element wanted nothing is put
-pub puts_none : (s : ExtractState) (w : Position) (xs : List ℕ) {D : Type 0} (state_of : D → Taken) (a : Out D)
+pub puts_none : (s : ExtractState) (w : Position) (xs : List ℕ) {D : Type 0} (state_of : D → DrainState) (a : Out D)
     → s.position ≡ w
     → ((level : ℕ) → w ≡ Inside level → ⊥) → HasPut state_of a a (each_octet octet_step s xs).put
 puts_none s Before xs state_of a e n = puts_contents s Before xs e state_of a a (Ok tt) (puts_nothing state_of a tt)

@@ -3,15 +3,15 @@ use Rattle.std.proofs.Common.{refl, sym, ap, ◌∙◌, subst, arith, append_ass
 use Rattle.std.specs.Prelude.{◌≡◌, ℕ, ◌≤◌, Bool, true, false, ◌==◌, if◌then◌else◌, List, [], ◌∷◌, ◌++◌}
 use Rattle.std.specs.Prelude.{Option, Some, None}
 use Rattle.std.specs.Option.{is_some, option_map_or, option_or}
-use Rattle.tlv_head.specs.Header.{Heading, octets_of}
+use Rattle.tlv_head.specs.Header.{HeaderValue, octets_of}
 use Rattle.tlv_head.specs.Private.Header.{AllowsSize}
 use Rattle.tlv_walk.specs.declared.follow.Go.TheVariants as go
-use Rattle.tlv_walk.specs.Events.{Told, Begin, Bytes, End, Enter, closes, events, opens}
-use Rattle.tlv_walk.specs.Follow.{Following, goes_of, stay}
+use Rattle.tlv_walk.specs.Events.{Begin, Bytes, End, Enter, EventValue, closing_event, events, opening_events}
+use Rattle.tlv_walk.specs.Follow.{Effect, goes_of, no_effect}
 use Rattle.tlv_walk.specs.Forest.{Forest, Stop, Fill, Whole, Closed, Partial, Entered, Awaiting, Begun, Zero}
 use Rattle.tlv_walk.specs.Forest.{end_octets, extent, is_whole, lead, opening}
-use Rattle.tlv_walk.specs.Place.{IsOpen, Place, after, inside_of}
-use Rattle.tlv_walk.proofs.Followed.{followed-enough, followed-one}
+use Rattle.tlv_walk.specs.Place.{IsOpen, Place, place_after, place_inside}
+use Rattle.tlv_walk.proofs.FollowerLemmas.Followed.{followed-enough, followed-one}
 use Rattle.tlv_cut.specs.declared.extract_follower.Position.TheVariants as position
 use Rattle.tlv_cut.specs.ExtractText.{element_at, element_text, octets_so_far}
 use Rattle.tlv_cut.specs.ExtractStep.{ExtractState, begin_step, extract_step, has_found, new_extract, outer_octets}
@@ -28,54 +28,54 @@ module _ (n : ℕ) (only : Bool) where
   abbrev pub after_element : ExtractState
   after_element = record before { position = position.After }
 
-  abbrev pub finish_step : List ℕ → Following ExtractState
+  abbrev pub finish_step : List ℕ → Effect ExtractState
   finish_step octets = record { state = after_element; put = octets; goes = go.Enough }
 
   -- ---- what is made, by the element at the offset
 
   -- what was made is the text of this element, if there is one
-  pub record IsTextOf (e : Option Forest) (t : Following ExtractState) : Type 0 where
+  pub record IsTextOf (e : Option Forest) (t : Effect ExtractState) : Type 0 where
     pub put : t.put ≡ option_map_or (element_text only) e []
     pub goes : t.goes ≡ goes_of (option_map_or is_whole e false)
     pub found : has_found t.state ≡ is_some e
-    pub misses : e ≡ None → t ≡ stay before
+    pub misses : e ≡ None → t ≡ no_effect before
 
   -- there is none
-  missed : (t : Following ExtractState) → t ≡ stay before → IsTextOf None t
+  missed : (t : Effect ExtractState) → t ≡ no_effect before → IsTextOf None t
   missed t e = record {
-    put = ap (λ (t : Following ExtractState). t.put) e;
-    goes = ap (λ (t : Following ExtractState). t.goes) e;
-    found = ap (λ (t : Following ExtractState). has_found t.state) e;
+    put = ap (λ (t : Effect ExtractState). t.put) e;
+    goes = ap (λ (t : Effect ExtractState). t.goes) e;
+    found = ap (λ (t : Effect ExtractState). has_found t.state) e;
     misses = λ _. e;
   }
 
   -- it has not ended
-  open_text : (e : Forest) (t : Following ExtractState) → is_whole e ≡ false → t.put ≡ element_text only e
+  open_text : (e : Forest) (t : Effect ExtractState) → is_whole e ≡ false → t.put ≡ element_text only e
       → t.goes ≡ go.On
       → has_found t.state ≡ true → IsTextOf (Some e) t
   open_text e t part octets on found =
       record { put = octets; goes = on ∙ sym (ap goes_of part); found = found; misses = λ none. absurd (cc (none)) }
 
   -- it has ended
-  whole_text : (e : Forest) (t : Following ExtractState) (octets : List ℕ) → is_whole e ≡ true
+  whole_text : (e : Forest) (t : Effect ExtractState) (octets : List ℕ) → is_whole e ≡ true
       → octets ≡ element_text only e → t ≡ finish_step octets
       → IsTextOf (Some e) t
   whole_text e t octets whole is made = record {
-    put = ap (λ (t : Following ExtractState). t.put) made ∙ is;
-    goes = ap (λ (t : Following ExtractState). t.goes) made ∙ sym (ap goes_of whole);
-    found = ap (λ (t : Following ExtractState). has_found t.state) made;
+    put = ap (λ (t : Effect ExtractState). t.put) made ∙ is;
+    goes = ap (λ (t : Effect ExtractState). t.goes) made ∙ sym (ap goes_of whole);
+    found = ap (λ (t : Effect ExtractState). has_found t.state) made;
     misses = λ none. absurd (cc (none));
   }
 
   -- one of two, by a test
-  choose : (k : Bool) (a b : Option Forest) (t : Following ExtractState) → (k ≡ true → IsTextOf a t)
+  choose : (k : Bool) (a b : Option Forest) (t : Effect ExtractState) → (k ≡ true → IsTextOf a t)
       → (k ≡ false → IsTextOf b t)
       → IsTextOf (if k then a else b) t
   choose true a b t f g = f refl
   choose false a b t f g = g refl
 
   -- the first that is there
-  first_there : (a b : Option Forest) (t : Following ExtractState) → ((e : Forest) → a ≡ Some e → IsTextOf a t)
+  first_there : (a b : Option Forest) (t : Effect ExtractState) → ((e : Forest) → a ≡ Some e → IsTextOf a t)
       → (a ≡ None → IsTextOf b t)
       → IsTextOf (option_or a b) t
   first_there (Some e) b t f g = f e refl
@@ -84,19 +84,19 @@ module _ (n : ℕ) (only : Bool) where
   -- ---- where an element begins
 
   -- by whether it is the one wanted
-  abbrev begins : Heading → Bool → Following ExtractState
+  abbrev begins : HeaderValue → Bool → Effect ExtractState
   begins h wanted =
-      if wanted then put_step (state_inside n only 0) (outer_octets only (octets_of h)) else stay before
+      if wanted then put_step (state_inside n only 0) (outer_octets only (octets_of h)) else no_effect before
 
-  wanted_begins : (h : Heading) → (h.offset == n) ≡ true
+  wanted_begins : (h : HeaderValue) → (h.offset == n) ≡ true
       → begin_step before h ≡ put_step (state_inside n only 0) (outer_octets only (octets_of h))
   wanted_begins h e = ap (begins h) e
 
-  other_begins : (h : Heading) → (h.offset == n) ≡ false → begin_step before h ≡ stay before
+  other_begins : (h : HeaderValue) → (h.offset == n) ≡ false → begin_step before h ≡ no_effect before
   other_begins h e = ap (begins h) e
 
   -- the element wanted, from its header to its end
-  made_from-whole : (h : Heading) (c : List ℕ) → (h.offset == n) ≡ true
+  made_from-whole : (h : HeaderValue) (c : List ℕ) → (h.offset == n) ≡ true
       → made_from before (Begin h ∷ Bytes c ∷ End ∷ [])
       ≡ finish_step ((outer_octets only (octets_of h) ++ c) ++ outer_octets only [])
   made_from-whole h c e =
@@ -104,32 +104,32 @@ module _ (n : ℕ) (only : Bool) where
       (End ∷ [])
       (made_from-begins before (state_inside n only 0) (outer_octets only (octets_of h)) h c (wanted_begins h e))
 
-  opens_wanted : (h : Heading) → (h.offset == n) ≡ true
-      → made_from before (opens h) ≡ put_step (state_inside n only 0) (outer_octets only (octets_of h) ++ lead h)
+  opens_wanted : (h : HeaderValue) → (h.offset == n) ≡ true
+      → made_from before (opening_events h) ≡ put_step (state_inside n only 0) (outer_octets only (octets_of h) ++ lead h)
   opens_wanted h e =
       made_from-opens before (state_inside n only 0) (outer_octets only (octets_of h)) h (wanted_begins h e)
 
-  opens_other : (h : Heading) (es : List Told) → (h.offset == n) ≡ false
-      → made_from before (opens h ++ es) ≡ made_from before es
-  opens_other h es e = then_more before before [] (opens h) es (made_from-opens before before [] h (other_begins h e))
+  opens_other : (h : HeaderValue) (es : List EventValue) → (h.offset == n) ≡ false
+      → made_from before (opening_events h ++ es) ≡ made_from before es
+  opens_other h es e = then_more before before [] (opening_events h) es (made_from-opens before before [] h (other_begins h e))
 
-  made_from-closed : (h : Heading) (inside : Forest) → (h.offset == n) ≡ true → AllowsSize h.constructed h.size
+  made_from-closed : (h : HeaderValue) (inside : Forest) → (h.offset == n) ≡ true → AllowsSize h.constructed h.size
       → is_whole inside ≡ true → IsPassedOn n only 0 inside
-      → made_from before (opens h ++ (events inside ++ closes h inside ∷ []))
+      → made_from before (opening_events h ++ (events inside ++ closing_event h inside ∷ []))
       ≡ finish_step ((outer_octets only (octets_of h) ++ lead h) ++
       (octets_so_far inside ++ outer_octets only (end_octets h.size)))
   made_from-closed h inside e allowed whole k =
-      then_more before (state_inside n only 0) (outer_octets only (octets_of h) ++ lead h) (opens h)
-      (events inside ++ closes h inside ∷ []) (opens_wanted h e)
-      ∙ ap (λ (t : Following ExtractState). record t { put = (outer_octets only (octets_of h) ++ lead h) ++ t.put })
+      then_more before (state_inside n only 0) (outer_octets only (octets_of h) ++ lead h) (opening_events h)
+      (events inside ++ closing_event h inside ∷ []) (opens_wanted h e)
+      ∙ ap (λ (t : Effect ExtractState). record t { put = (outer_octets only (octets_of h) ++ lead h) ++ t.put })
       (then_more (state_inside n only 0) (state_inside n only 0) (octets_so_far inside) (events inside)
-      (closes h inside ∷ []) (whole_inside_passed_on n only 0 inside whole k)
-      ∙ ap (λ (t : Following ExtractState). record t { put = octets_so_far inside ++ t.put })
+      (closing_event h inside ∷ []) (whole_inside_passed_on n only 0 inside whole k)
+      ∙ ap (λ (t : Effect ExtractState). record t { put = octets_so_far inside ++ t.put })
       (made_from-closes (state_inside n only 0) h inside allowed))
 
   -- ---- what is put
 
-  whole_octets : (h : Heading) (c : List ℕ)
+  whole_octets : (h : HeaderValue) (c : List ℕ)
       → (outer_octets only (octets_of h) ++ c) ++ outer_octets only [] ≡ element_text only (Whole h c Stop)
   whole_octets h c = by only
     where
@@ -137,7 +137,7 @@ module _ (n : ℕ) (only : Bool) where
       by true = append-nil c
       by false = append_assoc (octets_of h) c []
 
-  closed_octets : (h : Heading) (inside : Forest)
+  closed_octets : (h : HeaderValue) (inside : Forest)
       → (outer_octets only (octets_of h) ++ lead h) ++ (octets_so_far inside ++ outer_octets only (end_octets h.size))
       ≡ element_text only (Closed h inside Stop)
   closed_octets h inside = by only
@@ -148,14 +148,14 @@ module _ (n : ℕ) (only : Bool) where
       by true = ap (λ (l : List ℕ). lead h ++ l) (append-nil (octets_so_far inside))
       by false = ap (λ (l : List ℕ). opening h ++ (octets_so_far inside ++ l)) (sym (append-nil (end_octets h.size)))
 
-  partial_octets : (h : Heading) (c : List ℕ) → outer_octets only (octets_of h) ++ c ≡ element_text only (Partial h c)
+  partial_octets : (h : HeaderValue) (c : List ℕ) → outer_octets only (octets_of h) ++ c ≡ element_text only (Partial h c)
   partial_octets h c = by only
     where
       by : (k : Bool) → outer_octets k (octets_of h) ++ c ≡ element_text k (Partial h c)
       by true = refl
       by false = refl
 
-  entered_octets : (h : Heading) (inside : Forest)
+  entered_octets : (h : HeaderValue) (inside : Forest)
       → (outer_octets only (octets_of h) ++ lead h) ++ octets_so_far inside ≡ element_text only (Entered h inside)
   entered_octets h inside = by only
     where
@@ -164,7 +164,7 @@ module _ (n : ℕ) (only : Bool) where
       by true = refl
       by false = refl
 
-  awaiting_octets : (h : Heading) → outer_octets only (octets_of h) ≡ element_text only (Awaiting h)
+  awaiting_octets : (h : HeaderValue) → outer_octets only (octets_of h) ≡ element_text only (Awaiting h)
   awaiting_octets h = by only
     where
       by : (k : Bool) → outer_octets k (octets_of h) ≡ element_text k (Awaiting h)
@@ -188,14 +188,14 @@ module _ (n : ℕ) (only : Bool) where
   -- if all elements have ended, the one at the offset has
   whole_at : (p : Place) (f : Forest) → IsOpen p f → is_whole f ≡ true → AllWhole (element_at n f)
   whole_at p Stop v w = refl
-  whole_at p (Fill rest) v w = whole_at (after p 1) rest v.1 w
+  whole_at p (Fill rest) v w = whole_at (place_after p 1) rest v.1 w
   whole_at p (Whole h c rest) v w =
-      either (h.offset == n) (Some (Whole h c Stop)) (element_at n rest) refl (whole_at (after p _) rest v.1 w)
+      either (h.offset == n) (Some (Whole h c Stop)) (element_at n rest) refl (whole_at (place_after p _) rest v.1 w)
   whole_at p (Closed h inside rest) v w =
       let a = element_at n inside in
       let b = element_at n rest in
       either (h.offset == n) (Some (Closed h inside Stop)) (option_or a b) refl
-      (either_there a b (whole_at (inside_of p h) inside v.1 v.0.1) (whole_at (after p (extent h inside)) rest v.2 w))
+      (either_there a b (whole_at (place_inside p h) inside v.1 v.0.1) (whole_at (place_after p (extent h inside)) rest v.2 w))
   whole_at p (Partial h c) v w = absurd (cc (w))
   whole_at p (Entered h inside) v w = absurd (cc (w))
   whole_at p (Awaiting h) v w = absurd (cc (w))
@@ -208,12 +208,12 @@ module _ (n : ℕ) (only : Bool) where
   there_whole None e is w = absurd (cc (is))
 
   -- once there was enough, nothing is made of more events
-  enough : (es fs : List Told) (octets : List ℕ) → made_from before es ≡ finish_step octets
+  enough : (es fs : List EventValue) (octets : List ℕ) → made_from before es ≡ finish_step octets
       → made_from before (es ++ fs) ≡ finish_step octets
-  enough es fs octets e = followed-enough extract_step before es fs (ap (λ (t : Following ExtractState). t.goes) e) ∙ e
+  enough es fs octets e = followed-enough extract_step before es fs (ap (λ (t : Effect ExtractState). t.goes) e) ∙ e
 
   -- an element that holds others and is not the one wanted
-  passed_by : (p : Place) (h : Heading) (inside rest : Forest) → IsOpen p (Closed h inside rest)
+  passed_by : (p : Place) (h : HeaderValue) (inside rest : Forest) → IsOpen p (Closed h inside rest)
       → (h.offset == n) ≡ false
       → IsTextOf (element_at n inside) (made_from before (events inside))
       → IsTextOf (element_at n rest) (made_from before (events rest))
@@ -221,16 +221,16 @@ module _ (n : ℕ) (only : Bool) where
       (made_from before (events (Closed h inside rest)))
   passed_by p h inside rest v e i r =
       let t = made_from before (events (Closed h inside rest)) in
-      let opened = opens_other h (events inside ++ closes h inside ∷ events rest) e in
+      let opened = opens_other h (events inside ++ closing_event h inside ∷ events rest) e in
       first_there (element_at n inside) (element_at n rest) t
       (λ e is.
-      let whole = there_whole (element_at n inside) e is (whole_at (inside_of p h) inside v.1 v.0.1) in
+      let whole = there_whole (element_at n inside) e is (whole_at (place_inside p h) inside v.1 v.0.1) in
       let on = i.goes ∙ ap goes_of whole in
-      let same = opened ∙ followed-enough extract_step before (events inside) (closes h inside ∷ events rest) on in
+      let same = opened ∙ followed-enough extract_step before (events inside) (closing_event h inside ∷ events rest) on in
       subst (IsTextOf (element_at n inside)) (sym same) i)
       (λ none.
-      let same = opened ∙ then_more before before [] (events inside) (closes h inside ∷ events rest) (i.misses none)
-      ∙ then_more before before [] (closes h inside ∷ []) (events rest)
+      let same = opened ∙ then_more before before [] (events inside) (closing_event h inside ∷ events rest) (i.misses none)
+      ∙ then_more before before [] (closing_event h inside ∷ []) (events rest)
       (made_from-closes before h inside v.0.0.header.valid.allowed) in
       subst (IsTextOf (element_at n rest)) (sym same) r)
 
@@ -238,7 +238,7 @@ module _ (n : ℕ) (only : Bool) where
   pub makes_text : (p : Place) (f : Forest) → IsOpen p f → p.depth ≤ 128
       → IsTextOf (element_at n f) (made_from before (events f))
   makes_text p Stop v deep = missed (made_from before []) refl
-  makes_text p (Fill rest) v deep = makes_text (after p 1) rest v.1 deep
+  makes_text p (Fill rest) v deep = makes_text (place_after p 1) rest v.1 deep
   makes_text p (Whole h c rest) v deep =
       let es = Begin h ∷ Bytes c ∷ End ∷ [] in
       choose (h.offset == n) (Some (Whole h c Stop)) (element_at n rest) (made_from before (es ++ events rest))
@@ -246,50 +246,50 @@ module _ (n : ℕ) (only : Bool) where
       (λ e. subst (IsTextOf (element_at n rest))
       (sym (then_more before before [] (Begin h ∷ Bytes c ∷ []) (End ∷ events rest)
       (made_from-begins before before [] h c (other_begins h e))))
-      (makes_text (after p _) rest v.1 deep))
+      (makes_text (place_after p _) rest v.1 deep))
   makes_text p (Closed h inside rest) v deep =
-      let es = opens h ++ (events inside ++ closes h inside ∷ []) in
+      let es = opening_events h ++ (events inside ++ closing_event h inside ∷ []) in
       choose (h.offset == n) (Some (Closed h inside Stop)) (option_or (element_at n inside) (element_at n rest))
       (made_from before (events (Closed h inside rest)))
       (λ e.
-      let k = passed_on n only (inside_of p h) 0 inside v.1 (omega arith) (omega (arith, (v.0.0.depth refl))) in
+      let k = passed_on n only (place_inside p h) 0 inside v.1 (omega arith) (omega (arith, (v.0.0.depth refl))) in
       let all = enough es (events rest) _ (made_from-closed h inside e v.0.0.header.valid.allowed v.0.1 k) in
       whole_text (Closed h inside Stop) _ _ refl (closed_octets h inside)
       (ap (made_from before) (events-closed h inside rest) ∙ all))
-      (λ e. passed_by p h inside rest v e (makes_text (inside_of p h) inside v.1 (omega (arith, (v.0.0.depth refl))))
-      (makes_text (after p (extent h inside)) rest v.2 deep))
+      (λ e. passed_by p h inside rest v e (makes_text (place_inside p h) inside v.1 (omega (arith, (v.0.0.depth refl))))
+      (makes_text (place_after p (extent h inside)) rest v.2 deep))
   makes_text p (Partial h c) v deep =
       let es = Begin h ∷ Bytes c ∷ [] in
       choose (h.offset == n) (Some (Partial h c)) None (made_from before es)
       (λ e.
       let all =
       made_from-begins before (state_inside n only 0) (outer_octets only (octets_of h)) h c (wanted_begins h e) in
-      open_text (Partial h c) _ refl (ap (λ (t : Following ExtractState). t.put) all ∙ partial_octets h c)
-      (ap (λ (t : Following ExtractState). t.goes) all)
-      (ap (λ (t : Following ExtractState). has_found t.state) all))
+      open_text (Partial h c) _ refl (ap (λ (t : Effect ExtractState). t.put) all ∙ partial_octets h c)
+      (ap (λ (t : Effect ExtractState). t.goes) all)
+      (ap (λ (t : Effect ExtractState). has_found t.state) all))
       (λ e. missed _ (made_from-begins before before [] h c (other_begins h e)))
   makes_text p (Entered h inside) v deep =
       choose (h.offset == n) (Some (Entered h inside)) (element_at n inside)
-      (made_from before (opens h ++ events inside))
+      (made_from before (opening_events h ++ events inside))
       (λ e.
-      let k = passed_on n only (inside_of p h) 0 inside v.1 (omega arith) (omega (arith, (v.0.0.depth refl))) in
+      let k = passed_on n only (place_inside p h) 0 inside v.1 (omega arith) (omega (arith, (v.0.0.depth refl))) in
       let all =
-      then_more before (state_inside n only 0) (outer_octets only (octets_of h) ++ lead h) (opens h)
+      then_more before (state_inside n only 0) (outer_octets only (octets_of h) ++ lead h) (opening_events h)
       (events inside) (opens_wanted h e) in
       open_text (Entered h inside) _ refl
-      (ap (λ (t : Following ExtractState). t.put) all
+      (ap (λ (t : Effect ExtractState). t.put) all
       ∙ ap (λ (l : List ℕ). (outer_octets only (octets_of h) ++ lead h) ++ l) k.put ∙ entered_octets h inside)
-      (ap (λ (t : Following ExtractState). t.goes) all ∙ k.goes)
-      (ap (λ (t : Following ExtractState). has_found t.state) all ∙ k.found))
+      (ap (λ (t : Effect ExtractState). t.goes) all ∙ k.goes)
+      (ap (λ (t : Effect ExtractState). has_found t.state) all ∙ k.found))
       (λ e. subst (IsTextOf (element_at n inside)) (sym (opens_other h (events inside) e))
-      (makes_text (inside_of p h) inside v.1 (omega (arith, (v.0.0.depth refl)))))
+      (makes_text (place_inside p h) inside v.1 (omega (arith, (v.0.0.depth refl)))))
   makes_text p (Awaiting h) v deep =
       choose (h.offset == n) (Some (Awaiting h)) None (made_from before (Enter h ∷ []))
       (λ e.
       let all = followed-one extract_step before (Enter h) ∙ wanted_begins h e in
-      open_text (Awaiting h) _ refl (ap (λ (t : Following ExtractState). t.put) all ∙ awaiting_octets h)
-      (ap (λ (t : Following ExtractState). t.goes) all)
-      (ap (λ (t : Following ExtractState). has_found t.state) all))
+      open_text (Awaiting h) _ refl (ap (λ (t : Effect ExtractState). t.put) all ∙ awaiting_octets h)
+      (ap (λ (t : Effect ExtractState). t.goes) all)
+      (ap (λ (t : Effect ExtractState). has_found t.state) all))
       (λ e. missed _ (followed-one extract_step before (Enter h) ∙ other_begins h e))
   makes_text p (Begun octets) v deep = missed (made_from before []) refl
   makes_text p Zero v deep = missed (made_from before []) refl

@@ -4,11 +4,11 @@ use Rattle.std.specs.Prelude.{◌≡◌, ℕ, ◌+◌, Bool, true, false, ◌==�
 use Rattle.std.specs.Prelude.{length, Option, Some, None}
 use Rattle.std.specs.Option.{option_or}
 use Rattle.std.proofs.lemmas.Bool.{eqb-true, true≢false}
-use Rattle.tlv_head.specs.Header.{Heading, IsHeading, octets_of}
+use Rattle.tlv_head.specs.Header.{HeaderValue, IsHeader, octets_of}
 use Rattle.tlv_walk.specs.Forest.{Forest, Stop, Fill, Whole, Closed, Partial, Entered, Awaiting, Begun, Zero}
 use Rattle.tlv_walk.specs.Forest.{end_octets, extent, is_whole, lead, opening, spell}
-use Rattle.tlv_walk.specs.Place.{IsHeadAt, IsOpen, Place, after, inside_of}
-use Rattle.tlv_walk.proofs.Spellings.{append_assoc-3, append_assoc-4}
+use Rattle.tlv_walk.specs.Place.{IsHeadAt, IsOpen, Place, place_after, place_inside}
+use Rattle.tlv_walk.proofs.GrammarLemmas.Spellings.{append_assoc-3, append_assoc-4}
 use Rattle.tlv_cut.specs.ExtractText.{contents_so_far, element_at, octets_so_far}
 
 -- ---- the octets so far of elements
@@ -35,19 +35,19 @@ octets_so_far-front p (Fill rest) plain v = absurd (true≢false (sym v.0.0 ∙ 
 octets_so_far-front p (Whole h c rest) plain v =
     front_of_rest (Whole h c rest) rest (octets_of h ++ c) (sym (append_assoc (octets_of h) c (spell rest)))
     (sym (append_assoc (octets_of h) c (octets_so_far rest))) refl
-    (octets_so_far-front (after p _) rest plain v.1)
+    (octets_so_far-front (place_after p _) rest plain v.1)
 octets_so_far-front p (Closed h inside rest) plain v =
-    let i = octets_so_far-front (inside_of p h) inside refl v.1 in
+    let i = octets_so_far-front (place_inside p h) inside refl v.1 in
     let e = end_octets h.size in
     front_of_rest (Closed h inside rest) rest (opening h ++ (spell inside ++ e))
     (sym (append_assoc-3 (opening h) (spell inside) e (spell rest)))
     (ap (λ (k : List ℕ). opening h ++ (k ++ (e ++ octets_so_far rest))) (sym (i.all v.0.1))
     ∙ sym (append_assoc-3 (opening h) (spell inside) e (octets_so_far rest))) refl
-    (octets_so_far-front (after p (extent h inside)) rest plain v.2)
+    (octets_so_far-front (place_after p (extent h inside)) rest plain v.2)
 octets_so_far-front p (Partial h c) plain v =
     record { rest = []; octets = sym (append-nil (octets_of h ++ c)); all = λ w. refl }
 octets_so_far-front p (Entered h inside) plain v =
-    let i = octets_so_far-front (inside_of p h) inside refl v.1 in
+    let i = octets_so_far-front (place_inside p h) inside refl v.1 in
     record {
       rest = i.rest;
       octets = ap (λ (l : List ℕ). opening h ++ l) i.octets
@@ -68,14 +68,14 @@ module _ (n : ℕ) where
     pub rest : List ℕ
     pub octets : spell f ≡ front ++ (octets_so_far e ++ rest)
     pub place : p.at + length front ≡ n
-    pub head : Heading
-    pub valid : IsHeading head
+    pub head : HeaderValue
+    pub valid : IsHeader head
     pub offset : head.offset ≡ n
     pub parts : octets_so_far e
         ≡ octets_of head ++ (contents_so_far e ++ (if is_whole e then end_octets head.size else []))
 
   -- it is the first of the forest
-  first : (p : Place) (k : Bool) (h : Heading) (f e : Forest) (rest : List ℕ) → IsHeadAt p k h
+  first : (p : Place) (k : Bool) (h : HeaderValue) (f e : Forest) (rest : List ℕ) → IsHeadAt p k h
       → (h.offset == n) ≡ true → spell f ≡ octets_so_far e ++ rest
       → octets_so_far e ≡ octets_of h ++ (contents_so_far e ++ (if is_whole e then end_octets h.size else []))
       → IsFoundIn p f e
@@ -130,7 +130,7 @@ module _ (n : ℕ) where
   in_rest p q f rest e o all at r =
       further p q f rest e o [] (all ∙ ap (λ (l : List ℕ). o ++ l) (sym (append-nil (spell rest)))) at r
 
-  closed_parts : (h : Heading) (inside : Forest)
+  closed_parts : (h : HeaderValue) (inside : Forest)
       → octets_so_far (Closed h inside Stop)
       ≡ octets_of h ++ (contents_so_far (Closed h inside Stop) ++ end_octets h.size)
   closed_parts h inside =
@@ -142,7 +142,7 @@ module _ (n : ℕ) where
   pub find : (p : Place) (f : Forest) → IsOpen p f → (e : Forest) → element_at n f ≡ Some e → IsFoundIn p f e
   find p Stop v d some = none p Stop d some
   find p (Fill rest) v d some =
-      in_rest p (after p 1) (Fill rest) rest d (0 ∷ []) refl refl (find (after p 1) rest v.1 d some)
+      in_rest p (place_after p 1) (Fill rest) rest d (0 ∷ []) refl refl (find (place_after p 1) rest v.1 d some)
   find p (Whole h c rest) v d some =
       let f = Whole h c rest in
       choose p f (h.offset == n) (Whole h c Stop) (element_at n rest) d
@@ -151,14 +151,14 @@ module _ (n : ℕ) where
       (sym (append_assoc-3 (octets_of h) c [] (spell rest)))
       (ap (λ (l : List ℕ). octets_of h ++ (c ++ l)) (sym (ap end_octets v.0.1))))
       (λ _ some.
-      in_rest p (after p _) f rest d (octets_of h ++ c) (sym (append_assoc (octets_of h) c (spell rest)))
+      in_rest p (place_after p _) f rest d (octets_of h ++ c) (sym (append_assoc (octets_of h) c (spell rest)))
       (omega (arith, length-append (octets_of h) c))
-      (find (after p _) rest v.1 d some))
+      (find (place_after p _) rest v.1 d some))
       some
   find p (Closed h inside rest) v d some =
       let f = Closed h inside rest in
       let e = end_octets h.size in
-      let i = octets_so_far-front (inside_of p h) inside refl v.1 in
+      let i = octets_so_far-front (place_inside p h) inside refl v.1 in
       choose p f (h.offset == n) (Closed h inside Stop) (option_or (element_at n inside) (element_at n rest)) d
       (λ is.
       first p true h f (Closed h inside Stop) (spell rest) v.0.0.header is
@@ -167,13 +167,13 @@ module _ (n : ℕ) where
       (closed_parts h inside))
       (λ _ some.
       first_there p f (element_at n inside) (element_at n rest) d
-      (λ some. further p (inside_of p h) f inside d (opening h) (e ++ spell rest) refl refl
-      (find (inside_of p h) inside v.1 d some))
+      (λ some. further p (place_inside p h) f inside d (opening h) (e ++ spell rest) refl refl
+      (find (place_inside p h) inside v.1 d some))
       (λ some.
-      in_rest p (after p (extent h inside)) f rest d (opening h ++ (spell inside ++ e))
+      in_rest p (place_after p (extent h inside)) f rest d (opening h ++ (spell inside ++ e))
       (sym (append_assoc-3 (opening h) (spell inside) e (spell rest)))
       (omega (arith, length-append (opening h) (spell inside ++ e), length-append (spell inside) e))
-      (find (after p (extent h inside)) rest v.2 d some))
+      (find (place_after p (extent h inside)) rest v.2 d some))
       some)
       some
   find p (Partial h c) v d some =
@@ -185,14 +185,14 @@ module _ (n : ℕ) where
       some
   find p (Entered h inside) v d some =
       let f = Entered h inside in
-      let i = octets_so_far-front (inside_of p h) inside refl v.1 in
+      let i = octets_so_far-front (place_inside p h) inside refl v.1 in
       choose p f (h.offset == n) f (element_at n inside) d
       (λ is.
       first p true h f f i.rest v.0.0.header is
       (ap (λ (l : List ℕ). opening h ++ l) i.octets ∙ sym (append_assoc (opening h) (octets_so_far inside) i.rest))
       (append_assoc (octets_of h) (lead h) (octets_so_far inside)
       ∙ ap (λ (l : List ℕ). octets_of h ++ l) (sym (append-nil (lead h ++ octets_so_far inside)))))
-      (λ _ some. in_rest p (inside_of p h) f inside d (opening h) refl refl (find (inside_of p h) inside v.1 d some))
+      (λ _ some. in_rest p (place_inside p h) f inside d (opening h) refl refl (find (place_inside p h) inside v.1 d some))
       some
   find p (Awaiting h) v d some =
       choose p (Awaiting h) (h.offset == n) (Awaiting h) None d

@@ -5,15 +5,15 @@ use Rattle.tlv_walk.specs.declared.ending.Ending.{Ending}
 use Rattle.tlv_walk.specs.declared.framing.Framing.{Framing}
 use Rattle.tlv_walk.specs.declared.run.DeviceFault.{DeviceFault}
 use Rattle.tlv_walk.specs.declared.run.Run.{Run}
-use Rattle.tlv_io.specs.Device.{Supply, Taken}
-use Rattle.tlv_walk.specs.Drives.{Drives, had_enough}
+use Rattle.tlv_io.specs.Device.{DrainState, SourceState}
+use Rattle.tlv_walk.specs.DriveJob.{Drives, had_enough}
 use Rattle.tlv_walk.specs.Events.{events}
 use Rattle.tlv_walk.specs.Follow.{followed_events, goes_of}
 use Rattle.tlv_walk.specs.Forest.{Forest}
 use Rattle.tlv_walk.specs.Job.{Runs}
-use Rattle.tlv_walk.specs.Place.{top}
+use Rattle.tlv_walk.specs.Place.{top_place}
 use Rattle.tlv_walk.specs.Reading.{IsReading}
-use Rattle.tlv_walk.proofs.Jobs as jobs
+use Rattle.tlv_walk.proofs.FollowerLemmas.Jobs as jobs
 use Rattle.tlv_cut.specs.declared.extract_call.Cut.{Cut}
 use Rattle.tlv_cut.specs.ExtractText.{extract_text, element_at, has_element_at, has_whole_element_at}
 use Rattle.tlv_cut.specs.ExtractStep.{ExtractState, extract_step, has_found, new_extract}
@@ -27,11 +27,11 @@ goes_alike true false e = absurd (cc (e))
 goes_alike false true e = absurd (cc (e))
 goes_alike false false e = refl
 
-module _ (framing : Framing) (n : ℕ) (only : Bool) (t : ExtractState) (old new : Supply) (from to : Taken) where
+module _ (framing : Framing) (n : ℕ) (only : Bool) (t : ExtractState) (old new : SourceState) (from to : DrainState) where
   -- what is put for a reading is what `extract` writes
   made_text : (octets : List ℕ) (f : Forest) → IsReading framing octets f
       → IsTextOf n only (element_at n f) (made_from (new_extract n only) (events f))
-  made_text octets f r = makes_text n only (top framing) f r.is_open (omega arith)
+  made_text octets f r = makes_text n only (top_place framing) f r.is_open (omega arith)
 
   text : (octets : List ℕ) (f : Forest) → length octets ≤ 2 ^ 40 → IsReading framing octets f
       → (made_from (new_extract n only) (events f)).put ≡ extract_text n only f

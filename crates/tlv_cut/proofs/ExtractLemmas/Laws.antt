@@ -2,14 +2,14 @@
 use Rattle.std.proofs.Common.{◌≡◌, ℕ, Bool, true, false, ◌==◌, if◌then◌else◌, List, [], ◌++◌, refl, sym, ap, ◌∙◌, arith}
 use Rattle.std.specs.Prelude.{Option, Some, None}
 use Rattle.std.specs.Option.{is_some, option_map_or}
-use Rattle.tlv_head.specs.Header.{Heading, octets_of}
+use Rattle.tlv_head.specs.Header.{HeaderValue, octets_of}
 use Rattle.tlv_walk.specs.declared.follow.Go.TheVariants as go
 use Rattle.tlv_walk.specs.Events.{Open, Begin, Bytes, End, Close, Enter, Unused, Leave, Pad}
-use Rattle.tlv_walk.specs.Follow.{stay}
+use Rattle.tlv_walk.specs.Follow.{no_effect}
 use Rattle.tlv_walk.specs.Forest.{Forest, end_octets, is_whole}
-use Rattle.tlv_walk.specs.Place.{top}
-use Rattle.tlv_walk.proofs.Followed.{each_octet-goes_on}
-use Rattle.tlv_walk.proofs.Spellings.{append_assoc-3}
+use Rattle.tlv_walk.specs.Place.{top_place}
+use Rattle.tlv_walk.proofs.FollowerLemmas.Followed.{each_octet-goes_on}
+use Rattle.tlv_walk.proofs.GrammarLemmas.Spellings.{append_assoc-3}
 use Rattle.tlv_cut.specs.declared.extract_follower.Position.{Position}
 use Rattle.tlv_cut.specs.declared.extract_follower.Position.TheVariants as position
 use Rattle.tlv_cut.specs.ExtractText.{contents_so_far, element_at, extract_text, octets_so_far}
@@ -26,7 +26,7 @@ the_some None some = absurd (cc (some))
 pub extract_text_is_in_the_input : ExtractTextIsInTheInput
 extract_text_is_in_the_input framing b f r n some =
     let there = the_some (element_at n f) some in
-    let e = find n (top framing) f r.is_open there.0 there.1 in
+    let e = find n (top_place framing) f r.is_open there.0 there.1 in
     let written : extract_text n false f ≡ octets_so_far there.0 =
     ap (λ (o : Option Forest). option_map_or octets_so_far o []) there.1 in
     record {
@@ -48,7 +48,7 @@ extract_text_is_in_the_input framing b f r n some =
 
 pub extract_makes_its_text : ExtractMakesItsText
 extract_makes_its_text framing b f r n only =
-    let c = makes_text n only (top framing) f r.is_open (omega arith) in
+    let c = makes_text n only (top_place framing) f r.is_open (omega arith) in
     record { put = c.put; goes = c.goes; found = c.found }
 
 -- ---- there is enough at the end of an element alone
@@ -56,7 +56,7 @@ extract_makes_its_text framing b f r n only =
 on_is_not : {A : Type 0} → go.On ≡ go.Enough → A
 on_is_not e = absurd (cc (e))
 
-begin_goes_on : (n : ℕ) (only : Bool) (w : Position) (h : Heading)
+begin_goes_on : (n : ℕ) (only : Bool) (w : Position) (h : HeaderValue)
     → (begin_step (record { offset = n; contents_only = only; position = w }) h).goes ≡ go.On
 begin_goes_on n only position.Before h = by (h.offset == n)
   where
@@ -64,13 +64,13 @@ begin_goes_on n only position.Before h = by (h.offset == n)
     s = record { offset = n; contents_only = only; position = position.Before }
 
     by : (k : Bool)
-        → (if k then step_to s (position.Inside 0) (outer_octets only (octets_of h)) go.On else stay s).goes ≡ go.On
+        → (if k then step_to s (position.Inside 0) (outer_octets only (octets_of h)) go.On else no_effect s).goes ≡ go.On
     by true = refl
     by false = refl
 begin_goes_on n only (position.Inside level) h = refl
 begin_goes_on n only position.After h = refl
 
-begin_step-goes_on : (s : ExtractState) (h : Heading) → (begin_step s h).goes ≡ go.On
+begin_step-goes_on : (s : ExtractState) (h : HeaderValue) → (begin_step s h).goes ≡ go.On
 begin_step-goes_on s h = begin_goes_on s.offset s.contents_only s.position h
 
 pub enough_comes_at_ends : EnoughComesAtEnds

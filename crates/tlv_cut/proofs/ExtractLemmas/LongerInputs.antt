@@ -1,19 +1,19 @@
 -- What `extract` writes for a longer input begins with what it writes for the shorter.
 use Rattle.std.proofs.Common.{◌≡◌, ℕ, Bool, true, List, [], ◌∷◌, ◌++◌, suc, zero, refl, sym, ap, ◌∙◌, arith}
 use Rattle.std.specs.Prelude.{Some, None}
-use Rattle.tlv_head.specs.Header.{Heading}
+use Rattle.tlv_head.specs.Header.{HeaderValue}
 use Rattle.tlv_walk.specs.declared.follow.Go.{Go}
 use Rattle.tlv_walk.specs.declared.follow.Go.TheVariants as go
 use Rattle.tlv_walk.specs.declared.framing.Framing.{Framing}
-use Rattle.tlv_walk.specs.Events.{AreEqualJoined, Told, Open, Begin, Bytes, End, Close, Enter, Unused, Leave}
+use Rattle.tlv_walk.specs.Events.{AreEqualJoined, Begin, Bytes, Close, End, Enter, EventValue, Leave, Open, Unused}
 use Rattle.tlv_walk.specs.Events.{Pad, events}
-use Rattle.tlv_walk.specs.Follow.{Following, goes_of, if_on}
+use Rattle.tlv_walk.specs.Follow.{Effect, goes_of, if_on}
 use Rattle.tlv_walk.specs.Forest.{Forest}
-use Rattle.tlv_walk.specs.Place.{top}
+use Rattle.tlv_walk.specs.Place.{top_place}
 use Rattle.tlv_walk.specs.Reading.{IsPrefixOf, IsReading}
-use Rattle.tlv_walk.proofs.Followed.{each_octet-goes_on, each_octet-joins, followed-alike, followed-append}
-use Rattle.tlv_walk.proofs.Followed.{followed-enough, followed-front}
-use Rattle.tlv_walk.proofs.Prefixes.{events-prefix}
+use Rattle.tlv_walk.proofs.FollowerLemmas.Followed.{each_octet-goes_on, each_octet-joins, followed-alike, followed-append}
+use Rattle.tlv_walk.proofs.FollowerLemmas.Followed.{followed-enough, followed-front}
+use Rattle.tlv_walk.proofs.EventLemmas.Prefixes.{events-prefix}
 use Rattle.tlv_cut.specs.declared.extract_follower.Position.{Position}
 use Rattle.tlv_cut.specs.declared.extract_follower.Position.TheVariants as position
 use Rattle.tlv_cut.specs.ExtractText.{extract_text, element_at, has_element_at, has_whole_element_at}
@@ -30,13 +30,13 @@ use Rattle.tlv_cut.proofs.ExtractLemmas.Job.{goes_alike}
 abbrev at : ℕ → Bool → Position → ExtractState
 at n only w = record { offset = n; contents_only = only; position = w }
 
-begin_found : (n : ℕ) (only : Bool) (w : Position) (h : Heading) → has_found (at n only w) ≡ true
+begin_found : (n : ℕ) (only : Bool) (w : Position) (h : HeaderValue) → has_found (at n only w) ≡ true
     → has_found (begin_step (at n only w) h).state ≡ true
 begin_found n only position.Before h b = absurd (cc (b))
 begin_found n only (position.Inside level) h b = refl
 begin_found n only position.After h b = refl
 
-begin_step-found : (s : ExtractState) (h : Heading) → has_found s ≡ true → has_found (begin_step s h).state ≡ true
+begin_step-found : (s : ExtractState) (h : HeaderValue) → has_found s ≡ true → has_found (begin_step s h).state ≡ true
 begin_step-found s h b = begin_found s.offset s.contents_only s.position h b
 
 end_found : (n : ℕ) (only : Bool) (w : Position) (octets : List ℕ) → has_found (at n only w) ≡ true
@@ -49,12 +49,12 @@ end_found n only position.After octets b = refl
 end_step-found : (s : ExtractState) (octets : List ℕ) → has_found s ≡ true → has_found (end_step s octets).state ≡ true
 end_step-found s octets b = end_found s.offset s.contents_only s.position octets b
 
-extract_step-found : (s : ExtractState) (e : Told) → has_found s ≡ true → has_found (extract_step s e).state ≡ true
+extract_step-found : (s : ExtractState) (e : EventValue) → has_found s ≡ true → has_found (extract_step s e).state ≡ true
 extract_step-found s (Open h) b = begin_step-found s h b
 extract_step-found s (Begin h) b = begin_step-found s h b
 extract_step-found s (Enter h) b = begin_step-found s h b
 extract_step-found s (Bytes octets) b =
-    ap (λ (t : Following ExtractState). has_found t.state) (all_contents s octets) ∙ b
+    ap (λ (t : Effect ExtractState). has_found t.state) (all_contents s octets) ∙ b
 extract_step-found s Unused b = b
 extract_step-found s (Close None) b = end_step-found s [] b
 extract_step-found s (Close (Some at)) b = end_step-found s (0 ∷ 0 ∷ []) b
@@ -62,24 +62,24 @@ extract_step-found s End b = end_step-found s [] b
 extract_step-found s Leave b = end_step-found s [] b
 extract_step-found s (Pad octets) b = b
 
-if_on-found : (g : Go) (t : Following ExtractState) (f : ExtractState → Following ExtractState)
+if_on-found : (g : Go) (t : Effect ExtractState) (f : ExtractState → Effect ExtractState)
     → has_found t.state ≡ true
     → has_found (f t.state).state ≡ true → has_found (if_on g t f).state ≡ true
 if_on-found go.On t f b d = d
 if_on-found go.Enough t f b d = b
 
-made_from-found : (s : ExtractState) (es : List Told) → has_found s ≡ true → has_found (made_from s es).state ≡ true
+made_from-found : (s : ExtractState) (es : List EventValue) → has_found s ≡ true → has_found (made_from s es).state ≡ true
 made_from-found s [] b = b
 made_from-found s (e ∷ es) b =
     let t = extract_step s e in
     if_on-found t.goes t (λ u. made_from u es) (extract_step-found s e b)
     (made_from-found t.state es (extract_step-found s e b))
 
-made_from-found_more : (s : ExtractState) (es fs : List Told) → has_found (made_from s es).state ≡ true
+made_from-found_more : (s : ExtractState) (es fs : List EventValue) → has_found (made_from s es).state ≡ true
     → has_found (made_from s (es ++ fs)).state ≡ true
 made_from-found_more s es fs b =
     let t = made_from s es in
-    ap (λ (t : Following ExtractState). has_found t.state) (followed-append extract_step s es fs)
+    ap (λ (t : Effect ExtractState). has_found t.state) (followed-append extract_step s es fs)
     ∙ if_on-found t.goes t (λ u. made_from u fs) b (made_from-found t.state fs b)
 
 -- ---- inputs
@@ -87,7 +87,7 @@ made_from-found_more s es fs b =
 module _ (framing : Framing) (b c : List ℕ) (f g : Forest) (r : IsReading framing b f)
     (s : IsReading framing (b ++ c) g) (n : ℕ) (only : Bool) where
   -- the events after those of the shorter input
-  others : (es : List Told) × AreEqualJoined (events g) (events f ++ es)
+  others : (es : List EventValue) × AreEqualJoined (events g) (events f ++ es)
   others = events-prefix framing b c f g r s
 
   -- after them the same is made as of the events of the longer input
@@ -98,22 +98,22 @@ module _ (framing : Framing) (b c : List ℕ) (f g : Forest) (r : IsReading fram
       (new_extract n only) (events g) (events f ++ others.0) others.1
 
   short_text : IsTextOf n only (element_at n f) (made_from (new_extract n only) (events f))
-  short_text = makes_text n only (top framing) f r.is_open (omega arith)
+  short_text = makes_text n only (top_place framing) f r.is_open (omega arith)
 
   long_text : IsTextOf n only (element_at n g) (made_from (new_extract n only) (events g))
-  long_text = makes_text n only (top framing) g s.is_open (omega arith)
+  long_text = makes_text n only (top_place framing) g s.is_open (omega arith)
 
   pub extract_text_goes_on : IsPrefixOf (extract_text n only f) (extract_text n only g)
   extract_text_goes_on =
       let front = followed-front extract_step (new_extract n only) (events f) others.0 in (
         front.0,
-        sym (sym long_text.put ∙ ap (λ (t : Following ExtractState). t.put) longer ∙ front.1
+        sym (sym long_text.put ∙ ap (λ (t : Effect ExtractState). t.put) longer ∙ front.1
             ∙ ap (λ (l : List ℕ). l ++ front.0) short_text.put),
       )
 
   pub found_elements_stay : has_element_at n f ≡ true → has_element_at n g ≡ true
   found_elements_stay e =
-      sym long_text.found ∙ ap (λ (t : Following ExtractState). has_found t.state) longer
+      sym long_text.found ∙ ap (λ (t : Effect ExtractState). has_found t.state) longer
       ∙ made_from-found_more (new_extract n only) (events f) others.0 (short_text.found ∙ e)
 
   same : has_whole_element_at n f ≡ true
@@ -122,13 +122,13 @@ module _ (framing : Framing) (b c : List ℕ) (f g : Forest) (r : IsReading fram
       ∙ followed-enough extract_step (new_extract n only) (events f) others.0 (short_text.goes ∙ ap goes_of e)
 
   pub same_extract_text : has_whole_element_at n f ≡ true → extract_text n only g ≡ extract_text n only f
-  same_extract_text e = sym long_text.put ∙ ap (λ (t : Following ExtractState). t.put) (same e) ∙ short_text.put
+  same_extract_text e = sym long_text.put ∙ ap (λ (t : Effect ExtractState). t.put) (same e) ∙ short_text.put
 
   pub same_found : has_whole_element_at n f ≡ true → has_element_at n g ≡ has_element_at n f
   same_found e =
-      sym long_text.found ∙ ap (λ (t : Following ExtractState). has_found t.state) (same e) ∙ short_text.found
+      sym long_text.found ∙ ap (λ (t : Effect ExtractState). has_found t.state) (same e) ∙ short_text.found
 
   pub same_whole : has_whole_element_at n f ≡ true → has_whole_element_at n g ≡ has_whole_element_at n f
   same_whole e =
       goes_alike (has_whole_element_at n g) (has_whole_element_at n f)
-      (sym long_text.goes ∙ ap (λ (t : Following ExtractState). t.goes) (same e) ∙ short_text.goes)
+      (sym long_text.goes ∙ ap (λ (t : Effect ExtractState). t.goes) (same e) ∙ short_text.goes)

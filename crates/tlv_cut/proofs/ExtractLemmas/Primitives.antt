@@ -2,15 +2,15 @@
 use Rattle.std.proofs.Common.{◌≡◌, ◌≤◌, ℕ, List, [], ◌∷◌, ◌++◌, refl, sym, ap, ◌∙◌, subst}
 use Rattle.std.specs.Prelude.{Bool, true, false, not, ◌==◌, if◌then◌else◌, Result, Ok, Err, IsErr, ⊤}
 use mathlib.Core.Bool.{true≢false}
-use Rattle.tlv_head.specs.Header.{Heading, octets_of}
+use Rattle.tlv_head.specs.Header.{HeaderValue, octets_of}
 use Rattle.tlv_io.specs.declared.drain.WriteFault.{WriteFault}
 use Rattle.tlv_walk.specs.declared.follow.Go.TheVariants.{On}
 use Rattle.tlv_io.specs.declared.out.Out.{Out}
-use Rattle.tlv_io.specs.Device.{Taken}
+use Rattle.tlv_io.specs.Device.{DrainState}
 use Rattle.tlv_walk.specs.Events.{Begin, Bytes, End}
-use Rattle.tlv_walk.specs.Follow.{Following, IsFollowedOrLeft, contents_in, put_or_left, stay, whole_events}
+use Rattle.tlv_walk.specs.Follow.{Effect, HasEffectOrNone, contents_in, no_effect, put_if_followed, whole_events}
 use Rattle.tlv_io.specs.Out.{Puts}
-use Rattle.tlv_walk.proofs.Followed.{followed-one}
+use Rattle.tlv_walk.proofs.FollowerLemmas.Followed.{followed-one}
 use Rattle.tlv_io.proofs.Puts.{HasPut, puts_as, puts_failed_last, puts_nothing, puts_text}
 use Rattle.tlv_cut.specs.declared.extract_follower.Position.{Position}
 use Rattle.tlv_cut.specs.declared.extract_follower.Position.TheVariants.{Before, Inside, After}
@@ -19,7 +19,7 @@ use Rattle.tlv_cut.specs.ExtractStep.{wanted_octets}
 use Rattle.tlv_cut.proofs.ExtractLemmas.Contents.{put_step}
 use Rattle.tlv_cut.proofs.ExtractLemmas.Inside.{made_from, made_from-begins, then_more, primitive_passed_on}
 
-module _ (s : ExtractState) (h : Heading) (o : List ℕ) where
+module _ (s : ExtractState) (h : HeaderValue) (o : List ℕ) where
   abbrev c : List ℕ
   c = contents_in h o
 
@@ -27,7 +27,7 @@ module _ (s : ExtractState) (h : Heading) (o : List ℕ) where
   abbrev at : Position → ExtractState
   at w = record s { position = w }
 
-  abbrev made : Following ExtractState
+  abbrev made : Effect ExtractState
   made = made_from s (whole_events h o)
 
   -- an element that the one wanted holds
@@ -42,26 +42,26 @@ module _ (s : ExtractState) (h : Heading) (o : List ℕ) where
       ∙ ap (put_step s) all
 
   -- an element of which nothing is put
-  passed_by : begin_step s h ≡ stay s → wanted_octets s.position c ≡ [] → end_step s [] ≡ stay s → made ≡ stay s
+  passed_by : begin_step s h ≡ no_effect s → wanted_octets s.position c ≡ [] → end_step s [] ≡ no_effect s → made ≡ no_effect s
   passed_by b none n =
       then_more s s [] (Begin h ∷ Bytes c ∷ []) (End ∷ []) (made_from-begins s s [] h c b ∙ ap (put_step s) none)
       ∙ followed-one extract_step s End
       ∙ n
 
-  pub whole_after : s.position ≡ After → made ≡ stay s
+  pub whole_after : s.position ≡ After → made ≡ no_effect s
   whole_after e =
-      passed_by (subst (λ (w : Position). begin_step (at w) h ≡ stay (at w)) (sym e) refl)
+      passed_by (subst (λ (w : Position). begin_step (at w) h ≡ no_effect (at w)) (sym e) refl)
       (subst (λ (w : Position). wanted_octets w c ≡ []) (sym e) refl)
-      (subst (λ (w : Position). end_step (at w) [] ≡ stay (at w)) (sym e) refl)
+      (subst (λ (w : Position). end_step (at w) [] ≡ no_effect (at w)) (sym e) refl)
 
-  pub whole_before : s.position ≡ Before → (h.offset == s.offset) ≡ false → made ≡ stay s
+  pub whole_before : s.position ≡ Before → (h.offset == s.offset) ≡ false → made ≡ no_effect s
   whole_before e other =
       passed_by
-      (subst (λ (w : Position). begin_step (at w) h ≡ stay (at w)) (sym e)
+      (subst (λ (w : Position). begin_step (at w) h ≡ no_effect (at w)) (sym e)
       (ap (λ (k : Bool). if k then step_to (at Before) (Inside 0)
-      (outer_octets s.contents_only (octets_of h)) On else stay (at Before)) other))
+      (outer_octets s.contents_only (octets_of h)) On else no_effect (at Before)) other))
       (subst (λ (w : Position). wanted_octets w c ≡ []) (sym e) refl)
-      (subst (λ (w : Position). end_step (at w) [] ≡ stay (at w)) (sym e) refl)
+      (subst (λ (w : Position). end_step (at w) [] ≡ no_effect (at w)) (sym e) refl)
 
 not_true : (b : Bool) → not b ≡ true → b ≡ false
 not_true false e = refl
@@ -72,33 +72,33 @@ differ m n i j e f t = rw (e, f) (not_true (i == j) t)
 
 -- ---- what is put by a call that may leave the events to other calls, and its state
 
-module _ {S D : Type 0} (state_of : D → Taken) (a b : Out D) where
-  pub whole_put : (m : Following S) (xs : List ℕ) → HasPut state_of a b xs → xs ≡ m.put
-      → Puts {T = Bool} {E = WriteFault} state_of a b (put_or_left {E = WriteFault} (Ok true) m.put) (Ok true)
+module _ {S D : Type 0} (state_of : D → DrainState) (a b : Out D) where
+  pub whole_put : (m : Effect S) (xs : List ℕ) → HasPut state_of a b xs → xs ≡ m.put
+      → Puts {T = Bool} {E = WriteFault} state_of a b (put_if_followed {E = WriteFault} (Ok true) m.put) (Ok true)
   whole_put m xs p e = puts_as state_of a b xs m.put tt true p e
 
-  pub whole_failed : (m : Following S) (xs : List ℕ) (e : WriteFault) (r : Result Bool WriteFault)
+  pub whole_failed : (m : Effect S) (xs : List ℕ) (e : WriteFault) (r : Result Bool WriteFault)
       → Puts {T = ⊤} {E = WriteFault} state_of a b xs (Err e) → IsErr r
-      → xs ≡ m.put → Puts state_of a b (put_or_left r m.put) r
+      → xs ≡ m.put → Puts state_of a b (put_if_followed r m.put) r
   whole_failed m xs e (Ok x) p h z = absurd (true≢false (sym h))
   whole_failed m xs e (Err f) p h z =
       puts_text state_of a b xs m.put (Err f) z (puts_failed_last state_of a b xs e (Err f) p h)
 
-pub no_put : {S D : Type 0} (state_of : D → Taken) (a : Out D) (s : S) (m : Following S) (x : Bool)
-    → (x ≡ true → m ≡ stay s)
-    → Puts {T = Bool} {E = WriteFault} state_of a a (put_or_left {E = WriteFault} (Ok x) m.put) (Ok x)
+pub no_put : {S D : Type 0} (state_of : D → DrainState) (a : Out D) (s : S) (m : Effect S) (x : Bool)
+    → (x ≡ true → m ≡ no_effect s)
+    → Puts {T = Bool} {E = WriteFault} state_of a a (put_if_followed {E = WriteFault} (Ok x) m.put) (Ok x)
 no_put {S = S} state_of a s m false e = puts_nothing state_of a false
 no_put {S = S} state_of a s m true e =
-    puts_text state_of a a [] m.put (Ok true) (sym (ap (λ (t : Following S). t.put) (e refl)))
+    puts_text state_of a a [] m.put (Ok true) (sym (ap (λ (t : Effect S). t.put) (e refl)))
     (puts_nothing state_of a true)
 
-pub no_step : {S : Type 0} (s : S) (m : Following S) (x : Bool) → (x ≡ true → m ≡ stay s)
-    → IsFollowedOrLeft {E = WriteFault} m s s (Ok x)
+pub no_step : {S : Type 0} (s : S) (m : Effect S) (x : Bool) → (x ≡ true → m ≡ no_effect s)
+    → HasEffectOrNone {E = WriteFault} m s s (Ok x)
 no_step {S = S} s m false e = refl
 no_step {S = S} s m true e =
-    (sym (ap (λ (t : Following S). t.state) (e refl)), ap (λ (t : Following S). t.goes) (e refl))
+    (sym (ap (λ (t : Effect S). t.state) (e refl)), ap (λ (t : Effect S). t.goes) (e refl))
 
-pub whole_step : (s : ExtractState) (m : Following ExtractState) (xs : List ℕ) → m ≡ put_step s xs
-    → IsFollowedOrLeft {E = WriteFault} m s s (Ok true)
+pub whole_step : (s : ExtractState) (m : Effect ExtractState) (xs : List ℕ) → m ≡ put_step s xs
+    → HasEffectOrNone {E = WriteFault} m s s (Ok true)
 whole_step s m xs e =
-    (sym (ap (λ (t : Following ExtractState). t.state) e), ap (λ (t : Following ExtractState). t.goes) e)
+    (sym (ap (λ (t : Effect ExtractState). t.state) e), ap (λ (t : Effect ExtractState). t.goes) e)

@@ -3,10 +3,10 @@ use Rattle.std.proofs.Common.{refl, sym, ap, ap₂, ◌∙◌, append_assoc, app
 use Rattle.std.specs.Prelude.{◌≡◌, ℕ, ◌+◌, Bool, true, false, eqb, if◌then◌else◌, List, [], ◌∷◌, ◌++◌, length}
 use Rattle.std.specs.Prelude.{map, Option}
 use Rattle.std.proofs.lemmas.Grind.{flat_map-append}
-use Rattle.tlv_head.specs.Header.{Heading, indefinite_octets, octets_of}
+use Rattle.tlv_head.specs.Header.{HeaderValue, indefinite_octets, octets_of}
 use Rattle.tlv_walk.specs.declared.follow.Go.TheVariants.{On}
-use Rattle.tlv_walk.specs.Events.{Told, Open, Close, Enter, Unused, Leave, closes, end_offset, events, opens}
-use Rattle.tlv_walk.specs.Follow.{Following, followed}
+use Rattle.tlv_walk.specs.Events.{Close, Enter, EventValue, Leave, Open, Unused, closing_event, end_offset, events, opening_events}
+use Rattle.tlv_walk.specs.Follow.{Effect, effect_of}
 use Rattle.tlv_walk.specs.Forest.{Forest, Stop, Fill, Whole, Closed, Partial, Entered, Awaiting, Begun, Zero}
 use Rattle.tlv_walk.specs.Forest.{lead, opening, spell}
 use Rattle.tlv_cut.specs.IndefText.{indef_text, indefinite_header, with_indefinite_lengths}
@@ -14,30 +14,30 @@ use Rattle.tlv_cut.specs.IndefStep.{IndefState, indef_event_text, indef_step}
 use Rattle.tlv_cut.proofs.Lead.{lead_by}
 
 -- the octets that are put for events
-abbrev pub events_text : List Told → List ℕ
+abbrev pub events_text : List EventValue → List ℕ
 events_text es = flat_map indef_event_text es
 
 -- the state stays, and more is always wanted
-pub followed-indef_step : (s : IndefState) (es : List Told)
-    → followed indef_step s es ≡ record { state = s; put = events_text es; goes = On }
+pub followed-indef_step : (s : IndefState) (es : List EventValue)
+    → effect_of indef_step s es ≡ record { state = s; put = events_text es; goes = On }
 followed-indef_step s [] = refl
 followed-indef_step s (e ∷ es) =
-    ap (λ (t : Following IndefState). record { state = t.state; put = indef_event_text e ++ t.put; goes = t.goes })
+    ap (λ (t : Effect IndefState). record { state = t.state; put = indef_event_text e ++ t.put; goes = t.goes })
     (followed-indef_step s es)
 
 -- for some events and then others
-pub events_text-append : (xs ys : List Told) → events_text (xs ++ ys) ≡ events_text xs ++ events_text ys
+pub events_text-append : (xs ys : List EventValue) → events_text (xs ++ ys) ≡ events_text xs ++ events_text ys
 events_text-append xs ys = flat_map-append indef_event_text xs ys
 
 -- what comes before the elements that an element holds, and after them, with an indefinite length if it is constructed
-abbrev opening_by : Bool → Heading → List ℕ
+abbrev opening_by : Bool → HeaderValue → List ℕ
 opening_by constructed h = if constructed then indefinite_octets h else opening h
 
 abbrev end_by : Bool → List ℕ
 end_by constructed = if constructed then 0 ∷ 0 ∷ [] else []
 
 -- what is put where an element begins that holds others
-opens_by : (constructed three : Bool) (h : Heading) → constructed ≡ h.constructed
+opens_by : (constructed three : Bool) (h : HeaderValue) → constructed ≡ h.constructed
     → events_text ((if constructed then Open h else Enter h) ∷ map (λ z. Unused) (lead_by constructed three))
     ≡ (if constructed then indefinite_octets h else octets_of h ++ lead_by constructed three)
 opens_by true three h e =
@@ -45,7 +45,7 @@ opens_by true three h e =
 opens_by false true h e = refl
 opens_by false false h e = refl
 
-opens_put : (h : Heading) → events_text (opens h) ≡ opening_by h.constructed h
+opens_put : (h : HeaderValue) → events_text (opening_events h) ≡ opening_by h.constructed h
 opens_put h = opens_by h.constructed (eqb h.number 3) h refl
 
 -- and where it ends
@@ -54,17 +54,17 @@ closes_by : (constructed : Bool) (at : Option ℕ)
 closes_by true at = refl
 closes_by false at = refl
 
-closes_put : (h : Heading) (inside : Forest) → indef_event_text (closes h inside) ≡ end_by h.constructed
+closes_put : (h : HeaderValue) (inside : Forest) → indef_event_text (closing_event h inside) ≡ end_by h.constructed
 closes_put h inside =
     closes_by h.constructed (end_offset h.size (h.offset + length (opening h) + length (spell inside)))
 
 -- in a constructed element nothing is between the indefinite length and what it holds
-no_lead : (h : Heading) → h.constructed ≡ true → indefinite_octets h ≡ opening (indefinite_header h)
+no_lead : (h : HeaderValue) → h.constructed ≡ true → indefinite_octets h ≡ opening (indefinite_header h)
 no_lead h e =
     sym (ap (λ (k : Bool). indefinite_octets h ++ lead_by k (eqb h.number 3)) e ∙ append-nil (indefinite_octets h))
 
 -- the octets of an element that holds these, and of what follows it
-closed_spelled : (constructed : Bool) (h : Heading) (inside rest : Forest) → h.constructed ≡ constructed
+closed_spelled : (constructed : Bool) (h : HeaderValue) (inside rest : Forest) → h.constructed ≡ constructed
     → opening_by constructed h ++ (spell inside ++ (end_by constructed ++ spell rest))
     ≡ spell (if constructed then Closed (indefinite_header h) inside rest else Whole h (lead h ++ spell inside) rest)
 closed_spelled true h inside rest e = ap (λ (l : List ℕ). l ++ (spell inside ++ (0 ∷ 0 ∷ spell rest))) (no_lead h e)
@@ -72,7 +72,7 @@ closed_spelled false h inside rest e =
     append_assoc (octets_of h) (lead h) (spell inside ++ spell rest)
     ∙ ap (λ (l : List ℕ). octets_of h ++ l) (sym (append_assoc (lead h) (spell inside) (spell rest)))
 
-entered_spelled : (constructed : Bool) (h : Heading) (inside : Forest) → h.constructed ≡ constructed
+entered_spelled : (constructed : Bool) (h : HeaderValue) (inside : Forest) → h.constructed ≡ constructed
     → opening_by constructed h ++ spell inside
     ≡ spell (if constructed then Entered (indefinite_header h) inside else Partial h (lead h ++ spell inside))
 entered_spelled true h inside e = ap (λ (l : List ℕ). l ++ spell inside) (no_lead h e)
@@ -84,15 +84,15 @@ events_text-events Stop = refl
 events_text-events (Fill rest) = ap (λ (l : List ℕ). 0 ∷ l) (events_text-events rest)
 events_text-events (Whole h c rest) = ap (λ (l : List ℕ). octets_of h ++ (c ++ l)) (events_text-events rest)
 events_text-events (Closed h inside rest) =
-    events_text-append (opens h) (events inside ++ closes h inside ∷ events rest)
+    events_text-append (opening_events h) (events inside ++ closing_event h inside ∷ events rest)
     ∙ ap₂ (λ (k l : List ℕ). k ++ l) (opens_put h)
-    (events_text-append (events inside) (closes h inside ∷ events rest)
+    (events_text-append (events inside) (closing_event h inside ∷ events rest)
     ∙ ap₂ (λ (k l : List ℕ). k ++ l) (events_text-events inside)
     (ap₂ (λ (k l : List ℕ). k ++ l) (closes_put h inside) (events_text-events rest)))
     ∙ closed_spelled h.constructed h (with_indefinite_lengths inside) (with_indefinite_lengths rest) refl
 events_text-events (Partial h c) = ap (λ (l : List ℕ). octets_of h ++ l) (append-nil c)
 events_text-events (Entered h inside) =
-    events_text-append (opens h) (events inside)
+    events_text-append (opening_events h) (events inside)
     ∙ ap₂ (λ (k l : List ℕ). k ++ l) (opens_put h) (events_text-events inside)
     ∙ entered_spelled h.constructed h (with_indefinite_lengths inside) refl
 events_text-events (Awaiting h) = append-nil (octets_of h)
@@ -101,7 +101,7 @@ events_text-events Zero = refl
 
 -- what an `Indef` makes of the events of elements
 pub followed-events : (s : IndefState) (f : Forest)
-    → followed indef_step s (events f) ≡ record { state = s; put = indef_text f; goes = On }
+    → effect_of indef_step s (events f) ≡ record { state = s; put = indef_text f; goes = On }
 followed-events s f =
     followed-indef_step s (events f)
     ∙ ap (λ (l : List ℕ). record { state = s; put = l; goes = On }) (events_text-events f)

@@ -1,26 +1,26 @@
 -- What `indef` writes for a longer input begins with what it writes for the shorter.
 use Rattle.std.proofs.Common.{◌≡◌, List, ◌++◌, ℕ, refl, sym, ap, ◌∙◌}
-use Rattle.tlv_walk.specs.Events.{AreEqualJoined, Told, events}
-use Rattle.tlv_walk.specs.Follow.{Following}
-use Rattle.tlv_walk.proofs.Followed.{followed-alike}
-use Rattle.tlv_walk.proofs.Prefixes.{events-prefix}
+use Rattle.tlv_walk.specs.Events.{AreEqualJoined, EventValue, events}
+use Rattle.tlv_walk.specs.Follow.{Effect}
+use Rattle.tlv_walk.proofs.FollowerLemmas.Followed.{followed-alike}
+use Rattle.tlv_walk.proofs.EventLemmas.Prefixes.{events-prefix}
 use Rattle.tlv_cut.specs.IndefLaws.{IndefTextGoesOn}
 use Rattle.tlv_cut.specs.IndefStep.{IndefState, indef_step, new_indef}
 use Rattle.tlv_cut.proofs.IndefLemmas.Elements.{events_text-append, followed-indef_step, events_text}
 use Rattle.tlv_cut.proofs.IndefLemmas.Elements.{events_text-events}
 
 -- the same octets are put for events that are equal once their pieces are joined
-events_text-alike : (xs ys : List Told) → AreEqualJoined xs ys → events_text xs ≡ events_text ys
+events_text-alike : (xs ys : List EventValue) → AreEqualJoined xs ys → events_text xs ≡ events_text ys
 events_text-alike xs ys e =
-    sym (ap (λ (t : Following IndefState). t.put) (followed-indef_step new_indef xs))
-    ∙ ap (λ (t : Following IndefState). t.put)
+    sym (ap (λ (t : Effect IndefState). t.put) (followed-indef_step new_indef xs))
+    ∙ ap (λ (t : Effect IndefState). t.put)
     (followed-alike indef_step (λ s x y. refl) (λ s. refl) (λ s x. refl) (λ s x y. refl) (λ s. refl)
     (λ s x. refl) new_indef xs ys e)
-    ∙ ap (λ (t : Following IndefState). t.put) (followed-indef_step new_indef ys)
+    ∙ ap (λ (t : Effect IndefState). t.put) (followed-indef_step new_indef ys)
 
 pub indef_text_goes_on : IndefTextGoesOn
 indef_text_goes_on framing b c f g r s =
-    let more : (others : List Told) × AreEqualJoined (events g) (events f ++ others) =
+    let more : (others : List EventValue) × AreEqualJoined (events g) (events f ++ others) =
     events-prefix framing b c f g r s in
     let puts : events_text (events g) ≡ events_text (events f) ++ events_text more.0 =
     events_text-alike (events g) (events f ++ more.0) more.1 ∙ events_text-append (events f) more.0 in (

@@ -3,7 +3,7 @@ use Rattle.std.proofs.Common.{◌≡◌, ℕ, ◌+◌, Bool, true, false, ◌||�
 use Rattle.std.proofs.Common.{length, refl, ap, ap₂, ◌∙◌}
 use Rattle.tlv_head.specs.declared.header.Class.{Class}
 use Rattle.tlv_head.specs.declared.header.Size.{Size}
-use Rattle.tlv_head.specs.Header.{Heading, is_wrapper, octets_of}
+use Rattle.tlv_head.specs.Header.{HeaderValue, is_wrapper, octets_of}
 use Rattle.tlv_walk.specs.Forest.{Forest, Stop, Fill, Whole, Closed, Partial, Entered, Awaiting, Begun, Zero}
 use Rattle.tlv_walk.specs.Forest.{end_octets, extent, lead, opening, spell}
 use Rattle.tlv_walk.specs.Inside.{is_among}
@@ -22,7 +22,7 @@ holds_by true named class number size e holds = refl
 holds_by false true class number size e holds = absurd (cc)
 holds_by false false class number size e holds = absurd (cc)
 
-pub constructed_at : (p : Place) (h : Heading) → p.inside ≡ [] → IsHeadAt p true h → h.constructed ≡ true
+pub constructed_at : (p : Place) (h : HeaderValue) → p.inside ≡ [] → IsHeadAt p true h → h.constructed ≡ true
 constructed_at p h e head =
     holds_by h.constructed h.named h.class h.number h.size (head.named ∙ is_named p.at p.inside e) head.form
 
@@ -50,7 +50,7 @@ spell-with_offsets_from at Zero = refl
 abbrev StaysAnywhere : Forest → Type 0
 StaysAnywhere f = (at : ℕ) → with_indefinite_lengths (with_offsets_from at f) ≡ with_offsets_from at f
 
-closed_stays : (constructed : Bool) (h : Heading) (inside rest : Forest) → h.constructed ≡ constructed
+closed_stays : (constructed : Bool) (h : HeaderValue) (inside rest : Forest) → h.constructed ≡ constructed
     → StaysAnywhere inside → StaysAnywhere rest
     → StaysAnywhere (if constructed then Closed (indefinite_header h) inside rest else Whole h
     (lead h ++ spell inside) rest)
@@ -65,7 +65,7 @@ closed_stays false h inside rest e i r at =
     let c = lead h ++ spell inside in
     ap (λ (f : Forest). Whole (record h { offset = at }) c f) (r (at + (length (octets_of h) + length c)))
 
-entered_stays : (constructed : Bool) (h : Heading) (inside : Forest) → h.constructed ≡ constructed
+entered_stays : (constructed : Bool) (h : HeaderValue) (inside : Forest) → h.constructed ≡ constructed
     → StaysAnywhere inside
     → StaysAnywhere (if constructed then Entered (indefinite_header h) inside else Partial h (lead h ++ spell inside))
 entered_stays true h inside e i at =

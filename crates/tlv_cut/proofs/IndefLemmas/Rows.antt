@@ -4,11 +4,11 @@ use Rattle.std.specs.Prelude.{Some, None}
 use Rattle.tlv_head.specs.declared.fault.FaultCode.TheVariants.{Empty, Short}
 use Rattle.tlv_head.specs.declared.header.Class.TheVariants.{Universal}
 use Rattle.tlv_head.specs.declared.header.Size.TheVariants.{Definite}
-use Rattle.tlv_head.specs.Header.{Heading}
+use Rattle.tlv_head.specs.Header.{HeaderValue}
 use Rattle.tlv_walk.specs.Ending.{fault}
 use Rattle.tlv_walk.specs.Events.{Open, Close, Enter, Unused, Leave}
-use Rattle.tlv_walk.proofs.Readings.{reading}
-use Rattle.tlv_walk.proofs.Endings.{ending}
+use Rattle.tlv_walk.proofs.GrammarLemmas.Readings.{reading}
+use Rattle.tlv_walk.proofs.GrammarLemmas.Endings.{ending}
 use Rattle.tlv_cut.specs.IndefText.{indef_text, with_indefinite_lengths}
 use Rattle.tlv_cut.specs.IndefStep.{indef_event_text}
 use Rattle.tlv_cut.specs.IndefJob.{indef_framing}
@@ -86,7 +86,7 @@ an-open-wrapper = refl
 -- ---- events
 
 -- 04 02
-a-string : Heading
+a-string : HeaderValue
 a-string =
     record {
       offset = 0;

@@ -5,11 +5,11 @@ use Rattle.std.specs.Prelude.{◌≡◌, ℕ, ◌+◌, ◌<◌, ◌≤◌, Bool,
 use Rattle.std.specs.Prelude.{◌∷◌, ◌++◌, length, Option, Some, None, IfSome}
 use Rattle.tlv_head.specs.declared.header.Size.{Size}
 use Rattle.tlv_head.specs.declared.header.Size.TheVariants.{Indefinite}
-use Rattle.tlv_head.specs.Header.{Heading, announced, definite_length, is_wrapper, octets_of}
+use Rattle.tlv_head.specs.Header.{HeaderValue, announced, definite_length, is_wrapper, octets_of}
 use Rattle.tlv_head.specs.Private.Header.{AllowsSize}
 use Rattle.tlv_walk.specs.Forest.{Forest, Stop, Fill, Whole, Closed, Partial, Entered, Awaiting, Begun, Zero}
 use Rattle.tlv_walk.specs.Forest.{extent, has_element, is_whole, lead, opening, spell}
-use Rattle.tlv_walk.specs.Place.{Fits, IsHeadAt, IsOpen, Place, after, inside_of}
+use Rattle.tlv_walk.specs.Place.{Fits, IsHeadAt, IsOpen, Place, place_after, place_inside}
 use Rattle.tlv_cut.specs.IndefText.{with_indefinite_lengths, indefinite_header}
 use Rattle.tlv_cut.specs.IndefReading.{with_offsets_from}
 use Rattle.tlv_cut.proofs.Lead.{lead_by}
@@ -29,7 +29,7 @@ is_whole-with_offsets_from at (Begun octets) = refl
 is_whole-with_offsets_from at Zero = refl
 
 -- and with indefinite lengths
-closed_whole : (constructed : Bool) (h : Heading) (c : List ℕ) (inside rest : Forest) → is_whole rest ≡ true
+closed_whole : (constructed : Bool) (h : HeaderValue) (c : List ℕ) (inside rest : Forest) → is_whole rest ≡ true
     → is_whole (if constructed then Closed (indefinite_header h) inside rest else Whole h c rest) ≡ true
 closed_whole true h c inside rest e = e
 closed_whole false h c inside rest e = e
@@ -52,7 +52,7 @@ pub whole : (at : ℕ) (f : Forest) → is_whole f ≡ true
 whole at f e = is_whole-with_offsets_from at (with_indefinite_lengths f) ∙ is_whole-with_indefinite_lengths f e
 
 -- where there is an element, there is one with indefinite lengths too
-closed_some : (constructed : Bool) (at : ℕ) (h : Heading) (c : List ℕ) (inside rest : Forest)
+closed_some : (constructed : Bool) (at : ℕ) (h : HeaderValue) (c : List ℕ) (inside rest : Forest)
     → has_element (with_offsets_from at
     (if constructed then Closed (indefinite_header h) inside rest else Whole h c rest)) ≡ true
 closed_some true at h c inside rest = refl
@@ -83,7 +83,7 @@ pub record IsFree (p q : Place) : Type 0 where
 free_fits : (p q : Place) → IsFree p q → (n : ℕ) → Fits q n
 free_fits p q k n = subst (λ (b : Option ℕ). IfSome b (λ b. q.at + n ≤ b)) (sym k.bound) tt
 
-free_after : (p q : Place) (m n : ℕ) → IsFree p q → IsFree (after p m) (after q n)
+free_after : (p q : Place) (m n : ℕ) → IsFree p q → IsFree (place_after p m) (place_after q n)
 free_after p q m n k =
     record {
       names = k.names;
@@ -94,7 +94,7 @@ free_after p q m n k =
       definite = k.definite;
     }
 
-free_inside : (p q : Place) (h g : Heading) → g.size ≡ Indefinite → IsFree p q → IsFree (inside_of p h) (inside_of q g)
+free_inside : (p q : Place) (h g : HeaderValue) → g.size ≡ Indefinite → IsFree p q → IsFree (place_inside p h) (place_inside q g)
 free_inside p q h g e k = record {
   names = k.names;
   same_names = k.same_names;
@@ -106,7 +106,7 @@ free_inside p q h g e k = record {
 }
 
 -- the header of a primitive may be there
-primitive_at : (p q : Place) (h : Heading) → IsFree p q → IsHeadAt p false h
+primitive_at : (p q : Place) (h : HeaderValue) → IsFree p q → IsHeadAt p false h
     → IsHeadAt q false (record h { offset = q.at })
 primitive_at p q h k v = record {
   valid = record { identifier = v.valid.identifier; lengths = v.valid.lengths; allowed = v.valid.allowed };
@@ -116,10 +116,10 @@ primitive_at p q h k v = record {
 }
 
 -- the header of a constructed element, with an indefinite length, may be there
-abbrev heading_at : Place → Heading → Heading
+abbrev heading_at : Place → HeaderValue → HeaderValue
 heading_at q h = record (indefinite_header h) { offset = q.at }
 
-constructed_head : (p q : Place) (h : Heading) → IsFree p q → IsHeadAt p true h → IsHeadAt q true (heading_at q h)
+constructed_head : (p q : Place) (h : HeaderValue) → IsFree p q → IsHeadAt p true h → IsHeadAt q true (heading_at q h)
 constructed_head p q h k v =
     let constructed = constructed_at p h k.names v in
     record {
@@ -135,15 +135,15 @@ constructed_head p q h k v =
     }
 
 -- the offsets of what an element holds do not move what follows the element
-follows : (q : Place) (h : Heading) (at : ℕ) (inside rest : Forest)
-    → IsOpen (after q (extent (heading_at q h) inside)) rest
-    → IsOpen (after q (extent (heading_at q h) (with_offsets_from at inside))) rest
+follows : (q : Place) (h : HeaderValue) (at : ℕ) (inside rest : Forest)
+    → IsOpen (place_after q (extent (heading_at q h) inside)) rest
+    → IsOpen (place_after q (extent (heading_at q h) (with_offsets_from at inside))) rest
 follows q h at inside rest v =
-    subst (λ (l : List ℕ). IsOpen (after q (length (opening (heading_at q h)) + (length l + 2))) rest)
+    subst (λ (l : List ℕ). IsOpen (place_after q (length (opening (heading_at q h)) + (length l + 2))) rest)
     (sym (spell-with_offsets_from at inside)) v
 
 -- what `with_indefinite_lengths` makes of a constructed element keeps the rules that it keeps with an indefinite length
-made_closed : (q : Place) (h : Heading) (inside rest : Forest) → h.constructed ≡ true
+made_closed : (q : Place) (h : HeaderValue) (inside rest : Forest) → h.constructed ≡ true
     → IsOpen q (with_offsets_from q.at
     (Closed (indefinite_header h) (with_indefinite_lengths inside) (with_indefinite_lengths rest)))
     → IsOpen q (with_offsets_from q.at (with_indefinite_lengths (Closed h inside rest)))
@@ -152,7 +152,7 @@ made_closed q h inside rest e v =
     let other = Whole h (lead h ++ spell (with_indefinite_lengths inside)) (with_indefinite_lengths rest) in
     subst (λ (k : Bool). IsOpen q (with_offsets_from q.at (if k then one else other))) (sym e) v
 
-made_entered : (q : Place) (h : Heading) (inside : Forest) → h.constructed ≡ true
+made_entered : (q : Place) (h : HeaderValue) (inside : Forest) → h.constructed ≡ true
     → IsOpen q (with_offsets_from q.at (Entered (indefinite_header h) (with_indefinite_lengths inside)))
     → IsOpen q (with_offsets_from q.at (with_indefinite_lengths (Entered h inside)))
 made_entered q h inside e v =
@@ -165,7 +165,7 @@ pub is_open : (p q : Place) (f : Forest) → IsFree p q → IsOpen p f
 is_open p q Stop k v = tt
 is_open p q (Fill rest) k v = (
   (k.padding v.0.0, k.definite v.0.0, free_fits p q k 1),
-  is_open (after p 1) (after q 1) rest (free_after p q 1 1 k) v.1,
+  is_open (place_after p 1) (place_after q 1) rest (free_after p q 1 1 k) v.1,
 )
 is_open p q (Whole h c rest) k v =
     let n = length (octets_of h) + length c in (
@@ -178,7 +178,7 @@ is_open p q (Whole h c rest) k v =
         },
         v.0.1,
       ),
-      is_open (after p n) (after q n) rest (free_after p q n n k) v.1,
+      is_open (place_after p n) (place_after q n) rest (free_after p q n n k) v.1,
     )
 is_open p q (Closed h inside rest) k v =
     let head = heading_at q h in
@@ -194,9 +194,9 @@ is_open p q (Closed h inside rest) k v =
         whole at inside v.0.1,
         tt,
       ),
-      is_open (inside_of p h) (inside_of q head) inside (free_inside p q h head refl k) v.1,
+      is_open (place_inside p h) (place_inside q head) inside (free_inside p q h head refl k) v.1,
       follows q h at (with_indefinite_lengths inside) (with_offsets_from (q.at + n) (with_indefinite_lengths rest))
-          (is_open (after p (extent h inside)) (after q n) rest (free_after p q (extent h inside) n k) v.2),
+          (is_open (place_after p (extent h inside)) (place_after q n) rest (free_after p q (extent h inside) n k) v.2),
     )
 is_open p q (Partial h c) k v = (
   record {
@@ -218,11 +218,11 @@ is_open p q (Entered h inside) k v =
         },
         λ w. tt,
       ),
-      is_open (inside_of p h) (inside_of q head) inside (free_inside p q h head refl k) v.1,
+      is_open (place_inside p h) (place_inside q head) inside (free_inside p q h head refl k) v.1,
     )
 is_open p q (Awaiting h) k v = absurd (awaits h (constructed_at p h k.names v.0.header) v.1)
   where
-    awaits : (h : Heading) → h.constructed ≡ true → lead h ≡ 0 ∷ [] → ⊥
+    awaits : (h : HeaderValue) → h.constructed ≡ true → lead h ≡ 0 ∷ [] → ⊥
     awaits h e l = cc (ap (λ (k : Bool). lead_by k (eqb h.number 3)) e, l)
 is_open p q (Begun octets) k v = tt
 is_open p q Zero k v = tt

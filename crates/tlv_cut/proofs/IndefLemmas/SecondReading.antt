@@ -3,25 +3,25 @@ use Rattle.std.proofs.Common.{◌≡◌, ℕ, Bool, true, List, refl, ap, ◌∙
 use Rattle.tlv_walk.specs.declared.ending.Ending.TheVariants.{Done}
 use Rattle.tlv_walk.specs.Ending.{IsEnding, done}
 use Rattle.tlv_walk.specs.Forest.{Forest, has_element, is_whole, spell}
-use Rattle.tlv_walk.specs.Place.{IsOpen, top}
+use Rattle.tlv_walk.specs.Place.{IsOpen, top_place}
 use Rattle.tlv_walk.specs.Reading.{IsReading, IsSoundList}
-use Rattle.tlv_walk.proofs.Endings.{done-sound, sound-reading}
-use Rattle.tlv_walk.proofs.Readings.{Going, reading-unique, run-reading}
-use Rattle.tlv_walk.proofs.Sound.{sound-whole}
+use Rattle.tlv_walk.proofs.GrammarLemmas.Endings.{done-sound, sound-reading}
+use Rattle.tlv_walk.proofs.GrammarLemmas.Readings.{Going, reading-unique, run-reading}
+use Rattle.tlv_walk.proofs.GrammarLemmas.Sound.{sound-whole}
 use Rattle.tlv_cut.specs.IndefText.{indef_text, with_indefinite_lengths}
 use Rattle.tlv_cut.specs.IndefJob.{indef_framing}
 use Rattle.tlv_cut.specs.IndefReading.{indef_reading}
 use Rattle.tlv_cut.proofs.IndefLemmas.Rules.{IsFree, is_open, some, whole}
 use Rattle.tlv_cut.proofs.IndefLemmas.Offsets.{indef_text-again, spell-with_offsets_from}
 
-top_free : (padding : Bool) → IsFree (top (indef_framing padding)) (top (indef_framing padding))
+top_free : (padding : Bool) → IsFree (top_place (indef_framing padding)) (top_place (indef_framing padding))
 top_free padding =
     record { names = refl; same_names = refl; depth = refl; bound = refl; padding = λ e. e; definite = λ e. refl }
 
-pub indef_text_keeps_rules : (padding : Bool) (f : Forest) → IsOpen (top (indef_framing padding)) f
-    → (spell (indef_reading f) ≡ indef_text f) × IsOpen (top (indef_framing padding)) (indef_reading f)
+pub indef_text_keeps_rules : (padding : Bool) (f : Forest) → IsOpen (top_place (indef_framing padding)) f
+    → (spell (indef_reading f) ≡ indef_text f) × IsOpen (top_place (indef_framing padding)) (indef_reading f)
 indef_text_keeps_rules padding f v =
-    let p = top (indef_framing padding) in
+    let p = top_place (indef_framing padding) in
     (spell-with_offsets_from 0 (with_indefinite_lengths f), is_open p p f (top_free padding) v)
 
 pub indef_text_is_read_back : (padding : Bool) (b : List ℕ) (f : Forest) → IsReading (indef_framing padding) b f
@@ -49,5 +49,5 @@ indef_text_is_done padding b f r d =
     let s : IsSoundList w b = done-sound w b d in
     let same : f ≡ s.forest = reading-unique w b f s.forest r (sound-reading w b s) in
     sound_again padding b f r
-    (ap is_whole same ∙ sound-whole (top w) s.forest s.sound)
+    (ap is_whole same ∙ sound-whole (top_place w) s.forest s.sound)
     (ap has_element same ∙ s.some)

@@ -1,31 +1,31 @@
 -- The frames that are kept of the elements that are open, and all those that they stand for.
 use Rattle.std.specs.Prelude.{ℕ, zero, suc, ◌≡◌, ⊤, nat_lt, if◌then◌else◌, false, List, [], ◌∷◌, length, Option, Some, None}
-use Rattle.tlv_head.specs.Header.{Heading}
+use Rattle.tlv_head.specs.Header.{HeaderValue}
 use Rattle.tlv_show.specs.declared.frames.Frame.{Frame}
 use Rattle.tlv_show.specs.declared.frames.Kept.{Kept}
-use Rattle.tlv_show.specs.FinderState.{frame_under, noted, top_frame}
+use Rattle.tlv_show.specs.FinderState.{frame_after, frame_under, top_frame}
 
 -- ---- All frames
 
 -- the frame of the innermost element, and those outside, innermost first
-pub record Nest : Type 0 where
+pub record NestingState : Type 0 where
   pub frame : Frame
   pub outer : List Frame
 
-abbrev pub at_top : Nest
-at_top = record { frame = top_frame; outer = [] }
+abbrev pub new_nesting : NestingState
+new_nesting = record { frame = top_frame; outer = [] }
 
 -- an element that holds others begins. Past 128 of them no frame is kept
-abbrev pub entered : Nest → Heading → Nest
-entered s h = if nat_lt (length s.outer) 128 then record { frame = frame_under s.frame h; outer = s.frame ∷ s.outer } else s
+abbrev pub nesting_inside : NestingState → HeaderValue → NestingState
+nesting_inside s h = if nat_lt (length s.outer) 128 then record { frame = frame_under s.frame h; outer = s.frame ∷ s.outer } else s
 
 -- it ends
-abbrev pub left_by : Frame → List Frame → Nest
-left_by closed [] = record { frame = closed; outer = [] }
-left_by closed (w ∷ outer) = record { frame = noted w closed.is_primitive closed.size false; outer = outer }
+abbrev pub nesting_around : Frame → List Frame → NestingState
+nesting_around closed [] = record { frame = closed; outer = [] }
+nesting_around closed (w ∷ outer) = record { frame = frame_after w closed.is_primitive closed.size false; outer = outer }
 
-abbrev pub left_in : Nest → Nest
-left_in s = left_by s.frame s.outer
+abbrev pub nesting_outside : NestingState → NestingState
+nesting_outside s = nesting_around s.frame s.outer
 
 -- its frame, if what it held were segments
 abbrev pub if_segments : Frame → Option Frame
@@ -35,12 +35,12 @@ abbrev pub segments_by : Frame → List Frame → Option Frame
 segments_by closed [] = None
 segments_by closed (w ∷ outer) = if_segments closed
 
-abbrev pub segments_left : Nest → Option Frame
+abbrev pub segments_left : NestingState → Option Frame
 segments_left s = segments_by s.frame s.outer
 
 -- ---- Those that are kept
 
--- where elements without a frame are open inside `w`, each of them has that of the top
+-- if elements without a frame are open inside `w`, each of them has that of the top
 abbrev pub innermost : Frame → ℕ → Frame
 innermost w zero = w
 innermost w (suc plain) = top_frame
@@ -65,13 +65,13 @@ abbrev pub AreKept : List Kept → Type 0
 AreKept [] = ⊤
 AreKept (k ∷ outer) = IsKept k.frame k.plain × AreKept outer
 
--- the innermost of these, and what is kept behind the end of the element inside it
+-- the innermost of these, and what is kept after the end of the element inside it
 abbrev pub innermost_of : List Kept → Option Kept
 innermost_of [] = None
 innermost_of (k ∷ outer) = Some k
 
 pub record IsTakenBack (closed : Frame) (k : Kept) (outer : List Kept) (w : Frame) (plain : ℕ) (rest : List Kept) : Type 0 where
-  pub frame : w ≡ noted k.frame closed.is_primitive closed.size false
+  pub frame : w ≡ frame_after k.frame closed.is_primitive closed.size false
   pub count : plain ≡ k.plain
   pub others : rest ≡ outer
 

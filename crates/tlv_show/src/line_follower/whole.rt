@@ -4,8 +4,8 @@ ghost use Rattle.std.specs.FinMap as finite;
 ghost use Rattle.std.specs.Prelude.{◌≡◌, length};
 ghost use Rattle.tlv_head.specs.Header.{announced};
 ghost use Rattle.tlv_io.specs.Out.{Puts};
-ghost use Rattle.tlv_value.specs.State.{whole_lines};
-ghost use Rattle.tlv_show.specs.Private.Dumped.{behind_whole};
+ghost use Rattle.tlv_value.specs.TextState.{whole_lines};
+ghost use Rattle.tlv_show.specs.Private.LinesStep.{past_primitive};
 
 use super::Lines;
 use tlv_head::Header;
@@ -22,8 +22,8 @@ impl Lines<'_> {
         out: &mut Out<'_, D>,
     ) -> Result<(), WriteFault>
         requires { announced header.now.size ≡ length contents.now }
-        ensures state { self.new ≡ behind_whole self.old header.now contents.now }
-        ensures puts { Puts D.told out.old out.new
+        ensures state { self.new ≡ past_primitive self.old header.now contents.now }
+        ensures puts { Puts D.state out.old out.new
             (whole_lines (finite.get self.old.names) header.now self.old.layout contents.now) result }
     {
         self.enter(header);

@@ -1,16 +1,8 @@
 //! A follower that writes each event as a line of text.
 ghost use Rattle.std.specs.Prelude.{◌≡◌, ◌+◌, ◌*◌, ◌≤◌, ◌++◌, length};
 ghost use Rattle.arrayvec.specs.ArrayVec.{array_vec_len};
-ghost use Rattle.tlv_walk.specs.Follow.{IsFollowed};
-ghost use Rattle.tlv_tests.specs.Lined.{
-  close_line as close_line_of,
-  ends,
-  header_line as header_line_of,
-  pair as pair_of,
-  pads,
-  pairs,
-  place as place_of,
-};
+ghost use Rattle.tlv_walk.specs.Follow.{HasEffect};
+ghost use Rattle.tlv_tests.specs.TestStep.{ends, header_line as header_line_of, pads, pair as pair_of, pairs, place as place_of, test_close_line};
 ghost use Rattle.tlv_io.specs.Out.{Puts};
 
 use arrayvec::ArrayVec;
@@ -44,8 +36,8 @@ impl Lines {
 
     /// An element ends.
     fn end<D: Drain>(&mut self, line: &[u8], out: &mut Out<'_, D>) -> Result<Go, WriteFault>
-        ensures state { IsFollowed (ends self.old line.now) self.new result }
-        ensures puts { Puts D.told out.old out.new line.now result }
+        ensures state { HasEffect (ends self.old line.now) self.new result }
+        ensures puts { Puts D.state out.old out.new line.now result }
     {
         out.put(line)?;
         let is_last = self.ends == 1;
@@ -106,7 +98,7 @@ fn header_line(word: &[u8], header: &Header) -> ArrayVec<u8, 512>
 
 /// The line of the end of a constructed element.
 fn close_line(at: Option<u64>) -> ArrayVec<u8, 11>
-    ensures { result.items ≡ close_line_of at }
+    ensures { result.items ≡ test_close_line at }
 {
     let mut line = ArrayVec::new();
     let _ = line.try_extend_from_slice(b"close");
@@ -124,14 +116,14 @@ fn put_header<D: Drain>(
     out: &mut Out<'_, D>,
 ) -> Result<(), WriteFault>
     requires { length word.now ≤ 5 }
-    ensures { Puts D.told out.old out.new (header_line_of word.now header.now) result }
+    ensures { Puts D.state out.old out.new (header_line_of word.now header.now) result }
 {
     out.put(header_line(word, header).as_slice())
 }
 
 /// Puts each octet as a space and two digits.
 fn put_pairs<D: Drain>(octets: &[u8], out: &mut Out<'_, D>) -> Result<(), WriteFault>
-    ensures { Puts D.told out.old out.new (pairs octets.now) result }
+    ensures { Puts D.state out.old out.new (pairs octets.now) result }
 {
     for octet in octets {
         out.put(&pair(*octet))?;
@@ -141,7 +133,7 @@ fn put_pairs<D: Drain>(octets: &[u8], out: &mut Out<'_, D>) -> Result<(), WriteF
 
 /// Puts a line for each octet of padding.
 fn put_padding<D: Drain>(octets: &[u8], out: &mut Out<'_, D>) -> Result<(), WriteFault>
-    ensures { Puts D.told out.old out.new (pads octets.now) result }
+    ensures { Puts D.state out.old out.new (pads octets.now) result }
 {
     for _octet in octets {
         out.put(b"pad\n")?;
@@ -153,17 +145,17 @@ impl Follow for Lines {
     ghost use Rattle.std.specs.Prelude.{codes, refl};
     ghost use Rattle.std.proofs.Common.{ap};
     ghost use Rattle.std.proofs.lemmas.Grind.{flat_map-append};
-    ghost use Rattle.tlv_tests.specs.Lined.{lined, pair as pair_of, puts};
+    ghost use Rattle.tlv_tests.specs.TestStep.{pair as pair_of, test_effect, test_step};
 
-    ghost next = { lined };
+    ghost next = { test_step };
 
-    ghost bytes_join = { λ s x y. ap (puts s) (flat_map-append pair_of x y) };
+    ghost bytes_join = { λ s x y. ap (test_effect s) (flat_map-append pair_of x y) };
 
     ghost bytes_rest = { λ s. refl };
 
     ghost bytes_go_on = { λ s x. refl };
 
-    ghost pad_join = { λ s x y. ap (puts s) (flat_map-append (λ z. codes "pad\n") x y) };
+    ghost pad_join = { λ s x y. ap (test_effect s) (flat_map-append (λ z. codes "pad\n") x y) };
 
     ghost pad_rest = { λ s. refl };
 

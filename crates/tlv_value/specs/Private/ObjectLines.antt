@@ -1,17 +1,17 @@
--- The lines of a held object identifier, behind what its element's line begins with.
+-- The lines of a held object identifier, after what its element's line begins with.
 use Rattle.std.specs.Prelude.{ℕ, Bool, List, [], ◌∷◌, ◌++◌}
 use Rattle.tlv_value.specs.declared.kind.Kind.TheVariants.{Octets}
 use Rattle.tlv_value.specs.declared.layout.Layout.{Layout}
 use Rattle.tlv_value.specs.Arcs.{dotted_text}
-use Rattle.tlv_value.specs.State.{row_lines}
+use Rattle.tlv_value.specs.TextState.{row_lines}
 use Rattle.tlv_value.specs.KindValues.{object_text}
 use Rattle.tlv_value.specs.Value.{NameOf, Value, octets_value}
 
-abbrev pub value_behind : Layout → List ℕ → Value → List ℕ
-value_behind layout line v = (line ++ v.text ++ 10 ∷ []) ++ row_lines Octets layout 0 v.rows
+abbrev pub rest_of_lines : Layout → List ℕ → Value → List ℕ
+rest_of_lines layout line v = (line ++ v.text ++ 10 ∷ []) ++ row_lines Octets layout 0 v.rows
 
 abbrev pub octets_lines : Layout → List ℕ → List ℕ → List ℕ
-octets_lines layout line octets = value_behind layout line (octets_value octets)
+octets_lines layout line octets = rest_of_lines layout line (octets_value octets)
 
 abbrev pub object_lines : NameOf → Layout → List ℕ → Bool → List ℕ → List ℕ
-object_lines name_of layout line relative octets = value_behind layout line (object_text name_of (dotted_text relative octets) octets)
+object_lines name_of layout line relative octets = rest_of_lines layout line (object_text name_of (dotted_text relative octets) octets)

@@ -1,6 +1,6 @@
--- Characters that stand as they are.
+-- Characters that are written as they are.
 use Rattle.std.specs.Prelude.{◌≡◌, ℕ, ◌<◌, Bool, true, false, ◌&&◌, ◌||◌, not, eqb, List, ◌++◌, drop, flat_map, slice_index}
-use Rattle.tlv_io.specs.Held.{AddsIfRoom}
+use Rattle.tlv_io.specs.LineTexts.{AddsIfRoom}
 use Rattle.tlv_value.specs.declared.kind.Kind.{Kind}
 use Rattle.tlv_value.specs.declared.kind.Kind.TheVariants.{Octets, Boolean, Integer, Bits, Object, Relative, Text, Utf8, Ucs2, Ucs4}
 use Rattle.tlv_value.specs.Units.{is_printable, unit_text, units}
@@ -26,7 +26,7 @@ is_ascii Ucs4 = false
 abbrev pub ArePlain : Kind → List ℕ → ℕ → Type 0
 ArePlain kind octets n = (0 < n → is_ascii kind ≡ true) × ((i : ℕ) → i < n → is_plain (slice_index octets i) ≡ true)
 
--- the first n of the octets were written behind what was held, where there is room
+-- the first n of the octets were written after what was held, if there is room
 abbrev pub IsPart : Kind → List ℕ → List ℕ → List ℕ → ℕ → Type 0
 IsPart kind octets held held' n =
     (text : List ℕ) × AddsIfRoom held held' text

@@ -3,6 +3,6 @@ use Rattle.std.specs.Prelude.{◌≡◌, ℕ, ◌+◌, ◌<◌, true, List, slic
 use Rattle.tlv_value.specs.declared.kind.Kind.{Kind}
 use Rattle.tlv_value.specs.Rows.{has_room}
 
--- the first n of the octets have room behind so many others
+-- the first n of the octets have room after so many others
 abbrev pub HaveRoom : Kind → ℕ → List ℕ → ℕ → Type 0
 HaveRoom kind begun octets n = (i : ℕ) → i < n → has_room kind (begun + i) (slice_index octets i) ≡ true

@@ -7,10 +7,7 @@ use Rattle.tlv_value.specs.Layout.{line, no_columns}
 use Rattle.tlv_value.specs.Rows.{full_rows, open_row, last_rows}
 use Rattle.tlv_value.specs.Value.{row_text}
 
-abbrev pub cut_rows : Kind → List ℕ → List (List ℕ)
-cut_rows kind octets = full_rows kind [] octets ++ last_rows (open_row kind [] octets)
-
--- the lines of rows of pairs of digits, where there is no limit to rows
+-- the lines of rows of pairs of digits, if there is no limit to rows
 abbrev pub full_line : Layout → List ℕ → List ℕ
 full_line layout row = line layout.pure no_columns (layout.level + 1) (row_text Octets row)
 

@@ -1,7 +1,7 @@
 //! What is found on contents by what was noted of them.
 ghost use Rattle.std.specs.Prelude.{◌≡◌, ◌<◌, ◌≤◌, ◌%◌, ◌^◌, ◌++◌, [], eqb, length, not};
-ghost use Rattle.tlv_value.specs.CheckNotes.{bits_findings, boolean_findings, time_findings, where_it};
-ghost use Rattle.tlv_value.specs.CheckState.{found_in, noted_in};
+ghost use Rattle.tlv_value.specs.CheckNotes.{bits_findings, boolean_findings, finding_if, time_findings};
+ghost use Rattle.tlv_value.specs.CheckState.{findings_in, notes_in};
 
 use super::ValueCheck;
 use crate::Finding;
@@ -11,7 +11,7 @@ use arrayvec::ArrayVec;
 impl ValueCheck {
     /// What is found on the contents by what was noted of them.
     pub(super) fn found(&self) -> ArrayVec<Finding, 16>
-        ensures { result.items ≡ found_in self.now }
+        ensures { result.items ≡ findings_in self.now }
     {
         let mut found = ArrayVec::new();
         match self.number {
@@ -51,7 +51,7 @@ impl ValueCheck {
     /// Notes what is found on the contents of a BOOLEAN.
     fn note_boolean(&self, found: &mut ArrayVec<Finding, 16>)
         requires { found.old.items ≡ [] }
-        ensures { found.new.items ≡ boolean_findings (noted_in self.now) }
+        ensures { found.new.items ≡ boolean_findings (notes_in self.now) }
     {
         let first = self.first();
         note(self.size != 1, Finding::B06, found);
@@ -65,7 +65,7 @@ impl ValueCheck {
     /// Notes what is found on the contents of a BIT STRING.
     fn note_bits(&self, found: &mut ArrayVec<Finding, 16>)
         requires { found.old.items ≡ [] }
-        ensures { found.new.items ≡ bits_findings (noted_in self.now) }
+        ensures { found.new.items ≡ bits_findings (notes_in self.now) }
     {
         let first = self.first();
         note(self.size == 0, Finding::B13, found);
@@ -83,10 +83,10 @@ impl ValueCheck {
     }
 }
 
-/// Adds a finding, where it is there.
+/// Adds a finding, if it is there.
 fn note(there: bool, finding: Finding, found: &mut ArrayVec<Finding, 16>)
     requires { length found.old.items < 16 }
-    ensures { found.new.items ≡ found.old.items ++ where_it there finding }
+    ensures { found.new.items ≡ found.old.items ++ finding_if there finding }
 {
     if there {
         found.push(finding);

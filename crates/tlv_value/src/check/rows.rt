@@ -9,7 +9,7 @@ use crate::kind::Kind;
 use crate::rows::fitting;
 use arrayvec::ArrayVec;
 
-/// Takes octets behind the row that has begun. Answers whether the rows that are then full are well-formed.
+/// Takes octets after the row that has begun. Returns whether the rows that are then full are well-formed.
 pub(super) fn take_rows(row: &mut ArrayVec<u8, 64>, octets: &[u8]) -> bool
     requires { length row.old.items < 64 }
     ensures formed { result ≡ all_utf8 (full_rows Kind.Utf8 row.old.items octets.now) }

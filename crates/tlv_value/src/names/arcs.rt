@@ -1,7 +1,7 @@
 //! Object identifiers as dotted texts, judged.
 ghost use Rattle.std.specs.Prelude.{◌≡◌, nat_le, true};
 ghost use Rattle.std.specs.List.{list_all};
-ghost use Rattle.tlv_value.specs.Names.{are_first_arcs as are_first, is_arc as is_arc_text, is_digit, is_dotted as is_dotted_text, may_begin as may_begin_text, number, parts};
+ghost use Rattle.tlv_value.specs.Names.{are_first_arcs as are_first, decimal_number, dotted_parts, is_arc as is_arc_text, is_arc_digit, is_dotted as is_dotted_text, may_begin as may_begin_text};
 
 use super::line::{behind, end_before};
 
@@ -15,7 +15,7 @@ pub(super) fn is_dotted(text: &[u8]) -> bool
 
 /// Whether each part between dots is an arc.
 fn are_arcs(text: &[u8]) -> bool
-    ensures { result ≡ list_all is_arc_text (parts text.now) }
+    ensures { result ≡ list_all is_arc_text (dotted_parts text.now) }
 {
     let mut rest = text;
     loop {
@@ -42,7 +42,7 @@ fn is_arc(part: &[u8]) -> bool
 }
 
 fn are_digits(part: &[u8]) -> bool
-    ensures { result ≡ list_all is_digit part.now }
+    ensures { result ≡ list_all is_arc_digit part.now }
 {
     for octet in part {
         if *octet < b'0' || *octet > b'9' {
@@ -54,8 +54,8 @@ fn are_digits(part: &[u8]) -> bool
 
 /// Whether there are two arcs, and those may be the first ones.
 fn are_first_arcs(text: &[u8]) -> bool
-    requires { list_all is_arc_text (parts text.now) ≡ true }
-    ensures { result ≡ are_first (parts text.now) }
+    requires { list_all is_arc_text (dotted_parts text.now) ≡ true }
+    ensures { result ≡ are_first (dotted_parts text.now) }
 {
     let end = end_before(text, b'.');
     if end == text.len() {
@@ -79,7 +79,7 @@ fn may_begin(first: &[u8], second: &[u8]) -> bool
 
 fn is_below_forty(arc: &[u8]) -> bool
     requires { is_arc_text arc.now ≡ true }
-    ensures { result ≡ nat_le (number arc.now) 39 }
+    ensures { result ≡ nat_le (decimal_number arc.now) 39 }
 {
     match arc.len() {
         1 => true,

@@ -1,8 +1,8 @@
 //! What a line of a names file says.
 ghost use Rattle.std.specs.Prelude.{◌≡◌, ◌==◌, ◌+◌, ◌≤◌, drop, length};
 ghost use Rattle.std.specs.List.{list_all, position_or_len};
-ghost use Rattle.tlv_value.specs.Names.{is_blank as is_blank_octet, is_name as is_name_text, is_printable, line_of, trimmed as trimmed_text, without_first_blanks, without_last_blanks, without_return as without_return_at_end};
-ghost use Rattle.tlv_value.specs.Private.NamesSteps.{answer_for, texts_of};
+ghost use Rattle.tlv_value.specs.Names.{is_blank as is_blank_octet, is_name as is_name_text, is_name_octet, names_line, without_first_blanks, without_last_blanks, without_outer_blanks, without_return as without_return_at_end};
+ghost use Rattle.tlv_value.specs.Private.NamesSteps.{entry_or_refusal, texts_of};
 
 use super::NamesFault;
 use super::arcs::is_dotted;
@@ -10,12 +10,12 @@ use super::arcs::is_dotted;
 /// The most octets of a line.
 const MOST_OCTETS: usize = 400;
 
-/// The dotted text and the name on a line, or none where it is blank or a comment. `number` is the line's.
+/// The dotted text and the name on a line, or none if it is blank or a comment. `number` is the line's.
 pub(super) fn entry_of<'a>(
     line: &'a [u8],
     number: u32,
 ) -> Result<Option<(&'a [u8], &'a [u8])>, NamesFault>
-    ensures { texts_of result ≡ answer_for number (line_of line.now) }
+    ensures { texts_of result ≡ entry_or_refusal number (names_line line.now) }
 {
     if line.len() > MOST_OCTETS {
         return Err(NamesFault::TooLarge);
@@ -36,7 +36,7 @@ pub(super) fn entry_of<'a>(
     Ok(Some((dotted, name)))
 }
 
-/// Where the octet first stands, or the end.
+/// Where the octet first is, or the end.
 pub(super) fn end_before(text: &[u8], mark: u8) -> usize
     ensures value { result ≡ position_or_len (λ x. x == mark) text.now }
     ensures within { result ≤ length text.now }
@@ -49,7 +49,7 @@ pub(super) fn end_before(text: &[u8], mark: u8) -> usize
     text.len()
 }
 
-/// What stands behind the octet at `end`; nothing where the text ends there.
+/// What is after the octet at `end`; nothing if the text ends there.
 pub(super) fn behind(text: &[u8], end: usize) -> &[u8]
     ensures { result.now ≡ drop (end + 1) text.now }
 {
@@ -60,7 +60,7 @@ pub(super) fn behind(text: &[u8], end: usize) -> &[u8]
     }
 }
 
-/// Where the first space or tab stands, or the end.
+/// Where the first space or tab is, or the end.
 fn end_before_blank(text: &[u8]) -> usize
     ensures value { result ≡ position_or_len is_blank_octet text.now }
     ensures within { result ≤ length text.now }
@@ -91,7 +91,7 @@ fn without_return(line: &[u8]) -> &[u8]
 
 /// Without the spaces and tabs at both ends.
 fn trimmed(text: &[u8]) -> &[u8]
-    ensures { result.now ≡ trimmed_text text.now }
+    ensures { result.now ≡ without_outer_blanks text.now }
 {
     without_blanks_at_end(without_blanks_in_front(text))
 }
@@ -125,7 +125,7 @@ fn is_name(text: &[u8]) -> bool
 }
 
 fn are_printable(text: &[u8]) -> bool
-    ensures { result ≡ list_all is_printable text.now }
+    ensures { result ≡ list_all is_name_octet text.now }
 {
     for octet in text {
         if *octet < b' ' || *octet > b'~' {

@@ -15,7 +15,7 @@ pub(super) fn read_in<A: Allocator + Copy, S: Source>(
     alloc: A,
     source: &mut S,
 ) -> Result<Table<A>, NamesFault>
-    ensures { ReadsFrom (S.told source.old) (S.told source.new) (result_in result) }
+    ensures { ReadsFrom (S.state source.old) (S.state source.new) (result_in result) }
 {
     let octets = read_octets(alloc, source)?;
     table_of(alloc, octets.as_slice())
@@ -23,7 +23,7 @@ pub(super) fn read_in<A: Allocator + Copy, S: Source>(
 
 /// All octets of the source.
 fn read_octets<A: Allocator, S: Source>(alloc: A, source: &mut S) -> Result<Vec<u8, A>, NamesFault>
-    ensures { Gives (S.told source.old) (S.told source.new) result }
+    ensures { Gives (S.state source.old) (S.state source.new) result }
 {
     let mut octets = Vec::new(alloc);
     let mut piece = [0u8; 4096];

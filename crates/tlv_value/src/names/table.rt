@@ -1,8 +1,8 @@
 //! The table of a names file.
 ghost use Rattle.std.specs.Prelude.{◌≡◌, ◌≤◌, length};
-ghost use Rattle.tlv_value.specs.Names.{line_of};
+ghost use Rattle.tlv_value.specs.Names.{names_line};
 ghost use Rattle.tlv_value.specs.NamesSteps.{texts_in};
-ghost use Rattle.tlv_value.specs.Private.NamesSteps.{Adds, AddsLine, ComesTo};
+ghost use Rattle.tlv_value.specs.Private.NamesSteps.{Adds, AddsLine, IsTableOf};
 
 use super::NamesFault;
 use super::line::{behind, end_before, entry_of};
@@ -18,7 +18,7 @@ const MOST_ENTRIES: usize = 65_536;
 /// The table of all lines, or the first refusal.
 pub(super) fn table_of<A: Allocator + Copy>(alloc: A, octets: &[u8]) -> Result<Table<A>, NamesFault>
     requires { length octets.now ≤ 1048576 }
-    ensures { ComesTo octets.now result }
+    ensures { IsTableOf octets.now result }
 {
     let mut table = BTreeMap::new(alloc);
     let mut rest = octets;
@@ -39,7 +39,7 @@ fn add_line<A: Allocator + Copy>(
     line: &[u8],
     number: u32,
 ) -> Result<(), NamesFault>
-    ensures { AddsLine number (line_of line.now) (texts_in table.old) (texts_in table.new) result }
+    ensures { AddsLine number (names_line line.now) (texts_in table.old) (texts_in table.new) result }
 {
     match entry_of(line, number) {
         Ok(None) => Ok(()),

@@ -1,4 +1,4 @@
--- What the functions of a stack answer.
+-- What the functions of a stack return.
 use Rattle.std.specs.Prelude.{ℕ, ◌+◌, ◌-◌, Bool, not, List, [], ◌∷◌, Option, Some, None}
 use Rattle.std.specs.Option.{option_map_or, option_or}
 use Rattle.tlv_head.specs.Header.{definite_length}
@@ -19,8 +19,8 @@ abbrev pub left_to : Option ℕ → ℕ → Option ℕ
 left_to None offset = None
 left_to (Some b) offset = Some (b - offset)
 
-abbrev pub room_of : List Frame → ℕ → Option ℕ
-room_of stack offset = left_to (bound_of stack) offset
+abbrev pub room_in : List Frame → ℕ → Option ℕ
+room_in stack offset = left_to (bound_of stack) offset
 
 -- 8.1.3.3: the end of contents that begin there, or else the bound outside
 abbrev pub bound_in : Size → ℕ → Option ℕ → Option ℕ

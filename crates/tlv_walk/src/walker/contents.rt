@@ -1,10 +1,10 @@
 //! How a walker takes the contents of primitives, and octets between encodings.
 ghost use Rattle.std.specs.Prelude.{◌≡◌, ◌≢◌, ℕ, ◌+◌, ◌^◌, ◌<◌, ◌≤◌, ◌∷◌, [], All, Some, length, slice_get, take, true};
 ghost use Rattle.tlv_walk.specs.Phase as phases;
-ghost use Rattle.tlv_walk.specs.Machine.{HasOctets};
-ghost use Rattle.tlv_walk.specs.Private.Machine.{Steps, Tells, TellsOne};
-ghost use Rattle.tlv_walk.specs.Tells.{told_of};
-ghost use Rattle.tlv_walk.specs.Private.Tells.{Continues, TellsEvent, TellsStep};
+ghost use Rattle.tlv_walk.specs.WalkerState.{HasOctets};
+ghost use Rattle.tlv_walk.specs.Private.WalkerState.{Steps, YieldsAt, YieldsOne};
+ghost use Rattle.tlv_walk.specs.HasRead.{event_value};
+ghost use Rattle.tlv_walk.specs.Private.Steps.{Continues, YieldsEvent, YieldsStep};
 
 use super::{Phase, Walker};
 use crate::{Event, Step};
@@ -17,8 +17,8 @@ impl Walker {
         requires phase { self.old.phase ≡ phases.InContents left }
         requires some { (0 < left) × (piece.old.now ≢ []) }
         requires limit { self.old.offset + length piece.old.now ≤ 2 ^ 40 }
-        ensures one { TellsOne self.old self.new piece.old.now piece.new.now }
-        ensures event { TellsEvent self.old self.new piece.old.now piece.new.now (told_of result) }
+        ensures one { YieldsOne self.old self.new piece.old.now piece.new.now }
+        ensures event { YieldsEvent self.old self.new piece.old.now piece.new.now (event_value result) }
         ensures octets { HasOctets result }
     {
         let octets: &'a [u8] = *piece;
@@ -35,8 +35,8 @@ impl Walker {
     #[inline(always)]
     pub(super) fn end_primitive<'a>(&mut self) -> Event<'a>
         requires { self.old.phase ≡ phases.InContents 0 }
-        ensures tells { Tells self.old self.new self.old.offset }
-        ensures event { Continues self.old self.new [] (told_of result ∷ []) }
+        ensures yields { YieldsAt self.old self.new self.old.offset }
+        ensures event { Continues self.old self.new [] (event_value result ∷ []) }
         ensures octets { HasOctets result }
     {
         self.events += 1;
@@ -51,8 +51,8 @@ impl Walker {
         requires limit { self.old.offset + length piece.old.now ≤ 2 ^ 40 }
         requires top { self.old.stack ≡ [] }
         requires padding { self.old.framing.padding ≡ true }
-        ensures one { TellsOne self.old self.new piece.old.now piece.new.now }
-        ensures event { TellsEvent self.old self.new piece.old.now piece.new.now (told_of result) }
+        ensures one { YieldsOne self.old self.new piece.old.now piece.new.now }
+        ensures event { YieldsEvent self.old self.new piece.old.now piece.new.now (event_value result) }
         ensures octets { HasOctets result }
     {
         let octets: &'a [u8] = *piece;
@@ -69,7 +69,7 @@ impl Walker {
         requires phase { self.old.phase ≡ phases.BeforeUnused }
         requires limit { self.old.offset + length piece.old.now ≤ 2 ^ 40 }
         ensures steps { Steps self.old self.new piece.old.now piece.new.now result }
-        ensures tells { TellsStep self.old self.new piece.old.now piece.new.now result }
+        ensures yields { YieldsStep self.old self.new piece.old.now piece.new.now result }
     {
         let octets: &'a [u8] = *piece;
         let [octet, rest @ ..] = octets else {

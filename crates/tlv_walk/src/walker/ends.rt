@@ -1,24 +1,24 @@
-//! How a walker takes what stands between elements, and the ends of those that hold others.
+//! How a walker takes what is between elements, and the ends of those that hold others.
 ghost use Rattle.std.specs.Prelude.{◌≡◌, ℕ, ◌+◌, ◌^◌, ◌≤◌, ◌∷◌, [], length};
 ghost use Rattle.tlv_walk.specs.Phase as phases;
-ghost use Rattle.tlv_walk.specs.Machine.{HasOctets};
-ghost use Rattle.tlv_walk.specs.Private.Machine.{Steps, StepsAtOnce, Tells, closes};
+ghost use Rattle.tlv_walk.specs.WalkerState.{HasOctets};
+ghost use Rattle.tlv_walk.specs.Private.WalkerState.{Steps, StepsAtOnce, YieldsAt, close_event};
 ghost use Rattle.tlv_walk.specs.Stack.{IsFilled};
-ghost use Rattle.tlv_walk.specs.Tells.{told_of};
-ghost use Rattle.tlv_walk.specs.Private.Tells.{Continues, TellsAtOnce, TellsStep};
+ghost use Rattle.tlv_walk.specs.HasRead.{event_value};
+ghost use Rattle.tlv_walk.specs.Private.Steps.{Continues, YieldsAtOnce, YieldsStep};
 
 use super::{Phase, Walker};
 use crate::{Event, Step};
 use tlv_head::FaultCode;
 
 impl Walker {
-    /// Takes what stands between two elements, or begins one.
+    /// Takes what is between two elements, or begins one.
     pub(super) fn between<'a>(&mut self, piece: &mut &'a [u8]) -> Step<'a>
         requires phase { self.old.phase ≡ phases.Between }
         requires room { IsFilled self.old.stack self.old.offset → ⊥ }
         requires limit { self.old.offset + length piece.old.now ≤ 2 ^ 40 }
         ensures steps { Steps self.old self.new piece.old.now piece.new.now result }
-        ensures tells { TellsStep self.old self.new piece.old.now piece.new.now result }
+        ensures yields { YieldsStep self.old self.new piece.old.now piece.new.now result }
     {
         let octets: &'a [u8] = *piece;
         let [octet, rest @ ..] = octets else {
@@ -48,8 +48,8 @@ impl Walker {
     pub(super) fn end_filled<'a>(&mut self) -> Event<'a>
         requires phase { self.old.phase ≡ phases.Between }
         requires filled { IsFilled self.old.stack self.old.offset }
-        ensures tells { Tells self.old self.new self.old.offset }
-        ensures event { Continues self.old self.new [] (told_of result ∷ []) }
+        ensures yields { YieldsAt self.old self.new self.old.offset }
+        ensures event { Continues self.old self.new [] (event_value result ∷ []) }
         ensures octets { HasOctets result }
     {
         self.events += 1;
@@ -62,13 +62,13 @@ impl Walker {
         Event::Close(None)
     }
 
-    /// Takes end-of-contents octets that lie whole in the piece, where they may stand here.
+    /// Takes end-of-contents octets that lie whole in the piece, if they may stand here.
     #[inline(always)]
     pub(super) fn end_octets<'a>(&mut self, piece: &mut &'a [u8]) -> Option<Option<u64>>
         requires phase { self.old.phase ≡ phases.Between }
         requires limit { self.old.offset + length piece.old.now ≤ 2 ^ 40 }
-        ensures steps { StepsAtOnce self.old self.new piece.old.now piece.new.now (closes result) }
-        ensures tells { TellsAtOnce self.old self.new piece.old.now piece.new.now (closes result) }
+        ensures steps { StepsAtOnce self.old self.new piece.old.now piece.new.now (close_event result) }
+        ensures yields { YieldsAtOnce self.old self.new piece.old.now piece.new.now (close_event result) }
     {
         let octets: &'a [u8] = *piece;
         let [first, second, rest @ ..] = octets else {
@@ -93,7 +93,7 @@ impl Walker {
         requires phase { self.old.phase ≡ phases.InEnd }
         requires limit { self.old.offset + length piece.old.now ≤ 2 ^ 40 }
         ensures steps { Steps self.old self.new piece.old.now piece.new.now result }
-        ensures tells { TellsStep self.old self.new piece.old.now piece.new.now result }
+        ensures yields { YieldsStep self.old self.new piece.old.now piece.new.now result }
     {
         let octets: &'a [u8] = *piece;
         let [octet, rest @ ..] = octets else {

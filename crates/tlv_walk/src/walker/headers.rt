@@ -1,16 +1,16 @@
 //! How a walker takes headers.
 ghost use Rattle.std.specs.Prelude.{◌≡◌, ◌≢◌, ℕ, ◌+◌, ◌^◌, ◌<◌, ◌≤◌, ◌∷◌, [], IsTrue, Some, length, true};
-ghost use Rattle.tlv_head.specs.Fields.{Suits, heading_with};
+ghost use Rattle.tlv_head.specs.Fields.{Suits, header_with};
 ghost use Rattle.tlv_head.specs.Header.{announced, holds, octets_of};
-ghost use Rattle.tlv_head.specs.Read.{BeginsWithFields};
+ghost use Rattle.tlv_head.specs.ReadHeader.{BeginsWithFields};
 ghost use Rattle.tlv_walk.specs.Phase as phases;
 ghost use Rattle.tlv_walk.specs.Inside.{is_among};
-ghost use Rattle.tlv_walk.specs.Machine.{HasOctets};
-ghost use Rattle.tlv_walk.specs.Private.Machine.{CanBegin, CanEnter, CanRead, CanReadOn, Enters, Steps, StepsAtOnce, Tells, next_wrapper};
-ghost use Rattle.tlv_walk.specs.Private.ReadsOn.{TellsFrom, TellsHeader};
+ghost use Rattle.tlv_walk.specs.WalkerState.{HasOctets};
+ghost use Rattle.tlv_walk.specs.Private.WalkerState.{CanBegin, CanEnter, CanRead, CanReadOn, Enters, Steps, StepsAtOnce, YieldsAt, next_wrapper};
+ghost use Rattle.tlv_walk.specs.Private.ReadsOn.{YieldsFrom, YieldsHeader};
 ghost use Rattle.tlv_walk.specs.Stack.{Within, bound_of};
-ghost use Rattle.tlv_walk.specs.Tells.{told_of};
-ghost use Rattle.tlv_walk.specs.Private.Tells.{TellsAtOnce, TellsStep};
+ghost use Rattle.tlv_walk.specs.HasRead.{event_value};
+ghost use Rattle.tlv_walk.specs.Private.Steps.{YieldsAtOnce, YieldsStep};
 
 use super::{Phase, Walker};
 use crate::event::Kind;
@@ -20,12 +20,12 @@ use std::mem::replace;
 use tlv_head::{Head, HeadReader, Header, HeaderFields, Size, read_header};
 
 impl Walker {
-    /// Begins a header: takes it at once, where it lies whole in the piece and may stand here, and else octet by octet.
+    /// Begins a header: takes it at once, if it lies whole in the piece and may stand here, and else octet by octet.
     pub(super) fn header<'a>(&mut self, piece: &mut &'a [u8]) -> Step<'a>
         requires begins { CanBegin self.old piece.old.now }
         requires limit { self.old.offset + length piece.old.now ≤ 2 ^ 40 }
         ensures steps { Steps self.old self.new piece.old.now piece.new.now result }
-        ensures tells { TellsStep self.old self.new piece.old.now piece.new.now result }
+        ensures yields { YieldsStep self.old self.new piece.old.now piece.new.now result }
     {
         let named = self.framing.inside.contains(self.offset);
         if let Some((fields, count)) = read_header(self.offset, named, *piece)
@@ -49,7 +49,7 @@ impl Walker {
         requires begins { BeginsWithFields piece.old.now self.old.offset (is_among self.old.offset self.old.framing.inside) fields.now count }
         requires limit { self.old.offset + length piece.old.now ≤ 2 ^ 40 }
         ensures steps { StepsAtOnce self.old self.new piece.old.now piece.new.now result }
-        ensures tells { TellsAtOnce self.old self.new piece.old.now piece.new.now result }
+        ensures yields { YieldsAtOnce self.old self.new piece.old.now piece.new.now result }
     {
         let octets: &'a [u8] = *piece;
         let (front, rest) = octets.split_at(count);
@@ -69,7 +69,7 @@ impl Walker {
         requires begins { CanRead self.old piece.old.now }
         requires limit { self.old.offset + length piece.old.now ≤ 2 ^ 40 }
         ensures steps { Steps self.old self.new piece.old.now piece.new.now result }
-        ensures tells { TellsStep self.old self.new piece.old.now piece.new.now result }
+        ensures yields { YieldsStep self.old self.new piece.old.now piece.new.now result }
     {
         if matches!(self.phase, Phase::InHeader) {
             let reader = replace(&mut self.reader, HeadReader::new(0, false));
@@ -88,7 +88,7 @@ impl Walker {
         requires some { piece.old.now ≢ [] }
         requires limit { self.old.offset + length piece.old.now ≤ 2 ^ 40 }
         ensures steps { Steps self.old self.new piece.old.now piece.new.now result }
-        ensures tells { TellsFrom self.old reader self.new piece.old.now piece.new.now result }
+        ensures yields { YieldsFrom self.old reader self.new piece.old.now piece.new.now result }
     {
         let mut reader = reader;
         let depth = self.stack.len();
@@ -120,8 +120,8 @@ impl Walker {
     fn enter_slowly<'a>(&mut self, header: Header) -> Event<'a>
         requires phase { self.old.phase ≡ phases.Between }
         requires enter { CanEnter self.old header }
-        ensures tells { Tells self.old self.new (header.offset + length (octets_of header)) }
-        ensures enters { TellsHeader self.old self.new header (told_of result) }
+        ensures yields { YieldsAt self.old self.new (header.offset + length (octets_of header)) }
+        ensures enters { YieldsHeader self.old self.new header (event_value result) }
         ensures octets { HasOctets result }
     {
         let fields = header.fields();
@@ -132,13 +132,13 @@ impl Walker {
         }
     }
 
-    /// Stands behind a header, whose octets have left the piece.
+    /// Stands after a header, whose octets have left the piece.
     #[inline(always)]
     pub(super) fn enter(&mut self, fields: &HeaderFields, octets: &[u8]) -> Kind
         requires phase { self.old.phase ≡ phases.Between }
         requires suits { Suits fields.now octets.now }
-        requires enter { CanEnter self.old (heading_with fields.now octets.now) }
-        ensures tells { Tells self.old self.new (fields.now.offset + length octets.now) }
+        requires enter { CanEnter self.old (header_with fields.now octets.now) }
+        ensures yields { YieldsAt self.old self.new (fields.now.offset + length octets.now) }
         ensures enters { Enters self.old self.new fields.now (fields.now.offset + length octets.now) result }
     {
         self.offset = fields.offset + octets.len() as u64;
@@ -163,7 +163,7 @@ impl Walker {
         Kind::Wrapper
     }
 
-    /// Counts a string that wraps encodings, where its offset is the first of those named that was
+    /// Counts a string that wraps encodings, if its offset is the first of those named that was
     /// not counted yet. Strings come in the order of their offsets, so one that is passed over stays
     /// unused.
     #[tactic(auto, using(std::proofs::lemmas::Option::slice_get_within))]
@@ -184,7 +184,7 @@ impl Walker {
         requires place { fields.now.offset ≡ self.now.offset }
         requires limit { fields.now.offset + length octets.now ≤ 2 ^ 40 }
         requires length { announced fields.now.size < 2 ^ 40 }
-        ensures shallow { IsTrue result → holds (heading_with fields.now octets.now) ≡ true → length self.now.stack < 128 }
+        ensures shallow { IsTrue result → holds (header_with fields.now octets.now) ≡ true → length self.now.stack < 128 }
         ensures fits { IsTrue result → Within (bound_of self.now.stack) (fields.now.offset + length octets.now + announced fields.now.size) }
     {
         if self.stack.len() == 128 && (fields.constructed || fields.wraps()) {

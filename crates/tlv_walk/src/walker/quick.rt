@@ -2,8 +2,8 @@
 ghost use Rattle.std.specs.Prelude.{◌≡◌, ◌+◌, ◌^◌, ◌≤◌, IfSome, length, take};
 ghost use Rattle.tlv_head.specs.Fields.{Suits};
 ghost use Rattle.tlv_walk.specs.Follow.{whole_events};
-ghost use Rattle.tlv_walk.specs.Private.Machine.{CanPass, Passes, StepsAtOnce, closes, heading_at, opens};
-ghost use Rattle.tlv_walk.specs.Private.Tells.{TellsAll, TellsAtOnce};
+ghost use Rattle.tlv_walk.specs.Private.WalkerState.{CanPass, Passes, StepsAtOnce, close_event, header_at, open_event};
+ghost use Rattle.tlv_walk.specs.Private.Steps.{YieldsAtOnce, YieldsEvents};
 
 use super::{Phase, Walker};
 use crate::Event;
@@ -20,8 +20,8 @@ pub(crate) struct WholePrimitive {
 }
 
 impl Walker {
-    /// The primitive with which these octets begin, where all of it is among them, its header has few octets, it is not named,
-    /// and it may stand here.
+    /// The primitive with which these octets begin, if all of it is among them, its header has few octets, it is not
+    /// named, and it may stand here.
     #[inline(always)]
     pub(crate) fn primitive(&self, octets: &[u8]) -> Option<WholePrimitive>
         requires { self.now.offset + length octets.now ≤ 2 ^ 40 }
@@ -63,8 +63,8 @@ impl Walker {
         requires can { CanPass self.old piece.old.now primitive.now }
         requires limit { self.old.offset + length piece.old.now ≤ 2 ^ 40 }
         ensures passes { Passes self.old self.new piece.old.now piece.new.now }
-        ensures tells { TellsAll self.old self.new piece.old.now piece.new.now
-            (whole_events (heading_at primitive.now piece.old.now) (take primitive.now.octets piece.old.now)) }
+        ensures yields { YieldsEvents self.old self.new piece.old.now piece.new.now
+            (whole_events (header_at primitive.now piece.old.now) (take primitive.now.octets piece.old.now)) }
     {
         let octets: &'a [u8] = *piece;
         let (_, rest) = octets.split_at(primitive.octets);
@@ -79,16 +79,16 @@ impl Walker {
         self.has_element = true;
     }
 
-    /// Takes the header with which the piece begins, where it is a constructed one of few octets that may stand here. Otherwise
-    /// nothing is taken.
+    /// Takes the header with which the piece begins, if it is a constructed one of few octets that may stand here.
+    /// Otherwise nothing is taken.
     #[inline(always)]
     pub(crate) fn constructed<'a>(
         &mut self,
         piece: &mut &'a [u8],
     ) -> Option<(HeaderFields, &'a [u8])>
         requires { self.old.offset + length piece.old.now ≤ 2 ^ 40 }
-        ensures steps { StepsAtOnce self.old self.new piece.old.now piece.new.now (opens result) }
-        ensures tells { TellsAtOnce self.old self.new piece.old.now piece.new.now (opens result) }
+        ensures steps { StepsAtOnce self.old self.new piece.old.now piece.new.now (open_event result) }
+        ensures yields { YieldsAtOnce self.old self.new piece.old.now piece.new.now (open_event result) }
         ensures suits { IfSome result (λ found. Suits found.0 found.1.now) }
     {
         if !matches!(self.phase, Phase::Between) {
@@ -115,13 +115,14 @@ impl Walker {
         Some((fields, front))
     }
 
-    /// Takes the end of the innermost element, where it is constructed and ends here: its contents have all come, or its
-    /// end-of-contents octets lie whole in the piece. Returns where these octets stand, if it has any. Otherwise nothing is taken.
+    /// Takes the end of the innermost element, if it is constructed and ends here: its contents have all come, or its
+    /// end-of-contents octets lie whole in the piece. Returns where these octets are, if it has any. Otherwise
+    /// nothing is taken.
     #[inline(always)]
     pub(crate) fn close<'a>(&mut self, piece: &mut &'a [u8]) -> Option<Option<u64>>
         requires { self.old.offset + length piece.old.now ≤ 2 ^ 40 }
-        ensures steps { StepsAtOnce self.old self.new piece.old.now piece.new.now (closes result) }
-        ensures tells { TellsAtOnce self.old self.new piece.old.now piece.new.now (closes result) }
+        ensures steps { StepsAtOnce self.old self.new piece.old.now piece.new.now (close_event result) }
+        ensures yields { YieldsAtOnce self.old self.new piece.old.now piece.new.now (close_event result) }
     {
         if !matches!(self.phase, Phase::Between) {
             return None;
@@ -137,13 +138,13 @@ impl Walker {
         Some(None)
     }
 
-    /// Takes contents of a primitive, or its end, where a primitive is open. Otherwise nothing is taken, and [`Walker::step`]
-    /// says what comes next.
+    /// Takes contents of a primitive, or its end, if a primitive is open. Otherwise nothing is taken, and
+    /// [`Walker::step`] says what comes next.
     #[inline(always)]
     pub(crate) fn contents_event<'a>(&mut self, piece: &mut &'a [u8]) -> Option<Event<'a>>
         requires { self.old.offset + length piece.old.now ≤ 2 ^ 40 }
         ensures steps { StepsAtOnce self.old self.new piece.old.now piece.new.now result }
-        ensures tells { TellsAtOnce self.old self.new piece.old.now piece.new.now result }
+        ensures yields { YieldsAtOnce self.old self.new piece.old.now piece.new.now result }
     {
         let Phase::InContents(left) = self.phase else {
             return None;

@@ -1,6 +1,6 @@
 use Rattle.std.proofs.Common.{◌≡◌, ◌≤◌, length, take}
 use Rattle.std.specs.List.{filter}
-use Rattle.tlv_value.specs.CheckState.{found_in}
+use Rattle.tlv_value.specs.CheckState.{findings_in}
 use Rattle.tlv_show.specs.Found.{shows}
 use Rattle.tlv_show.proofs.finder.note_found.Given as goal
 
@@ -8,6 +8,6 @@ abbrev pub invariant-loop-finding : goal.invariant-loop-finding
 invariant-loop-finding l = record {
   kept : l.found.items ≡ filter (shows l.rules) (take l.finding-index l.finding-items);
   few : length l.found.items ≤ l.finding-index;
-  all : l.finding-items ≡ found_in l.check;
+  all : l.finding-items ≡ findings_in l.check;
   fits : length l.finding-items ≤ 16;
 }

@@ -1,4 +1,4 @@
-use Rattle.tlv_show.proofs.LongerHeaders.{identifiers-found}
+use Rattle.tlv_show.proofs.FindingLemmas.LongerHeaders.{identifiers-found}
 use Rattle.tlv_show.proofs.laws.longer_identifiers_are_found.Goals as goal
 
 pub returns : goal.returns

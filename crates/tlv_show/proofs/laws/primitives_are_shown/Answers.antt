@@ -1,4 +1,4 @@
-use Rattle.tlv_show.proofs.DumpEvents.{primitives_are_shown}
+use Rattle.tlv_show.proofs.DumpLemmas.DumpEvents.{primitives_are_shown}
 use Rattle.tlv_show.proofs.laws.primitives_are_shown.Goals as goal
 
 pub returns : goal.returns

@@ -1,4 +1,4 @@
-use Rattle.tlv_show.proofs.SomeSpelling.{some-spelling}
+use Rattle.tlv_show.proofs.FindingLemmas.SomeSpelling.{some-spelling}
 use Rattle.tlv_show.proofs.laws.some_spelling.Goals as goal
 
 pub returns : goal.returns

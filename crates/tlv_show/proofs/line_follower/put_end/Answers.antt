@@ -6,12 +6,12 @@ use Rattle.tlv_show.proofs.line_follower.put_end.Goals.{then-not-is_open-via-the
 
 pub returns-then-not-is_open : goal.returns-then-not-is_open
 returns-then-not-is_open g c =
-    let told = g.D.Drain.told in
+    let state_of = g.D.Drain.state in
     elim c.then-not-is_open.branch [
-      | then-not-is_open-via-then-not-is_open w ↦ rw w.if-not-is_open.true (puts_nothing told _ tt)
+      | then-not-is_open-via-then-not-is_open w ↦ rw w.if-not-is_open.true (puts_nothing state_of _ tt)
       | then-not-is_open-via-else-not-is_open+then-left-ne0 w ↦
           let some : eqb c.args.value.now.left 0 ≡ false = grind (arith, nat_tests, w.left.ensures, w.if-left-ne0.true) in
-          rw (w.if-not-is_open.false, some) (puts_nothing told _ tt)
+          rw (w.if-not-is_open.false, some) (puts_nothing state_of _ tt)
     ]
 
 pub returns : goal.returns

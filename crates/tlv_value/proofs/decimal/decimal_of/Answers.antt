@@ -5,7 +5,7 @@ use Rattle.std.proofs.lemmas.Int.{to_z-of_z}
 use Rattle.std.proofs.lemmas.List.{take_more}
 use mir.Syntax.{w128}
 use Rattle.tlv_value.specs.Number.{twos_complement}
-use Rattle.tlv_value.proofs.Numbers.{twos-fits, twos-fits_all, twos-more}
+use Rattle.tlv_value.proofs.TextLemmas.Numbers.{twos-fits, twos-fits_all, twos-more}
 use Rattle.tlv_value.proofs.decimal.decimal_of.Goals as goal
 
 stepped : (n from sum next : ℤ) (x : ℕ) → x < 256 → FitsSigned w128 (n *ℤ pos 256) → FitsSigned w128 next → n ≡ sum → from ≡ pos x → next ≡ sum *ℤ pos 256 +ℤ pos x

@@ -5,7 +5,7 @@ use Rattle.std.proofs.lemmas.Int.{to_z-of_z}
 use Rattle.std.proofs.lemmas.List.{take_more}
 use mir.Syntax.{w64}
 use Rattle.tlv_value.specs.Number.{twos_complement}
-use Rattle.tlv_value.proofs.Numbers.{twos-fits_64, twos-fits_all_64, twos-more}
+use Rattle.tlv_value.proofs.TextLemmas.Numbers.{twos-fits_64, twos-fits_all_64, twos-more}
 use Rattle.tlv_value.proofs.decimal.short_number.Goals as goal
 
 stepped : (n from sum next : ℤ) (x : ℕ) → x < 256 → FitsSigned w64 (n *ℤ pos 256) → FitsSigned w64 next → n ≡ sum → from ≡ pos x → next ≡ sum *ℤ pos 256 +ℤ pos x

@@ -1,6 +1,6 @@
 use Rattle.std.proofs.Common.{◌≡◌, ℕ, ◌+◌, ◌*◌, ◌%◌, ◌++◌, ◌∷◌, List, get_or, refl, sym, ap, ◌∙◌, arith, append_assoc}
 use Rattle.tlv_value.specs.Private.Arcs.{part_text}
-use Rattle.tlv_value.proofs.Arcs.{few-bits, none-yet, one-more, room-last, room-within, run-end, run-last, run-within}
+use Rattle.tlv_value.proofs.TextLemmas.Arcs.{few-bits, none-yet, one-more, room-last, room-within, run-end, run-last, run-within}
 use Rattle.tlv_value.proofs.dotted.write_short.Goals.{then-octet-lt128, else-octet-lt128}
 use Rattle.tlv_value.proofs.dotted.write_short.Goals as goal
 

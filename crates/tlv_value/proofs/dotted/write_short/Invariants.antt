@@ -1,5 +1,5 @@
 use Rattle.std.proofs.Common.{◌≡◌, ◌<◌, ◌^◌, List, ℕ, ◌++◌, ◌∷◌, drop, [], true}
-use Rattle.tlv_value.proofs.Arcs.{HasRoom, run}
+use Rattle.tlv_value.proofs.TextLemmas.Arcs.{HasRoom, run}
 use Rattle.tlv_value.proofs.dotted.write_short.Given as goal
 
 abbrev pub invariant-loop-octet : goal.invariant-loop-octet

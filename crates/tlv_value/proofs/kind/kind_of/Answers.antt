@@ -2,7 +2,7 @@ use Rattle.std.proofs.Common.{ap, ◌∙◌, sym, arith}
 use Rattle.tlv_head.specs.declared.header.Class.{Class}
 use Rattle.tlv_value.specs.declared.kind.Kind.TheVariants.{Octets}
 use Rattle.tlv_value.specs.Kind.{kind_of}
-use Rattle.tlv_value.proofs.TypeKinds.{kind-at}
+use Rattle.tlv_value.proofs.TextLemmas.TypeKinds.{kind-at}
 use Rattle.tlv_value.proofs.kind.kind_of.Goals as goal
 use Rattle.tlv_value.proofs.kind.kind_of.Goals.{in-Universal, in_default}
 

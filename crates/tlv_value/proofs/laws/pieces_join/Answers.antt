@@ -1,4 +1,4 @@
-use Rattle.tlv_value.proofs.Pieces.{pieces-join}
+use Rattle.tlv_value.proofs.TextLemmas.Pieces.{pieces-join}
 use Rattle.tlv_value.proofs.laws.pieces_join.Goals as goal
 
 pub returns : goal.returns

@@ -1,4 +1,4 @@
-use Rattle.tlv_value.proofs.OneCut.{rows-one-cut}
+use Rattle.tlv_value.proofs.RowLemmas.OneCut.{rows-one-cut}
 use Rattle.tlv_value.proofs.laws.rows_have_one_cut.Goals as goal
 
 pub returns : goal.returns

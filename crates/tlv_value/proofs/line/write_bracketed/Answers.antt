@@ -1,5 +1,5 @@
 use Rattle.std.proofs.Common.{◌∷◌, [], arith}
-use Rattle.tlv_value.proofs.LineLengths.{added, front_short, number_short}
+use Rattle.tlv_value.proofs.TextLemmas.LineLengths.{added, front_short, number_short}
 use Rattle.tlv_value.proofs.line.write_bracketed.Goals as goal
 
 pub add-requires : goal.add-requires

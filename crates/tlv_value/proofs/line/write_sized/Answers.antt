@@ -1,7 +1,7 @@
 use Rattle.std.proofs.Common.{decimal, arith}
 use Rattle.std.proofs.lemmas.Fmt.{length-decimal-le}
 use Rattle.tlv_value.specs.Layout.{columns}
-use Rattle.tlv_value.proofs.LineLengths.{added, columns_short}
+use Rattle.tlv_value.proofs.TextLemmas.LineLengths.{added, columns_short}
 use Rattle.tlv_value.proofs.line.write_sized.Goals as goal
 
 pub returns-then-not-pure-clause-bound : goal.returns-then-not-pure-clause-bound

@@ -1,6 +1,6 @@
 use Rattle.std.proofs.Common.{arith}
 use Rattle.tlv_value.specs.Layout.{columns}
-use Rattle.tlv_value.proofs.LineLengths.{added, columns_short}
+use Rattle.tlv_value.proofs.TextLemmas.LineLengths.{added, columns_short}
 use Rattle.tlv_value.proofs.line.write_worded.Goals as goal
 
 pub returns-then-not-pure-clause-bound : goal.returns-then-not-pure-clause-bound

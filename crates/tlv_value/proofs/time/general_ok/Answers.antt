@@ -1,7 +1,7 @@
 use Rattle.std.proofs.Common.{◌≡◌, ◌∷◌, [], List, ℕ, sym, ◌∙◌}
 use Rattle.std.specs.Prelude.{Bool, Some}
 use Rattle.tlv_value.specs.Times.{Form, fraction, general_hour, general_zone, has_form, maybe, minute, second, ◌then◌}
-use Rattle.tlv_value.proofs.Forms.{form-then, form-three, maybe-left, maybe-there}
+use Rattle.tlv_value.proofs.CheckLemmas.Forms.{form-then, form-three, maybe-left, maybe-there}
 use Rattle.tlv_value.proofs.time.general_ok.Goals as goal
 
 abbrev tail : Form

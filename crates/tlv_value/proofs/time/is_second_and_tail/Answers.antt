@@ -1,7 +1,7 @@
 use Rattle.std.proofs.Common.{sym, ◌∙◌}
 use Rattle.std.specs.Prelude.{Some}
 use Rattle.tlv_value.specs.Times.{Form, fraction, general_zone, maybe, second, ◌then◌}
-use Rattle.tlv_value.proofs.Forms.{form-then, maybe-left, maybe-there}
+use Rattle.tlv_value.proofs.CheckLemmas.Forms.{form-then, maybe-left, maybe-there}
 use Rattle.tlv_value.proofs.time.is_second_and_tail.Goals as goal
 
 abbrev tail : Form

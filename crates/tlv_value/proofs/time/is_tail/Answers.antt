@@ -1,5 +1,5 @@
 use Rattle.tlv_value.specs.Times.{fraction, general_zone, maybe}
-use Rattle.tlv_value.proofs.Forms.{maybe-left, maybe-there}
+use Rattle.tlv_value.proofs.CheckLemmas.Forms.{maybe-left, maybe-there}
 use Rattle.tlv_value.proofs.time.is_tail.Goals as goal
 
 pub returns-then-is_fraction_and_zone : goal.returns-then-is_fraction_and_zone

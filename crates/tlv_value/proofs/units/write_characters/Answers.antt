@@ -1,6 +1,6 @@
 use Rattle.std.proofs.Common.{◌++◌, List, ℕ, sym, ap, ◌∙◌, arith}
-use Rattle.tlv_value.proofs.PlainUnits.{plain-row}
-use Rattle.tlv_value.proofs.Short.{units-short}
+use Rattle.tlv_value.proofs.TextLemmas.PlainUnits.{plain-row}
+use Rattle.tlv_value.proofs.TextLemmas.Short.{units-short}
 use Rattle.tlv_value.proofs.units.write_characters.Goals as goal
 
 pub returns-then-are_plain : goal.returns-then-are_plain

@@ -1,7 +1,7 @@
 use Rattle.std.proofs.Common.{ℕ, take}
 use Rattle.tlv_value.specs.Units.{unit_text}
-use Rattle.tlv_value.proofs.PlainUnits.{plain-units}
-use Rattle.tlv_value.proofs.UnitSteps.{units-step}
+use Rattle.tlv_value.proofs.TextLemmas.PlainUnits.{plain-units}
+use Rattle.tlv_value.proofs.TextLemmas.UnitSteps.{units-step}
 use Rattle.tlv_value.proofs.units.write_part.Goals as goal
 
 pub returns-then-plain-gt0-clause-text : goal.returns-then-plain-gt0-clause-text

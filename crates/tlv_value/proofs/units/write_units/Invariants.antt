@@ -1,6 +1,6 @@
 use Rattle.std.proofs.Common.{◌≡◌, ℕ, ◌++◌, List, length}
 use Rattle.std.specs.Prelude.{flat_map}
-use Rattle.tlv_io.specs.Held.{AddsIfRoom}
+use Rattle.tlv_io.specs.LineTexts.{AddsIfRoom}
 use Rattle.tlv_value.specs.Units.{unit_text, units}
 use Rattle.tlv_value.proofs.units.write_units.Given as goal
 

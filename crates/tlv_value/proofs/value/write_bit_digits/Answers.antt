@@ -3,7 +3,7 @@ use Rattle.std.proofs.lemmas.List.{take_all}
 use Rattle.tlv_value.specs.Bits.{bits_of, last_bits}
 use Rattle.tlv_value.specs.Private.KindValues.{digits_of}
 use Rattle.tlv_value.specs.Value.{used_digits}
-use Rattle.tlv_value.proofs.Texts.{digits-cut, length-digits, length-octet_digits, used-last}
+use Rattle.tlv_value.proofs.TextLemmas.Texts.{digits-cut, length-digits, length-octet_digits, used-last}
 use Rattle.tlv_value.proofs.value.write_bit_digits.Goals as goal
 
 pub add-requires-in-loop-octet : goal.add-requires-in-loop-octet

@@ -1,12 +1,12 @@
 use Rattle.std.proofs.Common.{◌∷◌, arith}
 use Rattle.tlv_value.specs.Private.KindValues.{joined_pairs}
-use Rattle.tlv_value.specs.Units.{quoted}
-use Rattle.tlv_value.proofs.Short.{grown, joined-short, quoted-short}
+use Rattle.tlv_value.specs.Units.{quoted_text}
+use Rattle.tlv_value.proofs.TextLemmas.Short.{grown, joined-short, quoted-short}
 use Rattle.tlv_value.proofs.value.write_row.Goals as goal
 
 pub returns-in-Text-clause-bound : goal.returns-in-Text-clause-bound
 returns-in-Text-clause-bound c =
-    grown c.args.held.now c.write_text.new.held (32 ∷ quoted c.args.kind c.args.row.now) 323 c.write_text.ensures
+    grown c.args.held.now c.write_text.new.held (32 ∷ quoted_text c.args.kind c.args.row.now) 323 c.write_text.ensures
     (omega (arith, quoted-short c.args.kind c.args.row.now, c.requires.short))
 
 pub returns-in_default-clause-bound : goal.returns-in_default-clause-bound

@@ -1,8 +1,8 @@
 use Rattle.std.proofs.Common.{rules, ◌≤◌, ◌∷◌, length, List, ℕ}
 use Rattle.tlv_value.specs.KindValues.{bits_value, boolean_value, integer_value}
-use Rattle.tlv_value.specs.Units.{quoted}
+use Rattle.tlv_value.specs.Units.{quoted_text}
 use Rattle.tlv_value.specs.Value.{spaced_pairs}
-use Rattle.tlv_value.proofs.Short.{bits-short, boolean-short, grown, integer-short, pairs-short, text-short}
+use Rattle.tlv_value.proofs.TextLemmas.Short.{bits-short, boolean-short, grown, integer-short, pairs-short, text-short}
 use Rattle.tlv_value.proofs.value.write_value.Goals as goal
 
 pub returns-in-Boolean-clause-bound : goal.returns-in-Boolean-clause-bound
@@ -24,7 +24,7 @@ pub returns-in-Text-clause-bound : goal.returns-in-Text-clause-bound
 returns-in-Text-clause-bound c =
     let octets : List ℕ = c.args.contents.now in
     let short : length octets ≤ 64 = search rules in
-    grown c.args.held.now c.write_text.new.held (32 ∷ quoted c.args.kind octets) 330 c.write_text.ensures (text-short c.args.kind octets short)
+    grown c.args.held.now c.write_text.new.held (32 ∷ quoted_text c.args.kind octets) 330 c.write_text.ensures (text-short c.args.kind octets short)
 
 pub returns-in-Octets-clause-bound : goal.returns-in-Octets-clause-bound
 returns-in-Octets-clause-bound c =

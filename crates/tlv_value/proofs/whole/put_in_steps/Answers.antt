@@ -1,7 +1,7 @@
 use Rattle.std.proofs.Common.{◌++◌, List, ℕ, ap, append_assoc, arith, rules, refl, ◌∙◌}
 use Rattle.tlv_io.proofs.Puts.{puts_failed_in, puts_text, puts_then_as}
-use Rattle.tlv_value.specs.State.{TextState, after, begun, ended, told}
-use Rattle.tlv_value.specs.Private.State.{lines_in_steps}
+use Rattle.tlv_value.specs.TextState.{TextState, begin_lines, contents_lines, end_lines, text_after}
+use Rattle.tlv_value.specs.Private.PrimitiveLines.{lines_in_steps}
 use Rattle.tlv_value.proofs.whole.put_in_steps.Goals as goal
 
 pub bytes-requires : goal.bytes-requires
@@ -16,8 +16,8 @@ returns-in_err-begin g c =
     let name_of = g.N.NameTable.name_of c.args.names.now in
     let octets : List ℕ = c.args.contents.now in
     let s : TextState = c.of-text.result in
-    puts_failed_in g.D.Drain.told _ _ (begun s) _ _ _ c.in_err-begin.ensures (search rules) (record {
-      rest = told s octets ++ ended name_of (after s octets);
+    puts_failed_in g.D.Drain.state _ _ (begin_lines s) _ _ _ c.in_err-begin.ensures (search rules) (record {
+      rest = contents_lines s octets ++ end_lines name_of (text_after s octets);
       is = ap (λ (t : TextState). lines_in_steps name_of t octets) c.of-text.ensures;
     })
 
@@ -26,10 +26,10 @@ returns-in_err-bytes g c =
     let name_of = g.N.NameTable.name_of c.args.names.now in
     let octets : List ℕ = c.args.contents.now in
     let s : TextState = c.of-text.result in
-    let front = puts_then_as g.D.Drain.told _ _ _ (begun s) (told s octets) (begun s ++ told s octets) _ _ c.in_ok-begin.ensures c.in_err-bytes.ensures.puts refl in
-    puts_failed_in g.D.Drain.told _ _ (begun s ++ told s octets) _ _ _ front (search rules) (record {
-      rest = ended name_of (after s octets);
-      is = append_assoc (begun s) (told s octets) (ended name_of (after s octets)) ∙ ap (λ (t : TextState). lines_in_steps name_of t octets) c.of-text.ensures;
+    let front = puts_then_as g.D.Drain.state _ _ _ (begin_lines s) (contents_lines s octets) (begin_lines s ++ contents_lines s octets) _ _ c.in_ok-begin.ensures c.in_err-bytes.ensures.puts refl in
+    puts_failed_in g.D.Drain.state _ _ (begin_lines s ++ contents_lines s octets) _ _ _ front (search rules) (record {
+      rest = end_lines name_of (text_after s octets);
+      is = append_assoc (begin_lines s) (contents_lines s octets) (end_lines name_of (text_after s octets)) ∙ ap (λ (t : TextState). lines_in_steps name_of t octets) c.of-text.ensures;
     })
 
 pub returns : goal.returns
@@ -37,6 +37,6 @@ returns g c =
     let name_of = g.N.NameTable.name_of c.args.names.now in
     let octets : List ℕ = c.args.contents.now in
     let s : TextState = c.of-text.result in
-    let end = puts_text g.D.Drain.told _ _ _ _ _ (ap (ended name_of) c.in_ok-bytes.ensures.state) c.end.ensures.puts in
-    let rest = puts_then_as g.D.Drain.told _ _ _ (told s octets) (ended name_of (after s octets)) (told s octets ++ ended name_of (after s octets)) _ _ c.in_ok-bytes.ensures.puts end refl in
-    puts_then_as g.D.Drain.told _ _ _ _ _ _ _ _ c.in_ok-begin.ensures rest (ap (λ (t : TextState). lines_in_steps name_of t octets) c.of-text.ensures)
+    let end = puts_text g.D.Drain.state _ _ _ _ _ (ap (end_lines name_of) c.in_ok-bytes.ensures.state) c.end.ensures.puts in
+    let rest = puts_then_as g.D.Drain.state _ _ _ (contents_lines s octets) (end_lines name_of (text_after s octets)) (contents_lines s octets ++ end_lines name_of (text_after s octets)) _ _ c.in_ok-bytes.ensures.puts end refl in
+    puts_then_as g.D.Drain.state _ _ _ _ _ _ _ _ c.in_ok-begin.ensures rest (ap (λ (t : TextState). lines_in_steps name_of t octets) c.of-text.ensures)

@@ -1,20 +1,20 @@
 use Rattle.std.proofs.Common.{◌++◌, ◌∙◌, ap, rules, ℕ, List}
 use Rattle.tlv_io.proofs.Puts.{puts_failed, puts_then_as}
 use Rattle.tlv_value.specs.KindValues.{long_text}
-use Rattle.tlv_value.specs.Private.State.{line_of}
+use Rattle.tlv_value.specs.Private.PrimitiveLines.{primitive_line}
 use Rattle.tlv_value.specs.Rows.{rows_of}
-use Rattle.tlv_value.specs.State.{row_lines}
-use Rattle.tlv_value.proofs.FullRows.{pair_lines}
+use Rattle.tlv_value.specs.TextState.{row_lines}
+use Rattle.tlv_value.proofs.RowLemmas.FullRows.{pair_lines}
 use Rattle.tlv_value.proofs.whole.put_pairs.Goals as goal
 
 pub returns-in_err-put_long : goal.returns-in_err-put_long
-returns-in_err-put_long g c = puts_failed g.D.Drain.told _ _ _ _ _ _ c.in_err-put_long.ensures (search rules)
+returns-in_err-put_long g c = puts_failed g.D.Drain.state _ _ _ _ _ _ c.in_err-put_long.ensures (search rules)
 
 pub returns : goal.returns
 returns g c =
     let p = c.args.value.now in
-    let line : List ℕ = line_of p (long_text p.kind p.size c.args.contents.now) in
+    let line : List ℕ = primitive_line p (long_text p.kind p.size c.args.contents.now) in
     let rows =
     pair_lines p.kind c.requires.pairs p.layout c.requires.endless c.octets_in_rows.result.now
     ∙ ap (λ (octets : List ℕ). row_lines p.kind p.layout 0 (rows_of p.kind octets)) c.octets_in_rows.ensures in
-    puts_then_as g.D.Drain.told _ _ _ _ _ _ _ _ c.in_ok-put_long.ensures c.put_pair_rows.ensures (ap (λ (t : List ℕ). line ++ t) rows)
+    puts_then_as g.D.Drain.state _ _ _ _ _ _ _ _ c.in_ok-put_long.ensures c.put_pair_rows.ensures (ap (λ (t : List ℕ). line ++ t) rows)

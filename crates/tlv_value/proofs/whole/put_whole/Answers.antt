@@ -1,18 +1,18 @@
 use Rattle.std.proofs.Common.{ap, sym, ◌∙◌}
 use Rattle.tlv_value.specs.declared.primitive.Primitive.{Primitive}
 use Rattle.tlv_value.specs.KindValues.{is_long}
-use Rattle.tlv_value.specs.Private.State.{lines_in_steps, start_of}
-use Rattle.tlv_value.proofs.Pieces.{shown-told, whole-told}
+use Rattle.tlv_value.specs.Private.PrimitiveLines.{lines_in_steps, new_text_of}
+use Rattle.tlv_value.proofs.TextLemmas.Pieces.{shown-new, whole-new}
 use Rattle.tlv_io.proofs.Puts.{puts_text}
 use Rattle.tlv_value.proofs.whole.put_whole.Goals as goal
 
 pub returns-then-is_long : goal.returns-then-is_long
 returns-then-is_long g c =
     let name_of = g.N.NameTable.name_of c.args.names.now in
-    let steps = ap (λ (p : Primitive). lines_in_steps name_of (start_of p) c.args.contents.now) c.new-value.ensures in
-    puts_text g.D.Drain.told _ _ _ _ _ (steps ∙ whole-told name_of c.args.header.now c.args.layout c.args.contents.now (sym c.requires)) c.put_long.ensures
+    let steps = ap (λ (p : Primitive). lines_in_steps name_of (new_text_of p) c.args.contents.now) c.new-value.ensures in
+    puts_text g.D.Drain.state _ _ _ _ _ (steps ∙ whole-new name_of c.args.header.now c.args.layout c.args.contents.now (sym c.requires)) c.put_long.ensures
 
 pub returns-else-is_long : goal.returns-else-is_long
 returns-else-is_long g c =
     let short = sym (ap (λ (p : Primitive). is_long p.kind p.size) c.new-value.ensures) ∙ sym c.if-is_long.ensures in
-    puts_text g.D.Drain.told _ _ _ _ _ (shown-told _ c.args.header.now c.args.layout c.new-value.result c.args.contents.now c.new-value.ensures short (sym c.requires)) c.put.ensures
+    puts_text g.D.Drain.state _ _ _ _ _ (shown-new _ c.args.header.now c.args.layout c.new-value.result c.args.contents.now c.new-value.ensures short (sym c.requires)) c.put.ensures

@@ -1,4 +1,4 @@
-use Rattle.tlv_walk.proofs.Endings.{done-sound, sound-done}
+use Rattle.tlv_walk.proofs.GrammarLemmas.Endings.{done-sound, sound-done}
 use Rattle.tlv_walk.proofs.laws.done_is_sound.Goals as goal
 
 pub returns : goal.returns

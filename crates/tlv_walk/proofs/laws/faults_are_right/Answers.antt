@@ -1,4 +1,4 @@
-use Rattle.tlv_walk.proofs.Endings.{no-false-alarm}
+use Rattle.tlv_walk.proofs.GrammarLemmas.Endings.{no-false-alarm}
 use Rattle.tlv_walk.proofs.laws.faults_are_right.Goals as goal
 
 pub returns : goal.returns

@@ -1,4 +1,4 @@
-use Rattle.tlv_walk.proofs.Readings.{is-reading, reading, reading-unique}
+use Rattle.tlv_walk.proofs.GrammarLemmas.Readings.{is-reading, reading, reading-unique}
 use Rattle.tlv_walk.proofs.laws.one_reading.Goals as goal
 
 pub returns : goal.returns

@@ -1,4 +1,4 @@
-use Rattle.tlv_walk.proofs.Readings.{unique}
+use Rattle.tlv_walk.proofs.GrammarLemmas.Readings.{unique}
 use Rattle.tlv_walk.proofs.laws.spellings_are_exact.Goals as goal
 
 pub returns : goal.returns

@@ -6,9 +6,9 @@ use Rattle.tlv_cut.proofs.extract_follower.Extract.put_contents.Goals as goal
 pub returns-in-Inside : goal.returns-in-Inside
 returns-in-Inside g c =
     let is = ap (λ (s : ExtractState). s.position) (sym c.self.view_is) ∙ c.in-Inside.is in
-    puts_contents _ _ _ is g.D.Drain.told _ _ _ c.put.ensures.puts
+    puts_contents _ _ _ is g.D.Drain.state _ _ _ c.put.ensures.puts
 
 pub returns-in_default : goal.returns-in_default
 returns-in_default g c =
-    puts_none c.args.self.now c.self.inside.position c.args.octets.now g.D.Drain.told _
+    puts_none c.args.self.now c.self.inside.position c.args.octets.now g.D.Drain.state _
     (ap (λ (s : ExtractState). s.position) (sym c.self.view_is)) c.in_default.not-Inside

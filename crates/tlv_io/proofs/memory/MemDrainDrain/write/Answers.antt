@@ -7,8 +7,8 @@ pub returns-clause-rest : goal.returns-clause-rest
 returns-clause-rest c =
     drop-put_mid c.args.self.now.used _ c.args.self.now.room.now c.copy_from_slice.new.self _ (search rules) (omega (arith, c.fits-self)) (search rules)
 
-pub returns-then-free-eq0-clause-told : goal.returns-then-free-eq0-clause-told
-returns-then-free-eq0-clause-told c = search rules
+pub returns-then-free-eq0-clause-writes : goal.returns-then-free-eq0-clause-writes
+returns-then-free-eq0-clause-writes c = search rules
 
-pub returns-clause-told : goal.returns-clause-told
-returns-clause-told c = grind (arith, common_steps)
+pub returns-clause-writes : goal.returns-clause-writes
+returns-clause-writes c = grind (arith, common_steps)

@@ -1,5 +1,5 @@
 use Rattle.std.proofs.Common.{◌∙◌, rules, refl, sym}
-use Rattle.tlv_show.proofs.Passing.{passes}
+use Rattle.tlv_show.proofs.DumpLemmas.Passing.{passes}
 use Rattle.tlv_show.proofs.finder.Finder.passes.Goals as goal
 
 pub returns : goal.returns

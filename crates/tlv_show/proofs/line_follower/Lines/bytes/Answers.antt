@@ -1,10 +1,10 @@
 use Rattle.std.proofs.Common.{◌≡◌, ◌-◌, ◌^◌, ◌≤◌, ℕ, length, ap, ap₂, sym, ◌∙◌, arith}
 use Rattle.std.proofs.lemmas.Result.{on_ok_weaker}
 use Rattle.std.specs.Prelude.{Option}
-use Rattle.tlv_value.specs.State.{TextState}
-use Rattle.tlv_walk.specs.Follow.{Following, each_octet}
-use Rattle.tlv_show.specs.Dumped.{Dumping, further, one_dumped}
-use Rattle.tlv_show.proofs.Dumped.{dumped_bytes}
+use Rattle.tlv_value.specs.TextState.{TextState}
+use Rattle.tlv_walk.specs.Follow.{Effect, each_octet}
+use Rattle.tlv_show.specs.LinesStep.{LinesState, lines_octet_step, offset_after}
+use Rattle.tlv_show.proofs.DumpLemmas.Dumped.{dumped_bytes}
 use Rattle.tlv_io.proofs.Puts.{puts_text}
 use Rattle.tlv_show.proofs.line_follower.Lines.bytes.Goals as goal
 
@@ -13,15 +13,15 @@ returns-clause-state g c =
     let s = c.self.inside in
     let octets = c.args.octets.now in
     let within : s.offset ≤ 2 ^ 64 - 1 = omega arith in
-    let is = ap (λ (s : Dumping). each_octet one_dumped s octets) (sym c.self.view_is) ∙ dumped_bytes _ octets in
-    let there : c.saturating_add-self-inside.result ≡ further s.offset (length octets) = omega (arith, c.saturating_add-self-inside.ensures, within) in
+    let is = ap (λ (s : LinesState). each_octet lines_octet_step s octets) (sym c.self.view_is) ∙ dumped_bytes _ octets in
+    let there : c.saturating_add-self-inside.result ≡ offset_after s.offset (length octets) = omega (arith, c.saturating_add-self-inside.ensures, within) in
     on_ok_weaker c.put_bytes.result
     (λ e. ap₂ (λ (o : ℕ) (v : Option TextState). record { layout = s.layout; names = s.names.now; offset = o; in_padding = s.in_padding; value = v }) there e
-    ∙ sym (ap (λ (t : Following Dumping). t.state) is))
+    ∙ sym (ap (λ (t : Effect LinesState). t.state) is))
     c.put_bytes.ensures.state
 
 pub returns-clause-puts : goal.returns-clause-puts
 returns-clause-puts g c =
     let octets = c.args.octets.now in
-    let is = ap (λ (s : Dumping). each_octet one_dumped s octets) (sym c.self.view_is) ∙ dumped_bytes _ octets in
-    puts_text g.D.Drain.told _ _ _ _ _ (sym (ap (λ (t : Following Dumping). t.put) is)) c.put_bytes.ensures.puts
+    let is = ap (λ (s : LinesState). each_octet lines_octet_step s octets) (sym c.self.view_is) ∙ dumped_bytes _ octets in
+    puts_text g.D.Drain.state _ _ _ _ _ (sym (ap (λ (t : Effect LinesState). t.put) is)) c.put_bytes.ensures.puts

@@ -1,9 +1,9 @@
 use Rattle.std.proofs.Common.{◌≡◌, ◌-◌, ◌^◌, ◌<◌, ◌≤◌, ℕ, true, length, ap, sym, ◌∙◌, arith}
 use Rattle.std.proofs.lemmas.Result.{on_ok_weaker}
-use Rattle.tlv_walk.specs.Follow.{Following, each_octet}
-use Rattle.tlv_show.specs.Dumped.{Dumping, further, one_padded}
-use Rattle.tlv_show.specs.Private.Dumped.{if_open}
-use Rattle.tlv_show.proofs.Dumped.{padded_first, padded_more}
+use Rattle.tlv_walk.specs.Follow.{Effect, each_octet}
+use Rattle.tlv_show.specs.LinesStep.{LinesState, lines_padding_step, offset_after}
+use Rattle.tlv_show.specs.Private.LinesStep.{if_open}
+use Rattle.tlv_show.proofs.DumpLemmas.Dumped.{padded_first, padded_more}
 use Rattle.tlv_io.proofs.Puts.{puts_nothing, puts_text}
 use Rattle.tlv_show.proofs.line_follower.Lines.pad.Goals as goal
 
@@ -11,32 +11,32 @@ pub returns-then-self-clause-state : goal.returns-then-self-clause-state
 returns-then-self-clause-state g c =
     let s = c.self.inside in
     let within : s.offset ≤ 2 ^ 64 - 1 = omega arith in
-    let there : c.saturating_add-self-inside.result ≡ further s.offset (length c.args.octets.now) = omega (arith, c.saturating_add-self-inside.ensures, within) in
-    let is = ap (λ (s : Dumping). each_octet one_padded s c.args.octets.now) (sym c.self.view_is) ∙ padded_more _ c.args.octets.now c.if-self.true in
+    let there : c.saturating_add-self-inside.result ≡ offset_after s.offset (length c.args.octets.now) = omega (arith, c.saturating_add-self-inside.ensures, within) in
+    let is = ap (λ (s : LinesState). each_octet lines_padding_step s c.args.octets.now) (sym c.self.view_is) ∙ padded_more _ c.args.octets.now c.if-self.true in
     ap (λ (o : ℕ). record { layout = s.layout; names = s.names.now; offset = o; in_padding = s.in_padding; value = if_open s.is_open s.value }) there
-    ∙ sym (ap (λ (t : Following Dumping). t.state) is)
+    ∙ sym (ap (λ (t : Effect LinesState). t.state) is)
 
 pub returns-then-self-clause-puts : goal.returns-then-self-clause-puts
 returns-then-self-clause-puts g c =
     let s = c.self.inside in
-    let is = ap (λ (s : Dumping). each_octet one_padded s c.args.octets.now) (sym c.self.view_is) ∙ padded_more _ c.args.octets.now c.if-self.true in
-    puts_text g.D.Drain.told _ _ _ _ _ (sym (ap (λ (t : Following Dumping). t.put) is)) (puts_nothing g.D.Drain.told _ tt)
+    let is = ap (λ (s : LinesState). each_octet lines_padding_step s c.args.octets.now) (sym c.self.view_is) ∙ padded_more _ c.args.octets.now c.if-self.true in
+    puts_text g.D.Drain.state _ _ _ _ _ (sym (ap (λ (t : Effect LinesState). t.put) is)) (puts_nothing g.D.Drain.state _ tt)
 
 pub returns-clause-state : goal.returns-clause-state
 returns-clause-state g c =
     let s = c.self.inside in
     let within : s.offset ≤ 2 ^ 64 - 1 = omega arith in
     let some : 0 < length c.args.octets.now = search arith in
-    let there : c.saturating_add-self-inside.result ≡ further s.offset (length c.args.octets.now) = omega (arith, c.saturating_add-self-inside.ensures, within) in
-    let is = ap (λ (s : Dumping). each_octet one_padded s c.args.octets.now) (sym c.self.view_is) ∙ padded_first _ c.args.octets.now some c.if-self.false in
+    let there : c.saturating_add-self-inside.result ≡ offset_after s.offset (length c.args.octets.now) = omega (arith, c.saturating_add-self-inside.ensures, within) in
+    let is = ap (λ (s : LinesState). each_octet lines_padding_step s c.args.octets.now) (sym c.self.view_is) ∙ padded_first _ c.args.octets.now some c.if-self.false in
     on_ok_weaker c.put_padding.result
     (λ _. ap (λ (o : ℕ). record { layout = s.layout; names = s.names.now; offset = o; in_padding = true; value = if_open s.is_open s.value }) there
-    ∙ sym (ap (λ (t : Following Dumping). t.state) is))
+    ∙ sym (ap (λ (t : Effect LinesState). t.state) is))
     c.put_padding.ensures.held
 
 pub returns-clause-puts : goal.returns-clause-puts
 returns-clause-puts g c =
     let s = c.self.inside in
     let some : 0 < length c.args.octets.now = search arith in
-    let is = ap (λ (s : Dumping). each_octet one_padded s c.args.octets.now) (sym c.self.view_is) ∙ padded_first _ c.args.octets.now some c.if-self.false in
-    puts_text g.D.Drain.told _ _ _ _ _ (sym (ap (λ (t : Following Dumping). t.put) is)) c.put_padding.ensures
+    let is = ap (λ (s : LinesState). each_octet lines_padding_step s c.args.octets.now) (sym c.self.view_is) ∙ padded_first _ c.args.octets.now some c.if-self.false in
+    puts_text g.D.Drain.state _ _ _ _ _ (sym (ap (λ (t : Effect LinesState). t.put) is)) c.put_padding.ensures

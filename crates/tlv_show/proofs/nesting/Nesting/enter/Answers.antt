@@ -1,6 +1,6 @@
 use Rattle.std.proofs.Common.{arith}
 use Rattle.tlv_show.specs.Private.Nesting.{all_frames}
-use Rattle.tlv_show.proofs.KeptFrames.{fewer-kept, length-outside}
+use Rattle.tlv_show.proofs.FindingLemmas.KeptFrames.{fewer-kept, length-outside}
 use Rattle.tlv_show.proofs.nesting.Nesting.enter.Goals as goal
 
 pub push-requires : goal.push-requires

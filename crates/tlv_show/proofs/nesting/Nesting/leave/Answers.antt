@@ -1,6 +1,6 @@
 use Rattle.std.proofs.Common.{◌-◌, arith}
 use Rattle.tlv_show.specs.Private.Nesting.{all_frames}
-use Rattle.tlv_show.proofs.KeptFrames.{kept-plain, left-plain, length-outside}
+use Rattle.tlv_show.proofs.FindingLemmas.KeptFrames.{kept-plain, left-plain, length-outside}
 use Rattle.tlv_show.proofs.nesting.Nesting.leave.Goals as goal
 
 pub invariant_of-self : goal.invariant_of-self

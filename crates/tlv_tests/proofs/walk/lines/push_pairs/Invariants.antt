@@ -1,5 +1,5 @@
 use Rattle.std.proofs.Common.{◌≡◌, ◌+◌, ◌*◌, ◌++◌, length}
-use Rattle.tlv_tests.specs.Lined.{pairs}
+use Rattle.tlv_tests.specs.TestStep.{pairs}
 use Rattle.tlv_tests.proofs.walk.lines.push_pairs.Given as goal
 
 abbrev pub invariant-loop-rest : goal.invariant-loop-rest

@@ -1,7 +1,7 @@
 use Rattle.std.proofs.Common.{arith, rules}
 use Rattle.std.proofs.lemmas.Bool.Decides.{nat_tests}
 use Rattle.tlv_value.specs.CheckFields.{check_state_of}
-use Rattle.tlv_value.proofs.EachNoted.{characters-noted, object-noted, text-noted}
+use Rattle.tlv_value.proofs.CheckLemmas.EachNoted.{characters-noted, object-noted, text-noted}
 use Rattle.tlv_value.proofs.check.ValueCheck.note_each.Goals.{in-6, in-12, in_default}
 use Rattle.tlv_value.proofs.check.ValueCheck.note_each.Goals as goal
 

@@ -1,5 +1,5 @@
 use Rattle.std.proofs.Common.{◌≡◌, sym, arith}
-use Rattle.tlv_value.proofs.Noting.{every-other}
+use Rattle.tlv_value.proofs.CheckLemmas.Noting.{every-other}
 use Rattle.tlv_value.proofs.check.characters.are_allowed.Goals as goal
 
 pub returns-in_default : goal.returns-in_default

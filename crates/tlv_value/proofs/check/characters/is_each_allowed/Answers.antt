@@ -1,6 +1,6 @@
 use Rattle.std.proofs.Common.{◌&&◌, ◌∙◌, Bool, ap, arith}
 use Rattle.tlv_value.specs.Checks.{allows_octet}
-use Rattle.tlv_value.proofs.Noting.{every-next}
+use Rattle.tlv_value.proofs.CheckLemmas.Noting.{every-next}
 use Rattle.tlv_value.proofs.check.characters.is_each_allowed.Goals as goal
 
 pub loop-octet-preserved : goal.loop-octet-preserved

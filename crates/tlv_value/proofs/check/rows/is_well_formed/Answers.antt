@@ -1,4 +1,4 @@
-use Rattle.tlv_value.proofs.UnitSteps.{is_utf8-same}
+use Rattle.tlv_value.proofs.TextLemmas.UnitSteps.{is_utf8-same}
 use Rattle.tlv_value.proofs.check.rows.is_well_formed.Goals as goal
 
 pub returns : goal.returns

@@ -1,6 +1,6 @@
 use Rattle.std.proofs.Common.{◌≡◌, ◌++◌, take, ◌∙◌, arith}
 use Rattle.std.proofs.lemmas.Grind.{common_steps}
-use Rattle.tlv_value.proofs.Noting.{take-room}
+use Rattle.tlv_value.proofs.CheckLemmas.Noting.{take-room}
 use Rattle.tlv_value.proofs.check.times.extend_time.Goals as goal
 
 pub returns : goal.returns

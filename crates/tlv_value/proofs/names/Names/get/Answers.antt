@@ -1,7 +1,7 @@
 use Rattle.std.proofs.Common.{Some, ◌∙◌, ap}
 use Rattle.std.specs.FinMap as finite
 use Rattle.tlv_value.specs.Names.{Table}
-use Rattle.tlv_value.proofs.NamesTables.{get-none, get-some}
+use Rattle.tlv_value.proofs.NamesLemmas.Tables.{get-none, get-some}
 use Rattle.tlv_value.proofs.names.Names.get.Goals as goal
 
 pub returns-in-None : goal.returns-in-None

@@ -1,7 +1,7 @@
 use Rattle.std.proofs.Common.{◌==◌, ℕ, List, take, sym, ◌∙◌, ap, arith}
 use Rattle.std.specs.List.{list_all, position_or_len}
-use Rattle.tlv_value.specs.Names.{is_arc, parts, may_begin}
-use Rattle.tlv_value.proofs.NamesTexts.{one_part_alone, front_arc, rest_arcs, two_parts}
+use Rattle.tlv_value.specs.Names.{dotted_parts, is_arc, may_begin}
+use Rattle.tlv_value.proofs.NamesLemmas.Texts.{one_part_alone, front_arc, rest_arcs, two_parts}
 use Rattle.tlv_value.proofs.names.arcs.are_first_arcs.Goals as goal
 
 pub returns-then-end-text : goal.returns-then-end-text
@@ -14,7 +14,7 @@ pub may_begin-requires-clause-second : goal.may_begin-requires-clause-second
 may_begin-requires-clause-second c =
     let first = front_arc c.args.text.now c.end_before-end.result c.end_before-end.ensures.value c.requires in
     let all = rest_arcs c.args.text.now c.end_before-end.result c.end_before-end.ensures.value (omega arith) first in
-    front_arc c.behind-rest.result.now c.end_before.result c.end_before.ensures.value (ap (λ (xs : List ℕ). list_all is_arc (parts xs)) c.behind-rest.ensures ∙ sym all ∙ c.requires)
+    front_arc c.behind-rest.result.now c.end_before.result c.end_before.ensures.value (ap (λ (xs : List ℕ). list_all is_arc (dotted_parts xs)) c.behind-rest.ensures ∙ sym all ∙ c.requires)
 
 pub returns : goal.returns
 returns c =

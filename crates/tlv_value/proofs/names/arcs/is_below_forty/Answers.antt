@@ -1,5 +1,5 @@
 use Rattle.std.proofs.Common.{sym, arith}
-use Rattle.tlv_value.proofs.NamesTexts.{forty_of_two, forty_of_more, some_digit}
+use Rattle.tlv_value.proofs.NamesLemmas.Texts.{forty_of_two, forty_of_more, some_digit}
 use Rattle.tlv_value.proofs.names.arcs.is_below_forty.Goals as goal
 
 pub returns-in-2 : goal.returns-in-2

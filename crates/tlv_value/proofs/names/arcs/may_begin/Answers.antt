@@ -1,5 +1,5 @@
 use Rattle.std.proofs.Common.{sym, arith}
-use Rattle.tlv_value.proofs.NamesTexts.{no_first, ten_of_more, three_of_one}
+use Rattle.tlv_value.proofs.NamesLemmas.Texts.{no_first, ten_of_more, three_of_one}
 use Rattle.tlv_value.proofs.names.arcs.may_begin.Goals as goal
 use Rattle.tlv_value.proofs.names.arcs.may_begin.Goals.{then-first-gt1-via-then-first-gt1, then-first-gt1-via-else-first-gt1+then-first-gt50}
 

@@ -1,5 +1,5 @@
 use Rattle.std.proofs.Common.{◌∙◌, arith, refl}
-use Rattle.tlv_value.proofs.NamesTables.{among-texts, length-texts, put-entry, one-longer}
+use Rattle.tlv_value.proofs.NamesLemmas.Tables.{among-texts, length-texts, put-entry, one-longer}
 use Rattle.tlv_value.proofs.names.table.add.Goals as goal
 
 pub returns-then-contains_key : goal.returns-then-contains_key

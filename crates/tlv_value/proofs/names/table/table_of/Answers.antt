@@ -2,9 +2,9 @@ use Rattle.std.proofs.Common.{◌≡◌, ℕ, List, ◌+◌, take, drop, length,
 use Rattle.std.proofs.lemmas.Bool.{eqb-true, eqb-false}
 use Rattle.std.proofs.lemmas.Grind.{common_steps}
 use Rattle.std.proofs.lemmas.Result.{err_from_is_err_and}
-use Rattle.tlv_value.specs.Names.{line_of}
+use Rattle.tlv_value.specs.Names.{names_line}
 use Rattle.tlv_value.specs.NamesSteps.{texts_in}
-use Rattle.tlv_value.proofs.NamesStanding.{Standing, start, step, stop, done, next_line}
+use Rattle.tlv_value.proofs.NamesLemmas.Standing.{Standing, start, step, stop, done, next_line}
 use Rattle.tlv_value.proofs.names.table.table_of.Goals as goal
 
 pub loop-rest-init : goal.loop-rest-init
@@ -18,7 +18,7 @@ loop-rest-preserved g c =
       within = omega (arith, ap length c.behind-rest.ensures, length-drop (c.end_before-end.result + 1) c.loop-rest.rest.now);
       standing = subst (λ (xs : List ℕ). Standing c.args.octets.now xs (c.loop-rest.number + 1) (texts_in c.add_line.new.table)) (sym c.behind-rest.ensures)
           (step c.args.octets.now c.loop-rest.rest.now (drop (c.end_before-end.result + 1) c.loop-rest.rest.now) c.loop-rest.number (texts_in c.loop-rest.table)
-          (texts_in c.add_line.new.table) c.in_ok-add_line.field-0 (line_of (take c.end_before-end.result c.loop-rest.rest.now)) c.loop-rest.invariant.standing line
+          (texts_in c.add_line.new.table) c.in_ok-add_line.field-0 (names_line (take c.end_before-end.result c.loop-rest.rest.now)) c.loop-rest.invariant.standing line
           c.in_ok-add_line.ensures);
     }
 
@@ -29,7 +29,7 @@ returns-in_err-add_line g c =
     let p = err_from_is_err_and c.from_residual.result c.from_residual.ensures.1 in
     rw (p.1, p.2)
     (stop g.row.A.Denot (Unit {0}) c.args.octets.now c.loop-rest.rest.now (drop (c.end_before-end.result + 1) c.loop-rest.rest.now) c.loop-rest.number
-    (texts_in c.loop-rest.table) (texts_in c.add_line.new.table) c.in_err-add_line.field-0.0 (line_of (take c.end_before-end.result c.loop-rest.rest.now))
+    (texts_in c.loop-rest.table) (texts_in c.add_line.new.table) c.in_err-add_line.field-0.0 (names_line (take c.end_before-end.result c.loop-rest.rest.now))
     c.loop-rest.invariant.standing line c.in_err-add_line.ensures)
 
 pub returns : goal.returns

@@ -1,6 +1,6 @@
 use Rattle.std.proofs.Common.{◌≤◌, ◌+◌, length}
 use Rattle.tlv_value.specs.NamesSteps.{texts_in}
-use Rattle.tlv_value.proofs.NamesStanding.{Standing}
+use Rattle.tlv_value.proofs.NamesLemmas.Standing.{Standing}
 use Rattle.tlv_value.proofs.names.table.table_of.Given as goal
 
 abbrev pub invariant-loop-rest : goal.invariant-loop-rest

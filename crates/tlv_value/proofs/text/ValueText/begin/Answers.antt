@@ -3,31 +3,31 @@ use Rattle.std.specs.Prelude.{Bool, true, false, if◌then◌else◌}
 use Rattle.tlv_io.proofs.Puts.{puts_nothing, puts_text}
 use Rattle.tlv_value.specs.declared.kind.Kind.{Kind}
 use Rattle.tlv_value.specs.Kind.{kind_of}
-use Rattle.tlv_value.specs.State.{TextState, begun, line_in}
-use Rattle.tlv_value.specs.TextFields.{state_of}
+use Rattle.tlv_value.specs.TextState.{TextState, begin_lines, line_in}
+use Rattle.tlv_value.specs.TextFields.{text_state_of}
 use Rattle.tlv_value.specs.KindValues.{is_long}
 use Rattle.tlv_value.proofs.text.ValueText.begin.Goals.{then-not-is_long-via-then-not-is_long, then-not-is_long-via-else-not-is_long+then-not-self}
 use Rattle.tlv_value.proofs.text.ValueText.begin.Goals as goal
 
 -- of a value that is not long nothing is known with the header
-begun-short : (s v : TextState) (kind : Kind) → s ≡ v → kind ≡ kind_of s.class s.number → is_long kind s.size ≡ false → [] ≡ begun v
+begun-short : (s v : TextState) (kind : Kind) → s ≡ v → kind ≡ kind_of s.class s.number → is_long kind s.size ≡ false → [] ≡ begin_lines v
 begun-short s v kind same k l =
-    sym (ap (λ (b : Bool). if b then (if s.kept.lined then line_in s [] else []) else []) (ap (λ (j : Kind). is_long j s.size) (sym k) ∙ l)) ∙ ap begun same
+    sym (ap (λ (b : Bool). if b then (if s.kept.lined then line_in s [] else []) else []) (ap (λ (j : Kind). is_long j s.size) (sym k) ∙ l)) ∙ ap begin_lines same
 
 either : (b : Bool) (xs : List ℕ) → xs ≡ (if b then xs else xs)
 either true xs = refl
 either false xs = refl
 
 -- nor of a value whose line comes later
-begun-unlined : (s v : TextState) → s ≡ v → s.kept.lined ≡ false → [] ≡ begun v
-begun-unlined s v same l = either (is_long (kind_of s.class s.number) s.size) [] ∙ ap (λ (b : Bool). if is_long (kind_of s.class s.number) s.size then (if b then line_in s [] else []) else []) (sym l) ∙ ap begun same
+begun-unlined : (s v : TextState) → s ≡ v → s.kept.lined ≡ false → [] ≡ begin_lines v
+begun-unlined s v same l = either (is_long (kind_of s.class s.number) s.size) [] ∙ ap (λ (b : Bool). if is_long (kind_of s.class s.number) s.size then (if b then line_in s [] else []) else []) (sym l) ∙ ap begin_lines same
 
 pub returns-then-not-is_long : goal.returns-then-not-is_long
 returns-then-not-is_long g c =
     let t = c.self.inside in
-    let told = g.D.Drain.told in
-    let none : [] ≡ begun c.args.self.now = elim c.then-not-is_long.branch [
-      | then-not-is_long-via-then-not-is_long w ↦ begun-short (state_of t) c.args.self.now t.value.kind c.self.view_is c.self.invariant.kind (sym c.is_long.ensures ∙ w.if-not-is_long.true)
-      | then-not-is_long-via-else-not-is_long+then-not-self w ↦ begun-unlined (state_of t) c.args.self.now c.self.view_is w.if-not-self.true
+    let state_of = g.D.Drain.state in
+    let none : [] ≡ begin_lines c.args.self.now = elim c.then-not-is_long.branch [
+      | then-not-is_long-via-then-not-is_long w ↦ begun-short (text_state_of t) c.args.self.now t.value.kind c.self.view_is c.self.invariant.kind (sym c.is_long.ensures ∙ w.if-not-is_long.true)
+      | then-not-is_long-via-else-not-is_long+then-not-self w ↦ begun-unlined (text_state_of t) c.args.self.now c.self.view_is w.if-not-self.true
     ] in
-    puts_text told _ _ _ _ _ none (puts_nothing told _ _)
+    puts_text state_of _ _ _ _ _ none (puts_nothing state_of _ _)

@@ -6,18 +6,18 @@ use Rattle.tlv_value.specs.declared.kind.Kind.{Kind}
 use Rattle.tlv_value.specs.declared.kind.Kind.TheVariants.{Bits}
 use Rattle.tlv_value.specs.Kind.{kind_of}
 use Rattle.tlv_value.specs.Rows.{full_rows}
-use Rattle.tlv_value.specs.State.{TextState, line_in, row_lines, told}
-use Rattle.tlv_value.specs.TextFields.{state_of}
-use Rattle.tlv_value.specs.KindValues.{in_rows, is_long, long_text}
-use Rattle.tlv_value.proofs.Ends.{rows-first, told-first}
+use Rattle.tlv_value.specs.TextState.{TextState, contents_lines, line_in, row_lines}
+use Rattle.tlv_value.specs.TextFields.{text_state_of}
+use Rattle.tlv_value.specs.KindValues.{is_long, long_text, row_octets}
+use Rattle.tlv_value.proofs.TextLemmas.Ends.{new-first, rows-first}
 use Rattle.tlv_value.proofs.text.ValueText.bytes.Goals as goal
 
 -- the line, and then the rows
-told-both : (s v : TextState) (kind : Kind) (x : ℕ) (rest octets : List ℕ) → s ≡ v → kind ≡ kind_of s.class s.number → kind ≡ Bits → s.kept.lined ≡ false → is_long kind s.size ≡ true → octets ≡ x ∷ rest
-    → line_in s (long_text Bits s.size (x ∷ [])) ++ row_lines Bits s.layout 0 (full_rows Bits (in_rows Bits (x ∷ [])) rest) ≡ told v octets
-told-both s v kind x rest octets same k b u l e =
+new-both : (s v : TextState) (kind : Kind) (x : ℕ) (rest octets : List ℕ) → s ≡ v → kind ≡ kind_of s.class s.number → kind ≡ Bits → s.kept.lined ≡ false → is_long kind s.size ≡ true → octets ≡ x ∷ rest
+    → line_in s (long_text Bits s.size (x ∷ [])) ++ row_lines Bits s.layout 0 (full_rows Bits (row_octets Bits (x ∷ [])) rest) ≡ contents_lines v octets
+new-both s v kind x rest octets same k b u l e =
     let long : is_long (kind_of s.class s.number) s.size ≡ true = ap (λ (j : Kind). is_long j s.size) (sym k) ∙ l in
-    sym (told-first s x rest (sym k ∙ b) u long) ∙ ap (told s) (sym e) ∙ ap (λ (w : TextState). told w octets) same
+    sym (new-first s x rest (sym k ∙ b) u long) ∙ ap (contents_lines s) (sym e) ∙ ap (λ (w : TextState). contents_lines w octets) same
 
 pub returns-in_err-put_bits-clause-puts : goal.returns-in_err-put_bits-clause-puts
 returns-in_err-put_bits-clause-puts g c =
@@ -26,9 +26,9 @@ returns-in_err-put_bits-clause-puts g c =
     let u = c.self.invariant.unlined l c.if-self.false in
     let x : ℕ = c.in-Some.unused.now in
     let rest : List ℕ = c.in-Some.rest.now in
-    let all = told-both (state_of t) c.args.self.now t.value.kind x rest c.args.octets.now c.self.view_is c.self.invariant.kind u.0 c.if-self.false l c.in-Some.ensures.cases.0 in
-    puts_failed_in g.D.Drain.told _ _ (line_in (state_of t) (long_text Bits t.value.size (x ∷ []))) _ _ _ c.in_err-put_bits.ensures (search rules)
-    (record { rest = row_lines Bits t.value.layout 0 (full_rows Bits (in_rows Bits (x ∷ [])) rest); is = all })
+    let all = new-both (text_state_of t) c.args.self.now t.value.kind x rest c.args.octets.now c.self.view_is c.self.invariant.kind u.0 c.if-self.false l c.in-Some.ensures.cases.0 in
+    puts_failed_in g.D.Drain.state _ _ (line_in (text_state_of t) (long_text Bits t.value.size (x ∷ []))) _ _ _ c.in_err-put_bits.ensures (search rules)
+    (record { rest = row_lines Bits t.value.layout 0 (full_rows Bits (row_octets Bits (x ∷ [])) rest); is = all })
 
 pub returns-clause-puts : goal.returns-clause-puts
 returns-clause-puts g c =
@@ -37,10 +37,10 @@ returns-clause-puts g c =
     let u = c.self.invariant.unlined l c.if-self.false in
     let x : ℕ = c.in-Some.unused.now in
     let rest : List ℕ = c.in-Some.rest.now in
-    let all = told-both (state_of t) c.args.self.now t.value.kind x rest c.args.octets.now c.self.view_is c.self.invariant.kind u.0 c.if-self.false l c.in-Some.ensures.cases.0 in
-    let same = rows-first t.value.kind t.value.layout t.rows c.begin_row.new.row.items (in_rows Bits (x ∷ [])) rest u.0 u.2 c.begin_row.ensures in
-    let told = g.D.Drain.told in
-    puts_then_as told _ _ _ _ _ _ _ _ c.in_ok-put_bits.ensures (puts_text told _ _ _ _ _ same c.put_rows-2.ensures.puts) all
+    let all = new-both (text_state_of t) c.args.self.now t.value.kind x rest c.args.octets.now c.self.view_is c.self.invariant.kind u.0 c.if-self.false l c.in-Some.ensures.cases.0 in
+    let same = rows-first t.value.kind t.value.layout t.rows c.begin_row.new.row.items (row_octets Bits (x ∷ [])) rest u.0 u.2 c.begin_row.ensures in
+    let state_of = g.D.Drain.state in
+    puts_then_as state_of _ _ _ _ _ _ _ _ c.in_ok-put_bits.ensures (puts_text state_of _ _ _ _ _ same c.put_rows-2.ensures.puts) all
 
 pub returns-then-not-is_long-clause-puts : goal.returns-then-not-is_long-clause-puts
 returns-then-not-is_long-clause-puts g c = grind (arith, common_steps)

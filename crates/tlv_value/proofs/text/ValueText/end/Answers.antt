@@ -1,11 +1,11 @@
 use Rattle.std.proofs.Common.{◌≡◌, ◌∙◌, length, sym, ap, arith}
 use Rattle.std.specs.Prelude.{false}
 use Rattle.tlv_io.proofs.Puts.{puts_text}
-use Rattle.tlv_value.specs.State.{TextState, ended}
+use Rattle.tlv_value.specs.TextState.{TextState, end_lines}
 use Rattle.tlv_value.specs.KindValues.{is_long}
-use Rattle.tlv_value.specs.Private.State.{shown}
-use Rattle.tlv_value.specs.TextFields.{state_of}
-use Rattle.tlv_value.proofs.Ends.{ended-shown, held-most}
+use Rattle.tlv_value.specs.Private.PrimitiveLines.{primitive_lines}
+use Rattle.tlv_value.specs.TextFields.{text_state_of}
+use Rattle.tlv_value.proofs.TextLemmas.Ends.{ended-shown, held-most}
 use Rattle.tlv_value.proofs.text.ValueText.end.Goals as goal
 
 pub put-requires : goal.put-requires
@@ -21,6 +21,6 @@ returns-clause-puts g c =
     let t = c.self.inside in
     let names = g.N.NameTable.name_of c.args.names.now in
     let l : is_long t.value.kind t.value.size ≡ false = sym c.is_long.ensures ∙ c.if-is_long.false in
-    let row : shown names t.value c.as_slice-contents.result.now ≡ shown names t.value t.row.items = ap (shown names t.value) c.as_slice-contents.ensures.value in
-    let all = sym (ended-shown names t.value t.left (state_of t).kept c.self.invariant.kind l) ∙ ap (ended names) c.self.view_is in
-    puts_text g.D.Drain.told _ _ _ _ _ (row ∙ all) c.put.ensures
+    let row : primitive_lines names t.value c.as_slice-contents.result.now ≡ primitive_lines names t.value t.row.items = ap (primitive_lines names t.value) c.as_slice-contents.ensures.value in
+    let all = sym (ended-shown names t.value t.left (text_state_of t).kept c.self.invariant.kind l) ∙ ap (end_lines names) c.self.view_is in
+    puts_text g.D.Drain.state _ _ _ _ _ (row ∙ all) c.put.ensures

@@ -1,10 +1,10 @@
 use Rattle.std.proofs.Common.{[], refl, rules}
-use Rattle.tlv_walk.proofs.Closing.{tells_closed}
+use Rattle.tlv_walk.proofs.WalkerLemmas.Closing.{yields_closed}
 use Rattle.tlv_walk.proofs.walker.Walker.close.Goals as goal
 
-pub returns-clause-tells : goal.returns-clause-tells
-returns-clause-tells c = record {
+pub returns-clause-yields : goal.returns-clause-yields
+returns-clause-yields c = record {
   taken = [];
   piece = refl;
-  continues = rw (← c.self.view_is, c.pop.ensures.rest) (tells_closed _ (search rules) (search rules) (search rules));
+  continues = rw (← c.self.view_is, c.pop.ensures.rest) (yields_closed _ (search rules) (search rules) (search rules));
 }

@@ -1,10 +1,10 @@
 use Rattle.std.proofs.Common.{rules}
-use Rattle.tlv_walk.proofs.Moves.{tells_contents}
+use Rattle.tlv_walk.proofs.WalkerLemmas.Moves.{yields_contents}
 use Rattle.tlv_walk.proofs.walker.Walker.contents.Goals as goal
 
 pub returns-clause-event : goal.returns-clause-event
 returns-clause-event c = record {
   taken = c.split_at.result.0.now;
   piece = search rules;
-  continues = rw (← c.self.view_is) (tells_contents _ c.args.left c.split_at.result.0.now c.min-count.result (search rules) (search rules) (search rules));
+  continues = rw (← c.self.view_is) (yields_contents _ c.args.left c.split_at.result.0.now c.min-count.result (search rules) (search rules) (search rules));
 }

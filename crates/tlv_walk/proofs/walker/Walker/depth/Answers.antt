@@ -1,5 +1,5 @@
 use Rattle.std.proofs.Common.{◌∙◌, rules}
-use Rattle.tlv_walk.proofs.HasRead.{read_depth}
+use Rattle.tlv_walk.proofs.WalkerLemmas.HasRead.{read_depth}
 use Rattle.tlv_walk.proofs.walker.Walker.depth.Goals as goal
 
 pub returns-clause-open_elements : goal.returns-clause-open_elements

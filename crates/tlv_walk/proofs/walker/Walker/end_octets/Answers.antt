@@ -1,13 +1,13 @@
 use Rattle.std.proofs.Common.{◌∷◌, [], arith, rules}
 use Rattle.std.proofs.lemmas.Grind.{common_steps}
-use Rattle.tlv_walk.proofs.Closing.{tells_both}
+use Rattle.tlv_walk.proofs.WalkerLemmas.Closing.{yields_both}
 use Rattle.tlv_walk.proofs.walker.Walker.end_octets.Goals as goal
 
-pub returns-clause-tells : goal.returns-clause-tells
-returns-clause-tells c = record {
+pub returns-clause-yields : goal.returns-clause-yields
+returns-clause-yields c = record {
   taken = 0 ∷ 0 ∷ [];
   piece = grind (arith, common_steps);
-  continues = rw (← c.self.view_is, c.pop.ensures.rest) (tells_both _ (search rules) (search rules) (search rules));
+  continues = rw (← c.self.view_is, c.pop.ensures.rest) (yields_both _ (search rules) (search rules) (search rules));
 }
 
 pub invariant_of-self : goal.invariant_of-self

@@ -1,9 +1,9 @@
 use Rattle.std.proofs.Common.{rules, refl}
-use Rattle.tlv_walk.proofs.StateReading.{new_state, stands, state-new}
+use Rattle.tlv_walk.proofs.WalkerLemmas.ZipperReading.{new_state, stands, state-new}
 use Rattle.tlv_walk.proofs.walker.Walker.new.Goals as goal
 
 pub returns-clause-stands : goal.returns-clause-stands
 returns-clause-stands c = rw (c.new.ensures, c.copied.ensures) (stands _ _ _ new_state (state-new c.args.framing.now) (search rules) refl)
 
-pub returns-clause-machine : goal.returns-clause-machine
-returns-clause-machine c = search rules
+pub returns-clause-state : goal.returns-clause-state
+returns-clause-state c = search rules

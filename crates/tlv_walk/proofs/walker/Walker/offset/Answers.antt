@@ -1,5 +1,5 @@
 use Rattle.std.proofs.Common.{◌∙◌, rules}
-use Rattle.tlv_walk.proofs.HasRead.{read_offset}
+use Rattle.tlv_walk.proofs.WalkerLemmas.HasRead.{read_offset}
 use Rattle.tlv_walk.proofs.walker.Walker.offset.Goals as goal
 
 pub returns-clause-value : goal.returns-clause-value

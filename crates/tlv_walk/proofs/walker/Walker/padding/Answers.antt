@@ -1,10 +1,10 @@
 use Rattle.std.proofs.Common.{rules}
-use Rattle.tlv_walk.proofs.Padding.{tells_pad}
+use Rattle.tlv_walk.proofs.WalkerLemmas.Padding.{yields_pad}
 use Rattle.tlv_walk.proofs.walker.Walker.padding.Goals as goal
 
 pub returns-clause-event : goal.returns-clause-event
 returns-clause-event c = record {
   taken = c.split_at.result.0.now;
   piece = search rules;
-  continues = rw (← c.self.view_is) (tells_pad _ c.split_at.result.0.now c.zeros-count.result (search rules) (search rules) (search rules) (search rules) (search rules));
+  continues = rw (← c.self.view_is) (yields_pad _ c.split_at.result.0.now c.zeros-count.result (search rules) (search rules) (search rules) (search rules) (search rules));
 }

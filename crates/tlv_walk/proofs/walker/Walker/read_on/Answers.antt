@@ -1,24 +1,24 @@
 use Rattle.std.proofs.Common.{◌≡◌, inl, ℕ, ◌+◌, ◌≤◌, get_or, [], length, Option, sym, ap, ◌∙◌, subst, arith, rules}
-use Rattle.tlv_head.specs.Progress.{Progress}
-use Rattle.tlv_head.specs.Push.{FitsThere, IsRefused}
-use Rattle.tlv_walk.specs.Machine.{Machine}
+use Rattle.tlv_head.specs.HeadReaderState.{HeadReaderState}
+use Rattle.tlv_head.specs.Push.{FitsThere, IsRefusedPush}
+use Rattle.tlv_walk.specs.WalkerState.{WalkerState}
 use Rattle.tlv_walk.specs.Private.ReadsOn.{HandsOver}
 use Rattle.tlv_walk.specs.Stack.{Within, bound_of}
 use Rattle.tlv_walk.specs.Private.Stack.{left_to}
-use Rattle.tlv_walk.specs.Tells.{told_of}
-use Rattle.tlv_walk.specs.WalkerFields.{machine_of}
-use Rattle.tlv_walk.proofs.HeaderRefusals.{refuses_header}
-use Rattle.tlv_walk.proofs.HeaderSteps.{HasTaken, first_octet, give_room, give_some, pushed_place, pushed_some, taken_more, tells_unfinished, used_up, whole_enters, whole_tells, within_next}
+use Rattle.tlv_walk.specs.HasRead.{event_value}
+use Rattle.tlv_walk.specs.WalkerFields.{walker_state_of}
+use Rattle.tlv_walk.proofs.WalkerLemmas.HeaderRefusals.{refuses_header}
+use Rattle.tlv_walk.proofs.WalkerLemmas.HeaderSteps.{HasTaken, first_octet, give_room, give_some, pushed_place, pushed_some, taken_more, yields_unfinished, used_up, whole_enters, whole_yields, within_next}
 use Rattle.tlv_walk.proofs.walker.Walker.read_on.Goals as goal
 
 pub loop-piece-preserved : goal.loop-piece-preserved
 loop-piece-preserved c =
-    let a = c.in-More.ensures.answer in
+    let a = c.in-More.ensures.pushes in
     let first = first_octet c.loop-piece.piece.now c.in-len1-up.len_at_least in
     record {
       same = c.loop-piece.invariant.same;
-      unfinished = ap (λ (r : Progress). r.done) a.2;
-      start = ap (λ (r : Progress). r.offset) a.2 ∙ c.loop-piece.invariant.start;
+      unfinished = ap (λ (r : HeadReaderState). r.done) a.2;
+      start = ap (λ (r : HeadReaderState). r.offset) a.2 ∙ c.loop-piece.invariant.start;
       place = pushed_place c.loop-piece.reader _ _ _ a.2 c.loop-piece.invariant.place;
       taken = omega (arith, ap length first, c.loop-piece.invariant.taken);
       within = within_next c.bound-bound.result c.loop-piece.offset c.loop-piece.invariant.within (λ e. a.0 (c.room_to.ensures ∙ e));
@@ -28,42 +28,42 @@ loop-piece-preserved c =
 
 pub enter_slowly-requires-clause-enter : goal.enter_slowly-requires-clause-enter
 enter_slowly-requires-clause-enter c =
-    let a = c.in-Whole.ensures.answer in
+    let a = c.in-Whole.ensures.pushes in
     let i = c.loop-piece.invariant in
     let same = c.self.view_is ∙ sym i.same in
     let room : c.room_to.result ≡ left_to (bound_of c.loop-piece.self.stack) c.loop-piece.offset =
-    c.room_to.ensures ∙ ap (λ (b : Option ℕ). left_to b c.loop-piece.offset) (c.bound-bound.ensures ∙ ap (λ (m : Machine). bound_of m.stack) same) in
+    c.room_to.ensures ∙ ap (λ (b : Option ℕ). left_to b c.loop-piece.offset) (c.bound-bound.ensures ∙ ap (λ (m : WalkerState). bound_of m.stack) same) in
     whole_enters c.loop-piece.self c.loop-piece.reader _ c.len-depth.result c.loop-piece.offset c.in-Whole.header
-    (subst (λ (m : Machine). m.events + length m.stack ≤ c.loop-piece.reader.offset) (sym i.same) (omega (arith, c.requires.read.fewer, i.start))) i.place
-    (omega (arith, c.requires.limit, i.taken, c.in-len1-up.len_at_least)) (c.len-depth.ensures.value ∙ ap (λ (m : Machine). length m.stack) same) a.0
+    (subst (λ (m : WalkerState). m.events + length m.stack ≤ c.loop-piece.reader.offset) (sym i.same) (omega (arith, c.requires.read.fewer, i.start))) i.place
+    (omega (arith, c.requires.limit, i.taken, c.in-len1-up.len_at_least)) (c.len-depth.ensures.value ∙ ap (λ (m : WalkerState). length m.stack) same) a.0
     (subst (λ (o : Option ℕ). FitsThere c.in-Whole.header o c.len-depth.result) room a.1)
 
-pub returns-in-Whole-clause-tells : goal.returns-in-Whole-clause-tells
-returns-in-Whole-clause-tells c = λ w over.
-    let over' : HandsOver w c.loop-piece.self c.args.reader = subst (λ (m : Machine). HandsOver w m c.args.reader) (sym c.loop-piece.invariant.same) over in
-    whole_tells w c.loop-piece.self c.enter_slowly.new.self c.args.reader c.loop-piece.reader _ c.loop-piece.piece.now _ _ c.in-Whole.header (told_of c.enter_slowly.result) over'
-    c.loop-piece.invariant.read (first_octet c.loop-piece.piece.now c.in-len1-up.len_at_least) c.in-Whole.ensures.answer.0 c.enter_slowly.ensures.enters
+pub returns-in-Whole-clause-yields : goal.returns-in-Whole-clause-yields
+returns-in-Whole-clause-yields c = λ w over.
+    let over' : HandsOver w c.loop-piece.self c.args.reader = subst (λ (m : WalkerState). HandsOver w m c.args.reader) (sym c.loop-piece.invariant.same) over in
+    whole_yields w c.loop-piece.self c.enter_slowly.new.self c.args.reader c.loop-piece.reader _ c.loop-piece.piece.now _ _ c.in-Whole.header (event_value c.enter_slowly.result) over'
+    c.loop-piece.invariant.read (first_octet c.loop-piece.piece.now c.in-len1-up.len_at_least) c.in-Whole.ensures.pushes.0 c.enter_slowly.ensures.enters
 
-pub returns-in-Refused-clause-tells : goal.returns-in-Refused-clause-tells
-returns-in-Refused-clause-tells c = λ w over.
-    let a = c.in-Refused.ensures.answer in
+pub returns-in-Refused-clause-yields : goal.returns-in-Refused-clause-yields
+returns-in-Refused-clause-yields c = λ w over.
+    let a = c.in-Refused.ensures.pushes in
     let i = c.loop-piece.invariant in
     let x : ℕ = get_or c.loop-piece.piece.now 0 0 in
-    let bound : c.bound-bound.result ≡ bound_of c.args.self.now.stack = c.bound-bound.ensures ∙ ap (λ (m : Machine). bound_of m.stack) c.self.view_is in
+    let bound : c.bound-bound.result ≡ bound_of c.args.self.now.stack = c.bound-bound.ensures ∙ ap (λ (m : WalkerState). bound_of m.stack) c.self.view_is in
     let left : left_to c.bound-bound.result c.loop-piece.offset ≡ left_to (bound_of c.args.self.now.stack) c.loop-piece.offset = ap (λ (b : Option ℕ). left_to b c.loop-piece.offset) bound in
     inl (refuses_header w c.args.self.now c.args.reader c.loop-piece.reader c.args.piece.now.now c.loop-piece.piece.now _ x c.len-depth.result c.loop-piece.offset c.in-Refused.fault over i.read
     (first_octet c.loop-piece.piece.now c.in-len1-up.len_at_least) (subst (λ (b : Option ℕ). Within b c.loop-piece.offset) bound i.within) i.place
-    (c.len-depth.ensures.value ∙ ap (λ (m : Machine). length m.stack) c.self.view_is)
+    (c.len-depth.ensures.value ∙ ap (λ (m : WalkerState). length m.stack) c.self.view_is)
     (λ none e. give_room c.loop-piece.reader.octets c.loop-piece.piece.now (left_to c.bound-bound.result c.loop-piece.offset) i.first none (left ∙ e))
-    (subst (λ (o : Option ℕ). IsRefused c.in-Refused.fault.code c.loop-piece.reader x o c.len-depth.result) (c.room_to.ensures ∙ left) a.0) a.1)
+    (subst (λ (o : Option ℕ). IsRefusedPush c.in-Refused.fault.code c.loop-piece.reader x o c.len-depth.result) (c.room_to.ensures ∙ left) a.0) a.1)
 
-pub returns-clause-tells : goal.returns-clause-tells
-returns-clause-tells c = λ w over.
+pub returns-clause-yields : goal.returns-clause-yields
+returns-clause-yields c = λ w over.
     let i = c.loop-piece.invariant in
     let used : c.loop-piece.piece.now ≡ [] = used_up c.loop-piece.piece.now c.in_default.len_below in
     let same = c.self-2.view_is ∙ i.same in
-    let bound : c.bound-bound.result ≡ bound_of c.self-2.inside.stack = c.bound-bound.ensures ∙ ap (λ (m : Machine). bound_of m.stack) (c.self.view_is ∙ sym same) in
-    tells_unfinished w (machine_of c.self-2.inside) c.args.reader c.loop-piece.reader c.args.piece.now.now c.loop-piece.offset (subst (λ (m : Machine). HandsOver w m c.args.reader) (sym same) over)
+    let bound : c.bound-bound.result ≡ bound_of c.self-2.inside.stack = c.bound-bound.ensures ∙ ap (λ (m : WalkerState). bound_of m.stack) (c.self.view_is ∙ sym same) in
+    yields_unfinished w (walker_state_of c.self-2.inside) c.args.reader c.loop-piece.reader c.args.piece.now.now c.loop-piece.offset (subst (λ (m : WalkerState). HandsOver w m c.args.reader) (sym same) over)
     (subst (HasTaken c.args.reader c.loop-piece.reader c.args.piece.now.now) used i.read) (give_some c.loop-piece.reader.octets c.loop-piece.piece.now _ i.first used) i.place
     (subst (λ (b : Option ℕ). Within b c.loop-piece.offset) bound i.within)
 

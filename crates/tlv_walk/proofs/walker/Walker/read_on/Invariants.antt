@@ -1,7 +1,7 @@
 use Rattle.std.proofs.Common.{◌≡◌, ◌+◌, false, length}
 use Rattle.tlv_walk.specs.Stack.{Within}
 use Rattle.tlv_walk.specs.Private.Stack.{left_to}
-use Rattle.tlv_walk.proofs.HeaderSteps.{CanGive, HasTaken}
+use Rattle.tlv_walk.proofs.WalkerLemmas.HeaderSteps.{CanGive, HasTaken}
 use Rattle.tlv_walk.proofs.walker.Walker.read_on.Given as goal
 
 abbrev pub invariant-loop-piece : goal.invariant-loop-piece

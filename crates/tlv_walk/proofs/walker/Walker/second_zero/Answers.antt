@@ -1,20 +1,20 @@
 use Rattle.std.proofs.Common.{◌∷◌, [], rules, arith, inl}
 use Rattle.std.proofs.lemmas.Grind.{common_steps}
-use Rattle.tlv_walk.proofs.Closing.{tells_second}
-use Rattle.tlv_walk.proofs.Refusals.{refuses_front, refuses_second, refuses_second_missing}
+use Rattle.tlv_walk.proofs.WalkerLemmas.Closing.{yields_second}
+use Rattle.tlv_walk.proofs.WalkerLemmas.Refusals.{refuses_front, refuses_second, refuses_second_missing}
 use Rattle.tlv_walk.proofs.walker.Walker.second_zero.Goals as goal
 
-pub returns-then-eq-clause-tells : goal.returns-then-eq-clause-tells
-returns-then-eq-clause-tells c =
+pub returns-then-eq-clause-yields : goal.returns-then-eq-clause-yields
+returns-then-eq-clause-yields c =
     rw c.fail.ensures.0 (inl (rw (← c.self.view_is) (refuses_front _ c.args.piece.now.now _ c.in-len1-up.len_at_least (refuses_second_missing _ _ _ (search rules) (search rules) (search rules)))))
 
-pub returns-then-octet-ne0-clause-tells : goal.returns-then-octet-ne0-clause-tells
-returns-then-octet-ne0-clause-tells c =
+pub returns-then-octet-ne0-clause-yields : goal.returns-then-octet-ne0-clause-yields
+returns-then-octet-ne0-clause-yields c =
     rw c.fail-then-octet-ne0.ensures.0 (inl (rw (← c.self.view_is) (refuses_front _ c.args.piece.now.now _ c.in-len1-up.len_at_least (refuses_second _ _ _ (search rules) (search rules) (search rules)))))
 
-pub returns-clause-tells : goal.returns-clause-tells
-returns-clause-tells c = record {
+pub returns-clause-yields : goal.returns-clause-yields
+returns-clause-yields c = record {
   taken = 0 ∷ [];
   piece = grind (arith, common_steps);
-  continues = rw (← c.self.view_is, c.pop.ensures.rest) (tells_second _ (search rules) (grind arith));
+  continues = rw (← c.self.view_is, c.pop.ensures.rest) (yields_second _ (search rules) (grind arith));
 }

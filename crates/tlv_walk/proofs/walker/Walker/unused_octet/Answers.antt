@@ -1,16 +1,16 @@
 use Rattle.std.proofs.Common.{◌∷◌, [], rules, arith, inl}
 use Rattle.std.proofs.lemmas.Grind.{common_steps}
-use Rattle.tlv_walk.proofs.Entering.{tells_unused}
-use Rattle.tlv_walk.proofs.Refusals.{refuses_front, refuses_unused}
+use Rattle.tlv_walk.proofs.WalkerLemmas.Entering.{yields_unused}
+use Rattle.tlv_walk.proofs.WalkerLemmas.Refusals.{refuses_front, refuses_unused}
 use Rattle.tlv_walk.proofs.walker.Walker.unused_octet.Goals as goal
 
-pub returns-then-octet-ne0-clause-tells : goal.returns-then-octet-ne0-clause-tells
-returns-then-octet-ne0-clause-tells c =
+pub returns-then-octet-ne0-clause-yields : goal.returns-then-octet-ne0-clause-yields
+returns-then-octet-ne0-clause-yields c =
     rw c.fail.ensures.0 (inl (refuses_front _ c.args.piece.now.now _ c.in-len1-up.len_at_least (refuses_unused _ _ _ (search rules) (search rules))))
 
-pub returns-clause-tells : goal.returns-clause-tells
-returns-clause-tells c = record {
+pub returns-clause-yields : goal.returns-clause-yields
+returns-clause-yields c = record {
   taken = 0 ∷ [];
   piece = grind (arith, common_steps);
-  continues = rw (← c.self.view_is) (tells_unused _ (search rules));
+  continues = rw (← c.self.view_is) (yields_unused _ (search rules));
 }

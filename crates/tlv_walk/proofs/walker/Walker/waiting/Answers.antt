@@ -1,5 +1,5 @@
 use Rattle.std.proofs.Common.{rules}
-use Rattle.tlv_walk.proofs.Waiting.{waits}
+use Rattle.tlv_walk.proofs.WalkerLemmas.Waiting.{waits}
 use Rattle.tlv_walk.proofs.walker.Walker.waiting.Goals as goal
 
 pub returns : goal.returns

@@ -1,0 +1,65 @@
+-- What a `HeadReader` carries of the octets so far.
+use Rattle.std.specs.Prelude.{◌≡◌, ℕ, ◌+◌, ◌^◌, ◌-◌, ◌<◌, ◌≤◌, Bool, true, false, List, [], ◌∷◌, ◌++◌, length, All}
+use Rattle.tlv_head.specs.declared.header.Class.{Class}
+use Rattle.tlv_head.specs.Header.{IsIdentifier, leading_octet, value_of, with_bit_8}
+use Rattle.tlv_head.specs.HeadReaderState.{HeadReaderState}
+use Rattle.tlv_head.specs.declared.next_octet.Identifier.{Identifier}
+use Rattle.tlv_head.specs.declared.next_octet.Part.{Part}
+use Rattle.tlv_head.specs.declared.next_octet.Part.TheVariants.{Start, Number, Length, Digits, Done}
+use Rattle.tlv_head.specs.declared.reader.HeadReader.TheInside.{Inside}
+
+-- 8.1.2.4.2: the high form so far: digits, each with bit 8 set, after the first octet
+pub record IsNumberFront (class : Class) (constructed : Bool) (digits octets : List ℕ) : Type 0 where
+  pub each : All (λ d. d < 128) digits
+  pub octet : octets ≡ leading_octet class constructed 31 ∷ with_bit_8 digits
+
+-- 8.1.3.5: identifier octets, the first length octet, and digits, of which so many are still to come
+pub record IsLengthFront (class : Class) (constructed : Bool) (number : ℕ) (identifier digits : List ℕ) (left : ℕ) (octets : List ℕ) : Type 0 where
+  pub identified : IsIdentifier class constructed number identifier
+  pub each : All (λ d. d < 256) digits
+  pub some : 1 ≤ left
+  pub few : length digits + left ≤ 126
+  pub octet : octets ≡ identifier ++ (128 + (length digits + left)) ∷ digits
+
+-- the identifier octets so far are in the high form
+pub record CarriesNumber (id : Identifier) (octets : List ℕ) : Type 0 where
+  pub digits : List ℕ
+  pub front : IsNumberFront id.class id.constructed digits octets
+  pub count : id.octets ≡ length digits + 1
+  pub few : length digits ≤ 8
+  pub value : id.number ≡ value_of 128 digits
+
+-- the octets are the identifier
+pub record CarriesIdentifier (id : Identifier) (octets : List ℕ) : Type 0 where
+  pub identified : IsIdentifier id.class id.constructed id.number octets
+  pub count : id.octets ≡ length octets
+  pub few : length octets ≤ 10
+
+-- the octets are the identifier, the first length octet and digits
+pub record CarriesLength (id : Identifier) (n left : ℕ) (octets : List ℕ) : Type 0 where
+  pub identifier : List ℕ
+  pub digits : List ℕ
+  pub front : IsLengthFront id.class id.constructed id.number identifier digits left octets
+  pub count : id.octets ≡ length identifier
+  pub few : length identifier ≤ 10
+  pub value : n ≡ value_of 256 digits
+  -- so that zeros make a length below 2^40 of it
+  pub small : n < 256 ^ (5 - left)
+
+abbrev pub Carries : Part → List ℕ → Type 0
+Carries Start octets = octets ≡ []
+Carries (Number id) octets = CarriesNumber id octets
+Carries (Length id) octets = CarriesIdentifier id octets
+Carries (Digits id n left) octets = CarriesLength id n left octets
+Carries Done octets = octets ≡ []
+
+abbrev pub is_done : Part → Bool
+is_done Start = false
+is_done (Number id) = false
+is_done (Length id) = false
+is_done (Digits id n left) = false
+is_done Done = true
+
+-- what the fields of a reader say
+abbrev pub head_reader_state_of : Inside → HeadReaderState
+head_reader_state_of r = record { offset = r.offset; named = r.named; octets = r.raw.items; done = is_done r.part }

@@ -1,0 +1,52 @@
+-- What an octet makes of the octets of a header so far.
+use Rattle.std.specs.Prelude.{◌≡◌, ◌≢◌, ℕ, ◌≤◌, Bool, List, [], ◌∷◌, ◌++◌, length, take}
+use Rattle.tlv_head.specs.declared.header.Class.{Class}
+use Rattle.tlv_head.specs.declared.header.Size.{Size}
+use Rattle.tlv_head.specs.Header.{IsIdentifier, IsLength}
+use Rattle.tlv_head.specs.Private.Header.{AllowsSize}
+use Rattle.tlv_head.specs.Refusal.{IsRefusedOctet}
+use Rattle.tlv_head.specs.declared.next_octet.Identifier.{Identifier}
+use Rattle.tlv_head.specs.declared.next_octet.Next.{Next}
+use Rattle.tlv_head.specs.declared.next_octet.Next.TheVariants.{Unfinished, Finished, Refused}
+use Rattle.tlv_head.specs.HeaderSoFar.{CarriesIdentifier, Carries}
+
+-- the octets are a header with these fields
+pub record MakesHeader (id : Identifier) (size : Size) (octets : List ℕ) : Type 0 where
+  pub identifier : List ℕ
+  pub lengths : List ℕ
+  pub identified : CarriesIdentifier id identifier
+  pub sized : IsLength size lengths
+  pub few : length lengths ≤ 127
+  pub some : 1 ≤ length lengths
+  pub allowed : AllowsSize id.constructed size
+  pub octet : octets ≡ identifier ++ lengths
+
+-- octets begin with the identifier
+pub record BeginsWithIdentifier (octets : List ℕ) (id : Identifier) : Type 0 where
+  pub within : id.octets ≤ length octets
+  pub carried : CarriesIdentifier id (take id.octets octets)
+
+-- octets begin with length octets, so many, that an element of that form may have
+pub record BeginsWithLength (octets : List ℕ) (constructed : Bool) (size : Size) (count : ℕ) : Type 0 where
+  pub within : count ≤ length octets
+  pub some : 1 ≤ count
+  pub few : count ≤ 127
+  pub sized : IsLength size (take count octets)
+  pub allowed : AllowsSize constructed size
+
+-- octets begin with no identifier of at most three octets that has another octet after it
+abbrev pub BeginsWithNoIdentifier : List ℕ → Type 0
+BeginsWithNoIdentifier octets =
+    (class : Class) (constructed : Bool) (number : ℕ) (identifier rest : List ℕ) → IsIdentifier class constructed number identifier
+    → length identifier ≤ 3 → rest ≢ [] → octets ≡ identifier ++ rest → ⊥
+
+-- octets begin with no length of at most three octets that an element of that form may have
+abbrev pub BeginsWithNoLength : List ℕ → Bool → Type 0
+BeginsWithNoLength octets constructed =
+    (size : Size) (lengths rest : List ℕ) → IsLength size lengths → AllowsSize constructed size → length lengths ≤ 3 → octets ≡ lengths ++ rest → ⊥
+
+-- what an octet makes of the octets before
+abbrev pub MakesNext : List ℕ → ℕ → Next → Type 0
+MakesNext octets x (Unfinished part) = Carries part (octets ++ x ∷ [])
+MakesNext octets x (Finished id size) = MakesHeader id size (octets ++ x ∷ [])
+MakesNext octets x (Refused code) = IsRefusedOctet octets x code

@@ -1,0 +1,99 @@
+//! Reads a header at once, from a slice that begins with it.
+ghost use Rattle.std.specs.Prelude.{◌≤◌, IfSome, MatchOption};
+ghost use Rattle.tlv_head.specs.Refusal.{BeginsWithNoHeader};
+ghost use Rattle.tlv_head.specs.ReadHeader.{BeginsWithFields, BeginsWithNoShort, IsShort};
+ghost use Rattle.tlv_head.specs.Private.NextOctet.{BeginsWithIdentifier, BeginsWithLength, BeginsWithNoIdentifier, BeginsWithNoLength};
+
+use crate::next_octet::{Identifier, Next, Part, fields_of, leading, next_number, read_octet};
+use crate::{HeaderFields, Size};
+
+/// The header with which the octets begin, whatever follows it, and how many octets it has. `None`
+/// if they begin with none: a header is unfinished or refused, or there is no octet. A header that
+/// is cut into pieces goes through a [`HeadReader`].
+#[inline]
+pub fn read_header(offset: u64, named: bool, octets: &[u8]) -> Option<(HeaderFields, usize)>
+    ensures { MatchOption result (BeginsWithNoHeader octets.now) (λ found. BeginsWithFields octets.now offset named found.0 found.1) }
+{
+    let mut part = Part::Start;
+    for i in 0..octets.len() {
+        // It ends contents, or is refused where it is: no element begins with it (8.1.5).
+        if i == 0 && octets[i] == 0 {
+            return None;
+        }
+        match read_octet(part, octets[i]) {
+            Next::Unfinished(next) => part = next,
+            Next::Finished(identifier, size) => {
+                return Some((fields_of(offset, named, identifier, size), i + 1));
+            }
+            Next::Refused(_) => return None,
+        }
+    }
+    None
+}
+
+/// The header with which the octets begin, and how many octets it has, if one to three of them are the identifier and
+/// one to three the length. `None` if the octets begin with no such header; [`read_header`] finds a longer one. It
+/// stands apart because most headers are so short, and few instructions read them.
+#[inline(always)]
+pub fn read_short(offset: u64, named: bool, octets: &[u8]) -> Option<(HeaderFields, usize)>
+    ensures begins { MatchOption result (BeginsWithNoShort octets.now) (λ found. BeginsWithFields octets.now offset named found.0 found.1) }
+    ensures short { IfSome result (λ found. IsShort found.0 found.1) }
+{
+    let identifier = short_identifier(octets)?;
+    let before = usize::from(identifier.octets);
+    let (size, count) = short_length(identifier.constructed, &octets[before..])?;
+    Some((fields_of(offset, named, identifier, size), before + count))
+}
+
+/// The identifier with which the octets begin, if it has at most three. `None` if they begin with no such identifier
+/// that has an octet after it.
+#[inline(always)]
+fn short_identifier(octets: &[u8]) -> Option<Identifier>
+    ensures { MatchOption result (BeginsWithNoIdentifier octets.now) (λ id. BeginsWithIdentifier octets.now id × (id.octets ≤ 3)) }
+{
+    if octets.is_empty() || octets[0] == 0 {
+        return None;
+    }
+    let high = match leading(octets[0]) {
+        Part::Length(identifier) => return Some(identifier),
+        Part::Number(identifier) => identifier,
+        _ => return None,
+    };
+    if octets.len() < 3 {
+        return None;
+    }
+    match next_number(high, octets[1]) {
+        Next::Unfinished(Part::Length(identifier)) => Some(identifier),
+        Next::Unfinished(Part::Number(higher)) => match next_number(higher, octets[2]) {
+            Next::Unfinished(Part::Length(identifier)) => Some(identifier),
+            _ => None,
+        },
+        _ => None,
+    }
+}
+
+/// The length with which the octets begin after the identifier, and how many octets it has, if they are at most three.
+/// `None` if they begin with no such length that an element of that form may have.
+#[inline(always)]
+fn short_length(constructed: bool, octets: &[u8]) -> Option<(Size, usize)>
+    ensures { MatchOption result (BeginsWithNoLength octets.now constructed)
+        (λ found. BeginsWithLength octets.now constructed found.0 found.1 × (found.1 ≤ 3)) }
+{
+    if octets.is_empty() {
+        return None;
+    }
+    if octets[0] < 0x80 {
+        return Some((Size::Definite(u64::from(octets[0])), 1));
+    }
+    if octets[0] == 0x81 && octets.len() >= 2 {
+        return Some((Size::Definite(u64::from(octets[1])), 2));
+    }
+    if octets[0] == 0x82 && octets.len() >= 3 {
+        let length = u64::from(octets[1]) * 256 + u64::from(octets[2]);
+        return Some((Size::Definite(length), 3));
+    }
+    if octets[0] == 0x80 && constructed {
+        return Some((Size::Indefinite, 1));
+    }
+    None
+}

@@ -1,0 +1,184 @@
+//! What the octets of a header so far are, and what a further octet makes of them.
+ghost use Rattle.std.specs.Prelude.{◌≡◌, ◌≢◌, ℕ, ◌/◌, List, [], ◌∷◌, false};
+ghost use Rattle.tlv_head.specs.Header.{class_bits};
+ghost use Rattle.tlv_head.specs.HeaderSoFar.{Carries, CarriesNumber, CarriesIdentifier, CarriesLength, is_done};
+ghost use Rattle.tlv_head.specs.Private.NextOctet.{MakesNext};
+
+use crate::{Class, FaultCode, HeaderFields, Size};
+
+/// What the identifier octets so far say, and how many there are.
+#[derive(Clone, Copy)]
+pub(crate) struct Identifier {
+    pub(crate) class: Class,
+    pub(crate) constructed: bool,
+    pub(crate) number: u64,
+    pub(crate) octets: u8,
+}
+
+/// What the octets so far are.
+#[derive(Clone, Copy)]
+pub(crate) enum Part {
+    Start,
+    /// The high form (8.1.2.4), of which an octet is to follow.
+    Number(Identifier),
+    /// Identifier octets alone.
+    Length(Identifier),
+    /// A length so far (8.1.3.5), and how many of its octets are to follow.
+    Digits {
+        identifier: Identifier,
+        length: u64,
+        left: u8,
+    },
+    Done,
+}
+
+/// What an octet makes of the octets before.
+#[derive(Clone, Copy)]
+pub(crate) enum Next {
+    Unfinished(Part),
+    Finished(Identifier, Size),
+    Refused(FaultCode),
+}
+
+#[inline(always)]
+pub(crate) fn fields_of(
+    offset: u64,
+    named: bool,
+    identifier: Identifier,
+    size: Size,
+) -> HeaderFields
+    ensures { result ≡ record {
+      offset = offset;
+      named = named;
+      class = identifier.class;
+      constructed = identifier.constructed;
+      number = identifier.number;
+      size = size;
+      id_len = identifier.octets;
+    } }
+{
+    HeaderFields {
+        offset,
+        named,
+        class: identifier.class,
+        constructed: identifier.constructed,
+        number: identifier.number,
+        size,
+        id_len: identifier.octets,
+    }
+}
+
+pub(crate) fn read_octet(part: Part, octet: u8) -> Next
+    requires carried { (octets : List ℕ) × Carries part octets }
+    requires unfinished { is_done part ≡ false }
+    requires first { part ≡ Part.Start → octet ≢ 0 }
+    ensures { (octets : List ℕ) → Carries part octets → MakesNext octets octet result }
+{
+    match part {
+        Part::Start => Next::Unfinished(leading(octet)),
+        Part::Number(identifier) => next_number(identifier, octet),
+        Part::Length(identifier) => first_length(identifier, octet),
+        Part::Digits {
+            identifier,
+            length,
+            left,
+        } => next_length(identifier, length, left, octet),
+        Part::Done => unreachable!(),
+    }
+}
+
+#[inline(always)]
+fn class_of(octet: u8) -> Class
+    ensures { class_bits result ≡ octet / 64 }
+{
+    match octet >> 6 {
+        0 => Class::Universal,
+        1 => Class::Application,
+        2 => Class::Context,
+        _ => Class::Private,
+    }
+}
+
+/// The first identifier octet (8.1.2.2, 8.1.2.4.1).
+#[inline(always)]
+pub(crate) fn leading(octet: u8) -> Part
+    requires { octet ≢ 0 }
+    ensures { Carries result (octet ∷ []) }
+{
+    let low = octet & 0x1f;
+    let identifier = Identifier {
+        class: class_of(octet),
+        constructed: octet >> 5 & 1 == 1,
+        number: if low == 0x1f { 0 } else { u64::from(low) },
+        octets: 1,
+    };
+    if low == 0x1f {
+        Part::Number(identifier)
+    } else {
+        Part::Length(identifier)
+    }
+}
+
+/// A subsequent identifier octet (8.1.2.4.2).
+#[inline(always)]
+pub(crate) fn next_number(identifier: Identifier, octet: u8) -> Next
+    requires { (octets : List ℕ) × CarriesNumber identifier octets }
+    ensures { (octets : List ℕ) → CarriesNumber identifier octets → MakesNext octets octet result }
+{
+    if octet >= 0x80 && identifier.octets >= 9 {
+        return Next::Refused(FaultCode::TagTooLong);
+    }
+    let identifier = Identifier {
+        number: identifier.number * 128 + u64::from(octet & 0x7f),
+        octets: identifier.octets + 1,
+        ..identifier
+    };
+    if octet >= 0x80 {
+        Next::Unfinished(Part::Number(identifier))
+    } else {
+        Next::Unfinished(Part::Length(identifier))
+    }
+}
+
+/// The first length octet (8.1.3.4 to 8.1.3.6).
+fn first_length(identifier: Identifier, octet: u8) -> Next
+    ensures { (octets : List ℕ) → CarriesIdentifier identifier octets → MakesNext octets octet result }
+{
+    if octet < 0x80 {
+        Next::Finished(identifier, Size::Definite(u64::from(octet)))
+    } else if octet == 0xff {
+        Next::Refused(FaultCode::ReservedLength)
+    } else if octet > 0x80 {
+        Next::Unfinished(Part::Digits {
+            identifier,
+            length: 0,
+            left: octet - 0x80,
+        })
+    } else if identifier.constructed {
+        Next::Finished(identifier, Size::Indefinite)
+    } else {
+        Next::Refused(FaultCode::IndefinitePrimitive)
+    }
+}
+
+/// A further length octet (8.1.3.5 b). A length of 2^40 or more is refused at the octet that makes
+/// it so, whatever follows.
+fn next_length(identifier: Identifier, length: u64, left: u8, octet: u8) -> Next
+    requires { (octets : List ℕ) × CarriesLength identifier length left octets }
+    ensures { (octets : List ℕ) → CarriesLength identifier length left octets → MakesNext octets octet result }
+{
+    let left = left - 1;
+    if octet != 0 && left >= 5 {
+        return Next::Refused(FaultCode::LengthTooLarge);
+    }
+    let length = length * 256 + u64::from(octet);
+    if left == 0 {
+        Next::Finished(identifier, Size::Definite(length))
+    } else {
+        Next::Unfinished(Part::Digits {
+            identifier,
+            length,
+            left,
+        })
+    }
+}

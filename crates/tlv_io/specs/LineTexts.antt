@@ -1,0 +1,26 @@
+-- Lines that grow, and texts that they are made of.
+use Rattle.std.specs.Prelude.{◌≡◌, ℕ, ◌+◌, ◌-◌, ◌≤◌, List, [], ◌∷◌, ◌++◌, codes, decimal, flat_map, length, replicate}
+use Rattle.hex.specs.Hex.{encode_lower}
+
+-- a line of these octets has room for so many more
+abbrev pub HasRoomFor : List ℕ → ℕ → Type 0
+HasRoomFor line count = length line + count ≤ 4096
+
+-- the text was added to the line, if there was room for it
+abbrev pub AddsIfRoom : List ℕ → List ℕ → List ℕ → Type 0
+AddsIfRoom old new text = HasRoomFor old (length text) → new ≡ old ++ text
+
+abbrev pub spaces : ℕ → List ℕ
+spaces n = replicate n 0x20
+
+-- at the right end of so many places; what is longer takes as many as it needs
+abbrev pub right : ℕ → List ℕ → List ℕ
+right places text = spaces (places - length text) ++ text
+
+-- the first columns of a line: where an element is, and how many contents octets it has, or a word
+abbrev pub columns : ℕ → List ℕ → List ℕ
+columns offset word = right 8 (decimal offset) ++ codes " " ++ right 6 word ++ codes ": "
+
+-- pairs of digits, each after a space
+abbrev pub spaced_pairs : List ℕ → List ℕ
+spaced_pairs octets = flat_map (λ x. 0x20 ∷ encode_lower (x ∷ [])) octets

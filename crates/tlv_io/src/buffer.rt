@@ -1,0 +1,148 @@
+//! Octets that are on their way to a drain.
+ghost use Rattle.std.specs.Prelude.{◌≡◌, ◌+◌, ◌*◌, ◌≤◌, ◌++◌, [], length, take};
+ghost use Rattle.tlv_io.specs.LineTexts.{AddsIfRoom, HasRoomFor, spaced_pairs as pairs_spaced, spaces as spaces_text};
+
+mod numbers;
+mod texts;
+
+use std::marker::Model;
+use texts::{fill_spaces, write_pairs, write_row};
+
+/// As many octets as are held at most.
+pub(crate) const CAPACITY: usize = 4096;
+
+/// At most 4096 octets, to which texts are added in place.
+///
+/// An `ArrayVec` is filled with blanks when it is cleared, which an [`Out`](crate::Out) would pay for at each flush.
+#[derive(Drop)]
+pub struct Held {
+    octets: [u8; CAPACITY],
+    len: usize,
+}
+
+impl Model for Held {
+    ghost use Rattle.std.specs.Prelude.{◌≤◌, ℕ, List, take};
+
+    ghost Value = { List ℕ };
+
+    ghost view = { λ held. take held.len held.octets };
+
+    ghost invariant = { λ held. held.len ≤ 4096 };
+}
+
+impl Held {
+    /// No octets.
+    pub fn new() -> Held
+        ensures { result ≡ [] }
+    {
+        Held {
+            octets: [0; CAPACITY],
+            len: 0,
+        }
+    }
+
+    /// The octets.
+    #[inline]
+    pub fn as_slice(&self) -> &[u8]
+        ensures octets { result.now ≡ self.now }
+        ensures bound { length self.now ≤ 4096 }
+    {
+        &self.octets[..self.len]
+    }
+
+    /// How many octets there are.
+    #[inline]
+    pub fn len(&self) -> usize
+        ensures count { result ≡ length self.now }
+        ensures bound { result ≤ 4096 }
+    {
+        self.len
+    }
+
+    /// Drops all octets but the first `len`.
+    #[inline]
+    pub fn truncate(&mut self, len: usize)
+        requires { len ≤ length self.old }
+        ensures { self.new ≡ take len self.old }
+    {
+        self.len = len;
+    }
+
+    /// Adds octets, for which there is room.
+    #[inline(always)]
+    pub fn add(&mut self, octets: &[u8])
+        requires { HasRoomFor self.old (length octets.now) }
+        ensures { self.new ≡ self.old ++ octets.now }
+    {
+        let end = self.len + octets.len();
+        self.octets[self.len..end].copy_from_slice(octets);
+        self.len = end;
+    }
+
+    /// Adds the first of 32 octets. There is room for all, so that they can be copied at once.
+    #[inline(always)]
+    pub fn add_front(&mut self, octets: &[u8; 32], count: usize)
+        requires few { count ≤ 32 }
+        requires room { HasRoomFor self.old 32 }
+        ensures { self.new ≡ self.old ++ take count octets.now }
+    {
+        self.octets[self.len..self.len + 32].copy_from_slice(octets);
+        self.len += count;
+    }
+
+    /// Adds octets, if there is room for them.
+    #[inline]
+    pub fn push(&mut self, octets: &[u8])
+        ensures { AddsIfRoom self.old self.new octets.now }
+    {
+        if octets.len() <= self.room() {
+            self.add(octets);
+        }
+    }
+
+    /// Adds spaces. There is room for 32 more, so that they can be copied many at a time.
+    #[inline(always)]
+    pub fn spaces(&mut self, count: usize)
+        requires { HasRoomFor self.old (count + 32) }
+        ensures { self.new ≡ self.old ++ spaces_text count }
+    {
+        fill_spaces(&mut self.octets[self.len..], count);
+        self.len += count;
+    }
+
+    /// Adds octets as pairs of digits, each after a space.
+    #[inline(always)]
+    pub fn spaced_pairs(&mut self, octets: &[u8])
+        requires { HasRoomFor self.old (3 * length octets.now) }
+        ensures { self.new ≡ self.old ++ pairs_spaced octets.now }
+    {
+        write_pairs(octets, &mut self.octets[self.len..]);
+        self.len += 3 * octets.len();
+    }
+
+    /// Adds 16 octets as pairs of digits, each after a space.
+    #[inline(always)]
+    pub fn spaced_row(&mut self, octets: &[u8; 16])
+        requires { HasRoomFor self.old 48 }
+        ensures { self.new ≡ self.old ++ pairs_spaced octets.now }
+    {
+        write_row(octets, &mut self.octets[self.len..]);
+        self.len += 48;
+    }
+
+    /// How many octets more can be held.
+    #[inline(always)]
+    pub(crate) fn room(&self) -> usize
+        ensures { result + length self.now ≡ 4096 }
+    {
+        CAPACITY - self.len
+    }
+
+    /// Drops all octets.
+    #[inline]
+    pub(crate) fn clear(&mut self)
+        ensures { self.new ≡ [] }
+    {
+        self.len = 0;
+    }
+}

@@ -1,0 +1,145 @@
+//! Numbers that are added to the octets held.
+ghost use Rattle.std.specs.Prelude.{◌≡◌, ◌+◌, ◌<◌, ◌^◌, ◌++◌, decimal, length};
+ghost use Rattle.tlv_io.specs.LineTexts.{HasRoomFor, columns as columns_text, right};
+
+use super::Held;
+use itoa::{Buffer, write_digits};
+
+/// The columns that a line begins with, before an offset and a size or a word are written to them.
+const BLANK_COLUMNS: &[u8; 17] = b"               : ";
+
+impl Held {
+    /// Adds a number.
+    #[inline(always)]
+    pub fn number(&mut self, number: u64)
+        requires { HasRoomFor self.old 20 }
+        ensures { self.new ≡ self.old ++ decimal number }
+    {
+        let end = self.len + digit_count(number);
+        let _ = write_digits(number, &mut self.octets, end);
+        self.len = end;
+    }
+
+    /// Adds a number that may have more than 64 bits.
+    #[inline(always)]
+    pub fn wide(&mut self, number: u128)
+        requires { HasRoomFor self.old 40 }
+        ensures { self.new ≡ self.old ++ decimal number }
+    {
+        if number < 1 << 64 {
+            self.number(number as u64);
+        } else {
+            self.wider(number);
+        }
+    }
+
+    /// Adds a number of more than 64 bits.
+    #[inline(never)]
+    fn wider(&mut self, number: u128)
+        requires { HasRoomFor self.old 40 }
+        ensures { self.new ≡ self.old ++ decimal number }
+    {
+        let mut digits = Buffer::new();
+        self.add(digits.format(number).as_bytes());
+    }
+
+    /// Adds the columns that a line begins with: an offset and a size.
+    #[inline(always)]
+    pub fn columns(&mut self, offset: u64, size: u64)
+        requires { HasRoomFor self.old 43 }
+        ensures { self.new ≡ self.old ++ columns_text offset (decimal size) }
+    {
+        if offset >= 100_000_000 || size >= 1_000_000 {
+            return self.wide_columns(offset, size);
+        }
+        let start = self.len;
+        self.octets[start..start + 17].copy_from_slice(BLANK_COLUMNS);
+        let _ = write_digits(offset, &mut self.octets, start + 8);
+        let _ = write_digits(size, &mut self.octets, start + 15);
+        self.len = start + 17;
+    }
+
+    /// Adds the same columns, one after the other, so that each can be as wide as it needs.
+    #[inline(never)]
+    fn wide_columns(&mut self, offset: u64, size: u64)
+        requires { HasRoomFor self.old 43 }
+        ensures { self.new ≡ self.old ++ columns_text offset (decimal size) }
+    {
+        self.right_8(offset);
+        self.add(b" ");
+        self.right_6(size);
+        self.add(b": ");
+    }
+
+    /// Adds the columns that a line begins with: an offset and a word.
+    #[inline(always)]
+    pub fn worded(&mut self, offset: u64, word: &[u8; 6])
+        requires { HasRoomFor self.old 29 }
+        ensures { self.new ≡ self.old ++ columns_text offset word.now }
+    {
+        if offset >= 100_000_000 {
+            return self.wide_worded(offset, word);
+        }
+        let start = self.len;
+        self.octets[start..start + 17].copy_from_slice(BLANK_COLUMNS);
+        let _ = write_digits(offset, &mut self.octets, start + 8);
+        self.octets[start + 9..start + 15].copy_from_slice(word);
+        self.len = start + 17;
+    }
+
+    /// Adds the same columns, one after the other, so that the offset can be as wide as it needs.
+    #[inline(never)]
+    fn wide_worded(&mut self, offset: u64, word: &[u8; 6])
+        requires { HasRoomFor self.old 29 }
+        ensures { self.new ≡ self.old ++ columns_text offset word.now }
+    {
+        self.right_8(offset);
+        self.add(b" ");
+        self.add(word);
+        self.add(b": ");
+    }
+
+    /// Adds a number at the right of eight places; a longer one takes as many as it needs.
+    #[inline(always)]
+    pub fn right_8(&mut self, number: u64)
+        requires { HasRoomFor self.old 20 }
+        ensures { self.new ≡ self.old ++ right 8 (decimal number) }
+    {
+        if number >= 100_000_000 {
+            self.number(number);
+        } else {
+            let end = self.len + 8;
+            self.octets[self.len..end].copy_from_slice(b"        ");
+            let _ = write_digits(number, &mut self.octets, end);
+            self.len = end;
+        }
+    }
+
+    /// Adds a number at the right of six places; a longer one takes as many as it needs.
+    #[inline(always)]
+    pub fn right_6(&mut self, number: u64)
+        requires { HasRoomFor self.old 20 }
+        ensures { self.new ≡ self.old ++ right 6 (decimal number) }
+    {
+        if number >= 1_000_000 {
+            self.number(number);
+        } else {
+            let end = self.len + 6;
+            self.octets[self.len..end].copy_from_slice(b"      ");
+            let _ = write_digits(number, &mut self.octets, end);
+            self.len = end;
+        }
+    }
+}
+
+/// How many digits a number has.
+#[inline(always)]
+fn digit_count(number: u64) -> usize
+    ensures { result ≡ length (decimal number) }
+{
+    if number < 10 {
+        1
+    } else {
+        number.ilog10() as usize + 1
+    }
+}

@@ -1,0 +1,58 @@
+//! Texts that are written to the front of octets.
+ghost use Rattle.std.specs.Prelude.{◌≡◌, ◌+◌, ◌*◌, ◌≤◌, length, take};
+ghost use Rattle.tlv_io.specs.LineTexts.{spaced_pairs, spaces};
+
+static SPACES: [u8; 32] = [b' '; 32];
+
+/// Writes spaces, and up to 32 more after them.
+#[inline(always)]
+pub(super) fn fill_spaces(to: &mut [u8], count: usize)
+    requires { count + 32 ≤ length to.old }
+    ensures text { take count to.new ≡ spaces count }
+    ensures size { length to.new ≡ length to.old }
+{
+    to[..32].copy_from_slice(&SPACES);
+    if count > 32 {
+        fill_more_spaces(to, count);
+    }
+}
+
+/// Writes spaces in steps of 32.
+#[inline(never)]
+fn fill_more_spaces(to: &mut [u8], count: usize)
+    requires { count + 32 ≤ length to.old }
+    ensures text { take count to.new ≡ spaces count }
+    ensures size { length to.new ≡ length to.old }
+{
+    let mut done = 0;
+    while done < count {
+        to[done..done + 32].copy_from_slice(&SPACES);
+        done += 32;
+    }
+}
+
+/// Writes octets as pairs of digits, each after a space.
+#[inline(always)]
+pub(super) fn write_pairs(octets: &[u8], to: &mut [u8])
+    requires { 3 * length octets.now ≤ length to.old }
+    ensures text { take (3 * length octets.now) to.new ≡ spaced_pairs octets.now }
+    ensures size { length to.new ≡ length to.old }
+{
+    for i in 0..octets.len() {
+        to[3 * i] = b' ';
+        let _ = hex::encode_to_slice([octets[i]], &mut to[3 * i + 1..3 * i + 3]);
+    }
+}
+
+/// Writes 16 octets as pairs of digits, each after a space. The spaces are there first, copied at once.
+#[inline(always)]
+pub(super) fn write_row(octets: &[u8; 16], to: &mut [u8])
+    requires { 48 ≤ length to.old }
+    ensures text { take 48 to.new ≡ spaced_pairs octets.now }
+    ensures size { length to.new ≡ length to.old }
+{
+    to[..48].copy_from_slice(&[b' '; 48]);
+    for i in 0..16 {
+        let _ = hex::encode_to_slice([octets[i]], &mut to[3 * i + 1..3 * i + 3]);
+    }
+}

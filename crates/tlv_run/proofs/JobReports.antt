@@ -1,0 +1,88 @@
+-- A job with what is reported of its answer runs as the job itself.
+use Rattle.std.proofs.Common.{◌≡◌, ℕ, List, ap}
+use Rattle.std.specs.Prelude.{Result, Ok, Err, MatchResult}
+use Rattle.tlv_walk.specs.declared.run.DeviceFault.{DeviceFault}
+use Rattle.tlv_walk.specs.declared.run.DeviceFault.TheVariants.{ReadFailed, WriteFailed, InputTooLong}
+use Rattle.tlv_io.specs.Device.{DrainState, SourceState}
+use Rattle.tlv_walk.specs.Job.{AreSound, Job, Runs}
+use Rattle.tlv_run.specs.Report.{ReportValue, report_of, report_of_device}
+use Rattle.tlv_run.specs.Results.{job_with_report}
+use Rattle.tlv_run.specs.Runs.{RunsAndReports}
+use Rattle.tlv_run.proofs.ReportAtEnd.{report_at_end}
+
+module _ {A : Type 0} (say : A → ReportValue) (job : Job A) where
+  sound_too : (b : List ℕ) → AreSound job b → AreSound (job_with_report say job) b
+  sound_too b x = x
+
+  module _ (old new : SourceState) (from to : DrainState) where
+    runs_too : (result : Result A DeviceFault) → Runs job old new from to result
+        → (report : ReportValue) → report ≡ report_of say result → RunsAndReports (job_with_report say job) old new from to report
+    runs_too (Ok a) x report e = record {
+      result = Ok (say a);
+      runs = record {
+        pieces = x.pieces;
+        failures = x.failures;
+        sound = sound_too _ x.sound;
+        within = x.within;
+        reading = x.reading;
+        is_reading = x.is_reading;
+        sends = x.sends;
+        comes = (x.comes.0, ap say x.comes.1, x.comes.2);
+      };
+      report_is = e;
+    }
+    runs_too (Err ReadFailed) x report e = record {
+      result = Err ReadFailed;
+      runs = record {
+        pieces = x.pieces;
+        failures = x.failures;
+        sound = sound_too _ x.sound;
+        within = x.within;
+        reading = x.reading;
+        is_reading = x.is_reading;
+        sends = x.sends;
+        comes = x.comes;
+      };
+      report_is = e;
+    }
+    runs_too (Err WriteFailed) x report e = record {
+      result = Err WriteFailed;
+      runs = record {
+        pieces = x.pieces;
+        failures = x.failures;
+        sound = sound_too _ x.sound;
+        within = x.within;
+        reading = x.reading;
+        is_reading = x.is_reading;
+        sends = x.sends;
+        comes = tt;
+      };
+      report_is = e;
+    }
+    runs_too (Err InputTooLong) x report e = record {
+      result = Err InputTooLong;
+      runs = record {
+        pieces = x.pieces;
+        failures = x.failures;
+        sound = sound_too _ x.sound;
+        within = x.within;
+        reading = x.reading;
+        is_reading = x.is_reading;
+        sends = x.sends;
+        comes = (x.comes.0, sound_too _ x.comes.1);
+      };
+      report_is = e;
+    }
+
+  -- as a run of a command shows it
+  pub reported_runs : {old new : SourceState} {from to : DrainState} {result : Result A DeviceFault} {report : ReportValue} → Runs job old new from to result → report ≡ report_of say result
+      → RunsAndReports (job_with_report say job) old new from to report
+  reported_runs {old} {new} {from} {to} {result} {report} x e = runs_too old new from to result x report e
+
+-- what is reported in the end
+pub report-end : {job : Job ReportValue} {old new : SourceState} {from to : DrainState} {report : ReportValue} → (x : RunsAndReports job old new from to report) → report ≡ report_at_end x.result
+report-end {report = report} x = by-result x.result x.report_is
+  where
+    by-result : (result : Result ReportValue DeviceFault) → MatchResult result (λ of_input. report ≡ of_input) (λ fault. report ≡ report_of_device fault) → report ≡ report_at_end result
+    by-result (Ok of_input) e = e
+    by-result (Err fault) e = e

@@ -1,0 +1,55 @@
+-- A dump shows its text, and counts its findings.
+use Rattle.std.proofs.Common.{◌≡◌, ℕ, ◌^◌, ◌≤◌, List, [], ◌∷◌, length, refl, ap, ◌∙◌, arith, length-append}
+use Rattle.std.specs.Prelude.{None}
+use Rattle.tlv_value.specs.Names.{Table}
+use Rattle.tlv_walk.specs.declared.follow.Go.{Go}
+use Rattle.tlv_walk.specs.Events.{Begin, Bytes, Close, End, Enter, EventValue, Leave, Open, Pad, Unused, events}
+use Rattle.tlv_walk.specs.Follow.{Effect, effect_of, if_on}
+use Rattle.tlv_walk.specs.Forest.{Forest, spell}
+use Rattle.tlv_walk.specs.Place.{top_place}
+use Rattle.tlv_walk.specs.Reading.{IsReading}
+use Rattle.tlv_show.specs.declared.options.Options.{Options}
+use Rattle.tlv_show.specs.DumpJob.{dump_job_text, top_layout}
+use Rattle.tlv_show.specs.DumpStep.{DumpState, dump_step, new_dump}
+use Rattle.tlv_show.specs.FinderState.{FinderState, top_frame}
+use Rattle.tlv_show.specs.Private.FinderState.{find_step}
+use Rattle.tlv_show.specs.Site.{Start}
+use Rattle.tlv_show.specs.Texts.{finding_count}
+use Rattle.tlv_show.proofs.FindingLemmas.CheckFolds.{count-run}
+use Rattle.tlv_show.proofs.DumpLemmas.DumpShown.{shows_forest}
+use Rattle.tlv_show.proofs.DumpLemmas.DumpSteps.{all_on, each-filled, each-shown, one_on}
+use Rattle.tlv_show.proofs.FindingLemmas.FinderItems.{run}
+use Rattle.tlv_show.proofs.DumpLemmas.Shows.{Shower}
+
+-- the finder of a dump goes by the events alone
+finder-by : (s : DumpState) (e : EventValue) → (dump_step s e).state.finder ≡ (find_step s.finder e).state
+finder-by s (Open h) = refl
+finder-by s (Begin h) = refl
+finder-by s (Bytes octets) = ap (λ (t : Effect DumpState). t.state.finder) (each-shown s octets)
+finder-by s End = refl
+finder-by s (Close at) = refl
+finder-by s (Enter h) = refl
+finder-by s Unused = refl
+finder-by s Leave = refl
+finder-by s (Pad octets) = ap (λ (t : Effect DumpState). t.state.finder) (each-filled s octets)
+
+finder-run : (s : DumpState) (es : List EventValue) → (effect_of dump_step s es).state.finder ≡ (run s.finder es).state
+finder-run s [] = refl
+finder-run s (e ∷ es) =
+    ap (λ (g : Go). (if_on g (dump_step s e) (λ u. effect_of dump_step u es)).state.finder) (one_on s e)
+    ∙ finder-run (dump_step s e).state es
+    ∙ ap (λ (u : FinderState). (run u es).state) (finder-by s e)
+
+module _ (options : Options) (names : Table) (octets : List ℕ) (f : Forest) (short : length octets ≤ 2 ^ 40) (r : IsReading options.framing octets f) where
+  pub text-made : (effect_of dump_step (new_dump options.rules (top_layout options) names) (events f)).put ≡ dump_job_text options names f
+  text-made =
+      (shows_forest (top_layout options) names options.rules (top_place options.framing) None Start top_frame [] f r.is_open (omega (arith, short, ap length r.front.1, length-append (spell f) r.front.0))
+      (record { segments = refl; bits = refl; unused = refl; not_full = refl }, refl, λ e. refl)).text 0
+
+  pub count-made : (effect_of dump_step (new_dump options.rules (top_layout options) names) (events f)).state.finder.count ≡ finding_count options.rules f
+  count-made =
+      ap (λ (u : FinderState). u.count) (finder-run (new_dump options.rules (top_layout options) names) (events f)) ∙ count-run options.rules options.framing octets f short r
+
+pub dumps : (options : Options) (names : Table)
+    → Shower dump_step (new_dump options.rules (top_layout options) names) options.framing (dump_job_text options names) (finding_count options.rules) (λ (s : DumpState). s.finder.count)
+dumps options names = record { goes_on = all_on; put = λ octets f few r. text-made options names octets f few r; counts = λ octets f few r. count-made options names octets f few r }

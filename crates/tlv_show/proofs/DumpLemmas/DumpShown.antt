@@ -1,0 +1,276 @@
+-- What a dump makes of the events of elements is their text.
+use Rattle.std.proofs.Common.{◌≡◌, ℕ, ◌+◌, ◌-◌, ◌^◌, ◌<◌, ◌≤◌, ◌==◌, Bool, true, false, if◌then◌else◌, List, [], ◌∷◌, ◌++◌, length, refl, sym, subst, not, ap, ap₂, ◌∙◌, arith, append_assoc, append-nil, length-append}
+use Rattle.std.proofs.lemmas.Grind.{flat_map-append}
+use Rattle.std.specs.FinMap as finite
+use Rattle.std.specs.Prelude.{flat_map, Option, Some, None, codes}
+use Rattle.tlv_head.specs.Header.{HeaderValue, announced, octets_of, wraps}
+use Rattle.tlv_value.specs.declared.finding.Finding.{Finding}
+use Rattle.tlv_value.specs.declared.layout.Layout.{Layout}
+use Rattle.tlv_value.specs.CheckState.{check_after, has_unused, new_check}
+use Rattle.tlv_value.specs.Names.{Table}
+use Rattle.tlv_value.specs.TextState.{open_lines, whole_lines}
+use Rattle.tlv_value.specs.Types.{is_primitive}
+use Rattle.tlv_walk.specs.declared.follow.Go.{Go}
+use Rattle.tlv_walk.specs.Events.{Begin, Bytes, End, EventValue, Pad, closing_event, end_offset, events, opening_events}
+use Rattle.tlv_walk.specs.Follow.{Effect, effect_of}
+use Rattle.tlv_walk.specs.Forest.{Forest, Stop, Fill, Whole, Closed, Partial, Entered, Awaiting, Begun, Zero, end_octets, extent, is_whole, lead, opening, spell}
+use Rattle.tlv_walk.specs.Place.{IsOpen, Place, place_after, place_inside}
+use Rattle.tlv_walk.proofs.GrammarLemmas.Spellings.{length-closed, length-whole}
+use Rattle.tlv_show.specs.declared.frames.Frame.{Frame}
+use Rattle.tlv_show.specs.declared.rules.Rules.{Rules}
+use Rattle.tlv_show.specs.declared.finding_lines.Style.TheVariants.{Dump}
+use Rattle.tlv_show.specs.CheckStep.{styled_lines}
+use Rattle.tlv_show.specs.LinesStep.{LinesState}
+use Rattle.tlv_show.specs.DumpStep.{DumpState, dump_step}
+use Rattle.tlv_show.specs.EndPlace.{end_place}
+use Rattle.tlv_show.specs.FinderState.{Finds, frame_after, frame_under, header_notes}
+use Rattle.tlv_show.specs.Found.{contents_findings, header_findings}
+use Rattle.tlv_show.proofs.FindingLemmas.EndFindings.{end_findings}
+use Rattle.tlv_show.specs.Items.{Item, FindingAt, OpeningLine, ClosingLine, WholePrimitive, OpenPrimitive, PaddingLine, heads, items}
+use Rattle.tlv_show.proofs.FindingLemmas.ElementItems.{findings_at}
+use Rattle.tlv_show.specs.Lines.{close_line, opening_line, padding_line}
+use Rattle.tlv_show.proofs.DumpLemmas.HolderLine.{holder_line}
+use Rattle.tlv_show.specs.Site.{Before, Padding, Sibling, Site, Start, is_padding, site_inside}
+use Rattle.tlv_show.proofs.FindingLemmas.SitesAfter.{site_after, site_after_holder, site_after_padding}
+use Rattle.tlv_show.proofs.FindingLemmas.SiteWords.{first_octet}
+use Rattle.tlv_show.specs.Texts.{item_text}
+use Rattle.tlv_show.proofs.DumpLemmas.DumpSteps.{all_on}
+use Rattle.tlv_show.proofs.DumpLemmas.DumpTexts.{at_level, closer_shown, fill_shown, holder_shown, no_padding, padded_behind, part_shown, primitive_shown, standing as lines_at}
+use Rattle.tlv_show.proofs.FindingLemmas.FinderFolds.{at-under, knows-behind, knows-inside, knows-padding, not-constructed, noted_all, unused-of}
+use Rattle.tlv_show.proofs.FindingLemmas.FinderItems.{behind_contents, behind_end, behind_header, behind_primitive, closed-find, opened-find, primitive-find, standing}
+use Rattle.tlv_show.proofs.FindingLemmas.HeaderNotes.{Knows, header-same}
+use Rattle.tlv_show.proofs.DumpLemmas.DumpEvents.{pair, shows, then_shown, texts, opens-by, closes-by, primitive-by, part-by}
+
+-- ---- elements, in this style, with these names and rules
+module _ (style : Layout) (names : Table) (rules : Rules) where
+  abbrev item : Item → List ℕ
+  item i = item_text (finite.get names) style i
+
+  abbrev texts_of : List Item → List ℕ
+  texts_of l = flat_map item l
+
+  abbrev site : Place → Option HeaderValue → Before → Site
+  site p holder before = record { at = p.at; level = p.depth; holder = holder; before = before }
+
+  lines_of : (level at : ℕ) (fs : List Finding) → styled_lines (Dump style.pure) level at fs ≡ texts_of (findings_at level at fs)
+  lines_of level at [] = refl
+  lines_of level at (f ∷ fs) = ap (λ (l : List ℕ). item (FindingAt level at f) ++ l) (lines_of level at fs)
+
+  split : (xs ys : List Item) → texts_of (xs ++ ys) ≡ texts_of xs ++ texts_of ys
+  split xs ys = flat_map-append item xs ys
+
+  -- findings, and then other lines
+  found-first : (n level at : ℕ) (gs fs : List Finding) (more : List ℕ) (rest : List Item) → n ≡ level → gs ≡ fs → more ≡ texts_of rest
+      → styled_lines (Dump style.pure) n at gs ++ more ≡ texts_of (findings_at level at fs ++ rest)
+  found-first n level at gs fs more rest e f g =
+      ap₂ (λ (k : ℕ) (hs : List Finding). styled_lines (Dump style.pure) k at hs ++ more) e f
+      ∙ ap₂ (λ (a b : List ℕ). a ++ b) (lines_of level at fs) g
+      ∙ sym (split (findings_at level at fs) rest)
+
+  abbrev start : Place → Bool → Frame → List Frame → ℕ → DumpState
+  start p padded w outer n = pair (lines_at style names p.depth p.at padded) (standing rules w outer n)
+
+  pub record IsShown (p : Place) (holder : Option HeaderValue) (before : Before) (w : Frame) (outer : List Frame) (f : Forest) : Type 0 where
+    pub text : (n : ℕ) → (effect_of dump_step (start p (is_padding before) w outer n) (events f)).put ≡ texts_of (items rules (site p holder before) f)
+    pub stands : (n : ℕ) → is_whole f ≡ true → (m : ℕ)
+        × ((effect_of dump_step (start p (is_padding before) w outer n) (events f)).state
+        ≡ pair (lines_at style names p.depth (p.at + length (spell f)) (padded_behind style names (is_padding before) f)) (standing rules (noted_all w f) outer m))
+
+  -- elements behind what was shown
+  behind-shown : (p q : Place) (padded : Bool) (w : Frame) (outer : List Frame) (n m : ℕ) (v : Frame) (holder : Option HeaderValue) (before : Before) (es : List EventValue) (put : List ℕ) (rest : Forest)
+      → q.depth ≡ p.depth
+      → effect_of dump_step (start p padded w outer n) es ≡ shows (start q (is_padding before) v outer m) put → IsShown q holder before v outer rest
+      → effect_of dump_step (start p padded w outer n) (es ++ events rest)
+      ≡ record (effect_of dump_step (start q (is_padding before) v outer m) (events rest)) { put = put ++ texts_of (items rules (site q holder before) rest) }
+  behind-shown p q padded w outer n m v holder before es put rest d e t =
+      then_shown (start p padded w outer n) (start q (is_padding before) v outer m) put es (events rest) e
+      ∙ ap (λ (l : List ℕ). record (effect_of dump_step (start q (is_padding before) v outer m) (events rest)) { put = put ++ l }) (t.text m)
+
+  abbrev Known : Place → Option HeaderValue → Before → Frame → List Frame → Type 0
+  Known p holder before w outer = Knows w (site p holder before) × (length outer ≡ p.depth) × (p.padding ≡ true → holder ≡ None)
+
+  -- an element that holds others begins
+  opened-shown : (p : Place) (holder : Option HeaderValue) (before : Before) (w : Frame) (outer : List Frame) (n : ℕ) (h : HeaderValue) → Known p holder before w outer
+      → h.offset ≡ p.at → p.depth < 128 → p.at + length (opening h) ≤ 2 ^ 64 - 1
+      → effect_of dump_step (start p (is_padding before) w outer n) (opening_events h)
+      ≡ shows (start (place_inside p h) false (frame_under w h) (w ∷ outer) (behind_header rules w h n)) (styled_lines (Dump style.pure) (length outer) h.offset (header_notes rules w h) ++ holder_line (at_level style names p.depth) h)
+  opened-shown p holder before w outer n h k there low far =
+      opens-by (lines_at style names p.depth p.at (is_padding before)) (standing rules w outer n) h h.constructed (h.number == 3)
+      ∙ ap₂ (λ (d : Effect LinesState) (f : Finds). shows (pair d.state f.state) (texts style f ++ d.put))
+      (holder_shown style names p.depth p.at (is_padding before) h there (omega (arith, low)) far)
+      (opened-find rules w outer n h (omega (arith, k.1, low)))
+
+  -- a primitive
+  primitive-shown : (p : Place) (padded : Bool) (w : Frame) (outer : List Frame) (n : ℕ) (h : HeaderValue) (c : List ℕ) → h.offset ≡ p.at → announced h.size ≡ length c
+      → p.at + (length (octets_of h) + length c) ≤ 2 ^ 64 - 1
+      → effect_of dump_step (start p padded w outer n) (Begin h ∷ Bytes c ∷ End ∷ [])
+      ≡ shows (start (place_after p (length (octets_of h) + length c)) false (behind_primitive rules w h c) outer (behind_contents rules w h c n))
+      (styled_lines (Dump style.pure) (length outer) h.offset (header_notes rules w h) ++ (whole_lines (finite.get names) h (at_level style names p.depth) c ++ styled_lines (Dump style.pure) (length outer) h.offset (contents_findings rules h c)))
+  primitive-shown p padded w outer n h c there size far =
+      primitive-by (lines_at style names p.depth p.at padded) (standing rules w outer n) h c
+      ∙ ap₂ (λ (d : Effect LinesState) (f : Finds). shows (pair d.state f.state) (styled_lines (Dump style.pure) (length outer) h.offset (header_notes rules w h) ++ (d.put ++ texts style f)))
+      (primitive_shown style names p.depth p.at padded h c there size far)
+      (primitive-find rules w outer n h c (sym size))
+
+  pub shows_forest : (p : Place) (holder : Option HeaderValue) (before : Before) (w : Frame) (outer : List Frame) (f : Forest) → IsOpen p f → p.at + length (spell f) ≤ 2 ^ 64 - 1 → Known p holder before w outer
+      → IsShown p holder before w outer f
+  shows_forest p holder before w outer Stop v b k = record {
+    text = λ n. refl;
+    stands = λ n e. (n, ap (λ (at : ℕ). pair (lines_at style names p.depth at (is_padding before)) (standing rules w outer n)) (omega arith));
+  }
+  shows_forest p holder before w outer (Fill rest) v b k =
+      let s : Site = site p holder before in
+      let t = shows_forest (place_after p 1) holder Padding w outer rest v.1 (omega (arith, b)) (knows-padding w s k.0 (k.2 v.0.0), k.1, k.2) in
+      let one : (n : ℕ) → effect_of dump_step (start p (is_padding before) w outer n) (Pad (0 ∷ []) ∷ []) ≡ shows (start (place_after p 1) true w outer n) (if is_padding before then [] else padding_line (at_level style names p.depth) p.at) =
+      λ n. ap (λ (d : Effect LinesState). shows (pair d.state (standing rules w outer n)) d.put) (fill_shown style names p.depth p.at (is_padding before) (omega (arith, b))) in
+      let all = λ (n : ℕ). behind-shown p (place_after p 1) (is_padding before) w outer n n w holder Padding (Pad (0 ∷ []) ∷ []) (if is_padding before then [] else padding_line (at_level style names p.depth) p.at) rest refl (one n) t in
+      record {
+        text = λ n. ap (λ (x : Effect DumpState). x.put) (all n) ∙ pads (is_padding before) p.depth p.at (items rules (site_after_padding s) rest);
+        stands = λ n e.
+            let r = t.stands n e in
+            (r.0, ap (λ (x : Effect DumpState). x.state) (all n) ∙ r.1 ∙ ap (λ (at : ℕ). pair (lines_at style names p.depth at (padded_behind style names true rest)) (standing rules (noted_all w rest) outer r.0)) (omega arith));
+      }
+    where
+      pads : (k : Bool) (level at : ℕ) (l : List Item)
+          → (if k then [] else padding_line (at_level style names level) at) ++ texts_of l ≡ texts_of ((if k then [] else PaddingLine level at ∷ []) ++ l)
+      pads true level at l = refl
+      pads false level at l = refl
+  shows_forest p holder before w outer (Whole h c rest) v b k =
+      let s : Site = site p holder before in
+      let q : Place = place_after p (length (octets_of h) + length c) in
+      let size : announced h.size ≡ length c = ap announced v.0.1 in
+      let form : h.constructed ≡ false = not-constructed h.constructed (wraps h) v.0.0.header.form in
+      let u : Bool = has_unused (check_after (new_check h) c) in
+      let known : Knows (behind_primitive rules w h c) (site_after s h c) =
+      subst (λ (x : Bool). Knows (frame_after w x (announced h.size) u) (site_after s h c)) (ap not form) (knows-behind w s (site_after s h c) h (first_octet c) u k.0 refl refl (unused-of h c form)) in
+      let t = shows_forest q holder (Sibling h (first_octet c)) (behind_primitive rules w h c) outer rest v.1 (omega (arith, b, length-whole h c rest)) (known, k.1, k.2) in
+      let all = λ (n : ℕ). behind-shown p q (is_padding before) w outer n (behind_contents rules w h c n) (behind_primitive rules w h c) holder (Sibling h (first_octet c)) (Begin h ∷ Bytes c ∷ End ∷ []) _ rest refl
+      (primitive-shown p (is_padding before) w outer n h c v.0.0.header.offset size (omega (arith, b, length-whole h c rest))) t in
+      let others : List Item = items rules (site_after s h c) rest in
+      record {
+        text = λ n.
+            ap (λ (x : Effect DumpState). x.put) (all n)
+            ∙ three (styled_lines (Dump style.pure) (length outer) h.offset (header_notes rules w h)) (whole_lines (finite.get names) h (at_level style names p.depth) c) (styled_lines (Dump style.pure) (length outer) h.offset (contents_findings rules h c)) (texts_of others)
+            ∙ found-first (length outer) p.depth h.offset (header_notes rules w h) (header_findings rules s h) _ (WholePrimitive p.depth h c ∷ (findings_at p.depth h.offset (contents_findings rules h c) ++ others)) k.1 (header-same rules w s h k.0)
+            (ap (λ (l : List ℕ). whole_lines (finite.get names) h (at_level style names p.depth) c ++ l) (found-first (length outer) p.depth h.offset (contents_findings rules h c) (contents_findings rules h c) (texts_of others) others k.1 refl refl));
+        stands = λ n e.
+            let r = t.stands (behind_contents rules w h c n) e in (
+              r.0,
+              ap (λ (x : Effect DumpState). x.state) (all n) ∙ r.1
+                  ∙ ap (λ (at : ℕ). pair (lines_at style names p.depth at (padded_behind style names false rest)) (standing rules (noted_all (behind_primitive rules w h c) rest) outer r.0)) (omega (arith, length-whole h c rest)),
+            );
+      }
+    where
+      three : (a b c d : List ℕ) → (a ++ (b ++ c)) ++ d ≡ a ++ (b ++ (c ++ d))
+      three a b c d = simp append_assoc
+  shows_forest p holder before w outer (Closed h inside rest) v b k =
+      let s : Site = site p holder before in
+      let q : Place = place_after p (extent h inside) in
+      let i_place : Place = place_inside p h in
+      let size = length-closed h inside rest in
+      let i = shows_forest i_place (Some h) Start (frame_under w h) (w ∷ outer) inside v.1 (omega (arith, b, size)) (knows-inside w s h, omega (arith, k.1), λ e. absurd (cc (e))) in
+      let t = shows_forest q holder (Sibling h None) (frame_after w (is_primitive h) (announced h.size) false) outer rest v.2 (omega (arith, b, size))
+      (knows-behind w s (site_after_holder s h inside) h None false k.0 refl refl refl, k.1, k.2) in
+      let end : ℕ = p.at + length (opening h) + length (spell inside) in
+      let line : List ℕ = holder_line (at_level style names p.depth) h in
+      let close : List ℕ = close_line (at_level style names p.depth) (end_place h inside) in
+      let first : List ℕ = styled_lines (Dump style.pure) (length outer) h.offset (header_notes rules w h) in
+      let last : List ℕ = styled_lines (Dump style.pure) (length outer) h.offset (end_findings rules h (heads inside)) in
+      let held : List ℕ = texts_of (items rules (site_inside s h) inside) in
+      let closes-shown : (m : ℕ) → effect_of dump_step (pair (lines_at style names (p.depth + 1) end false) (standing rules (noted_all (frame_under w h) inside) (w ∷ outer) m)) (closing_event h inside ∷ [])
+      ≡ shows (start q false (frame_after w (is_primitive h) (announced h.size) false) outer (behind_end rules h inside m)) (close ++ last) =
+      λ m.
+      closes-by (lines_at style names (p.depth + 1) end false) (standing rules (noted_all (frame_under w h) inside) (w ∷ outer) m) (end_offset h.size (h.offset + length (opening h) + length (spell inside))) h.constructed
+      ∙ ap₂ (λ (d : Effect LinesState) (f : Finds). shows (pair d.state f.state) (d.put ++ texts style f))
+      (closer_shown style names p.depth end h inside (omega (arith, v.0.0.header.offset)) v.0.0.header.valid.allowed (omega (arith, b, size)))
+      (closed-find rules i_place w outer m h inside v.1 v.0.1)
+      ∙ ap (λ (l : List ℕ). shows (pair (lines_at style names p.depth (end + length (end_octets h.size)) false) (standing rules (frame_after w (is_primitive h) (announced h.size) false) outer (behind_end rules h inside m))) (close ++ l))
+      (at-under rules i_place w h inside v.1 v.0.1 (styled_lines (Dump style.pure) (length outer)) (λ at. refl))
+      ∙ ap (λ (at : ℕ). shows (pair (lines_at style names p.depth at false) (standing rules (frame_after w (is_primitive h) (announced h.size) false) outer (behind_end rules h inside m))) (close ++ last)) (omega arith) in
+      let held-shown : (m : ℕ) → (r : ℕ) × (effect_of dump_step (start i_place false (frame_under w h) (w ∷ outer) m) (events inside)
+      ≡ shows (pair (lines_at style names (p.depth + 1) end false) (standing rules (noted_all (frame_under w h) inside) (w ∷ outer) r)) held) =
+      λ m.
+      let r = i.stands m v.0.1 in (
+        r.0,
+        as_shows (start i_place false (frame_under w h) (w ∷ outer) m) _ (events inside) held
+            (r.1 ∙ ap (λ (x : Bool). pair (lines_at style names (p.depth + 1) end x) (standing rules (noted_all (frame_under w h) inside) (w ∷ outer) r.0)) (no_padding style names i_place inside refl v.1)) (i.text m),
+      ) in
+      let element : (n : ℕ) → (m : ℕ) × (effect_of dump_step (start p (is_padding before) w outer n) (opening_events h ++ (events inside ++ closing_event h inside ∷ []))
+      ≡ shows (start q false (frame_after w (is_primitive h) (announced h.size) false) outer m) ((first ++ line) ++ (held ++ (close ++ last)))) =
+      λ n.
+      let a : ℕ = behind_header rules w h n in
+      let r = held-shown a in (
+        behind_end rules h inside r.0,
+        then_shown (start p (is_padding before) w outer n) (start i_place false (frame_under w h) (w ∷ outer) a) (first ++ line) (opening_events h) (events inside ++ closing_event h inside ∷ [])
+            (opened-shown p holder before w outer n h k v.0.0.header.offset (v.0.0.depth refl) (omega (arith, b, size)))
+            ∙ ap (λ (x : Effect DumpState). record x { put = (first ++ line) ++ x.put })
+            (then_shown (start i_place false (frame_under w h) (w ∷ outer) a) (pair (lines_at style names (p.depth + 1) end false) (standing rules (noted_all (frame_under w h) inside) (w ∷ outer) r.0)) held (events inside) (closing_event h inside ∷ []) r.1
+            ∙ ap (λ (x : Effect DumpState). record x { put = held ++ x.put }) (closes-shown r.0)),
+      ) in
+      let es : List EventValue = opening_events h ++ (events inside ++ closing_event h inside ∷ []) in
+      let joined : es ++ events rest ≡ opening_events h ++ (events inside ++ closing_event h inside ∷ events rest) =
+      append_assoc (opening_events h) (events inside ++ closing_event h inside ∷ []) (events rest) ∙ ap (λ (l : List EventValue). opening_events h ++ l) (append_assoc (events inside) (closing_event h inside ∷ []) (events rest)) in
+      let all = λ (n : ℕ).
+      ap (effect_of dump_step (start p (is_padding before) w outer n)) (sym joined)
+      ∙ behind-shown p q (is_padding before) w outer n (element n).0 (frame_after w (is_primitive h) (announced h.size) false) holder (Sibling h None) es ((first ++ line) ++ (held ++ (close ++ last))) rest refl (element n).1 t in
+      let others : List Item = items rules (site_after_holder s h inside) rest in
+      let closing : List Item = ClosingLine p.depth (end_place h inside) ∷ (findings_at p.depth h.offset (end_findings rules h (heads inside)) ++ others) in
+      record {
+        text = λ n.
+            ap (λ (x : Effect DumpState). x.put) (all n)
+            ∙ six first line held close last (texts_of others)
+            ∙ found-first (length outer) p.depth h.offset (header_notes rules w h) (header_findings rules s h) _ (OpeningLine p.depth h ∷ (items rules (site_inside s h) inside ++ closing)) k.1 (header-same rules w s h k.0)
+            (ap (λ (l : List ℕ). line ++ l)
+            (ap (λ (l : List ℕ). held ++ (close ++ l)) (found-first (length outer) p.depth h.offset (end_findings rules h (heads inside)) (end_findings rules h (heads inside)) (texts_of others) others k.1 refl refl)
+            ∙ sym (split (items rules (site_inside s h) inside) closing)));
+        stands = λ n e.
+            let r = t.stands (element n).0 e in (
+              r.0,
+              ap (λ (x : Effect DumpState). x.state) (all n) ∙ r.1
+                  ∙ ap (λ (at : ℕ). pair (lines_at style names p.depth at (padded_behind style names false rest)) (standing rules (noted_all (frame_after w (is_primitive h) (announced h.size) false) rest) outer r.0)) (omega (arith, size)),
+            );
+      }
+    where
+      six : (a b c d e f : List ℕ) → ((a ++ b) ++ (c ++ (d ++ e))) ++ f ≡ a ++ (b ++ (c ++ (d ++ (e ++ f))))
+      six a b c d e f = simp append_assoc
+
+      as_shows : (s t : DumpState) (es : List EventValue) (put : List ℕ) → (effect_of dump_step s es).state ≡ t → (effect_of dump_step s es).put ≡ put → effect_of dump_step s es ≡ shows t put
+      as_shows s t es put e f =
+          ap (λ (g : Go). record { state = (effect_of dump_step s es).state; put = (effect_of dump_step s es).put; goes = g }) (all_on s es) ∙ ap₂ (λ (u : DumpState) (l : List ℕ). shows u l) e f
+  shows_forest p holder before w outer (Partial h c) v b k = record {
+    text = λ n.
+        part-by (lines_at style names p.depth p.at (is_padding before)) (standing rules w outer n) h c
+        ∙ found-first (length outer) p.depth h.offset (header_notes rules w h) (header_findings rules (site p holder before) h) _ (OpenPrimitive p.depth h c ∷ []) k.1 (header-same rules w (site p holder before) h k.0)
+        (part_shown style names p.depth p.at (is_padding before) h c (omega (arith, v.1)) ∙ sym (append-nil (open_lines h (at_level style names p.depth) c)));
+    stands = λ n e. absurd (cc (e));
+  }
+  shows_forest p holder before w outer (Entered h inside) v b k =
+      let s : Site = site p holder before in
+      let size = length-append (opening h) (spell inside) in
+      let i = shows_forest (place_inside p h) (Some h) Start (frame_under w h) (w ∷ outer) inside v.1 (omega (arith, b, size)) (knows-inside w s h, omega (arith, k.1), λ e. absurd (cc (e))) in
+      let first : List ℕ = styled_lines (Dump style.pure) (length outer) h.offset (header_notes rules w h) in
+      let line : List ℕ = holder_line (at_level style names p.depth) h in
+      record {
+        text = λ n.
+            ap (λ (x : Effect DumpState). x.put)
+            (then_shown (start p (is_padding before) w outer n) (start (place_inside p h) false (frame_under w h) (w ∷ outer) (behind_header rules w h n)) (first ++ line) (opening_events h) (events inside)
+            (opened-shown p holder before w outer n h k v.0.0.header.offset (v.0.0.depth refl) (omega (arith, b, size))))
+            ∙ ap (λ (l : List ℕ). (first ++ line) ++ l) (i.text (behind_header rules w h n))
+            ∙ append_assoc first line (texts_of (items rules (site_inside s h) inside))
+            ∙ found-first (length outer) p.depth h.offset (header_notes rules w h) (header_findings rules s h) _ (OpeningLine p.depth h ∷ items rules (site_inside s h) inside) k.1 (header-same rules w s h k.0) refl;
+        stands = λ n e. absurd (cc (e));
+      }
+  shows_forest p holder before w outer (Awaiting h) v b k = record {
+    text = λ n.
+        append_assoc (styled_lines (Dump style.pure) (length outer) h.offset (header_notes rules w h)) (opening_line (at_level style names p.depth) h (codes " wraps {")) []
+        ∙ found-first (length outer) p.depth h.offset (header_notes rules w h) (header_findings rules (site p holder before) h) _ (OpeningLine p.depth h ∷ []) k.1 (header-same rules w (site p holder before) h k.0)
+        (ap (λ (l : List ℕ). l ++ []) (sym (awaiting p.depth h h.constructed v.1)));
+    stands = λ n e. absurd (cc (e));
+  }
+    where
+      awaiting : (level : ℕ) (h : HeaderValue) (k : Bool) → (if k then [] else lead (record h { constructed = false })) ≡ 0 ∷ []
+          → opening_line (at_level style names level) h (if k then codes " {" else codes " wraps {") ≡ opening_line (at_level style names level) h (codes " wraps {")
+      awaiting level h true e = absurd (cc (e))
+      awaiting level h false e = refl
+  shows_forest p holder before w outer (Begun octets) v b k = record { text = λ n. refl; stands = λ n e. absurd (cc (e)) }
+  shows_forest p holder before w outer Zero v b k = record { text = λ n. refl; stands = λ n e. absurd (cc (e)) }

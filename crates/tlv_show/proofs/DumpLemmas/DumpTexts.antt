@@ -1,0 +1,184 @@
+-- What the lines of a dump come to, element by element.
+use Rattle.std.proofs.Common.{◌≡◌, ℕ, ◌+◌, ◌-◌, ◌^◌, ◌≤◌, ◌&&◌, min, Bool, true, false, eqb, if◌then◌else◌, List, [], ◌∷◌, ◌++◌, length, take, map, refl, sym, ap, ap₂, ◌∙◌, subst, arith, append_assoc, append-nil}
+use Rattle.std.proofs.lemmas.Bool.{true≢false}
+use Rattle.std.proofs.lemmas.Grind.{common_steps}
+use Rattle.std.specs.FinMap as finite
+use Rattle.std.specs.Prelude.{Some, None, codes}
+use Rattle.tlv_head.specs.declared.header.Size.{Size}
+use Rattle.tlv_head.specs.declared.header.Size.TheVariants.{Definite, Indefinite}
+use Rattle.tlv_head.specs.Header.{HeaderValue, announced, octets_of}
+use Rattle.tlv_head.specs.Private.Header.{AllowsSize}
+use Rattle.tlv_value.specs.declared.layout.Layout.{Layout}
+use Rattle.tlv_value.specs.Names.{Table}
+use Rattle.tlv_value.specs.TextState.{TextState, begin_lines, contents_lines, end_lines, new_text, open_lines, text_after, whole_lines}
+use Rattle.tlv_value.specs.Value.{NameOf}
+use Rattle.tlv_value.proofs.TextLemmas.Pieces.{lines-end, open-lines}
+use Rattle.tlv_walk.specs.Events.{Begin, Bytes, Close, End, Enter, EventValue, Leave, Open, Pad, Unused, closing_event, end_offset, opening_events}
+use Rattle.tlv_walk.specs.Follow.{Effect, and_then, effect_of, if_on}
+use Rattle.tlv_walk.specs.Forest.{Forest, Stop, Fill, Whole, Closed, Partial, Entered, Awaiting, Begun, Zero, end_octets, extent, lead, opening, spell}
+use Rattle.tlv_walk.specs.Place.{IsOpen, Place, is_indefinite, place_after}
+use Rattle.tlv_walk.proofs.FollowerLemmas.Followed.{followed-more}
+use Rattle.tlv_walk.proofs.GrammarLemmas.Spellings.{length-opening}
+use Rattle.tlv_show.specs.LinesStep.{LinesState, lines_step, offset_after, past_header, put_lines}
+use Rattle.tlv_show.specs.EndPlace.{end_place}
+use Rattle.tlv_show.specs.Lines.{close_line, opening_line, padding_line}
+use Rattle.tlv_show.proofs.DumpLemmas.HolderLine.{holder_line}
+use Rattle.tlv_show.proofs.DumpLemmas.Dumped.{behind_put, dumped_bytes}
+use Rattle.tlv_show.proofs.DumpLemmas.Always.{all_on}
+
+-- offsets do not stop below 2^64
+far : (at n : ℕ) → at + n ≤ 2 ^ 64 - 1 → offset_after at n ≡ at + n
+far at n h = omega (arith, h)
+
+-- one list of events and then another
+both : (s : LinesState) (xs ys : List EventValue) → effect_of lines_step s (xs ++ ys) ≡ and_then (effect_of lines_step s xs) (λ u. effect_of lines_step u ys)
+both s xs ys = followed-more lines_step s xs ys (all_on s xs)
+
+-- what was made, and then more
+then_more : (s t : LinesState) (put : List ℕ) (xs ys : List EventValue) → effect_of lines_step s xs ≡ put_lines t put
+    → effect_of lines_step s (xs ++ ys) ≡ record (effect_of lines_step t ys) { put = put ++ (effect_of lines_step t ys).put }
+then_more s t put xs ys e = both s xs ys ∙ ap (λ (k : Effect LinesState). and_then k (λ u. effect_of lines_step u ys)) e
+
+-- ---- what is reported of a primitive
+
+take-all : (n : ℕ) (c : List ℕ) → length c ≤ n → take n c ≡ c
+take-all n c h = grind (arith, common_steps)
+
+-- with the header, with the contents octets, and with the end
+whole_shown : (name_of : NameOf) (h : HeaderValue) (layout : Layout) (c : List ℕ) → length c ≡ announced h.size
+    → begin_lines (new_text h layout) ++ (contents_lines (new_text h layout) c ++ (end_lines name_of (text_after (new_text h layout) c) ++ [])) ≡ whole_lines name_of h layout c
+whole_shown name_of h layout c e =
+    let t : TextState = new_text h layout in
+    ap (λ (l : List ℕ). begin_lines t ++ (contents_lines t c ++ l)) (append-nil (end_lines name_of (text_after t c)))
+    ∙ sym (append_assoc (begin_lines t) (contents_lines t c) (end_lines name_of (text_after t c)))
+    ∙ ap (λ (l : List ℕ). l ++ end_lines name_of (text_after t c)) (sym (open-lines h layout c))
+    ∙ sym (lines-end name_of h layout c e)
+
+-- whatever went before
+pub primitives_shown : (s : LinesState) (h : HeaderValue) (c : List ℕ) → announced h.size ≡ length c
+    → effect_of lines_step s (Begin h ∷ Bytes c ∷ End ∷ [])
+    ≡ put_lines (record (past_header s h) { offset = offset_after (past_header s h).offset (length c); value = None }) (whole_lines (finite.get s.names) h s.layout c)
+primitives_shown s h c size =
+    let t : TextState = new_text h s.layout in
+    let u : LinesState = record (past_header s h) { value = Some t } in
+    let place_after : LinesState = record (past_header s h) { offset = offset_after (past_header s h).offset (length c); value = None } in
+    let took = take-all (announced h.size) c (omega (arith, size)) in
+    let none : announced h.size - length c ≡ 0 = omega (arith, size) in
+    ap (λ (k : Effect LinesState). behind_put (begin_lines t) (if_on k.goes k (λ w. effect_of lines_step w (End ∷ [])))) (dumped_bytes u c)
+    ∙ ap (λ (l : List ℕ). put_lines place_after (begin_lines t ++ (contents_lines t l ++ ((if eqb (announced h.size - length l) 0 then end_lines (finite.get s.names) (text_after t l) else []) ++ [])))) took
+    ∙ ap (λ (n : ℕ). put_lines place_after (begin_lines t ++ (contents_lines t c ++ ((if eqb n 0 then end_lines (finite.get s.names) (text_after t c) else []) ++ [])))) none
+    ∙ ap (put_lines place_after) (whole_shown (finite.get s.names) h s.layout c (sym size))
+
+-- of elements in this style, with these names
+module _ (style : Layout) (names : Table) where
+  abbrev pub at_level : ℕ → Layout
+  at_level level = record style { level = level }
+
+  -- a dump between two elements
+  abbrev pub standing : ℕ → ℕ → Bool → LinesState
+  standing level at padded = record { layout = at_level level; names = names; offset = at; in_padding = padded; value = None }
+
+  -- a state between two elements, and what was put
+  settled : (l m o n : ℕ) (k j : Bool) (put put' : List ℕ) → l ≡ m → o ≡ n → k ≡ j → put ≡ put' → put_lines (standing l o k) put ≡ put_lines (standing m n j) put'
+  settled l m o n k j put put' e f g i =
+      ap₂ (λ (l : ℕ) (put : List ℕ). put_lines (standing l o k) put) e i ∙ ap₂ (λ (o : ℕ) (k : Bool). put_lines (standing m o k) put') f g
+
+  -- ---- a primitive
+
+  abbrev begun_in : ℕ → ℕ → Bool → HeaderValue → LinesState
+  begun_in level at padded h = record (past_header (standing level at padded) h) { value = Some (new_text h (at_level level)) }
+
+  pub primitive_shown : (level at : ℕ) (padded : Bool) (h : HeaderValue) (c : List ℕ) → h.offset ≡ at → announced h.size ≡ length c → at + (length (octets_of h) + length c) ≤ 2 ^ 64 - 1
+      → effect_of lines_step (standing level at padded) (Begin h ∷ Bytes c ∷ End ∷ []) ≡ put_lines (standing level (at + (length (octets_of h) + length c)) false) (whole_lines (finite.get names) h (at_level level) c)
+  primitive_shown level at padded h c there size far_enough =
+      primitives_shown (standing level at padded) h c size
+      ∙ settled level level (offset_after (offset_after h.offset (length (octets_of h))) (length c)) (at + (length (octets_of h) + length c)) false false _ (whole_lines (finite.get names) h (at_level level) c)
+      refl (omega (arith, there, far_enough)) refl refl
+
+  pub part_shown : (level at : ℕ) (padded : Bool) (h : HeaderValue) (c : List ℕ) → length c ≤ announced h.size
+      → (effect_of lines_step (standing level at padded) (Begin h ∷ Bytes c ∷ [])).put ≡ open_lines h (at_level level) c
+  part_shown level at padded h c size =
+      let t : TextState = new_text h (at_level level) in
+      ap (λ (k : Effect LinesState). (behind_put (begin_lines t) (if_on k.goes k (λ w. effect_of lines_step w []))).put) (dumped_bytes (begun_in level at padded h) c)
+      ∙ ap (λ (l : List ℕ). begin_lines t ++ (contents_lines t l ++ [])) (take-all (announced h.size) c size)
+      ∙ ap (λ (l : List ℕ). begin_lines t ++ l) (append-nil (contents_lines t c))
+      ∙ sym (open-lines h (at_level level) c)
+
+  -- ---- an element that holds others begins
+
+  -- what comes before what it holds
+  abbrev lead_by : Bool → Bool → List ℕ
+  lead_by k three = if k then [] else (if three then 0 ∷ [] else [])
+
+  holder_by : (level at : ℕ) (padded k three : Bool) (h : HeaderValue) → h.offset ≡ at → level + 1 ≤ 255
+      → at + (length (octets_of h) + length (lead_by k three)) ≤ 2 ^ 64 - 1
+      → effect_of lines_step (standing level at padded) ((if k then Open h else Enter h) ∷ map (λ z. Unused) (lead_by k three))
+      ≡ put_lines (standing (level + 1) (at + (length (octets_of h) + length (lead_by k three))) false) (opening_line (at_level level) h (if k then codes " {" else codes " wraps {"))
+  holder_by level at padded true three h there low far_enough =
+      settled (min (level + 1) 255) (level + 1) (offset_after h.offset (length (octets_of h))) (at + (length (octets_of h) + 0)) false false _ (opening_line (at_level level) h (codes " {"))
+      (omega (arith, low)) (omega (arith, there, far_enough)) refl (append-nil (opening_line (at_level level) h (codes " {")))
+  holder_by level at padded false true h there low far_enough =
+      settled (min (level + 1) 255) (level + 1) (offset_after (offset_after h.offset (length (octets_of h))) 1) (at + (length (octets_of h) + 1)) false false _ (opening_line (at_level level) h (codes " wraps {"))
+      (omega (arith, low)) (omega (arith, there, far_enough)) refl (append-nil (opening_line (at_level level) h (codes " wraps {")))
+  holder_by level at padded false false h there low far_enough =
+      settled (min (level + 1) 255) (level + 1) (offset_after h.offset (length (octets_of h))) (at + (length (octets_of h) + 0)) false false _ (opening_line (at_level level) h (codes " wraps {"))
+      (omega (arith, low)) (omega (arith, there, far_enough)) refl (append-nil (opening_line (at_level level) h (codes " wraps {")))
+
+  pub holder_shown : (level at : ℕ) (padded : Bool) (h : HeaderValue) → h.offset ≡ at → level + 1 ≤ 255 → at + length (opening h) ≤ 2 ^ 64 - 1
+      → effect_of lines_step (standing level at padded) (opening_events h) ≡ put_lines (standing (level + 1) (at + length (opening h)) false) (holder_line (at_level level) h)
+  holder_shown level at padded h there low far_enough =
+      holder_by level at padded h.constructed (eqb h.number 3) h there low (omega (arith, far_enough, length-opening h))
+      ∙ settled (level + 1) (level + 1) (at + (length (octets_of h) + length (lead h))) (at + length (opening h)) false false (holder_line (at_level level) h) (holder_line (at_level level) h)
+      refl (omega (arith, length-opening h)) refl refl
+
+  -- ---- and ends
+
+  closer_by : (level o : ℕ) (k : Bool) (size : Size) → AllowsSize k size → o + length (end_octets size) ≤ 2 ^ 64 - 1
+      → effect_of lines_step (standing (level + 1) o false) ((if k then Close (end_offset size o) else Leave) ∷ [])
+      ≡ put_lines (standing level (o + length (end_octets size)) false) (close_line (at_level level) (if k && is_indefinite size then Some o else None))
+  closer_by level o true (Definite n) allowed far_enough =
+      settled (level + 1 - 1) level o (o + 0) false false _ (close_line (at_level level) None) (omega arith) (omega arith) refl (append-nil (close_line (at_level (level + 1 - 1)) None) ∙ ap (λ (l : ℕ). close_line (at_level l) None) (omega arith))
+  closer_by level o true Indefinite allowed far_enough =
+      settled (level + 1 - 1) level (offset_after o 2) (o + 2) false false _ (close_line (at_level level) (Some o)) (omega arith) (omega (arith, far_enough)) refl
+      (append-nil (close_line (at_level (level + 1 - 1)) (Some o)) ∙ ap (λ (l : ℕ). close_line (at_level l) (Some o)) (omega arith))
+  closer_by level o false (Definite n) allowed far_enough =
+      settled (level + 1 - 1) level o (o + 0) false false _ (close_line (at_level level) None) (omega arith) (omega arith) refl (append-nil (close_line (at_level (level + 1 - 1)) None) ∙ ap (λ (l : ℕ). close_line (at_level l) None) (omega arith))
+  closer_by level o false Indefinite allowed far_enough = absurd (cc (allowed))
+
+  pub closer_shown : (level o : ℕ) (h : HeaderValue) (inside : Forest) → h.offset + length (opening h) + length (spell inside) ≡ o → AllowsSize h.constructed h.size → o + length (end_octets h.size) ≤ 2 ^ 64 - 1
+      → effect_of lines_step (standing (level + 1) o false) (closing_event h inside ∷ []) ≡ put_lines (standing level (o + length (end_octets h.size)) false) (close_line (at_level level) (end_place h inside))
+  closer_shown level o h inside there allowed far_enough =
+      subst (λ (n : ℕ). effect_of lines_step (standing (level + 1) o false) ((if h.constructed then Close (end_offset h.size n) else Leave) ∷ [])
+      ≡ put_lines (standing level (o + length (end_octets h.size)) false) (close_line (at_level level) (if h.constructed && is_indefinite h.size then Some n else None)))
+      (sym there) (closer_by level o h.constructed h.size allowed far_enough)
+
+  -- ---- elements
+
+  -- whether padding stands at their end
+  abbrev pub padded_behind : Bool → Forest → Bool
+  padded_behind padded Stop = padded
+  padded_behind padded (Fill rest) = padded_behind true rest
+  padded_behind padded (Whole h c rest) = padded_behind false rest
+  padded_behind padded (Closed h inside rest) = padded_behind false rest
+  padded_behind padded (Partial h c) = false
+  padded_behind padded (Entered h inside) = false
+  padded_behind padded (Awaiting h) = false
+  padded_behind padded (Begun octets) = padded
+  padded_behind padded Zero = padded
+
+  -- inside an element there is none
+  pub no_padding : (p : Place) (f : Forest) → p.padding ≡ false → IsOpen p f → padded_behind false f ≡ false
+  no_padding p Stop e v = refl
+  no_padding p (Fill rest) e v = absurd (true≢false (sym v.0.0 ∙ e))
+  no_padding p (Whole h c rest) e v = no_padding (place_after p (length (octets_of h) + length c)) rest e v.1
+  no_padding p (Closed h inside rest) e v = no_padding (place_after p (extent h inside)) rest e v.2
+  no_padding p (Partial h c) e v = refl
+  no_padding p (Entered h inside) e v = refl
+  no_padding p (Awaiting h) e v = refl
+  no_padding p (Begun octets) e v = refl
+  no_padding p Zero e v = refl
+
+  pub fill_shown : (level at : ℕ) (padded : Bool) → at + 1 ≤ 2 ^ 64 - 1 → effect_of lines_step (standing level at padded) (Pad (0 ∷ []) ∷ []) ≡ put_lines (standing level (at + 1) true) (if padded then [] else padding_line (at_level level) at)
+  fill_shown level at padded far_enough =
+      let line = if padded then [] else padding_line (at_level level) at in
+      settled level level (offset_after at 1) (at + 1) true true ((line ++ []) ++ []) line refl (far at 1 far_enough) refl (append-nil (line ++ []) ∙ append-nil line)

@@ -1,0 +1,97 @@
+-- What a dump makes of octets that come in pieces.
+use Rattle.std.proofs.Common.{◌≡◌, ◌+◌, ◌-◌, ◌<◌, ℕ, zero, suc, Bool, true, false, List, [], ◌∷◌, ◌++◌, length, take, refl, ap, ap₂, sym, ◌∙◌, arith, append-nil}
+use Rattle.std.proofs.lemmas.Grind.{common_steps}
+use Rattle.std.specs.Prelude.{Option, Some, None}
+use Rattle.tlv_value.specs.TextState.{TextState, contents_lines, text_after}
+use Rattle.tlv_value.proofs.TextLemmas.Pieces.{after-nothing, new-nothing, pieces-join}
+use Rattle.tlv_walk.specs.Follow.{Effect, each_octet}
+use Rattle.tlv_show.specs.LinesStep.{LinesState, lines_octet_step, lines_padding_step, offset_after, put_lines, value_after, value_contents_lines}
+use Rattle.tlv_show.specs.Lines.{padding_line}
+
+-- ---- offsets
+
+pub further-more : (o n m : ℕ) → offset_after (offset_after o n) m ≡ offset_after o (n + m)
+further-more o n m = omega arith
+
+pub further-none : (o : ℕ) → offset_after o 0 ≡ o
+further-none o = omega arith
+
+-- ---- contents
+
+take-none : (xs : List ℕ) → take 0 xs ≡ []
+take-none xs = grind (arith, common_steps)
+
+-- the front of two pieces, where no more than n octets count
+pub take-both : (n : ℕ) (x y : List ℕ) → take n (x ++ y) ≡ take n x ++ take (n - length (take n x)) y
+take-both zero x y = take-none (x ++ y) ∙ sym (ap₂ (λ (a b : List ℕ). a ++ b) (take-none x) (take-none y))
+take-both (suc n) [] y = let e : suc n ≡ suc n - 0 = omega arith in ap (λ (k : ℕ). take k y) e
+take-both (suc n) (z ∷ x) y = ap (λ (l : List ℕ). z ∷ l) (take-both n x y ∙ ap (λ (k : ℕ). take n x ++ take k y) (omega arith))
+
+value-join : (v : Option TextState) (x y : List ℕ)
+    → (value_after (value_after v x) y ≡ value_after v (x ++ y)) × (value_contents_lines v (x ++ y) ≡ value_contents_lines v x ++ value_contents_lines (value_after v x) y)
+value-join None x y = (refl, refl)
+value-join (Some t) x y =
+    let e = take-both t.left x y in
+    let j = pieces-join t (take t.left x) (take (t.left - length (take t.left x)) y) in
+    (ap (λ (u : TextState). Some u) (j.0 ∙ ap (text_after t) (sym e)), ap (contents_lines t) e ∙ j.1)
+
+value-rest : (v : Option TextState) → (value_after v [] ≡ v) × (value_contents_lines v [] ≡ [])
+value-rest None = (refl, refl)
+value-rest (Some t) = (ap (λ (u : TextState). Some u) (ap (text_after t) (take-of-none t.left) ∙ after-nothing t), ap (contents_lines t) (take-of-none t.left) ∙ new-nothing t)
+  where
+    take-of-none : (n : ℕ) → take {A = ℕ} n [] ≡ []
+    take-of-none n = grind (arith, common_steps)
+
+-- what more octets come to, where what went before put this
+abbrev pub behind_put : List ℕ → Effect LinesState → Effect LinesState
+behind_put put u = record { state = u.state; put = put ++ u.put; goes = u.goes }
+
+-- a dump of contents: the offset behind them, what is reported of the primitive, and what is put
+abbrev pub of_bytes : LinesState → ℕ → Option TextState → List ℕ → Effect LinesState
+of_bytes s offset value put = put_lines (record s { offset = offset; value = value }) put
+
+pub dumped_bytes : (s : LinesState) (xs : List ℕ)
+    → each_octet lines_octet_step s xs ≡ of_bytes s (offset_after s.offset (length xs)) (value_after s.value xs) (value_contents_lines s.value xs)
+dumped_bytes s [] =
+    let r = value-rest s.value in
+    ap (λ (n : ℕ). of_bytes s n s.value []) (sym (further-none s.offset))
+    ∙ ap₂ (λ (v : Option TextState) (put : List ℕ). of_bytes s (offset_after s.offset 0) v put) (sym r.0) (sym r.1)
+dumped_bytes s (x ∷ xs) =
+    let j = value-join s.value (x ∷ []) xs in
+    ap (behind_put (value_contents_lines s.value (x ∷ []))) (dumped_bytes (lines_octet_step s x).state xs)
+    ∙ ap (λ (n : ℕ). of_bytes s n (value_after (value_after s.value (x ∷ [])) xs) (value_contents_lines s.value (x ∷ []) ++ value_contents_lines (value_after s.value (x ∷ [])) xs))
+    (further-more s.offset 1 (length xs) ∙ ap (offset_after s.offset) (omega arith))
+    ∙ ap₂ (λ (v : Option TextState) (put : List ℕ). of_bytes s (offset_after s.offset (length (x ∷ xs))) v put) j.0 (sym j.1)
+
+-- ---- padding
+
+-- the same dump, elsewhere
+abbrev pub padded_at : LinesState → ℕ → Bool → LinesState
+padded_at s offset in_padding = record s { offset = offset; in_padding = in_padding }
+
+-- it had its line
+pub more_pad : (s : LinesState) (offset : ℕ) (xs : List ℕ) → each_octet lines_padding_step (padded_at s offset true) xs ≡ put_lines (padded_at s (offset_after offset (length xs)) true) []
+more_pad s offset [] = ap (λ (o : ℕ). put_lines (padded_at s o true) []) (sym (further-none offset))
+more_pad s offset (x ∷ xs) =
+    more_pad s (offset_after offset 1) xs ∙ ap (λ (o : ℕ). put_lines (padded_at s o true) []) (further-more offset 1 (length xs) ∙ ap (offset_after offset) (omega arith))
+
+more_by : (s : LinesState) (offset : ℕ) (in_padding : Bool) (xs : List ℕ) → in_padding ≡ true
+    → each_octet lines_padding_step (padded_at s offset in_padding) xs ≡ put_lines (padded_at s (offset_after offset (length xs)) in_padding) []
+more_by s offset true xs e = more_pad s offset xs
+more_by s offset false xs e = absurd (cc)
+
+pub padded_more : (s : LinesState) (xs : List ℕ) → s.in_padding ≡ true → each_octet lines_padding_step s xs ≡ put_lines (padded_at s (offset_after s.offset (length xs)) s.in_padding) []
+padded_more s xs e = more_by s s.offset s.in_padding xs e
+
+-- it has its line with the first octet
+first_by : (s : LinesState) (offset : ℕ) (in_padding : Bool) (xs : List ℕ) → 0 < length xs → in_padding ≡ false
+    → each_octet lines_padding_step (padded_at s offset in_padding) xs ≡ put_lines (padded_at s (offset_after offset (length xs)) true) (padding_line s.layout offset)
+first_by s offset true xs some e = absurd (cc)
+first_by s offset false [] some e = absurd (omega (arith, some))
+first_by s offset false (x ∷ xs) some e =
+    ap (behind_put (padding_line s.layout offset)) (more_pad s (offset_after offset 1) xs)
+    ∙ ap (λ (o : ℕ). put_lines (padded_at s o true) (padding_line s.layout offset ++ [])) (further-more offset 1 (length xs) ∙ ap (offset_after offset) (omega arith))
+    ∙ ap (put_lines (padded_at s (offset_after offset (length (x ∷ xs))) true)) (append-nil (padding_line s.layout offset))
+
+pub padded_first : (s : LinesState) (xs : List ℕ) → 0 < length xs → s.in_padding ≡ false → each_octet lines_padding_step s xs ≡ put_lines (padded_at s (offset_after s.offset (length xs)) true) (padding_line s.layout s.offset)
+padded_first s xs some e = first_by s s.offset s.in_padding xs some e

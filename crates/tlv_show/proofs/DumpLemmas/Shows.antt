@@ -1,0 +1,66 @@
+-- A command that shows what a source gives is a walk, followed by a follower that always wants more.
+use Rattle.std.proofs.Common.{◌≡◌, ℕ, ◌^◌, ◌≤◌, false, List, length, ap, ◌∙◌}
+use Rattle.std.specs.Prelude.{Option, Ok, Err}
+use Rattle.tlv_walk.specs.declared.ending.Ending.{Ending}
+use Rattle.tlv_walk.specs.declared.follow.Go.{Go}
+use Rattle.tlv_walk.specs.declared.follow.Go.TheVariants as go
+use Rattle.tlv_walk.specs.declared.framing.Framing.{Framing}
+use Rattle.tlv_walk.specs.declared.run.DeviceFault.{DeviceFault}
+use Rattle.tlv_walk.specs.declared.run.Run.{Run}
+use Rattle.tlv_io.specs.Device.{DrainState, SourceState}
+use Rattle.tlv_walk.specs.DriveJob.{Drives, had_enough, run_over}
+use Rattle.tlv_walk.specs.Events.{EventValue, events}
+use Rattle.tlv_walk.specs.Follow.{Effect, effect_of, followed_events}
+use Rattle.tlv_walk.specs.Forest.{Forest, spell}
+use Rattle.tlv_walk.specs.Job.{Job, Runs}
+use Rattle.tlv_walk.specs.Reading.{IsReading}
+use Rattle.tlv_walk.specs.Wrappers.{first_unused}
+use Rattle.tlv_walk.proofs.FollowerLemmas.Jobs as jobs
+use Rattle.tlv_show.specs.declared.outcome.Outcome.{Outcome}
+
+-- of all elements this text is written, and so many findings are counted
+abbrev pub showing : Framing → (Forest → List ℕ) → (Forest → ℕ) → Job Outcome
+showing framing text count = record {
+  framing = framing;
+  limit = 2 ^ 40;
+  text = text;
+  is_enough = λ f. false;
+  answer = λ f e. record { ending = e; findings = count f; unused = first_unused framing.inside f };
+}
+
+-- a follower, and what it makes of readings: a text, and a count in its state
+pub record Shower {S : Type 0} (next : S → EventValue → Effect S) (first : S) (framing : Framing) (text : Forest → List ℕ) (count : Forest → ℕ) (count_in : S → ℕ) : Type 0 where
+  pub goes_on : (s : S) (es : List EventValue) → (effect_of next s es).goes ≡ go.On
+  pub put : (octets : List ℕ) (f : Forest) → length octets ≤ 2 ^ 40 → IsReading framing octets f → (effect_of next first (events f)).put ≡ text f
+  pub counts : (octets : List ℕ) (f : Forest) → length octets ≤ 2 ^ 40 → IsReading framing octets f → count_in (effect_of next first (events f)).state ≡ count f
+
+module _ {S : Type 0} (next : S → EventValue → Effect S) (first : S) (framing : Framing) (text : Forest → List ℕ) (count : Forest → ℕ) (count_in : S → ℕ)
+    (w : Shower next first framing text count count_in) (t : S) (old new : SourceState) (from to : DrainState) where
+  -- it never has enough
+  goes_on : (octets : List ℕ) (f : Forest) → length octets ≤ 2 ^ 40 → IsReading framing octets f → had_enough (effect_of next first (events f)).goes ≡ false
+  goes_on octets f few r = ap had_enough (w.goes_on first (events f))
+
+  -- an outcome with these values
+  outcome_is : (outcome : Outcome) (e : Ending) (n : ℕ) (unused : Option ℕ) → outcome.ending ≡ e → outcome.findings ≡ n → outcome.unused ≡ unused
+      → outcome ≡ record { ending = e; findings = n; unused = unused }
+  outcome_is outcome e n unused p q r =
+      ap (λ (x : Ending). record { ending = x; findings = outcome.findings; unused = outcome.unused }) p
+      ∙ ap (λ (x : ℕ). record { ending = e; findings = x; unused = outcome.unused }) q
+      ∙ ap (λ (x : Option ℕ). record { ending = e; findings = n; unused = x }) r
+
+  -- the run over all events
+  run_on : (f : Forest) (e : Ending) → run_over framing f (followed_events next first (events f)) (effect_of next first (events f)).goes e
+      ≡ record { ending = e; octets = length (spell f); enough = false; unused = first_unused framing.inside f }
+  run_on f e = ap (λ (g : Go). run_over framing f (followed_events next first (events f)) g e) (w.goes_on first (events f))
+
+  pub shows_ok : (run : Run) (outcome : Outcome) → outcome.ending ≡ run.ending → outcome.findings ≡ count_in t → outcome.unused ≡ run.unused
+      → Drives next framing (2 ^ 40) first t old new from to (Ok run) → Runs (showing framing text count) old new from to (Ok outcome)
+  shows_ok run outcome ending findings unused x =
+      jobs.runs_ok next (showing framing text count) first w.put goes_on t old new from to run outcome x
+      (λ octets f e few r state is. outcome_is outcome e (count f) (first_unused framing.inside f)
+      (ending ∙ ap (λ (k : Run). k.ending) (is ∙ run_on f e))
+      (findings ∙ ap count_in state ∙ w.counts octets f few r)
+      (unused ∙ ap (λ (k : Run). k.unused) (is ∙ run_on f e)))
+
+  pub shows_err : (e : DeviceFault) → Drives next framing (2 ^ 40) first t old new from to (Err e) → Runs (showing framing text count) old new from to (Err e)
+  shows_err e x = jobs.runs_err next (showing framing text count) first w.put goes_on t old new from to e x

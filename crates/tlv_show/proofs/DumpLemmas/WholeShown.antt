@@ -1,0 +1,78 @@
+-- A primitive with which nothing is found: what a dump makes of it at once.
+use Rattle.std.proofs.Common.{◌≡◌, ℕ, Bool, true, false, List, [], ◌∷◌, ◌++◌, length, sym, ap, ap₂, ◌∙◌, append-nil}
+use Rattle.std.specs.FinMap as finite
+use Rattle.std.specs.Prelude.{Ok, Err, Result, IsErr, ⊤}
+use Rattle.std.proofs.lemmas.Bool.{true≢false}
+use Rattle.tlv_head.specs.Header.{HeaderValue, announced}
+use Rattle.tlv_value.specs.declared.finding.Finding.{Finding}
+use Rattle.tlv_value.specs.TextState.{whole_lines}
+use Rattle.tlv_io.specs.declared.drain.WriteFault.{WriteFault}
+use Rattle.tlv_io.specs.declared.out.Out.{Out}
+use Rattle.tlv_io.specs.Device.{DrainState}
+use Rattle.tlv_walk.specs.Events.{Begin, Bytes, End}
+use Rattle.tlv_walk.specs.Follow.{Effect, HasEffectOrNone, IsWhole, contents_in, effect_of, put_if_followed, whole_events}
+use Rattle.tlv_io.specs.Out.{Puts}
+use Rattle.tlv_io.proofs.Puts.{HasPut, puts_as, puts_failed_last, puts_text}
+use Rattle.tlv_show.specs.declared.finding_lines.Style.TheVariants.{Dump}
+use Rattle.tlv_show.specs.CheckStep.{styled_lines}
+use Rattle.tlv_show.specs.LinesStep.{LinesState}
+use Rattle.tlv_show.specs.Private.LinesStep.{past_primitive}
+use Rattle.tlv_show.specs.DumpStep.{DumpState, dump_step}
+use Rattle.tlv_show.specs.FinderState.{FinderState, Finds, find_begin}
+use Rattle.tlv_show.specs.Private.FinderState.{PassesOrStays, PassesPrimitive, find_whole}
+use Rattle.tlv_show.proofs.DumpLemmas.DumpEvents.{pair, primitive-by, shows, texts}
+use Rattle.tlv_show.proofs.DumpLemmas.DumpTexts.{primitives_shown}
+
+abbrev pub lines_of : DumpState → HeaderValue → List ℕ → List ℕ
+lines_of s h c = whole_lines (finite.get s.lines.names) h s.lines.layout c
+
+abbrev pub after_whole : DumpState → HeaderValue → List ℕ → DumpState
+after_whole s h c = pair (past_primitive s.lines h c) (find_whole s.finder h c).state
+
+pub whole_is : (s : DumpState) (h : HeaderValue) (c : List ℕ) → announced h.size ≡ length c → (find_begin s.finder h).found ≡ [] → (find_whole s.finder h c).found ≡ []
+    → effect_of dump_step s (Begin h ∷ Bytes c ∷ End ∷ []) ≡ shows (after_whole s h c) (lines_of s h c)
+whole_is s h c size begins ends =
+    let b : Finds = find_begin s.finder h in
+    let f : Finds = find_whole s.finder h c in
+    let style = Dump s.lines.layout.pure in
+    primitive-by s.lines s.finder h c
+    ∙ ap (λ (d : Effect LinesState). shows (pair d.state f.state) (texts s.lines.layout b ++ (d.put ++ texts s.lines.layout f))) (primitives_shown s.lines h c size)
+    ∙ ap₂ (λ (k l : List Finding). shows (after_whole s h c) (styled_lines style b.level b.at k ++ (lines_of s h c ++ styled_lines style f.level f.at l))) begins ends
+    ∙ ap (shows (after_whole s h c)) (append-nil (lines_of s h c))
+
+-- the events of its octets
+pub octets_are : (s : DumpState) (h : HeaderValue) (o c : List ℕ) → c ≡ contents_in h o → announced h.size ≡ length c → (find_begin s.finder h).found ≡ [] → (find_whole s.finder h c).found ≡ []
+    → effect_of dump_step s (whole_events h o) ≡ shows (after_whole s h c) (lines_of s h c)
+octets_are s h o c same size begins ends =
+    ap (λ (l : List ℕ). effect_of dump_step s (Begin h ∷ Bytes l ∷ End ∷ [])) (sym same) ∙ whole_is s h c size begins ends
+
+-- where a finder took the primitive
+took : (old new : Finds) (h : HeaderValue) (c : List ℕ) (x : Bool) → x ≡ true → PassesOrStays old new h c x → PassesPrimitive old new h c
+took old new h c true e p = p
+took old new h c false e p = absurd (true≢false (sym e))
+
+module _ (s u : DumpState) (old new : Finds) (h : HeaderValue) (o c : List ℕ) (x : Bool) (is : u ≡ s) (finder : u.finder ≡ old.state) (same : c ≡ contents_in h o) (whole : IsWhole h o)
+    (on : x ≡ true) (passes : PassesOrStays old new h c x) where
+  pub made_is : effect_of dump_step s (whole_events h o) ≡ shows (after_whole u h c) (lines_of u h c)
+  made_is =
+      let p = took old new h c x on passes in
+      ap (λ (v : DumpState). effect_of dump_step v (whole_events h o)) (sym is)
+      ∙ octets_are u h o c same (whole.contents ∙ ap length (sym same)) (rw finder p.begins) (rw finder p.ends)
+
+  pub stands_after : (l : LinesState) → l ≡ past_primitive u.lines h c → pair l new.state ≡ after_whole u h c
+  stands_after l e =
+      let p = took old new h c x on passes in
+      ap₂ pair e (ap (λ (f : Finds). f.state) p.state ∙ ap (λ (f : FinderState). (find_whole f h c).state) (sym finder))
+
+-- ---- by a call that may leave them to others
+
+module _ {D : Type 0} (state_of : D → DrainState) (a b : Out D) (m : Effect DumpState) (s : DumpState) (put : List ℕ) (is : m ≡ shows s put) where
+  pub shown-put : HasPut state_of a b put → Puts {T = Bool} {E = WriteFault} state_of a b (put_if_followed {E = WriteFault} (Ok true) m.put) (Ok true)
+  shown-put p = puts_as state_of a b put m.put tt true p (sym (ap (λ (k : Effect DumpState). k.put) is))
+
+  pub shown-failed : (e : WriteFault) (r : Result Bool WriteFault) → Puts {T = ⊤} {E = WriteFault} state_of a b put (Err e) → IsErr r → Puts state_of a b (put_if_followed r m.put) r
+  shown-failed e (Ok x) p h = absurd (true≢false (sym h))
+  shown-failed e (Err f) p h = puts_text state_of a b put m.put (Err f) (sym (ap (λ (k : Effect DumpState). k.put) is)) (puts_failed_last state_of a b put e (Err f) p h)
+
+pub shown-state : (m : Effect DumpState) (old new s : DumpState) (put : List ℕ) → m ≡ shows s put → new ≡ s → HasEffectOrNone {E = WriteFault} m old new (Ok true)
+shown-state m old new s put is e = (e ∙ sym (ap (λ (k : Effect DumpState). k.state) is), ap (λ (k : Effect DumpState). k.goes) is)

@@ -1,0 +1,81 @@
+-- What is found under BER is found under other rules too.
+use Rattle.std.proofs.Common.{◌≡◌, ℕ, Bool, true, false, if◌then◌else◌, List, [], ◌∷◌, ◌++◌, refl, sym, ap, ap₂, ◌∙◌}
+use Rattle.std.proofs.lemmas.List.Elements.{filter-append}
+use Rattle.std.specs.List.{filter}
+use Rattle.std.specs.Prelude.{◌||◌, flat_map}
+use Rattle.tlv_value.specs.declared.finding.Finding.{Finding}
+use Rattle.tlv_value.specs.Checks.{findings_by, findings_on_contents}
+use Rattle.tlv_walk.specs.Forest.{Forest, Stop, Fill, Whole, Closed, Partial, Entered, Awaiting, Begun, Zero}
+use Rattle.tlv_show.specs.declared.rules.Rules.{Rules}
+use Rattle.tlv_show.specs.declared.rules.Rules.TheVariants.{Ber, Der, Cer}
+use Rattle.tlv_show.specs.Conditions.{end_conditions, header_conditions}
+use Rattle.tlv_show.specs.EndPlace.{end_place}
+use Rattle.tlv_show.specs.Found.{contents_findings, shows}
+use Rattle.tlv_show.proofs.FindingLemmas.EndFindings.{end_findings}
+use Rattle.tlv_show.specs.Items.{Item, FindingAt, OpeningLine, ClosingLine, WholePrimitive, OpenPrimitive, PaddingLine, heads, items}
+use Rattle.tlv_show.proofs.FindingLemmas.ElementItems.{findings_at}
+use Rattle.tlv_show.specs.Laws.{BasicFindingsStay, is_basic}
+use Rattle.tlv_show.specs.Site.{Site, is_padding, site_inside, top_site}
+use Rattle.tlv_show.proofs.FindingLemmas.SitesAfter.{site_after, site_after_holder, site_after_padding}
+use Rattle.tlv_show.specs.Texts.{check_line}
+use Rattle.tlv_show.proofs.FindingLemmas.CheckFolds.{only-written}
+use Rattle.tlv_show.proofs.FindingLemmas.FinderItems.{only, only-findings_at}
+
+-- each letter of BER is one of the other rules
+among-more : (k others : Bool) → (k || false) ≡ true → (k || others) ≡ true
+among-more true others e = refl
+among-more false others e = absurd (cc (e))
+
+pub still-shown : (rules : Rules) (f : Finding) → shows Ber f ≡ true → shows rules f ≡ true
+still-shown Ber f e = e
+still-shown Der f e = among-more _ _ e
+still-shown Cer f e = among-more _ _ e
+
+module _ (rules : Rules) where
+  abbrev basic : List Item → List Item
+  basic l = filter is_basic l
+
+  -- findings, and then other items
+  basic-found : (level at : ℕ) (fs : List Finding) (rest : List Item) → basic (findings_at level at (filter (shows rules) fs) ++ rest) ≡ findings_at level at (filter (shows Ber) fs) ++ basic rest
+  basic-found level at [] rest = refl
+  basic-found level at (x ∷ fs) rest = by-tests (shows Ber x) (shows rules x) refl refl (still-shown rules x) (basic-found level at fs rest)
+    where
+      by-tests : (b r : Bool) → shows Ber x ≡ b → shows rules x ≡ r → (shows Ber x ≡ true → shows rules x ≡ true)
+          → basic (findings_at level at (filter (shows rules) fs) ++ rest) ≡ findings_at level at (filter (shows Ber) fs) ++ basic rest
+          → basic (findings_at level at (filter (shows rules) (x ∷ fs)) ++ rest) ≡ findings_at level at (filter (shows Ber) (x ∷ fs)) ++ basic rest
+      by-tests true true e f g h = rw (f, e) (ap (λ (l : List Item). FindingAt level at x ∷ l) h)
+      by-tests true false e f g h = absurd (cc (e, f, g e))
+      by-tests false true e f g h = rw (f, e) h
+      by-tests false false e f g h = rw (f, e) h
+
+  same-found : (level at : ℕ) (fs : List Finding) (xs ys : List Item) → only xs ≡ basic ys
+      → only (findings_at level at (filter (shows Ber) fs) ++ xs) ≡ basic (findings_at level at (filter (shows rules) fs) ++ ys)
+  same-found level at fs xs ys e =
+      only-findings_at level at (filter (shows Ber) fs) xs ∙ ap (λ (l : List Item). findings_at level at (filter (shows Ber) fs) ++ l) e ∙ sym (basic-found level at fs ys)
+
+  same-pads : (k : Bool) (level at : ℕ) (xs ys : List Item) → only xs ≡ basic ys → only ((if k then [] else PaddingLine level at ∷ []) ++ xs) ≡ basic ((if k then [] else PaddingLine level at ∷ []) ++ ys)
+  same-pads true level at xs ys e = e
+  same-pads false level at xs ys e = e
+
+  same : (s : Site) (f : Forest) → only (items Ber s f) ≡ basic (items rules s f)
+  same s Stop = refl
+  same s (Fill rest) = same-pads (is_padding s.before) s.level s.at _ _ (same (site_after_padding s) rest)
+  same s (Whole h c rest) =
+      same-found s.level h.offset (findings_by (header_conditions s h)) (WholePrimitive s.level h c ∷ (findings_at s.level h.offset (contents_findings Ber h c) ++ items Ber (site_after s h c) rest))
+      (WholePrimitive s.level h c ∷ (findings_at s.level h.offset (contents_findings rules h c) ++ items rules (site_after s h c) rest))
+      (same-found s.level h.offset (findings_on_contents h c) _ _ (same (site_after s h c) rest))
+  same s (Closed h inside rest) =
+      let last : Rules → List Item = λ r. ClosingLine s.level (end_place h inside) ∷ (findings_at s.level h.offset (end_findings r h (heads inside)) ++ items r (site_after_holder s h inside) rest) in
+      same-found s.level h.offset (findings_by (header_conditions s h)) (OpeningLine s.level h ∷ (items Ber (site_inside s h) inside ++ last Ber)) (OpeningLine s.level h ∷ (items rules (site_inside s h) inside ++ last rules))
+      (filter-append _ (items Ber (site_inside s h) inside) (last Ber)
+      ∙ ap₂ (λ (a b : List Item). a ++ b) (same (site_inside s h) inside) (same-found s.level h.offset (findings_by (end_conditions h (heads inside))) _ _ (same (site_after_holder s h inside) rest))
+      ∙ sym (filter-append is_basic (items rules (site_inside s h) inside) (last rules)))
+  same s (Partial h c) = same-found s.level h.offset (findings_by (header_conditions s h)) (OpenPrimitive s.level h c ∷ []) (OpenPrimitive s.level h c ∷ []) refl
+  same s (Entered h inside) =
+      same-found s.level h.offset (findings_by (header_conditions s h)) (OpeningLine s.level h ∷ items Ber (site_inside s h) inside) (OpeningLine s.level h ∷ items rules (site_inside s h) inside) (same (site_inside s h) inside)
+  same s (Awaiting h) = same-found s.level h.offset (findings_by (header_conditions s h)) (OpeningLine s.level h ∷ []) (OpeningLine s.level h ∷ []) refl
+  same s (Begun octets) = refl
+  same s Zero = refl
+
+pub basic_stay : BasicFindingsStay
+basic_stay rules f = sym (only-written (items Ber top_site f)) ∙ ap (flat_map check_line) (same rules top_site f)

@@ -1,0 +1,212 @@
+-- What a check makes of the events of elements is their findings' lines, and their number.
+use Rattle.std.proofs.Common.{◌≡◌, ℕ, ◌+◌, ◌-◌, ◌*◌, ◌^◌, ◌≤◌, ◌==◌, Bool, true, false, nat_lt, if◌then◌else◌, List, [], ◌∷◌, ◌++◌, length, refl, sym, ap, ◌∙◌, arith, length-append}
+use Rattle.std.proofs.lemmas.Grind.{flat_map-append}
+use Rattle.std.proofs.lemmas.List.{length-map}
+use Rattle.std.proofs.lemmas.List.Elements.{filter-append}
+use Rattle.std.proofs.lemmas.List.Sums.{length-filter}
+use Rattle.std.specs.List.{filter}
+use Rattle.std.specs.Prelude.{flat_map, Option, Some, None}
+use Rattle.tlv_head.specs.Header.{HeaderValue, octets_of}
+use Rattle.tlv_value.specs.declared.finding.Finding.{Finding}
+use Rattle.tlv_value.specs.Checks.{contents_conditions, findings_by}
+use Rattle.tlv_walk.specs.declared.follow.Go.TheVariants as go
+use Rattle.tlv_walk.specs.declared.framing.Framing.{Framing}
+use Rattle.tlv_walk.specs.Events.{Begin, Bytes, Close, End, Enter, EventValue, Leave, Open, Pad, Unused, events}
+use Rattle.tlv_walk.specs.Follow.{Effect, effect_of, if_on}
+use Rattle.tlv_walk.specs.Forest.{Forest, Stop, Fill, Whole, Closed, Partial, Entered, Awaiting, Begun, Zero, extent, opening, spell}
+use Rattle.tlv_walk.specs.Place.{IsOpen, Place, place_after, place_inside, top_place}
+use Rattle.tlv_walk.specs.Reading.{IsReading}
+use Rattle.tlv_walk.proofs.GrammarLemmas.PopHeaders.{header-length}
+use Rattle.tlv_walk.proofs.GrammarLemmas.Spellings.{length-closed, length-opening, length-whole}
+use Rattle.tlv_show.specs.declared.frames.Frame.{Frame}
+use Rattle.tlv_show.specs.declared.rules.Rules.{Rules}
+use Rattle.tlv_show.specs.declared.finding_lines.Style.TheVariants.{Check}
+use Rattle.tlv_show.specs.CheckStep.{check_step, styled_lines}
+use Rattle.tlv_show.specs.Conditions.{end_conditions, header_conditions}
+use Rattle.tlv_show.specs.EndPlace.{end_place}
+use Rattle.tlv_show.specs.FinderState.{FinderState, Finds, OpenValue, count_up, find_frame_end, find_open, find_value_end, frame_under, header_notes, new_finder, open_value_after, top_frame}
+use Rattle.tlv_show.specs.Private.FinderState.{find_step}
+use Rattle.tlv_show.specs.Found.{contents_findings, header_findings, shows}
+use Rattle.tlv_show.proofs.FindingLemmas.EndFindings.{end_findings}
+use Rattle.tlv_show.specs.Items.{Item, FindingAt, OpeningLine, ClosingLine, WholePrimitive, OpenPrimitive, PaddingLine, heads, items}
+use Rattle.tlv_show.proofs.FindingLemmas.ElementItems.{findings_at}
+use Rattle.tlv_show.specs.Site.{Site, is_padding, site_inside, top_site}
+use Rattle.tlv_show.proofs.FindingLemmas.SitesAfter.{site_after, site_after_holder, site_after_padding}
+use Rattle.tlv_show.specs.Texts.{check_line, check_text, finding_count, is_finding}
+use Rattle.tlv_show.proofs.FindingLemmas.CheckLaws.{step-is}
+use Rattle.tlv_show.proofs.FindingLemmas.FinderItems.{Step, finds_forest, found_items, only, run}
+use Rattle.tlv_show.proofs.DumpLemmas.Shows.{Shower}
+
+-- ---- lines
+
+written-items : (level at : ℕ) (fs : List Finding) → flat_map check_line (findings_at level at fs) ≡ styled_lines Check level at fs
+written-items level at [] = refl
+written-items level at (f ∷ fs) = ap (λ (l : List ℕ). check_line (FindingAt level at f) ++ l) (written-items level at fs)
+
+-- what a check makes of events: what the finder reports of them, listed
+abbrev pub listed_run : Step → Effect FinderState
+listed_run u = record { state = u.state; put = flat_map check_line u.put; goes = go.On }
+
+pub followed-run : (s : FinderState) (es : List EventValue) → effect_of check_step s es ≡ listed_run (run s es)
+followed-run s [] = refl
+followed-run s (e ∷ es) =
+    let f : Finds = find_step s e in
+    ap (λ (t : Effect FinderState). if_on t.goes t (λ u. effect_of check_step u es)) (step-is s e)
+    ∙ ap (λ (t : Effect FinderState). record t { put = styled_lines Check f.level f.at f.found ++ t.put }) (followed-run f.state es)
+    ∙ ap (λ (l : List ℕ). record { state = (run f.state es).state; put = l; goes = go.On })
+    (ap (λ (l : List ℕ). l ++ flat_map check_line (run f.state es).put) (sym (written-items f.level f.at f.found))
+    ∙ sym (flat_map-append check_line (found_items f) (run f.state es).put))
+
+pub only-written : (l : List Item) → flat_map check_line (only l) ≡ flat_map check_line l
+only-written [] = refl
+only-written (FindingAt level at finding ∷ l) = ap (λ (t : List ℕ). check_line (FindingAt level at finding) ++ t) (only-written l)
+only-written (OpeningLine level h ∷ l) = only-written l
+only-written (ClosingLine level offset ∷ l) = only-written l
+only-written (WholePrimitive level h c ∷ l) = only-written l
+only-written (OpenPrimitive level h c ∷ l) = only-written l
+only-written (PaddingLine level offset ∷ l) = only-written l
+
+-- ---- the count
+
+count-none : (n : ℕ) → n ≡ count_up n 0
+count-none n = omega arith
+
+count-more : (n m k : ℕ) → count_up (count_up n m) k ≡ count_up n (m + k)
+count-more n m k = omega arith
+
+either-count : (a b : FinderState) (k : Bool) → a.count ≡ b.count → (if k then b else a).count ≡ a.count
+either-count a b true e = sym e
+either-count a b false e = refl
+
+by-value : (s : FinderState) (v : Option OpenValue) → (find_value_end s v).state.count ≡ count_up s.count (length (find_value_end s v).found)
+by-value s None = count-none s.count
+by-value s (Some v) = refl
+
+by-frames : (s : FinderState) (outer : List Frame) → (find_frame_end s outer).state.count ≡ count_up s.count (length (find_frame_end s outer).found)
+by-frames s [] = count-none s.count
+by-frames s (w ∷ outer) = refl
+
+opened-count : (s : FinderState) (h : HeaderValue) → (find_open s h).state.count ≡ count_up s.count (length (find_open s h).found)
+opened-count s h =
+    ap (λ (n : ℕ). count_up n (length (header_notes s.rules s.frame h))) (either-count s (record s { frame = frame_under s.frame h; outer = s.frame ∷ s.outer }) (nat_lt (length s.outer) 128) refl)
+
+-- an event's findings are counted
+counted-one : (s : FinderState) (e : EventValue) → (find_step s e).state.count ≡ count_up s.count (length (find_step s e).found)
+counted-one s (Open h) = opened-count s h
+counted-one s (Begin h) = refl
+counted-one s (Bytes octets) = either-count (record s { value = open_value_after s.value octets }) s (length octets == 0) refl ∙ count-none s.count
+counted-one s End = by-value s s.value
+counted-one s (Close at) = by-frames s s.outer
+counted-one s (Enter h) = opened-count s h
+counted-one s Unused = count-none s.count
+counted-one s Leave = by-frames s s.outer
+counted-one s (Pad octets) = count-none s.count
+
+pub counted-all : (s : FinderState) (es : List EventValue) → (run s es).state.count ≡ count_up s.count (length (run s es).put)
+counted-all s [] = count-none s.count
+counted-all s (e ∷ es) =
+    let f : Finds = find_step s e in
+    counted-all f.state es
+    ∙ ap (λ (n : ℕ). count_up n (length (run f.state es).put)) (counted-one s e)
+    ∙ count-more s.count (length f.found) (length (run f.state es).put)
+    ∙ ap (count_up s.count) (omega (arith, length-append (found_items f) (run f.state es).put, length-map f.found (FindingAt f.level f.at)))
+
+-- ---- no count stops
+
+-- of each condition one finding at most
+held-few : (rules : Rules) (rows : List (Bool × Finding)) → length (filter (shows rules) (findings_by rows)) ≤ length rows
+held-few rules [] = omega arith
+held-few rules (row ∷ rows) = let e = one-few row.0 (held-few rules rows) in omega (arith, e)
+  where
+    kept-few : (k : Bool) (f : Finding) (l : List Finding) (n : ℕ) → length l ≤ n → length (if k then f ∷ l else l) ≤ n + 1
+    kept-few true f l n e = omega (arith, e)
+    kept-few false f l n e = omega (arith, e)
+
+    one-few : (b : Bool) → length (filter (shows rules) (findings_by rows)) ≤ length rows → length (filter (shows rules) ((if b then row.1 ∷ [] else []) ++ findings_by rows)) ≤ length rows + 1
+    one-few true e = kept-few (shows rules row.1) row.1 (filter (shows rules) (findings_by rows)) (length rows) e
+    one-few false e = omega (arith, e)
+
+module _ (rules : Rules) where
+  few-at : (level at : ℕ) (fs : List Finding) (rest : List Item) (n m : ℕ) → length fs ≤ n → length (only rest) ≤ m → length (only (findings_at level at fs ++ rest)) ≤ n + m
+  few-at level at [] rest n m e f = omega (arith, e, f)
+  few-at level at (x ∷ fs) rest n m e f = let g = few-behind (few-at level at fs rest (n - 1) m (omega (arith, e)) f) in omega (arith, g)
+    where
+      few-behind : length (only (findings_at level at fs ++ rest)) ≤ n - 1 + m → length (only (findings_at level at fs ++ rest)) + 1 ≤ n + m
+      few-behind g = omega (arith, g, e)
+
+  few-pads : (k : Bool) (level at : ℕ) (l : List Item) → length (only ((if k then [] else PaddingLine level at ∷ []) ++ l)) ≡ length (only l)
+  few-pads true level at l = refl
+  few-pads false level at l = refl
+
+  few-header : (s : Site) (h : HeaderValue) → length (header_findings rules s h) ≤ 14
+  few-header s h = held-few rules (header_conditions s h)
+
+  few-contents : (h : HeaderValue) (c : List ℕ) → length (contents_findings rules h c) ≤ 15
+  few-contents h c = held-few rules (contents_conditions h c)
+
+  few-end : (h : HeaderValue) (inside : Forest) → length (end_findings rules h (heads inside)) ≤ 2
+  few-end h inside = held-few rules (end_conditions h (heads inside))
+
+  -- at most 16 findings for each octet
+  pub few : (p : Place) (s : Site) (f : Forest) → IsOpen p f → length (only (items rules s f)) ≤ 16 * length (spell f)
+  few p s Stop v = omega arith
+  few p s (Fill rest) v =
+      omega (arith, few-pads (is_padding s.before) s.level s.at (items rules (site_after_padding s) rest), few (place_after p 1) (site_after_padding s) rest v.1)
+  few p s (Whole h c rest) v =
+      let r = few (place_after p (length (octets_of h) + length c)) (site_after s h c) rest v.1 in
+      let inner : List Item = findings_at s.level h.offset (contents_findings rules h c) ++ items rules (site_after s h c) rest in
+      let b = few-at s.level h.offset (contents_findings rules h c) (items rules (site_after s h c) rest) 15 _ (few-contents h c) r in
+      let a = few-at s.level h.offset (header_findings rules s h) (WholePrimitive s.level h c ∷ inner) 14 _ (few-header s h) b in
+      omega (arith, a, header-length h v.0.0.header.valid, length-whole h c rest)
+  few p s (Closed h inside rest) v =
+      let i = few (place_inside p h) (site_inside s h) inside v.1 in
+      let r = few (place_after p (extent h inside)) (site_after_holder s h inside) rest v.2 in
+      let last : List Item = findings_at s.level h.offset (end_findings rules h (heads inside)) ++ items rules (site_after_holder s h inside) rest in
+      let b = few-at s.level h.offset (end_findings rules h (heads inside)) (items rules (site_after_holder s h inside) rest) 2 _ (few-end h inside) r in
+      let m = few-both (items rules (site_inside s h) inside) (ClosingLine s.level (end_place h inside) ∷ last) _ _ i b in
+      let a = few-at s.level h.offset (header_findings rules s h) (OpeningLine s.level h ∷ (items rules (site_inside s h) inside ++ ClosingLine s.level (end_place h inside) ∷ last)) 14 _ (few-header s h) m in
+      omega (arith, a, header-length h v.0.0.header.valid, length-closed h inside rest, length-opening h)
+    where
+      few-both : (xs ys : List Item) (n m : ℕ) → length (only xs) ≤ n → length (only ys) ≤ m → length (only (xs ++ ys)) ≤ n + m
+      few-both xs ys n m e f = omega (arith, e, f, ap length (filter-append is_finding xs ys), length-append (only xs) (only ys))
+  few p s (Partial h c) v =
+      let a = few-at s.level h.offset (header_findings rules s h) (OpenPrimitive s.level h c ∷ []) 14 0 (few-header s h) (omega arith) in
+      omega (arith, a, header-length h v.0.header.valid, length-append (octets_of h) c)
+  few p s (Entered h inside) v =
+      let i = few (place_inside p h) (site_inside s h) inside v.1 in
+      let a = few-at s.level h.offset (header_findings rules s h) (OpeningLine s.level h ∷ items rules (site_inside s h) inside) 14 _ (few-header s h) i in
+      omega (arith, a, header-length h v.0.0.header.valid, length-append (opening h) (spell inside), length-opening h)
+  few p s (Awaiting h) v =
+      let a = few-at s.level h.offset (header_findings rules s h) (OpeningLine s.level h ∷ []) 14 0 (few-header s h) (omega arith) in
+      omega (arith, a, header-length h v.0.header.valid)
+  few p s (Begun octets) v = omega arith
+  few p s Zero v = omega arith
+
+  -- ---- a check
+
+  abbrev start : FinderState
+  start = new_finder rules
+
+  module _ (framing : Framing) (octets : List ℕ) (f : Forest) (short : length octets ≤ 2 ^ 40) (r : IsReading framing octets f) where
+    put-is : (run start (events f)).put ≡ only (items rules top_site f)
+    put-is = (finds_forest rules (top_place framing) top_site top_frame [] f r.is_open (record { segments = refl; bits = refl; unused = refl; not_full = refl }) refl refl (λ e. refl)).put 0
+
+    pub text-made : (effect_of check_step start (events f)).put ≡ check_text rules f
+    text-made = ap (λ (t : Effect FinderState). t.put) (followed-run start (events f)) ∙ ap (flat_map check_line) put-is ∙ only-written (items rules top_site f)
+
+    pub count-run : (run start (events f)).state.count ≡ finding_count rules f
+    count-run =
+        let n = length-filter is_finding (items rules top_site f) in
+        counted-all start (events f)
+        ∙ ap (λ (l : List Item). count_up 0 (length l)) put-is
+        ∙ omega (arith, few (top_place framing) top_site f r.is_open, short, n, ap length r.front.1, length-append (spell f) r.front.0)
+
+    pub count-made : (effect_of check_step start (events f)).state.count ≡ finding_count rules f
+    count-made = ap (λ (t : Effect FinderState). t.state.count) (followed-run start (events f)) ∙ count-run
+
+-- a check always wants more
+pub all_on : (s : FinderState) (es : List EventValue) → (effect_of check_step s es).goes ≡ go.On
+all_on s es = ap (λ (t : Effect FinderState). t.goes) (followed-run s es)
+
+pub checks : (rules : Rules) (framing : Framing) → Shower check_step (new_finder rules) framing (check_text rules) (finding_count rules) (λ (s : FinderState). s.count)
+checks rules framing = record { goes_on = all_on; put = λ octets f few r. text-made rules framing octets f few r; counts = λ octets f few r. count-made rules framing octets f few r }

@@ -1,0 +1,12 @@
+-- Findings at an end, as proofs say them.
+use Rattle.std.specs.Prelude.{List}
+use Rattle.std.specs.List.{filter}
+use Rattle.tlv_head.specs.Header.{HeaderValue}
+use Rattle.tlv_value.specs.declared.finding.Finding.{Finding}
+use Rattle.tlv_value.specs.Checks.{findings_by}
+use Rattle.tlv_show.specs.declared.rules.Rules.{Rules}
+use Rattle.tlv_show.specs.Conditions.{end_conditions}
+use Rattle.tlv_show.specs.Found.{shows}
+
+abbrev pub end_findings : Rules → HeaderValue → List HeaderValue → List Finding
+end_findings rules h inside = filter (shows rules) (findings_by (end_conditions h inside))

@@ -1,0 +1,319 @@
+-- A finder reports the findings of the items, event by event.
+use Rattle.std.proofs.Common.{◌≡◌, ℕ, ◌+◌, ◌-◌, ◌&&◌, ◌||◌, ◌==◌, not, Bool, true, false, min, if◌then◌else◌, List, [], ◌∷◌, length, refl, sym, subst, ap, ap₂, ◌∙◌, arith}
+use Rattle.std.proofs.Math.Bool.{and_assoc}
+use Rattle.std.proofs.lemmas.Bool.{eqb-true, true≢false}
+use Rattle.std.specs.List.{fold, list_all}
+use Rattle.std.specs.Prelude.{Option, None, eqb}
+use Rattle.tlv_head.specs.Header.{HeaderValue, announced, is_universal, octets_of, wraps}
+use Rattle.tlv_value.specs.declared.finding.Finding.{Finding}
+use Rattle.tlv_value.specs.CheckState.{check_after, has_unused, is_not_zero, new_check, new_check_of, type_number}
+use Rattle.tlv_value.specs.Types.{bit_string, has_segments, is_a, is_primitive, octet_string}
+use Rattle.tlv_value.proofs.CheckLemmas.CheckPieces.{checked-none}
+use Rattle.tlv_walk.specs.Forest.{Forest, Stop, Fill, Whole, Closed, Partial, Entered, Awaiting, Begun, Zero, extent, is_whole}
+use Rattle.tlv_walk.specs.Place.{IsOpen, Place, place_after}
+use Rattle.tlv_show.specs.declared.frames.Frame.{Frame}
+use Rattle.tlv_show.specs.declared.rules.Rules.{Rules}
+use Rattle.tlv_show.specs.declared.rules.Rules.TheVariants.{Ber, Der, Cer}
+use Rattle.tlv_show.specs.Conditions.{end_conditions, ends_empty, has_unused_bits, is_not_full}
+use Rattle.tlv_show.specs.FinderState.{end_notes, frame_after, frame_after_segment, frame_of, frame_under, top_frame}
+use Rattle.tlv_show.proofs.FindingLemmas.EndFindings.{end_findings}
+use Rattle.tlv_show.specs.Items.{heads}
+use Rattle.tlv_show.specs.Site.{Sibling, Site, in_bit_string, in_string, site_inside}
+use Rattle.tlv_show.proofs.FindingLemmas.SitesAfter.{site_after_padding}
+use Rattle.tlv_show.proofs.FindingLemmas.SiteWords.{first_octet, is_held_by}
+use Rattle.tlv_show.proofs.FindingLemmas.HeaderNotes.{Knows, end-by, ends-are, ends_by, filter-held}
+
+-- ---- what frames know
+
+never : (k : Bool) → false ≡ (k && false)
+never true = refl
+never false = refl
+
+pub knows-inside : (w : Frame) (s : Site) (h : HeaderValue) → Knows (frame_under w h) (site_inside s h)
+knows-inside w s h = by w.has_segments (has_segments h) refl
+  where
+    of-string : Knows (frame_of h) (site_inside s h)
+    of-string = record { segments = refl; bits = refl; unused = never (has_segments h); not_full = never (has_segments h) }
+
+    by : (outside inside : Bool) → has_segments h ≡ inside → Knows (if outside || inside then frame_of h else top_frame) (site_inside s h)
+    by true inside e = of-string
+    by false true e = of-string
+    by false false e = record {
+      segments = sym e;
+      bits = ap (λ (k : Bool). k && is_a bit_string h) (sym e);
+      unused = never (has_segments h);
+      not_full = never (has_segments h);
+    }
+
+-- behind an element
+full-or-not : (k e : Bool) → not (not k && e) ≡ (k || not e)
+full-or-not true e = refl
+full-or-not false e = refl
+
+unused-at : (k : Bool) (n size x : ℕ) (c : List ℕ) → eqb n bit_string ≡ k → has_unused (check_after (new_check_of n size) (x ∷ c)) ≡ (k && not (x == 0))
+unused-at true n size x c e = subst (λ (m : ℕ). has_unused (check_after (new_check_of m size) (x ∷ c)) ≡ not (x == 0)) (sym (eqb-true n bit_string e)) refl
+unused-at false n size x c e = ap (λ (k : Bool). k && is_not_zero (check_after (new_check_of n size) (x ∷ c)).front) e
+
+type-is : (universal : Bool) (n : ℕ) → eqb (if universal then n else octet_string) bit_string ≡ (universal && n == bit_string)
+type-is true n = refl
+type-is false n = refl
+
+pub unused-of : (h : HeaderValue) (c : List ℕ) → h.constructed ≡ false → has_unused (check_after (new_check h) c) ≡ has_unused_bits (Sibling h (first_octet c))
+unused-of h [] e = ap has_unused (checked-none h) ∙ by-none (eqb (type_number h) bit_string)
+  where
+    by-none : (a : Bool) → (a && false) ≡ false
+    by-none true = refl
+    by-none false = refl
+unused-of h (x ∷ c) e =
+    let t : eqb (type_number h) bit_string ≡ is_a bit_string h = type-is (is_universal h.class) h.number in
+    unused-at (is_a bit_string h) (type_number h) (announced h.size) x c t ∙ ap (λ (k : Bool). not k && is_a bit_string h && not (x == 0)) (sym e)
+
+pub knows-behind : (w : Frame) (s t : Site) (h : HeaderValue) (first : Option ℕ) (unused : Bool) → Knows w s → t.holder ≡ s.holder → t.before ≡ Sibling h first
+    → unused ≡ has_unused_bits (Sibling h first) → Knows (frame_after w (is_primitive h) (announced h.size) unused) t
+knows-behind w s t h first unused k e b u =
+    let same : in_string s ≡ in_string t = ap (is_held_by has_segments) (sym e) in
+    let bits : w.has_bits ≡ in_bit_string t = k.bits ∙ ap (is_held_by (λ h. has_segments h && is_a bit_string h)) (sym e) in
+    by-segments same bits w.has_segments refl
+  where
+    by-segments : in_string s ≡ in_string t → w.has_bits ≡ in_bit_string t → (b : Bool) → w.has_segments ≡ b
+        → Knows (if b then frame_after_segment w (is_primitive h) (announced h.size) unused else w) t
+    by-segments same bits true c =
+        let inside : true ≡ in_string t = sym c ∙ k.segments ∙ same in
+        record {
+          segments = k.segments ∙ same;
+          bits = bits;
+          unused = u ∙ ap has_unused_bits (sym b) ∙ ap (λ (x : Bool). x && has_unused_bits t.before) inside;
+          not_full = full-or-not h.constructed (announced h.size == 1000) ∙ ap is_not_full (sym b) ∙ ap (λ (x : Bool). x && is_not_full t.before) inside;
+        }
+    by-segments same bits false c =
+        let outside : in_string s ≡ false = sym k.segments ∙ c in
+        let still : false ≡ in_string t = sym outside ∙ same in
+        record {
+          segments = k.segments ∙ same;
+          bits = bits;
+          unused = k.unused ∙ ap (λ (x : Bool). x && has_unused_bits s.before) outside ∙ ap (λ (x : Bool). x && has_unused_bits t.before) still;
+          not_full = k.not_full ∙ ap (λ (x : Bool). x && is_not_full s.before) outside ∙ ap (λ (x : Bool). x && is_not_full t.before) still;
+        }
+
+pub knows-padding : (w : Frame) (s : Site) → Knows w s → s.holder ≡ None → Knows w (site_after_padding s)
+knows-padding w s k e =
+    let none : in_string s ≡ false = ap (is_held_by has_segments) e in
+    record {
+      segments = k.segments;
+      bits = k.bits;
+      unused = k.unused ∙ ap (λ (b : Bool). b && has_unused_bits s.before) none ∙ ap (λ (b : Bool). b && false) (sym none);
+      not_full = k.not_full ∙ ap (λ (b : Bool). b && is_not_full s.before) none ∙ ap (λ (b : Bool). b && false) (sym none);
+    }
+
+-- a frame behind elements of which none is open
+abbrev pub noted_all : Frame → Forest → Frame
+noted_all w Stop = w
+noted_all w (Fill rest) = noted_all w rest
+noted_all w (Whole h c rest) = noted_all (frame_after w true (announced h.size) (has_unused (check_after (new_check h) c))) rest
+noted_all w (Closed h inside rest) = noted_all (frame_after w (is_primitive h) (announced h.size) false) rest
+noted_all w (Partial h c) = w
+noted_all w (Entered h inside) = w
+noted_all w (Awaiting h) = w
+noted_all w (Begun octets) = w
+noted_all w Zero = w
+
+-- the same of the segments of a string
+abbrev segments_noted : Frame → Forest → Frame
+segments_noted w Stop = w
+segments_noted w (Fill rest) = segments_noted w rest
+segments_noted w (Whole h c rest) = segments_noted (frame_after_segment w true (announced h.size) (has_unused (check_after (new_check h) c))) rest
+segments_noted w (Closed h inside rest) = segments_noted (frame_after_segment w (is_primitive h) (announced h.size) false) rest
+segments_noted w (Partial h c) = w
+segments_noted w (Entered h inside) = w
+segments_noted w (Awaiting h) = w
+segments_noted w (Begun octets) = w
+segments_noted w Zero = w
+
+in-string : (w : Frame) (primitive : Bool) (size : ℕ) (unused : Bool) → w.has_segments ≡ true → frame_after w primitive size unused ≡ frame_after_segment w primitive size unused
+in-string w primitive size unused e = ap (λ (k : Bool). if k then frame_after_segment w primitive size unused else w) e
+
+outside : (w : Frame) (primitive : Bool) (size : ℕ) (unused : Bool) → w.has_segments ≡ false → frame_after w primitive size unused ≡ w
+outside w primitive size unused e = ap (λ (k : Bool). if k then frame_after_segment w primitive size unused else w) e
+
+all-in-string : (w : Frame) (f : Forest) → w.has_segments ≡ true → noted_all w f ≡ segments_noted w f
+all-in-string w Stop e = refl
+all-in-string w (Fill rest) e = all-in-string w rest e
+all-in-string w (Whole h c rest) e =
+    let u : Bool = has_unused (check_after (new_check h) c) in
+    ap (λ (t : Frame). noted_all t rest) (in-string w true (announced h.size) u e) ∙ all-in-string (frame_after_segment w true (announced h.size) u) rest e
+all-in-string w (Closed h inside rest) e =
+    ap (λ (t : Frame). noted_all t rest) (in-string w (is_primitive h) (announced h.size) false e) ∙ all-in-string (frame_after_segment w (is_primitive h) (announced h.size) false) rest e
+all-in-string w (Partial h c) e = refl
+all-in-string w (Entered h inside) e = refl
+all-in-string w (Awaiting h) e = refl
+all-in-string w (Begun octets) e = refl
+all-in-string w Zero e = refl
+
+all-outside : (w : Frame) (f : Forest) → w.has_segments ≡ false → noted_all w f ≡ w
+all-outside w Stop e = refl
+all-outside w (Fill rest) e = all-outside w rest e
+all-outside w (Whole h c rest) e = ap (λ (t : Frame). noted_all t rest) (outside w true (announced h.size) (has_unused (check_after (new_check h) c)) e) ∙ all-outside w rest e
+all-outside w (Closed h inside rest) e = ap (λ (t : Frame). noted_all t rest) (outside w (is_primitive h) (announced h.size) false e) ∙ all-outside w rest e
+all-outside w (Partial h c) e = refl
+all-outside w (Entered h inside) e = refl
+all-outside w (Awaiting h) e = refl
+all-outside w (Begun octets) e = refl
+all-outside w Zero e = refl
+
+-- what a frame says of the holder
+pub record Stays (w t : Frame) : Type 0 where
+  pub at : t.at ≡ w.at
+  pub size : t.size ≡ w.size
+  pub primitive : t.is_primitive ≡ w.is_primitive
+
+stays-noted : (w : Frame) (primitive : Bool) (size : ℕ) (unused : Bool) → Stays w (frame_after w primitive size unused)
+stays-noted w primitive size unused = by w.has_segments
+  where
+    by : (k : Bool) → Stays w (if k then frame_after_segment w primitive size unused else w)
+    by true = record { at = refl; size = refl; primitive = refl }
+    by false = record { at = refl; size = refl; primitive = refl }
+
+stays-then : {u w t : Frame} → Stays u w → Stays w t → Stays u t
+stays-then a b = record { at = b.at ∙ a.at; size = b.size ∙ a.size; primitive = b.primitive ∙ a.primitive }
+
+stays : (w : Frame) (f : Forest) → Stays w (noted_all w f)
+stays w Stop = record { at = refl; size = refl; primitive = refl }
+stays w (Fill rest) = stays w rest
+stays w (Whole h c rest) = stays-then (stays-noted w true (announced h.size) (has_unused (check_after (new_check h) c))) (stays (frame_after w true (announced h.size) (has_unused (check_after (new_check h) c))) rest)
+stays w (Closed h inside rest) = stays-then (stays-noted w (is_primitive h) (announced h.size) false) (stays (frame_after w (is_primitive h) (announced h.size) false) rest)
+stays w (Partial h c) = record { at = refl; size = refl; primitive = refl }
+stays w (Entered h inside) = record { at = refl; size = refl; primitive = refl }
+stays w (Awaiting h) = record { at = refl; size = refl; primitive = refl }
+stays w (Begun octets) = record { at = refl; size = refl; primitive = refl }
+stays w Zero = record { at = refl; size = refl; primitive = refl }
+
+-- a primitive that holds nothing is not constructed
+pub not-constructed : (k wraps : Bool) → (k || wraps) ≡ false → k ≡ false
+not-constructed true wraps e = absurd (true≢false e)
+not-constructed false wraps e = refl
+
+abbrev added : ℕ → ℕ → List HeaderValue → ℕ
+added bits n hs = fold (λ (m : ℕ) (g : HeaderValue). m + (announced g.size - bits)) n hs
+
+abbrev bit_of : Bool → ℕ
+bit_of b = if b then 1 else 0
+
+record SumsUp (w : Frame) (n : ℕ) (f : Forest) : Type 0 where
+  pub segments : (segments_noted w f).has_segments ≡ w.has_segments
+  pub bits : (segments_noted w f).has_bits ≡ w.has_bits
+  pub all : (segments_noted w f).all_primitive ≡ (w.all_primitive && list_all is_primitive (heads f))
+  pub octets : (segments_noted w f).octets ≡ min (added (bit_of w.has_bits) n (heads f)) 1001
+  pub empty : (segments_noted w f).is_empty ≡ ends_empty w.is_empty (heads f)
+
+and-true : (a : Bool) → a ≡ (a && true)
+and-true true = refl
+and-true false = refl
+
+more-octets : (w n d : ℕ) → w ≡ min n 1001 → min (w + d) 1001 ≡ min (n + d) 1001
+more-octets w n d e = omega (arith, e)
+
+sums-up : (p : Place) (w : Frame) (n : ℕ) (f : Forest) → IsOpen p f → is_whole f ≡ true → w.octets ≡ min n 1001 → SumsUp w n f
+sums-up p w n Stop v e o =
+    record { segments = refl; bits = refl; all = and-true w.all_primitive; octets = o; empty = refl }
+sums-up p w n (Fill rest) v e o =
+    let r = sums-up (place_after p 1) w n rest v.1 e o in
+    record { segments = r.segments; bits = r.bits; all = r.all; octets = r.octets; empty = r.empty }
+sums-up p w n (Whole h c rest) v e o =
+    let d : ℕ = announced h.size - bit_of w.has_bits in
+    let k : is_primitive h ≡ true = ap not (not-constructed h.constructed (wraps h) v.0.0.header.form) in
+    let u : Bool = has_unused (check_after (new_check h) c) in
+    let r = sums-up (place_after p (length (octets_of h) + length c)) (frame_after_segment w true (announced h.size) u) (n + d) rest v.1 e (more-octets w.octets n d o) in
+    record {
+      segments = r.segments;
+      bits = r.bits;
+      all = r.all ∙ and_assoc w.all_primitive true (list_all is_primitive (heads rest)) ∙ ap (λ (b : Bool). w.all_primitive && (b && list_all is_primitive (heads rest))) (sym k);
+      octets = r.octets;
+      empty = r.empty ∙ ap (λ (b : Bool). ends_empty (b && announced h.size == 0) (heads rest)) (sym k);
+    }
+sums-up p w n (Closed h inside rest) v e o =
+    let d : ℕ = announced h.size - bit_of w.has_bits in
+    let r = sums-up (place_after p (extent h inside)) (frame_after_segment w (is_primitive h) (announced h.size) false) (n + d) rest v.2 e (more-octets w.octets n d o) in
+    record {
+      segments = r.segments;
+      bits = r.bits;
+      all = r.all ∙ and_assoc w.all_primitive (is_primitive h) (list_all is_primitive (heads rest));
+      octets = r.octets;
+      empty = r.empty;
+    }
+sums-up p w n (Partial h c) v e o = absurd (cc (e))
+sums-up p w n (Entered h inside) v e o = absurd (cc (e))
+sums-up p w n (Awaiting h) v e o = absurd (cc (e))
+sums-up p w n (Begun octets) v e o = absurd (cc (e))
+sums-up p w n Zero v e o = absurd (cc (e))
+
+segments-summed : (rules : Rules) (p : Place) (h : HeaderValue) (inside : Forest) → IsOpen p inside → is_whole inside ≡ true → end_notes rules (segments_noted (frame_of h) inside) ≡ end_findings rules h (heads inside)
+segments-summed rules p h inside v e =
+    let r = sums-up p (frame_of h) 0 inside v e refl in
+    let w : Frame = segments_noted (frame_of h) inside in
+    let k : Bool = has_segments h in
+    let b : Bool = is_a bit_string h in
+    ends-are rules w
+    ∙ ap₂ (λ (x y : Bool). ends_by rules x y w.all_primitive w.octets w.is_empty) r.segments r.bits
+    ∙ ap₂ (λ (x y : Bool). ends_by rules k (k && b) x w.octets y) r.all r.empty
+    ∙ ap (λ (n : ℕ). ends_by rules k (k && b) (list_all is_primitive (heads inside)) n (ends_empty false (heads inside))) r.octets
+    ∙ end-by rules k b (list_all is_primitive (heads inside)) (ends_empty false (heads inside)) (λ (n : ℕ). added n 0 (heads inside))
+    ∙ sym (filter-held rules (end_conditions h (heads inside)))
+
+-- outside of strings nothing is found with an end
+no-ends : (rules : Rules) (w : Frame) → w.has_segments ≡ false → end_notes rules w ≡ []
+no-ends Ber w e = refl
+no-ends Der w e = refl
+no-ends Cer w e = rw e refl
+
+-- what is found with an end, by the frame of what was held
+summed : (rules : Rules) (p : Place) (h : HeaderValue) (inside : Forest) → IsOpen p inside → is_whole inside ≡ true → end_notes rules (noted_all (frame_of h) inside) ≡ end_findings rules h (heads inside)
+summed rules p h inside v e = by-segments (has_segments h) refl
+  where
+    by-segments : (k : Bool) → has_segments h ≡ k → end_notes rules (noted_all (frame_of h) inside) ≡ end_findings rules h (heads inside)
+    by-segments true c = ap (end_notes rules) (all-in-string (frame_of h) inside c) ∙ segments-summed rules p h inside v e
+    by-segments false c =
+        let r = sums-up p (frame_of h) 0 inside v e refl in
+        ap (end_notes rules) (all-outside (frame_of h) inside c) ∙ no-ends rules (frame_of h) c
+        ∙ sym (no-ends rules (segments_noted (frame_of h) inside) (r.segments ∙ c)) ∙ segments-summed rules p h inside v e
+
+-- ---- the same where nothing is to be known of what was held
+
+module _ (rules : Rules) (p : Place) (w : Frame) (h : HeaderValue) (inside : Forest) (v : IsOpen p inside) (whole : is_whole inside ≡ true) where
+  -- an element that is no string: nothing is found with its end
+  nothing-ends : has_segments h ≡ false → end_findings rules h (heads inside) ≡ []
+  nothing-ends e = sym (summed rules p h inside v whole) ∙ ap (end_notes rules) (all-outside (frame_of h) inside e) ∙ no-ends rules (frame_of h) e
+
+  pub summed-under : end_notes rules (noted_all (frame_under w h) inside) ≡ end_findings rules h (heads inside)
+  summed-under = by w.has_segments (has_segments h) refl
+    where
+      by : (outside inside_it : Bool) → has_segments h ≡ inside_it → end_notes rules (noted_all (if outside || inside_it then frame_of h else top_frame) inside) ≡ end_findings rules h (heads inside)
+      by true inside_it e = summed rules p h inside v whole
+      by false true e = summed rules p h inside v whole
+      by false false e = ap (end_notes rules) (all-outside top_frame inside refl) ∙ no-ends rules top_frame refl ∙ sym (nothing-ends e)
+
+  -- where it begins does not matter where nothing is found
+  pub at-under : {T : Type 0} (put : ℕ → List Finding → List T) → ((at : ℕ) → put at [] ≡ [])
+      → put (noted_all (frame_under w h) inside).at (end_findings rules h (heads inside)) ≡ put h.offset (end_findings rules h (heads inside))
+  at-under put none = by w.has_segments (has_segments h) refl
+    where
+      kept : put (noted_all (frame_of h) inside).at (end_findings rules h (heads inside)) ≡ put h.offset (end_findings rules h (heads inside))
+      kept = ap (λ (at : ℕ). put at (end_findings rules h (heads inside))) (stays (frame_of h) inside).at
+
+      by : (outside inside_it : Bool) → has_segments h ≡ inside_it
+          → put (noted_all (if outside || inside_it then frame_of h else top_frame) inside).at (end_findings rules h (heads inside)) ≡ put h.offset (end_findings rules h (heads inside))
+      by true inside_it e = kept
+      by false true e = kept
+      by false false e =
+          let at : ℕ = (noted_all top_frame inside).at in
+          ap (put at) (nothing-ends e) ∙ none at ∙ sym (ap (put h.offset) (nothing-ends e) ∙ none h.offset)
+
+-- the holder of an element asks for its form and size only if it is a string
+pub noted-under : (w : Frame) (h : HeaderValue) (inside : Forest) → frame_after w (noted_all (frame_under w h) inside).is_primitive (noted_all (frame_under w h) inside).size false ≡ frame_after w (is_primitive h) (announced h.size) false
+noted-under w h inside = by w.has_segments refl
+  where
+    by : (k : Bool) → w.has_segments ≡ k
+        → frame_after w (noted_all (if k || has_segments h then frame_of h else top_frame) inside).is_primitive (noted_all (if k || has_segments h then frame_of h else top_frame) inside).size false ≡ frame_after w (is_primitive h) (announced h.size) false
+    by true e = let r = stays (frame_of h) inside in ap₂ (λ (b : Bool) (size : ℕ). frame_after w b size false) r.primitive r.size
+    by false e =
+        let f : Frame = noted_all (if has_segments h then frame_of h else top_frame) inside in
+        outside w f.is_primitive f.size false e ∙ sym (outside w (is_primitive h) (announced h.size) false e)

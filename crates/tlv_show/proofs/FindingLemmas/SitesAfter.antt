@@ -1,0 +1,17 @@
+-- Where the next element is.
+use Rattle.std.specs.Prelude.{ℕ, ◌+◌, Bool, true, false, ◌&&◌, List, length, Option, Some, None, slice_get}
+use Rattle.std.specs.Option.{option_map_or}
+use Rattle.tlv_head.specs.Header.{HeaderValue, octets_of}
+use Rattle.tlv_value.specs.Types.{bit_string, has_segments, is_a}
+use Rattle.tlv_walk.specs.Forest.{Forest, extent, opening}
+use Rattle.tlv_show.specs.Site.{Padding, Sibling, Site, onward}
+
+-- after a primitive, after an element that holds others, and after an octet of padding
+abbrev pub site_after : Site → HeaderValue → List ℕ → Site
+site_after s h c = onward s (length (octets_of h) + length c) (Sibling h (slice_get c 0))
+
+abbrev pub site_after_holder : Site → HeaderValue → Forest → Site
+site_after_holder s h inside = onward s (extent h inside) (Sibling h None)
+
+abbrev pub site_after_padding : Site → Site
+site_after_padding s = onward s 1 Padding

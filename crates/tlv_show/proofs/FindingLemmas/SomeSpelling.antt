@@ -1,0 +1,238 @@
+-- Sound elements with headers as short as they can be, and lengths of one form, have no findings on their spelling; so each sound
+-- input has a spelling without them.
+use Rattle.std.proofs.Common.{◌≡◌, ◌≢◌, inl, inr, ◌&&◌, ◌||◌, not, nat_lt, ◌==◌, eqb, ℕ, ◌+◌, ◌^◌, ◌<◌, ◌≤◌, Bool, true, false, List, [], ◌∷◌, ◌++◌, length, refl, sym, ap, ◌∙◌, arith, subst, length-append, ne_eqb}
+use Rattle.std.proofs.lemmas.Bool.{or_from, true≢false}
+use Rattle.std.proofs.lemmas.Bool.Decides.{eqb_tells}
+use Rattle.std.proofs.lemmas.List.Folds.{list_any-append}
+use Rattle.std.specs.List.{list_any}
+use Rattle.std.specs.Prelude.{if◌then◌else◌}
+use Rattle.tlv_head.specs.Header.{HeaderValue, octets_of}
+use Rattle.tlv_value.specs.Checks.{contents_conditions}
+use Rattle.tlv_walk.specs.declared.framing.Framing.{Framing}
+use Rattle.tlv_walk.specs.Alike.{AreAlike, holders, nothing, padding, primitives}
+use Rattle.tlv_walk.specs.Forest.{Forest, Stop, Fill, Whole, Closed, Partial, Entered, Awaiting, Begun, Zero, extent, has_element, spell}
+use Rattle.tlv_walk.specs.Inside.{AreRising, CanName, is_among}
+use Rattle.tlv_walk.specs.Place.{IsOpen, Place, is_indefinite, place_after, place_inside, top_place}
+use Rattle.tlv_walk.specs.Reading.{IsReading, IsSound, IsSoundList}
+use Rattle.tlv_walk.specs.Wrappers.{wrapper_at, wrappers}
+use Rattle.tlv_walk.proofs.GrammarLemmas.Alike.{AreRegular, IsRegular}
+use Rattle.tlv_walk.proofs.GrammarLemmas.Endings.{done-sound, sound-done, sound-reading}
+use Rattle.tlv_walk.proofs.GrammarLemmas.Readings.{reading-unique}
+use Rattle.tlv_walk.proofs.GrammarLemmas.Respelled.{SpelledAt, Spelling, respelled}
+use Rattle.tlv_walk.proofs.EventLemmas.Wrappers.{AreNamed, Rise, wrappers-named, wrappers-rise}
+use Rattle.tlv_show.specs.declared.rules.Rules.{Rules}
+use Rattle.tlv_show.specs.declared.rules.Rules.TheVariants.{Ber, Der, Cer}
+use Rattle.tlv_show.specs.Conditions.{end_conditions, has_high_form, header_conditions, leading_bits}
+use Rattle.tlv_show.specs.EndPlace.{end_place}
+use Rattle.tlv_show.specs.Found.{contents_findings, header_findings}
+use Rattle.tlv_show.proofs.FindingLemmas.EndFindings.{end_findings}
+use Rattle.tlv_show.specs.Items.{Item, OpeningLine, ClosingLine, WholePrimitive, PaddingLine, heads, items}
+use Rattle.tlv_show.proofs.FindingLemmas.ElementItems.{on_contents, on_end, on_header}
+use Rattle.tlv_show.specs.Site.{Site, is_padding, site_inside, top_site}
+use Rattle.tlv_show.proofs.FindingLemmas.SitesAfter.{site_after, site_after_holder, site_after_padding}
+use Rattle.tlv_show.specs.Spellings.{SomeSpelling, is_item_on_spelling, is_on_spelling}
+use Rattle.tlv_show.proofs.FindingLemmas.LongerHeaders.{longer_identifier-absent, longer_lengths, longer_lengths-absent}
+use Rattle.tlv_show.proofs.FindingLemmas.Spellings.{IsSoundReading, form_by, items-found, sound-reading_of}
+use Rattle.tlv_show.proofs.FindingLemmas.FindingsOfHeaders.{all-found, any_of, found-with_header}
+
+-- ---- what is not reported
+
+four-absent : (a b c d : Bool) → (a || b) ≡ false → c ≡ false → d ≡ false → (a || (b || (c || (d || false)))) ≡ false
+four-absent false false false false e f g = refl
+four-absent true b c d e f g = absurd (cc (e))
+four-absent false true c d e f g = absurd (cc (e))
+four-absent false false true d e f g = absurd (cc (f))
+four-absent false false false true e f g = absurd (cc (g))
+
+constructed-absent : (constructed indefinite : Bool) → indefinite ≡ constructed → (constructed && not indefinite) ≡ false
+constructed-absent true true e = refl
+constructed-absent true false e = absurd (cc (e))
+constructed-absent false indefinite e = refl
+
+header-absent : (rules : Rules) (s : Site) (h : HeaderValue) → rules ≢ Ber → IsRegular (form_by rules) h
+    → any_of is_on_spelling rules (header_conditions s h) ≡ false
+header-absent Ber s h strict r = absurd (strict refl)
+header-absent Der s h strict r =
+    four-absent (has_high_form h && nat_lt h.number 31) (has_high_form h && leading_bits h == 0) (longer_lengths h) (is_indefinite h.size)
+    (longer_identifier-absent h r.shortest.identifier) (longer_lengths-absent h r.shortest.lengths) r.by_form
+header-absent Cer s h strict r =
+    four-absent (has_high_form h && nat_lt h.number 31) (has_high_form h && leading_bits h == 0) (longer_lengths h)
+    (h.constructed && not (is_indefinite h.size)) (longer_identifier-absent h r.shortest.identifier) (longer_lengths-absent h r.shortest.lengths)
+    (constructed-absent h.constructed (is_indefinite h.size) r.by_form)
+
+contents-absent : (rules : Rules) (h : HeaderValue) (c : List ℕ) → any_of is_on_spelling rules (contents_conditions h c) ≡ false
+contents-absent Ber h c = refl
+contents-absent Der h c = refl
+contents-absent Cer h c = refl
+
+end-absent : (rules : Rules) (h : HeaderValue) (inside : List HeaderValue) → any_of is_on_spelling rules (end_conditions h inside) ≡ false
+end-absent Ber h inside = refl
+end-absent Der h inside = refl
+end-absent Cer h inside = refl
+
+-- ---- items
+
+both-none : (xs ys : List Item) → list_any is_item_on_spelling xs ≡ false → list_any is_item_on_spelling ys ≡ false → list_any is_item_on_spelling (xs ++ ys) ≡ false
+both-none xs ys e f = list_any-append is_item_on_spelling xs ys ∙ or_from _ _ e f
+
+padding-none : (k : Bool) (level at : ℕ) → list_any is_item_on_spelling (if k then [] else PaddingLine level at ∷ []) ≡ false
+padding-none true level at = refl
+padding-none false level at = refl
+
+module _ (rules : Rules) (strict : rules ≢ Ber) where
+  header-none : (s : Site) (h : HeaderValue) → IsRegular (form_by rules) h → list_any is_item_on_spelling (on_header rules s h) ≡ false
+  header-none s h r = items-found s.level h.offset (header_findings rules s h) ∙ found-with_header is_on_spelling rules s h ∙ header-absent rules s h strict r
+
+  contents-none : (s : Site) (h : HeaderValue) (c : List ℕ) → list_any is_item_on_spelling (on_contents rules s h c) ≡ false
+  contents-none s h c =
+      items-found s.level h.offset (contents_findings rules h c) ∙ all-found is_on_spelling rules (contents_conditions h c)
+      ∙ contents-absent rules h c
+
+  end-none : (s : Site) (h : HeaderValue) (inside : Forest) → list_any is_item_on_spelling (on_end rules s h inside) ≡ false
+  end-none s h inside =
+      items-found s.level h.offset (end_findings rules h (heads inside)) ∙ all-found is_on_spelling rules (end_conditions h (heads inside))
+      ∙ end-absent rules h (heads inside)
+
+  none-found : (p : Place) (s : Site) (f : Forest) → IsSound p f → AreRegular (form_by rules) f → list_any is_item_on_spelling (items rules s f) ≡ false
+  none-found p s Stop u r = refl
+  none-found p s (Fill rest) u r =
+      both-none (if is_padding s.before then [] else PaddingLine s.level s.at ∷ []) (items rules (site_after_padding s) rest)
+      (padding-none (is_padding s.before) s.level s.at) (none-found (place_after p 1) (site_after_padding s) rest u.1 r)
+  none-found p s (Whole h c rest) u r =
+      both-none (on_header rules s h) (WholePrimitive s.level h c ∷ (on_contents rules s h c ++ items rules (site_after s h c) rest)) (header-none s h r.0)
+      (both-none (on_contents rules s h c) (items rules (site_after s h c) rest) (contents-none s h c)
+      (none-found (place_after p (length (octets_of h) + length c)) (site_after s h c) rest u.2 r.1))
+  none-found p s (Closed h inside rest) u r =
+      let last : List Item = on_end rules s h inside ++ items rules (site_after_holder s h inside) rest in
+      let held : List Item = items rules (site_inside s h) inside in
+      both-none (on_header rules s h) (OpeningLine s.level h ∷ (held ++ ClosingLine s.level (end_place h inside) ∷ last)) (header-none s h r.0)
+      (both-none held (ClosingLine s.level (end_place h inside) ∷ last) (none-found (place_inside p h) (site_inside s h) inside u.3 r.1)
+      (both-none (on_end rules s h inside) (items rules (site_after_holder s h inside) rest) (end-none s h inside)
+      (none-found (place_after p (extent h inside)) (site_after_holder s h inside) rest u.4 r.2)))
+  none-found p s (Partial h c) u r = absurd u
+  none-found p s (Entered h inside) u r = absurd u
+  none-found p s (Awaiting h) u r = absurd u
+  none-found p s (Begun octets) u r = absurd u
+  none-found p s Zero u r = absurd u
+
+-- ---- what may be named
+
+rise-le : (least end : ℕ) (ns : List ℕ) → Rise least end ns → least ≤ end
+rise-le least end [] r = r
+rise-le least end (n ∷ ns) r = omega (arith, r.0, rise-le (n + 1) end ns r.1)
+
+rising-of : (least end : ℕ) (ns : List ℕ) → end ≤ 2 ^ 40 → Rise least end ns → AreRising least ns
+rising-of least end [] few r = tt
+rising-of least end (n ∷ ns) few r = (r.0, omega (arith, few, rise-le (n + 1) end ns r.1), rising-of (n + 1) end ns few r.1)
+
+-- an offset that is not the first is among the others
+among-others : (n x : ℕ) (ns : List ℕ) → eqb n x ≡ false → is_among x (n ∷ ns) ≡ true → is_among x ns ≡ true
+among-others n x ns apart e = sym (ap (λ (k : Bool). k || is_among x ns) apart) ∙ e
+
+-- what stands behind the first offset is among the others
+among-later : (n least end : ℕ) (ns xs : List ℕ) → n < least → Rise least end xs → AreNamed (n ∷ ns) xs → AreNamed ns xs
+among-later n least end ns [] below r named = tt
+among-later n least end ns (x ∷ xs) below r named = (
+  among-others n x ns (ne_eqb n x (λ e. omega (arith, below, r.0, e))) named.0,
+  among-later n (x + 1) end ns xs (omega (arith, below, r.0)) r.1 named.1,
+)
+
+among-least : (least x : ℕ) (ns : List ℕ) → AreRising least ns → is_among x ns ≡ true → least ≤ x
+among-least least x [] rising e = absurd (true≢false (sym e))
+among-least least x (n ∷ ns) rising e = elim (eqb_tells n x) [
+  | inl same ↦ omega (arith, same.1, rising.0)
+  | inr apart ↦ omega (arith, rising.0, among-least (n + 1) x ns rising.2 (among-others n x ns apart.0 e))
+]
+
+-- offsets that rise, each among others that rise, are no more than those
+fewer : (inside xs : List ℕ) (low least end : ℕ) → AreRising low inside → Rise least end xs → AreNamed inside xs → length xs ≤ length inside
+fewer [] [] low least end rising r named = omega arith
+fewer (n ∷ ns) [] low least end rising r named = omega arith
+fewer [] (x ∷ xs) low least end rising r named = absurd (true≢false (sym named.0))
+fewer (n ∷ ns) (x ∷ xs) low least end rising r named = elim (eqb_tells n x) [
+  | inl same ↦
+      omega (arith, fewer ns xs (n + 1) (x + 1) end rising.2 r.1 (among-later n (x + 1) end ns xs (omega (arith, same.1)) r.1 named.1))
+  | inr apart ↦
+      let here : is_among x ns ≡ true = among-others n x ns apart.0 named.0 in
+      let above : n + 1 ≤ x = among-least (n + 1) x ns rising.2 here in
+      omega (arith, fewer ns (x ∷ xs) (n + 1) least end rising.2 r (here, among-later n (x + 1) end ns xs (omega (arith, above)) r.1 named.1))
+]
+
+one-name : (a b : Bool) (m n : ℕ) → a ≡ b → length {A = ℕ} (if a then [] else m ∷ []) ≡ length {A = ℕ} (if b then [] else n ∷ [])
+one-name true true m n e = refl
+one-name false false m n e = refl
+one-name true false m n e = absurd (cc (e))
+one-name false true m n e = absurd (cc (e))
+
+as-many : (f g : Forest) → AreAlike f g → length (wrappers f) ≡ length (wrappers g)
+as-many f g nothing = refl
+as-many f g (padding a b rest) = as-many a b rest
+as-many f g (primitives h k c a b tag rest) = as-many a b rest
+as-many f g (holders h k inside within a b tag held rest) =
+    omega (
+      arith,
+      one-name h.constructed k.constructed h.offset k.offset tag.constructed,
+      as-many inside within held,
+      as-many a b rest,
+      length-append (wrapper_at h) (wrappers inside ++ wrappers a),
+      length-append (wrappers inside) (wrappers a),
+      length-append (wrapper_at k) (wrappers within ++ wrappers b),
+      length-append (wrappers within) (wrappers b),
+    )
+
+can-name : (framing other : Framing) (f g : Forest) → IsOpen (top_place framing) f → IsOpen (top_place other) g → AreAlike f g
+    → length (spell g) ≤ 2 ^ 40 → CanName framing.inside → CanName (wrappers g)
+can-name framing other f g u v alike few can = (
+  omega (
+    arith,
+    can.0,
+    as-many f g alike,
+    fewer framing.inside (wrappers f) 0 0 (0 + length (spell f)) can.1 (wrappers-rise (top_place framing) f u) (wrappers-named (top_place framing) f u),
+  ),
+  rising-of 0 (0 + length (spell g)) (wrappers g) (omega (arith, few)) (wrappers-rise (top_place other) g v),
+)
+
+-- ---- the law
+
+alike-element : (f g : Forest) → AreAlike f g → has_element f ≡ has_element g
+alike-element f g nothing = refl
+alike-element f g (padding a b rest) = alike-element a b rest
+alike-element f g (primitives h k c a b tag rest) = refl
+alike-element f g (holders h k inside within a b tag held rest) = refl
+
+by-definite : (rules : Rules) → form_by rules false ≡ false
+by-definite Ber = refl
+by-definite Der = refl
+by-definite Cer = refl
+
+pub some-spelling : SomeSpelling
+some-spelling rules framing b f strict few ending reading low =
+    let it : IsSoundReading framing b f = sound-reading_of framing b f ending reading in
+    let elements : IsSoundList framing b = done-sound framing b ending in
+    let same : elements.forest ≡ f = reading-unique framing b elements.forest f (sound-reading framing b elements) reading in
+    let spelling : Spelling (form_by rules) (top_place framing) f =
+    respelled (form_by rules) (by-definite rules) (top_place framing) f (omega (arith, few, ap length it.octets)) it.sound low in
+    let by_names : Framing = record { inside = spelling.names 0; padding = framing.padding } in
+    let at_top : SpelledAt (form_by rules) (top_place by_names) f spelling.octets (spelling.names 0) =
+    spelling.there (top_place by_names) (record { padding = refl; depth = refl }) (λ i least most. refl) in
+    let other : Framing = record { inside = wrappers at_top.forest; padding = framing.padding } in
+    let named : by_names ≡ other = ap (λ (names : List ℕ). record { inside = names; padding = framing.padding }) (sym at_top.names_are) in
+    let sound : IsSound (top_place other) at_top.forest = subst (λ (k : Framing). IsSound (top_place k) at_top.forest) named at_top.sound in
+    let list : IsSoundList other spelling.octets = record {
+      forest = at_top.forest;
+      sound = sound;
+      some = sym (alike-element f at_top.forest at_top.alike) ∙ ap has_element (sym same) ∙ elements.some;
+      octets = at_top.spelled;
+    } in
+    let there : IsReading other spelling.octets at_top.forest = sound-reading other spelling.octets list in
+    let small : length (spell at_top.forest) ≤ 2 ^ 40 = omega (arith, ap length at_top.spelled, spelling.short, few, ap length it.octets) in (
+      spelling.octets,
+      at_top.forest,
+      record {
+        ending = sound-done other spelling.octets list;
+        reading = there;
+        none = none-found rules strict (top_place other) top_site at_top.forest sound at_top.regular;
+      },
+      at_top.alike,
+      can-name framing other f at_top.forest reading.is_open there.is_open at_top.alike small,
+    )

@@ -1,0 +1,25 @@
+-- What a dump over all that a source gives comes to.
+use Rattle.std.specs.Prelude.{ℕ, List}
+use Rattle.std.specs.FinMap as finite
+use Rattle.tlv_value.specs.declared.layout.Layout.{Layout}
+use Rattle.tlv_value.specs.Names.{Table}
+use Rattle.tlv_walk.specs.Forest.{Forest}
+use Rattle.tlv_walk.specs.Job.{Job}
+use Rattle.tlv_show.specs.declared.options.Options.{Options}
+use Rattle.tlv_show.specs.declared.outcome.Outcome.{Outcome}
+use Rattle.tlv_show.specs.ShowJob.{show_job}
+use Rattle.tlv_show.specs.Texts.{dump_text, item_text}
+
+-- all elements, as lines, with those of findings
+abbrev pub dump_job : Options → Table → Job Outcome
+dump_job options names = show_job options.framing options.rules (item_text (finite.get names) (record { level = 0; limit = options.limit; pure = options.pure }))
+
+-- ---- Words of laws and proofs alone
+
+-- how the lines of the first elements are laid out
+abbrev pub top_layout : Options → Layout
+top_layout options = record { level = 0; limit = options.limit; pure = options.pure }
+
+-- the text of a dump with these options
+abbrev pub dump_job_text : Options → Table → Forest → List ℕ
+dump_job_text options names f = dump_text (finite.get names) (top_layout options) options.rules f

@@ -1,0 +1,97 @@
+-- What a dump makes of events.
+use Rattle.std.specs.Prelude.{ℕ, ◌+◌, ◌-◌, ◌^◌, eqb, if◌then◌else◌, Bool, true, false, List, [], ◌∷◌, length, max, min, take, Option, Some, None, codes}
+use Rattle.std.specs.FinMap as finite
+use Rattle.tlv_head.specs.Header.{HeaderValue, octets_of}
+use Rattle.tlv_value.specs.declared.layout.Layout.{Layout}
+use Rattle.tlv_value.specs.Names.{Table}
+use Rattle.tlv_value.specs.TextState.{TextState, begin_lines, contents_lines, end_lines, new_text, text_after}
+use Rattle.tlv_walk.specs.declared.follow.Go.TheVariants.{On}
+use Rattle.tlv_walk.specs.Events.{Begin, Bytes, Close, End, Enter, EventValue, Leave, Open, Pad, Unused}
+use Rattle.tlv_walk.specs.Follow.{Effect, each_octet}
+use Rattle.tlv_show.specs.Lines.{close_line, opening_line, padding_line}
+
+-- what contracts see of a `Dump`
+pub record LinesState : Type 0 where
+  -- how lines are laid out: the level is how many elements are open that hold others
+  pub layout : Layout
+  -- the names of object identifiers
+  pub names : Table
+  -- the offset of the next octet
+  pub offset : ℕ
+  -- whether the last octets were padding
+  pub in_padding : Bool
+  -- what is kept of the primitive that is open
+  pub value : Option TextState
+
+-- a dump of which nothing is written
+abbrev pub new_lines : Layout → Table → LinesState
+new_lines layout names = record { layout = layout; names = names; offset = 0; in_padding = false; value = None }
+
+-- it becomes `s`, and these octets are put
+abbrev pub put_lines : LinesState → List ℕ → Effect LinesState
+put_lines s octets = record { state = s; put = octets; goes = On }
+
+-- an offset so many octets further; it stops at 2^64 - 1
+abbrev pub offset_after : ℕ → ℕ → ℕ
+offset_after offset n = max offset (min (offset + n) (2 ^ 64 - 1))
+
+-- the layout of what an element holds, and of what holds it; the level stops at 255
+abbrev pub inner_layout : Layout → Layout
+inner_layout layout = record layout { level = min (layout.level + 1) 255 }
+
+abbrev pub outer_layout : Layout → Layout
+outer_layout layout = record layout { level = layout.level - 1 }
+
+-- an element begins, and padding ends
+abbrev pub past_header : LinesState → HeaderValue → LinesState
+past_header s h = record s { offset = offset_after h.offset (length (octets_of h)); in_padding = false }
+
+-- an element that holds others begins
+abbrev pub lines_open_step : LinesState → HeaderValue → List ℕ → Effect LinesState
+lines_open_step s h word = put_lines (record (past_header s h) { layout = inner_layout s.layout }) (opening_line s.layout h word)
+
+-- it ends
+abbrev pub lines_close_step : LinesState → Option ℕ → Effect LinesState
+lines_close_step s None = put_lines (record s { layout = outer_layout s.layout }) (close_line (outer_layout s.layout) None)
+lines_close_step s (Some at) = put_lines (record s { layout = outer_layout s.layout; offset = offset_after at 2 }) (close_line (outer_layout s.layout) (Some at))
+
+-- a primitive begins
+abbrev pub lines_begin_step : LinesState → HeaderValue → Effect LinesState
+lines_begin_step s h = put_lines (record (past_header s h) { value = Some (new_text h s.layout) }) (begin_lines (new_text h s.layout))
+
+-- contents octets: no more count than were announced
+abbrev pub value_after : Option TextState → List ℕ → Option TextState
+value_after None octets = None
+value_after (Some t) octets = Some (text_after t (take t.left octets))
+
+abbrev pub value_contents_lines : Option TextState → List ℕ → List ℕ
+value_contents_lines None octets = []
+value_contents_lines (Some t) octets = contents_lines t (take t.left octets)
+
+-- a contents octet
+abbrev pub lines_octet_step : LinesState → ℕ → Effect LinesState
+lines_octet_step s x = put_lines (record s { offset = offset_after s.offset 1; value = value_after s.value (x ∷ []) }) (value_contents_lines s.value (x ∷ []))
+
+-- a primitive ends, of which all contents octets have come
+abbrev pub value_end_lines : Table → Option TextState → List ℕ
+value_end_lines names None = []
+value_end_lines names (Some t) = if eqb t.left 0 then end_lines (finite.get names) t else []
+
+abbrev pub lines_end_step : LinesState → Effect LinesState
+lines_end_step s = put_lines (record s { value = None }) (value_end_lines s.names s.value)
+
+-- an octet of padding: the first of a run has a line
+abbrev pub lines_padding_step : LinesState → ℕ → Effect LinesState
+lines_padding_step s x = put_lines (record s { offset = offset_after s.offset 1; in_padding = true }) (if s.in_padding then [] else padding_line s.layout s.offset)
+
+-- an event
+abbrev pub lines_step : LinesState → EventValue → Effect LinesState
+lines_step s (Open h) = lines_open_step s h (codes " {")
+lines_step s (Enter h) = lines_open_step s h (codes " wraps {")
+lines_step s (Begin h) = lines_begin_step s h
+lines_step s (Bytes octets) = each_octet lines_octet_step s octets
+lines_step s End = lines_end_step s
+lines_step s (Close at) = lines_close_step s at
+lines_step s Leave = lines_close_step s None
+lines_step s Unused = put_lines (record s { offset = offset_after s.offset 1 }) []
+lines_step s (Pad octets) = each_octet lines_padding_step s octets

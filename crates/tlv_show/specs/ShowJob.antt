@@ -1,0 +1,20 @@
+-- What a command does that shows what a source gives, in one pass.
+use Rattle.std.specs.Prelude.{ℕ, ◌^◌, false, List, count_by, flat_map}
+use Rattle.tlv_walk.specs.declared.framing.Framing.{Framing}
+use Rattle.tlv_walk.specs.Job.{Job}
+use Rattle.tlv_walk.specs.Wrappers.{first_unused}
+use Rattle.tlv_show.specs.declared.outcome.Outcome.{Outcome}
+use Rattle.tlv_show.specs.declared.rules.Rules.{Rules}
+use Rattle.tlv_show.specs.Items.{Item, items}
+use Rattle.tlv_show.specs.Site.{top_site}
+use Rattle.tlv_show.specs.Texts.{is_finding}
+
+-- the items of all elements are written, each with this text, and the findings are counted, whether they are written or not
+abbrev pub show_job : Framing → Rules → (Item → List ℕ) → Job Outcome
+show_job framing rules text_of = record {
+  framing = framing;
+  limit = 2 ^ 40;
+  text = λ f. flat_map text_of (items rules top_site f);
+  is_enough = λ f. false;
+  answer = λ f e. record { ending = e; findings = count_by is_finding (items rules top_site f); unused = first_unused framing.inside f };
+}

@@ -1,0 +1,33 @@
+//! `check`, over a source and a drain.
+ghost use Rattle.tlv_walk.specs.Job.{Runs};
+ghost use Rattle.tlv_show.specs.CheckJob.{check_job};
+
+use crate::outcome::Outcome;
+use crate::{Check, Rules};
+use tlv_walk::{DeviceFault, Drain, Framing, Source, drive};
+
+/// Lists what violates the rules in the encodings that the source gives, up to its end or the first octet that is
+/// refused. The line of a finding comes as soon as the octets allow: with the header of its element, with the last octet
+/// of a primitive, or with the end of an element that holds others.
+///
+/// # Errors
+///
+/// `ReadFailed` exactly if the source's failures rose in the call, and `WriteFailed` exactly if
+/// the drain's did. `InputTooLong` past 2^40 octets.
+pub fn check<S: Source, D: Drain>(
+    source: &mut S,
+    drain: &mut D,
+    rules: Rules,
+    framing: &Framing,
+) -> Result<Outcome, DeviceFault>
+    ensures { Runs (check_job rules framing.now) (S.state source.old) (S.state source.new)
+        (D.state drain.old) (D.state drain.new) result }
+{
+    let mut follower = Check::new(rules);
+    let run = drive(source, &mut follower, drain, framing)?;
+    Ok(Outcome {
+        ending: run.ending,
+        findings: follower.findings(),
+        unused: run.unused,
+    })
+}

@@ -1,0 +1,80 @@
+//! The follower that lists what violates the rules.
+ghost use Rattle.std.specs.Prelude.{◌≡◌, refl};
+ghost use Rattle.tlv_walk.proofs.FollowerLemmas.Followed.{each_octet-goes_on, each_octet-joins};
+ghost use Rattle.tlv_show.specs.CheckStep.{check_octet_step, check_step};
+ghost use Rattle.tlv_show.specs.FinderState.{new_finder};
+
+use crate::Rules;
+use crate::contents::contents_in;
+use crate::finder::Finder;
+use crate::finding_lines::{Style, put_findings};
+use std::marker::Model;
+use tlv_head::Header;
+use tlv_walk::{Drain, Event, Follow, Go, Out, WriteFault};
+
+/// Lists what violates the rules, a line for each finding: the offset of the element, the code, and the text. A finding
+/// comes as soon as the octets allow: with the whole header, with the last octet of a primitive, or with the end of an
+/// element that holds others.
+#[derive(Drop)]
+pub struct Check {
+    finder: Finder,
+}
+
+impl Model for Check {
+    ghost use Rattle.tlv_show.specs.FinderState.{FinderState};
+
+    ghost Value = { FinderState };
+
+    ghost view = { λ c. c.finder.state };
+}
+
+impl Check {
+    /// A check by these rules, of an input of which no event has come.
+    pub fn new(rules: Rules) -> Check
+        ensures { result ≡ new_finder rules }
+    {
+        Check {
+            finder: Finder::new(rules),
+        }
+    }
+
+    /// How many findings were listed.
+    pub fn findings(&self) -> u64
+        ensures { result ≡ self.now.count }
+    {
+        self.finder.count()
+    }
+}
+
+impl Follow for Check {
+    ghost next = { check_step };
+
+    ghost bytes_join = { each_octet-joins check_octet_step };
+
+    ghost bytes_rest = { λ s. refl };
+
+    ghost bytes_go_on = { each_octet-goes_on check_octet_step };
+
+    ghost pad_join = { λ s x y. refl };
+
+    ghost pad_rest = { λ s. refl };
+
+    ghost pad_go_on = { λ s x. refl };
+
+    #[inline(always)]
+    fn on<D: Drain>(&mut self, event: &Event<'_>, out: &mut Out<'_, D>) -> Result<Go, WriteFault> {
+        let has_findings = self.finder.find(event);
+        put_findings(has_findings, Style::Check, &self.finder, out)?;
+        Ok(Go::On)
+    }
+
+    #[inline(always)]
+    fn whole<D: Drain>(
+        &mut self,
+        header: &Header,
+        octets: &[u8],
+        _out: &mut Out<'_, D>,
+    ) -> Result<bool, WriteFault> {
+        Ok(self.finder.passes(header, contents_in(header, octets)))
+    }
+}

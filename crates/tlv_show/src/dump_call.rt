@@ -1,0 +1,33 @@
+//! `dump`, over a source and a drain.
+ghost use Rattle.tlv_walk.specs.Job.{Runs};
+ghost use Rattle.tlv_show.specs.DumpJob.{dump_job};
+
+use crate::{Dump, Options, Outcome};
+use tlv_value::Names;
+use tlv_walk::{DeviceFault, Drain, Source, drive};
+
+/// Writes the lines of the encodings that the source gives, up to its end or the first octet that is refused. The
+/// lines of an element come as soon as its octets allow. Object identifiers that the table has are shown with their
+/// names, and findings with lines of their own.
+///
+/// # Errors
+///
+/// `ReadFailed` exactly if the source's failures rose in the call, and `WriteFailed` exactly if
+/// the drain's did. `InputTooLong` past 2^40 octets.
+pub fn dump<S: Source, D: Drain>(
+    source: &mut S,
+    drain: &mut D,
+    options: &Options,
+    names: &Names,
+) -> Result<Outcome, DeviceFault>
+    ensures { Runs (dump_job options.now names.now) (S.state source.old) (S.state source.new)
+        (D.state drain.old) (D.state drain.new) result }
+{
+    let mut follower = Dump::new(options, names);
+    let run = drive(source, &mut follower, drain, &options.framing)?;
+    Ok(Outcome {
+        ending: run.ending,
+        findings: follower.findings(),
+        unused: run.unused,
+    })
+}

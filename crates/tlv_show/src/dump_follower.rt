@@ -1,0 +1,198 @@
+//! The follower that writes a dump.
+ghost use Rattle.std.specs.Prelude.{◌≡◌, OnOk, refl};
+ghost use Rattle.tlv_walk.proofs.FollowerLemmas.Followed.{each_octet-goes_on, each_octet-joins};
+ghost use Rattle.tlv_walk.specs.Events.{Begin, Bytes, Close, End, Enter, Open};
+ghost use Rattle.tlv_io.specs.Out.{Puts};
+ghost use Rattle.tlv_walk.specs.HasRead.{event_value};
+ghost use Rattle.tlv_show.specs.DumpStep.{dump_octet_step, dump_padding_step, dump_step, new_dump};
+ghost use Rattle.tlv_show.specs.DumpJob.{top_layout};
+
+use crate::Options;
+use crate::contents::contents_in;
+use crate::finder::Finder;
+use crate::line_follower::Lines;
+use crate::finding_lines::put_findings;
+use std::marker::Model;
+use tlv_head::Header;
+use tlv_value::{Layout, Names};
+use tlv_walk::{Drain, Event, Follow, Go, Out, WriteFault};
+
+/// Writes the lines that each event allows. The line of an element that holds others comes with its header, and that
+/// of its end with its end; those of a primitive come as [`ValueText`](tlv_value::ValueText) writes them. A finding has
+/// its line before that of its element if it is known from the header, and else after the last line.
+#[derive(Drop)]
+pub struct Dump<'n> {
+    lines: Lines<'n>,
+    finder: Finder,
+}
+
+impl<'n> Model for Dump<'n> {
+    ghost use Rattle.std.specs.Coded.{codes};
+    ghost use Rattle.tlv_show.specs.DumpStep.{DumpState};
+    ghost use Rattle.tlv_value.specs.Names.{table_code};
+
+    ghost Value = { DumpState };
+
+    ghost coded = { Prim.hlevel (codes, table_code) };
+
+    ghost view = { λ d. record { lines = d.lines; finder = d.finder.state } };
+}
+
+impl<'n> Dump<'n> {
+    /// A dump of which nothing is written.
+    pub fn new(options: &Options, names: &'n Names) -> Dump<'n>
+        ensures { result ≡ new_dump options.now.rules (top_layout options.now) names.now }
+    {
+        let layout = Layout {
+            level: 0,
+            limit: options.limit,
+            pure: options.pure,
+        };
+        Dump {
+            lines: Lines::new(layout, names),
+            finder: Finder::new(options.rules),
+        }
+    }
+
+    /// How many findings there are so far, also if their lines are left out.
+    pub fn findings(&self) -> u64
+        ensures { result ≡ self.now.finder.count }
+    {
+        self.finder.count()
+    }
+}
+
+impl Follow for Dump<'_> {
+    ghost next = { dump_step };
+
+    ghost bytes_join = { each_octet-joins dump_octet_step };
+
+    ghost bytes_rest = { λ s. refl };
+
+    ghost bytes_go_on = { each_octet-goes_on dump_octet_step };
+
+    ghost pad_join = { each_octet-joins dump_padding_step };
+
+    ghost pad_rest = { λ s. refl };
+
+    ghost pad_go_on = { each_octet-goes_on dump_padding_step };
+
+    #[inline(always)]
+    fn on<D: Drain>(&mut self, event: &Event<'_>, out: &mut Out<'_, D>) -> Result<Go, WriteFault> {
+        self.write_lines(event, out)?;
+        Ok(Go::On)
+    }
+
+    #[inline(always)]
+    fn whole<D: Drain>(
+        &mut self,
+        header: &Header,
+        octets: &[u8],
+        out: &mut Out<'_, D>,
+    ) -> Result<bool, WriteFault> {
+        let contents = contents_in(header, octets);
+        if !self.finder.passes(header, contents) {
+            return Ok(false);
+        }
+        self.lines.whole(header, contents, out)?;
+        Ok(true)
+    }
+}
+
+impl Dump<'_> {
+    /// Writes the lines that an event allows.
+    #[inline(always)]
+    fn write_lines<D: Drain>(&mut self, event: &Event<'_>, out: &mut Out<'_, D>) -> Result<(), WriteFault>
+        ensures state { OnOk result (self.new ≡ (dump_step self.old (event_value event.now)).state) }
+        ensures puts { Puts D.state out.old out.new (dump_step self.old (event_value event.now)).put result }
+    {
+        match event {
+            Event::Open(header) => self.open(header, out),
+            Event::Enter(header) => self.open_wrapper(header, out),
+            Event::Begin(header) => self.begin(header, out),
+            Event::Bytes(octets) => self.bytes(octets, out),
+            Event::End => self.end(out),
+            Event::Close(at) => self.close(*at, out),
+            Event::Leave => self.close(None, out),
+            Event::Unused => {
+                self.lines.unused();
+                Ok(())
+            }
+            Event::Pad(octets) => self.lines.pad(octets, out),
+        }
+    }
+
+    /// A constructed element begins.
+    #[inline(always)]
+    fn open<D: Drain>(&mut self, header: &Header, out: &mut Out<'_, D>) -> Result<(), WriteFault>
+        ensures state { OnOk result (self.new ≡ (dump_step self.old (Open header.now)).state) }
+        ensures puts { Puts D.state out.old out.new (dump_step self.old (Open header.now)).put result }
+    {
+        let has_findings = self.finder.open(header);
+        let style = self.lines.style();
+        put_findings(has_findings, style, &self.finder, out)?;
+        self.lines.open(header, b" {", out)
+    }
+
+    /// A string that wraps encodings begins. Such strings are few, so this stands apart.
+    #[inline(never)]
+    fn open_wrapper<D: Drain>(
+        &mut self,
+        header: &Header,
+        out: &mut Out<'_, D>,
+    ) -> Result<(), WriteFault>
+        ensures state { OnOk result (self.new ≡ (dump_step self.old (Enter header.now)).state) }
+        ensures puts { Puts D.state out.old out.new (dump_step self.old (Enter header.now)).put result }
+    {
+        let has_findings = self.finder.open(header);
+        let style = self.lines.style();
+        put_findings(has_findings, style, &self.finder, out)?;
+        self.lines.open(header, b" wraps {", out)
+    }
+
+    /// A primitive begins of which not all octets are at hand, or with which something is found.
+    #[inline(never)]
+    fn begin<D: Drain>(&mut self, header: &Header, out: &mut Out<'_, D>) -> Result<(), WriteFault>
+        ensures state { OnOk result (self.new ≡ (dump_step self.old (Begin header.now)).state) }
+        ensures puts { Puts D.state out.old out.new (dump_step self.old (Begin header.now)).put result }
+    {
+        let has_findings = self.finder.begin(header);
+        let style = self.lines.style();
+        put_findings(has_findings, style, &self.finder, out)?;
+        self.lines.begin(header, out)
+    }
+
+    /// Contents of a primitive go on.
+    #[inline]
+    fn bytes<D: Drain>(&mut self, octets: &[u8], out: &mut Out<'_, D>) -> Result<(), WriteFault>
+        ensures state { OnOk result (self.new ≡ (dump_step self.old (Bytes octets.now)).state) }
+        ensures puts { Puts D.state out.old out.new (dump_step self.old (Bytes octets.now)).put result }
+    {
+        self.finder.bytes(octets);
+        self.lines.bytes(octets, out)
+    }
+
+    /// A primitive ends.
+    #[inline]
+    fn end<D: Drain>(&mut self, out: &mut Out<'_, D>) -> Result<(), WriteFault>
+        ensures state { OnOk result (self.new ≡ (dump_step self.old End).state) }
+        ensures puts { Puts D.state out.old out.new (dump_step self.old End).put result }
+    {
+        let has_findings = self.finder.end();
+        self.lines.end(out)?;
+        let style = self.lines.style();
+        put_findings(has_findings, style, &self.finder, out)
+    }
+
+    /// An element that holds others ends: `at` is where its end-of-contents octets are.
+    #[inline]
+    fn close<D: Drain>(&mut self, at: Option<u64>, out: &mut Out<'_, D>) -> Result<(), WriteFault>
+        ensures state { OnOk result (self.new ≡ (dump_step self.old (Close at)).state) }
+        ensures puts { Puts D.state out.old out.new (dump_step self.old (Close at)).put result }
+    {
+        let has_findings = self.finder.close();
+        self.lines.close(at, out)?;
+        let style = self.lines.style();
+        put_findings(has_findings, style, &self.finder, out)
+    }
+}

@@ -1,0 +1,122 @@
+//! How findings are written.
+ghost use Rattle.std.specs.Prelude.{◌≡◌, ◌+◌, ◌++◌, ◌∷◌, length};
+ghost use Rattle.tlv_io.specs.LineTexts.{HasRoomFor};
+ghost use Rattle.tlv_io.specs.Out.{Puts};
+ghost use Rattle.tlv_show.specs.CheckStep.{styled_line, styled_lines};
+ghost use Rattle.tlv_show.specs.Private.CheckStep.{last_finding_lines};
+ghost use Rattle.tlv_show.specs.Private.FinderState.{finds_if};
+ghost use Rattle.tlv_show.specs.Texts.{check_finding_line, finding_line};
+
+use crate::finder::Finder;
+use tlv_value::{Finding, Layout, begin_word};
+use tlv_walk::{Drain, Held, Out, WriteFault};
+
+/// How findings are written.
+#[derive(Clone, Copy)]
+pub(crate) enum Style {
+    /// As lines of a check.
+    Check,
+    /// As lines of a dump: with first columns, or without any if it is pure.
+    Dump(bool),
+}
+
+/// Writes a line for each finding of the last event, in order, if there may be any.
+#[inline(always)]
+pub(crate) fn put_findings<D: Drain>(
+    has_findings: bool,
+    style: Style,
+    finder: &Finder,
+    out: &mut Out<'_, D>,
+) -> Result<(), WriteFault>
+    ensures { Puts D.state out.old out.new (last_finding_lines style (finds_if has_findings finder.now)) result }
+{
+    if !has_findings {
+        return Ok(());
+    }
+    put_each(style, (finder.level(), finder.at()), finder.findings(), out)
+}
+
+/// Puts a line for each of these findings in the element at this level and offset.
+#[inline(never)]
+fn put_each<D: Drain>(
+    style: Style,
+    place: (u8, u64),
+    findings: &[Finding],
+    out: &mut Out<'_, D>,
+) -> Result<(), WriteFault>
+    ensures { Puts D.state out.old out.new (styled_lines style place.0 place.1 findings.now) result }
+{
+    for finding in findings {
+        put_finding(style, place, *finding, out)?;
+    }
+    Ok(())
+}
+
+/// Puts the line of a finding in the element at this level and offset.
+#[inline(always)]
+fn put_finding<D: Drain>(
+    style: Style,
+    place: (u8, u64),
+    finding: Finding,
+    out: &mut Out<'_, D>,
+) -> Result<(), WriteFault>
+    ensures { Puts D.state out.old out.new (styled_line style place.0 place.1 finding) result }
+{
+    out.make_room()?;
+    write_finding(&mut out.held, style, place.0, place.1, finding);
+    Ok(())
+}
+
+/// Adds the line of a finding in an element at this level and offset.
+fn write_finding(held: &mut Held, style: Style, level: u8, at: u64, finding: Finding)
+    requires { HasRoomFor held.old 1024 }
+    ensures { held.new ≡ held.old ++ styled_line style level at finding }
+{
+    match style {
+        Style::Check => write_listed(held, at, finding),
+        Style::Dump(pure) => {
+            let layout = Layout {
+                level,
+                limit: None,
+                pure,
+            };
+            write_between(held, layout, at, finding);
+        }
+    }
+}
+
+/// Adds the line of a finding in a check.
+fn write_listed(held: &mut Held, at: u64, finding: Finding)
+    requires { HasRoomFor held.old 1024 }
+    ensures { held.new ≡ held.old ++ check_finding_line at finding }
+{
+    held.number(at);
+    held.add(b" ");
+    held.add(finding.code());
+    held.add(b" ");
+    held.add(finding.text());
+    held.add(b"\n");
+}
+
+/// Adds the line of a finding in a dump; none if first columns are left out.
+fn write_between(held: &mut Held, layout: Layout, at: u64, finding: Finding)
+    requires { HasRoomFor held.old 1024 }
+    ensures { held.new ≡ held.old ++ finding_line layout at finding }
+{
+    if layout.pure {
+        return;
+    }
+    begin_word(held, layout, at, &padded(finding.code()));
+    held.add(finding.text());
+    held.add(b"\n");
+}
+
+/// A code at the right of six places.
+fn padded(code: &[u8]) -> [u8; 6]
+    requires { length code.now ≡ 3 }
+    ensures { result ≡ 32 ∷ 32 ∷ 32 ∷ code.now }
+{
+    let mut word = *b"      ";
+    word[3..].copy_from_slice(code);
+    word
+}

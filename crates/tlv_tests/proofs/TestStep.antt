@@ -1,0 +1,21 @@
+-- Rows of what the follower of the tests writes.
+use Rattle.std.proofs.Common.{◌≡◌, [], ◌∷◌, refl}
+use Rattle.std.specs.Prelude.{Some, codes}
+use Rattle.tlv_walk.specs.declared.follow.Go.TheVariants.{Enough}
+use Rattle.tlv_walk.specs.Events.{Bytes, Close, End, Pad}
+use Rattle.tlv_tests.specs.TestStep.{ends, place, test_effect, test_step}
+
+octets_row : test_step 0 (Bytes (74 ∷ 5 ∷ [])) ≡ test_effect 0 (codes " 4a 05")
+octets_row = refl
+
+padding_row : test_step 0 (Pad (0 ∷ 0 ∷ [])) ≡ test_effect 0 (codes "pad\npad\n")
+padding_row = refl
+
+place_row : place 11256 ≡ codes " 1256"
+place_row = refl
+
+close_row : test_step 2 (Close (Some 11)) ≡ ends 2 (codes "close 0011\n")
+close_row = refl
+
+last_row : test_step 1 End ≡ record { state = 0; put = codes " end\n"; goes = Enough }
+last_row = refl

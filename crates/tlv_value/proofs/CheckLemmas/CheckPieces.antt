@@ -1,0 +1,153 @@
+-- What is found on contents in pieces.
+use Rattle.std.proofs.Common.{◌≡◌, ℕ, zero, suc, ◌-◌, Bool, true, false, List, [], ◌∷◌, ◌++◌, length, take, refl, sym, ap, ◌∙◌, arith, append_assoc, length-append}
+use Rattle.std.specs.Prelude.{◌&&◌, ◌||◌, eqb, nat_lt, if◌then◌else◌}
+use Rattle.std.specs.Str.{is_utf8}
+use Rattle.tlv_head.specs.Header.{HeaderValue, announced}
+use Rattle.tlv_value.specs.declared.kind.Kind.TheVariants.{Utf8}
+use Rattle.tlv_value.specs.CheckLaws.{ChecksJoin, FindingsEnd}
+use Rattle.tlv_value.specs.CheckState.{CheckState, all_utf8, check_after, new_check, new_check_of, notes_each, notes_front, notes_in, notes_time, type_number, with_each, with_front, with_notes, with_time}
+use Rattle.tlv_value.specs.Checks.{allows_octet, every, is_padded_after, last_octet_of}
+use Rattle.tlv_value.specs.CheckNotes.{is_object, universal_findings}
+use Rattle.tlv_value.specs.Rows.{full_rows, open_row}
+use Rattle.tlv_value.proofs.CheckLemmas.CheckNotes.{noted-same}
+use Rattle.tlv_value.proofs.TextLemmas.Pieces.{rows-join}
+
+last-join : (before : ℕ) (x y : List ℕ) → last_octet_of (last_octet_of before x) y ≡ last_octet_of before (x ++ y)
+last-join before [] y = refl
+last-join before (z ∷ x) y = last-join z x y
+
+and-assoc : (a b c : Bool) → ((a && b) && c) ≡ (a && (b && c))
+and-assoc true b c = refl
+and-assoc false b c = refl
+
+or-assoc : (a b c : Bool) → ((a || b) || c) ≡ (a || (b || c))
+or-assoc true b c = refl
+or-assoc false b c = refl
+
+every-join : (test : ℕ → Bool) (x y : List ℕ) → (every test x && every test y) ≡ every test (x ++ y)
+every-join test [] y = refl
+every-join test (z ∷ x) y = and-assoc (test z) (every test x) (every test y) ∙ ap (λ (b : Bool). test z && b) (every-join test x y)
+
+padded-join : (before : ℕ) (x y : List ℕ) → (is_padded_after before x || is_padded_after (last_octet_of before x) y) ≡ is_padded_after before (x ++ y)
+padded-join before [] y = refl
+padded-join before (z ∷ x) y =
+    or-assoc (nat_lt before 128 && eqb z 128) (is_padded_after z x) (is_padded_after (last_octet_of z x) y) ∙ ap (λ (b : Bool). (nat_lt before 128 && eqb z 128) || b) (padded-join z x y)
+
+utf8-join : (rows more : List (List ℕ)) → (all_utf8 rows && all_utf8 more) ≡ all_utf8 (rows ++ more)
+utf8-join [] more = refl
+utf8-join (row ∷ rows) more = and-assoc (is_utf8 row) (all_utf8 rows) (all_utf8 more) ∙ ap (λ (b : Bool). is_utf8 row && b) (utf8-join rows more)
+
+take-twice : (n : ℕ) (xs ys : List ℕ) → take n (take n xs ++ ys) ≡ take n (xs ++ ys)
+take-twice zero xs ys = refl
+take-twice (suc n) [] ys = refl
+take-twice (suc n) (x ∷ xs) ys = ap (λ (t : List ℕ). x ∷ t) (take-twice n xs ys)
+
+take-join : (n : ℕ) (front x y : List ℕ) → take n (take n (front ++ x) ++ y) ≡ take n (front ++ (x ++ y))
+take-join n front x y = take-twice n (front ++ x) y ∙ ap (take n) (append_assoc front x y)
+
+padded-at : (b padded : Bool) (before : ℕ) (x y : List ℕ)
+    → (if b then (if b then padded || is_padded_after before x else padded) || is_padded_after (last_octet_of before x) y else (if b then padded || is_padded_after before x else padded))
+    ≡ (if b then padded || is_padded_after before (x ++ y) else padded)
+padded-at true padded before x y =
+    or-assoc padded (is_padded_after before x) (is_padded_after (last_octet_of before x) y) ∙ ap (λ (b : Bool). padded || b) (padded-join before x y)
+padded-at false padded before x y = refl
+
+formed-at : (b formed : Bool) (row x y : List ℕ)
+    → (if b then (if b then formed && all_utf8 (full_rows Utf8 row x) else formed) && all_utf8 (full_rows Utf8 (if b then open_row Utf8 row x else row) y) else (if b then formed && all_utf8 (full_rows Utf8 row x) else formed))
+    ≡ (if b then formed && all_utf8 (full_rows Utf8 row (x ++ y)) else formed)
+formed-at true formed row x y =
+    and-assoc formed (all_utf8 (full_rows Utf8 row x)) (all_utf8 (full_rows Utf8 (open_row Utf8 row x) y))
+    ∙ ap (λ (b : Bool). formed && b) (utf8-join (full_rows Utf8 row x) (full_rows Utf8 (open_row Utf8 row x) y) ∙ ap all_utf8 (sym (rows-join Utf8 row x y).0))
+formed-at false formed row x y = refl
+
+row-at : (b : Bool) (row x y : List ℕ) → (if b then open_row Utf8 (if b then open_row Utf8 row x else row) y else (if b then open_row Utf8 row x else row)) ≡ (if b then open_row Utf8 row (x ++ y) else row)
+row-at true row x y = sym (rows-join Utf8 row x y).1
+row-at false row x y = refl
+
+abbrev built : CheckState → ℕ → List ℕ → ℕ → Bool → Bool → Bool → List ℕ → List ℕ → CheckState
+built s left front last allowed padded formed row time = record {
+  number = s.number;
+  size = s.size;
+  left = left;
+  front = front;
+  last = last;
+  allowed = allowed;
+  padded = padded;
+  formed = formed;
+  row = row;
+  time = time;
+}
+
+built-eq : (s : CheckState) (l l' : ℕ) (f f' : List ℕ) (t t' : ℕ) (a a' p p' m m' : Bool) (r r' i i' : List ℕ) → l ≡ l' → f ≡ f' → t ≡ t' → a ≡ a' → p ≡ p' → m ≡ m' → r ≡ r' → i ≡ i' → built s l f t a p m r i ≡ built s l' f' t' a' p' m' r' i'
+built-eq s l l' f f' t t' a a' p p' m m' r r' i i' e1 e2 e3 e4 e5 e6 e7 e8 = rw (e1, e2, e3, e4, e5, e6, e7, e8) refl
+
+-- what is noted of a type, by what it asks for
+abbrev noted_by : Bool → Bool → Bool → CheckState → List ℕ → CheckState
+noted_by front each time s octets =
+    if front then with_front s octets
+    else if each then with_each s octets
+    else if time then with_time s octets
+    else s
+
+abbrev by_kind : Bool → Bool → Bool → CheckState → List ℕ → CheckState
+by_kind f e t s octets = record (noted_by f e t s octets) { number = s.number; size = s.size; left = s.left - length octets }
+
+join-by : (f e t : Bool) (s : CheckState) (x y : List ℕ) → by_kind f e t (by_kind f e t s x) y ≡ by_kind f e t s (x ++ y)
+join-by true e t s x y =
+    let l : s.left - length x - length y ≡ s.left - length (x ++ y) = omega (arith, length-append x y) in
+    built-eq s (s.left - length x - length y) (s.left - length (x ++ y)) (take 2 (take 2 (s.front ++ x) ++ y)) (take 2 (s.front ++ (x ++ y))) (last_octet_of (last_octet_of s.last x) y) (last_octet_of s.last (x ++ y))
+    s.allowed s.allowed s.padded s.padded s.formed s.formed s.row s.row s.time s.time
+    l (take-join 2 s.front x y) (last-join s.last x y) refl refl refl refl refl
+join-by false true t s x y =
+    let l : s.left - length x - length y ≡ s.left - length (x ++ y) = omega (arith, length-append x y) in
+    built-eq s (s.left - length x - length y) (s.left - length (x ++ y)) s.front s.front (last_octet_of (last_octet_of s.last x) y) (last_octet_of s.last (x ++ y))
+    (with_each (with_each s x) y).allowed (with_each s (x ++ y)).allowed (with_each (with_each s x) y).padded (with_each s (x ++ y)).padded (with_each (with_each s x) y).formed (with_each s (x ++ y)).formed
+    (with_each (with_each s x) y).row (with_each s (x ++ y)).row s.time s.time
+    l refl (last-join s.last x y)
+    (and-assoc s.allowed (every (allows_octet s.number) x) (every (allows_octet s.number) y) ∙ ap (λ (b : Bool). s.allowed && b) (every-join (allows_octet s.number) x y))
+    (padded-at (is_object s.number) s.padded s.last x y) (formed-at (eqb s.number 12) s.formed s.row x y) (row-at (eqb s.number 12) s.row x y) refl
+join-by false false true s x y =
+    let l : s.left - length x - length y ≡ s.left - length (x ++ y) = omega (arith, length-append x y) in
+    built-eq s (s.left - length x - length y) (s.left - length (x ++ y)) s.front s.front s.last s.last
+    s.allowed s.allowed s.padded s.padded s.formed s.formed s.row s.row (take 64 (take 64 (s.time ++ x) ++ y)) (take 64 (s.time ++ (x ++ y)))
+    l refl refl refl refl refl refl (take-join 64 s.time x y)
+join-by false false false s x y =
+    let l : s.left - length x - length y ≡ s.left - length (x ++ y) = omega (arith, length-append x y) in
+    ap (λ (n : ℕ). record s { left = n }) l
+
+pub checks-join : ChecksJoin
+checks-join s x y = join-by (notes_front s.number) (notes_each s.number) (notes_time s.number) s x y
+
+-- what is noted at the end
+
+noted-left : (f e t : Bool) (s : CheckState) (c : List ℕ) → notes_in (by_kind f e t s c) ≡ notes_in (noted_by f e t s c)
+noted-left true e t s c = refl
+noted-left false true t s c = refl
+noted-left false false true s c = refl
+noted-left false false false s c = refl
+
+pub findings-end : FindingsEnd
+findings-end h octets e =
+    let n = type_number h in
+    ap (universal_findings n)
+    (noted-left (notes_front n) (notes_each n) (notes_time n) (new_check h) octets
+    ∙ ap (λ (z : ℕ). notes_in (with_notes (new_check_of n z) octets)) (sym e))
+    ∙ sym (noted-same h octets)
+
+-- no octets
+same-in-both : {A : Type 0} (b : Bool) (x : A) → (if b then x else x) ≡ x
+same-in-both true x = refl
+same-in-both false x = refl
+
+none-by : (f e t : Bool) (n size : ℕ) → by_kind f e t (new_check_of n size) [] ≡ new_check_of n size
+none-by true e t n size = ap (λ (l : ℕ). record (new_check_of n size) { left = l }) (omega arith)
+none-by false true t n size =
+    built-eq (new_check_of n size) (size - 0) size [] [] 0 0 true true (if is_object n then false else false) false (if eqb n 12 then true else true) true (if eqb n 12 then [] else []) [] [] []
+    (omega arith) refl refl refl (same-in-both (is_object n) false) (same-in-both (eqb n 12) true) (same-in-both (eqb n 12) []) refl
+none-by false false true n size = ap (λ (l : ℕ). record (new_check_of n size) { left = l }) (omega arith)
+none-by false false false n size = ap (λ (l : ℕ). record (new_check_of n size) { left = l }) (omega arith)
+
+pub checked-none : (h : HeaderValue) → check_after (new_check h) [] ≡ new_check h
+checked-none h =
+    let n = type_number h in
+    none-by (notes_front n) (notes_each n) (notes_time n) n (announced h.size)

@@ -1,0 +1,23 @@
+-- Words of what strings may hold, of all of their octets.
+use Rattle.std.specs.Prelude.{ℕ, ◌%◌, Bool, true, false, ◌&&◌, eqb, if◌then◌else◌, List, [], length}
+use Rattle.std.specs.Str.{is_utf8}
+use Rattle.tlv_head.specs.declared.header.Class.TheVariants.{Universal}
+use Rattle.tlv_head.specs.declared.header.Size.TheVariants.{Definite}
+use Rattle.tlv_head.specs.Header.{HeaderValue}
+use Rattle.tlv_value.specs.declared.finding.Finding.{Finding}
+use Rattle.tlv_value.specs.Checks.{allows_octet, every, findings_on_contents, is_padded_after}
+
+abbrev pub is_padded_object : List ℕ → Bool
+is_padded_object octets = is_padded_after 0 octets
+
+-- UTF8String, BMPString, UniversalString
+abbrev pub allows_all : ℕ → List ℕ → Bool
+allows_all number octets =
+    if eqb number 12 then is_utf8 octets
+    else if eqb number 30 then eqb (length octets % 2) 0
+    else if eqb number 28 then eqb (length octets % 4) 0
+    else true
+
+-- the two together are `allows`
+abbrev pub allows_both : ℕ → List ℕ → Bool
+allows_both number octets = allows_all number octets && every (allows_octet number) octets

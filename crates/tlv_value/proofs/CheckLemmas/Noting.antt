@@ -1,0 +1,74 @@
+-- What is noted of contents in pieces.
+use Rattle.std.proofs.Common.{◌≡◌, ℕ, ◌+◌, ◌-◌, ◌<◌, ◌≤◌, Bool, true, false, List, [], ◌∷◌, ◌++◌, length, take, drop, get_or, refl, sym, ap, ◌∙◌, arith}
+use Rattle.std.specs.List.{list_any}
+use Rattle.std.specs.Prelude.{◌&&◌, ◌||◌, eqb, min, nat_lt}
+use Rattle.std.proofs.lemmas.Bool.Decides.{nat_tests}
+use Rattle.std.proofs.Math.Seq.{take-append-add}
+use Rattle.std.proofs.lemmas.List.{drop_more, take_min}
+use Rattle.std.specs.Str.{is_utf8}
+use Rattle.tlv_value.specs.CheckState.{all_utf8}
+use Rattle.tlv_value.specs.Checks.{allows_octet, every, is_padded_after, last_octet_of}
+
+allows-other : (number x : ℕ) → (number ≡ 18 → ⊥) → (number ≡ 19 → ⊥) → (number ≡ 22 → ⊥) → (number ≡ 26 → ⊥) → allows_octet number x ≡ true
+allows-other number x a b c d =
+    let e18 : eqb number 18 ≡ false = grind (arith, nat_tests) in
+    let e19 : eqb number 19 ≡ false = grind (arith, nat_tests) in
+    let e22 : eqb number 22 ≡ false = grind (arith, nat_tests) in
+    let e26 : eqb number 26 ≡ false = grind (arith, nat_tests) in
+    rw (e18, e19, e22, e26) refl
+
+-- a type that has all octets
+pub every-other : (number : ℕ) (xs : List ℕ) → (number ≡ 18 → ⊥) → (number ≡ 19 → ⊥) → (number ≡ 22 → ⊥) → (number ≡ 26 → ⊥) → every (allows_octet number) xs ≡ true
+every-other number [] a b c d = refl
+every-other number (x ∷ xs) a b c d = rw (allows-other number x a b c d) (every-other number xs a b c d)
+
+-- one octet more
+every-more : (all : Bool) (test : ℕ → Bool) (x : ℕ) (xs : List ℕ) → ((all && test x) && every test xs) ≡ (all && every test (x ∷ xs))
+every-more true test x xs = refl
+every-more false test x xs = refl
+
+pub every-next : (all next : Bool) (test : ℕ → Bool) (xs : List ℕ) (i : ℕ) → i < length xs → next ≡ (all && test (get_or xs i 0))
+    → (all && every test (drop i xs)) ≡ every test xs
+    → (next && every test (drop (i + 1) xs)) ≡ every test xs
+every-next all next test xs i h e k =
+    ap (λ (b : Bool). b && every test (drop (i + 1) xs)) e
+    ∙ every-more all test (get_or xs i 0) (drop (i + 1) xs)
+    ∙ ap (λ (l : List ℕ). all && every test l) (sym (drop_more xs i 0 h)) ∙ k
+
+-- the last octet
+pub last-at : (before x : ℕ) (xs : List ℕ) → last_octet_of before (x ∷ xs) ≡ get_or (x ∷ xs) (length xs) 0
+last-at before x [] = refl
+last-at before x (y ∷ xs) = last-at x y xs
+
+pub last-some : (before : ℕ) (xs : List ℕ) → 1 ≤ length xs → get_or xs (length xs - 1) 0 ≡ last_octet_of before xs
+last-some before [] h = absurd (omega arith)
+last-some before (x ∷ xs) h =
+    let e : length (x ∷ xs) - 1 ≡ length xs = omega arith in
+    rw e (sym (last-at before x xs))
+
+-- a row more, and no row more
+pub and-row : (formed : Bool) (row : List ℕ) (rows all : List (List ℕ)) → all ≡ row ∷ rows → ((formed && is_utf8 row) && all_utf8 rows) ≡ (formed && all_utf8 all)
+and-row true row rows all e = rw e refl
+and-row false row rows all e = refl
+
+pub and-nothing : (formed : Bool) (all : List (List ℕ)) → all ≡ [] → (formed && all_utf8 all) ≡ formed
+and-nothing true all e = rw e refl
+and-nothing false all e = refl
+
+-- as many octets as there is room for
+pub take-room : (front octets : List ℕ) (n room : ℕ) → room + length front ≡ 64 → n ≡ min (length octets) room → front ++ take n octets ≡ take 64 (front ++ octets)
+take-room front octets n room e h =
+    let m : n ≡ min room (length octets) = omega arith in
+    let w : 64 ≡ length front + room = omega arith in
+    ap (λ (t : List ℕ). front ++ t) (ap (λ (k : ℕ). take k octets) m ∙ take_min room octets)
+    ∙ sym (take-append-add front octets room) ∙ ap (λ (k : ℕ). take k (front ++ octets)) (sym w)
+
+-- no octet 80, so none that begins a subidentifier
+not-padded : (begins is other padded : Bool) → (other ≡ false → padded ≡ false) → (is || other) ≡ false → ((begins && is) || padded) ≡ false
+not-padded begins true other padded more e = cc
+not-padded true false other padded more e = more e
+not-padded false false other padded more e = more e
+
+pub no-80 : (before : ℕ) (octets : List ℕ) → list_any (λ x. eqb x 128) octets ≡ false → is_padded_after before octets ≡ false
+no-80 before [] e = refl
+no-80 before (x ∷ xs) e = not-padded (nat_lt before 128) (eqb x 128) (list_any (λ y. eqb y 128) xs) (is_padded_after x xs) (no-80 x xs) e

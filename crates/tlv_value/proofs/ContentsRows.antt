@@ -1,0 +1,80 @@
+-- The definitions on short contents.
+use Rattle.std.proofs.Common.{◌≡◌, true, false, [], ◌∷◌, refl}
+use Rattle.std.specs.Prelude.{Some, None, codes, pos, negsuc}
+use Rattle.tlv_head.specs.declared.header.Class.TheVariants.{Universal, Context}
+use Rattle.tlv_value.specs.declared.finding.Finding.TheVariants.{B08, B11, B12, B15, B19, S02, S03, S04}
+use Rattle.tlv_value.specs.declared.kind.Kind.TheVariants.{Octets, Integer}
+use Rattle.tlv_value.specs.Arcs.{arcs_of, subidentifiers}
+use Rattle.tlv_value.specs.Checks.{findings_on_contents}
+use Rattle.tlv_value.proofs.CheckLemmas.CheckNotes.{with_tag}
+use Rattle.tlv_value.specs.Kind.{kind_of}
+use Rattle.tlv_value.specs.Number.{number_of}
+use Rattle.tlv_value.specs.Rows.{rows_of}
+use Rattle.tlv_value.specs.Times.{canonical_general_time, canonical_utc_time, general_time, has_form, utc_time}
+use Rattle.tlv_value.specs.Value.{used_digits}
+
+enumerated : kind_of Universal 10 ≡ Integer
+enumerated = refl
+
+tagged : kind_of Context 2 ≡ Octets
+tagged = refl
+
+minus-128 : number_of (128 ∷ []) ≡ Some (negsuc 127)
+minus-128 = refl
+
+padded-128 : number_of (0 ∷ 128 ∷ []) ≡ Some (pos 128)
+padded-128 = refl
+
+no-number : number_of [] ≡ None
+no-number = refl
+
+-- 1.2.840
+arcs : arcs_of false (subidentifiers (42 ∷ 134 ∷ 72 ∷ [])) ≡ 1 ∷ 2 ∷ 840 ∷ []
+arcs = refl
+
+-- 2.40
+joint-arcs : arcs_of false (subidentifiers (120 ∷ [])) ≡ 2 ∷ 40 ∷ []
+joint-arcs = refl
+
+three-bits : used_digits 5 (191 ∷ []) ≡ codes " 101"
+three-bits = refl
+
+two-rows : rows_of Octets (1 ∷ 2 ∷ 3 ∷ 4 ∷ 5 ∷ 6 ∷ 7 ∷ 8 ∷ 9 ∷ 10 ∷ 11 ∷ 12 ∷ 13 ∷ 14 ∷ 15 ∷ 16 ∷ 17 ∷ [])
+    ≡ (1 ∷ 2 ∷ 3 ∷ 4 ∷ 5 ∷ 6 ∷ 7 ∷ 8 ∷ 9 ∷ 10 ∷ 11 ∷ 12 ∷ 13 ∷ 14 ∷ 15 ∷ 16 ∷ []) ∷ (17 ∷ []) ∷ []
+two-rows = refl
+
+utc : has_form utc_time (codes "910506234540+0000") ≡ true
+utc = refl
+
+utc-not-canonical : has_form canonical_utc_time (codes "910506234540+0000") ≡ false
+utc-not-canonical = refl
+
+general : has_form general_time (codes "1992072213") ≡ true
+general = refl
+
+general-without-digits : has_form general_time (codes "19920722132100.Z") ≡ false
+general-without-digits = refl
+
+general-canonical : has_form canonical_general_time (codes "19920722132100.3Z") ≡ true
+general-canonical = refl
+
+padded-integer : findings_on_contents (with_tag Universal 2) (0 ∷ 127 ∷ []) ≡ B08 ∷ []
+padded-integer = refl
+
+true-of-one : findings_on_contents (with_tag Universal 1) (1 ∷ []) ≡ S02 ∷ []
+true-of-one = refl
+
+unused-set : findings_on_contents (with_tag Universal 3) (5 ∷ 191 ∷ []) ≡ S03 ∷ []
+unused-set = refl
+
+no-octet : findings_on_contents (with_tag Universal 3) (3 ∷ []) ≡ B15 ∷ []
+no-octet = refl
+
+padded-and-unfinished : findings_on_contents (with_tag Universal 13) (5 ∷ 128 ∷ []) ≡ B11 ∷ B12 ∷ []
+padded-and-unfinished = refl
+
+month-13 : findings_on_contents (with_tag Universal 23) (codes "9113062345Z") ≡ B19 ∷ []
+month-13 = refl
+
+without-seconds : findings_on_contents (with_tag Universal 23) (codes "9105062345Z") ≡ S04 ∷ []
+without-seconds = refl

@@ -1,0 +1,4 @@
+pub mod Reads
+pub mod Standing
+pub mod Tables
+pub mod Texts

@@ -1,0 +1,266 @@
+-- Texts of a names file, octet by octet.
+use Rattle.std.proofs.Common.{◌≡◌, ℕ, suc, ◌+◌, ◌-◌, ◌*◌, ◌^◌, ◌<◌, ◌≤◌, ◌==◌, Bool, true, false, ◌&&◌, ◌||◌, not, cond, List, [], ◌∷◌, ◌++◌, length, map, take, drop, get_or, refl, sym, ap, subst, ◌∙◌, arith, inl, inr}
+use Rattle.std.specs.Prelude.{nat_le, nat_lt, slice_index}
+use Rattle.std.specs.List.{list_all, position_or_len, before_first, after_first}
+use Rattle.std.specs.List as std_list
+use Rattle.std.proofs.Math.Nat.{pow-succ', one-le-pow, mul-le-mul}
+use Rattle.std.proofs.lemmas.Bool.{or_cases, cases_lt, and_parts, and_from, and_left, and_right, leb-true, lt-leb, le-leb, eqb-true, eqb-false, ne_eqb, not-true, le-ltb}
+use Rattle.std.proofs.lemmas.List.{take_all, take_more, take_rest}
+use Rattle.std.proofs.lemmas.List.Splits.{slice_split_first}
+use Rattle.std.specs.List.{onto_first}
+use Rattle.tlv_value.specs.Names.{are_first_arcs, decimal_number, dotted_parts, entry, entry_line, is_arc, is_arc_digit, is_blank, is_dotted, is_name, lines, may_begin, names_line, no_name, pair_line, without_first_blanks, without_last_blanks, without_outer_blanks, without_return}
+
+abbrev is_mark : ℕ → ℕ → Bool
+is_mark mark x = x == mark
+
+take-more : (n x : ℕ) (xs : List ℕ) → take (1 + n) (x ∷ xs) ≡ x ∷ take n xs
+take-more n x xs = let e : 1 + n ≡ suc n = omega arith in rw e refl
+
+drop-more : (n x : ℕ) (xs : List ℕ) → drop (1 + n + 1) (x ∷ xs) ≡ drop (n + 1) xs
+drop-more n x xs = let e : 1 + n + 1 ≡ suc (n + 1) = omega arith in rw e refl
+
+drop-one : (n x : ℕ) (xs : List ℕ) → drop (1 + n) (x ∷ xs) ≡ drop n xs
+drop-one n x xs = let e : 1 + n ≡ suc n = omega arith in rw e refl
+
+-- the first line ends before the first LF
+
+line-at : (b : Bool) (x n : ℕ) (xs : List ℕ) → onto_first x (lines xs) ≡ (x ∷ take n xs) ∷ lines (drop (n + 1) xs)
+    → cond b ([] ∷ lines xs) (onto_first x (lines xs)) ≡ take (cond (not b) (1 + n) 0) (x ∷ xs) ∷ lines (drop (cond (not b) (1 + n) 0 + 1) (x ∷ xs))
+line-at true x n xs h = refl
+line-at false x n xs h = rw (take-more n x xs, drop-more n x xs) h
+
+pub first_line : (xs : List ℕ) → 0 < length xs → lines xs ≡ before_first (is_mark 10) xs ∷ lines (after_first (is_mark 10) xs)
+first_line [] some = absurd (omega arith)
+first_line (x ∷ []) some = line-at (x == 10) x 0 [] refl
+first_line (x ∷ y ∷ ys) some =
+    line-at (x == 10) x (position_or_len (is_mark 10) (y ∷ ys)) (y ∷ ys) (ap (onto_first x) (first_line (y ∷ ys) (omega arith)))
+
+-- the blanks behind the first of them
+
+blanks-at : (b : Bool) (x n : ℕ) (xs : List ℕ) → is_blank x ≡ b → without_first_blanks (drop n xs) ≡ without_first_blanks (drop (n + 1) xs)
+    → without_first_blanks (drop (cond (not b) (1 + n) 0) (x ∷ xs)) ≡ without_first_blanks (drop (cond (not b) (1 + n) 0 + 1) (x ∷ xs))
+blanks-at true x n xs e h = rw e refl
+blanks-at false x n xs e h = rw (drop-one n x xs, drop-more n x xs) h
+
+pub blanks_from_first : (xs : List ℕ) → without_first_blanks (drop (position_or_len is_blank xs) xs) ≡ without_first_blanks (after_first is_blank xs)
+blanks_from_first [] = refl
+blanks_from_first (x ∷ xs) = blanks-at (is_blank x) x (position_or_len is_blank xs) xs refl (blanks_from_first xs)
+
+-- blanks at the end
+
+all-push : (xs : List ℕ) (x : ℕ) → list_all is_blank (xs ++ x ∷ []) ≡ (list_all is_blank xs && is_blank x)
+all-push [] x = elim (is_blank x) as (λ b. (b && true) ≡ (true && b)) [ true ↦ refl | false ↦ refl ]
+all-push (y ∷ xs) x = elim (is_blank y) as (λ b. (b && list_all is_blank (xs ++ x ∷ [])) ≡ ((b && list_all is_blank xs) && is_blank x)) [ true ↦ all-push xs x | false ↦ refl ]
+
+pub last_blank : (xs : List ℕ) (x : ℕ) → is_blank x ≡ true → without_last_blanks (xs ++ x ∷ []) ≡ without_last_blanks xs
+last_blank [] x e = rw e refl
+last_blank (y ∷ xs) x e =
+    let same : list_all is_blank (xs ++ x ∷ []) ≡ list_all is_blank xs = all-push xs x ∙ rw e (elim (list_all is_blank xs) as (λ b. (b && true) ≡ b) [ true ↦ refl | false ↦ refl ]) in
+    rw (same, last_blank xs x e) refl
+
+pub last_no_blank : (xs : List ℕ) (x : ℕ) → is_blank x ≡ false → without_last_blanks (xs ++ x ∷ []) ≡ xs ++ x ∷ []
+last_no_blank [] x e = rw e refl
+last_no_blank (y ∷ xs) x e =
+    let some : list_all is_blank (xs ++ x ∷ []) ≡ false = all-push xs x ∙ and_right (list_all is_blank xs) (is_blank x) e in
+    rw (some, and_right (is_blank y) false refl, last_no_blank xs x e) refl
+
+-- the arcs between dots
+
+pub one_part : (xs : List ℕ) → length xs ≤ position_or_len (is_mark 46) xs → dotted_parts xs ≡ xs ∷ []
+one_part [] h = refl
+one_part (x ∷ xs) h =
+    elim (x == 46) as (λ b. suc (length xs) ≤ cond (not b) (1 + position_or_len (is_mark 46) xs) 0 → cond b ([] ∷ dotted_parts xs) (std_list.onto_first x (dotted_parts xs)) ≡ (x ∷ xs) ∷ []) [
+      | true ↦ λ g. absurd (omega arith)
+      | false ↦ λ g. ap (std_list.onto_first x) (one_part xs (omega arith))
+    ] h
+
+pub front_part : (xs : List ℕ) → (more : List (List ℕ)) × (dotted_parts xs ≡ before_first (is_mark 46) xs ∷ more)
+front_part [] = ([], refl)
+front_part (x ∷ xs) =
+    let rest = front_part xs in
+    elim (x == 46) as (λ b. (more : List (List ℕ)) × (cond b ([] ∷ dotted_parts xs) (std_list.onto_first x (dotted_parts xs)) ≡ take (cond (not b) (1 + position_or_len (is_mark 46) xs) 0) (x ∷ xs) ∷ more)) [
+      | true ↦ (dotted_parts xs, refl)
+      | false ↦ (rest.0, rw (take-more (position_or_len (is_mark 46) xs) x xs) (ap (std_list.onto_first x) rest.1))
+    ]
+
+pub no_arc : (xs : List ℕ) → is_arc (before_first (is_mark 46) xs) ≡ false → list_all is_arc (dotted_parts xs) ≡ false
+no_arc xs h =
+    let front = front_part xs in
+    let e : dotted_parts xs ≡ before_first (is_mark 46) xs ∷ front.0 = front.1 in
+    rw e (and_left (is_arc (before_first (is_mark 46) xs)) (list_all is_arc front.0) h)
+
+pub last_arc : (xs : List ℕ) → length xs ≤ position_or_len (is_mark 46) xs → is_arc xs ≡ true → list_all is_arc (dotted_parts xs) ≡ true
+last_arc xs h a = let e : dotted_parts xs ≡ xs ∷ [] = one_part xs h in rw e (and_from (is_arc xs) true a refl)
+
+pub more_parts : (xs : List ℕ) → position_or_len (is_mark 46) xs < length xs → dotted_parts xs ≡ before_first (is_mark 46) xs ∷ dotted_parts (after_first (is_mark 46) xs)
+more_parts xs h = slice_split_first (is_mark 46) xs 0 h
+
+pub more_arcs : (xs : List ℕ) → position_or_len (is_mark 46) xs < length xs → is_arc (before_first (is_mark 46) xs) ≡ true
+    → list_all is_arc (dotted_parts xs) ≡ list_all is_arc (dotted_parts (after_first (is_mark 46) xs))
+more_arcs xs h a = let e : dotted_parts xs ≡ before_first (is_mark 46) xs ∷ dotted_parts (after_first (is_mark 46) xs) = more_parts xs h in rw (e, a) refl
+
+-- what is known of an arc
+pub some_digit : (arc : List ℕ) → is_arc arc ≡ true → 0 < length arc
+some_digit [] h = absurd (cc)
+some_digit (d ∷ ds) h = omega arith
+
+arc-parts : (arc : List ℕ) → is_arc arc ≡ true → (list_all is_arc_digit arc ≡ true) × (((length arc == 1) || not (slice_index arc 0 == 48)) ≡ true)
+arc-parts arc h =
+    let outer = and_parts (not (length arc == 0) && list_all is_arc_digit arc) ((length arc == 1) || not (slice_index arc 0 == 48)) h in
+    ((and_parts (not (length arc == 0)) (list_all is_arc_digit arc) outer.0).1, outer.1)
+
+digit-between : (x : ℕ) → is_arc_digit x ≡ true → (48 ≤ x) × (x ≤ 57)
+digit-between x h = let both = and_parts (nat_le 48 x) (nat_le x 57) h in (leb-true 48 x both.0, leb-true x 57 both.1)
+
+record LongArc (d e : ℕ) : Type 0 where
+  first_low : 49 ≤ d
+  first_high : d ≤ 57
+  second_low : 48 ≤ e
+  second_high : e ≤ 57
+
+long-arc : (d e : ℕ) (ds : List ℕ) → is_arc (d ∷ e ∷ ds) ≡ true → LongArc d e
+long-arc d e ds h =
+    let known = arc-parts (d ∷ e ∷ ds) h in
+    let all = and_parts (is_arc_digit d) (is_arc_digit e && list_all is_arc_digit ds) known.0 in
+    let more = and_parts (is_arc_digit e) (list_all is_arc_digit ds) all.1 in
+    let one = digit-between d all.0 in
+    let two = digit-between e more.0 in
+    let low : 49 ≤ d = elim (or_cases (length (d ∷ e ∷ ds) == 1) (not (d == 48)) known.1) [
+      | inl p ↦ let q : length (d ∷ e ∷ ds) ≡ 1 = eqb-true (length (d ∷ e ∷ ds)) 1 p in absurd (omega arith)
+      | inr p ↦ let q : d ≡ 48 → ⊥ = eqb-false d 48 (not-true (d == 48) p) in let r : 48 ≤ d = one.0 in omega arith
+    ] in
+    record { first_low = low; first_high = one.1; second_low = two.0; second_high = two.1 }
+
+-- a number of one, two and more digits
+
+pub forty_of_two : (arc : List ℕ) → is_arc arc ≡ true → length arc ≡ 2 → nat_le (get_or arc 0 0) 51 ≡ nat_le (decimal_number arc) 39
+forty_of_two [] a h = absurd (omega arith)
+forty_of_two (d ∷ []) a h = absurd (omega arith)
+forty_of_two (d ∷ e ∷ []) a h =
+    let known = long-arc d e [] a in
+    let low : 49 ≤ d = known.first_low in
+    let e_low : 48 ≤ e = known.second_low in
+    let e_high : e ≤ 57 = known.second_high in
+    elim (cases_lt 51 d) [
+      | inl p ↦ lt-leb d 51 p ∙ sym (lt-leb (decimal_number (d ∷ e ∷ [])) 39 (omega arith))
+      | inr p ↦ le-leb d 51 p ∙ sym (le-leb (decimal_number (d ∷ e ∷ [])) 39 (omega arith))
+    ]
+forty_of_two (d ∷ e ∷ f ∷ ds) a h = absurd (omega arith)
+
+large : (d p : ℕ) → 49 ≤ d → 1 ≤ p → 10 ≤ (d - 48) * (10 * p)
+large d p h q =
+    let a : 1 ≤ d - 48 = omega arith in
+    let b : 10 ≤ 10 * p = omega arith in
+    mul-le-mul a b
+
+larger : (d p : ℕ) → 49 ≤ d → 1 ≤ p → 100 ≤ (d - 48) * (10 * (10 * p))
+larger d p h q =
+    let a : 1 ≤ d - 48 = omega arith in
+    let b : 100 ≤ 10 * (10 * p) = omega arith in
+    mul-le-mul a b
+
+pub ten_of_more : (arc : List ℕ) → is_arc arc ≡ true → 1 < length arc → 10 ≤ decimal_number arc
+ten_of_more [] a h = absurd (omega arith)
+ten_of_more (d ∷ []) a h = absurd (omega arith)
+ten_of_more (d ∷ e ∷ ds) a h =
+    let n = length (map (λ x. x - 48) ds) in
+    let low : 1 ≤ 10 ^ n = one-le-pow n 10 (omega arith) in
+    let same : 10 ^ suc n ≡ 10 * 10 ^ n = pow-succ' 10 n in
+    let more : 10 ≤ (d - 48) * 10 ^ suc n = rw same (large d (10 ^ n) (long-arc d e ds a).first_low low) in
+    omega (arith, more)
+
+pub forty_of_more : (arc : List ℕ) → is_arc arc ≡ true → 2 < length arc → nat_le (decimal_number arc) 39 ≡ false
+forty_of_more [] a h = absurd (omega arith)
+forty_of_more (d ∷ []) a h = absurd (omega arith)
+forty_of_more (d ∷ e ∷ []) a h = absurd (omega arith)
+forty_of_more (d ∷ e ∷ f ∷ ds) a h =
+    let n = length (map (λ x. x - 48) ds) in
+    let low : 1 ≤ 10 ^ n = one-le-pow n 10 (omega arith) in
+    let same : 10 ^ suc (suc n) ≡ 10 * (10 * 10 ^ n) = pow-succ' 10 (suc n) ∙ ap (λ m. 10 * m) (pow-succ' 10 n) in
+    let more : 100 ≤ (d - 48) * 10 ^ suc (suc n) = rw same (larger d (10 ^ n) (long-arc d e (f ∷ ds) a).first_low low) in
+    lt-leb (decimal_number (d ∷ e ∷ f ∷ ds)) 39 (omega (arith, more))
+
+pub three_of_one : (arc : List ℕ) → length arc ≤ 1 → 50 < get_or arc 0 0 → 3 ≤ decimal_number arc
+three_of_one [] h g = absurd (omega arith)
+three_of_one (d ∷ []) h g = omega arith
+three_of_one (d ∷ e ∷ ds) h g = absurd (omega arith)
+
+pub no_first : (first second : List ℕ) → 3 ≤ decimal_number first → may_begin first second ≡ false
+no_first first second h =
+    let other : (decimal_number first == 2) ≡ false = ne_eqb (decimal_number first) 2 (λ e. omega arith) in
+    let high : nat_lt (decimal_number first) 2 ≡ false = le-ltb (decimal_number first) 2 (omega arith) in
+    rw (other, high) refl
+
+-- where the first part of a text ends
+
+pub front_no_arc : (xs : List ℕ) (end : ℕ) → end ≡ position_or_len (is_mark 46) xs → is_arc (take end xs) ≡ false → list_all is_arc (dotted_parts xs) ≡ false
+front_no_arc xs end e h = no_arc xs (subst (λ n. is_arc (take n xs) ≡ false) e h)
+
+pub front_arc : (xs : List ℕ) (end : ℕ) → end ≡ position_or_len (is_mark 46) xs → list_all is_arc (dotted_parts xs) ≡ true → is_arc (take end xs) ≡ true
+front_arc xs end e h =
+    let front = front_part xs in
+    let all : list_all is_arc (before_first (is_mark 46) xs ∷ front.0) ≡ true = subst (λ (ps : List (List ℕ)). list_all is_arc ps ≡ true) front.1 h in
+    subst (λ n. is_arc (take n xs) ≡ true) (sym e) (and_parts (is_arc (before_first (is_mark 46) xs)) (list_all is_arc front.0) all).0
+
+pub whole_arc : (xs : List ℕ) (end : ℕ) → end ≡ position_or_len (is_mark 46) xs → end ≡ length xs → is_arc (take end xs) ≡ true → list_all is_arc (dotted_parts xs) ≡ true
+whole_arc xs end e l h =
+    let all : take end xs ≡ xs = take_all end xs (omega arith) in
+    last_arc xs (omega arith) (subst (λ (ys : List ℕ). is_arc ys ≡ true) all h)
+
+pub rest_arcs : (xs : List ℕ) (end : ℕ) → end ≡ position_or_len (is_mark 46) xs → end < length xs → is_arc (take end xs) ≡ true
+    → list_all is_arc (dotted_parts xs) ≡ list_all is_arc (dotted_parts (drop (end + 1) xs))
+rest_arcs xs end e l h =
+    more_arcs xs (omega arith) (subst (λ n. is_arc (take n xs) ≡ true) e h) ∙ ap (λ n. list_all is_arc (dotted_parts (drop (n + 1) xs))) (sym e)
+
+pub one_part_alone : (xs : List ℕ) (end : ℕ) → end ≡ position_or_len (is_mark 46) xs → end ≡ length xs → are_first_arcs (dotted_parts xs) ≡ false
+one_part_alone xs end e l = ap are_first_arcs (one_part xs (omega arith))
+
+pub two_parts : (xs : List ℕ) (end next : ℕ) → end ≡ position_or_len (is_mark 46) xs → end < length xs → next ≡ position_or_len (is_mark 46) (drop (end + 1) xs)
+    → may_begin (take end xs) (take next (drop (end + 1) xs)) ≡ are_first_arcs (dotted_parts xs)
+two_parts xs end next e l f =
+    let first : dotted_parts xs ≡ take end xs ∷ dotted_parts (drop (end + 1) xs) = more_parts xs (omega arith) ∙ ap (λ n. take n xs ∷ dotted_parts (drop (n + 1) xs)) (sym e) in
+    let second = front_part (drop (end + 1) xs) in
+    let both : dotted_parts (drop (end + 1) xs) ≡ take next (drop (end + 1) xs) ∷ second.0 = second.1 ∙ ap (λ n. take n (drop (end + 1) xs) ∷ second.0) (sym f) in
+    sym (ap are_first_arcs (first ∙ ap (λ (ps : List (List ℕ)). take end xs ∷ ps) both))
+
+-- blanks taken from the end
+
+one-more : (xs : List ℕ) (end : ℕ) → 0 < end → end ≤ length xs → take end xs ≡ take (end - 1) xs ++ get_or xs (end - 1) 0 ∷ []
+one-more xs end h l =
+    let e : end - 1 + 1 ≡ end = omega arith in
+    ap (λ n. take n xs) (sym e) ∙ take_more xs (end - 1) 0 (omega arith)
+
+pub shorter_end : (xs : List ℕ) (end : ℕ) → 0 < end → end ≤ length xs → is_blank (get_or xs (end - 1) 0) ≡ true
+    → without_last_blanks (take end xs) ≡ without_last_blanks (take (end - 1) xs)
+shorter_end xs end h l b = ap without_last_blanks (one-more xs end h l) ∙ last_blank (take (end - 1) xs) (get_or xs (end - 1) 0) b
+
+pub last_end : (xs : List ℕ) (end : ℕ) → 0 < end → end ≤ length xs → is_blank (get_or xs (end - 1) 0) ≡ false → without_last_blanks (take end xs) ≡ take end xs
+last_end xs end h l b = ap without_last_blanks (one-more xs end h l) ∙ last_no_blank (take (end - 1) xs) (get_or xs (end - 1) 0) b ∙ sym (one-more xs end h l)
+
+pub empty_end : (xs : List ℕ) (end : ℕ) → end ≡ 0 → without_last_blanks (take end xs) ≡ take end xs
+empty_end xs end e = rw e refl
+
+-- what a line says that is not blank
+
+full_text : (text : List ℕ) → 0 < length text → (get_or text 0 0 ≡ 35 → ⊥)
+    → entry_line text ≡ pair_line (before_first is_blank text) (without_first_blanks (after_first is_blank text))
+full_text [] some mark = absurd (omega arith)
+full_text (x ∷ xs) some mark = let e : (x == 35) ≡ false = ne_eqb x 35 mark in rw e refl
+
+pub full_line : (line text : List ℕ) (end : ℕ) → length line ≤ 400 → text ≡ without_outer_blanks (without_return line) → 0 < length text → (get_or text 0 0 ≡ 35 → ⊥)
+    → end ≡ position_or_len is_blank text → names_line line ≡ pair_line (take end text) (without_first_blanks (drop end text))
+full_line line text end h e some mark at =
+    let short : nat_lt 400 (length line) ≡ false = le-ltb 400 (length line) h in
+    rw (short, ← e, at, blanks_from_first text) (full_text text some mark)
+
+pub full_pair : (line text name : List ℕ) (end : ℕ) → length line ≤ 400 → text ≡ without_outer_blanks (without_return line) → (length text == 0) ≡ false → (get_or text 0 0 ≡ 35 → ⊥)
+    → end ≡ position_or_len is_blank text → name ≡ without_first_blanks (take (length text - end) (drop end text)) → names_line line ≡ pair_line (take end text) name
+full_pair line text name end h e some mark at n =
+    let nonempty : length text ≡ 0 → ⊥ = eqb-false (length text) 0 some in
+    full_line line text end h e (omega arith) mark at ∙ ap (pair_line (take end text)) (sym (n ∙ ap without_first_blanks (take_rest text end)))
+
+pub no_name_pair : (dotted name : List ℕ) → is_dotted dotted ≡ true → is_name name ≡ false → pair_line dotted name ≡ no_name
+no_name_pair dotted name d n = rw (d, n) refl
+
+pub named_pair : (dotted name : List ℕ) → is_dotted dotted ≡ true → is_name name ≡ true → pair_line dotted name ≡ entry dotted name
+named_pair dotted name d n = rw (d, n) refl

@@ -1,0 +1,150 @@
+-- Full rows of pairs of digits, from where their octets stand.
+use Rattle.std.proofs.Common.{◌≡◌, inl, ℕ, zero, suc, ◌+◌, ◌-◌, ◌*◌, ◌/◌, ◌<◌, ◌≤◌, false, true, List, [], ◌∷◌, ◌++◌, length, take, drop, get_or, refl, sym, ap, ap₂, ◌∙◌, arith, append_assoc, append-nil, length-append, length-drop, take-append-drop}
+use Rattle.std.specs.Prelude.{None, eqb}
+use Rattle.std.proofs.lemmas.Bool.Decides.{nat_tests}
+use Rattle.std.proofs.lemmas.List.{drop-drop, replicate_more, take_more}
+use Rattle.std.proofs.lemmas.Grind.{flat_map-append}
+use Rattle.std.specs.Simd.{first_chunks}
+use Rattle.tlv_value.specs.declared.kind.Kind.{Kind}
+use Rattle.tlv_value.specs.declared.kind.Kind.TheVariants.{Octets, Boolean, Integer, Bits, Object, Relative, Text, Utf8, Ucs2, Ucs4}
+use Rattle.tlv_value.specs.declared.layout.Layout.{Layout}
+use Rattle.tlv_value.specs.Kind.{is_text}
+use Rattle.tlv_value.specs.Layout.{margin, no_columns, row_line, spaces}
+use Rattle.tlv_value.specs.Private.Room.{HaveRoom}
+use Rattle.tlv_value.specs.Private.Rows.{full_line, full_lines}
+use Rattle.tlv_value.specs.Rows.{character_length, full_rows, last_rows, open_row, row_size, rows_of}
+use Rattle.tlv_value.specs.TextState.{row_lines}
+use Rattle.tlv_value.specs.Value.{row_text, spaced_pairs}
+use Rattle.tlv_value.proofs.TextLemmas.Puts.{row_lines-append}
+use Rattle.tlv_value.proofs.RowLemmas.RowSteps.{keep, turn}
+use Rattle.tlv_value.proofs.RowLemmas.RowsFrom.{rows-whole}
+
+-- ---- kinds whose rows have 16 octets
+
+not_text : (kind : Kind) → row_size kind ≡ 16 → is_text kind ≡ false
+not_text Octets e = refl
+not_text Boolean e = refl
+not_text Integer e = refl
+not_text Bits e = refl
+not_text Object e = refl
+not_text Relative e = refl
+not_text Text e = absurd (omega (arith, e))
+not_text Utf8 e = absurd (omega (arith, e))
+not_text Ucs2 e = absurd (omega (arith, e))
+not_text Ucs4 e = absurd (omega (arith, e))
+
+one_each : (kind : Kind) (x : ℕ) → row_size kind ≡ 16 → character_length kind x ≡ 1
+one_each Octets x e = refl
+one_each Boolean x e = refl
+one_each Integer x e = refl
+one_each Bits x e = refl
+one_each Object x e = refl
+one_each Relative x e = refl
+one_each Text x e = refl
+one_each Utf8 x e = absurd (omega (arith, e))
+one_each Ucs2 x e = refl
+one_each Ucs4 x e = refl
+
+module _ (kind : Kind) (short : row_size kind ≡ 16) where
+  room : (n : ℕ) (octets : List ℕ) → n ≤ 16 → HaveRoom kind 0 octets n
+  room n octets few i h = rw (one_each kind (get_or octets i 0) short, short) (grind (arith, nat_tests))
+
+  first_row : (octets : List ℕ) → 16 ≤ length octets → (full_rows kind [] octets ≡ take 16 octets ∷ full_rows kind [] (drop 16 octets)) × (open_row kind [] octets ≡ open_row kind [] (drop 16 octets))
+  first_row octets h = turn kind [] 16 octets (room 16 octets (omega arith)) (omega (arith, short)) h (omega (arith, short)) (inl (omega (arith, short)))
+
+  -- so many rows
+  rows_first : (n : ℕ) (octets : List ℕ) → n * 16 ≤ length octets
+      → (full_rows kind [] octets ≡ first_chunks 16 n octets ++ full_rows kind [] (drop (n * 16) octets)) × (open_row kind [] octets ≡ open_row kind [] (drop (n * 16) octets))
+  rows_first zero octets h = (refl, refl)
+  rows_first (suc n) octets h =
+      let t = first_row octets (omega (arith, h)) in
+      let more = rows_first n (drop 16 octets) (omega (arith, h, length-drop 16 octets)) in
+      let e : drop (n * 16) (drop 16 octets) ≡ drop (suc n * 16) octets = drop-drop (n * 16) 16 octets ∙ ap (λ (k : ℕ). drop k octets) (omega arith) in
+      (t.0 ∙ ap (λ (l : List (List ℕ)). take 16 octets ∷ l) (more.0 ∙ ap (λ (l : List ℕ). first_chunks 16 n (drop 16 octets) ++ full_rows kind [] l) e), t.1 ∙ more.1 ∙ ap (open_row kind []) e)
+
+  -- all rows: the full ones, and the last
+  pub rows_cut : (octets : List ℕ) → rows_of kind octets ≡ first_chunks 16 (length octets / 16) octets ++ last_rows (drop (length octets / 16 * 16) octets)
+  rows_cut octets =
+      let n : ℕ = length octets / 16 in
+      let more : List ℕ = drop (n * 16) octets in
+      let l : length more < 16 = omega (arith, length-drop (n * 16) octets) in
+      let t = rows_first n octets (omega arith) in
+      let k = keep kind [] more (room (length more) more (omega (arith, l))) (omega (arith, l, short)) in
+      rows-whole kind octets
+      ∙ ap (λ (r : List (List ℕ)). r ++ last_rows (open_row kind [] octets)) (t.0 ∙ ap (λ (r : List (List ℕ)). first_chunks 16 n octets ++ r) k.0 ∙ append-nil (first_chunks 16 n octets))
+      ∙ ap (λ (r : List ℕ). first_chunks 16 n octets ++ last_rows r) (t.1 ∙ k.1)
+
+  module _ (layout : Layout) (endless : layout.limit ≡ None) where
+    -- their lines, where there is no limit to rows
+    lines_of : (i : ℕ) (rows : List (List ℕ)) → row_lines kind layout i rows ≡ full_lines layout rows
+    lines_of i [] = refl
+    lines_of i (row ∷ rows) =
+        let one : row_line layout i (row_text kind row) ≡ full_line layout row = rw (endless, not_text kind short) refl in
+        ap₂ (λ (k l : List ℕ). k ++ l) one (lines_of (i + 1) rows)
+
+    -- the full rows of octets, and what is left of them
+    abbrev pub Turned : ℕ → List ℕ → List (List ℕ) → List ℕ → Type 0
+    Turned i octets rows more = (row_lines kind layout i (full_rows kind [] octets) ≡ full_lines layout rows ++ row_lines kind layout (i + length rows) (full_rows kind [] more))
+        × (open_row kind [] octets ≡ open_row kind [] more) × (length (full_rows kind [] octets) ≡ length rows + length (full_rows kind [] more))
+
+    pub rows_turned : (i : ℕ) (octets : List ℕ) (rows : List (List ℕ)) (more : List ℕ) → rows ≡ first_chunks 16 (length octets / 16) octets → more ≡ drop (length octets / 16 * 16) octets → Turned i octets rows more
+    rows_turned i octets rows more e f =
+        let t = rows_first (length octets / 16) octets (omega arith) in
+        let all : full_rows kind [] octets ≡ rows ++ full_rows kind [] more = rw (e, f) t.0 in (
+          ap (row_lines kind layout i) all ∙ row_lines-append kind layout i rows (full_rows kind [] more) ∙ ap (λ (l : List ℕ). l ++ row_lines kind layout (i + length rows) (full_rows kind [] more)) (lines_of i rows),
+          rw f t.1,
+          ap length all ∙ length-append rows (full_rows kind [] more),
+        )
+
+-- the lines of all rows, where there is no limit to them
+pub pair_lines : (kind : Kind) → row_size kind ≡ 16 → (layout : Layout) → layout.limit ≡ None → (octets : List ℕ) → full_lines layout (rows_of Octets octets) ≡ row_lines kind layout 0 (rows_of kind octets)
+pair_lines kind short layout endless octets =
+    ap (full_lines layout) (rows_cut Octets refl octets ∙ sym (rows_cut kind short octets)) ∙ sym (lines_of kind short layout endless 0 (rows_of kind octets))
+
+-- ---- the line of a full row
+
+-- pairs behind a space, and with spaces between them
+pairs_joined : (x : ℕ) (xs : List ℕ) → spaced_pairs (x ∷ xs) ≡ 32 ∷ row_text Octets (x ∷ xs)
+pairs_joined x xs = refl
+
+pub full_line_added : (layout : Layout) (old row : List ℕ) (n : ℕ) → spaces n ≡ margin layout.pure no_columns (layout.level + 1) → 2 ≤ n → length row ≡ 16
+    → old ++ spaces (n - 1) ++ spaced_pairs row ++ 10 ∷ [] ≡ old ++ full_line layout row
+full_line_added layout old [] n e some whole = absurd (omega (arith, whole))
+full_line_added layout old (x ∷ xs) n e some whole =
+    let text : List ℕ = row_text Octets (x ∷ xs) in
+    let before : spaces (n - 1) ++ 32 ∷ [] ≡ margin layout.pure no_columns (layout.level + 1) = replicate_more (n - 1) 32 ∙ ap spaces (omega (arith, some)) ∙ e in
+    ap (λ (l : List ℕ). old ++ spaces (n - 1) ++ l ++ 10 ∷ []) (pairs_joined x xs)
+    ∙ joined (spaces (n - 1)) text
+    ∙ ap (λ (l : List ℕ). old ++ (l ++ text ++ 10 ∷ [])) before
+  where
+    joined : (front text : List ℕ) → old ++ front ++ (32 ∷ text) ++ 10 ∷ [] ≡ old ++ (front ++ 32 ∷ [] ++ text ++ 10 ∷ [])
+    joined front text = simp append_assoc refl
+
+-- the lines of the full rows, and that of the last
+pub lines_cut : (layout : Layout) (octets : List ℕ) (rows : List (List ℕ)) (more : List ℕ) → rows ≡ first_chunks 16 (length octets / 16) octets → more ≡ drop (length octets / 16 * 16) octets
+    → full_lines layout rows ++ full_lines layout (last_rows more) ≡ full_lines layout (rows_of Octets octets)
+lines_cut layout octets rows more e f =
+    sym (flat_map-append (full_line layout) rows (last_rows more)) ∙ ap (full_lines layout) (rw (e, f) (sym (rows_cut Octets refl octets)))
+
+-- the line of the last, where there is one
+pub last_line : (layout : Layout) (row : List ℕ) → eqb (length row) 0 ≡ false → full_line layout row ≡ full_lines layout (last_rows row)
+last_line layout [] some = absurd (grind (arith, nat_tests))
+last_line layout (x ∷ xs) some = sym (append-nil (full_line layout (x ∷ xs)))
+
+pub no_last_line : (layout : Layout) (front row : List ℕ) → eqb (length row) 0 ≡ true → front ≡ front ++ full_lines layout (last_rows row)
+no_last_line layout front [] none = sym (append-nil front)
+no_last_line layout front (x ∷ xs) none = absurd (grind (arith, nat_tests))
+
+-- ---- line by line
+
+module _ (layout : Layout) where
+  -- one more
+  pub lines_more : (rows : List (List ℕ)) (i : ℕ) → i < length rows → full_lines layout (take i rows) ++ full_line layout (get_or rows i []) ≡ full_lines layout (take (i + 1) rows)
+  lines_more rows i h =
+      sym (ap (full_lines layout) (take_more rows i [] h)
+      ∙ flat_map-append (full_line layout) (take i rows) (get_or rows i [] ∷ [])
+      ∙ ap (λ (l : List ℕ). full_lines layout (take i rows) ++ l) (append-nil (full_line layout (get_or rows i []))))
+
+  -- and those behind
+  pub lines_split : (rows : List (List ℕ)) (i : ℕ) → full_lines layout (take i rows) ++ full_lines layout (drop i rows) ≡ full_lines layout rows
+  lines_split rows i = sym (flat_map-append (full_line layout) (take i rows) (drop i rows)) ∙ ap (full_lines layout) (take-append-drop i rows)

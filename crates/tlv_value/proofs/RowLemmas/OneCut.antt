@@ -1,0 +1,103 @@
+-- Contents are cut into rows in one way alone.
+use Rattle.std.proofs.Common.{◌≡◌, inl, inr, ℕ, ◌+◌, ◌<◌, ◌≤◌, Bool, true, false, List, [], ◌∷◌, ◌++◌, length, get_or, refl, sym, ap, ◌∙◌, arith, append-nil, length-append}
+use Rattle.std.proofs.Math.Seq.{drop-append_seam, get_or-append_seam, take-append_seam}
+use Rattle.std.proofs.lemmas.Bool.{eqb-true}
+use Rattle.std.proofs.lemmas.Bool.Decides.{nat_tests}
+use Rattle.std.proofs.lemmas.List.{get_or_append_left}
+use Rattle.std.specs.Prelude.{eqb, if◌then◌else◌}
+use Rattle.tlv_value.specs.declared.kind.Kind.{Kind}
+use Rattle.tlv_value.specs.Cuts.{AreFull, AreRows, FullRowsAreOfTheCut, IsFull, IsRow, RowsHaveOneCut, full_ones, octets_of_rows}
+use Rattle.tlv_value.specs.Private.Room.{HaveRoom}
+use Rattle.tlv_value.specs.Rows.{full_rows, last_rows, open_row, row_size}
+use Rattle.tlv_value.proofs.RowLemmas.Cutting.{nil-or, size-some}
+use Rattle.tlv_value.proofs.RowLemmas.RowsFrom.{rows-full, rows-whole}
+use Rattle.tlv_value.proofs.RowLemmas.RowSteps.{IsFilled, keep, turn}
+
+last-row : (row : List ℕ) → 1 ≤ length row → last_rows row ≡ row ∷ []
+last-row [] h = absurd (omega arith)
+last-row (x ∷ row) h = refl
+
+module _ (kind : Kind) where
+  has-octet : (row : List ℕ) → IsRow kind row → 1 ≤ length row
+  has-octet row r = nil-or row r.some
+
+  -- each octet of a row has room behind those before it
+  row-room : (row rest : List ℕ) → IsRow kind row → HaveRoom kind 0 (row ++ rest) (length row)
+  row-room row rest r i h =
+      let same : get_or (row ++ rest) i 0 ≡ get_or row i 0 = get_or_append_left row rest 0 i h in
+      let room = r.whole i h in
+      rw same (grind (arith, nat_tests))
+
+  abbrev IsCutAs : List ℕ → List (List ℕ) → Type 0
+  IsCutAs octets rows = full_rows kind [] octets ++ last_rows (open_row kind [] octets) ≡ rows
+
+  -- a row that is full, and the rows of the octets behind it
+  cut-full : (row rest : List ℕ) (rows : List (List ℕ)) → IsRow kind row → IsFilled kind [] (length row) (row ++ rest) → IsCutAs rest rows → IsCutAs (row ++ rest) (row ∷ rows)
+  cut-full row rest rows r f more =
+      let z = size-some kind in
+      let s = r.short in
+      let t = turn kind [] (length row) (row ++ rest) (row-room row rest r) (omega arith) (omega (arith, length-append row rest)) (omega arith) f in
+      rw (t.0, t.1, take-append_seam row rest, drop-append_seam row rest) (ap (λ (x : List (List ℕ)). row ∷ x) more)
+
+  -- the octets of a last row that is not full
+  cut-short : (row : List ℕ) → IsRow kind row → length row < row_size kind → IsCutAs row (row ∷ [])
+  cut-short row r h =
+      let room : HaveRoom kind 0 row (length row) = rw (append-nil row) at (row-room row [] r) in
+      let t = keep kind [] row room (omega arith) in
+      rw (t.0, t.1) (last-row row (has-octet row r))
+
+  cut-last : (row : List ℕ) (full : Bool) → eqb (length row) (row_size kind) ≡ full → IsRow kind row → IsCutAs (row ++ []) (row ∷ [])
+  cut-last row true e r =
+      let n : length row ≡ row_size kind = eqb-true (length row) (row_size kind) e in
+      cut-full row [] [] r (inl (omega arith)) refl
+  cut-last row false e r =
+      let s = r.short in
+      let c = cut-short row r (grind (arith, nat_tests)) in
+      rw (append-nil row) c
+
+  -- a row is full as the condition on rows has it
+  as-filled : (row next rest : List ℕ) → 1 ≤ length next → IsFull kind row next → IsFilled kind [] (length row) (row ++ (next ++ rest))
+  as-filled row next rest h (inl e) = inl (omega arith)
+  as-filled row [] rest h (inr f) = absurd (omega arith)
+  as-filled row (x ∷ next) rest h (inr f) =
+      let behind : get_or (row ++ x ∷ (next ++ rest)) (length row) 0 ≡ x = get_or-append_seam row x (next ++ rest) 0 in
+      let place : 0 + length row ≡ length row = omega arith in
+      inr (omega (arith, length-append row (x ∷ (next ++ rest))), rw (place, behind) (grind (arith, nat_tests)))
+
+  one-cut : (rows : List (List ℕ)) → AreRows kind rows → AreFull kind rows → IsCutAs (octets_of_rows rows) rows
+  one-cut [] each full = refl
+  one-cut (row ∷ []) each full = cut-last row (eqb (length row) (row_size kind)) refl each.0
+  one-cut (row ∷ next ∷ rows) each full =
+      cut-full row (octets_of_rows (next ∷ rows)) (next ∷ rows) each.0 (as-filled row next (octets_of_rows rows) (has-octet next each.1.0) full.0) (one-cut (next ∷ rows) each.1 full.1)
+
+  -- ---- the rows that are full
+
+  full-front : (row rest : List ℕ) (rows : List (List ℕ)) → IsRow kind row → IsFilled kind [] (length row) (row ++ rest) → full_rows kind [] rest ≡ rows → full_rows kind [] (row ++ rest) ≡ row ∷ rows
+  full-front row rest rows r f more =
+      let z = size-some kind in
+      let s = r.short in
+      let t = turn kind [] (length row) (row ++ rest) (row-room row rest r) (omega arith) (omega (arith, length-append row rest)) (omega arith) f in
+      rw (t.0, take-append_seam row rest, drop-append_seam row rest) (ap (λ (x : List (List ℕ)). row ∷ x) more)
+
+  full-last : (row : List ℕ) (full : Bool) → eqb (length row) (row_size kind) ≡ full → IsRow kind row → full_rows kind [] (row ++ []) ≡ (if full then row ∷ [] else [])
+  full-last row true e r =
+      let n : length row ≡ row_size kind = eqb-true (length row) (row_size kind) e in
+      full-front row [] [] r (inl (omega arith)) refl
+  full-last row false e r =
+      let s = r.short in
+      let room : HaveRoom kind 0 row (length row) = rw (append-nil row) at (row-room row [] r) in
+      let short : length row < row_size kind = grind (arith, nat_tests) in
+      let t = keep kind [] row room (omega arith) in
+      rw (append-nil row) t.0
+
+  full-rows : (rows : List (List ℕ)) → AreRows kind rows → AreFull kind rows → full_rows kind [] (octets_of_rows rows) ≡ full_ones kind rows
+  full-rows [] each full = refl
+  full-rows (row ∷ []) each full = full-last row (eqb (length row) (row_size kind)) refl each.0
+  full-rows (row ∷ next ∷ rows) each full =
+      full-front row (octets_of_rows (next ∷ rows)) (full_ones kind (next ∷ rows)) each.0 (as-filled row next (octets_of_rows rows) (has-octet next each.1.0) full.0) (full-rows (next ∷ rows) each.1 full.1)
+
+pub full-rows-of-cut : FullRowsAreOfTheCut
+full-rows-of-cut kind octets rows cut = rows-full kind octets ∙ (rw cut.together at (full-rows kind rows cut.each cut.full))
+
+pub rows-one-cut : RowsHaveOneCut
+rows-one-cut kind octets rows cut = (rw cut.together at (sym (one-cut kind rows cut.each cut.full))) ∙ sym (rows-whole kind octets)

@@ -1,0 +1,15 @@
+pub mod ArcWords
+pub mod Arcs
+pub mod Ends
+pub mod KindValues
+pub mod LineLengths
+pub mod Numbers
+pub mod ObjectLines
+pub mod Pieces
+pub mod PlainUnits
+pub mod Puts
+pub mod Short
+pub mod Subidentifier
+pub mod Texts
+pub mod TypeKinds
+pub mod UnitSteps

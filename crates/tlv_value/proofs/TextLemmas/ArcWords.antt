@@ -1,0 +1,9 @@
+-- Words of object identifiers.
+use Rattle.std.specs.Prelude.{ℕ, ◌-◌, Bool, true, false, nat_lt, if◌then◌else◌, List, [], ◌∷◌, ◌++◌, flat_map, codes, decimal}
+use Rattle.std.specs.List.{join_by, list_all}
+
+abbrev pub all_below : ℕ → List ℕ → Bool
+all_below bound vs = list_all (λ v. nat_lt v bound) vs
+
+abbrev pub after_dots : List ℕ → List ℕ
+after_dots arcs = flat_map (λ arc. codes "." ++ decimal arc) arcs

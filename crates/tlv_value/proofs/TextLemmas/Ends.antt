@@ -1,0 +1,142 @@
+-- What the calls put, as the definitions have it.
+use Rattle.std.proofs.Common.{◌≡◌, ℕ, ◌+◌, ◌≤◌, Bool, true, false, List, [], ◌∷◌, ◌++◌, length, refl, sym, ap, ◌∙◌, arith, append_assoc, append-nil}
+use Rattle.std.specs.Prelude.{nat_le, if◌then◌else◌}
+use Rattle.std.proofs.lemmas.Bool.Decides.{nat_tests}
+use Rattle.tlv_head.specs.Tag.{tag_text_of}
+use Rattle.std.specs.Prelude.{decimal}
+use Rattle.tlv_value.specs.declared.kind.Kind.{Kind}
+use Rattle.tlv_value.specs.declared.kind.Kind.TheVariants.{Octets, Boolean, Integer, Bits, Object, Relative, Text, Utf8, Ucs2, Ucs4}
+use Rattle.tlv_value.specs.declared.layout.Layout.{Layout}
+use Rattle.tlv_value.specs.Kind.{kind_of}
+use Rattle.tlv_value.specs.Layout.{columns, margin, row_line}
+use Rattle.tlv_value.specs.Private.ObjectLines.{object_lines, rest_of_lines}
+use Rattle.tlv_value.specs.Private.PrimitiveLines.{front_of, primitive_line, primitive_lines}
+use Rattle.tlv_value.specs.declared.primitive.Primitive.{Primitive}
+use Rattle.tlv_value.specs.Rows.{full_rows, last_rows}
+use Rattle.tlv_value.specs.TextState.{RowsState, TextState, contents_lines, end_lines, line_in, row_lines}
+use Rattle.tlv_value.specs.KindValues.{bits_value, boolean_value, integer_value, is_long, is_readable, kind_value, long_text, row_octets}
+use Rattle.tlv_value.specs.Private.KindValues.{plain_text}
+use Rattle.tlv_value.specs.Value.{NameOf, Value, bit_count, most_on_line, no_names, octets_value, row_text, used_digits, value_on_line}
+
+-- rows of octets are the same for an object identifier
+object-rows : (layout : Layout) (i : ℕ) (rows : List (List ℕ)) → row_lines Object layout i rows ≡ row_lines Octets layout i rows
+object-rows layout i [] = refl
+object-rows layout i (row ∷ rows) = ap (λ (t : List ℕ). row_line layout i (row_text Octets row) ++ t) (object-rows layout (i + 1) rows)
+
+relative-rows : (layout : Layout) (i : ℕ) (rows : List (List ℕ)) → row_lines Relative layout i rows ≡ row_lines Octets layout i rows
+relative-rows layout i [] = refl
+relative-rows layout i (row ∷ rows) = ap (λ (t : List ℕ). row_line layout i (row_text Octets row) ++ t) (relative-rows layout (i + 1) rows)
+
+-- a line with its front apart, and rows behind it
+line-front : (margin tag text rows : List ℕ) → (margin ++ tag) ++ ((text ++ 10 ∷ []) ++ rows) ≡ ((margin ++ (tag ++ text)) ++ 10 ∷ []) ++ rows
+line-front margin tag text rows =
+    sym (append_assoc (margin ++ tag) (text ++ 10 ∷ []) rows) ∙ ap (λ (t : List ℕ). t ++ rows) (sym (append_assoc (margin ++ tag) text (10 ∷ [])) ∙ ap (λ (t : List ℕ). t ++ 10 ∷ []) (append_assoc margin tag text))
+
+front-line : (p : Primitive) (v : Value) → front_of p ++ rest_of_lines p.layout [] v ≡ primitive_line p v.text ++ row_lines Octets p.layout 0 v.rows
+front-line p v = line-front (margin p.layout.pure (columns p.offset (decimal p.size)) p.layout.level) (tag_text_of p.class p.number) v.text (row_lines Octets p.layout 0 v.rows)
+
+-- what its line begins with, and the rest of its lines
+pub shown-front : (name_of : NameOf) (p : Primitive) (octets : List ℕ)
+    → front_of p ++ (((kind_value name_of p.kind octets).text ++ 10 ∷ []) ++ row_lines p.kind p.layout 0 (kind_value name_of p.kind octets).rows) ≡ primitive_lines name_of p octets
+shown-front name_of p octets =
+    let v : Value = kind_value name_of p.kind octets in
+    line-front (margin p.layout.pure (columns p.offset (decimal p.size)) p.layout.level) (tag_text_of p.class p.number) v.text (row_lines p.kind p.layout 0 v.rows)
+
+module _ (name_of : NameOf) (layout : Layout) (line : List ℕ → List ℕ) (octets : List ℕ) where
+  abbrev shown_by : Kind → List ℕ
+  shown_by kind = line (kind_value name_of kind octets).text ++ row_lines kind layout 0 (kind_value name_of kind octets).rows
+
+  object_at : (kind : Kind) → kind ≡ Object → line (kind_value name_of Object octets).text ++ row_lines Octets layout 0 (kind_value name_of Object octets).rows ≡ shown_by kind
+  object_at kind e = rw e (ap (λ (t : List ℕ). line (kind_value name_of Object octets).text ++ t) (sym (object-rows layout 0 (kind_value name_of Object octets).rows)))
+
+  relative_at : (kind : Kind) → kind ≡ Relative → line (kind_value name_of Relative octets).text ++ row_lines Octets layout 0 (kind_value name_of Relative octets).rows ≡ shown_by kind
+  relative_at kind e = rw e (ap (λ (t : List ℕ). line (kind_value name_of Relative octets).text ++ t) (sym (relative-rows layout 0 (kind_value name_of Relative octets).rows)))
+
+pub shown-object : (name_of : NameOf) (p : Primitive) (octets : List ℕ) → p.kind ≡ Object → front_of p ++ object_lines name_of p.layout [] false octets ≡ primitive_lines name_of p octets
+shown-object name_of p octets e = front-line p (kind_value name_of Object octets) ∙ object_at name_of p.layout (primitive_line p) octets p.kind e
+
+pub shown-relative : (name_of : NameOf) (p : Primitive) (octets : List ℕ) → p.kind ≡ Relative → front_of p ++ object_lines no_names p.layout [] true octets ≡ primitive_lines name_of p octets
+shown-relative name_of p octets e = front-line p (kind_value name_of Relative octets) ∙ relative_at name_of p.layout (primitive_line p) octets p.kind e
+
+-- held values without rows
+
+abbrev IsPlain : NameOf → Kind → List ℕ → Type 0
+IsPlain name_of kind row = ((kind_value name_of kind row).text ≡ plain_text kind row) × ((kind_value name_of kind row).rows ≡ [])
+
+octets-plain : (row : List ℕ) → length row ≤ 16 → (octets_value row).rows ≡ []
+octets-plain row h = let b : nat_le (length row) 16 ≡ true = grind (arith, nat_tests) in rw b refl
+
+octets-text : (name_of : NameOf) (row : List ℕ) → length row ≤ 16 → IsPlain name_of Octets row
+octets-text name_of row h = let b : nat_le (length row) 16 ≡ true = grind (arith, nat_tests) in rw b (refl, refl)
+
+boolean-rows : (row : List ℕ) → length row ≤ 16 → (boolean_value row).rows ≡ []
+boolean-rows [] h = refl
+boolean-rows (x ∷ []) h = refl
+boolean-rows (x ∷ y ∷ row) h = octets-plain (x ∷ y ∷ row) h
+
+integer-rows : (row : List ℕ) → length row ≤ 16 → (integer_value row).rows ≡ []
+integer-rows [] h = refl
+integer-rows (x ∷ row) h = refl
+
+if-rows : (b : Bool) (x y : Value) → x.rows ≡ [] → y.rows ≡ [] → (if b then x else y).rows ≡ []
+if-rows true x y e f = e
+if-rows false x y e f = f
+
+bits-rows : (row : List ℕ) → length row ≤ 9 → (bits_value row).rows ≡ []
+bits-rows [] h = refl
+bits-rows (u ∷ row) h =
+    if-rows (is_readable u (length row)) (value_on_line (bit_count u (length row) ++ used_digits u row)) (octets_value (u ∷ row)) refl (octets-plain (u ∷ row) (omega arith))
+
+pub held-plain : (name_of : NameOf) (kind : Kind) (row : List ℕ) → (kind ≡ Object → ⊥) → (kind ≡ Relative → ⊥) → length row ≤ most_on_line kind → IsPlain name_of kind row
+held-plain name_of Octets row o r h = octets-text name_of row h
+held-plain name_of Boolean row o r h = (refl, boolean-rows row h)
+held-plain name_of Integer row o r h = (refl, integer-rows row h)
+held-plain name_of Bits row o r h = (refl, bits-rows row h)
+held-plain name_of Object row o r h = absurd (o refl)
+held-plain name_of Relative row o r h = absurd (r refl)
+held-plain name_of Text row o r h = (refl, refl)
+held-plain name_of Utf8 row o r h = (refl, refl)
+held-plain name_of Ucs2 row o r h = (refl, refl)
+held-plain name_of Ucs4 row o r h = (refl, refl)
+
+plain_at : (name_of : NameOf) (kind : Kind) (layout : Layout) (front row : List ℕ) → IsPlain name_of kind row
+    → front ++ (plain_text kind row ++ 10 ∷ []) ≡ front ++ (((kind_value name_of kind row).text ++ 10 ∷ []) ++ row_lines kind layout 0 (kind_value name_of kind row).rows)
+plain_at name_of kind layout front row p = rw (p.0, p.1) (ap (λ (t : List ℕ). front ++ t) (sym (append-nil (plain_text kind row ++ 10 ∷ []))))
+
+pub shown-plain : (name_of : NameOf) (p : Primitive) (octets : List ℕ) → (p.kind ≡ Object → ⊥) → (p.kind ≡ Relative → ⊥) → length octets ≤ most_on_line p.kind
+    → front_of p ++ (plain_text p.kind octets ++ 10 ∷ []) ≡ primitive_lines name_of p octets
+shown-plain name_of p octets o r h = plain_at name_of p.kind p.layout (front_of p) octets (held-plain name_of p.kind octets o r h) ∙ shown-front name_of p octets
+
+abbrev pub state_by : Primitive → ℕ → RowsState → TextState
+state_by p left kept = record { offset = p.offset; class = p.class; number = p.number; size = p.size; layout = p.layout; left = left; kept = kept }
+
+-- with its end a primitive that is not long has all its lines
+ended_at : (name_of : NameOf) (k kind : Kind) (size : ℕ) (layout : Layout) (line : List ℕ → List ℕ) (rows : List ℕ) (row : List ℕ) → kind ≡ k → is_long kind size ≡ false
+    → (if is_long k size then rows else line (kind_value name_of k row).text ++ row_lines k layout 0 (kind_value name_of k row).rows)
+    ≡ line (kind_value name_of kind row).text ++ row_lines kind layout 0 (kind_value name_of kind row).rows
+ended_at name_of k kind size layout line rows row e l = rw (← e, l) refl
+
+pub ended-shown : (name_of : NameOf) (p : Primitive) (left : ℕ) (kept : RowsState) → p.kind ≡ kind_of p.class p.number → is_long p.kind p.size ≡ false
+    → end_lines name_of (state_by p left kept) ≡ primitive_lines name_of p kept.row
+ended-shown name_of p left kept e l =
+    ended_at name_of (kind_of p.class p.number) p.kind p.size p.layout (primitive_line p) (row_lines (kind_of p.class p.number) p.layout kept.rows (last_rows kept.row)) kept.row e l
+
+-- the first contents octet of a long BIT STRING
+
+new-first_at : (kind : Kind) (lined : Bool) (size : ℕ) (layout : Layout) (line : List ℕ → List ℕ) (x : ℕ) (rest rows_part : List ℕ) → kind ≡ Bits → lined ≡ false → is_long kind size ≡ true
+    → (if is_long kind size then (if lined then rows_part else (line (long_text kind size (x ∷ [])) ++ row_lines kind layout 0 (full_rows kind (row_octets kind (x ∷ [])) rest))) else [])
+    ≡ line (long_text Bits size (x ∷ [])) ++ row_lines Bits layout 0 (full_rows Bits (row_octets Bits (x ∷ [])) rest)
+new-first_at kind lined size layout line x rest rows_part e u l = rw (l, u, e) refl
+
+pub new-first : (s : TextState) (x : ℕ) (rest : List ℕ) → kind_of s.class s.number ≡ Bits → s.kept.lined ≡ false → is_long (kind_of s.class s.number) s.size ≡ true
+    → contents_lines s (x ∷ rest) ≡ line_in s (long_text Bits s.size (x ∷ [])) ++ row_lines Bits s.layout 0 (full_rows Bits (row_octets Bits (x ∷ [])) rest)
+new-first s x rest e u l =
+    new-first_at (kind_of s.class s.number) s.kept.lined s.size s.layout (line_in s) x rest (row_lines (kind_of s.class s.number) s.layout s.kept.rows (full_rows (kind_of s.class s.number) s.kept.row (x ∷ rest))) e u l
+
+-- the rows behind it
+pub rows-first : (kind : Kind) (layout : Layout) (n : ℕ) (row begun rest : List ℕ) → kind ≡ Bits → n ≡ 0 → row ≡ begun → row_lines kind layout n (full_rows kind row rest) ≡ row_lines Bits layout 0 (full_rows Bits begun rest)
+rows-first kind layout n row begun rest e z r = rw (e, z, r) refl
+
+-- a held value has few octets
+pub held-most : (kind : Kind) (n size : ℕ) → is_long kind size ≡ false → n ≡ size → n ≤ most_on_line kind
+held-most kind n size l e = grind (arith, nat_tests)

@@ -1,0 +1,54 @@
+-- The lines of a held object identifier, as they are put.
+use Rattle.std.proofs.Common.{◌≡◌, ◌≤◌, ℕ, ◌+◌, ◌-◌, Bool, true, false, List, [], ◌∷◌, ◌++◌, length, take, drop, refl, sym, ap, ◌∙◌, arith, append_assoc, append-nil}
+use Rattle.std.specs.Prelude.{Option, Some, None, is_some, unwrap_or, nat_le}
+use Rattle.std.proofs.Math.ListN.{length-drop}
+use Rattle.std.proofs.Math.Seq.{drop-append-add}
+use Rattle.std.proofs.lemmas.Bool.Decides.{nat_tests}
+use Rattle.std.proofs.lemmas.List.{take_all}
+use Rattle.tlv_value.specs.declared.kind.Kind.TheVariants.{Octets}
+use Rattle.tlv_value.specs.declared.layout.Layout.{Layout}
+use Rattle.tlv_value.specs.Arcs.{dotted_text}
+use Rattle.tlv_value.specs.Private.ObjectLines.{object_lines, octets_lines}
+use Rattle.tlv_value.specs.Rows.{rows_of}
+use Rattle.tlv_value.specs.TextState.{row_lines}
+use Rattle.tlv_value.specs.Value.{NameOf, spaced_pairs}
+
+-- a text that there is
+pub some_text : (d : Option (List ℕ)) → is_some d ≡ true → d ≡ Some (unwrap_or d [])
+some_text None e = cc (e)
+some_text (Some text) e = refl
+
+pub no_text : (d : Option (List ℕ)) → is_some d ≡ false → d ≡ None
+no_text None e = refl
+no_text (Some text) e = cc (e)
+
+-- what was added behind a space
+pub behind_space : (old new text : List ℕ) (n : ℕ) → new ≡ old ++ 32 ∷ text → n ≡ length old + 1 → take (length new - n) (drop n new) ≡ text
+behind_space old new text n e at =
+    take_all (length new - n) (drop n new) (omega (arith, length-drop n new)) ∙ ap (λ (l : List ℕ). drop n l) e ∙ ap (λ (k : ℕ). drop k (old ++ 32 ∷ text)) at ∙ drop-append-add old (32 ∷ text) 1
+
+module _ (name_of : NameOf) (layout : Layout) (relative : Bool) (contents : List ℕ) where
+  -- a dotted text with a name
+  pub object_named : (text name : List ℕ) → dotted_text relative contents ≡ Some text → name_of text ≡ Some name
+      → (32 ∷ text) ++ (32 ∷ 40 ∷ (name ++ 41 ∷ 10 ∷ [])) ≡ object_lines name_of layout [] relative contents
+  object_named text name d n =
+      rw (d, n) (sym
+      (append-nil ((32 ∷ (text ++ (32 ∷ 40 ∷ (name ++ 41 ∷ [])))) ++ 10 ∷ [])
+      ∙ append_assoc (32 ∷ text) (32 ∷ 40 ∷ (name ++ 41 ∷ [])) (10 ∷ [])
+      ∙ ap (λ (l : List ℕ). (32 ∷ text) ++ (32 ∷ 40 ∷ l)) (append_assoc name (41 ∷ []) (10 ∷ []))))
+
+  -- without a name
+  pub object_plain : (text : List ℕ) → dotted_text relative contents ≡ Some text → name_of text ≡ None → (32 ∷ text) ++ 10 ∷ [] ≡ object_lines name_of layout [] relative contents
+  object_plain text d n = rw (d, n) (sym (append-nil ((32 ∷ (text ++ [])) ++ 10 ∷ []) ∙ ap (λ (l : List ℕ). (32 ∷ l) ++ 10 ∷ []) (append-nil text)))
+
+  -- no dotted text
+  pub object_octets : dotted_text relative contents ≡ None → octets_lines layout [] contents ≡ object_lines name_of layout [] relative contents
+  object_octets d = rw d refl
+
+-- octets on the line
+pub octets_short : (layout : Layout) (contents : List ℕ) → length contents ≤ 16 → spaced_pairs contents ++ 10 ∷ [] ≡ octets_lines layout [] contents
+octets_short layout contents few = let b : nat_le (length contents) 16 ≡ true = grind (arith, nat_tests) in rw b (sym (append-nil (spaced_pairs contents ++ 10 ∷ [])))
+
+-- and in rows
+pub octets_long : (layout : Layout) (contents : List ℕ) → 17 ≤ length contents → (10 ∷ []) ++ row_lines Octets layout 0 (rows_of Octets contents) ≡ octets_lines layout [] contents
+octets_long layout contents many = let b : nat_le (length contents) 16 ≡ false = grind (arith, nat_tests) in rw b refl

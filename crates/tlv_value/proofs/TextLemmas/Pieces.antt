@@ -1,0 +1,267 @@
+-- Contents in pieces.
+use Rattle.std.proofs.Common.{◌≡◌, ℕ, ◌+◌, ◌-◌, ◌≤◌, Bool, true, false, List, [], ◌∷◌, ◌++◌, length, refl, sym, ap, ◌∙◌, arith, append_assoc, append-nil, length-append}
+use Rattle.std.specs.Prelude.{◌&&◌, eqb, nat_le, if◌then◌else◌}
+use Rattle.tlv_head.specs.Header.{HeaderValue, announced as size_of}
+use Rattle.tlv_value.specs.declared.kind.Kind.{Kind}
+use Rattle.tlv_value.specs.declared.kind.Kind.TheVariants.{Octets, Boolean, Integer, Bits, Object, Relative, Text, Utf8, Ucs2, Ucs4}
+use Rattle.tlv_value.specs.declared.layout.Layout.{Layout}
+use Rattle.tlv_value.specs.declared.primitive.Primitive.{Primitive}
+use Rattle.tlv_value.specs.Kind.{kind_of}
+use Rattle.tlv_value.specs.Laws.{LinesBegin, LinesEnd, LinesGoOn, PiecesJoin, state_for}
+use Rattle.tlv_value.specs.Rows.{full_rows, has_room, last_rows, open_row, row_size, rows_of}
+use Rattle.tlv_value.proofs.RowLemmas.RowCut.{cut_rows}
+use Rattle.tlv_value.specs.Private.PrimitiveLines.{lines_in_steps, new_text_of, primitive_line, primitive_lines, primitive_of}
+use Rattle.tlv_value.specs.TextState.{RowsState, TextState, begin_lines, contents_lines, end_lines, first_rows, first_rows_after, full_row_lines, has_line, kind_in, line_in, new_text, open_lines, row_lines, rows_after, rows_state_after, text_after, whole_lines}
+use Rattle.tlv_value.specs.KindValues.{is_long, kind_value, long_text, row_octets}
+use Rattle.tlv_value.specs.Value.{NameOf}
+use Rattle.std.proofs.lemmas.Bool.Decides.{nat_tests}
+use Rattle.tlv_value.proofs.TextLemmas.KindValues.{open-lines-by, whole-lines}
+use Rattle.tlv_value.proofs.TextLemmas.Puts.{row_lines-append}
+use Rattle.tlv_value.proofs.RowLemmas.RowSteps.{full-begins, open-begins}
+use Rattle.tlv_value.proofs.RowLemmas.RowsFrom.{rows-whole}
+
+abbrev kept_with : ℕ → List ℕ → RowsState
+kept_with n r = record { lined = true; rows = n; row = r }
+
+kept-eq : (n m : ℕ) (r q : List ℕ) → n ≡ m → r ≡ q → kept_with n r ≡ kept_with m q
+kept-eq n m r q e f = ap (λ (j : ℕ). kept_with j r) e ∙ ap (kept_with m) f
+
+module _ (kind : Kind) where
+  abbrev IsJoined : List ℕ → List ℕ → List ℕ → Type 0
+  IsJoined row x y = (full_rows kind row (x ++ y) ≡ full_rows kind row x ++ full_rows kind (open_row kind row x) y) × (open_row kind row (x ++ y) ≡ open_row kind (open_row kind row x) y)
+
+  -- one octet of the first piece
+  rows-join_at : (row : List ℕ) (z : ℕ) (x y : List ℕ) (room last : Bool) → ((r : List ℕ) → IsJoined r x y)
+      → ((if room then (if last then (row ++ z ∷ []) ∷ full_rows kind [] (x ++ y) else full_rows kind (row ++ z ∷ []) (x ++ y)) else row ∷ full_rows kind (z ∷ []) (x ++ y))
+      ≡ (if room then (if last then (row ++ z ∷ []) ∷ full_rows kind [] x else full_rows kind (row ++ z ∷ []) x) else row ∷ full_rows kind (z ∷ []) x)
+      ++ full_rows kind (if room then (if last then open_row kind [] x else open_row kind (row ++ z ∷ []) x) else open_row kind (z ∷ []) x) y)
+      × ((if room then (if last then open_row kind [] (x ++ y) else open_row kind (row ++ z ∷ []) (x ++ y)) else open_row kind (z ∷ []) (x ++ y))
+      ≡ open_row kind (if room then (if last then open_row kind [] x else open_row kind (row ++ z ∷ []) x) else open_row kind (z ∷ []) x) y)
+  rows-join_at row z x y true true more = (ap (λ (t : List (List ℕ)). (row ++ z ∷ []) ∷ t) (more []).0, (more []).1)
+  rows-join_at row z x y true false more = more (row ++ z ∷ [])
+  rows-join_at row z x y false last more = (ap (λ (t : List (List ℕ)). row ∷ t) (more (z ∷ [])).0, (more (z ∷ [])).1)
+
+  pub rows-join : (row x y : List ℕ) → IsJoined row x y
+  rows-join row [] y = (refl, refl)
+  rows-join row (z ∷ x) y = rows-join_at row z x y (has_room kind (length row) z) (eqb (length row + 1) (row_size kind)) (λ r. rows-join r x y)
+
+  -- what is kept, and what is written, of two pieces
+  kept-join : (layout : Layout) (k : RowsState) (x y : List ℕ) → rows_after kind layout (rows_after kind layout k x) y ≡ rows_after kind layout k (x ++ y)
+  kept-join layout k x y =
+      let j = rows-join k.row x y in
+      let n : k.rows + length (full_rows kind k.row x) + length (full_rows kind (open_row kind k.row x) y) ≡ k.rows + length (full_rows kind k.row (x ++ y)) =
+      omega (arith, ap length j.0, length-append (full_rows kind k.row x) (full_rows kind (open_row kind k.row x) y)) in
+      kept-eq (k.rows + length (full_rows kind k.row x) + length (full_rows kind (open_row kind k.row x) y)) (k.rows + length (full_rows kind k.row (x ++ y))) (open_row kind (open_row kind k.row x) y) (open_row kind k.row (x ++ y)) n (sym j.1)
+
+  new-join : (layout : Layout) (k : RowsState) (x y : List ℕ) → full_row_lines kind layout k (x ++ y) ≡ full_row_lines kind layout k x ++ full_row_lines kind layout (rows_after kind layout k x) y
+  new-join layout k x y =
+      ap (row_lines kind layout k.rows) (rows-join k.row x y).0 ∙ row_lines-append kind layout k.rows (full_rows kind k.row x) (full_rows kind (open_row kind k.row x) y)
+
+-- the parts of a state that do not change are left out here: the tests, the lines and what is kept
+module _ (kind : Kind) (layout : Layout) (line : List ℕ → List ℕ) (size : ℕ) where
+  abbrev kept_by : Bool → Bool → RowsState → List ℕ → RowsState
+  kept_by long lined k x =
+      if long then (if lined then rows_after kind layout k x else first_rows_after kind layout k x) else record { lined = k.lined; rows = k.rows; row = k.row ++ x }
+
+  abbrev first_new : List ℕ → List ℕ
+  first_new [] = []
+  first_new (u ∷ x) = line (long_text kind size (u ∷ [])) ++ full_row_lines kind layout (first_rows kind layout u) x
+
+  abbrev new_by : Bool → Bool → RowsState → List ℕ → List ℕ
+  new_by long lined k x = if long then (if lined then full_row_lines kind layout k x else first_new x) else []
+
+  join-kept : (long lined : Bool) (k : RowsState) (x y : List ℕ) → k.lined ≡ lined → kept_by long (kept_by long lined k x).lined (kept_by long lined k x) y ≡ kept_by long lined k (x ++ y)
+  join-kept false lined k x y e = ap (λ (r : List ℕ). record { lined = k.lined; rows = k.rows; row = r }) (append_assoc k.row x y)
+  join-kept true true k x y e = kept-join kind layout k x y
+  join-kept true false k [] y e = rw e refl
+  join-kept true false k (u ∷ x) y e = kept-join kind layout (first_rows kind layout u) x y
+
+  join-new : (long lined : Bool) (k : RowsState) (x y : List ℕ) → k.lined ≡ lined → new_by long lined k (x ++ y) ≡ new_by long lined k x ++ new_by long (kept_by long lined k x).lined (kept_by long lined k x) y
+  join-new false lined k x y e = refl
+  join-new true true k x y e = new-join kind layout k x y
+  join-new true false k [] y e = rw e refl
+  join-new true false k (u ∷ x) y e =
+      ap (λ (t : List ℕ). line (long_text kind size (u ∷ [])) ++ t) (new-join kind layout (first_rows kind layout u) x y)
+      ∙ sym (append_assoc (line (long_text kind size (u ∷ []))) (full_row_lines kind layout (first_rows kind layout u) x) (full_row_lines kind layout (rows_after kind layout (first_rows kind layout u) x) y))
+
+abbrev with_kept : TextState → ℕ → RowsState → TextState
+with_kept s left k = record { offset = s.offset; class = s.class; number = s.number; size = s.size; layout = s.layout; left = left; kept = k }
+
+new_by-new : (s : TextState) (x : List ℕ) → new_by (kind_in s) s.layout (line_in s) s.size (is_long (kind_in s) s.size) s.kept.lined s.kept x ≡ contents_lines s x
+new_by-new s [] = refl
+new_by-new s (u ∷ x) = refl
+
+pub pieces-join : PiecesJoin
+pieces-join s x y =
+    let l : s.left - length x - length y ≡ s.left - length (x ++ y) = omega (arith, length-append x y) in
+    let k = join-kept (kind_in s) s.layout (line_in s) s.size (is_long (kind_in s) s.size) s.kept.lined s.kept x y refl in
+    let t = join-new (kind_in s) s.layout (line_in s) s.size (is_long (kind_in s) s.size) s.kept.lined s.kept x y refl in (
+      ap (λ (n : ℕ). with_kept s n (rows_state_after (text_after s x) y)) l ∙ ap (with_kept s (s.left - length (x ++ y))) k,
+      sym (new_by-new s (x ++ y)) ∙ t ∙ ap (λ (r : List ℕ). r ++ new_by (kind_in s) s.layout (line_in s) s.size (is_long (kind_in s) s.size) (rows_state_after s x).lined (rows_state_after s x) y) (new_by-new s x)
+          ∙ ap (λ (r : List ℕ). contents_lines s x ++ r) (new_by-new (text_after s x) y),
+    )
+
+-- the octets in rows, with the first contents octet of a BIT STRING by itself
+first-full : (u : ℕ) (rest : List ℕ) (b : Bool) → full_rows Bits [] (if b then rest else u ∷ rest) ≡ full_rows Bits (if b then [] else u ∷ []) rest
+first-full u rest true = refl
+first-full u rest false = full-begins Bits u rest
+
+first-open_row : (u : ℕ) (rest : List ℕ) (b : Bool) → open_row Bits [] (if b then rest else u ∷ rest) ≡ open_row Bits (if b then [] else u ∷ []) rest
+first-open_row u rest true = refl
+first-open_row u rest false = open-begins Bits u rest
+
+abbrev begin_kept : Kind → RowsState
+begin_kept kind = record { lined = has_line kind []; rows = 0; row = [] }
+
+module _ (layout : Layout) (line : List ℕ → List ℕ) (size : ℕ) where
+  abbrev begun_at : Kind → Bool → List ℕ
+  begun_at kind long = if long then (if has_line kind [] then line [] else []) else []
+
+  abbrev open_at : Kind → Bool → List ℕ → List ℕ
+  open_at kind long octets = if long && has_line kind octets then line (long_text kind size octets) ++ row_lines kind layout 0 (full_rows kind [] (row_octets kind octets)) else []
+
+  abbrev OpenIsNew : Kind → Bool → List ℕ → Type 0
+  OpenIsNew kind long octets = open_at kind long octets ≡ begun_at kind long ++ new_by kind layout line size long (has_line kind []) (begin_kept kind) octets
+
+  open-new : (kind : Kind) (long : Bool) (octets : List ℕ) → OpenIsNew kind long octets
+  open-new kind false octets = refl
+  open-new Octets true octets = refl
+  open-new Boolean true octets = refl
+  open-new Integer true octets = refl
+  open-new Object true octets = refl
+  open-new Relative true octets = refl
+  open-new Text true octets = refl
+  open-new Utf8 true octets = refl
+  open-new Ucs2 true octets = refl
+  open-new Ucs4 true octets = refl
+  open-new Bits true [] = refl
+  open-new Bits true (u ∷ octets) =
+      ap (λ (t : List (List ℕ)). line (long_text Bits size (u ∷ [])) ++ row_lines Bits layout 0 t) (first-full u octets (nat_le u 7))
+
+  abbrev whole_at : NameOf → Kind → Bool → List ℕ → List ℕ
+  whole_at name_of kind long octets =
+      line (if long then record { text = long_text kind size octets; rows = cut_rows kind (row_octets kind octets) } else kind_value name_of kind octets).text
+      ++ row_lines kind layout 0 (if long then record { text = long_text kind size octets; rows = cut_rows kind (row_octets kind octets) } else kind_value name_of kind octets).rows
+
+  abbrev ended_at : NameOf → Kind → Bool → RowsState → List ℕ
+  ended_at name_of kind long k =
+      if long then row_lines kind layout k.rows (last_rows k.row) else line (kind_value name_of kind k.row).text ++ row_lines kind layout 0 (kind_value name_of kind k.row).rows
+
+  abbrev WholeIsEnded : NameOf → Kind → Bool → List ℕ → Type 0
+  WholeIsEnded name_of kind long octets = whole_at name_of kind long octets ≡ open_at kind long octets ++ ended_at name_of kind long (kept_by kind layout line size long (has_line kind []) (begin_kept kind) octets)
+
+  last-behind : (kind : Kind) (first : List ℕ) (full last : List (List ℕ)) → first ++ row_lines kind layout 0 (full ++ last) ≡ (first ++ row_lines kind layout 0 full) ++ row_lines kind layout (0 + length full) last
+  last-behind kind first full last =
+      ap (λ (t : List ℕ). first ++ t) (row_lines-append kind layout 0 full last) ∙ sym (append_assoc first (row_lines kind layout 0 full) (row_lines kind layout (0 + length full) last))
+
+  whole-ended : (name_of : NameOf) (kind : Kind) (long : Bool) (octets : List ℕ) → (long ≡ true → 1 ≤ length octets) → WholeIsEnded name_of kind long octets
+  whole-ended name_of kind false octets some = refl
+  whole-ended name_of Octets true octets some = last-behind Octets (line []) (full_rows Octets [] octets) (last_rows (open_row Octets [] octets))
+  whole-ended name_of Boolean true octets some = last-behind Boolean (line []) (full_rows Boolean [] octets) (last_rows (open_row Boolean [] octets))
+  whole-ended name_of Integer true octets some = last-behind Integer (line []) (full_rows Integer [] octets) (last_rows (open_row Integer [] octets))
+  whole-ended name_of Object true octets some = last-behind Object (line []) (full_rows Object [] octets) (last_rows (open_row Object [] octets))
+  whole-ended name_of Relative true octets some = last-behind Relative (line []) (full_rows Relative [] octets) (last_rows (open_row Relative [] octets))
+  whole-ended name_of Text true octets some = last-behind Text (line []) (full_rows Text [] octets) (last_rows (open_row Text [] octets))
+  whole-ended name_of Utf8 true octets some = last-behind Utf8 (line []) (full_rows Utf8 [] octets) (last_rows (open_row Utf8 [] octets))
+  whole-ended name_of Ucs2 true octets some = last-behind Ucs2 (line []) (full_rows Ucs2 [] octets) (last_rows (open_row Ucs2 [] octets))
+  whole-ended name_of Ucs4 true octets some = last-behind Ucs4 (line []) (full_rows Ucs4 [] octets) (last_rows (open_row Ucs4 [] octets))
+  whole-ended name_of Bits true [] some = absurd (let h = some refl in omega arith)
+  whole-ended name_of Bits true (u ∷ octets) some =
+      let f = first-full u octets (nat_le u 7) in
+      let o = first-open_row u octets (nat_le u 7) in
+      last-behind Bits (line (long_text Bits size (u ∷ []))) (full_rows Bits [] (row_octets Bits (u ∷ octets))) (last_rows (open_row Bits [] (row_octets Bits (u ∷ octets))))
+      ∙ ap (λ (t : List (List ℕ)). (line (long_text Bits size (u ∷ [])) ++ row_lines Bits layout 0 (full_rows Bits [] (row_octets Bits (u ∷ octets)))) ++ row_lines Bits layout (0 + length t) (last_rows (open_row Bits [] (row_octets Bits (u ∷ octets))))) f
+      ∙ ap (λ (t : List ℕ). (line (long_text Bits size (u ∷ [])) ++ row_lines Bits layout 0 (full_rows Bits [] (row_octets Bits (u ∷ octets)))) ++ row_lines Bits layout (0 + length (full_rows Bits (row_octets Bits (u ∷ [])) octets)) (last_rows t)) o
+
+abbrev line_for : HeaderValue → Layout → List ℕ → List ℕ
+line_for h layout = line_in (new_text h layout)
+
+-- all that is known of a primitive that is still open was written
+pub open-lines : (h : HeaderValue) (layout : Layout) (octets : List ℕ) → open_lines h layout octets ≡ begin_lines (new_text h layout) ++ contents_lines (new_text h layout) octets
+open-lines h layout octets =
+    open-lines-by h layout octets
+    ∙ open-new layout (line_for h layout) (size_of h.size) (kind_of h.class h.number) (is_long (kind_of h.class h.number) (size_of h.size)) octets
+    ∙ ap (λ (t : List ℕ). begin_lines (new_text h layout) ++ t) (new_by-new (new_text h layout) octets)
+
+new-nothing_at : (kind : Kind) (layout : Layout) (line : List ℕ → List ℕ) (size : ℕ) (long lined : Bool) (k : RowsState) → new_by kind layout line size long lined k [] ≡ []
+new-nothing_at kind layout line size false lined k = refl
+new-nothing_at kind layout line size true true k = refl
+new-nothing_at kind layout line size true false k = refl
+
+pub new-nothing : (s : TextState) → contents_lines s [] ≡ []
+new-nothing s = sym (new_by-new s []) ∙ new-nothing_at (kind_in s) s.layout (line_in s) s.size (is_long (kind_in s) s.size) s.kept.lined s.kept
+
+after-nothing_at : (kind : Kind) (layout : Layout) (line : List ℕ → List ℕ) (size : ℕ) (long lined : Bool) (k : RowsState) → k.lined ≡ lined → kept_by kind layout line size long lined k [] ≡ k
+after-nothing_at kind layout line size false lined k e = ap (λ (r : List ℕ). record k { row = r }) (append-nil k.row)
+after-nothing_at kind layout line size true true k e = rw (← e) (ap (λ (n : ℕ). record k { rows = n }) (omega arith))
+after-nothing_at kind layout line size true false k e = refl
+
+-- no octets change nothing
+pub after-nothing : (s : TextState) → text_after s [] ≡ s
+after-nothing s =
+    let l : s.left - 0 ≡ s.left = omega arith in
+    ap (λ (n : ℕ). with_kept s n (rows_state_after s [])) l ∙ ap (with_kept s s.left) (after-nothing_at (kind_in s) s.layout (line_in s) s.size (is_long (kind_in s) s.size) s.kept.lined s.kept refl)
+
+pub lines-begin : LinesBegin
+lines-begin h layout = open-lines h layout [] ∙ ap (λ (t : List ℕ). begin_lines (new_text h layout) ++ t) (new-nothing (new_text h layout)) ∙ append-nil (begin_lines (new_text h layout))
+
+pub lines-go_on : LinesGoOn
+lines-go_on h layout octets x =
+    open-lines h layout (octets ++ x)
+    ∙ ap (λ (t : List ℕ). begin_lines (new_text h layout) ++ t) (pieces-join (new_text h layout) octets x).1
+    ∙ sym (append_assoc (begin_lines (new_text h layout)) (contents_lines (new_text h layout) octets) (contents_lines (state_for h layout octets) x))
+    ∙ ap (λ (t : List ℕ). t ++ contents_lines (state_for h layout octets) x) (sym (open-lines h layout octets))
+
+long-some : (kind : Kind) (n size : ℕ) → n ≡ size → is_long kind size ≡ true → 1 ≤ n
+long-some kind n size e h = grind (arith, nat_tests)
+
+abbrev whole_by : Layout → (List ℕ → List ℕ) → NameOf → Kind → ℕ → List ℕ → List ℕ
+whole_by layout line name_of kind n octets =
+    line (if is_long kind n then record { text = long_text kind n octets; rows = cut_rows kind (row_octets kind octets) } else kind_value name_of kind octets).text
+    ++ row_lines kind layout 0 (if is_long kind n then record { text = long_text kind n octets; rows = cut_rows kind (row_octets kind octets) } else kind_value name_of kind octets).rows
+
+pub lines-end : LinesEnd
+lines-end name_of h layout octets e =
+    let kind : Kind = kind_of h.class h.number in
+    let w = whole-ended layout (line_for h layout) (size_of h.size) name_of kind (is_long kind (size_of h.size)) octets (long-some kind (length octets) (size_of h.size) e) in
+    whole-lines name_of h layout octets ∙ ap (λ (n : ℕ). whole_by layout (line_for h layout) name_of kind n octets) e ∙ w
+    ∙ ap (λ (t : List ℕ). t ++ end_lines name_of (state_for h layout octets)) (sym (open-lines-by h layout octets))
+
+-- a primitive written with its header, its contents and its end has the lines of the whole
+pub whole-new : (name_of : NameOf) (h : HeaderValue) (layout : Layout) (c : List ℕ) → length c ≡ size_of h.size
+    → begin_lines (new_text h layout) ++ (contents_lines (new_text h layout) c ++ end_lines name_of (text_after (new_text h layout) c)) ≡ whole_lines name_of h layout c
+whole-new name_of h layout c e =
+    let t : TextState = new_text h layout in
+    sym (append_assoc (begin_lines t) (contents_lines t c) (end_lines name_of (text_after t c)))
+    ∙ ap (λ (l : List ℕ). l ++ end_lines name_of (text_after t c)) (sym (open-lines h layout c))
+    ∙ sym (lines-end name_of h layout c e)
+
+-- so has a long one: its line, and its rows
+pub new-long : (name_of : NameOf) (p : Primitive) (c : List ℕ) → p.kind ≡ kind_of p.class p.number → is_long p.kind p.size ≡ true → length c ≡ p.size
+    → primitive_line p (long_text p.kind p.size c) ++ row_lines p.kind p.layout 0 (rows_of p.kind (row_octets p.kind c)) ≡ lines_in_steps name_of (new_text_of p) c
+new-long name_of p c is long e =
+    let kind : Kind = kind_of p.class p.number in
+    let l : is_long kind p.size ≡ true = ap (λ (j : Kind). is_long j p.size) (sym is) ∙ long in
+    let w = whole-ended p.layout (primitive_line p) p.size name_of kind (is_long kind p.size) c (long-some kind (length c) p.size e) in
+    let o = open-new p.layout (primitive_line p) p.size kind (is_long kind p.size) c in
+    ap by-kind is
+    ∙ ap (λ (rows : List (List ℕ)). primitive_line p (long_text kind p.size c) ++ row_lines kind p.layout 0 rows) (rows-whole kind (row_octets kind c))
+    ∙ ap (λ (b : Bool). whole_at p.layout (primitive_line p) p.size name_of kind b c) (sym l)
+    ∙ w
+    ∙ ap (λ (t : List ℕ). t ++ end_lines name_of (text_after (started kind) c)) (o ∙ ap (λ (t : List ℕ). begin_lines (started kind) ++ t) (new_by-new (started kind) c))
+    ∙ append_assoc (begin_lines (started kind)) (contents_lines (started kind) c) (end_lines name_of (text_after (started kind) c))
+    ∙ ap (λ (j : Kind). lines_in_steps name_of (started j) c) (sym is)
+  where
+    by-kind : Kind → List ℕ
+    by-kind j = primitive_line p (long_text j p.size c) ++ row_lines j p.layout 0 (rows_of j (row_octets j c))
+
+    started : Kind → TextState
+    started j = record { offset = p.offset; class = p.class; number = p.number; size = p.size; layout = p.layout; left = p.size; kept = begin_kept j }
+
+-- one whose value stands on its line is written with its end
+pub shown-new : (name_of : NameOf) (h : HeaderValue) (layout : Layout) (p : Primitive) (c : List ℕ) → p ≡ primitive_of h layout → is_long (kind_of h.class h.number) (size_of h.size) ≡ false
+    → length c ≡ size_of h.size → primitive_lines name_of p c ≡ whole_lines name_of h layout c
+shown-new name_of h layout p c is short e = ap (λ (q : Primitive). primitive_lines name_of q c) is ∙ at-end ∙ whole-new name_of h layout c e
+  where
+    at-end : primitive_lines name_of (primitive_of h layout) c ≡ begin_lines (new_text h layout) ++ (contents_lines (new_text h layout) c ++ end_lines name_of (text_after (new_text h layout) c))
+    at-end = rw short refl

@@ -1,0 +1,29 @@
+use Rattle.std.proofs.Common.{rules, [], List, ℕ, append-nil, drop, get_or, refl, take, ap}
+use Rattle.std.proofs.lemmas.List.{take_all}
+use Rattle.tlv_io.proofs.Puts.{puts_failed_in, puts_line, puts_nothing, puts_text, puts_then_as}
+use Rattle.tlv_value.specs.Private.Rows.{full_line, full_lines}
+use Rattle.tlv_value.proofs.RowLemmas.FullRows.{lines_more, lines_split}
+use Rattle.tlv_value.proofs.value_lines.rows.put_full_rows.Goals as goal
+
+pub loop-row-init : goal.loop-row-init
+loop-row-init g c = puts_nothing g.D.Drain.state _ _
+
+pub loop-row-preserved : goal.loop-row-preserved
+loop-row-preserved g c =
+    let state_of = g.D.Drain.state in
+    let i : ℕ = c.loop-row.row-index in
+    let line : List ℕ = full_line c.args.layout (get_or c.args.rows.now i []) in
+    puts_then_as state_of _ _ _ (full_lines c.args.layout (take i c.args.rows.now)) line _ _ _ c.loop-row.invariant
+    (puts_line state_of _ _ _ line _ (tt {0}) c.in_ok-make_room.ensures.puts refl c.write_full_line.ensures) (lines_more c.args.layout c.args.rows.now i c.loop-row-test.true)
+
+pub returns-in_err-make_room : goal.returns-in_err-make_room
+returns-in_err-make_room g c =
+    let state_of = g.D.Drain.state in
+    let i : ℕ = c.loop-row.row-index in
+    let front : List ℕ = full_lines c.args.layout (take i c.args.rows.now) in
+    puts_failed_in state_of _ _ front _ _ _ (puts_then_as state_of _ _ _ front [] front _ _ c.loop-row.invariant c.in_err-make_room.ensures.puts (append-nil front)) (search rules)
+    (record { rest = full_lines c.args.layout (drop i c.args.rows.now); is = lines_split c.args.layout c.args.rows.now i })
+
+pub returns : goal.returns
+returns g c =
+    puts_text g.D.Drain.state _ _ _ _ _ (ap (full_lines c.args.layout) (take_all c.loop-row.row-index c.args.rows.now c.loop-row-test.false)) c.loop-row.invariant

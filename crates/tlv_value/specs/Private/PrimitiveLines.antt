@@ -1,0 +1,49 @@
+-- The lines of a primitive, by what its header says of it.
+use Rattle.std.specs.Prelude.{ℕ, List, [], ◌++◌, decimal}
+use Rattle.tlv_head.specs.Header.{HeaderValue, announced}
+use Rattle.tlv_head.specs.Tag.{tag_text_of}
+use Rattle.tlv_value.specs.declared.layout.Layout.{Layout}
+use Rattle.tlv_value.specs.declared.primitive.Primitive.{Primitive}
+use Rattle.tlv_value.specs.Kind.{kind_of}
+use Rattle.tlv_value.specs.KindValues.{kind_value}
+use Rattle.tlv_value.specs.Layout.{columns, margin}
+use Rattle.tlv_value.specs.TextState.{TextState, begin_lines, contents_lines, element_line, end_lines, has_line, row_lines, text_after}
+use Rattle.tlv_value.specs.Value.{NameOf}
+
+abbrev pub primitive_of : HeaderValue → Layout → Primitive
+primitive_of h layout = record {
+  offset = h.offset;
+  class = h.class;
+  number = h.number;
+  size = announced h.size;
+  kind = kind_of h.class h.number;
+  layout = layout;
+}
+
+-- what its line begins with
+abbrev pub front_of : Primitive → List ℕ
+front_of p = margin p.layout.pure (columns p.offset (decimal p.size)) p.layout.level ++ tag_text_of p.class p.number
+
+-- its line, with this text after its tag
+abbrev pub primitive_line : Primitive → List ℕ → List ℕ
+primitive_line p text = element_line p.layout p.offset p.class p.number p.size text
+
+-- its lines, if its value is on its line
+abbrev pub primitive_lines : NameOf → Primitive → List ℕ → List ℕ
+primitive_lines name_of p octets = primitive_line p (kind_value name_of p.kind octets).text ++ row_lines p.kind p.layout 0 (kind_value name_of p.kind octets).rows
+
+-- what is kept of it before any octet
+abbrev pub new_text_of : Primitive → TextState
+new_text_of p = record {
+  offset = p.offset;
+  class = p.class;
+  number = p.number;
+  size = p.size;
+  layout = p.layout;
+  left = p.size;
+  kept = record { lined = has_line p.kind []; rows = 0; row = [] };
+}
+
+-- the lines that are known with the header, with all contents, and with the end
+abbrev pub lines_in_steps : NameOf → TextState → List ℕ → List ℕ
+lines_in_steps name_of s octets = begin_lines s ++ (contents_lines s octets ++ end_lines name_of (text_after s octets))

@@ -1,0 +1,70 @@
+//! What is noted of contents octets while they come.
+ghost use Rattle.std.specs.Prelude.{◌≡◌, ◌||◌};
+ghost use Rattle.tlv_value.specs.CheckState.{notes_each, notes_front, notes_time};
+ghost use Rattle.tlv_value.specs.Checks.{is_padded_after, last_octet_of};
+
+/// Whether the first octets of the type with this universal number are looked at, and the last one: BOOLEAN, INTEGER,
+/// BIT STRING, ENUMERATED.
+#[inline(always)]
+pub(super) fn is_front_noted(number: u64) -> bool
+    ensures { result ≡ notes_front number }
+{
+    number == 1 || number == 2 || number == 3 || number == 10
+}
+
+/// Whether each contents octet of the type with this universal number is looked at.
+#[inline(always)]
+pub(super) fn is_each_noted(number: u64) -> bool
+    ensures { result ≡ notes_each number }
+{
+    number == 6
+        || number == 12
+        || number == 13
+        || number == 18
+        || number == 19
+        || number == 22
+        || number == 26
+}
+
+/// Whether the type with this universal number is one of the two times.
+#[inline(always)]
+pub(super) fn is_time(number: u64) -> bool
+    ensures { result ≡ notes_time number }
+{
+    number == 23 || number == 24
+}
+
+/// The last of the octets, or the one before them.
+pub(crate) fn last_octet(before: u8, octets: &[u8]) -> u8
+    ensures { result ≡ last_octet_of before octets.now }
+{
+    match octets {
+        [.., last] => *last,
+        [] => before,
+    }
+}
+
+/// Whether a subidentifier begins with `80`, with these octets too.
+pub(super) fn padded_after(padded: bool, before: u8, octets: &[u8]) -> bool
+    ensures { result ≡ (padded || is_padded_after before octets.now) }
+{
+    padded || is_padded(before, octets)
+}
+
+/// Whether a subidentifier begins with `80`, after this octet.
+pub(crate) fn is_padded(before: u8, octets: &[u8]) -> bool
+    ensures { result ≡ is_padded_after before octets.now }
+{
+    // Most have no octet 80 at all, which is seen for many octets at once. The loop is then left out.
+    if !octets.contains(&128) {
+        return false;
+    }
+    let mut before = before;
+    for octet in octets {
+        if before < 128 && *octet == 128 {
+            return true;
+        }
+        before = *octet;
+    }
+    false
+}

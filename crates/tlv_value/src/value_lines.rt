@@ -1,0 +1,85 @@
+//! The rest of lines on their way to an [`Out`], after the tag texts.
+ghost use Rattle.std.specs.Prelude.{◌+◌, ◌≤◌, ◌++◌, [], codes, false, length, true};
+ghost use Rattle.tlv_io.specs.LineTexts.{HasRoomFor};
+ghost use Rattle.tlv_io.specs.Out.{Puts, buffer_of};
+ghost use Rattle.tlv_value.specs.Private.ObjectLines.{object_lines, octets_lines};
+ghost use Rattle.tlv_value.specs.Value.{no_names};
+
+mod rows;
+
+use crate::dotted::write_dotted;
+use crate::{Layout, NameTable};
+use rows::put_all_rows;
+pub(crate) use rows::{put_last, put_pair_rows, put_rows};
+use tlv_io::{Drain, Out, WriteFault};
+
+/// Puts the rest of the lines of an object identifier: its dotted text, with its name if it has one, or its octets.
+pub(crate) fn put_object<N: NameTable, D: Drain>(
+    layout: Layout,
+    contents: &[u8],
+    names: &N,
+    out: &mut Out<'_, D>,
+) -> Result<(), WriteFault>
+    requires room { HasRoomFor (buffer_of out.old) 400 }
+    requires short { length contents.now ≤ 64 }
+    ensures { Puts D.state out.old out.new (object_lines (N.name_of names.now) layout [] false contents.now) result }
+{
+    let start = out.held.len() + 1;
+    if !write_dotted(&mut out.held, contents, false) {
+        return put_octets(layout, contents, out);
+    }
+    match names.get(&out.held.as_slice()[start..]) {
+        Some(name) => put_name(name, out),
+        None => {
+            out.held.add(b"\n");
+            Ok(())
+        }
+    }
+}
+
+/// Puts a name, which may be of any length, and ends the line.
+fn put_name<D: Drain>(name: &[u8], out: &mut Out<'_, D>) -> Result<(), WriteFault>
+    requires { HasRoomFor (buffer_of out.old) 2 }
+    ensures { Puts D.state out.old out.new ((codes " (" ++ name.now) ++ codes ")\n") result }
+{
+    out.held.add(b" (");
+    out.put(name)?;
+    out.put(b")\n")
+}
+
+/// Puts the rest of the lines of a relative object identifier: its dotted text, or its octets.
+pub(crate) fn put_relative<D: Drain>(
+    layout: Layout,
+    contents: &[u8],
+    out: &mut Out<'_, D>,
+) -> Result<(), WriteFault>
+    requires room { HasRoomFor (buffer_of out.old) 400 }
+    requires short { length contents.now ≤ 64 }
+    ensures { Puts D.state out.old out.new (object_lines no_names layout [] true contents.now) result }
+{
+    if !write_dotted(&mut out.held, contents, true) {
+        return put_octets(layout, contents, out);
+    }
+    out.held.add(b"\n");
+    Ok(())
+}
+
+/// Puts the rest of the lines of up to 64 octets: they are on the line, or in rows below it.
+#[inline(never)]
+fn put_octets<D: Drain>(
+    layout: Layout,
+    contents: &[u8],
+    out: &mut Out<'_, D>,
+) -> Result<(), WriteFault>
+    requires room { HasRoomFor (buffer_of out.old) 400 }
+    requires short { length contents.now ≤ 64 }
+    ensures { Puts D.state out.old out.new (octets_lines layout [] contents.now) result }
+{
+    if contents.len() <= 16 {
+        out.held.spaced_pairs(contents);
+        out.held.add(b"\n");
+        return Ok(());
+    }
+    out.held.add(b"\n");
+    put_all_rows(layout, contents, out)
+}

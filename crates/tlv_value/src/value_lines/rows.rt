@@ -1,0 +1,233 @@
+//! Rows on their way to an [`Out`].
+ghost use Rattle.std.specs.Prelude.{◌≡◌, ◌+◌, ◌<◌, ◌≤◌, ◌^◌, ◌++◌, [], codes, if◌then◌else◌, length, IsTrue, None, OnOk, ◌↔◌};
+ghost use Rattle.tlv_io.specs.LineTexts.{HasRoomFor};
+ghost use Rattle.tlv_io.specs.Out.{Puts};
+ghost use Rattle.tlv_value.specs.Layout.{line, no_columns, row_line};
+ghost use Rattle.tlv_value.specs.Private.Rows.{full_line, full_lines};
+ghost use Rattle.tlv_value.specs.Rows.{full_rows, last_rows, open_row, row_size as row_size_of, rows_of};
+ghost use Rattle.tlv_value.specs.TextState.{row_lines};
+ghost use Rattle.tlv_value.specs.Value.{row_text};
+
+use crate::Layout;
+use crate::kind::Kind;
+use crate::line::row_indent;
+use crate::rows::{fitting, row_size};
+use crate::value::write_row;
+use arrayvec::ArrayVec;
+use tlv_io::{Drain, Held, Out, WriteFault};
+
+/// Puts rows of all of the octets.
+pub(super) fn put_all_rows<D: Drain>(
+    layout: Layout,
+    contents: &[u8],
+    out: &mut Out<'_, D>,
+) -> Result<(), WriteFault>
+    requires { length contents.now ≤ 64 }
+    ensures { Puts D.state out.old out.new
+        (row_lines Kind.Octets layout 0 (rows_of Kind.Octets contents.now)) result }
+{
+    let mut row = ArrayVec::new();
+    let mut rows = 0;
+    put_rows(Kind::Octets, layout, &mut row, &mut rows, contents, out)?;
+    put_last(Kind::Octets, layout, rows, row.as_slice(), out)
+}
+
+/// Puts the rows that are full, of the octets of the row that has begun and those after them. What is left begins a
+/// row.
+pub(crate) fn put_rows<D: Drain>(
+    kind: Kind,
+    layout: Layout,
+    row: &mut ArrayVec<u8, 64>,
+    rows: &mut u64,
+    octets: &[u8],
+    out: &mut Out<'_, D>,
+) -> Result<(), WriteFault>
+    requires begun { length row.old.items < row_size_of kind }
+    requires counted { rows.old + length row.old.items + length octets.now < 2 ^ 64 }
+    ensures begun { length row.new.items < row_size_of kind }
+    ensures counted { rows.new + length row.new.items ≤ rows.old + length row.old.items + length octets.now }
+    ensures row { OnOk result (row.new.items ≡ open_row kind row.old.items octets.now) }
+    ensures rows { OnOk result (rows.new ≡ rows.old + length (full_rows kind row.old.items octets.now)) }
+    ensures puts { Puts D.state out.old out.new
+        (row_lines kind layout rows.old (full_rows kind row.old.items octets.now)) result }
+{
+    let size = row_size(kind);
+    let mut rest = octets;
+    while !rest.is_empty() {
+        let begun = row.len();
+        if has_full_rows(layout, size, begun, rest) {
+            let (full, more) = rest.as_chunks::<16>();
+            rest = more;
+            *rows += full.len() as u64;
+            put_full_rows(layout, full, out)?;
+            continue;
+        }
+        let (part, more) = rest.split_at(fitting(kind, begun, rest));
+        rest = more;
+        if begun + part.len() < size && rest.is_empty() {
+            let _ = row.try_extend_from_slice(part);
+            return Ok(());
+        }
+        let index = *rows;
+        *rows += 1;
+        put_full(kind, layout, index, row, part, out)?;
+    }
+    Ok(())
+}
+
+/// Whether the octets begin with full rows of pairs of digits, while no row has begun and their number is not limited.
+#[inline(always)]
+fn has_full_rows(layout: Layout, size: usize, begun: usize, octets: &[u8]) -> bool
+    ensures { IsTrue result
+        ↔ ((begun ≡ 0) × (size ≡ 16) × (layout.limit ≡ None) × (16 ≤ length octets.now)) }
+{
+    begun == 0 && size == 16 && layout.limit.is_none() && octets.len() >= 16
+}
+
+/// Puts full rows of pairs of digits, from where their octets are. There is no limit to them.
+#[inline(always)]
+fn put_full_rows<D: Drain>(
+    layout: Layout,
+    rows: &[[u8; 16]],
+    out: &mut Out<'_, D>,
+) -> Result<(), WriteFault>
+    ensures { Puts D.state out.old out.new (full_lines layout rows.now) result }
+{
+    for row in rows {
+        out.make_room()?;
+        write_full_line(&mut out.held, layout, row);
+    }
+    Ok(())
+}
+
+/// Puts rows of pairs of digits, of all of the octets, from where they are. There is no limit to them.
+#[inline(always)]
+pub(crate) fn put_pair_rows<D: Drain>(
+    layout: Layout,
+    octets: &[u8],
+    out: &mut Out<'_, D>,
+) -> Result<(), WriteFault>
+    ensures { Puts D.state out.old out.new (full_lines layout (rows_of Kind.Octets octets.now)) result }
+{
+    let (full, last) = octets.as_chunks::<16>();
+    put_full_rows(layout, full, out)?;
+    if last.is_empty() {
+        return Ok(());
+    }
+    out.make_room()?;
+    write_line(&mut out.held, layout, Kind::Octets, last);
+    Ok(())
+}
+
+/// Puts the row that has begun with the octets that fill it: from where they are, if they are the whole row.
+fn put_full<D: Drain>(
+    kind: Kind,
+    layout: Layout,
+    index: u64,
+    row: &mut ArrayVec<u8, 64>,
+    part: &[u8],
+    out: &mut Out<'_, D>,
+) -> Result<(), WriteFault>
+    requires { length row.old.items + length part.now ≤ 64 }
+    ensures row { row.new.items ≡ [] }
+    ensures puts { Puts D.state out.old out.new
+        (row_line layout index (row_text kind (row.old.items ++ part.now))) result }
+{
+    if row.is_empty() {
+        return put_row(kind, layout, index, part, out);
+    }
+    let _ = row.try_extend_from_slice(part);
+    let put = put_row(kind, layout, index, row.as_slice(), out);
+    row.clear();
+    put
+}
+
+/// Puts a last row, if there is one.
+pub(crate) fn put_last<D: Drain>(
+    kind: Kind,
+    layout: Layout,
+    index: u64,
+    row: &[u8],
+    out: &mut Out<'_, D>,
+) -> Result<(), WriteFault>
+    requires { length row.now ≤ 64 }
+    ensures { Puts D.state out.old out.new (row_lines kind layout index (last_rows row.now)) result }
+{
+    if row.is_empty() {
+        return Ok(());
+    }
+    put_row(kind, layout, index, row, out)
+}
+
+/// Puts a row, unless that is past the limit.
+#[inline(always)]
+fn put_row<D: Drain>(
+    kind: Kind,
+    layout: Layout,
+    index: u64,
+    row: &[u8],
+    out: &mut Out<'_, D>,
+) -> Result<(), WriteFault>
+    requires { length row.now ≤ 64 }
+    ensures { Puts D.state out.old out.new (row_line layout index (row_text kind row.now)) result }
+{
+    if let Some(limit) = layout.limit
+        && index >= u64::from(limit)
+    {
+        return put_dots(layout, index == u64::from(limit), out);
+    }
+    out.make_room()?;
+    write_line(&mut out.held, layout, kind, row);
+    Ok(())
+}
+
+/// Puts three dots in place of the first row past the limit.
+#[inline(never)]
+fn put_dots<D: Drain>(
+    layout: Layout,
+    is_first: bool,
+    out: &mut Out<'_, D>,
+) -> Result<(), WriteFault>
+    ensures { Puts D.state out.old out.new
+        (if is_first then line layout.pure no_columns (layout.level + 1) (codes "...") else []) result }
+{
+    if !is_first {
+        return Ok(());
+    }
+    out.make_room()?;
+    write_dots(&mut out.held, layout);
+    Ok(())
+}
+
+/// Adds the line of a row.
+#[inline(always)]
+fn write_line(held: &mut Held, layout: Layout, kind: Kind, row: &[u8])
+    requires room { HasRoomFor held.old 1024 }
+    requires short { length row.now ≤ 64 }
+    ensures { held.new ≡ held.old ++ line layout.pure no_columns (layout.level + 1) (row_text kind row.now) }
+{
+    held.spaces(row_indent(layout) - 1);
+    write_row(held, kind, row);
+    held.add(b"\n");
+}
+
+/// Adds the line of a full row of pairs of digits.
+#[inline(always)]
+fn write_full_line(held: &mut Held, layout: Layout, row: &[u8; 16])
+    requires { HasRoomFor held.old 1024 }
+    ensures { held.new ≡ held.old ++ full_line layout row.now }
+{
+    // Each pair brings the space before it.
+    held.spaces(row_indent(layout) - 1);
+    held.spaced_row(row);
+    held.add(b"\n");
+}
+
+/// Adds the line of three dots.
+fn write_dots(held: &mut Held, layout: Layout)
+    requires { HasRoomFor held.old 1024 }
+    ensures { held.new ≡ held.old ++ line layout.pure no_columns (layout.level + 1) (codes "...") }
+{
+    held.spaces(row_indent(layout));
+    held.add(b"...\n");
+}

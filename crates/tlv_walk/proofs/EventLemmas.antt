@@ -1,0 +1,5 @@
+pub mod Gains
+pub mod Joined
+pub mod Prefixes
+pub mod Unused
+pub mod Wrappers

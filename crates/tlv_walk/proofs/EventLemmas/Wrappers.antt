@@ -1,0 +1,300 @@
+-- Wrappers by the events that enter them: one more octet adds one at most, behind the others.
+use Rattle.std.proofs.Common.{◌≡◌, inl, inr, ℕ, ◌+◌, ◌<◌, ◌≤◌, Bool, true, false, cond, ◌||◌, eqb, if◌then◌else◌, List, [], ◌∷◌, ◌++◌, length, map, refl, sym, ap, ◌∙◌, arith, length-append}
+use Rattle.std.proofs.lemmas.Bool.{cases_Bool, true≢false}
+use Rattle.tlv_head.specs.declared.fault.FaultCode.TheVariants.{MissingEnd, Overrun, TooDeep}
+use Rattle.tlv_head.specs.Header.{HeaderValue, announced, holds, is_wrapper, octets_of}
+use Rattle.tlv_head.proofs.Scan.{Scan, Fresh, High, Named, Long, Ready, Stuck, Over, scan, step}
+use Rattle.tlv_walk.specs.Forest.{Forest, Stop, Fill, Whole, Closed, Partial, Entered, Awaiting, Begun, Zero, extent, lead, opening, spell}
+use Rattle.tlv_walk.specs.Inside.{is_among}
+use Rattle.tlv_walk.specs.Place.{IsHeadAt, IsOpen, Place, place_after, place_inside}
+use Rattle.tlv_walk.specs.Events.{Begin, Bytes, Close, End, Enter, EventValue, Leave, Open, Pad, Unused, closing_event, events, opening_events, single_octets}
+use Rattle.tlv_walk.specs.Wrappers.{wrapper_at, wrapper_offsets, wrappers}
+use Rattle.tlv_walk.proofs.GrammarLemmas.Bounds.{fits}
+use Rattle.tlv_walk.proofs.GrammarLemmas.Spellings.{length-closed, length-opening, length-whole}
+use Rattle.tlv_walk.proofs.GrammarLemmas.PushSteps.{Step, Grown, Ended, Refused, Spells, begin, begun, entered, is_filled, opened, origin, partial, push, zero_between}
+use Rattle.tlv_walk.proofs.GrammarLemmas.Push.{push-sound}
+use Rattle.tlv_walk.proofs.GrammarLemmas.PopHeaders.{header-length}
+use Rattle.tlv_walk.proofs.EventLemmas.Gains.{closing, gained, push-brings, step_events}
+
+-- of two pieces
+pub enters-append : (xs ys : List EventValue) → wrapper_offsets (xs ++ ys) ≡ wrapper_offsets xs ++ wrapper_offsets ys
+enters-append [] ys = refl
+enters-append (Enter h ∷ es) ys = ap (λ (t : List ℕ). h.offset ∷ t) (enters-append es ys)
+enters-append (Open h ∷ es) ys = enters-append es ys
+enters-append (Begin h ∷ es) ys = enters-append es ys
+enters-append (Bytes c ∷ es) ys = enters-append es ys
+enters-append (End ∷ es) ys = enters-append es ys
+enters-append (Close o ∷ es) ys = enters-append es ys
+enters-append (Unused ∷ es) ys = enters-append es ys
+enters-append (Leave ∷ es) ys = enters-append es ys
+enters-append (Pad c ∷ es) ys = enters-append es ys
+
+-- contents octets enter none
+enters-bytes : (c : List ℕ) (es : List EventValue) → wrapper_offsets (map (λ x. Bytes (x ∷ [])) c ++ es) ≡ wrapper_offsets es
+enters-bytes [] es = refl
+enters-bytes (x ∷ c) es = enters-bytes c es
+
+-- padding enters none
+enters-pad : (c : List ℕ) (es : List EventValue) → wrapper_offsets (map (λ x. Pad (x ∷ [])) c ++ es) ≡ wrapper_offsets es
+enters-pad [] es = refl
+enters-pad (x ∷ c) es = enters-pad c es
+
+-- cutting contents and padding apart changes none
+pub enters-apart : (es : List EventValue) → wrapper_offsets (single_octets es) ≡ wrapper_offsets es
+enters-apart [] = refl
+enters-apart (Bytes c ∷ es) = enters-bytes c (single_octets es) ∙ enters-apart es
+enters-apart (Pad c ∷ es) = enters-pad c (single_octets es) ∙ enters-apart es
+enters-apart (Enter h ∷ es) = ap (λ (t : List ℕ). h.offset ∷ t) (enters-apart es)
+enters-apart (Open h ∷ es) = enters-apart es
+enters-apart (Begin h ∷ es) = enters-apart es
+enters-apart (End ∷ es) = enters-apart es
+enters-apart (Close o ∷ es) = enters-apart es
+enters-apart (Unused ∷ es) = enters-apart es
+enters-apart (Leave ∷ es) = enters-apart es
+
+-- the first contents octet of a BIT STRING enters none
+enters-unused : (l : List ℕ) (es : List EventValue) → wrapper_offsets (map (λ z. Unused) l ++ es) ≡ wrapper_offsets es
+enters-unused [] es = refl
+enters-unused (x ∷ l) es = enters-unused l es
+
+-- the first event of an element that holds others, by its form
+enters-first : (h : HeaderValue) (constructed : Bool) (es : List EventValue) → wrapper_offsets ((if constructed then Open h else Enter h) ∷ es) ≡ (if constructed then [] else h.offset ∷ []) ++ wrapper_offsets es
+enters-first h true es = refl
+enters-first h false es = refl
+
+-- the beginning of an element that holds others enters it, where it is a wrapper
+enters-opens : (h : HeaderValue) (es : List EventValue) → wrapper_offsets (opening_events h ++ es) ≡ wrapper_at h ++ wrapper_offsets es
+enters-opens h es =
+    enters-first h h.constructed (map (λ z. Unused) (lead h) ++ es)
+    ∙ ap (λ (t : List ℕ). wrapper_at h ++ t) (enters-unused (lead h) es)
+
+-- the end of an element that holds others enters none
+enters-closes : (h : HeaderValue) (inside : Forest) (es : List EventValue) → wrapper_offsets (closing_event h inside ∷ es) ≡ wrapper_offsets es
+enters-closes h inside es = elim (cases_Bool h.constructed) [
+  | inl e ↦ rw e
+  | inr e ↦ rw e
+]
+
+-- what waits for its first contents octet is a wrapper
+waiting-wraps : (h : HeaderValue) → lead h ≡ 0 ∷ [] → wrapper_at h ≡ h.offset ∷ []
+waiting-wraps h e = elim (cases_Bool h.constructed) [
+  | inl c ↦ let none : List ℕ = [] in let e' : none ≡ 0 ∷ [] = rw c at e in absurd (cc)
+  | inr c ↦ rw c
+]
+
+-- the wrappers of an open forest are those that its events enter
+pub wrappers-entered : (p : Place) (f : Forest) → IsOpen p f → wrappers f ≡ wrapper_offsets (events f)
+wrappers-entered p Stop w = refl
+wrappers-entered p (Fill rest) w = wrappers-entered (place_after p 1) rest w.1
+wrappers-entered p (Whole h c rest) w = wrappers-entered (place_after p (length (octets_of h) + length c)) rest w.1
+wrappers-entered p (Closed h inside rest) w = sym
+    (enters-opens h (events inside ++ closing_event h inside ∷ events rest)
+    ∙ ap (λ (t : List ℕ). wrapper_at h ++ t)
+    (enters-append (events inside) (closing_event h inside ∷ events rest)
+    ∙ (ap (λ (t : List ℕ). t ++ wrapper_offsets (closing_event h inside ∷ events rest)) (sym (wrappers-entered (place_inside p h) inside w.1))
+    ∙ ap (λ (t : List ℕ). wrappers inside ++ t) (enters-closes h inside (events rest) ∙ sym (wrappers-entered (place_after p (extent h inside)) rest w.2)))))
+wrappers-entered p (Partial h c) w = refl
+wrappers-entered p (Entered h inside) w = sym (enters-opens h (events inside) ∙ ap (λ (t : List ℕ). wrapper_at h ++ t) (sym (wrappers-entered (place_inside p h) inside w.1)))
+wrappers-entered p (Awaiting h) w = waiting-wraps h w.1
+wrappers-entered p (Begun octets) w = refl
+wrappers-entered p Zero w = refl
+
+-- the wrappers of the forest pushed are those before, and then those that the octet enters
+pub push-wrappers : (p : Place) (f g : Forest) (x : ℕ) → x < 256 → IsOpen p f → push p f x ≡ Grown g → wrappers g ≡ wrappers f ++ wrapper_offsets (gained p f x)
+push-wrappers p f g x h w e =
+    let sound : Spells p (spell f ++ x ∷ []) g = rw e at (push-sound p f x h w) in
+    let brings : single_octets (events g) ≡ single_octets (events f ++ gained p f x) = rw e at (push-brings p f x w) in
+    wrappers-entered p g sound.is_open
+    ∙ sym (enters-apart (events g)) ∙ ap wrapper_offsets brings ∙ enters-apart (events f ++ gained p f x)
+    ∙ enters-append (events f) (gained p f x) ∙ ap (λ (t : List ℕ). t ++ wrapper_offsets (gained p f x)) (sym (wrappers-entered p f w))
+
+-- the octet enters no wrapper, or one
+abbrev pub EntersFew : List EventValue → Type 0
+EntersFew es = length (wrapper_offsets es) ≤ 1
+
+-- an element is one wrapper, or none
+wrapper-few : (h : HeaderValue) → length (wrapper_at h) ≤ 1
+wrapper-few h = elim (cases_Bool h.constructed) [
+  | inl e ↦ rw e (omega arith)
+  | inr e ↦ rw e (omega arith)
+]
+
+-- an end enters none
+closing-none : (h : HeaderValue) (s : Step) → wrapper_offsets (closing h s) ≡ []
+closing-none h (Grown g) = elim (cases_Bool (is_filled h g)) [
+  | inl e ↦ rw e (enters-closes h g [])
+  | inr e ↦ rw e
+]
+closing-none h (Ended g) = enters-closes h g []
+closing-none h (Refused code) = refl
+
+-- an element that holds none yet, by its contents octets
+entered-few : (h : HeaderValue) → EntersFew (events (entered h Stop))
+entered-few h = elim (cases_Bool (is_filled h Stop)) [
+  | inl e ↦ rw e (omega (arith, wrapper-few h, ap length (enters-opens h (closing_event h Stop ∷ [])), length-append (wrapper_at h) (wrapper_offsets (closing_event h Stop ∷ [])), ap length (enters-closes h Stop [])))
+  | inr e ↦ rw e (omega (arith, wrapper-few h, ap length (enters-opens h []), length-append {A = ℕ} (wrapper_at h) []))
+]
+
+-- an element that holds none yet
+opened-few : (h : HeaderValue) (l : List ℕ) → EntersFew (events (opened h l))
+opened-few h [] = entered-few h
+opened-few h (x ∷ l) = omega arith
+
+-- a primitive
+partial-none : (h : HeaderValue) (c : List ℕ) → EntersFew (events (partial h c))
+partial-none h c = elim (cases_Bool (eqb (length c) (announced h.size))) [
+  | inl e ↦ rw e (omega arith)
+  | inr e ↦ rw e (omega arith)
+]
+
+-- a header alone
+begun-few : (h : HeaderValue) (k : Bool) → EntersFew (events (begun k h))
+begun-few h true = opened-few h (lead h)
+begun-few h false = partial-none h []
+
+-- a header that is complete
+complete-few : (p : Place) (h : HeaderValue) (deep room : Bool) → EntersFew (step_events (cond deep (Refused TooDeep) (cond room (Grown (begun (holds h) h)) (Refused Overrun))))
+complete-few p h true room = omega arith
+complete-few p h false true = begun-few h (holds h)
+complete-few p h false false = omega arith
+
+-- octets of a header, by what they say
+begin-few : (p : Place) (o : List ℕ) (s : Scan) → EntersFew (step_events (begin p o s))
+begin-few p o Fresh = omega arith
+begin-few p o (High c k ds) = omega arith
+begin-few p o (Named c k n i) = omega arith
+begin-few p o (Long c k n i m ds) = omega arith
+begin-few p o (Ready h) = complete-few p h _ _
+begin-few p o (Stuck code) = omega arith
+begin-few p o Over = omega arith
+
+-- behind the front of a header
+header-few : (p : Place) (o : List ℕ) (s : Scan) (room : Bool) → EntersFew (step_events (cond room (begin p o s) (Refused Overrun)))
+header-few p o s true = begin-few p o s
+header-few p o s false = omega arith
+
+-- between encodings
+between-few : (o : List ℕ) (room zero indefinite padding : Bool) → EntersFew (step_events (cond room (cond zero (zero_between indefinite padding) (Grown (Begun o))) (Refused MissingEnd)))
+between-few o true true true padding = omega arith
+between-few o true true false true = omega arith
+between-few o true true false false = omega arith
+between-few o true false indefinite padding = omega arith
+between-few o false zero indefinite padding = omega arith
+
+-- an octet enters one wrapper at most
+pub gained-few : (p : Place) (f : Forest) (x : ℕ) → EntersFew (gained p f x)
+gained-few p Stop x = between-few (x ∷ []) (fits p 1) (eqb x 0) p.indefinite p.padding
+gained-few p (Fill rest) x = gained-few (place_after p 1) rest x
+gained-few p (Whole h c rest) x = gained-few (place_after p (length (octets_of h) + length c)) rest x
+gained-few p (Closed h inside rest) x = gained-few (place_after p (extent h inside)) rest x
+gained-few p (Partial h c) x = elim (cases_Bool (eqb (length (c ++ x ∷ [])) (announced h.size))) [
+  | inl e ↦ rw e (omega arith)
+  | inr e ↦ rw e (omega arith)
+]
+gained-few p (Entered h inside) x =
+    let es : List EventValue = closing h (push (place_inside p h) inside x) in
+    let none : length (wrapper_offsets es) ≡ 0 = ap length (closing-none h (push (place_inside p h) inside x)) in
+    omega (arith, gained-few (place_inside p h) inside x, ap length (enters-append (gained (place_inside p h) inside x) es), length-append (wrapper_offsets (gained (place_inside p h) inside x)) (wrapper_offsets es))
+gained-few p (Awaiting h) x = elim (cases_Bool (eqb x 0)) [
+  | inl e ↦ rw e (omega (arith, ap length (closing-none h (Grown Stop))))
+  | inr e ↦ rw e (omega arith)
+]
+gained-few p (Begun o) x = header-few p (o ++ x ∷ []) (step (origin p) (scan (origin p) o) x) (fits p (length o + 1))
+gained-few p Zero x = omega arith
+
+-- each number is larger than the one before, from `least` on and below `end`
+abbrev pub Rise : ℕ → ℕ → List ℕ → Type 0
+Rise least end [] = least ≤ end
+Rise least end (n ∷ ns) = (least ≤ n) × Rise (n + 1) end ns
+
+-- a later end
+rise-end : (a b c : ℕ) (ns : List ℕ) → b ≤ c → Rise a b ns → Rise a c ns
+rise-end a b c [] h r = omega arith
+rise-end a b c (n ∷ ns) h r = (r.0, rise-end (n + 1) b c ns h r.1)
+
+-- an earlier beginning
+rise-least : (a b c : ℕ) (ns : List ℕ) → b ≤ a → Rise a c ns → Rise b c ns
+rise-least a b c [] h r = omega arith
+rise-least a b c (n ∷ ns) h r = (omega (arith, r.0), r.1)
+
+-- both
+rise-within : (a b c d : ℕ) (ns : List ℕ) → c ≤ a → b ≤ d → Rise a b ns → Rise c d ns
+rise-within a b c d ns h k r = rise-least a c d ns h (rise-end a b d ns k r)
+
+-- numbers that rise, and others that rise behind them
+rise-append : (a b c : ℕ) (xs ys : List ℕ) → Rise a b xs → Rise b c ys → Rise a c (xs ++ ys)
+rise-append a b c [] ys r s = rise-least b a c ys r s
+rise-append a b c (n ∷ xs) ys r s = (r.0, rise-append (n + 1) b c xs ys r.1 s)
+
+-- the offset of a wrapper is that of its first octet
+wrapper-rises : (a b : ℕ) (h : HeaderValue) → h.offset ≡ a → a < b → Rise a b (wrapper_at h)
+wrapper-rises a b h e l = elim (cases_Bool h.constructed) [
+  | inl c ↦ rw c (omega arith)
+  | inr c ↦ rw c (omega arith, omega arith)
+]
+
+-- the offsets of the wrappers rise, and are those of octets of the forest
+pub wrappers-rise : (p : Place) (f : Forest) → IsOpen p f → Rise p.at (p.at + length (spell f)) (wrappers f)
+wrappers-rise p Stop w = omega arith
+wrappers-rise p (Fill rest) w = rise-within _ _ _ _ (wrappers rest) (omega arith) (omega arith) (wrappers-rise (place_after p 1) rest w.1)
+wrappers-rise p (Whole h c rest) w =
+    rise-within _ _ _ _ (wrappers rest) (omega arith) (omega (arith, length-whole h c rest))
+    (wrappers-rise (place_after p (length (octets_of h) + length c)) rest w.1)
+wrappers-rise p (Closed h inside rest) w =
+    let two : 2 ≤ length (octets_of h) = header-length h w.0.0.header.valid in
+    let size : length (spell (Closed h inside rest)) ≡ extent h inside + length (spell rest) = length-closed h inside rest in
+    rise-append p.at (p.at + length (opening h)) _ (wrapper_at h) (wrappers inside ++ wrappers rest)
+    (wrapper-rises p.at (p.at + length (opening h)) h w.0.0.header.offset (omega (arith, length-opening h)))
+    (rise-append (p.at + length (opening h)) (p.at + extent h inside) _ (wrappers inside) (wrappers rest)
+    (rise-within _ _ _ _ (wrappers inside) (omega arith) (omega arith) (wrappers-rise (place_inside p h) inside w.1))
+    (rise-within _ _ _ _ (wrappers rest) (omega arith) (omega arith) (wrappers-rise (place_after p (extent h inside)) rest w.2)))
+wrappers-rise p (Partial h c) w = omega arith
+wrappers-rise p (Entered h inside) w =
+    let two : 2 ≤ length (octets_of h) = header-length h w.0.0.header.valid in
+    rise-append p.at (p.at + length (opening h)) _ (wrapper_at h) (wrappers inside)
+    (wrapper-rises p.at (p.at + length (opening h)) h w.0.0.header.offset (omega (arith, length-opening h)))
+    (rise-within _ _ _ _ (wrappers inside) (omega arith) (omega (arith, length-append (opening h) (spell inside))) (wrappers-rise (place_inside p h) inside w.1))
+wrappers-rise p (Awaiting h) w = wrapper-rises p.at _ h w.0.header.offset (omega (arith, header-length h w.0.header.valid))
+wrappers-rise p (Begun octets) w = omega arith
+wrappers-rise p Zero w = omega arith
+
+-- each is among the offsets named
+abbrev pub AreNamed : List ℕ → List ℕ → Type 0
+AreNamed inside [] = Unit {0}
+AreNamed inside (n ∷ ns) = (is_among n inside ≡ true) × AreNamed inside ns
+
+-- of two pieces
+named-append : (inside xs ys : List ℕ) → AreNamed inside xs → AreNamed inside ys → AreNamed inside (xs ++ ys)
+named-append inside [] ys r s = s
+named-append inside (n ∷ xs) ys r s = (r.0, named-append inside xs ys r.1 s)
+
+-- only what is named is a wrapper
+wraps-named : (constructed named : Bool) (h : HeaderValue) → constructed ≡ false → (constructed || is_wrapper named h.class constructed h.number h.size) ≡ true → named ≡ true
+wraps-named true named h c e = absurd (true≢false c)
+wraps-named false true h c e = refl
+wraps-named false false h c e = absurd (cc)
+
+-- an element that stands there, where it is a wrapper, is named
+wrapper-named : (p : Place) (h : HeaderValue) → IsHeadAt p true h → AreNamed p.inside (wrapper_at h)
+wrapper-named p h header = elim (cases_Bool h.constructed) [
+  | inl c ↦ rw c tt
+  | inr c ↦
+      let named : is_among h.offset p.inside ≡ true =
+      ap (λ (n : ℕ). is_among n p.inside) header.offset ∙ (sym header.named ∙ wraps-named h.constructed h.named h c header.form) in
+      rw c (named, tt)
+]
+
+-- the wrappers of an open forest are among the offsets named
+pub wrappers-named : (p : Place) (f : Forest) → IsOpen p f → AreNamed p.inside (wrappers f)
+wrappers-named p Stop w = tt
+wrappers-named p (Fill rest) w = wrappers-named (place_after p 1) rest w.1
+wrappers-named p (Whole h c rest) w = wrappers-named (place_after p (length (octets_of h) + length c)) rest w.1
+wrappers-named p (Closed h inside rest) w =
+    named-append p.inside (wrapper_at h) (wrappers inside ++ wrappers rest) (wrapper-named p h w.0.0.header)
+    (named-append p.inside (wrappers inside) (wrappers rest) (wrappers-named (place_inside p h) inside w.1) (wrappers-named (place_after p (extent h inside)) rest w.2))
+wrappers-named p (Partial h c) w = tt
+wrappers-named p (Entered h inside) w =
+    named-append p.inside (wrapper_at h) (wrappers inside) (wrapper-named p h w.0.0.header) (wrappers-named (place_inside p h) inside w.1)
+wrappers-named p (Awaiting h) w = wrapper-named p h w.0.header
+wrappers-named p (Begun octets) w = tt
+wrappers-named p Zero w = tt

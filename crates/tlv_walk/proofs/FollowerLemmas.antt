@@ -1,0 +1,9 @@
+pub mod Calls
+pub mod Drives
+pub mod Enough
+pub mod Followed
+pub mod Following
+pub mod Jobs
+pub mod Parts
+pub mod SoFar
+pub mod Turns

@@ -1,0 +1,66 @@
+-- One read of a source that gave octets, and the writes behind it.
+use Rattle.std.proofs.Common.{◌≡◌, ◌<◌, ◌≤◌, ◌+◌, ◌-◌, min, ℕ, List, length, refl, sym, ap, ◌∙◌, subst, arith}
+use Rattle.std.specs.Prelude.{Result, Ok, Err, IfOk, ⊤}
+use Rattle.std.specs.Io.KnownBytes.{Consumes}
+use Rattle.tlv_io.specs.declared.drain.WriteFault.{WriteFault}
+use Rattle.tlv_walk.specs.declared.run.DeviceFault.{DeviceFault}
+use Rattle.tlv_walk.specs.declared.run.DeviceFault.TheVariants.{ReadFailed, WriteFailed, InputTooLong}
+use Rattle.tlv_walk.specs.declared.run.Turn.{Turn}
+use Rattle.tlv_walk.specs.declared.run.Turn.TheVariants.{Again, Ended}
+use Rattle.tlv_io.specs.declared.source.ReadFault.{ReadFault}
+use Rattle.tlv_walk.specs.declared.one_turn.Stop.{Stop}
+use Rattle.tlv_walk.specs.declared.one_turn.Stop.TheVariants as stop
+use Rattle.tlv_io.specs.Device.{Last, never, gave, failed, failures_after, ReadsOnce}
+use Rattle.tlv_walk.specs.Job.{drain_result, source_result}
+use Rattle.tlv_walk.specs.WalkerState.{CanTake, WalkerState}
+use Rattle.tlv_walk.specs.Private.ResultOfStop.{IsResultOfStop}
+use Rattle.tlv_walk.specs.OneTurn.{CallsDevices, CanGoOn, Gave, TurnState, last_octets}
+
+gave-same : (m n : ℕ) → gave m ≡ gave n → m ≡ n
+gave-same m n e = ap (λ (l : Last). elim l [ never ↦ 0 | gave k ↦ k | failed ↦ 0 ]) e
+
+module _ {S : Type 0} (before after : TurnState S) (piece : List ℕ) where
+  -- a read that gave octets, and a result that blames no source for it
+  pub calls_given : (n : ℕ) (result : Result Turn DeviceFault) → ReadsOnce {E = ReadFault} before.source after.source (Ok n) piece
+      → 0 < length piece → Gave (length piece) result (gave n) → source_result result ≡ Ok tt
+      → after.drain.failures ≡ failures_after (drain_result result) before.drain.failures → CallsDevices before after piece result
+  calls_given n result r some g s d = record {
+    octets = subst (λ (l : Last). Consumes before.source.left after.source.left (last_octets l piece)) (sym r.last) r.octets.0;
+    reads = r.reads;
+    last = subst (λ (l : Last). Gave (length piece) result l) (sym r.last) g;
+    at_end = λ e. r.octets.1 (gave-same n 0 (sym r.last ∙ e)) some;
+    failed_reads = r.failures ∙ ap (λ (x : Result ⊤ DeviceFault). failures_after x before.source.failures) (sym s);
+    failed_writes = d;
+  }
+
+  -- the same, where all that was made of the octets was written, and a turn answers what comes of it
+  pub calls_answered : (n m : ℕ) (v : WalkerState) (why : Stop) (result : Result Turn DeviceFault)
+      → ReadsOnce {E = ReadFault} before.source after.source (Ok n) piece → 0 < length piece → n ≤ length piece
+      → after.drain.failures ≡ before.drain.failures → IsResultOfStop n m v why result → CallsDevices before after piece result
+  calls_answered n m v stop.Enough (Ok turn) r some fits d is = calls_given n (Ok turn) r some fits refl d
+  calls_answered n m v (stop.Fault f) (Ok turn) r some fits d is = calls_given n (Ok turn) r some fits refl d
+  calls_answered n m v stop.UsedUp (Ok turn) r some fits d is = calls_given n (Ok turn) r some fits refl d
+  calls_answered n m v stop.UsedUp (Err InputTooLong) r some fits d is = calls_given n (Err InputTooLong) r some fits refl d
+  calls_answered n m v stop.Enough (Err e) r some fits d is = absurd is
+  calls_answered n m v (stop.Fault f) (Err e) r some fits d is = absurd is
+  calls_answered n m v stop.UsedUp (Err ReadFailed) r some fits d is = absurd is
+  calls_answered n m v stop.UsedUp (Err WriteFailed) r some fits d is = absurd is
+
+  -- how a walk can go on whose turn answers this, after octets within the limit
+  pub can_go_on_answered : (n m limit : ℕ) (walked : List ℕ) (why : Stop) (result : Result Turn DeviceFault)
+      → IsResultOfStop n m after.walker why result
+      → IfOk {E = WriteFault} (Ok why) (λ s. s ≡ stop.UsedUp → (after.walker.offset ≡ before.walker.offset + length walked) × CanTake after.walker)
+      → length walked ≡ m → m ≡ min (limit - before.walker.offset) n → before.walker.offset ≤ limit → CanGoOn limit before after result
+  can_go_on_answered n m limit walked stop.UsedUp (Ok Again) is used l fits below =
+      let u = used refl in (omega (arith, is.0, is.1, u.0, l, fits, below), omega (arith, is.0, is.1, u.0, l, fits, below), u.1)
+  can_go_on_answered n m limit walked why (Ok (Ended run)) is used l fits below = tt
+  can_go_on_answered n m limit walked stop.UsedUp (Err InputTooLong) is used l fits below =
+      let u = used refl in (omega (arith, is, u.0, l, fits, below), u.1)
+  can_go_on_answered n m limit walked why (Err WriteFailed) is used l fits below = tt
+  can_go_on_answered n m limit walked stop.UsedUp (Err ReadFailed) is used l fits below = absurd is
+  can_go_on_answered n m limit walked stop.Enough (Ok Again) is used l fits below = absurd is
+  can_go_on_answered n m limit walked stop.Enough (Err ReadFailed) is used l fits below = absurd is
+  can_go_on_answered n m limit walked stop.Enough (Err InputTooLong) is used l fits below = absurd is
+  can_go_on_answered n m limit walked (stop.Fault f) (Ok Again) is used l fits below = absurd is
+  can_go_on_answered n m limit walked (stop.Fault f) (Err ReadFailed) is used l fits below = absurd is
+  can_go_on_answered n m limit walked (stop.Fault f) (Err InputTooLong) is used l fits below = absurd is

@@ -1,0 +1,240 @@
+-- What a follower makes of lists of events, and of lists that are equal joined.
+use Rattle.std.proofs.Common.{◌≡◌, ℕ, List, [], ◌∷◌, ◌++◌, refl, sym, ap, ◌∙◌, append_assoc, append-nil, flat_map}
+use Rattle.tlv_walk.specs.declared.follow.Go.{Go}
+use Rattle.tlv_walk.specs.declared.follow.Go.TheVariants.{On, Enough}
+use Rattle.tlv_walk.specs.Events.{AreEqualJoined, Begin, Bytes, Close, End, Enter, EventValue, Leave, Open, Pad, Unused, joined_events, with_bytes, with_pad}
+use Rattle.tlv_walk.specs.Follow.{Effect, GoesOn, Joins, Rests, and_then, each_octet, effect_of, followed_events, if_more, if_on, no_effect}
+
+module _ {S : Type 0} where
+  -- what was put before
+  put_before : List ℕ → Effect S → Effect S
+  put_before put t = record t { put = put ++ t.put }
+
+  -- three in a row
+  pub and_then-assoc : (t : Effect S) (f g : S → Effect S) → and_then (and_then t f) g ≡ and_then t (λ u. and_then (f u) g)
+  and_then-assoc t f g =
+      let mid = f t.state in
+      let last = g mid.state in
+      ap (λ (l : List ℕ). record last { put = l }) (append_assoc t.put mid.put last.put)
+
+  -- nothing behind, and nothing before
+  pub and_then-stay : (t : Effect S) → t.goes ≡ On → and_then t no_effect ≡ t
+  and_then-stay t e =
+      ap (λ (g : Go). record { state = t.state; put = t.put ++ []; goes = g }) (sym e)
+      ∙ ap (λ (l : List ℕ). record { state = t.state; put = l; goes = t.goes }) (append-nil t.put)
+
+  -- what comes behind may be another that makes the same
+  pub and_then-alike : (t : Effect S) (f g : S → Effect S) → f t.state ≡ g t.state → and_then t f ≡ and_then t g
+  unfolding put_before
+  and_then-alike t f g e = ap (put_before t.put) e
+
+  if_on-alike : (go : Go) (t : Effect S) (f g : S → Effect S) → f t.state ≡ g t.state → if_on go t f ≡ if_on go t g
+  if_on-alike On t f g e = and_then-alike t f g e
+  if_on-alike Enough t f g e = refl
+
+  if_on-assoc : (go : Go) (t : Effect S) (f g : S → Effect S) → go ≡ t.goes
+      → if_on go t (λ u. if_on (f u).goes (f u) g) ≡ if_on (if_on go t f).goes (if_on go t f) g
+  if_on-assoc On t f g e = behind (f t.state) (f t.state).goes
+    where
+      behind : (m : Effect S) (go : Go) → and_then t (λ u. if_on go m g) ≡ if_on go (and_then t (λ u. m)) g
+      behind m On = sym (and_then-assoc t (λ u. m) g)
+      behind m Enough = refl
+  if_on-assoc Enough t f g e = ap (λ (go : Go). if_on go t g) e
+
+on_is_not_enough : On ≡ Enough → ⊥
+on_is_not_enough e = cc
+
+module _ {S : Type 0} (next : S → EventValue → Effect S) where
+  -- some events and then others
+  pub followed-append : (s : S) (xs ys : List EventValue) → effect_of next s (xs ++ ys) ≡ if_on (effect_of next s xs).goes (effect_of next s xs) (λ u. effect_of next u ys)
+  followed-append s [] ys = refl
+  followed-append s (e ∷ xs) ys =
+      let t = next s e in
+      if_on-alike t.goes t (λ u. effect_of next u (xs ++ ys)) (λ u. if_on (effect_of next u xs).goes (effect_of next u xs) (λ v. effect_of next v ys)) (followed-append t.state xs ys)
+      ∙ if_on-assoc t.goes t (λ u. effect_of next u xs) (λ v. effect_of next v ys) refl
+
+  -- where it wanted more, others come behind
+  pub followed-more : (s : S) (xs ys : List EventValue) → (effect_of next s xs).goes ≡ On → effect_of next s (xs ++ ys) ≡ and_then (effect_of next s xs) (λ u. effect_of next u ys)
+  followed-more s xs ys e = followed-append s xs ys ∙ ap (λ (go : Go). if_on go (effect_of next s xs) (λ u. effect_of next u ys)) e
+
+  -- where it had enough, others make nothing
+  pub followed-enough : (s : S) (xs ys : List EventValue) → (effect_of next s xs).goes ≡ Enough → effect_of next s (xs ++ ys) ≡ effect_of next s xs
+  followed-enough s xs ys e = followed-append s xs ys ∙ ap (λ (go : Go). if_on go (effect_of next s xs) (λ u. effect_of next u ys)) e
+
+  -- what some events put is the front of what these and others put
+  pub followed-front : (s : S) (xs ys : List EventValue) → (more : List ℕ) × ((effect_of next s (xs ++ ys)).put ≡ (effect_of next s xs).put ++ more)
+  followed-front s xs ys =
+      let t = effect_of next s xs in
+      let front = if_front t.goes t (λ u. effect_of next u ys) in
+      (front.0, ap (λ (u : Effect S). u.put) (followed-append s xs ys) ∙ front.1)
+    where
+      if_front : (go : Go) (t : Effect S) (f : S → Effect S) → (more : List ℕ) × ((if_on go t f).put ≡ t.put ++ more)
+      if_front On t f = ((f t.state).put, refl)
+      if_front Enough t f = ([], sym (append-nil t.put))
+
+  -- one event more
+  pub followed-one : (s : S) (e : EventValue) → effect_of next s (e ∷ []) ≡ next s e
+  followed-one s e = one (next s e).goes (next s e) refl
+    where
+      one : (go : Go) (t : Effect S) → t.goes ≡ go → if_on go t no_effect ≡ t
+      one On t g = and_then-stay t g
+      one Enough t g = refl
+
+  -- ---- the events up to the first at which it has enough
+
+  -- where it wanted more behind some events, they are followed, and others behind them
+  pub events_more : (s : S) (xs ys : List EventValue) → (effect_of next s xs).goes ≡ On → followed_events next s (xs ++ ys) ≡ xs ++ followed_events next (effect_of next s xs).state ys
+  events_more s [] ys h = refl
+  events_more s (e ∷ xs) ys h = by (λ (k : (effect_of next (next s e).state xs).goes ≡ On). events_more (next s e).state xs ys k) (next s e).goes refl h
+    where
+      by : ((effect_of next (next s e).state xs).goes ≡ On → followed_events next (next s e).state (xs ++ ys) ≡ xs ++ followed_events next (effect_of next (next s e).state xs).state ys)
+          → (g : Go) → (next s e).goes ≡ g → (if_on g (next s e) (λ u. effect_of next u xs)).goes ≡ On
+          → e ∷ if_more g (followed_events next (next s e).state (xs ++ ys)) ≡ e ∷ (xs ++ followed_events next (if_on g (next s e) (λ u. effect_of next u xs)).state ys)
+      by step On k h = ap (λ (l : List EventValue). e ∷ l) (step h)
+      by step Enough k h = absurd (on_is_not_enough (sym h ∙ k))
+
+  -- one event is followed
+  pub events_one : (s : S) (e : EventValue) → followed_events next s (e ∷ []) ≡ e ∷ []
+  events_one s e = by (next s e).goes
+    where
+      by : (g : Go) → e ∷ if_more g [] ≡ e ∷ []
+      by On = refl
+      by Enough = refl
+
+  -- and so are those behind which it wants more
+  pub events_all : (s : S) (xs : List EventValue) → (effect_of next s xs).goes ≡ On → followed_events next s xs ≡ xs
+  events_all s xs h = ap (followed_events next s) (sym (append-nil xs)) ∙ events_more s xs [] h ∙ append-nil xs
+
+  -- where it had enough, none behind them
+  pub events_enough : (s : S) (xs ys : List EventValue) → (effect_of next s xs).goes ≡ Enough → followed_events next s (xs ++ ys) ≡ followed_events next s xs
+  events_enough s [] ys h = absurd (cc (h))
+  events_enough s (e ∷ xs) ys h = by (λ (k : (effect_of next (next s e).state xs).goes ≡ Enough). events_enough (next s e).state xs ys k) (next s e).goes refl h
+    where
+      by : ((effect_of next (next s e).state xs).goes ≡ Enough → followed_events next (next s e).state (xs ++ ys) ≡ followed_events next (next s e).state xs)
+          → (g : Go) → (next s e).goes ≡ g → (if_on g (next s e) (λ u. effect_of next u xs)).goes ≡ Enough
+          → e ∷ if_more g (followed_events next (next s e).state (xs ++ ys)) ≡ e ∷ if_more g (followed_events next (next s e).state xs)
+      by step On k h = ap (λ (l : List EventValue). e ∷ l) (step h)
+      by step Enough k h = refl
+
+  -- events behind one event may be others that are followed alike
+  behind : (s : S) (e : EventValue) (es fs : List EventValue) → ((u : S) → effect_of next u es ≡ effect_of next u fs) → effect_of next s (e ∷ es) ≡ effect_of next s (e ∷ fs)
+  behind s e es fs h = if_on-alike (next s e).goes (next s e) (λ u. effect_of next u es) (λ u. effect_of next u fs) (h (next s e).state)
+
+  -- octets in parts: `part` is `Bytes` or `Pad`
+  module _ (part : List ℕ → EventValue) (joins : Joins next part) (rests : Rests next part) (go_on : GoesOn next part) where
+    after_part : (s : S) (b : List ℕ) (es : List EventValue) → effect_of next s (part b ∷ es) ≡ and_then (next s (part b)) (λ u. effect_of next u es)
+    after_part s b es = ap (λ (go : Go). if_on go (next s (part b)) (λ u. effect_of next u es)) (go_on s b)
+
+    -- two parts are one
+    pub two_parts : (s : S) (b c : List ℕ) (es : List EventValue) → effect_of next s (part (b ++ c) ∷ es) ≡ effect_of next s (part b ∷ part c ∷ es)
+    two_parts s b c es =
+        after_part s (b ++ c) es
+        ∙ ap (λ (t : Effect S). and_then t (λ u. effect_of next u es)) (joins s b c)
+        ∙ and_then-assoc (next s (part b)) (λ u. next u (part c)) (λ u. effect_of next u es)
+        ∙ and_then-alike (next s (part b)) (λ u. and_then (next u (part c)) (λ v. effect_of next v es)) (λ u. effect_of next u (part c ∷ es)) (sym (after_part (next s (part b)).state c es))
+        ∙ sym (after_part s b (part c ∷ es))
+
+    -- no octets
+    pub no_part : (s : S) (es : List EventValue) → effect_of next s (part [] ∷ es) ≡ effect_of next s es
+    no_part s es = after_part s [] es ∙ ap (λ (t : Effect S). and_then t (λ u. effect_of next u es)) (rests s)
+
+module _ {S : Type 0} (next : S → EventValue → Effect S)
+    (bytes_join : Joins next Bytes) (bytes_rest : Rests next Bytes) (bytes_go_on : GoesOn next Bytes)
+    (pad_join : Joins next Pad) (pad_rest : Rests next Pad) (pad_go_on : GoesOn next Pad) where
+  followed-with_bytes : (s : S) (b : List ℕ) (es : List EventValue) → effect_of next s (with_bytes b es) ≡ effect_of next s (Bytes b ∷ es)
+  followed-with_bytes s [] es = sym (no_part next Bytes bytes_join bytes_rest bytes_go_on s es)
+  followed-with_bytes s (x ∷ b) [] = refl
+  followed-with_bytes s (x ∷ b) (Bytes c ∷ es) = two_parts next Bytes bytes_join bytes_rest bytes_go_on s (x ∷ b) c es
+  followed-with_bytes s (x ∷ b) (Open h ∷ es) = refl
+  followed-with_bytes s (x ∷ b) (Begin h ∷ es) = refl
+  followed-with_bytes s (x ∷ b) (End ∷ es) = refl
+  followed-with_bytes s (x ∷ b) (Close o ∷ es) = refl
+  followed-with_bytes s (x ∷ b) (Enter h ∷ es) = refl
+  followed-with_bytes s (x ∷ b) (Unused ∷ es) = refl
+  followed-with_bytes s (x ∷ b) (Leave ∷ es) = refl
+  followed-with_bytes s (x ∷ b) (Pad c ∷ es) = refl
+
+  followed-with_pad : (s : S) (b : List ℕ) (es : List EventValue) → effect_of next s (with_pad b es) ≡ effect_of next s (Pad b ∷ es)
+  followed-with_pad s [] es = sym (no_part next Pad pad_join pad_rest pad_go_on s es)
+  followed-with_pad s (x ∷ b) [] = refl
+  followed-with_pad s (x ∷ b) (Pad c ∷ es) = two_parts next Pad pad_join pad_rest pad_go_on s (x ∷ b) c es
+  followed-with_pad s (x ∷ b) (Open h ∷ es) = refl
+  followed-with_pad s (x ∷ b) (Begin h ∷ es) = refl
+  followed-with_pad s (x ∷ b) (End ∷ es) = refl
+  followed-with_pad s (x ∷ b) (Close o ∷ es) = refl
+  followed-with_pad s (x ∷ b) (Enter h ∷ es) = refl
+  followed-with_pad s (x ∷ b) (Unused ∷ es) = refl
+  followed-with_pad s (x ∷ b) (Leave ∷ es) = refl
+  followed-with_pad s (x ∷ b) (Bytes c ∷ es) = refl
+
+  -- joining changes nothing that is made
+  pub followed-joined : (s : S) (es : List EventValue) → effect_of next s (joined_events es) ≡ effect_of next s es
+  followed-joined s [] = refl
+  followed-joined s (Bytes b ∷ es) = followed-with_bytes s b (joined_events es) ∙ behind next s (Bytes b) (joined_events es) es (λ u. followed-joined u es)
+  followed-joined s (Pad b ∷ es) = followed-with_pad s b (joined_events es) ∙ behind next s (Pad b) (joined_events es) es (λ u. followed-joined u es)
+  followed-joined s (Open h ∷ es) = behind next s (Open h) (joined_events es) es (λ u. followed-joined u es)
+  followed-joined s (Begin h ∷ es) = behind next s (Begin h) (joined_events es) es (λ u. followed-joined u es)
+  followed-joined s (End ∷ es) = behind next s End (joined_events es) es (λ u. followed-joined u es)
+  followed-joined s (Close o ∷ es) = behind next s (Close o) (joined_events es) es (λ u. followed-joined u es)
+  followed-joined s (Enter h ∷ es) = behind next s (Enter h) (joined_events es) es (λ u. followed-joined u es)
+  followed-joined s (Unused ∷ es) = behind next s Unused (joined_events es) es (λ u. followed-joined u es)
+  followed-joined s (Leave ∷ es) = behind next s Leave (joined_events es) es (λ u. followed-joined u es)
+
+  -- events that are equal joined make the same
+  pub followed-alike : (s : S) (es fs : List EventValue) → AreEqualJoined es fs → effect_of next s es ≡ effect_of next s fs
+  followed-alike s es fs e = sym (followed-joined s es) ∙ ap (effect_of next s) e ∙ followed-joined s fs
+
+-- ---- of the events that are followed, what is kept of each
+
+module _ {S : Type 0} (next : S → EventValue → Effect S) (part : EventValue → List ℕ) where
+  -- a follower that puts what is kept
+  abbrev keeping : S → EventValue → Effect S
+  keeping s e = record { state = (next s e).state; put = part e; goes = (next s e).goes }
+
+  kept : (s : S) (es : List EventValue) → flat_map part (followed_events next s es) ≡ (effect_of keeping s es).put
+  kept s [] = refl
+  kept s (e ∷ es) = by (kept (next s e).state es) (next s e).goes
+    where
+      by : flat_map part (followed_events next (next s e).state es) ≡ (effect_of keeping (next s e).state es).put
+          → (g : Go) → part e ++ flat_map part (if_more g (followed_events next (next s e).state es)) ≡ (if_on g (keeping s e) (λ u. effect_of keeping u es)).put
+      by step On = ap (λ (l : List ℕ). part e ++ l) step
+      by step Enough = append-nil (part e)
+
+  module _ (o : List ℕ → EventValue) (parts : (x y : List ℕ) → part (o (x ++ y)) ≡ part (o x) ++ part (o y)) (none : part (o []) ≡ []) where
+    keeping_joins : Joins next o → Joins keeping o
+    keeping_joins joins s x y =
+        let both = and_then (next s (o x)) (λ u. next u (o y)) in
+        ap (λ (t : Effect S). record { state = t.state; put = part (o (x ++ y)); goes = t.goes }) (joins s x y)
+        ∙ ap (λ (l : List ℕ). record { state = both.state; put = l; goes = both.goes }) (parts x y)
+
+    keeping_rests : Rests next o → Rests keeping o
+    keeping_rests rests s =
+        ap (λ (t : Effect S). record { state = t.state; put = part (o []); goes = t.goes }) (rests s)
+        ∙ ap (λ (l : List ℕ). record { state = s; put = l; goes = On }) none
+
+module _ {S : Type 0} (next : S → EventValue → Effect S)
+    (bytes_join : Joins next Bytes) (bytes_rest : Rests next Bytes) (bytes_go_on : GoesOn next Bytes)
+    (pad_join : Joins next Pad) (pad_rest : Rests next Pad) (pad_go_on : GoesOn next Pad)
+    (part : EventValue → List ℕ)
+    (bytes : (x y : List ℕ) → part (Bytes (x ++ y)) ≡ part (Bytes x) ++ part (Bytes y)) (no_bytes : part (Bytes []) ≡ [])
+    (pads : (x y : List ℕ) → part (Pad (x ++ y)) ≡ part (Pad x) ++ part (Pad y)) (no_pads : part (Pad []) ≡ []) where
+  -- of events that are equal joined the same is kept
+  pub kept-alike : (s : S) (es fs : List EventValue) → AreEqualJoined es fs → flat_map part (followed_events next s es) ≡ flat_map part (followed_events next s fs)
+  kept-alike s es fs e =
+      let same : effect_of (keeping next part) s es ≡ effect_of (keeping next part) s fs =
+      followed-alike (keeping next part) (keeping_joins next part Bytes bytes no_bytes bytes_join) (keeping_rests next part Bytes bytes no_bytes bytes_rest) bytes_go_on
+      (keeping_joins next part Pad pads no_pads pad_join) (keeping_rests next part Pad pads no_pads pad_rest) pad_go_on s es fs e in
+      kept next part s es ∙ ap (λ (t : Effect S). t.put) same ∙ sym (kept next part s fs)
+
+-- ---- octet by octet
+
+module _ {S : Type 0} (one : S → ℕ → Effect S) where
+  pub each_octet-joins : (s : S) (x y : List ℕ) → each_octet one s (x ++ y) ≡ and_then (each_octet one s x) (λ u. each_octet one u y)
+  each_octet-joins s [] y = refl
+  each_octet-joins s (o ∷ x) y =
+      and_then-alike (one s o) (λ u. each_octet one u (x ++ y)) (λ u. and_then (each_octet one u x) (λ v. each_octet one v y)) (each_octet-joins (one s o).state x y)
+      ∙ sym (and_then-assoc (one s o) (λ u. each_octet one u x) (λ v. each_octet one v y))
+
+  pub each_octet-goes_on : (s : S) (x : List ℕ) → (each_octet one s x).goes ≡ On
+  each_octet-goes_on s [] = refl
+  each_octet-goes_on s (o ∷ x) = each_octet-goes_on (one s o).state x

@@ -1,0 +1,101 @@
+-- A job that is a walk with some follower.
+use Rattle.std.proofs.Common.{◌≡◌, ◌⊎◌, ℕ, ◌≤◌, Bool, true, false, List, length, take, refl, sym, ◌∙◌, subst, arith}
+use Rattle.std.proofs.lemmas.List.{length-take}
+use Rattle.std.specs.Prelude.{Result, Ok, Err, ⊤}
+use Rattle.std.specs.Io.KnownBytes.{IsAtEnd}
+use Rattle.tlv_walk.specs.declared.ending.Ending.{Ending}
+use Rattle.tlv_walk.specs.declared.follow.Go.{Go}
+use Rattle.tlv_walk.specs.declared.follow.Go.TheVariants as go
+use Rattle.tlv_walk.specs.declared.framing.Framing.{Framing}
+use Rattle.tlv_walk.specs.declared.run.DeviceFault.{DeviceFault}
+use Rattle.tlv_walk.specs.declared.run.DeviceFault.TheVariants.{ReadFailed, WriteFailed, InputTooLong}
+use Rattle.tlv_walk.specs.declared.run.Run.{Run}
+use Rattle.std.specs.List.{concat}
+use Rattle.tlv_io.specs.Device.{DrainState, SourceState, gave, octets_given}
+use Rattle.tlv_walk.specs.DriveJob.{Drives, drive_job, had_enough, run_over}
+use Rattle.tlv_walk.specs.Events.{EventValue, events}
+use Rattle.tlv_walk.specs.Follow.{Effect, effect_of, goes_of}
+use Rattle.tlv_walk.specs.Forest.{Forest}
+use Rattle.tlv_walk.specs.Job.{AreSound, IsFinalEnding, Job, Runs}
+use Rattle.tlv_walk.proofs.FollowerLemmas.Enough.{EndsSo}
+use Rattle.tlv_io.specs.Out.{Sends}
+use Rattle.tlv_walk.specs.Reading.{IsReading}
+
+-- a run has the ending that it came to, and where it does not stop the first named offset that is no wrapper's
+pub run-ending : (framing : Framing) (f : Forest) (es : List EventValue) (g : Go) (e : Ending) → (run_over framing f es g e).ending ≡ e
+run-ending framing f es go.On e = refl
+run-ending framing f es go.Enough e = refl
+
+pub had-goes : (k : Bool) → had_enough (goes_of k) ≡ k
+had-goes true = refl
+had-goes false = refl
+
+module _ {S A : Type 0} (next : S → EventValue → Effect S) (job : Job A) (s : S)
+    (text : (octets : List ℕ) (f : Forest) → length octets ≤ job.limit → IsReading job.framing octets f → (effect_of next s (events f)).put ≡ job.text f)
+    (enough : (octets : List ℕ) (f : Forest) → length octets ≤ job.limit → IsReading job.framing octets f → had_enough (effect_of next s (events f)).goes ≡ job.is_enough f)
+    (t : S) (old new : SourceState) (from to : DrainState) where
+  within_limit : (given : List ℕ) → length (take job.limit given) ≤ job.limit
+  within_limit given = omega (arith, length-take job.limit given)
+
+  sound_as : (octets : List ℕ) → length octets ≤ job.limit → AreSound (drive_job next job.framing job.limit s) octets → AreSound job octets
+  sound_as octets few x = (x.0, x.1, x.2, sym (enough octets x.0 few x.1) ∙ x.3)
+
+  -- what the walk sent is the job's text
+  sent_as : {E : Type 0} (given : List ℕ) (f : Forest) (result : Result ⊤ E) → IsReading job.framing (take job.limit given) f → Sends from to (effect_of next s (events f)).put result → Sends from to (job.text f) result
+  sent_as given f result r x = subst (λ (l : List ℕ). Sends from to l result) (text (take job.limit given) f (within_limit given) r) x
+
+  pub runs_ok : (run : Run) (a : A) → Drives next job.framing job.limit s t old new from to (Ok run)
+      → ((octets : List ℕ) (f : Forest) (e : Ending) → length octets ≤ job.limit → IsReading job.framing octets f → t ≡ (effect_of next s (events f)).state → run ≡ (drive_job next job.framing job.limit s).answer f e → a ≡ job.answer f e)
+      → Runs job old new from to (Ok a)
+  runs_ok run a x answer =
+      let w = x.runs in
+      let given : List ℕ = octets_given w.pieces in
+      let same = enough (take job.limit given) w.reading (within_limit given) w.is_reading in record {
+        pieces = w.pieces;
+        failures = w.failures;
+        sound = sound_as (concat w.pieces.pieces) w.within w.sound;
+        within = w.within;
+        reading = w.reading;
+        is_reading = w.is_reading;
+        sends = sent_as given w.reading (Ok tt) w.is_reading w.sends;
+        comes = (
+          w.comes.0,
+          answer (take job.limit given) w.reading w.comes.0 (within_limit given) w.is_reading x.state w.comes.1,
+          subst (λ (k : Bool). EndsSo job.framing (take job.limit given) k w.comes.0 (IsFinalEnding w.comes.0 ⊎ ((new.last ≡ gave 0) × IsAtEnd new.left))) same w.comes.2,
+        );
+      }
+
+  pub runs_err : (e : DeviceFault) → Drives next job.framing job.limit s t old new from to (Err e) → Runs job old new from to (Err e)
+  runs_err ReadFailed x =
+      let w = x.runs in record {
+        pieces = w.pieces;
+        failures = w.failures;
+        sound = sound_as (concat w.pieces.pieces) w.within w.sound;
+        within = w.within;
+        reading = w.reading;
+        is_reading = w.is_reading;
+        sends = sent_as (octets_given w.pieces) w.reading (Ok tt) w.is_reading w.sends;
+        comes = w.comes;
+      }
+  runs_err WriteFailed x =
+      let w = x.runs in record {
+        pieces = w.pieces;
+        failures = w.failures;
+        sound = sound_as (concat w.pieces.pieces) w.within w.sound;
+        within = w.within;
+        reading = w.reading;
+        is_reading = w.is_reading;
+        sends = sent_as (octets_given w.pieces) w.reading (Err WriteFailed) w.is_reading w.sends;
+        comes = tt;
+      }
+  runs_err InputTooLong x =
+      let w = x.runs in record {
+        pieces = w.pieces;
+        failures = w.failures;
+        sound = sound_as (concat w.pieces.pieces) w.within w.sound;
+        within = w.within;
+        reading = w.reading;
+        is_reading = w.is_reading;
+        sends = sent_as (octets_given w.pieces) w.reading (Ok tt) w.is_reading w.sends;
+        comes = (w.comes.0, sound_as (take job.limit (octets_given w.pieces)) (within_limit (octets_given w.pieces)) w.comes.1);
+      }

@@ -1,0 +1,91 @@
+-- A walk so far: what its reads gave, and what was yielded and kept of these.
+use Rattle.std.proofs.Common.{◌≡◌, inl, ℕ, ◌-◌, ◌≤◌, ◌<◌, List, [], ◌∷◌, ◌++◌, length, take, flat_map, refl, sym, ap, ◌∙◌, arith}
+use Rattle.std.proofs.lemmas.List.{length-take}
+use Rattle.std.proofs.lemmas.List.Elements.{All-nil, All-take}
+use Rattle.std.proofs.Math.Seq.{take-append-add}
+use Rattle.std.specs.Prelude.{Ok, ⊤}
+use Rattle.tlv_walk.specs.declared.follow.Go.TheVariants as go
+use Rattle.tlv_walk.specs.declared.framing.Framing.{Framing}
+use Rattle.tlv_walk.specs.declared.run.DeviceFault.{DeviceFault}
+use Rattle.std.specs.List.{concat}
+use Rattle.tlv_io.specs.Device.{DrainState, Last, SourceState, failed, gave, never}
+use Rattle.tlv_walk.specs.Events.{Begin, Bytes, Close, End, Enter, EventValue, Leave, Open, Pad, Unused}
+use Rattle.tlv_walk.specs.Follow.{Effect, effect_of}
+use Rattle.tlv_walk.specs.FollowsEvents.{FollowsEvents}
+use Rattle.tlv_walk.specs.Laws.{AreOctets}
+use Rattle.tlv_walk.specs.WalkerState.{new_walker}
+use Rattle.tlv_io.specs.Out.{Sends}
+use Rattle.tlv_walk.specs.Stands.{Stands, waiting_events}
+use Rattle.tlv_walk.specs.OneTurn.{GaveUpTo, TurnState, last_octets, turn_state}
+use Rattle.tlv_walk.specs.Wrappers.{wrapper_offsets}
+use Rattle.tlv_walk.proofs.FollowerLemmas.Following.{made_none}
+use Rattle.tlv_io.proofs.Pieces.{GaveLast, Gathered, gathered_none}
+use Rattle.tlv_io.proofs.Puts.{sends_nothing}
+
+-- ---- reads
+
+-- what the last read gave
+pub gave_last : (last : Last) (piece : List ℕ) → GaveUpTo (length piece) last → GaveLast last (last_octets last piece)
+gave_last never piece g = absurd g
+gave_last (gave n) piece g = inl (ap gave (sym (length-take n piece ∙ omega (arith, g))))
+gave_last failed piece g = absurd g
+
+pub gave_none : (last : Last) (piece : List ℕ) → GaveUpTo (length piece) last → last_octets last piece ≡ [] → last ≡ gave 0
+gave_none never piece g e = absurd g
+gave_none (gave n) piece g e = ap gave (omega (arith, g, length-take n piece, ap length e))
+gave_none failed piece g e = absurd g
+
+pub given_short : (last : Last) (piece : List ℕ) (room : ℕ) → length piece ≤ room → length (last_octets last piece) ≤ room
+given_short never piece room h = omega arith
+given_short (gave n) piece room h = omega (arith, h, length-take n piece)
+given_short failed piece room h = omega arith
+
+pub given_octets : (last : Last) (piece : List ℕ) → AreOctets piece → AreOctets (last_octets last piece)
+given_octets never piece a = All-nil (λ x. x < 256)
+given_octets (gave n) piece a = All-take (λ x. x < 256) n piece a
+given_octets failed piece a = All-nil (λ x. x < 256)
+
+-- of octets behind others as many as the limit leaves
+pub limit_behind : (limit : ℕ) (b r : List ℕ) → length b ≤ limit → b ++ take (limit - length b) r ≡ take limit (b ++ r)
+limit_behind limit b r h = sym (take-append-add b r (limit - length b)) ∙ ap (λ (k : ℕ). take k (b ++ r)) (omega (arith, h))
+
+-- ---- what is kept of events
+
+pub enters_each : (es : List EventValue) → wrapper_offsets es ≡ flat_map (λ e. wrapper_offsets (e ∷ [])) es
+enters_each [] = refl
+enters_each (Enter h ∷ es) = ap (λ (l : List ℕ). h.offset ∷ l) (enters_each es)
+enters_each (Open h ∷ es) = enters_each es
+enters_each (Begin h ∷ es) = enters_each es
+enters_each (Bytes c ∷ es) = enters_each es
+enters_each (End ∷ es) = enters_each es
+enters_each (Close o ∷ es) = enters_each es
+enters_each (Unused ∷ es) = enters_each es
+enters_each (Leave ∷ es) = enters_each es
+enters_each (Pad c ∷ es) = enters_each es
+
+module _ {S : Type 0} (next : S → EventValue → Effect S) where
+  -- the walk so far: the octets given, the events yielded of them, and what was made of these
+  pub record Walking (framing : Framing) (s : S) (old : SourceState) (from : DrainState) (now : TurnState S) : Type 0 where
+    pub gathered : Gathered old now.source
+    pub octets : AreOctets (concat gathered.pieces)
+    pub failures : now.source.failures ≡ old.failures
+    pub past : List EventValue
+    pub made : FollowsEvents next s now.follower past go.On
+    pub sends : Sends {T = ⊤} {E = DeviceFault} from now.drain (effect_of next s past).put (Ok tt)
+    pub same : now.walker.framing ≡ framing
+    pub stands : Stands now.walker (concat gathered.pieces) past
+    pub idle : waiting_events now.walker ≡ []
+
+  pub walking_none : (framing : Framing) (s : S) (old : SourceState) (from : DrainState) → Stands (new_walker framing) [] []
+      → Walking framing s old from (turn_state (new_walker framing) s old from)
+  walking_none framing s old from st = record {
+    gathered = gathered_none old;
+    octets = All-nil (λ x. x < 256);
+    failures = refl;
+    past = [];
+    made = made_none next s;
+    sends = sends_nothing from tt;
+    same = refl;
+    stands = st;
+    idle = refl;
+  }

@@ -1,0 +1,68 @@
+-- Elements alike whose headers are as short as they can be, and whose lengths are of one form, have one spelling.
+use Rattle.std.proofs.Common.{◌≡◌, ℕ, ◌+◌, Bool, List, ◌∷◌, ◌++◌, length, refl, sym, ap, ap₂, ◌∙◌}
+use Rattle.tlv_head.specs.declared.header.Size.{Size}
+use Rattle.tlv_head.specs.declared.header.Size.TheVariants.{Definite, Indefinite}
+use Rattle.tlv_head.specs.Header.{HeaderValue, IsHeader, octets_of}
+use Rattle.tlv_head.specs.Shortest.{HaveOneTag, IsShortest}
+use Rattle.tlv_head.proofs.Shortest.{shortest_are_one}
+use Rattle.tlv_walk.specs.Alike.{AreAlike, holders, nothing, padding, primitives}
+use Rattle.tlv_walk.specs.Forest.{Forest, Stop, Fill, Whole, Closed, Partial, Entered, Awaiting, Begun, Zero, end_octets, extent, lead, opening, spell}
+use Rattle.tlv_walk.proofs.GrammarLemmas.ContentsLength.{contents_length}
+use Rattle.tlv_walk.specs.Place.{Place, is_indefinite, place_after, place_inside}
+use Rattle.tlv_walk.proofs.GrammarLemmas.Lengths.{HasLength}
+use Rattle.tlv_walk.specs.Reading.{IsSound}
+
+-- a header as short as it can be, whose length is indefinite or not as the form of the element says
+pub record IsRegular (form : Bool → Bool) (h : HeaderValue) : Type 0 where
+  pub shortest : IsShortest h
+  pub by_form : is_indefinite h.size ≡ form h.constructed
+
+-- each header of the elements is
+abbrev pub AreRegular : (Bool → Bool) → Forest → Type 0
+AreRegular form Stop = Unit {0}
+AreRegular form (Fill rest) = AreRegular form rest
+AreRegular form (Whole h c rest) = IsRegular form h × AreRegular form rest
+AreRegular form (Closed h inside rest) = IsRegular form h × AreRegular form inside × AreRegular form rest
+AreRegular form (Partial h c) = IsRegular form h
+AreRegular form (Entered h inside) = IsRegular form h × AreRegular form inside
+AreRegular form (Awaiting h) = IsRegular form h
+AreRegular form (Begun octets) = Unit {0}
+AreRegular form Zero = Unit {0}
+
+-- lengths of one form that are those of as many contents octets
+same-size : (s t : Size) (m : ℕ) → is_indefinite s ≡ is_indefinite t → HasLength s m → HasLength t m → s ≡ t
+same-size (Definite a) (Definite b) m e u v = ap Definite (sym u ∙ v)
+same-size (Definite a) Indefinite m e u v = absurd (cc (e))
+same-size Indefinite (Definite b) m e u v = absurd (cc (e))
+same-size Indefinite Indefinite m e u v = refl
+
+same-octets : (h k : HeaderValue) → IsHeader h → IsHeader k → HaveOneTag h k → h.size ≡ k.size → IsShortest h → IsShortest k → octets_of h ≡ octets_of k
+same-octets h k u v tag size s t =
+    let both : (h.identifier ≡ k.identifier) × (h.lengths ≡ k.lengths) = shortest_are_one h k u v tag size s t in
+    ap₂ (λ (a b : List ℕ). a ++ b) both.0 both.1
+
+same-lead : (h k : HeaderValue) → HaveOneTag h k → lead h ≡ lead k
+same-lead h k tag = rw (tag.constructed, tag.number) refl
+
+same-form : (form : Bool → Bool) (h k : HeaderValue) → HaveOneTag h k → IsRegular form h → IsRegular form k → is_indefinite h.size ≡ is_indefinite k.size
+same-form form h k tag r s = r.by_form ∙ ap form tag.constructed ∙ sym s.by_form
+
+module _ (form : Bool → Bool) where
+  pub one_spelling : (p q : Place) (f g : Forest) → AreAlike f g → IsSound p f → IsSound q g → AreRegular form f → AreRegular form g → spell f ≡ spell g
+  one_spelling p q f g nothing u v r s = refl
+  one_spelling p q f g (padding a b rest) u v r s = ap (λ (l : List ℕ). 0 ∷ l) (one_spelling (place_after p 1) (place_after q 1) a b rest u.1 v.1 r s)
+  one_spelling p q f g (primitives h k c a b tag rest) u v r s =
+      let size : h.size ≡ k.size = u.1 ∙ sym v.1 in
+      let head : octets_of h ≡ octets_of k = same-octets h k u.0.valid v.0.valid tag size r.0.shortest s.0.shortest in
+      let others : spell a ≡ spell b =
+      one_spelling (place_after p (length (octets_of h) + length c)) (place_after q (length (octets_of k) + length c)) a b rest u.2 v.2 r.1 s.1 in
+      ap₂ (λ (x y : List ℕ). x ++ (c ++ y)) head others
+  one_spelling p q f g (holders h k inside within a b tag held rest) u v r s =
+      let contents : spell inside ≡ spell within = one_spelling (place_inside p h) (place_inside q k) inside within held u.3 v.3 r.1 s.1 in
+      let others : spell a ≡ spell b = one_spelling (place_after p (extent h inside)) (place_after q (extent k within)) a b rest u.4 v.4 r.2 s.2 in
+      let count : contents_length h inside ≡ contents_length k within = ap₂ (λ (x y : List ℕ). length x + length y) (same-lead h k tag) contents in
+      let size : h.size ≡ k.size = same-size h.size k.size (contents_length h inside) (same-form form h k tag r.0 s.0) u.1 (rw count v.1) in
+      let head : octets_of h ≡ octets_of k = same-octets h k u.0.valid v.0.valid tag size r.0.shortest s.0.shortest in
+      let begins : opening h ≡ opening k = ap₂ (λ (x y : List ℕ). x ++ y) head (same-lead h k tag) in
+      let ends : end_octets h.size ++ spell a ≡ end_octets k.size ++ spell b = ap₂ (λ (z : Size) (y : List ℕ). end_octets z ++ y) size others in
+      ap₂ (λ (x y : List ℕ). x ++ y) begins (ap₂ (λ (x y : List ℕ). x ++ y) contents ends)

@@ -1,0 +1,152 @@
+-- Each input of octets has an ending: it is `Done` where the input is sound, and no fault is a false alarm.
+use Rattle.std.proofs.Common.{◌≡◌, ◌≢◌, ◌⊎◌, inl, inr, ℕ, ◌<◌, ◌≤◌, true, cond, List, [], ◌∷◌, ◌++◌, length, All, refl, sym, ap, ◌∙◌, subst, arith, append-nil, length-append}
+use Rattle.std.proofs.lemmas.Bool.{cases_Bool}
+use Rattle.std.proofs.lemmas.List.{get_or_at}
+use Rattle.tlv_head.specs.declared.fault.Fault.{Fault as FaultOf}
+use Rattle.tlv_head.specs.declared.fault.FaultCode.{FaultCode}
+use Rattle.tlv_head.specs.declared.fault.FaultCode.TheVariants.{Empty, Short}
+use Rattle.tlv_walk.specs.declared.ending.Ending.{Ending}
+use Rattle.tlv_walk.specs.declared.ending.Ending.TheVariants.{Done, Fault}
+use Rattle.tlv_walk.specs.declared.framing.Framing.{Framing}
+use Rattle.tlv_walk.specs.Forest.{Forest, has_element, is_whole, spell}
+use Rattle.tlv_walk.specs.Place.{top_place}
+use Rattle.tlv_walk.specs.Reading.{IsReading, IsSoundList}
+use Rattle.tlv_walk.specs.Ending.{IsEnding, IsFault, done, empty, fault, refused, short, tip}
+use Rattle.tlv_walk.proofs.GrammarLemmas.PushSteps.{Spells}
+use Rattle.tlv_walk.proofs.GrammarLemmas.Readings.{Run, Going, Halted, IsHalt, IsRun, halt-longer, halt-longest, is-run, run, run-reading, unique}
+use Rattle.tlv_walk.proofs.GrammarLemmas.Spellings.{front-same}
+use Rattle.tlv_walk.proofs.GrammarLemmas.Sound.{open-sound, sound-open_top, sound-whole}
+use Rattle.tlv_walk.proofs.GrammarLemmas.Faults.{fault-refused, refused-fault}
+
+-- the ending of a run over n octets
+abbrev pub ending_of : ℕ → Run → Ending
+ending_of n (Going f) = cond (has_element f) (cond (is_whole f) Done (fault Short n)) (fault Empty n)
+ending_of n (Halted f code) = fault code (length (spell f))
+
+-- the ending that pushing gives
+abbrev pub ending : Framing → List ℕ → Ending
+ending w b = ending_of (length b) (run w b)
+
+-- an octet of the input is below 256
+octet-small : (s : List ℕ) (x : ℕ) (rest b : List ℕ) → s ++ x ∷ rest ≡ b → All (λ x. x < 256) b → x < 256
+octet-small s x rest b e each =
+    let there : length s < length b = omega (arith, ap length e, length-append s (x ∷ rest)) in
+    rw (← e, get_or_at s x rest 0 (length s) refl) at (each (length s) 0 there)
+
+-- where no octet is refused, the ending says what is open
+going-ending : (w : Framing) (f : Forest) (b : List ℕ) → Spells (top_place w) b f → IsEnding w b (ending_of (length b) (Going f))
+going-ending w f b r =
+    let reading : IsReading w b f = run-reading w (Going f) b r in
+    elim (cases_Bool (has_element f)) [
+      | inl some ↦ elim (cases_Bool (is_whole f)) [
+        | inl whole ↦ rw (some, whole) (done f reading r.spelled some whole)
+        | inr part ↦ rw (some, part) (short f reading r.spelled part)
+      ]
+      | inr none ↦ rw none (empty f reading r.spelled none)
+    ]
+
+-- an octet that is refused gives an ending, whatever follows
+pub halt-ending : (w : Framing) (f : Forest) (code : FaultCode) (b : List ℕ) → (r : IsHalt w f code b) → IsFault (tip (top_place w) f).0 r.octet (tip (top_place w) f).1 code → IsEnding w b (fault code (length (spell f)))
+halt-ending w f code b r k = refused f r.octet r.rest code (run-reading w (Halted f code) b r) r.front k
+
+-- a right run has the ending that it gives
+run-ending : (w : Framing) (r : Run) (b : List ℕ) → All (λ x. x < 256) b → IsRun w r b → IsEnding w b (ending_of (length b) r)
+run-ending w (Going f) b each r = going-ending w f b r
+run-ending w (Halted f code) b each r =
+    halt-ending w f code b r (refused-fault w f r.octet code (octet-small (spell f) r.octet r.rest b r.front each) r.is_open r.refused)
+
+-- an input of octets has an ending
+pub is-ending : (w : Framing) (b : List ℕ) → All (λ x. x < 256) b → IsEnding w b (ending w b)
+is-ending w b each = run-ending w (run w b) b each (is-run w b each)
+
+-- the input is the spelling of an open forest with one or more elements in which nothing is open
+pub record IsDone (w : Framing) (b : List ℕ) : Type 0 where
+  pub forest : Forest
+  pub spells : Spells (top_place w) b forest
+  pub some : has_element forest ≡ true
+  pub whole : is_whole forest ≡ true
+
+-- F01 or F02: the input ends too early, and a longer one may be sound
+abbrev pub IsEarly : FaultCode → Type 0
+IsEarly code = (code ≡ Empty) ⊎ (code ≡ Short)
+
+-- an octet has a fault of the list
+pub record IsRefused (w : Framing) (b : List ℕ) (code : FaultCode) (offset : ℕ) : Type 0 where
+  pub forest : Forest
+  pub halt : IsHalt w forest code b
+  pub fault : IsFault (tip (top_place w) forest).0 halt.octet (tip (top_place w) forest).1 code
+  pub there : offset ≡ length (spell forest)
+
+-- what an ending says
+abbrev pub Says : Framing → List ℕ → Ending → Type 0
+Says w b Done = IsDone w b
+Says w b (Fault f) = IsEarly f.code ⊎ IsRefused w b f.code f.offset
+
+-- each ending says so
+pub ending-says : (w : Framing) (b : List ℕ) (e : Ending) → IsEnding w b e → Says w b e
+ending-says w b e (empty f r s n) = inl (inl refl)
+ending-says w b e (short f r s p) = inl (inr refl)
+ending-says w b e (done f r s n t) = record { forest = f; spells = record { is_open = r.is_open; spelled = s }; some = n; whole = t }
+ending-says w b e (refused f x rest code r s k) = inr (record {
+  forest = f;
+  halt = record { is_open = r.is_open; octet = x; rest = rest; front = s; refused = fault-refused w f x code r.is_open k };
+  fault = k;
+  there = refl;
+})
+
+-- behind a fault other than F01 and F02 an octet is refused
+pub fault-halt : (w : Framing) (b : List ℕ) (code : FaultCode) (offset : ℕ) → code ≢ Empty → code ≢ Short → IsEnding w b (fault code offset) → IsRefused w b code offset
+fault-halt w b code offset a d e = elim (ending-says w b (fault code offset) e) [
+  | inl early ↦ elim early [
+    | inl z ↦ absurd (a z)
+    | inr z ↦ absurd (d z)
+  ]
+  | inr r ↦ r
+]
+
+-- no input in which an octet is refused is sound
+pub halt-unsound : (w : Framing) (b : List ℕ) (f : Forest) (code : FaultCode) → IsHalt w f code b → IsSoundList w b → ⊥
+halt-unsound w b f code r s =
+    let most : length (spell s.forest) ≤ length (spell f) = halt-longest w f code b r s.forest (sound-open_top w s.forest s.sound) ([], append-nil (spell s.forest) ∙ s.octets) in
+    omega (arith, ap length s.octets, ap length r.front, length-append (spell f) (r.octet ∷ r.rest))
+
+-- no false alarm: behind a fault other than F01 and F02 no input that goes on is sound
+pub no-false-alarm : (w : Framing) (b c : List ℕ) (code : FaultCode) (offset : ℕ) → code ≢ Empty → code ≢ Short → IsEnding w b (fault code offset) → IsSoundList w (b ++ c) → ⊥
+no-false-alarm w b c code offset a d e s =
+    let r : IsRefused w b code offset = fault-halt w b code offset a d e in
+    halt-unsound w (b ++ c) r.forest code (halt-longer w r.forest code b c r.halt) s
+
+-- where the ending is `Done` the input is sound
+pub done-sound : (w : Framing) (b : List ℕ) → IsEnding w b Done → IsSoundList w b
+done-sound w b e =
+    let d : IsDone w b = ending-says w b Done e in
+    record { forest = d.forest; sound = open-sound (top_place w) d.forest d.spells.is_open d.whole; some = d.some; octets = d.spells.spelled }
+
+-- the reading of a sound input is its elements
+pub sound-reading : (w : Framing) (b : List ℕ) → (s : IsSoundList w b) → IsReading w b s.forest
+sound-reading w b s = run-reading w (Going s.forest) b (record { is_open = sound-open_top w s.forest s.sound; spelled = s.octets })
+
+-- the ending of a sound input is `Done`
+pub sound-done : (w : Framing) (b : List ℕ) → IsSoundList w b → IsEnding w b Done
+sound-done w b s = done s.forest (sound-reading w b s) s.octets s.some (sound-whole (top_place w) s.forest s.sound)
+
+abbrev pub offset_in : Ending → ℕ
+offset_in Done = 0
+offset_in (Fault f) = f.offset
+
+-- an ending that is a fault: the input ends there, or an octet of it is refused
+fault-place : (w : Framing) (b : List ℕ) (e : Ending) (f : FaultOf) → IsEnding w b e → e ≡ Fault f
+    → (f.offset ≡ length b) ⊎ ((g : Forest) × IsReading w b g × (f.offset ≡ length (spell g)))
+fault-place w b e f (empty g r s n) i = inl (sym (ap offset_in i))
+fault-place w b e f (short g r s n) i = inl (sym (ap offset_in i))
+fault-place w b e f (done g r s n t) i = absurd (cc (i))
+fault-place w b e f (refused g x rest code r s k) i = inr (g, r, sym (ap offset_in i))
+
+-- where the octet behind p is refused and p is the spelling of an open forest, that is the reading
+pub refused-reading : (w : Framing) (p : List ℕ) (x : ℕ) (c : List ℕ) (f : FaultOf) (g : Forest) → Spells (top_place w) p g → f.offset ≡ length p → IsEnding w (p ++ x ∷ c) (Fault f) → IsReading w (p ++ x ∷ c) g
+refused-reading w p x c f g v there e = elim (fault-place w (p ++ x ∷ c) (Fault f) f e refl) [
+  | inl end ↦ absurd (omega (arith, end, there, length-append p (x ∷ c)))
+  | inr r ↦
+      let same : spell r.0 ≡ spell g = front-same (spell r.0) (spell g) (r.1.front.0) (x ∷ c) (r.1.front.1 ∙ ap (λ (o : List ℕ). o ++ x ∷ c) (sym v.spelled)) (sym r.2 ∙ there ∙ ap length (sym v.spelled)) in
+      subst (λ (h : Forest). IsReading w (p ++ x ∷ c) h) (unique (top_place w) r.0 g r.1.is_open v.is_open same) r.1
+]

@@ -1,0 +1,194 @@
+-- An octet is refused where it has a fault of the list, with that code.
+use Rattle.std.proofs.Common.{◌≡◌, inl, inr, ℕ, ◌+◌, ◌<◌, Bool, true, false, ◌&&◌, ◌||◌, leb, List, [], ◌∷◌, ◌++◌, length, Option, Some, None, refl, sym, ap, ◌∙◌, eq-eqb, ne_eqb, le-leb, leb-true, leb-false}
+use Rattle.std.proofs.lemmas.Bool.{cases_Bool, cases_eq, and_parts, and_cases, and_from, lt-leb, true≢false}
+use Rattle.tlv_head.specs.declared.fault.FaultCode.{FaultCode}
+use Rattle.tlv_head.specs.declared.fault.FaultCode.TheVariants.{StrayEnd}
+use Rattle.tlv_head.specs.Header.{HeaderValue, announced, holds, is_wrapper, octets_of}
+use Rattle.tlv_head.specs.Refusal.{IsRefusedOctet}
+use Rattle.tlv_head.proofs.Scan.{Origin, Scan, Fresh, High, Named, Long, Ready, Stuck, Over, moved, step, scan, scan-moved, more-from_front}
+use Rattle.tlv_head.proofs.Meaning.{Reads, reads-step, reads-scan, front-bytes}
+use Rattle.tlv_head.proofs.Headers.{IsHeadRefusal, Explains, explains}
+use Rattle.tlv_head.proofs.Refused.{refused-stuck}
+use Rattle.tlv_walk.specs.declared.framing.Framing.{Framing}
+use Rattle.tlv_walk.specs.Forest.{Forest, Stop, Partial, Awaiting, Begun, Zero}
+use Rattle.tlv_walk.specs.Place.{Fits, IsHeadAt, IsOpen, Place, top_place}
+use Rattle.tlv_walk.specs.Ending.{IsFault, bad_inside, missing_end, bad_end, no_room, refused_octet, too_deep, overrun, no_end, stray_end, tip}
+use Rattle.tlv_walk.proofs.GrammarLemmas.Bounds.{fits, fits-within, within-fits}
+use Rattle.tlv_walk.proofs.GrammarLemmas.PushSteps.{Step, Grown, Ended, Refused, begin, complete, origin, push, zero_between}
+use Rattle.tlv_walk.proofs.GrammarLemmas.PopHeaders.{push-scan}
+use Rattle.tlv_walk.proofs.GrammarLemmas.Tips.{IsTip, push-tip, refusal, tip-fact}
+
+-- what does not fit passes the bound
+too-long : (p : Place) (n : ℕ) → fits p n ≡ false → Fits p n → ⊥
+too-long p n e f = true≢false (sym (fits-within p.bound (p.at + n) f) ∙ e)
+
+-- what passes the bound does not fit
+no-fit : (p : Place) (n : ℕ) → (Fits p n → ⊥) → fits p n ≡ false
+no-fit p n past = elim (cases_Bool (fits p n)) [
+  | inl e ↦ absurd (past (within-fits p.bound (p.at + n) e))
+  | inr e ↦ e
+]
+
+-- why an octet is refused, if it is
+abbrev pub Blames : Place → Forest → ℕ → Option FaultCode → Type 0
+Blames p e x None = Unit {0}
+Blames p e x (Some code) = IsFault p x e code
+
+-- an octet 00 between encodings is refused as a stray end
+zero-blames : (p : Place) (x : ℕ) (i a : Bool) → p.indefinite ≡ i → p.padding ≡ a → x ≡ 0 → Blames p Stop x (refusal (zero_between i a))
+zero-blames p x true a e d z = tt
+zero-blames p x false true e d z = tt
+zero-blames p x false false e d z = stray_end e d z
+
+-- between encodings
+between-blames : (p : Place) (x : ℕ) → (p.indefinite ≡ false → Fits p 1) → Blames p Stop x (refusal (push p Stop x))
+between-blames p x room = elim (cases_Bool (fits p 1)) [
+  | inl f ↦ elim (cases_eq x 0) [
+    | inl e ↦ rw (f, eq-eqb x 0 e) (zero-blames p x p.indefinite p.padding refl refl e)
+    | inr e ↦ rw (f, ne_eqb x 0 e) tt
+  ]
+  | inr f ↦ elim (cases_Bool p.indefinite) [
+    | inl i ↦ rw f (no_end i (too-long p 1 f))
+    | inr i ↦ absurd (true≢false (sym (fits-within p.bound (p.at + 1) (room i)) ∙ f))
+  ]
+]
+
+-- before the first contents octet of a wrapping BIT STRING
+unused-blames : (p : Place) (h : HeaderValue) (x : ℕ) → Blames p (Awaiting h) x (refusal (push p (Awaiting h) x))
+unused-blames p h x = elim (cases_eq x 0) [
+  | inl e ↦ rw (eq-eqb x 0 e) tt
+  | inr e ↦ rw (ne_eqb x 0 e) (bad_inside e)
+]
+
+-- behind the first of the end-of-contents octets
+end-blames : (p : Place) (x : ℕ) → Blames p Zero x (refusal (push p Zero x))
+end-blames p x = elim (cases_Bool (fits p 2)) [
+  | inl f ↦ elim (cases_eq x 0) [
+    | inl e ↦ rw (f, eq-eqb x 0 e) tt
+    | inr e ↦ rw (f, ne_eqb x 0 e) (bad_end (within-fits p.bound _ f) e)
+  ]
+  | inr f ↦ rw f (missing_end (too-long p 2 f))
+]
+
+-- what is refused for the octets of a header alone has that fault
+octet-blames : (p : Place) (o : List ℕ) (x : ℕ) (code : FaultCode) → (o ≡ [] → ⊥) → Fits p (length o + 1) → IsHeadRefusal code o x → IsFault p x (Begun o) code
+octet-blames p o x StrayEnd some room r = absurd (some r.0)
+octet-blames p o x code some room r = refused_octet room r
+
+-- where the test of the depth fails, the element is not too deep
+shallow : (t : Bool) (d : ℕ) → (t && leb 128 d) ≡ false → t ≡ true → d < 128
+shallow t d e k = elim (and_cases t (leb 128 d) e) [
+  | inl z ↦ absurd (true≢false (sym k ∙ z))
+  | inr z ↦ leb-false 128 d z
+]
+
+-- a header that is complete and refused is too deep, or its contents pass the bound
+complete-blames : (p : Place) (o : List ℕ) (x : ℕ) (h : HeaderValue) → Fits p (length o + 1) → IsHeadAt p (holds h) h → octets_of h ≡ o ++ x ∷ []
+    → Blames p (Begun o) x (refusal (complete p h))
+complete-blames p o x h room s octets = elim (cases_Bool (holds h && leb 128 p.depth)) [
+  | inl deep ↦
+      let parts : (holds h ≡ true) × (leb 128 p.depth ≡ true) = and_parts _ _ deep in
+      let there : IsHeadAt p true h = record { valid = s.valid; offset = s.offset; named = s.named; form = parts.0 } in
+      rw deep (too_deep room h there octets (leb-true _ _ parts.1))
+  | inr not_deep ↦ elim (cases_Bool (fits p (length (octets_of h) + announced h.size))) [
+    | inl f ↦ rw (not_deep, f) tt
+    | inr f ↦ rw (not_deep, f) (overrun room h s octets (shallow (holds h) p.depth not_deep) (too-long p _ f))
+  ]
+]
+
+-- octets of a header, by what they say
+begin-blames : (p : Place) (o : List ℕ) (x : ℕ) (s : Scan) → (o ≡ [] → ⊥) → Fits p (length o + 1) → Explains s o x → Reads (origin p) s (o ++ x ∷ [])
+    → Blames p (Begun o) x (refusal (begin p (o ++ x ∷ []) s))
+begin-blames p o x Fresh some below w r = tt
+begin-blames p o x (High c k ds) some below w r = tt
+begin-blames p o x (Named c k n i) some below w r = tt
+begin-blames p o x (Long c k n i m ds) some below w r = tt
+begin-blames p o x (Ready h) some below w r =
+    complete-blames p o x h below (record { valid = r.0; offset = ap (λ (a : Origin). a.offset) r.2; named = ap (λ (a : Origin). a.named) r.2; form = refl }) (sym r.1)
+begin-blames p o x (Stuck code) some below w r = octet-blames p o x code some below w
+begin-blames p o x Over some below w r = absurd w
+
+-- inside a header
+header-blames : (p : Place) (o : List ℕ) (x : ℕ) → x < 256 → IsOpen p (Begun o) → Blames p (Begun o) x (refusal (push p (Begun o) x))
+header-blames p o x h w =
+    let at : Origin = origin p in
+    let now : Reads at (scan at o) o = reads-scan at o (front-bytes o w.1) in
+    elim (cases_Bool (fits p (length o + 1))) [
+      | inl f ↦ rw f
+          (begin-blames p o x (step at (scan at o) x) w.0 (within-fits p.bound _ f)
+          (explains at x (scan at o) o (more-from_front at o w.1) now) (reads-step at x (scan at o) o h now))
+      | inr f ↦ rw f (no_room (too-long p (length o + 1) f))
+    ]
+
+-- a refusal at an open end has a fault of the list
+pub blames : (p : Place) (f : Forest) (x : ℕ) → x < 256 → IsTip p f → Blames p f x (refusal (push p f x))
+blames p Stop x h t = between-blames p x t.1
+blames p (Partial head c) x h t = tt
+blames p (Awaiting head) x h t = unused-blames p head x
+blames p (Begun o) x h t = header-blames p o x h t
+blames p Zero x h t = end-blames p x
+blames p f x h t = absurd t
+
+-- an octet that is refused for the octets of a header alone is refused there
+stuck-refusal : (p : Place) (o : List ℕ) (x : ℕ) (code : FaultCode) → IsOpen p (Begun o) → Fits p (length o + 1) → IsRefusedOctet o x code → refusal (push p (Begun o) x) ≡ Some code
+stuck-refusal p o x code t room r = ap refusal (push-scan p o x (Stuck code) room (refused-stuck (origin p) code o x t.1 r))
+
+-- the header as it is read there
+read-there : (p : Place) (o : List ℕ) (x : ℕ) (h : HeaderValue) (t : Bool) → Fits p (length o + 1) → IsHeadAt p t h → octets_of h ≡ o ++ x ∷ [] → push p (Begun o) x ≡ complete p (moved (origin p) h)
+read-there p o x h t room s octets =
+    push-scan p o x (Ready (moved (origin p) h)) room (ap (scan (origin p)) (sym octets) ∙ scan-moved (origin p) h s.valid)
+
+-- the header as it is read there holds others where the header does
+holds-there : (p : Place) (h : HeaderValue) (t : Bool) → IsHeadAt p t h → holds (moved (origin p) h) ≡ holds h
+holds-there p h t s = ap (λ (named : Bool). h.constructed || is_wrapper named h.class h.constructed h.number h.size) (sym s.named)
+
+-- where the element is not too deep, the test of the depth fails
+pub not-deep : (t : Bool) (d : ℕ) → (t ≡ true → d < 128) → (t && leb 128 d) ≡ false
+not-deep true d f = lt-leb 128 d (f refl)
+not-deep false d f = refl
+
+-- a fault of the list is refused at the open end, with that code
+pub fault-refusal : (p : Place) (f : Forest) (x : ℕ) (code : FaultCode) → IsTip p f → IsFault p x f code → refusal (push p f x) ≡ Some code
+fault-refusal p f x code t (bad_inside nz) = rw (ne_eqb x 0 nz)
+fault-refusal p f x code t (missing_end a) = rw (no-fit p 2 a)
+fault-refusal p f x code t (bad_end room nz) = rw (fits-within p.bound (p.at + 2) room, ne_eqb x 0 nz)
+fault-refusal p f x code t (no_room {o = o} a) = rw (no-fit p (length o + 1) a)
+fault-refusal p f x code t (refused_octet {o = o} room r) = stuck-refusal p o x code t room r
+fault-refusal p f x code t (too_deep {o = o} room h s octets deep) =
+    let test : (holds (moved (origin p) h) && leb 128 p.depth) ≡ true = and_from _ _ (holds-there p h true s ∙ s.form) (le-leb 128 p.depth deep) in
+    ap refusal (read-there p o x h true room s octets) ∙ rw test
+fault-refusal p f x code t (overrun {o = o} room h s octets k past) =
+    let test : (holds (moved (origin p) h) && leb 128 p.depth) ≡ false = not-deep _ p.depth (λ q. k (sym (holds-there p h (holds h) s) ∙ q)) in
+    let none : fits p (length (octets_of h) + announced h.size) ≡ false = no-fit p _ past in
+    ap refusal (read-there p o x h (holds h) room s octets) ∙ rw (test, none)
+fault-refusal p f x code t (no_end i a) = rw (no-fit p 1 a)
+fault-refusal p f x code t (stray_end i d z) = rw (fits-within p.bound (p.at + 1) (t.1 i), eq-eqb x 0 z, i, d)
+
+-- a step with a code is that refusal
+refusal-code : (s : Step) (code : FaultCode) → refusal s ≡ Some code → s ≡ Refused code
+refusal-code (Grown g) code e = absurd (cc)
+refusal-code (Ended g) code e = absurd (cc)
+refusal-code (Refused c) code e = let same : c ≡ code = cc in ap Refused same
+
+-- the tip of an open forest that is the whole input so far
+tip-top : (w : Framing) (f : Forest) → IsOpen (top_place w) f → IsTip (tip (top_place w) f).0 (tip (top_place w) f).1
+tip-top w f v = tip-fact (top_place w) f tt (λ _ _. tt) v
+
+-- an octet that is refused has a fault of the list, with that code
+pub refused-fault : (w : Framing) (f : Forest) (x : ℕ) (code : FaultCode) → x < 256 → IsOpen (top_place w) f → push (top_place w) f x ≡ Refused code → IsFault (tip (top_place w) f).0 x (tip (top_place w) f).1 code
+refused-fault w f x code h v e =
+    let same : refusal (push (tip (top_place w) f).0 (tip (top_place w) f).1 x) ≡ Some code = sym (push-tip (top_place w) f x) ∙ ap refusal e in
+    rw same at (blames (tip (top_place w) f).0 (tip (top_place w) f).1 x h (tip-top w f v))
+
+-- an octet with a fault of the list is refused, with that code
+pub fault-refused : (w : Framing) (f : Forest) (x : ℕ) (code : FaultCode) → IsOpen (top_place w) f → IsFault (tip (top_place w) f).0 x (tip (top_place w) f).1 code → push (top_place w) f x ≡ Refused code
+fault-refused w f x code v k =
+    refusal-code (push (top_place w) f x) code
+    (push-tip (top_place w) f x ∙ fault-refusal (tip (top_place w) f).0 (tip (top_place w) f).1 x code (tip-top w f v) k)
+
+-- an octet has one fault
+pub fault-unique : (w : Framing) (f : Forest) (x : ℕ) (c d : FaultCode) → IsOpen (top_place w) f → IsFault (tip (top_place w) f).0 x (tip (top_place w) f).1 c → IsFault (tip (top_place w) f).0 x (tip (top_place w) f).1 d → c ≡ d
+fault-unique w f x c d v a b =
+    let left : push (top_place w) f x ≡ Refused c = fault-refused w f x c v a in
+    let right : push (top_place w) f x ≡ Refused d = fault-refused w f x d v b in
+    cc (left, right)

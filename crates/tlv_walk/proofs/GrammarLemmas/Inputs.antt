@@ -1,0 +1,158 @@
+-- What short inputs are read as, and what they come to.
+use Rattle.std.proofs.Common.{◌≡◌, true, false, [], ◌∷◌, Some, refl}
+use Rattle.tlv_head.specs.declared.fault.FaultCode.TheVariants.{Empty, Short, StrayEnd, BadEnd, MissingEnd, TagTooLong, ReservedLength, Overrun, BadInside}
+use Rattle.tlv_head.specs.declared.header.Class.TheVariants.{Universal, Application, Context}
+use Rattle.tlv_head.specs.declared.header.Size.TheVariants.{Definite, Indefinite}
+use Rattle.tlv_walk.specs.declared.ending.Ending.TheVariants.{Done}
+use Rattle.tlv_walk.specs.declared.framing.Framing.{Framing}
+use Rattle.tlv_walk.specs.Ending.{fault}
+use Rattle.tlv_walk.specs.Forest.{Stop, Fill, Whole, Closed, Entered, Begun}
+use Rattle.tlv_walk.specs.Wrappers.{first_unused}
+use Rattle.tlv_walk.proofs.GrammarLemmas.Readings.{reading}
+use Rattle.tlv_walk.proofs.GrammarLemmas.Endings.{ending}
+
+abbrev plain : Framing
+plain = record { inside = []; padding = false }
+
+abbrev padded : Framing
+padded = record { inside = []; padding = true }
+
+abbrev naming_first : Framing
+naming_first = record { inside = 0 ∷ []; padding = false }
+
+abbrev naming_two : Framing
+naming_two = record { inside = 0 ∷ 1 ∷ []; padding = false }
+
+abbrev padded_naming : Framing
+padded_naming = record { inside = 0 ∷ []; padding = true }
+
+-- 02 01 05
+an-integer : reading plain (2 ∷ 1 ∷ 5 ∷ []) ≡ Whole (record { offset = 0; named = false; class = Universal; constructed = false; number = 2; size = Definite 1; identifier = 2 ∷ []; lengths = 1 ∷ [] }) (5 ∷ []) Stop
+an-integer = refl
+
+an-integer-done : ending plain (2 ∷ 1 ∷ 5 ∷ []) ≡ Done
+an-integer-done = refl
+
+-- 3a 09, and two segments
+segments : reading plain (58 ∷ 9 ∷ 4 ∷ 3 ∷ 74 ∷ 111 ∷ 110 ∷ 4 ∷ 2 ∷ 101 ∷ 115 ∷ []) ≡ Closed (record { offset = 0; named = false; class = Universal; constructed = true; number = 26; size = Definite 9; identifier = 58 ∷ []; lengths = 9 ∷ [] }) (Whole (record { offset = 2; named = false; class = Universal; constructed = false; number = 4; size = Definite 3; identifier = 4 ∷ []; lengths = 3 ∷ [] }) (74 ∷ 111 ∷ 110 ∷ []) (Whole (record { offset = 7; named = false; class = Universal; constructed = false; number = 4; size = Definite 2; identifier = 4 ∷ []; lengths = 2 ∷ [] }) (101 ∷ 115 ∷ []) Stop)) Stop
+segments = refl
+
+segments-done : ending plain (58 ∷ 9 ∷ 4 ∷ 3 ∷ 74 ∷ 111 ∷ 110 ∷ 4 ∷ 2 ∷ 101 ∷ 115 ∷ []) ≡ Done
+segments-done = refl
+
+-- 3a 80, two segments, and 00 00
+indefinite-segments : reading plain (58 ∷ 128 ∷ 4 ∷ 3 ∷ 74 ∷ 111 ∷ 110 ∷ 4 ∷ 2 ∷ 101 ∷ 115 ∷ 0 ∷ 0 ∷ []) ≡ Closed (record { offset = 0; named = false; class = Universal; constructed = true; number = 26; size = Indefinite; identifier = 58 ∷ []; lengths = 128 ∷ [] }) (Whole (record { offset = 2; named = false; class = Universal; constructed = false; number = 4; size = Definite 3; identifier = 4 ∷ []; lengths = 3 ∷ [] }) (74 ∷ 111 ∷ 110 ∷ []) (Whole (record { offset = 7; named = false; class = Universal; constructed = false; number = 4; size = Definite 2; identifier = 4 ∷ []; lengths = 2 ∷ [] }) (101 ∷ 115 ∷ []) Stop)) Stop
+indefinite-segments = refl
+
+-- 30 03 02 02 01: the second 02 announces an octet too many
+an-overrun-reading : reading plain (48 ∷ 3 ∷ 2 ∷ 2 ∷ 1 ∷ []) ≡ Entered (record { offset = 0; named = false; class = Universal; constructed = true; number = 16; size = Definite 3; identifier = 48 ∷ []; lengths = 3 ∷ [] }) (Begun (2 ∷ []))
+an-overrun-reading = refl
+
+an-overrun : ending plain (48 ∷ 3 ∷ 2 ∷ 2 ∷ 1 ∷ []) ≡ fault Overrun 3
+an-overrun = refl
+
+header-cut-off : ending plain (48 ∷ 1 ∷ 2 ∷ []) ≡ fault Short 3
+header-cut-off = refl
+
+header-past-its-element : ending plain (48 ∷ 1 ∷ 2 ∷ 0 ∷ []) ≡ fault Overrun 3
+header-past-its-element = refl
+
+indefinite-cut-off : ending plain (48 ∷ 128 ∷ 2 ∷ 1 ∷ 5 ∷ []) ≡ fault Short 5
+indefinite-cut-off = refl
+
+zeros-in-a-definite-element : ending plain (48 ∷ 2 ∷ 0 ∷ 0 ∷ []) ≡ fault StrayEnd 2
+zeros-in-a-definite-element = refl
+
+second-zero-wrong : ending plain (48 ∷ 128 ∷ 0 ∷ 1 ∷ []) ≡ fault BadEnd 3
+second-zero-wrong = refl
+
+-- 30 05 30 80 02 01 05: what no octet can repair is F02 at the end of the input, and F05 at one more
+no-room-for-an-end-yet : ending plain (48 ∷ 5 ∷ 48 ∷ 128 ∷ 2 ∷ 1 ∷ 5 ∷ []) ≡ fault Short 7
+no-room-for-an-end-yet = refl
+
+no-room-for-an-end : ending plain (48 ∷ 5 ∷ 48 ∷ 128 ∷ 2 ∷ 1 ∷ 5 ∷ 0 ∷ []) ≡ fault MissingEnd 7
+no-room-for-an-end = refl
+
+no-room-for-the-second-zero : ending plain (48 ∷ 3 ∷ 48 ∷ 128 ∷ 0 ∷ 0 ∷ []) ≡ fault MissingEnd 5
+no-room-for-the-second-zero = refl
+
+-- 5f 1f 01 00
+application-31 : reading plain (95 ∷ 31 ∷ 1 ∷ 0 ∷ []) ≡ Whole (record { offset = 0; named = false; class = Application; constructed = false; number = 31; size = Definite 1; identifier = 95 ∷ 31 ∷ []; lengths = 1 ∷ [] }) (0 ∷ []) Stop
+application-31 = refl
+
+-- 1f 02 01 05
+high-form-of-2 : reading plain (31 ∷ 2 ∷ 1 ∷ 5 ∷ []) ≡ Whole (record { offset = 0; named = false; class = Universal; constructed = false; number = 2; size = Definite 1; identifier = 31 ∷ 2 ∷ []; lengths = 1 ∷ [] }) (5 ∷ []) Stop
+high-form-of-2 = refl
+
+-- 9f 81, seven 80, 00 00
+nine-octets-of-number : reading plain (159 ∷ 129 ∷ 128 ∷ 128 ∷ 128 ∷ 128 ∷ 128 ∷ 128 ∷ 128 ∷ 0 ∷ 0 ∷ []) ≡ Whole (record { offset = 0; named = false; class = Context; constructed = false; number = 72057594037927936; size = Definite 0; identifier = 159 ∷ 129 ∷ 128 ∷ 128 ∷ 128 ∷ 128 ∷ 128 ∷ 128 ∷ 128 ∷ 0 ∷ []; lengths = 0 ∷ [] }) [] Stop
+nine-octets-of-number = refl
+
+ten-octets-of-number : ending plain (159 ∷ 129 ∷ 128 ∷ 128 ∷ 128 ∷ 128 ∷ 128 ∷ 128 ∷ 128 ∷ 128 ∷ []) ≡ fault TagTooLong 9
+ten-octets-of-number = refl
+
+long-form-done : ending plain (4 ∷ 129 ∷ 3 ∷ 170 ∷ 187 ∷ 204 ∷ []) ≡ Done
+long-form-done = refl
+
+lengths-reserved : ending plain (4 ∷ 255 ∷ []) ≡ fault ReservedLength 1
+lengths-reserved = refl
+
+-- 04 85 and five ff: 2^40 - 1 octets are announced, and none comes
+length-of-2^40 : ending plain (4 ∷ 133 ∷ 255 ∷ 255 ∷ 255 ∷ 255 ∷ 255 ∷ []) ≡ fault Short 7
+length-of-2^40 = refl
+
+four-deep : ending plain (48 ∷ 128 ∷ 48 ∷ 128 ∷ 48 ∷ 128 ∷ 48 ∷ 128 ∷ 0 ∷ 0 ∷ 0 ∷ 0 ∷ 0 ∷ 0 ∷ 0 ∷ 0 ∷ []) ≡ Done
+four-deep = refl
+
+two-nulls : ending plain (5 ∷ 0 ∷ 5 ∷ 0 ∷ []) ≡ Done
+two-nulls = refl
+
+zeros-at-the-top : ending plain (5 ∷ 0 ∷ 0 ∷ 0 ∷ []) ≡ fault StrayEnd 2
+zeros-at-the-top = refl
+
+-- 04 05 30 03 02 01 07, named
+octets-wrapped : reading naming_first (4 ∷ 5 ∷ 48 ∷ 3 ∷ 2 ∷ 1 ∷ 7 ∷ []) ≡ Closed (record { offset = 0; named = true; class = Universal; constructed = false; number = 4; size = Definite 5; identifier = 4 ∷ []; lengths = 5 ∷ [] }) (Closed (record { offset = 2; named = false; class = Universal; constructed = true; number = 16; size = Definite 3; identifier = 48 ∷ []; lengths = 3 ∷ [] }) (Whole (record { offset = 4; named = false; class = Universal; constructed = false; number = 2; size = Definite 1; identifier = 2 ∷ []; lengths = 1 ∷ [] }) (7 ∷ []) Stop) Stop) Stop
+octets-wrapped = refl
+
+-- the same, not named
+octets-not-named : reading plain (4 ∷ 5 ∷ 48 ∷ 3 ∷ 2 ∷ 1 ∷ 7 ∷ []) ≡ Whole (record { offset = 0; named = false; class = Universal; constructed = false; number = 4; size = Definite 5; identifier = 4 ∷ []; lengths = 5 ∷ [] }) (48 ∷ 3 ∷ 2 ∷ 1 ∷ 7 ∷ []) Stop
+octets-not-named = refl
+
+-- 03 04 00 02 01 05, named
+bits-wrapped : reading naming_first (3 ∷ 4 ∷ 0 ∷ 2 ∷ 1 ∷ 5 ∷ []) ≡ Closed (record { offset = 0; named = true; class = Universal; constructed = false; number = 3; size = Definite 4; identifier = 3 ∷ []; lengths = 4 ∷ [] }) (Whole (record { offset = 3; named = false; class = Universal; constructed = false; number = 2; size = Definite 1; identifier = 2 ∷ []; lengths = 1 ∷ [] }) (5 ∷ []) Stop) Stop
+bits-wrapped = refl
+
+bits-with-unused-bits : ending naming_first (3 ∷ 4 ∷ 1 ∷ 2 ∷ 1 ∷ 5 ∷ []) ≡ fault BadInside 2
+bits-with-unused-bits = refl
+
+no-octets-wrapped : ending naming_first (4 ∷ 0 ∷ []) ≡ Done
+no-octets-wrapped = refl
+
+zeros-wrapped : ending naming_first (4 ∷ 2 ∷ 0 ∷ 0 ∷ []) ≡ fault StrayEnd 2
+zeros-wrapped = refl
+
+overrun-wrapped : ending naming_first (4 ∷ 3 ∷ 2 ∷ 2 ∷ 5 ∷ []) ≡ fault Overrun 3
+overrun-wrapped = refl
+
+-- 03 00, named: it is no wrapper
+no-bits-to-wrap : first_unused (0 ∷ []) (reading naming_first (3 ∷ 0 ∷ [])) ≡ Some 0
+no-bits-to-wrap = refl
+
+second-name-unused : first_unused (0 ∷ 1 ∷ []) (reading naming_two (4 ∷ 2 ∷ 5 ∷ 0 ∷ [])) ≡ Some 1
+second-name-unused = refl
+
+-- 00 00 05 00 00 00 05 00 00, with padding
+nulls-among-padding : reading padded (0 ∷ 0 ∷ 5 ∷ 0 ∷ 0 ∷ 0 ∷ 5 ∷ 0 ∷ 0 ∷ []) ≡ Fill (Fill (Whole (record { offset = 2; named = false; class = Universal; constructed = false; number = 5; size = Definite 0; identifier = 5 ∷ []; lengths = 0 ∷ [] }) [] (Fill (Fill (Whole (record { offset = 6; named = false; class = Universal; constructed = false; number = 5; size = Definite 0; identifier = 5 ∷ []; lengths = 0 ∷ [] }) [] (Fill Stop))))))
+nulls-among-padding = refl
+
+padding-not-allowed : ending plain (0 ∷ 0 ∷ 5 ∷ 0 ∷ 0 ∷ 0 ∷ 5 ∷ 0 ∷ 0 ∷ []) ≡ fault StrayEnd 0
+padding-not-allowed = refl
+
+padding-alone : ending padded (0 ∷ 0 ∷ 0 ∷ []) ≡ fault Empty 3
+padding-alone = refl
+
+zeros-inside-are-no-padding : ending padded (48 ∷ 2 ∷ 0 ∷ 0 ∷ []) ≡ fault StrayEnd 2
+zeros-inside-are-no-padding = refl
+
+zeros-wrapped-are-no-padding : ending padded_naming (4 ∷ 2 ∷ 0 ∷ 0 ∷ []) ≡ fault StrayEnd 2
+zeros-wrapped-are-no-padding = refl

@@ -1,0 +1,283 @@
+-- One more octet behind an open forest gives what is right.
+use Rattle.std.proofs.Common.{◌≡◌, ◌≢◌, inl, inr, ℕ, ◌+◌, ◌<◌, ◌≤◌, Bool, true, false, ◌&&◌, ◌||◌, leb, List, [], ◌∷◌, ◌++◌, length, refl, sym, ap, ◌∙◌, arith, append_assoc, append-nil, length-append, eq-eqb, ne_eqb, leb-false}
+use Rattle.std.proofs.lemmas.Bool.{cases_eq, cases_Bool, and_parts, true≢false}
+use Rattle.tlv_head.specs.declared.header.Size.{Size}
+use Rattle.tlv_head.specs.declared.header.Size.TheVariants.{Definite, Indefinite}
+use Rattle.tlv_head.specs.Header.{HeaderValue, IsHeader, announced, holds, octets_of, wraps}
+use Rattle.tlv_head.specs.Private.Header.{AllowsSize}
+use Rattle.tlv_head.specs.Refusal.{IsFront}
+use Rattle.tlv_head.proofs.Scan.{Origin, Scan, Fresh, High, Named, Long, Ready, Stuck, Over, origin_of, step, scan, first-more}
+use Rattle.tlv_head.proofs.Meaning.{Reads, reads-step, reads-scan, front-from_more, front-bytes}
+use Rattle.tlv_walk.specs.Forest.{Forest, Stop, Fill, Whole, Closed, Partial, Entered, Awaiting, Begun, Zero, end_octets, extent, is_whole, lead, opening, spell}
+use Rattle.tlv_walk.proofs.GrammarLemmas.ContentsLength.{contents_length}
+use Rattle.tlv_walk.specs.Place.{Fits, IsEntry, IsHeadAt, IsOpen, Place, place_after, place_inside}
+use Rattle.tlv_walk.proofs.GrammarLemmas.Lengths.{LacksOctets}
+use Rattle.tlv_walk.proofs.GrammarLemmas.Bounds.{IsEndless, IsFull, fits, fits-inside, has_length, indefinite-endless, lead-zero, length-full, length-lacks, within-fits, within-le, within-outside}
+use Rattle.tlv_walk.proofs.GrammarLemmas.Spellings.{append_assoc-3, append_assoc-4, length-closed, length-opening, length-whole}
+use Rattle.tlv_walk.proofs.GrammarLemmas.PushSteps.{IsWhole, IsClosed, Step, origin, is_filled, entered, partial, opened, begun, complete, begin, zero_between, follow, settle, push, Spells, IsStep, Grown, Ended, Refused}
+
+-- where what an element holds ends within the bound inside, the element so far ends within that outside
+reaches-entered : (p : Place) (h : HeaderValue) (inside : Forest) → Fits p (length (octets_of h) + announced h.size) → Fits (place_inside p h) (length (spell inside))
+    → Fits p (length (opening h ++ spell inside))
+reaches-entered p h inside f g =
+    let size : length (opening h ++ spell inside) ≡ length (octets_of h) + (length (lead h) + length (spell inside)) = omega (arith, length-append (opening h) (spell inside), length-opening h) in
+    within-le p.bound _ _ (omega arith)
+    (within-outside h.size (p.at + length (octets_of h)) p.bound (length (lead h) + length (spell inside)) (within-le p.bound _ _ (omega arith) f)
+    (within-le (place_inside p h).bound _ _ (omega (arith, length-opening h)) g))
+
+-- an open forest ends within the bound
+pub reaches : (p : Place) (f : Forest) → Fits p 0 → IsOpen p f → Fits p (length (spell f))
+reaches p Stop z w = z
+reaches p (Fill rest) z w = within-le p.bound _ _ (omega arith) (reaches (place_after p 1) rest (within-le p.bound _ _ (omega arith) w.0.2) w.1)
+reaches p (Whole h c rest) z w =
+    within-le p.bound _ _ (omega (arith, length-whole h c rest))
+    (reaches (place_after p (length (octets_of h) + length c)) rest (within-le p.bound _ _ (omega arith) w.0.0.fits) w.1)
+reaches p (Closed h inside rest) z w =
+    within-le p.bound _ _ (omega (arith, length-closed h inside rest))
+    (reaches (place_after p (extent h inside)) rest (within-le p.bound _ _ (omega arith) w.0.0.fits) w.2)
+reaches p (Partial h c) z w = within-le p.bound _ _ (omega (arith, length-append (octets_of h) c, w.1)) w.0.fits
+reaches p (Entered h inside) z w =
+    reaches-entered p h inside w.0.0.fits (reaches (place_inside p h) inside (fits-inside p h w.0.0.header.form w.0.0.fits) w.1)
+reaches p (Awaiting h) z w = within-le p.bound _ _ (omega arith) w.0.fits
+reaches p (Begun o) z w = w.2
+reaches p Zero z w = w.1
+
+-- 8.1.3.2 a): the length of a primitive is definite
+definite-primitive : (constructed : Bool) (s : Size) → constructed ≡ false → AllowsSize constructed s → (n : ℕ) × (s ≡ Definite n)
+definite-primitive true s e a = absurd (true≢false e)
+definite-primitive false (Definite n) e a = (n, refl)
+definite-primitive false Indefinite e a = absurd (cc (a))
+
+-- what holds no others is no constructed element
+not-holding : (constructed wraps : Bool) → (constructed || wraps) ≡ false → constructed ≡ false
+not-holding true wraps e = absurd (true≢false e)
+not-holding false wraps e = refl
+
+-- an element that holds no others has a definite length
+pub size-definite : (h : HeaderValue) → IsHeader h → holds h ≡ false → (n : ℕ) × (h.size ≡ Definite n)
+size-definite h valid e = definite-primitive h.constructed h.size (not-holding h.constructed (wraps h) e) valid.allowed
+
+-- contents octets of a primitive, no more than announced
+partial-sound : (p : Place) (h : HeaderValue) (c : List ℕ) (n : ℕ) → IsHeadAt p false h → h.size ≡ Definite n → length c ≤ n → Fits p (length (octets_of h) + n)
+    → Spells p (octets_of h ++ c) (partial h c)
+partial-sound p h c n header e most f =
+    let all : announced h.size ≡ n = ap announced e in
+    elim (cases_eq (length c) n) [
+      | inl full ↦ rw (eq-eqb (length c) (announced h.size) (full ∙ sym all)) (record {
+        is_open = ((record { header = header; depth = λ e. absurd (cc (e)); fits = rw full f }, e ∙ ap Definite (sym full)), tt);
+        spelled = ap (λ (t : List ℕ). octets_of h ++ t) (append-nil c);
+      })
+      | inr less ↦ rw (ne_eqb (length c) (announced h.size) (λ z. less (z ∙ all))) (record {
+        is_open = (record { header = header; depth = λ e. absurd (cc (e)); fits = within-le p.bound _ _ (omega arith) f }, omega arith);
+        spelled = refl;
+      })
+    ]
+
+-- an element that holds others, with all its contents octets by its definite length
+pub closed-sound : (p : Place) (h : HeaderValue) (g : Forest) → IsEntry p true h → IsOpen (place_inside p h) g → is_whole g ≡ true → IsFull h.size (contents_length h g)
+    → Spells p (opening h ++ spell g) (Closed h g Stop)
+closed-sound p h g entry w whole full =
+    let none : length (end_octets h.size) ≡ 0 = ap length full.ends in
+    record {
+      is_open = (
+        (
+          record { header = entry.header; depth = entry.depth; fits = within-le p.bound _ _ (omega (arith, full.all, length-opening h)) entry.fits },
+          whole,
+          full.filled,
+        ),
+        w,
+        tt,
+      );
+      spelled = ap (λ (t : List ℕ). opening h ++ (spell g ++ (t ++ []))) full.ends ∙ ap (λ (t : List ℕ). opening h ++ t) (append-nil (spell g));
+    }
+
+-- an element that is not filled lacks octets, where what it holds is whole
+pub unfilled-lacks : (p : Place) (h : HeaderValue) (g : Forest) → is_filled h g ≡ false → is_whole g ≡ true → Fits (place_inside p h) (length (spell g)) → LacksOctets h.size (contents_length h g)
+unfilled-lacks p h g e whole there =
+    let short : has_length h.size (contents_length h g) ≡ false = rw whole at e in
+    length-lacks h.size (p.at + length (octets_of h)) p.bound _ (within-le (place_inside p h).bound _ _ (omega (arith, length-opening h)) there) short
+
+-- what an element holds is open: so is the element
+pub entered-sound : (p : Place) (h : HeaderValue) (g : Forest) → IsEntry p true h → IsOpen (place_inside p h) g → Spells p (opening h ++ spell g) (entered h g)
+entered-sound p h g entry w = elim (cases_Bool (is_filled h g)) [
+  | inl e ↦
+      let parts : (is_whole g ≡ true) × (has_length h.size (contents_length h g) ≡ true) = and_parts _ _ e in
+      rw e (closed-sound p h g entry w parts.0 (length-full h.size _ parts.1))
+  | inr e ↦
+      let there : Fits (place_inside p h) (length (spell g)) = reaches (place_inside p h) g (fits-inside p h entry.header.form entry.fits) w in
+      rw e (record { is_open = ((entry, λ whole. unfilled-lacks p h g e whole there), w); spelled = refl })
+]
+
+-- an element that holds none yet
+opened-sound : (p : Place) (h : HeaderValue) (l : List ℕ) → lead h ≡ l → IsEntry p true h → Spells p (octets_of h) (opened h l)
+opened-sound p h [] e entry =
+    let r : Spells p (opening h ++ []) (entered h Stop) = entered-sound p h Stop entry tt in
+    let none : opening h ++ [] ≡ octets_of h = append-nil (opening h) ∙ ap (λ (t : List ℕ). octets_of h ++ t) e ∙ append-nil (octets_of h) in
+    record { is_open = r.is_open; spelled = r.spelled ∙ none }
+opened-sound p h (x ∷ xs) e entry = record { is_open = (entry, lead-zero h x xs e); spelled = refl }
+
+-- a header where one may stand is an open forest
+pub begun-sound : (p : Place) (h : HeaderValue) (k : Bool) → IsHeadAt p k h → (k && leb 128 p.depth) ≡ false → Fits p (length (octets_of h) + announced h.size)
+    → Spells p (octets_of h) (begun k h)
+begun-sound p h true header d f = opened-sound p h (lead h) refl (record { header = header; depth = λ _. leb-false 128 p.depth d; fits = f })
+begun-sound p h false header d f =
+    let n : (n : ℕ) × (h.size ≡ Definite n) = size-definite h header.valid header.form in
+    let f' : Fits p (length (octets_of h) + n.0) = rw (ap announced n.1) at f in
+    rw (append-nil (octets_of h)) at (partial-sound p h [] n.0 header n.1 (omega arith) f')
+
+-- a header that is complete
+complete-sound : (p : Place) (h : HeaderValue) → IsHeader h → origin_of h ≡ origin p → IsStep p (octets_of h) (complete p h)
+complete-sound p h valid at =
+    let header : IsHeadAt p (holds h) h = record { valid = valid; offset = ap (λ (o : Origin). o.offset) at; named = ap (λ (o : Origin). o.named) at; form = refl } in
+    elim (cases_Bool (holds h && leb 128 p.depth)) [
+      | inl deep ↦ rw deep tt
+      | inr room ↦ elim (cases_Bool (fits p (length (octets_of h) + announced h.size))) [
+        | inl f ↦ rw (room, f) (begun-sound p h (holds h) header room (within-fits p.bound _ f))
+        | inr f ↦ rw (room, f) tt
+      ]
+    ]
+
+-- the front of a header
+front-sound : (p : Place) (o : List ℕ) → o ≢ [] → IsFront o → Fits p (length o) → Spells p o (Begun o)
+front-sound p o some front f = record { is_open = (some, front, f); spelled = refl }
+
+-- octets of a header, by what they say
+begin-sound : (p : Place) (o : List ℕ) (s : Scan) → Reads (origin p) s o → o ≢ [] → Fits p (length o) → IsStep p o (begin p o s)
+begin-sound p o Fresh r some f = absurd (some r)
+begin-sound p o (High c k ds) r some f = front-sound p o some (front-from_more (origin p) (High c k ds) o r some refl) f
+begin-sound p o (Named c k n i) r some f = front-sound p o some (front-from_more (origin p) (Named c k n i) o r some refl) f
+begin-sound p o (Long c k n i m ds) r some f = front-sound p o some (front-from_more (origin p) (Long c k n i m ds) o r some refl) f
+begin-sound p o (Ready h) r some f = rw (r.1) (complete-sound p h r.0 r.2)
+begin-sound p o (Stuck code) r some f = tt
+begin-sound p o Over r some f = tt
+
+-- a list with one more is not empty
+pub push≢nil : (o : List ℕ) (x : ℕ) → o ++ x ∷ [] ≢ []
+push≢nil o x e = omega (arith, ap length e, length-append o (x ∷ []))
+
+-- behind the front of a header
+front-step : (p : Place) (o : List ℕ) (x : ℕ) → x < 256 → IsFront o → IsStep p (o ++ x ∷ []) (push p (Begun o) x)
+front-step p o x h front = elim (cases_Bool (fits p (length o + 1))) [
+  | inl f ↦ rw f
+      (begin-sound p (o ++ x ∷ []) (step (origin p) (scan (origin p) o) x) (reads-step (origin p) x (scan (origin p) o) o h (reads-scan (origin p) o (front-bytes o front))) (push≢nil o x)
+      (within-le p.bound _ _ (omega (arith, length-append o (x ∷ []))) (within-fits p.bound _ f)))
+  | inr f ↦ rw f tt
+]
+
+-- an octet 00 between encodings
+zero-sound : (p : Place) (i a : Bool) → p.indefinite ≡ i → p.padding ≡ a → Fits p 1 → IsStep p (0 ∷ []) (zero_between i a)
+zero-sound p true a e d f = record { is_open = (e, f); spelled = refl }
+zero-sound p false true e d f = record { is_open = ((d, e, f), tt); spelled = refl }
+zero-sound p false false e d f = tt
+
+-- between encodings
+stop-step : (p : Place) (x : ℕ) → x < 256 → IsStep p (x ∷ []) (push p Stop x)
+stop-step p x h = elim (cases_Bool (fits p 1)) [
+  | inl f ↦ elim (cases_eq x 0) [
+    | inl z ↦ rw (f, eq-eqb x 0 z, z) (zero-sound p p.indefinite p.padding refl refl (within-fits p.bound _ f))
+    | inr nz ↦ rw (f, ne_eqb x 0 nz)
+        (front-sound p (x ∷ []) (push≢nil [] x)
+        (front-from_more (origin p) (step (origin p) Fresh x) (x ∷ []) (reads-step (origin p) x Fresh [] h refl) (push≢nil [] x) (first-more (origin p) x nz))
+        (within-fits p.bound _ f))
+  ]
+  | inr f ↦ rw f tt
+]
+
+-- behind the first of the end-of-contents octets
+zero-step : (p : Place) (x : ℕ) → p.indefinite ≡ true → IsStep p (0 ∷ x ∷ []) (push p Zero x)
+zero-step p x i = elim (cases_Bool (fits p 2)) [
+  | inl f ↦ elim (cases_eq x 0) [
+    | inl z ↦ rw (f, eq-eqb x 0 z, z) (record { is_open = tt; whole = refl; indefinite = i; spelled = refl; fits = within-fits p.bound _ f })
+    | inr nz ↦ rw (f, ne_eqb x 0 nz) tt
+  ]
+  | inr f ↦ rw f tt
+]
+
+-- inside the contents of a primitive
+partial-step : (p : Place) (h : HeaderValue) (c : List ℕ) (x : ℕ) → IsOpen p (Partial h c) → IsStep p ((octets_of h ++ c) ++ x ∷ []) (push p (Partial h c) x)
+partial-step p h c x w =
+    let n : (n : ℕ) × (h.size ≡ Definite n) = size-definite h w.0.header.valid w.0.header.form in
+    let all : announced h.size ≡ n.0 = ap announced n.1 in
+    rw (append_assoc (octets_of h) c (x ∷ []))
+    (partial-sound p h (c ++ x ∷ []) n.0 w.0.header n.1 (omega (arith, length-append c (x ∷ []), w.1)) (within-le p.bound _ _ (omega arith) w.0.fits))
+
+-- before the first contents octet of a wrapping BIT STRING
+awaiting-step : (p : Place) (h : HeaderValue) (x : ℕ) → IsOpen p (Awaiting h) → IsStep p (octets_of h ++ x ∷ []) (push p (Awaiting h) x)
+awaiting-step p h x w = elim (cases_eq x 0) [
+  | inl z ↦
+      let r : Spells p (opening h ++ []) (entered h Stop) = entered-sound p h Stop w.0 tt in
+      rw (eq-eqb x 0 z, z) (record { is_open = r.is_open; spelled = r.spelled ∙ append-nil (opening h) ∙ ap (λ (t : List ℕ). octets_of h ++ t) w.1 })
+  | inr nz ↦ rw (ne_eqb x 0 nz) tt
+]
+
+-- a step of what follows padding
+fill-step : (p : Place) (o : List ℕ) (s : Step) → (p.padding ≡ true) × (p.indefinite ≡ false) × Fits p 1 → IsStep (place_after p 1) o s → IsStep p (0 ∷ o) (follow Fill s)
+fill-step p o (Grown g) w r = record { is_open = (w, r.is_open); spelled = ap (λ (t : List ℕ). 0 ∷ t) r.spelled }
+fill-step p o (Ended g) w r = absurd (true≢false (sym r.indefinite ∙ w.1))
+fill-step p o (Refused code) w r = tt
+
+-- a step of what follows a primitive
+whole-step : (p : Place) (h : HeaderValue) (c o : List ℕ) (s : Step) → IsWhole p h c → IsStep (place_after p (length (octets_of h) + length c)) o s
+    → IsStep p (octets_of h ++ (c ++ o)) (follow (Whole h c) s)
+whole-step p h c o (Grown g) w r = record { is_open = (w, r.is_open); spelled = ap (λ (t : List ℕ). octets_of h ++ (c ++ t)) r.spelled }
+whole-step p h c o (Ended g) w r = record {
+  is_open = (w, r.is_open);
+  whole = r.whole;
+  indefinite = r.indefinite;
+  spelled = append_assoc-3 (octets_of h) c (spell g) (0 ∷ 0 ∷ []) ∙ ap (λ (t : List ℕ). octets_of h ++ (c ++ t)) r.spelled;
+  fits = within-le p.bound _ _ (omega (arith, length-whole h c g)) r.fits;
+}
+whole-step p h c o (Refused code) w r = tt
+
+-- a step of what follows an element that holds others
+closed-step : (p : Place) (h : HeaderValue) (inside : Forest) (o : List ℕ) (s : Step) → IsClosed p h inside → IsOpen (place_inside p h) inside → IsStep (place_after p (extent h inside)) o s
+    → IsStep p (opening h ++ (spell inside ++ (end_octets h.size ++ o))) (follow (Closed h inside) s)
+closed-step p h inside o (Grown g) w v r = record { is_open = (w, v, r.is_open); spelled = ap (λ (t : List ℕ). opening h ++ (spell inside ++ (end_octets h.size ++ t))) r.spelled }
+closed-step p h inside o (Ended g) w v r = record {
+  is_open = (w, v, r.is_open);
+  whole = r.whole;
+  indefinite = r.indefinite;
+  spelled = append_assoc-4 (opening h) (spell inside) (end_octets h.size) (spell g) (0 ∷ 0 ∷ []) ∙ ap (λ (t : List ℕ). opening h ++ (spell inside ++ (end_octets h.size ++ t))) r.spelled;
+  fits = within-le p.bound _ _ (omega (arith, length-closed h inside g)) r.fits;
+}
+closed-step p h inside o (Refused code) w v r = tt
+
+-- a step of what an element holds
+entered-step : (p : Place) (h : HeaderValue) (o : List ℕ) (s : Step) → IsEntry p true h → IsStep (place_inside p h) o s → IsStep p (opening h ++ o) (settle h s)
+entered-step p h o (Grown g) entry r =
+    let e : Spells p (opening h ++ spell g) (entered h g) = entered-sound p h g entry r.is_open in
+    record { is_open = e.is_open; spelled = e.spelled ∙ ap (λ (t : List ℕ). opening h ++ t) r.spelled }
+entered-step p h o (Ended g) entry r =
+    let e : IsEndless h.size (p.at + length (octets_of h)) p.bound (contents_length h g) = indefinite-endless h.size _ p.bound _ r.indefinite in
+    let two : length (end_octets h.size) ≡ 2 = ap length e.ends in
+    record {
+      is_open = (
+        (
+          record { header = entry.header; depth = entry.depth; fits = within-le p.bound _ _ (omega arith) (rw e.bound at r.fits) },
+          r.whole,
+          e.filled,
+        ),
+        r.is_open,
+        tt,
+      );
+      spelled = ap (λ (t : List ℕ). opening h ++ (spell g ++ (t ++ []))) e.ends ∙ ap (λ (t : List ℕ). opening h ++ t) r.spelled;
+    }
+entered-step p h o (Refused code) entry r = tt
+
+-- a step of an open forest is right: the forest that it gives is open, and spells the octet too
+pub push-sound : (p : Place) (f : Forest) (x : ℕ) → x < 256 → IsOpen p f → IsStep p (spell f ++ x ∷ []) (push p f x)
+push-sound p Stop x h w = stop-step p x h
+push-sound p (Fill rest) x h w = fill-step p _ _ w.0 (push-sound (place_after p 1) rest x h w.1)
+push-sound p (Whole head c rest) x h w =
+    rw (append_assoc-3 (octets_of head) c (spell rest) (x ∷ []))
+    (whole-step p head c _ _ w.0 (push-sound (place_after p (length (octets_of head) + length c)) rest x h w.1))
+push-sound p (Closed head inside rest) x h w =
+    rw (append_assoc-4 (opening head) (spell inside) (end_octets head.size) (spell rest) (x ∷ []))
+    (closed-step p head inside _ _ w.0 w.1 (push-sound (place_after p (extent head inside)) rest x h w.2))
+push-sound p (Partial head c) x h w = partial-step p head c x w
+push-sound p (Entered head inside) x h w =
+    rw (append_assoc (opening head) (spell inside) (x ∷ []))
+    (entered-step p head _ _ w.0.0 (push-sound (place_inside p head) inside x h w.1))
+push-sound p (Awaiting head) x h w = awaiting-step p head x w
+push-sound p (Begun o) x h w = front-step p o x h w.1
+push-sound p Zero x h w = zero-step p x w.0

@@ -1,0 +1,119 @@
+-- What one more octet makes of an open forest, and when that is right.
+use Rattle.std.proofs.Common.{◌≡◌, ℕ, ◌+◌, Bool, true, false, cond, ◌&&◌, eqb, leb, List, [], ◌∷◌, ◌++◌, length}
+use Rattle.tlv_head.specs.declared.fault.FaultCode.{FaultCode}
+use Rattle.tlv_head.specs.declared.fault.FaultCode.TheVariants.{StrayEnd, BadEnd, MissingEnd, TooDeep, Overrun, BadInside}
+use Rattle.tlv_head.specs.declared.header.Size.TheVariants.{Definite}
+use Rattle.tlv_head.specs.Header.{HeaderValue, announced, holds, octets_of}
+use Rattle.tlv_head.proofs.Scan.{Origin, Scan, Fresh, High, Named, Long, Ready, Stuck, Over, step, scan}
+use Rattle.tlv_walk.specs.Forest.{Forest, Stop, Fill, Whole, Closed, Partial, Entered, Awaiting, Begun, Zero, extent, is_whole, lead, spell}
+use Rattle.tlv_walk.proofs.GrammarLemmas.ContentsLength.{contents_length}
+use Rattle.tlv_walk.specs.Inside.{is_among}
+use Rattle.tlv_walk.specs.Place.{Fits, IsElementAt, IsOpen, Place, place_after, place_inside}
+use Rattle.tlv_walk.proofs.GrammarLemmas.Lengths.{HasLength}
+use Rattle.tlv_walk.proofs.GrammarLemmas.Bounds.{fits, has_length}
+
+-- a primitive with all its contents octets
+abbrev pub IsWhole : Place → HeaderValue → List ℕ → Type 0
+IsWhole p h c = IsElementAt p false h (length (octets_of h) + length c) × (h.size ≡ Definite (length c))
+
+-- an element that holds others and has ended
+abbrev pub IsClosed : Place → HeaderValue → Forest → Type 0
+IsClosed p h inside = IsElementAt p true h (extent h inside) × (is_whole inside ≡ true) × HasLength h.size (contents_length h inside)
+
+-- what an octet makes of an open forest
+pub data Step : Type 0 where
+  -- this forest
+  Grown : (grown : Forest) → Step
+  -- the end of the contents, which are these elements
+  Ended : (contents : Forest) → Step
+  Refused : (code : FaultCode) → Step
+
+-- where a header that begins there begins
+abbrev pub origin : Place → Origin
+origin p = record { offset = p.at; named = is_among p.at p.inside }
+
+-- what an element holds is whole, and as long as was announced
+abbrev pub is_filled : HeaderValue → Forest → Bool
+is_filled h f = is_whole f && has_length h.size (contents_length h f)
+
+-- an element that holds these others so far
+abbrev pub entered : HeaderValue → Forest → Forest
+entered h f = cond (is_filled h f) (Closed h f Stop) (Entered h f)
+
+-- a primitive with these contents octets so far
+abbrev pub partial : HeaderValue → List ℕ → Forest
+partial h c = cond (eqb (length c) (announced h.size)) (Whole h c Stop) (Partial h c)
+
+-- an element that holds none yet, behind its header: the octets are those to come before the first
+abbrev pub opened : HeaderValue → List ℕ → Forest
+opened h [] = entered h Stop
+opened h (x ∷ xs) = Awaiting h
+
+-- a header alone, of an element that holds others or of one that does not
+abbrev pub begun : Bool → HeaderValue → Forest
+begun true h = opened h (lead h)
+begun false h = partial h []
+
+-- a header is complete
+abbrev pub complete : Place → HeaderValue → Step
+complete p h = cond (holds h && leb 128 p.depth) (Refused TooDeep)
+    (cond (fits p (length (octets_of h) + announced h.size)) (Grown (begun (holds h) h)) (Refused Overrun))
+
+-- octets of a header, by what they say
+abbrev pub begin : Place → List ℕ → Scan → Step
+begin p o Fresh = Grown (Begun o)
+begin p o (High c k ds) = Grown (Begun o)
+begin p o (Named c k n i) = Grown (Begun o)
+begin p o (Long c k n i m ds) = Grown (Begun o)
+begin p o (Ready h) = complete p h
+begin p o (Stuck code) = Refused code
+begin p o Over = Refused StrayEnd
+
+-- an octet 00 between encodings: inside an element of indefinite length, or where there is padding, or neither
+abbrev pub zero_between : Bool → Bool → Step
+zero_between true padding = Grown Zero
+zero_between false true = Grown (Fill Stop)
+zero_between false false = Refused StrayEnd
+
+-- a step of what follows an element is a step of both
+abbrev pub follow : (Forest → Forest) → Step → Step
+follow f (Grown g) = Grown (f g)
+follow f (Ended g) = Ended (f g)
+follow f (Refused code) = Refused code
+
+-- a step of what an element holds is a step of the element
+abbrev pub settle : HeaderValue → Step → Step
+settle h (Grown g) = Grown (entered h g)
+settle h (Ended g) = Grown (Closed h g Stop)
+settle h (Refused code) = Refused code
+
+-- the octet x behind an open forest
+abbrev pub push : Place → Forest → ℕ → Step
+push p Stop x = cond (fits p 1) (cond (eqb x 0) (zero_between p.indefinite p.padding) (Grown (Begun (x ∷ [])))) (Refused MissingEnd)
+push p (Fill rest) x = follow Fill (push (place_after p 1) rest x)
+push p (Whole h c rest) x = follow (Whole h c) (push (place_after p (length (octets_of h) + length c)) rest x)
+push p (Closed h inside rest) x = follow (Closed h inside) (push (place_after p (extent h inside)) rest x)
+push p (Partial h c) x = Grown (partial h (c ++ x ∷ []))
+push p (Entered h inside) x = settle h (push (place_inside p h) inside x)
+push p (Awaiting h) x = cond (eqb x 0) (Grown (entered h Stop)) (Refused BadInside)
+push p (Begun o) x = cond (fits p (length o + 1)) (begin p (o ++ x ∷ []) (step (origin p) (scan (origin p) o) x)) (Refused Overrun)
+push p Zero x = cond (fits p 2) (cond (eqb x 0) (Ended Stop) (Refused BadEnd)) (Refused MissingEnd)
+
+-- an open forest there spells the octets
+pub record Spells (p : Place) (o : List ℕ) (g : Forest) : Type 0 where
+  pub is_open : IsOpen p g
+  pub spelled : spell g ≡ o
+
+-- the octets are whole elements and the end-of-contents octets
+pub record Ends (p : Place) (o : List ℕ) (g : Forest) : Type 0 where
+  pub is_open : IsOpen p g
+  pub whole : is_whole g ≡ true
+  pub indefinite : p.indefinite ≡ true
+  pub spelled : spell g ++ 0 ∷ 0 ∷ [] ≡ o
+  pub fits : Fits p (length (spell g) + 2)
+
+-- a step is right
+abbrev pub IsStep : Place → List ℕ → Step → Type 0
+IsStep p o (Grown g) = Spells p o g
+IsStep p o (Ended g) = Ends p o g
+IsStep p o (Refused code) = Unit {0}

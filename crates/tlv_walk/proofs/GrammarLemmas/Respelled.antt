@@ -1,0 +1,271 @@
+-- Sound elements can be spelled with headers as short as they can be, and lengths of one form; the strings that hold elements are
+-- named where they then stand.
+use Rattle.std.proofs.Common.{◌≡◌, ◌≢◌, not, ℕ, ◌+◌, ◌*◌, ◌^◌, ◌<◌, ◌≤◌, Bool, true, false, List, [], ◌∷◌, ◌++◌, length, refl, sym, ap, ap₂, ◌∙◌, arith, subst, length-append}
+use Rattle.tlv_head.specs.declared.header.Size.{Size}
+use Rattle.tlv_head.specs.declared.header.Size.TheVariants.{Definite}
+use Rattle.tlv_head.specs.Header.{HeaderValue, IsHeader, is_wrapper, leading_octet, octets_of}
+use Rattle.tlv_head.proofs.Shortest.{identifier-some, lengths-some}
+use Rattle.tlv_walk.specs.Alike.{AreAlike, HaveLowForms, holders, nothing, padding, primitives}
+use Rattle.tlv_walk.specs.Forest.{Forest, Stop, Fill, Whole, Closed, Partial, Entered, Awaiting, Begun, Zero, end_octets, extent, lead, opening, spell}
+use Rattle.tlv_walk.specs.Inside.{is_among}
+use Rattle.tlv_walk.specs.Place.{Place, place_after, place_inside}
+use Rattle.tlv_walk.specs.Reading.{IsSound}
+use Rattle.tlv_walk.specs.Wrappers.{wrappers}
+use Rattle.tlv_walk.proofs.GrammarLemmas.Alike.{AreRegular}
+use Rattle.tlv_walk.proofs.GrammarLemmas.PopHeaders.{header-length}
+use Rattle.tlv_walk.proofs.GrammarLemmas.Spellings.{length-closed, length-opening, length-whole}
+use Rattle.tlv_walk.proofs.GrammarLemmas.ShortHeaders.{Octets, head_of, octets-in, head-valid, head-shortest, octets-for, head-some, size-for, size-below, size-form, size-length, allows-size, lead-for, lead-short, own, own-there, own-apart, in-first, in-second, in-third, not-holding, Holds, holds-again, moved}
+
+-- a place of the same rules, whatever is named
+pub record IsLike (p q : Place) : Type 0 where
+  pub padding : q.padding ≡ p.padding
+  pub depth : q.depth ≡ p.depth
+
+-- no offset in the lists is below where they stand
+abbrev pub AreBehind : (ℕ → List ℕ) → Type 0
+AreBehind names = (at i : ℕ) → i < at → is_among i (names at) ≡ false
+
+-- nor past so many octets from there
+abbrev pub AreWithin : (ℕ → List ℕ) → ℕ → Type 0
+AreWithin names n = (at i : ℕ) → at + n ≤ i → is_among i (names at) ≡ false
+
+-- of the next octets there, these offsets are named and no others
+abbrev pub Agrees : Place → List ℕ → ℕ → Type 0
+Agrees q names n = (i : ℕ) → q.at ≤ i → i < q.at + n → is_among i q.inside ≡ is_among i names
+
+-- elements alike, at a place, with that spelling, and wrappers at these offsets
+pub record SpelledAt (form : Bool → Bool) (q : Place) (f : Forest) (octets names : List ℕ) : Type 0 where
+  pub forest : Forest
+  pub alike : AreAlike f forest
+  pub sound : IsSound q forest
+  pub regular : AreRegular form forest
+  pub spelled : spell forest ≡ octets
+  pub names_are : wrappers forest ≡ names
+
+-- one spelling, wherever it stands, and the offsets of its wrappers, by that of its first octet
+pub record Spelling (form : Bool → Bool) (p : Place) (f : Forest) : Type 0 where
+  pub octets : List ℕ
+  pub names : ℕ → List ℕ
+  pub short : length octets ≤ 4 * length (spell f)
+  pub names_behind : AreBehind names
+  pub names_within : AreWithin names (length octets)
+  pub there : (q : Place) → IsLike p q → Agrees q (names q.at) (length octets) → SpelledAt form q f octets (names q.at)
+
+-- what is named of an element that holds others and of those behind it, by where it stands: what it holds stands `begins` octets
+-- on, and what is behind it `far` octets on
+abbrev joined : (constructed : Bool) (inner others : ℕ → List ℕ) (begins far : ℕ) → ℕ → List ℕ
+joined constructed inner others begins far at = own constructed at ++ (inner (at + begins) ++ others (at + far))
+
+-- where it holds `count` octets, and `rest` octets are behind it
+record Joins (constructed : Bool) (inner others : ℕ → List ℕ) (begins count far rest : ℕ) : Type 0 where
+  pub behind : AreBehind (joined constructed inner others begins far)
+  pub within : AreWithin (joined constructed inner others begins far) (far + rest)
+  pub of_own : (at : ℕ) → is_among at (joined constructed inner others begins far at) ≡ not constructed
+  pub of_inner : (at i : ℕ) → at + begins ≤ i → i < at + begins + count
+      → is_among i (joined constructed inner others begins far at) ≡ is_among i (inner (at + begins))
+  pub of_others : (at i : ℕ) → at + far ≤ i → is_among i (joined constructed inner others begins far at) ≡ is_among i (others (at + far))
+
+joins : (constructed : Bool) (inner others : ℕ → List ℕ) (begins count far rest : ℕ) → 1 ≤ begins → begins + count ≤ far
+    → AreBehind inner → AreWithin inner count → AreBehind others → AreWithin others rest → Joins constructed inner others begins count far rest
+joins constructed inner others begins count far rest some on inner_behind inner_within others_behind others_within = record {
+  behind = λ at i less.
+      in-third i (own constructed at) (inner (at + begins)) (others (at + far)) (own-apart constructed at i (λ e. omega (arith, less, e)))
+      (inner_behind (at + begins) i (omega (arith, less)))
+      ∙ others_behind (at + far) i (omega (arith, less));
+  within = λ at i more.
+      in-third i (own constructed at) (inner (at + begins)) (others (at + far)) (own-apart constructed at i (λ e. omega (arith, more, e, some, on)))
+      (inner_within (at + begins) i (omega (arith, more, on)))
+      ∙ others_within (at + far) i (omega (arith, more));
+  of_own = λ at.
+      in-first at (own constructed at) (inner (at + begins)) (others (at + far)) (inner_behind (at + begins) at (omega (arith, some)))
+      (others_behind (at + far) at (omega (arith, some, on)))
+      ∙ own-there constructed at;
+  of_inner = λ at i least most.
+      in-second i (own constructed at) (inner (at + begins)) (others (at + far)) (own-apart constructed at i (λ e. omega (arith, least, some, e)))
+      (others_behind (at + far) i (omega (arith, most, on)));
+  of_others = λ at i least.
+      in-third i (own constructed at) (inner (at + begins)) (others (at + far)) (own-apart constructed at i (λ e. omega (arith, least, some, on, e)))
+      (inner_within (at + begins) i (omega (arith, least, on)));
+}
+
+module _ (form : Bool → Bool) (definite : form false ≡ false) where
+  spelling-fill : (p : Place) (rest : Forest) → p.padding ≡ true → Spelling form (place_after p 1) rest → Spelling form p (Fill rest)
+  spelling-fill p rest allowed r = record {
+    octets = 0 ∷ r.octets;
+    names = λ at. r.names (at + 1);
+    short = omega (arith, r.short);
+    names_behind = λ at i less. r.names_behind (at + 1) i (omega (arith, less));
+    names_within = λ at i more. r.names_within (at + 1) i (omega (arith, more));
+    there = λ q like agrees.
+        let t : SpelledAt form (place_after q 1) rest r.octets (r.names (q.at + 1)) =
+        r.there (place_after q 1) (record { padding = like.padding; depth = like.depth }) (λ i least most. agrees i (omega (arith, least)) (omega (arith, most))) in
+        record {
+          forest = Fill t.forest;
+          alike = padding rest t.forest t.alike;
+          sound = (like.padding ∙ allowed, t.sound);
+          regular = t.regular;
+          spelled = ap (λ (l : List ℕ). 0 ∷ l) t.spelled;
+          names_are = t.names_are;
+        };
+  }
+
+  spelling-whole : (p : Place) (h : HeaderValue) (c : List ℕ) (rest : Forest) → h.constructed ≡ false → IsHeader h → (o : Octets h false (Definite (length c)))
+      → Spelling form (place_after p (length (octets_of h) + length c)) rest → Spelling form p (Whole h c rest)
+  spelling-whole p h c rest primitive valid o r =
+      let head : List ℕ = octets-in h false (Definite (length c)) o in
+      let total : length (head ++ (c ++ r.octets)) ≡ length head + (length c + length r.octets) =
+      omega (arith, length-append head (c ++ r.octets), length-append c r.octets) in
+      let some : 1 ≤ length head = head-some h false (Definite (length c)) o in
+      record {
+        octets = head ++ (c ++ r.octets);
+        names = λ at. r.names (at + (length head + length c));
+        short =
+            let id : 1 ≤ length h.identifier = identifier-some h.class h.constructed h.number h.identifier valid.identifier in
+            let len : 1 ≤ length h.lengths = lengths-some h.size h.lengths valid.lengths in
+            omega (
+              arith,
+              id,
+              len,
+              o.few,
+              o.few_lengths,
+              r.short,
+              total,
+              length-whole h c rest,
+              length-append h.identifier h.lengths,
+              length-append o.identifier.octets o.lengths.octets,
+            );
+        names_behind = λ at i less. r.names_behind (at + (length head + length c)) i (omega (arith, less));
+        names_within = λ at i more. r.names_within (at + (length head + length c)) i (omega (arith, more, total));
+        there = λ q like agrees.
+            let k : HeaderValue = head_of h false false (Definite (length c)) o q.at in
+            let next : ℕ = q.at + (length head + length c) in
+            let t : SpelledAt form (place_after q (length head + length c)) rest r.octets (r.names next) =
+            r.there (place_after q (length head + length c)) (record { padding = like.padding; depth = like.depth })
+            (λ i least most. agrees i (omega (arith, least)) (omega (arith, most, total))) in
+            let unnamed : is_among q.at q.inside ≡ false =
+            agrees q.at (omega arith) (omega (arith, total, some)) ∙ r.names_behind next q.at (omega (arith, some)) in
+            record {
+              forest = Whole k c t.forest;
+              alike = primitives h k c rest t.forest (record { class = refl; constructed = primitive; number = refl }) t.alike;
+              sound = (
+                record { valid = head-valid h false false (Definite (length c)) o q.at; offset = refl; named = sym unnamed; form = refl },
+                refl,
+                t.sound,
+              );
+              regular = (record { shortest = head-shortest h false false (Definite (length c)) o q.at; by_form = sym definite }, t.regular);
+              spelled = ap (λ (l : List ℕ). head ++ (c ++ l)) t.spelled;
+              names_are = t.names_are;
+            };
+      }
+
+  spelling-closed : (p : Place) (h : HeaderValue) (inside rest : Forest) (constructed : Bool) → h.constructed ≡ constructed → IsHeader h → p.depth < 128
+      → (held : Spelling form (place_inside p h) inside)
+      → Holds h constructed (form constructed) (length held.octets)
+      → (o : Octets h constructed (size-for (form constructed) (length (lead-for constructed h.number) + length held.octets)))
+      → Spelling form (place_after p (extent h inside)) rest → Spelling form p (Closed h inside rest)
+  spelling-closed p h inside rest constructed is valid few held holding o r =
+      let first : List ℕ = lead-for constructed h.number in
+      let m : ℕ = length first + length held.octets in
+      let size : Size = size-for (form constructed) m in
+      let begins : List ℕ = octets-in h constructed size o ++ first in
+      let ends : List ℕ = end_octets size in
+      let some : 1 ≤ length begins = omega (arith, head-some h constructed size o, length-append (octets-in h constructed size o) first) in
+      let total : length (begins ++ (held.octets ++ (ends ++ r.octets))) ≡ length begins + (length held.octets + (length ends + length r.octets)) =
+      omega (arith, length-append begins (held.octets ++ (ends ++ r.octets)), length-append held.octets (ends ++ r.octets), length-append ends r.octets) in
+      let far : ℕ = length begins + (length held.octets + length ends) in
+      let joint : Joins constructed held.names r.names (length begins) (length held.octets) far (length r.octets) =
+      joins constructed held.names r.names (length begins) (length held.octets) far (length r.octets) some (omega arith)
+      held.names_behind held.names_within r.names_behind r.names_within in
+      let lead_is : length first ≡ length (lead h) = ap (λ (k : Bool). length (lead-for k h.number)) (sym is) in
+      record {
+        octets = begins ++ (held.octets ++ (ends ++ r.octets));
+        names = joined constructed held.names r.names (length begins) far;
+        short =
+            let id : 1 ≤ length h.identifier = identifier-some h.class h.constructed h.number h.identifier valid.identifier in
+            let len : 1 ≤ length h.lengths = lengths-some h.size h.lengths valid.lengths in
+            omega (
+              arith,
+              id,
+              len,
+              o.few,
+              o.few_lengths,
+              held.short,
+              r.short,
+              total,
+              lead_is,
+              length-closed h inside rest,
+              length-opening h,
+              length-append h.identifier h.lengths,
+              length-append (octets-in h constructed size o) first,
+              length-append o.identifier.octets o.lengths.octets,
+            );
+        names_behind = joint.behind;
+        names_within = λ at i more. joint.within at i (omega (arith, more, total));
+        there = λ q like agrees.
+            let k : HeaderValue = head_of h (not constructed) constructed size o q.at in
+            let named : is_among q.at q.inside ≡ not constructed =
+            agrees q.at (omega arith) (omega (arith, total, some)) ∙ joint.of_own q.at in
+            let i : SpelledAt form (place_inside q k) inside held.octets (held.names (q.at + length begins)) =
+            held.there (place_inside q k) (record { padding = refl; depth = ap (λ (d : ℕ). d + 1) like.depth })
+            (λ j least most. agrees j (omega (arith, least)) (omega (arith, most, total)) ∙ joint.of_inner q.at j least most) in
+            let next_is : extent k i.forest ≡ far = ap (λ (l : List ℕ). length begins + (length l + length ends)) i.spelled in
+            let t : SpelledAt form (place_after q (extent k i.forest)) rest r.octets (r.names (q.at + extent k i.forest)) =
+            r.there (place_after q (extent k i.forest)) (record { padding = like.padding; depth = like.depth })
+            (λ j least most.
+            agrees j (omega (arith, least)) (omega (arith, most, next_is, total))
+            ∙ joint.of_others q.at j (omega (arith, least, next_is))
+            ∙ ap (λ (n : ℕ). is_among j (r.names (q.at + n))) (sym next_is)) in
+            let others_are : wrappers t.forest ≡ r.names (q.at + far) = t.names_are ∙ ap (λ (n : ℕ). r.names (q.at + n)) next_is in
+            record {
+              forest = Closed k i.forest t.forest;
+              alike = holders h k inside i.forest rest t.forest (record { class = refl; constructed = is; number = refl }) i.alike t.alike;
+              sound = (
+                record { valid = head-valid h (not constructed) constructed size o q.at; offset = refl; named = sym named; form = holding.again },
+                size-length (form constructed) m (length first + length (spell i.forest)) (omega (arith, ap length i.spelled)),
+                omega (arith, like.depth, few),
+                i.sound,
+                t.sound,
+              );
+              regular = (record { shortest = head-shortest h (not constructed) constructed size o q.at; by_form = size-form (form constructed) m }, i.regular, t.regular);
+              spelled = ap₂ (λ (x y : List ℕ). begins ++ (x ++ (ends ++ y))) i.spelled t.spelled;
+              names_are = ap₂ (λ (x y : List ℕ). own constructed q.at ++ (x ++ y)) i.names_are others_are;
+            };
+      }
+
+  pub respelled : (p : Place) (f : Forest) → length (spell f) ≤ 2 ^ 38 → IsSound p f → HaveLowForms f → Spelling form p f
+  respelled p Stop few u low = record {
+    octets = [];
+    names = λ at. [];
+    short = omega arith;
+    names_behind = λ at i less. refl;
+    names_within = λ at i more. refl;
+    there = λ q like agrees. record { forest = Stop; alike = nothing; sound = tt; regular = tt; spelled = refl; names_are = refl };
+  }
+  respelled p (Fill rest) few u low = spelling-fill p rest u.0 (respelled (place_after p 1) rest (omega (arith, few)) u.1 low)
+  respelled p (Whole h c rest) few u low =
+      let count : length (spell (Whole h c rest)) ≡ length (octets_of h) + length c + length (spell rest) = length-whole h c rest in
+      let primitive : h.constructed ≡ false = not-holding h.constructed (is_wrapper h.named h.class h.constructed h.number h.size) u.0.form in
+      let o : Octets h false (Definite (length c)) =
+      octets-for h false (Definite (length c)) (moved h.class h.constructed false h.number h.identifier primitive u.0.valid.identifier)
+      (subst (λ (k : Bool). leading_octet h.class k h.number ≢ 0) primitive low.0) refl (omega (arith, count, few)) in
+      spelling-whole p h c rest primitive u.0.valid o (respelled (place_after p (length (octets_of h) + length c)) rest (omega (arith, count, few)) u.2 low.1)
+  respelled p (Closed h inside rest) few u low =
+      let count : length (spell (Closed h inside rest)) ≡ extent h inside + length (spell rest) = length-closed h inside rest in
+      let begins : length (opening h) ≡ length (octets_of h) + length (lead h) = length-opening h in
+      let some : 2 ≤ length (octets_of h) = header-length h u.0.valid in
+      let held : Spelling form (place_inside p h) inside = respelled (place_inside p h) inside (omega (arith, count, few)) u.3 low.0 in
+      let m : ℕ = length (lead h) + length held.octets in
+      let below : m < 2 ^ 40 = omega (arith, held.short, count, begins, some, few, lead-short h.constructed h.number) in
+      let primitive : h.constructed ≡ false → form h.constructed ≡ false = λ e. ap form e ∙ definite in
+      let holding : Holds h h.constructed (form h.constructed) (length held.octets) =
+      holds-again h h.constructed (form h.constructed) (length held.octets) primitive u.0.form in
+      let o : Octets h h.constructed (size-for (form h.constructed) m) =
+      octets-for h h.constructed (size-for (form h.constructed) m) u.0.valid.identifier holding.nonzero
+      (allows-size h.constructed (form h.constructed) m primitive)
+      (size-below (form h.constructed) m below) in
+      spelling-closed p h inside rest h.constructed refl u.0.valid u.2 held holding o (respelled (place_after p (extent h inside)) rest (omega (arith, count, few)) u.4 low.1)
+  respelled p (Partial h c) few u low = absurd u
+  respelled p (Entered h inside) few u low = absurd u
+  respelled p (Awaiting h) few u low = absurd u
+  respelled p (Begun octets) few u low = absurd u
+  respelled p Zero few u low = absurd u

@@ -1,0 +1,44 @@
+-- Spellings: how long they are, and how they are regrouped.
+use Rattle.std.proofs.Common.{◌≡◌, ℕ, ◌+◌, ◌≤◌, List, [], ◌∷◌, ◌++◌, length, ap, ◌∙◌, arith, append_assoc, length-append, refl, sym}
+use Rattle.tlv_head.specs.Header.{HeaderValue, octets_of}
+use Rattle.tlv_walk.specs.Forest.{Forest, Whole, Closed, end_octets, extent, lead, opening, spell}
+
+-- what comes before the elements that an element holds is the header and the contents octets before them
+pub length-opening : (h : HeaderValue) → length (opening h) ≡ length (octets_of h) + length (lead h)
+length-opening h = length-append (octets_of h) (lead h)
+
+-- a primitive, and what follows it
+pub length-whole : (h : HeaderValue) (c : List ℕ) (rest : Forest) → length (spell (Whole h c rest)) ≡ length (octets_of h) + length c + length (spell rest)
+length-whole h c rest = omega (arith, length-append (octets_of h) (c ++ spell rest), length-append c (spell rest))
+
+-- an element that holds others, and what follows it
+pub length-closed : (h : HeaderValue) (inside rest : Forest) → length (spell (Closed h inside rest)) ≡ extent h inside + length (spell rest)
+length-closed h inside rest =
+    omega (arith, length-append (opening h) (spell inside ++ (end_octets h.size ++ spell rest)), length-append (spell inside) (end_octets h.size ++ spell rest), length-append (end_octets h.size) (spell rest))
+
+-- octets behind a list of three pieces are behind the last of them
+pub append_assoc-3 : (a b s t : List ℕ) → (a ++ (b ++ s)) ++ t ≡ a ++ (b ++ (s ++ t))
+append_assoc-3 a b s t = append_assoc a (b ++ s) t ∙ ap (λ (u : List ℕ). a ++ u) (append_assoc b s t)
+
+-- and behind a list of four
+pub append_assoc-4 : (a b c s t : List ℕ) → (a ++ (b ++ (c ++ s))) ++ t ≡ a ++ (b ++ (c ++ (s ++ t)))
+append_assoc-4 a b c s t = append_assoc a (b ++ (c ++ s)) t ∙ ap (λ (u : List ℕ). a ++ u) (append_assoc-3 b c s t)
+
+-- of two fronts of one list the longer begins with the shorter
+pub front-of : (s t u v : List ℕ) → s ++ u ≡ t ++ v → length s ≤ length t → (r : List ℕ) × (t ≡ s ++ r)
+front-of [] t u v e l = (t, refl)
+front-of (x ∷ s) [] u v e l = absurd (omega arith)
+front-of (x ∷ s) (y ∷ t) u v e l =
+    let same : x ≡ y = cc in
+    let r : (r : List ℕ) × (t ≡ s ++ r) = front-of s t u v (cc) (omega arith) in
+    (r.0, ap (λ (u : List ℕ). y ∷ u) r.1 ∙ ap (λ (u : ℕ). u ∷ (s ++ r.0)) (sym same))
+
+-- two fronts of one list that are as long are the same
+pub front-same : (s t u v : List ℕ) → s ++ u ≡ t ++ v → length s ≡ length t → s ≡ t
+front-same [] [] u v e l = refl
+front-same [] (y ∷ t) u v e l = absurd (omega arith)
+front-same (x ∷ s) [] u v e l = absurd (omega arith)
+front-same (x ∷ s) (y ∷ t) u v e l =
+    let same : x ≡ y = cc in
+    let rest : s ≡ t = front-same s t u v (cc) (omega arith) in
+    rw (same, rest)

@@ -1,0 +1,78 @@
+-- An input has one ending, and a fault that an octet has is final.
+use Rattle.std.proofs.Common.{◌≡◌, ◌≢◌, ℕ, Bool, true, false, List, ◌∷◌, ◌++◌, length, refl, sym, ap, ◌∙◌, arith, length-append}
+use Rattle.std.proofs.lemmas.Bool.{true≢false}
+use Rattle.std.proofs.lemmas.List.{append_cancel_left}
+use Rattle.tlv_head.specs.declared.fault.FaultCode.{FaultCode}
+use Rattle.tlv_head.specs.declared.fault.FaultCode.TheVariants.{Empty, Short}
+use Rattle.tlv_walk.specs.declared.ending.Ending.{Ending}
+use Rattle.tlv_walk.specs.declared.framing.Framing.{Framing}
+use Rattle.tlv_walk.specs.Forest.{Forest, Stop, Fill, Whole, Closed, Partial, Entered, Awaiting, Begun, Zero, has_element, is_whole, spell}
+use Rattle.tlv_walk.specs.Place.{top_place}
+use Rattle.tlv_walk.specs.Reading.{IsReading}
+use Rattle.tlv_walk.specs.Ending.{IsEnding, IsFault, done, empty, fault, refused, short, tip}
+use Rattle.tlv_walk.proofs.GrammarLemmas.Readings.{Halted, IsHalt, halt-longer, reading-unique, run-reading}
+use Rattle.tlv_walk.proofs.GrammarLemmas.Faults.{fault-unique}
+use Rattle.tlv_walk.proofs.GrammarLemmas.Endings.{IsRefused, fault-halt, halt-ending}
+
+-- without an octet of an element nothing is open
+none-whole : (f : Forest) → has_element f ≡ false → is_whole f ≡ true
+none-whole Stop e = refl
+none-whole (Fill rest) e = none-whole rest e
+none-whole (Whole h c rest) e = absurd (cc)
+none-whole (Closed h inside rest) e = absurd (cc)
+none-whole (Partial h c) e = absurd (cc)
+none-whole (Entered h inside) e = absurd (cc)
+none-whole (Awaiting h) e = absurd (cc)
+none-whole (Begun octets) e = absurd (cc)
+none-whole Zero e = absurd (cc)
+
+-- a test of the reading has one answer
+test-apart : (w : Framing) (b : List ℕ) (f g : Forest) (test : Forest → Bool) → IsReading w b f → IsReading w b g → test f ≡ true → test g ≡ false → ⊥
+test-apart w b f g test r s t u = true≢false (sym t ∙ ap test (reading-unique w b f g r s) ∙ u)
+
+-- the whole input is read, or an octet is refused
+read-apart : (w : Framing) (b : List ℕ) (f g : Forest) (x : ℕ) (rest : List ℕ) → IsReading w b f → IsReading w b g → spell f ≡ b → spell g ++ x ∷ rest ≡ b → ⊥
+read-apart w b f g x rest r s e d =
+    let same : length (spell f) ≡ length (spell g) = ap (λ (f : Forest). length (spell f)) (reading-unique w b f g r s) in
+    omega (arith, ap length e, ap length d, length-append (spell g) (x ∷ rest))
+
+-- an octet that is refused is one octet, with one code
+refused-same : (w : Framing) (b : List ℕ) (f g : Forest) (x y : ℕ) (r s : List ℕ) (c d : FaultCode) → IsReading w b f → IsReading w b g → spell f ++ x ∷ r ≡ b → spell g ++ y ∷ s ≡ b
+    → IsFault (tip (top_place w) f).0 x (tip (top_place w) f).1 c → IsFault (tip (top_place w) g).0 y (tip (top_place w) g).1 d → fault c (length (spell f)) ≡ fault d (length (spell g))
+refused-same w b f g x y r s c d u v e e' k l =
+    let same : f ≡ g = reading-unique w b f g u v in
+    let tails : x ∷ r ≡ y ∷ s = append_cancel_left (spell g) (x ∷ r) (y ∷ s) (rw same at (e ∙ sym e')) in
+    let octet : x ≡ y = cc in
+    let k' : IsFault (tip (top_place w) g).0 y (tip (top_place w) g).1 c = rw (same, octet) at k in
+    let code : c ≡ d = fault-unique w g y c d v.is_open k' l in
+    ap (λ (c : FaultCode). fault c (length (spell f))) code ∙ ap (λ (f : Forest). fault d (length (spell f))) same
+
+-- an input has one ending
+pub ending-unique : (w : Framing) (b : List ℕ) (e d : Ending) → IsEnding w b e → IsEnding w b d → e ≡ d
+ending-unique w b e d (empty f r s n) (empty g u t m) = refl
+ending-unique w b e d (empty f r s n) (short g u t p) = absurd (test-apart w b f g is_whole r u (none-whole f n) p)
+ending-unique w b e d (empty f r s n) (done g u t m q) = absurd (test-apart w b g f has_element u r m n)
+ending-unique w b e d (empty f r s n) (refused g y rest c u t k) = absurd (read-apart w b f g y rest r u s t)
+ending-unique w b e d (short f r s p) (empty g u t m) = absurd (test-apart w b g f is_whole u r (none-whole g m) p)
+ending-unique w b e d (short f r s p) (short g u t q) = refl
+ending-unique w b e d (short f r s p) (done g u t m q) = absurd (test-apart w b g f is_whole u r q p)
+ending-unique w b e d (short f r s p) (refused g y rest c u t k) = absurd (read-apart w b f g y rest r u s t)
+ending-unique w b e d (done f r s n q) (empty g u t m) = absurd (test-apart w b f g has_element r u n m)
+ending-unique w b e d (done f r s n q) (short g u t p) = absurd (test-apart w b f g is_whole r u q p)
+ending-unique w b e d (done f r s n q) (done g u t m p) = refl
+ending-unique w b e d (done f r s n q) (refused g y rest c u t k) = absurd (read-apart w b f g y rest r u s t)
+ending-unique w b e d (refused f x rest c r s k) (empty g u t m) = absurd (read-apart w b g f x rest u r t s)
+ending-unique w b e d (refused f x rest c r s k) (short g u t p) = absurd (read-apart w b g f x rest u r t s)
+ending-unique w b e d (refused f x rest c r s k) (done g u t m q) = absurd (read-apart w b g f x rest u r t s)
+ending-unique w b e d (refused f x rest c r s k) (refused g y more m u t l) = refused-same w b f g x y rest more c m r u s t k l
+
+-- a fault other than F01 and F02 is final: no continuation changes the reading or the ending
+pub refused-for-good : (w : Framing) (b c : List ℕ) (code : FaultCode) (offset : ℕ) (f : Forest) → code ≢ Empty → code ≢ Short → IsEnding w b (fault code offset) → IsReading w b f
+    → IsReading w (b ++ c) f × IsEnding w (b ++ c) (fault code offset)
+refused-for-good w b c code offset f a d e r =
+    let k : IsRefused w b code offset = fault-halt w b code offset a d e in
+    let longer : IsHalt w k.forest code (b ++ c) = halt-longer w k.forest code b c k.halt in
+    let same : k.forest ≡ f = reading-unique w b k.forest f (run-reading w (Halted k.forest code) b k.halt) r in
+    let reading : IsReading w (b ++ c) k.forest = run-reading w (Halted k.forest code) (b ++ c) longer in
+    let end : IsEnding w (b ++ c) (fault code (length (spell k.forest))) = halt-ending w k.forest code (b ++ c) longer k.fault in
+    (rw same at reading, rw (← k.there) at end)

@@ -1,0 +1,60 @@
+-- A step behind the first of the end-of-contents octets is one of both.
+use Rattle.std.proofs.Common.{◌≡◌, inl, inr, ℕ, ◌+◌, ◌-◌, Option, Some, None, arith, List, [], ◌∷◌, ◌++◌, ap, ◌∙◌, subst, append_assoc, append-nil}
+use Rattle.tlv_head.specs.declared.fault.Fault.{Fault}
+use Rattle.tlv_walk.specs.declared.ending.Ending.TheVariants as ending
+use Rattle.tlv_walk.specs.declared.event.Step.{Step}
+use Rattle.tlv_walk.specs.declared.event.Step.TheVariants as step
+use Rattle.tlv_walk.specs.declared.framing.Framing.{Framing}
+use Rattle.tlv_walk.specs.Phase as phase
+use Rattle.tlv_walk.specs.Ending.{IsEnding}
+use Rattle.tlv_walk.specs.Events.{EventValue}
+use Rattle.tlv_walk.specs.WalkerState.{WalkerState}
+use Rattle.tlv_walk.specs.Stack.{Within}
+use Rattle.tlv_walk.specs.Private.Stack.{left_to}
+use Rattle.tlv_walk.specs.Private.Zipper.{HasZipper}
+use Rattle.tlv_walk.specs.HasRead.{event_value}
+use Rattle.tlv_walk.specs.Private.Steps.{Continues, RefusesOctet, YieldsEvent, YieldsFault, YieldsStep}
+use Rattle.tlv_walk.proofs.WalkerLemmas.Moves.{continues_both}
+
+module _ (old mid new : WalkerState) (x : ℕ) (first : Continues old mid (x ∷ []) []) (same : mid.framing ≡ old.framing) (kept : mid.stack ≡ old.stack) where
+  event_behind : (rest after : List ℕ) (e : EventValue) → YieldsEvent mid new rest after e → YieldsEvent old new (x ∷ rest) after e
+  event_behind rest after e t =
+      record { taken = x ∷ t.taken; piece = ap (λ (o : List ℕ). x ∷ o) t.piece; continues = continues_both old mid new (x ∷ []) t.taken [] (e ∷ []) first t.continues }
+
+  refused_behind : (rest after : List ℕ) (f : Fault) → RefusesOctet mid rest after f → RefusesOctet old (x ∷ rest) after f
+  refused_behind rest after f r = record {
+    taken = x ∷ r.taken;
+    octet = r.octet;
+    rest = r.rest;
+    before_is = ap (λ (o : List ℕ). x ∷ o) r.before_is;
+    after_is = r.after_is;
+    refuses = λ b past s has.
+        let one = first.goes b past s has in
+        let two = r.refuses (b ++ x ∷ []) (past ++ []) one.0 one.1 in
+        let spelled : (b ++ x ∷ []) ++ r.taken ≡ b ++ x ∷ r.taken = append_assoc b (x ∷ []) r.taken in record {
+          walker = two.walker;
+          state = two.state;
+          has_state = subst (λ (o : List ℕ). HasZipper two.walker o past two.state) spelled
+              (subst (λ (es : List EventValue). HasZipper two.walker ((b ++ x ∷ []) ++ r.taken) es two.state) (append-nil past) two.has_state);
+          idle = two.idle;
+          offset = two.offset;
+          ends = λ c. subst (λ (w : Framing). IsEnding w ((b ++ x ∷ r.taken) ++ r.octet ∷ c) (ending.Fault f)) same
+              (subst (λ (o : List ℕ). IsEnding mid.framing (o ++ r.octet ∷ c) (ending.Fault f)) spelled (two.ends c));
+          framing = two.framing ∙ same;
+          stack = two.stack ∙ kept;
+        };
+  }
+
+  fault_behind : (rest after : List ℕ) (f : Fault) → mid.phase ≡ phase.InEnd → YieldsFault mid new rest after f → YieldsFault old new (x ∷ rest) after f
+  fault_behind rest after f z (inl r) = inl (refused_behind rest after f r)
+  fault_behind rest after f z (inr r) = absurd (cc (z, r.failed))
+
+  pub step_behind : (rest after : List ℕ) (m : Step) → mid.phase ≡ phase.InEnd → YieldsStep mid new rest after m → YieldsStep old new (x ∷ rest) after m
+  step_behind rest after (step.Event e) z t = event_behind rest after (event_value e) t
+  step_behind rest after step.NeedMore z t = continues_both old mid new (x ∷ []) rest [] [] first t
+  step_behind rest after (step.Fault f) z t = fault_behind rest after f z t
+
+-- an octet is left to the bound
+pub room_more : (b : Option ℕ) (n : ℕ) → Within b n → (left_to b n ≡ Some 0 → ⊥) → Within b (n + 1)
+room_more None n w f = tt
+room_more (Some m) n w f = let some : m - n ≡ 0 → ⊥ = λ e. f (ap Some e) in omega arith

@@ -1,0 +1,41 @@
+-- What a walker answers of what it has read.
+use Rattle.std.proofs.Common.{◌≡◌, ℕ, List, ◌++◌, ◌∷◌, length, sym, ap, ◌∙◌, subst}
+use Rattle.tlv_head.specs.declared.fault.Fault.{Fault}
+use Rattle.tlv_walk.specs.declared.ending.Ending.{Ending}
+use Rattle.tlv_walk.specs.declared.ending.Ending.TheVariants as ending
+use Rattle.tlv_walk.specs.Ending.{IsEnding}
+use Rattle.tlv_walk.specs.Events.{EventValue}
+use Rattle.tlv_walk.specs.Forest.{Forest}
+use Rattle.tlv_walk.specs.WalkerState.{WalkerState, first_unused_in}
+use Rattle.tlv_walk.specs.OpenCount.{open_count}
+use Rattle.tlv_walk.specs.Phase.{Failed}
+use Rattle.tlv_walk.specs.Stands.{IsIdle, Stands}
+use Rattle.tlv_walk.specs.HasRead.{HasRead, StandsAtEnd, refused_one, stopped, took, took_all}
+use Rattle.tlv_walk.specs.Wrappers.{first_unused}
+use Rattle.tlv_walk.proofs.WalkerLemmas.OpenCounts.{state-depth}
+use Rattle.tlv_walk.proofs.GrammarLemmas.Readings.{reading-unique}
+use Rattle.tlv_walk.proofs.WalkerLemmas.ZipperReading.{state-reading}
+use Rattle.tlv_walk.proofs.EventLemmas.Unused.{stands_unused}
+use Rattle.tlv_walk.proofs.WalkerLemmas.Waiting.{idle}
+
+pub read_depth : (w : WalkerState) (b : List ℕ) (f : Forest) → HasRead w b f → IsIdle w → length w.stack ≡ open_count f
+read_depth w b f (took past st e) none =
+    state-depth w b past st.private_state.state st.private_state.has_state (idle w none)
+    ∙ ap open_count (reading-unique w.framing b _ st.reading (state-reading w b past st.private_state.state st.private_state.has_state) st.is_reading ∙ e)
+read_depth w b f (stopped x past g st e) none = st.depth ∙ ap open_count e
+
+pub read_offset : (w : WalkerState) (b : List ℕ) (f : Forest) → HasRead w b f → w.offset ≡ length b
+read_offset w b f (took past st e) = st.private_state.has_state.offset
+read_offset w b f (stopped x past g st e) = st.offset
+
+pub read_unused : (w : WalkerState) (b : List ℕ) (f : Forest) → HasRead w b f → first_unused_in w ≡ first_unused w.framing.inside f
+read_unused w b f (took past st e) = stands_unused w b past st ∙ ap (first_unused w.framing.inside) e
+read_unused w b f (stopped x past g st e) = st.unused ∙ ap (first_unused w.framing.inside) e
+
+-- at the end of the input, also where an octet was refused
+pub ends_by : (w : WalkerState) (o : List ℕ) (past : List EventValue) (e result : Ending) → ((b : List ℕ) (past : List EventValue) → Stands w b past → IsEnding w.framing b result)
+    → ((f : Fault) → w.phase ≡ Failed f → result ≡ ending.Fault f) → StandsAtEnd w o past e → IsEnding w.framing o result
+ends_by w o past e result stands failed (took_all st none) = stands o past st
+ends_by w o past e result stands failed (refused_one {f = f} at) =
+    subst (λ (l : List ℕ). IsEnding w.framing l result) at.octets_is
+    (subst (λ (k : Ending). IsEnding w.framing (at.front ++ at.octet ∷ at.rest) k) (sym (failed f at.stands.phase)) (at.stands.behind.ends at.rest))

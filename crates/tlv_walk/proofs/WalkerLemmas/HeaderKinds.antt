@@ -1,0 +1,177 @@
+-- What a header begins, on a walker's state.
+use Rattle.std.proofs.Common.{◌≡◌, ℕ, ◌+◌, ◌^◌, ◌<◌, ◌≤◌, Bool, true, false, ◌||◌, eqb, if◌then◌else◌, List, [], ◌∷◌, ◌++◌, length, take, Option, refl, sym, ap, ◌∙◌, subst, arith, length-take}
+use Rattle.std.proofs.lemmas.Bool.{true≢false}
+use Rattle.std.proofs.lemmas.List.{take-append-drop}
+use Rattle.tlv_head.specs.declared.header.HeaderFields.{HeaderFields}
+use Rattle.tlv_head.specs.declared.header.Size.TheVariants.{Definite}
+use Rattle.tlv_head.specs.Fields.{header_with}
+use Rattle.tlv_head.specs.Header.{HeaderValue, announced, holds, is_wrapper, octets_of}
+use Rattle.tlv_head.specs.HeadReaderState.{HeadReaderState}
+use Rattle.tlv_walk.specs.declared.event.Kind.{Kind}
+use Rattle.tlv_walk.specs.declared.event.Kind.TheVariants as kind
+use Rattle.tlv_walk.specs.Phase.{Phase}
+use Rattle.tlv_walk.specs.Phase as phase
+use Rattle.tlv_walk.specs.Events.{Begin, Enter, EventValue, Open}
+use Rattle.tlv_walk.specs.Forest.{Stop, lead}
+use Rattle.tlv_walk.specs.WalkerState.{WalkerState}
+use Rattle.tlv_walk.specs.Private.Stack.{frame_with}
+use Rattle.tlv_walk.specs.Private.WalkerState.{CanEnter, Enters, after_header, next_wrapper, wrappers_after}
+use Rattle.tlv_walk.specs.Wrappers.{wrapper_offsets}
+use Rattle.tlv_walk.specs.Inside.{is_among}
+use Rattle.tlv_walk.specs.Stack.{Frame, Within, bound_of}
+use Rattle.tlv_walk.specs.Private.Steps.{Continues}
+use Rattle.tlv_head.specs.ReadHeader.{BeginsWithFields}
+use Rattle.tlv_head.specs.Refusal.{BeginsWith}
+use Rattle.tlv_walk.specs.Private.Zipper.{Between, HasZipper, InContents, Zipper, frame_at, place_of}
+use Rattle.tlv_walk.proofs.WalkerLemmas.Entering.{AtHeader, Completed, at_new, holding_state, lead_by, lead_state, primitive_state}
+use Rattle.tlv_walk.proofs.WalkerLemmas.Moves.{with_tail}
+use Rattle.tlv_walk.proofs.WalkerLemmas.Places.{place-bound}
+use Rattle.tlv_walk.proofs.GrammarLemmas.Push.{size-definite}
+
+-- the event that a header is yielded with
+abbrev pub event_of : Kind → HeaderValue → EventValue
+event_of kind.Constructed h = Open h
+event_of kind.Wrapper h = Enter h
+event_of kind.Primitive h = Begin h
+
+-- the frame that the walker pushes is that of the place
+frame_there : (w : WalkerState) (b : List ℕ) (past : List EventValue) (s : Zipper) (r : HeadReaderState) (t : List ℕ) (h : HeaderValue) → AtHeader w b past s r → Completed w r t h
+    → frame_at (place_of w.framing s) h ≡ frame_with (h.offset + length (octets_of h)) (bound_of w.stack) h.size h.constructed
+frame_there w b past s r t h at c =
+    ap (λ (n : ℕ). frame_with (n + length (octets_of h)) (place_of w.framing s).bound h.size h.constructed) (sym (c.offset ∙ at.offset))
+    ∙ ap (λ (x : Option ℕ). frame_with (h.offset + length (octets_of h)) x h.size h.constructed) (place-bound w.framing s.layers ∙ ap bound_of (sym at.stack))
+
+-- an element that holds others, with the frame that the walker pushes
+abbrev entered_machine : WalkerState → HeaderValue → Phase → ℕ → WalkerState
+entered_machine w h f k =
+    record (after_header w f (h.offset + length (octets_of h))) { stack = frame_with (h.offset + length (octets_of h)) (bound_of w.stack) h.size h.constructed ∷ w.stack; wrappers = k }
+
+-- the state is that of a walker which pushed the frame
+pushed : (w : WalkerState) (b : List ℕ) (past : List EventValue) (s : Zipper) (r : HeadReaderState) (t : List ℕ) (h : HeaderValue) (f : Phase) (k : ℕ) (e : EventValue) (u : Zipper) → AtHeader w b past s r → Completed w r t h
+    → HasZipper (record (after_header w f (h.offset + length (octets_of h))) { stack = frame_at (place_of w.framing s) h ∷ w.stack; wrappers = k }) (b ++ t) (past ++ e ∷ []) u
+    → HasZipper (entered_machine w h f k) (b ++ t) (past ++ e ∷ []) u
+pushed w b past s r t h f k e u at c has =
+    subst (λ (x : Frame). HasZipper (record (after_header w f (h.offset + length (octets_of h))) { stack = x ∷ w.stack; wrappers = k }) (b ++ t) (past ++ e ∷ []) u) (frame_there w b past s r t h at c) has
+
+lead_at : (h : HeaderValue) (k n : Bool) → h.constructed ≡ k → eqb h.number 3 ≡ n → lead h ≡ lead_by k n
+lead_at h k n e f = ap (λ (c : Bool). lead_by c (eqb h.number 3)) e ∙ ap (lead_by k) f
+
+or-left : (a b : Bool) → a ≡ true → (a || b) ≡ true
+or-left a b e = ap (λ (x : Bool). x || b) e
+
+or-right : (a b : Bool) → a ≡ false → b ≡ true → (a || b) ≡ true
+or-right a b e f = ap (λ (x : Bool). x || b) e ∙ f
+
+-- the state inside an element that has just begun
+abbrev inside_state : Zipper → HeaderValue → Zipper
+inside_state s h = record { layers = record { before = s.here; head = h } ∷ s.layers; here = Stop; tail = Between }
+
+constructed_enters : (w : WalkerState) (b : List ℕ) (past : List EventValue) (s : Zipper) (r : HeadReaderState) (t : List ℕ) (h : HeaderValue) → AtHeader w b past s r → Completed w r t h → h.constructed ≡ true
+    → (u : Zipper) × HasZipper (entered_machine w h phase.Between w.wrappers) (b ++ t) (past ++ Open h ∷ []) u
+constructed_enters w b past s r t h at c k =
+    let none : lead h ≡ [] = lead_at h true (eqb h.number 3) k refl in
+    let has = holding_state w b past s r t h w.wrappers at c (or-left h.constructed _ k) none in (
+      _,
+      pushed w b past s r t h phase.Between w.wrappers (Open h) _ at c
+          (subst (λ (e : EventValue). HasZipper (record (after_header w phase.Between (h.offset + length (octets_of h))) { stack = frame_at (place_of w.framing s) h ∷ w.stack; wrappers = w.wrappers }) (b ++ t) (past ++ e ∷ []) (inside_state s h))
+          (ap (λ (x : Bool). if x then Open h else Enter h) k) has),
+    )
+
+wrapper_enters : (w : WalkerState) (b : List ℕ) (past : List EventValue) (s : Zipper) (r : HeadReaderState) (t : List ℕ) (h : HeaderValue) (n : ℕ) → AtHeader w b past s r → Completed w r t h → h.constructed ≡ false → holds h ≡ true
+    → (bits : Bool) → eqb h.number 3 ≡ bits → (u : Zipper) × HasZipper (entered_machine w h (if bits then phase.BeforeUnused else phase.Between) n) (b ++ t) (past ++ Enter h ∷ []) u
+wrapper_enters w b past s r t h n at c k hold true bits =
+    let one : lead h ≡ 0 ∷ [] = lead_at h false true k bits in
+    (_, pushed w b past s r t h phase.BeforeUnused n (Enter h) _ at c (lead_state w b past s r t h n at c hold one))
+wrapper_enters w b past s r t h n at c k hold false bits =
+    let none : lead h ≡ [] = lead_at h false false k bits in
+    let has = holding_state w b past s r t h n at c hold none in (
+      _,
+      pushed w b past s r t h phase.Between n (Enter h) _ at c
+          (subst (λ (e : EventValue). HasZipper (record (after_header w phase.Between (h.offset + length (octets_of h))) { stack = frame_at (place_of w.framing s) h ∷ w.stack; wrappers = n }) (b ++ t) (past ++ e ∷ []) (inside_state s h))
+          (ap (λ (x : Bool). if x then Open h else Enter h) k) has),
+    )
+
+primitive_enters : (w : WalkerState) (b : List ℕ) (past : List EventValue) (s : Zipper) (r : HeadReaderState) (t : List ℕ) (h : HeaderValue) → AtHeader w b past s r → Completed w r t h → holds h ≡ false
+    → (u : Zipper) × HasZipper (after_header w (phase.InContents (announced h.size)) (h.offset + length (octets_of h))) (b ++ t) (past ++ Begin h ∷ []) u
+primitive_enters w b past s r t h at c no_hold =
+    let size : (n : ℕ) × (h.size ≡ Definite n) = size-definite h c.valid no_hold in (
+      _,
+      subst (λ (n : ℕ). HasZipper (after_header w (phase.InContents n) (h.offset + length (octets_of h))) (b ++ t) (past ++ Begin h ∷ []) (with_tail s (InContents h []))) (sym (ap announced size.1))
+          (primitive_state w b past s r t h size.0 at c no_hold size.1),
+    )
+
+-- behind a header a walker stands as it says
+pub enters_state : (w v : WalkerState) (b : List ℕ) (past : List EventValue) (s : Zipper) (r : HeadReaderState) (t : List ℕ) (f : HeaderFields) (o : List ℕ) (k : Kind) → AtHeader w b past s r
+    → Completed w r t (header_with f o) → Enters w v f (f.offset + length (octets_of (header_with f o))) k
+    → (u : Zipper) × HasZipper v (b ++ t) (past ++ event_of k (header_with f o) ∷ []) u
+enters_state w v b past s r t f o kind.Primitive at c e =
+    let u = primitive_enters w b past s r t (header_with f o) at c e.0 in
+    (u.0, subst (λ (m : WalkerState). HasZipper m (b ++ t) (past ++ Begin (header_with f o) ∷ []) u.0) (sym e.1) u.1)
+enters_state w v b past s r t f o kind.Constructed at c e =
+    let u = constructed_enters w b past s r t (header_with f o) at c e.0 in
+    (u.0, subst (λ (m : WalkerState). HasZipper m (b ++ t) (past ++ Open (header_with f o) ∷ []) u.0) (sym e.1) u.1)
+enters_state w v b past s r t f o kind.Wrapper at c e =
+    let u = wrapper_enters w b past s r t (header_with f o) (next_wrapper w.framing.inside w.wrappers f.offset) at c e.0 (or-right f.constructed _ e.0 e.1) (eqb f.number 3) refl in
+    (u.0, subst (λ (m : WalkerState). HasZipper m (b ++ t) (past ++ Enter (header_with f o) ∷ []) u.0) (sym e.2) u.1)
+
+-- the framing stays
+pub enters_framing : (w v : WalkerState) (f : HeaderFields) (at : ℕ) (k : Kind) → Enters w v f at k → v.framing ≡ w.framing
+enters_framing w v f at kind.Primitive e = ap (λ (m : WalkerState). m.framing) e.1
+enters_framing w v f at kind.Constructed e = ap (λ (m : WalkerState). m.framing) e.1
+enters_framing w v f at kind.Wrapper e = ap (λ (m : WalkerState). m.framing) e.2
+
+-- a wrapper may be one of the named offsets
+pub enters_found : (w v : WalkerState) (f : HeaderFields) (o : List ℕ) (at : ℕ) (k : Kind) → Enters w v f at k → v.wrappers ≡ wrappers_after w.framing.inside w.wrappers (wrapper_offsets (event_of k (header_with f o) ∷ []))
+enters_found w v f o at kind.Primitive e = ap (λ (m : WalkerState). m.wrappers) e.1
+enters_found w v f o at kind.Constructed e = ap (λ (m : WalkerState). m.wrappers) e.1
+enters_found w v f o at kind.Wrapper e = ap (λ (m : WalkerState). m.wrappers) e.2
+
+-- octets that begin with a header, at a walker between elements
+pub fast_enters : (w v : WalkerState) (piece : List ℕ) (named : Bool) (f : HeaderFields) (count : ℕ) (o : List ℕ) (k : Kind) → w.phase ≡ phase.Between
+    → BeginsWithFields piece w.offset named f count → o ≡ take count piece → named ≡ is_among w.offset w.framing.inside
+    → (holds (header_with f o) ≡ true → length w.stack < 128) → Within (bound_of w.stack) (f.offset + length o + announced f.size)
+    → Enters w v f (f.offset + length o) k → Continues w v o (event_of k (header_with f o) ∷ [])
+fast_enters w v piece named f count o k e begins front name shallow fits enter =
+    let h : HeaderValue = header_with f o in
+    let whole : octets_of h ≡ o = take-append-drop f.id_len o in
+    let begins' : BeginsWith piece w.offset named h = subst (λ (x : List ℕ). BeginsWith piece w.offset named (header_with f x)) (sym front) begins.begins in
+    let r : HeadReaderState = record { offset = w.offset; named = named; octets = []; done = false } in
+    let completed : Completed w r o h = record {
+      valid = begins'.valid;
+      octets = whole;
+      offset = begins'.offset;
+      named = begins'.named;
+      shallow = shallow;
+      fits = subst (λ (x : List ℕ). Within (bound_of w.stack) (f.offset + length x + announced f.size)) (sym whole) fits;
+    } in
+    record {
+      framing = enters_framing w v f (f.offset + length o) k enter;
+      found = enters_found w v f o (f.offset + length o) k enter;
+      goes = λ b past s has.
+          enters_state w v b past (with_tail s Between) r o f o k (at_new w b past s r has e refl refl name) completed
+          (subst (λ (x : List ℕ). Enters w v f (f.offset + length x) k) (sym whole) enter);
+    }
+
+-- such a header may stand there
+pub fast_may_enter : (w : WalkerState) (piece : List ℕ) (named : Bool) (f : HeaderFields) (count : ℕ) (o : List ℕ) → BeginsWithFields piece w.offset named f count → o ≡ take count piece
+    → w.events + length w.stack ≤ w.offset → w.offset + length piece ≤ 2 ^ 40 → (holds (header_with f o) ≡ true → length w.stack < 128)
+    → Within (bound_of w.stack) (f.offset + length o + announced f.size) → CanEnter w (header_with f o)
+fast_may_enter w piece named f count o begins front fewer limit shallow fits =
+    let h : HeaderValue = header_with f o in
+    let whole : octets_of h ≡ o = take-append-drop f.id_len o in
+    let begins' : BeginsWith piece w.offset named h = subst (λ (x : List ℕ). BeginsWith piece w.offset named (header_with f x)) (sym front) begins.begins in
+    let there : h.offset ≡ w.offset = begins'.offset in
+    record {
+      valid = begins'.valid;
+      fewer = omega (arith, there);
+      limit = omega (arith, there, ap length whole, ap length front, length-take count piece);
+      shallow = shallow;
+      fits = subst (λ (x : List ℕ). Within (bound_of w.stack) (f.offset + length x + announced f.size)) (sym whole) fits;
+    }
+
+-- a constructed header begins a constructed element
+pub constructed_kind : (w v : WalkerState) (f : HeaderFields) (at : ℕ) (k : Kind) → f.constructed ≡ true → Enters w v f at k → k ≡ kind.Constructed
+constructed_kind w v f at kind.Constructed c e = refl
+constructed_kind w v f at kind.Primitive c e =
+    absurd (true≢false (sym (ap (λ (k : Bool). k || is_wrapper f.named f.class f.constructed f.number f.size) c) ∙ e.0))
+constructed_kind w v f at kind.Wrapper c e = absurd (true≢false (sym c ∙ e.0))

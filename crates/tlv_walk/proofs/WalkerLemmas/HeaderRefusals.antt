@@ -1,0 +1,150 @@
+-- What is refused behind octets of a header is a fault, whatever follows.
+use Rattle.std.proofs.Common.{◌≡◌, ◌≢◌, inl, inr, ℕ, ◌+◌, ◌<◌, ◌≤◌, Bool, true, false, List, [], ◌∷◌, ◌++◌, length, Option, Some, None, refl, sym, ap, ◌∙◌, subst, arith, append-nil, length-append}
+use Rattle.tlv_head.specs.declared.fault.Fault.{Fault}
+use Rattle.tlv_head.specs.declared.fault.FaultCode.{FaultCode}
+use Rattle.tlv_head.specs.declared.fault.FaultCode.TheVariants.{TooDeep, Overrun}
+use Rattle.tlv_head.specs.declared.header.Class.{Class}
+use Rattle.tlv_head.specs.declared.header.Size.{Size}
+use Rattle.tlv_head.specs.declared.header.Size.TheVariants.{Definite, Indefinite}
+use Rattle.tlv_head.specs.Header.{HeaderValue, IsIdentifier, announced, holds, octets_of}
+use Rattle.tlv_head.specs.Refusal.{IsRefusedOctet, tag_too_long, reserved_length, indefinite_primitive, length_too_large}
+use Rattle.tlv_head.specs.HeadReaderState.{ContentsFit, HeadReaderState}
+use Rattle.tlv_head.specs.Push.{Completes, IsRefusedPush}
+use Rattle.tlv_head.proofs.Front.{header-two}
+use Rattle.tlv_walk.specs.Phase as phase
+use Rattle.tlv_walk.specs.Ending.{IsEnding, IsFault, fault, no_room, overrun, refused_octet, too_deep}
+use Rattle.tlv_walk.specs.Forest.{Begun}
+use Rattle.tlv_walk.specs.Events.{EventValue}
+use Rattle.tlv_walk.specs.Inside.{is_among}
+use Rattle.tlv_walk.specs.WalkerState.{WalkerState}
+use Rattle.tlv_walk.specs.Place.{Fits, IsHeadAt, Place}
+use Rattle.tlv_walk.specs.Private.ReadsOn.{HandsOver}
+use Rattle.tlv_walk.specs.Stack.{Frame, Within, bound_of}
+use Rattle.tlv_walk.specs.Private.Stack.{left_to}
+use Rattle.tlv_walk.specs.Private.Zipper.{HasZipper, InHeader, Zipper, place_of}
+use Rattle.tlv_walk.specs.Private.Steps.{RefusesOctet}
+use Rattle.tlv_walk.proofs.WalkerLemmas.HeaderSteps.{HasTaken, TakenState, in_header, taken_state}
+use Rattle.tlv_walk.proofs.WalkerLemmas.Moves.{phase_at, with_tail}
+use Rattle.tlv_walk.proofs.WalkerLemmas.Places.{place-bound, place-depth}
+use Rattle.tlv_walk.proofs.WalkerLemmas.Refusals.{left_none, left_some}
+use Rattle.tlv_walk.proofs.WalkerLemmas.ZipperEndings.{state-fault}
+
+-- ---- where there is room, a reader without octets refuses none
+
+-- an identifier has octets
+identifier-nil : (class : Class) (k : Bool) (n : ℕ) (o : List ℕ) → IsIdentifier class k n o → o ≡ [] → ⊥
+identifier-nil class k n o (inl low) e = let z : [] ≡ _ ∷ [] = sym e ∙ low.octet in absurd (cc)
+identifier-nil class k n o (inr high) e = let z : [] ≡ _ ∷ _ = sym e ∙ high.octet in absurd (cc)
+
+-- one octet is no header
+completes-two : (r : HeadReaderState) (x : ℕ) (h : HeaderValue) → Completes r x h → r.octets ≡ [] → ⊥
+completes-two r x h c e =
+    let two : 2 ≤ length (octets_of h) = header-two h c.valid in
+    let one : octets_of h ≡ x ∷ [] = c.octets ∙ ap (λ (o : List ℕ). o ++ x ∷ []) e in
+    omega (arith, ap length one)
+
+-- what is refused for the octets of a header has octets before it
+refused-behind : (o : List ℕ) (x : ℕ) (code : FaultCode) → IsRefusedOctet o x code → o ≡ [] → ⊥
+refused-behind o x code (tag_too_long c k ds each eight octets flag) e = let z : [] ≡ _ ∷ _ = sym e ∙ octets in absurd (cc)
+refused-behind o x code (reserved_length c k n i ones) e = identifier-nil c k n o i e
+refused-behind o x code (indefinite_primitive c n i mark) e = identifier-nil c false n o i e
+refused-behind o x code (length_too_large c k n i ds left id each octets few many nonzero) e =
+    omega (arith, ap length (sym e ∙ octets), length-append i ((128 + (length ds + left)) ∷ ds))
+
+-- so a refusal has octets before it, or no room
+pub refused-some : (code : FaultCode) (r : HeadReaderState) (x : ℕ) (room : Option ℕ) (depth : ℕ) → IsRefusedPush code r x room depth → room ≢ Some 0 → r.octets ≡ [] → ⊥
+refused-some Overrun r x room depth (inl none) some e = some none
+refused-some Overrun r x room depth (inr past) some e = completes-two r x past.1.head past.1.completes e
+refused-some TooDeep r x room depth k some e = completes-two r x k.1.head k.1.completes e
+refused-some code r x room depth k some e = refused-behind r.octets x code k.1 e
+
+-- ---- what a reader refuses is a fault there
+
+-- the contents end past the bound
+past_bound : (size : Size) (b : Option ℕ) (n m : ℕ) → (ContentsFit size (left_to b n) → ⊥) → n + 1 + announced size ≤ m → Within b m → ⊥
+past_bound (Definite k) None n m past h f = past tt
+past_bound Indefinite None n m past h f = past tt
+past_bound (Definite k) (Some b) n m past h f = past (omega arith)
+past_bound Indefinite (Some b) n m past h f = past (omega arith)
+
+-- where a reader stands
+pub record IsReader (p : Place) (q : HeadReaderState) (room : Option ℕ) (depth : ℕ) : Type 0 where
+  pub offset : q.offset ≡ p.at
+  pub named : q.named ≡ is_among p.at p.inside
+  pub depths : depth ≡ p.depth
+  pub left : room ≡ left_to p.bound (p.at + length q.octets)
+  pub within : Within p.bound (p.at + length q.octets)
+
+-- a header that its octets make
+header_there : (p : Place) (q : HeadReaderState) (room : Option ℕ) (depth x : ℕ) (h : HeaderValue) (t : Bool) → holds h ≡ t → IsReader p q room depth → Completes q x h → IsHeadAt p t h
+header_there p q room depth x h t e k c = record { valid = c.valid; offset = c.offset ∙ k.offset; named = c.named ∙ k.named; form = e }
+
+-- there is room
+room_there : (p : Place) (q : HeadReaderState) (room : Option ℕ) (depth : ℕ) → IsReader p q room depth → room ≢ Some 0 → Fits p (length q.octets + 1)
+room_there p q room depth k some = left_some p.bound (p.at + length q.octets) (p.at + (length q.octets + 1)) (λ e. some (k.left ∙ e)) (omega arith)
+
+-- each cause of a reader is a line of the faults
+pub refused_fault : (p : Place) (q : HeadReaderState) (room : Option ℕ) (depth x : ℕ) (code : FaultCode) → IsReader p q room depth → IsRefusedPush code q x room depth → IsFault p x (Begun q.octets) code
+refused_fault p q room depth x Overrun k (inl none) =
+    no_room (left_none p.bound (p.at + length q.octets) (p.at + (length q.octets + 1)) (sym k.left ∙ none) (omega arith))
+refused_fault p q room depth x Overrun k (inr past) =
+    let h : HeaderValue = past.1.head in
+    overrun (room_there p q room depth k past.0) h (header_there p q room depth x h (holds h) refl k past.1.completes) past.1.completes.octets
+    (λ e. subst (λ (n : ℕ). n < 128) k.depths (past.1.shallow e))
+    (past_bound h.size p.bound (p.at + length q.octets) _ (λ f. past.1.past (subst (ContentsFit h.size) (sym k.left) f))
+    (omega (arith, ap length past.1.completes.octets, length-append q.octets (x ∷ []))))
+refused_fault p q room depth x TooDeep k f =
+    too_deep (room_there p q room depth k f.0) f.1.head (header_there p q room depth x f.1.head true f.1.holding k f.1.completes) f.1.completes.octets
+    (subst (λ (n : ℕ). 128 ≤ n) k.depths f.1.deep)
+refused_fault p q room depth x code k f = refused_octet (room_there p q room depth k f.0) f.1
+
+-- ---- a walker refuses it
+
+-- the reader of a walker inside a header stands where its state says
+reader_there : (w : WalkerState) (b : List ℕ) (past : List EventValue) (s : Zipper) (q : HeadReaderState) (depth : ℕ) → w.phase ≡ phase.InHeader q → HasZipper w b past (with_tail s (InHeader q.octets)) → depth ≡ length w.stack
+    → IsReader (place_of w.framing s) q (left_to (bound_of w.stack) (q.offset + length q.octets)) depth
+reader_there w b past s q depth e has d =
+    let p : Place = place_of w.framing s in
+    let at = phase_at w b past (with_tail s (InHeader q.octets)) (phase.InHeader q) e has in
+    let bound : bound_of w.stack ≡ p.bound = ap bound_of has.stack ∙ sym (place-bound w.framing s.layers) in
+    record {
+      offset = at.1;
+      named = at.2;
+      depths = d ∙ ap length has.stack ∙ sym (place-depth w.framing s.layers);
+      left = ap (λ (o : Option ℕ). left_to o (q.offset + length q.octets)) bound ∙ ap (λ (n : ℕ). left_to p.bound (n + length q.octets)) at.1;
+      within = at.3.2;
+    }
+
+-- the octet that its reader refuses
+pub refuses_header : (w u : WalkerState) (r q : HeadReaderState) (before after rest : List ℕ) (x depth at : ℕ) (f : Fault) → HandsOver w u r → HasTaken r q before after → after ≡ x ∷ rest
+    → Within (bound_of u.stack) at → q.offset + length q.octets ≡ at → depth ≡ length u.stack
+    → (q.octets ≡ [] → left_to (bound_of u.stack) at ≢ Some 0) → IsRefusedPush f.code q x (left_to (bound_of u.stack) at) depth → f.offset ≡ q.offset + length q.octets
+    → RefusesOctet w before after f
+refuses_header w u r q before after rest x depth at f over k e within place deep room refused there =
+    let some : q.octets ≡ [] → ⊥ = λ none. refused-some f.code q x _ depth refused (room none) none in record {
+      taken = k.taken;
+      octet = x;
+      rest = rest;
+      before_is = k.piece ∙ ap (λ (l : List ℕ). k.taken ++ l) e;
+      after_is = e;
+      refuses = λ b past s has.
+          let t : TakenState w u q k.taken b past = taken_state w u r q before after over k some (subst (Within (bound_of u.stack)) (sym place) within) b past s has in
+          let has' : HasZipper (in_header w q) (b ++ k.taken) past (with_tail t.state (InHeader q.octets)) =
+          subst (λ (es : List EventValue). HasZipper (in_header w q) (b ++ k.taken) es (with_tail t.state (InHeader q.octets))) (append-nil past) t.has in
+          let same : u.stack ≡ w.stack = ap (λ (m : WalkerState). m.stack) t.same in
+          let left : left_to (bound_of u.stack) at ≡ left_to (bound_of w.stack) (q.offset + length q.octets) =
+          ap (λ (fs : List Frame). left_to (bound_of fs) at) same ∙ ap (left_to (bound_of w.stack)) (sym place) in
+          let faulty : IsFault (place_of w.framing t.state) x (Begun q.octets) f.code =
+          refused_fault _ q _ depth x f.code (reader_there (in_header w q) (b ++ k.taken) past t.state q depth refl has' (deep ∙ ap length same))
+          (subst (λ (o : Option ℕ). IsRefusedPush f.code q x o depth) left refused) in record {
+            walker = in_header w q;
+            state = with_tail t.state (InHeader q.octets);
+            has_state = has';
+            idle = λ z. z;
+            offset = there;
+            ends = λ c. subst (λ (n : ℕ). IsEnding w.framing ((b ++ k.taken) ++ x ∷ c) (fault f.code n)) (sym has'.offset ∙ sym there)
+                (state-fault (in_header w q) (b ++ k.taken) past (with_tail t.state (InHeader q.octets)) x c f.code has' (λ z. z) faulty);
+            framing = refl;
+            stack = refl;
+          };
+    }

@@ -1,0 +1,235 @@
+-- A walker goes on behind the octets of a header that its reader takes.
+use Rattle.std.proofs.Common.{◌≡◌, ◌≢◌, ◌⊎◌, inl, inr, ℕ, ◌+◌, ◌-◌, ◌^◌, ◌<◌, ◌≤◌, Bool, true, List, [], ◌∷◌, ◌++◌, length, get_or, take, drop, Option, Some, None, refl, sym, ap, ap₂, ◌∙◌, subst, arith, append_assoc, append-nil, length-append}
+use Rattle.std.proofs.lemmas.Bool.{cases_eq}
+use Rattle.std.proofs.lemmas.List.{take_all}
+use Rattle.tlv_head.specs.declared.header.HeaderFields.{HeaderFields}
+use Rattle.tlv_head.specs.declared.header.Size.{Size}
+use Rattle.tlv_head.specs.declared.header.Size.TheVariants.{Definite, Indefinite}
+use Rattle.tlv_head.specs.Fields.{header_with}
+use Rattle.tlv_head.specs.Header.{HeaderValue, announced, octets_of}
+use Rattle.tlv_head.specs.HeadReaderState.{ContentsFit, HeadReaderState, with_octet}
+use Rattle.tlv_head.specs.Push.{Completes, FitsThere}
+use Rattle.tlv_head.specs.Refusal.{IsFront}
+use Rattle.tlv_walk.specs.declared.event.Kind.{Kind}
+use Rattle.tlv_walk.specs.declared.event.Kind.TheVariants as kind
+use Rattle.tlv_walk.specs.Phase.{Phase}
+use Rattle.tlv_walk.specs.Phase as phase
+use Rattle.tlv_walk.specs.Events.{EventValue}
+use Rattle.tlv_walk.specs.declared.framing.Framing.{Framing}
+use Rattle.tlv_walk.specs.WalkerState.{WalkerState}
+use Rattle.tlv_walk.specs.Private.WalkerState.{CanEnter, Enters, wrappers_after}
+use Rattle.tlv_walk.specs.Wrappers.{wrapper_offsets}
+use Rattle.tlv_walk.specs.Private.ReadsOn.{CompletesHeader, HandsOver, YieldsHeader}
+use Rattle.tlv_walk.specs.Stack.{Within, bound_of}
+use Rattle.tlv_walk.specs.Private.Stack.{left_to}
+use Rattle.tlv_walk.specs.Private.Zipper.{Between, HasZipper, InHeader, IsPhaseOf, Zipper, place_of}
+use Rattle.tlv_walk.specs.Private.Steps.{Continues, YieldsEvent}
+use Rattle.tlv_walk.proofs.WalkerLemmas.Entering.{AtHeader, Completed, at_front, at_new, front_state}
+use Rattle.tlv_walk.proofs.WalkerLemmas.HeaderKinds.{enters_found, enters_framing, enters_state, event_of}
+use Rattle.tlv_walk.proofs.WalkerLemmas.Moves.{phase_at, with_tail}
+
+-- ---- the walker that the reader was taken from
+
+-- it stands at the header of that reader
+pub handed : (w u : WalkerState) (r : HeadReaderState) → HandsOver w u r → (b : List ℕ) (past : List EventValue) (s : Zipper) → HasZipper w b past s
+    → (t : Zipper) × AtHeader w b past t r × (u ≡ record w { phase = phase.Between; has_element = true })
+handed w u r (inl h) b past s has =
+    let a = at_front w b past s r has h.0 in
+    (with_tail s (InHeader a.0), a.1, h.1 ∙ ap (λ (k : Bool). record w { phase = phase.Between; has_element = k }) a.1.has.element)
+handed w u r (inr h) b past s has = (
+  with_tail s Between,
+  at_new w b past s r has h.0.phase h.0.none h.0.offset h.0.named,
+  h.1 ∙ ap (λ (f : Phase). record w { phase = f; has_element = true }) h.0.phase,
+)
+
+-- the octets that the reader has, if there are any, are the front of a header
+handed_front : (w u : WalkerState) (r : HeadReaderState) → HandsOver w u r → (b : List ℕ) (past : List EventValue) (s : Zipper) → HasZipper w b past s → (r.octets ≡ [] → ⊥) → IsFront r.octets
+handed_front w u r (inl h) b past s has some =
+    let a = at_front w b past s r has h.0 in
+    let at : IsPhaseOf (phase.InHeader r) (InHeader a.0) (place_of w.framing s) = phase_at w b past _ _ h.0 a.1.has in
+    subst IsFront (sym at.0) at.3.1
+handed_front w u r (inr h) b past s has some = absurd (some h.0.none)
+
+-- ---- octets that a reader takes
+
+-- from r to q, octets were taken from the front of a piece
+pub record HasTaken (r q : HeadReaderState) (before after : List ℕ) : Type 0 where
+  pub taken : List ℕ
+  pub piece : before ≡ taken ++ after
+  pub octets : q.octets ≡ r.octets ++ taken
+  pub offset : q.offset ≡ r.offset
+  pub named : q.named ≡ r.named
+  pub front : (q.octets ≡ r.octets) ⊎ IsFront q.octets
+
+-- none yet
+pub taken_none : (r : HeadReaderState) (piece : List ℕ) → HasTaken r r piece piece
+taken_none r piece = record { taken = []; piece = refl; octets = sym (append-nil r.octets); offset = refl; named = refl; front = inl refl }
+
+-- one more
+pub taken_more : (r q p : HeadReaderState) (before after rest : List ℕ) (x : ℕ) → HasTaken r q before after → after ≡ x ∷ rest → IsFront (q.octets ++ x ∷ []) → p ≡ with_octet q x → HasTaken r p before rest
+taken_more r q p before after rest x k e front same =
+    subst (λ (p : HeadReaderState). HasTaken r p before rest) (sym same) (record {
+      taken = k.taken ++ x ∷ [];
+      piece = k.piece ∙ (ap (λ (l : List ℕ). k.taken ++ l) e ∙ sym (append_assoc k.taken (x ∷ []) rest));
+      octets = ap (λ (l : List ℕ). l ++ x ∷ []) k.octets ∙ append_assoc r.octets k.taken (x ∷ []);
+      offset = k.offset;
+      named = k.named;
+      front = inr front;
+    })
+
+-- the walker behind the octets of a reader that it has
+abbrev pub in_header : WalkerState → HeadReaderState → WalkerState
+in_header w q = record w { phase = phase.InHeader q; offset = q.offset + length q.octets; has_element = true }
+
+-- the state behind them, of the walker that the reader was taken from
+pub record TakenState (w u : WalkerState) (q : HeadReaderState) (t b : List ℕ) (past : List EventValue) : Type 0 where
+  pub state : Zipper
+  pub has : HasZipper (in_header w q) (b ++ t) (past ++ []) (with_tail state (InHeader q.octets))
+  pub same : u ≡ record w { phase = phase.Between; has_element = true }
+
+pub taken_state : (w u : WalkerState) (r q : HeadReaderState) (before after : List ℕ) → HandsOver w u r → (k : HasTaken r q before after) → (q.octets ≡ [] → ⊥)
+    → Within (bound_of u.stack) (q.offset + length q.octets) → (b : List ℕ) (past : List EventValue) (s : Zipper) → HasZipper w b past s → TakenState w u q k.taken b past
+taken_state w u r q before after over k some fits b past s has =
+    let h = handed w u r over b past s has in
+    let within : Within (bound_of w.stack) (q.offset + length q.octets) = subst (λ (m : WalkerState). Within (bound_of m.stack) (q.offset + length q.octets)) h.2 fits in
+    record { state = h.0; has = front_state w b past h.0 r q k.taken h.1 k.octets k.offset k.named some (front_taken k.front) within; same = h.2 }
+  where
+    front_taken : (q.octets ≡ r.octets) ⊎ IsFront q.octets → IsFront q.octets
+    front_taken (inl e) = subst IsFront (sym e) (handed_front w u r over b past s has (λ none. some (e ∙ none)))
+    front_taken (inr f) = f
+
+-- the framing stays
+handed_framing : (w u : WalkerState) (r : HeadReaderState) → HandsOver w u r → u.framing ≡ w.framing
+handed_framing w u r (inl h) = ap (λ (m : WalkerState). m.framing) h.1
+handed_framing w u r (inr h) = ap (λ (m : WalkerState). m.framing) h.1
+
+handed_wrappers : (w u : WalkerState) (r : HeadReaderState) → HandsOver w u r → u.wrappers ≡ w.wrappers
+handed_wrappers w u r (inl h) = ap (λ (m : WalkerState). m.wrappers) h.1
+handed_wrappers w u r (inr h) = ap (λ (m : WalkerState). m.wrappers) h.1
+
+-- the piece is used up inside a header
+pub yields_unfinished : (w u : WalkerState) (r q : HeadReaderState) (before : List ℕ) (at : ℕ) → HandsOver w u r → HasTaken r q before [] → (q.octets ≡ [] → ⊥) → q.offset + length q.octets ≡ at
+    → Within (bound_of u.stack) at → Continues w (record u { phase = phase.InHeader q; offset = at }) before []
+yields_unfinished w u r q before at over k some e fits = record {
+  framing = handed_framing w u r over;
+  found = handed_wrappers w u r over;
+  goes = λ b past s has.
+      let t : TakenState w u q k.taken b past = taken_state w u r q before [] over k some (subst (Within (bound_of u.stack)) (sym e) fits) b past s has in
+      let new : in_header w q ≡ record u { phase = phase.InHeader q; offset = at } =
+      ap (λ (n : ℕ). record w { phase = phase.InHeader q; offset = n; has_element = true }) e ∙ ap (λ (m : WalkerState). record m { phase = phase.InHeader q; offset = at }) (sym t.same) in
+      let all : k.taken ≡ before = sym (k.piece ∙ append-nil k.taken) in (
+        with_tail t.state (InHeader q.octets),
+        subst (λ (m : WalkerState). HasZipper m (b ++ before) (past ++ []) (with_tail t.state (InHeader q.octets))) new
+            (subst (λ (o : List ℕ). HasZipper (in_header w q) (b ++ o) (past ++ []) (with_tail t.state (InHeader q.octets))) all t.has),
+      );
+}
+
+-- ---- a whole header
+
+-- the walker that the reader was taken from enters it too
+enters_without : (w u new : WalkerState) (f : HeaderFields) (at : ℕ) (k : Kind) → u ≡ record w { phase = phase.Between; has_element = true } → Enters u new f at k → Enters w new f at k
+enters_without w u new f at kind.Primitive e enter = subst (λ (m : WalkerState). Enters m new f at kind.Primitive) e enter
+enters_without w u new f at kind.Constructed e enter = subst (λ (m : WalkerState). Enters m new f at kind.Constructed) e enter
+enters_without w u new f at kind.Wrapper e enter = subst (λ (m : WalkerState). Enters m new f at kind.Wrapper) e enter
+
+-- and the header that it completes may stand there
+completed_without : (w u : WalkerState) (r : HeadReaderState) (t : List ℕ) (h : HeaderValue) → u ≡ record w { phase = phase.Between; has_element = true } → CanEnter u h → CompletesHeader r t h → Completed w r t h
+completed_without w u r t h e can makes =
+    let can' : CanEnter (record w { phase = phase.Between; has_element = true }) h = subst (λ (m : WalkerState). CanEnter m h) e can in
+    record { valid = can'.valid; octets = makes.octets; offset = makes.offset; named = makes.named; shallow = can'.shallow; fits = can'.fits }
+
+-- so it yields a header with the fields that were entered
+yields_behind : (u new : WalkerState) (f : HeaderFields) (o : List ℕ) (at : ℕ) (k : Kind) → CanEnter u (header_with f o) → at ≡ f.offset + length (octets_of (header_with f o)) → Enters u new f at k
+    → YieldsHeader u new (header_with f o) (event_of k (header_with f o))
+yields_behind u new f o at k can e does w r t over makes = record {
+  framing = enters_framing u new f at k does ∙ handed_framing w u r over;
+  found =
+      enters_found u new f o at k does
+      ∙ ap₂ (λ (g : Framing) (n : ℕ). wrappers_after g.inside n (wrapper_offsets (event_of k (header_with f o) ∷ []))) (handed_framing w u r over) (handed_wrappers w u r over);
+  goes = λ b past s has.
+      let h = handed w u r over b past s has in
+      enters_state w new b past h.0 r t f o k h.1 (completed_without w u r t (header_with f o) h.2 can makes) (subst (λ (n : ℕ). Enters w new f n k) e (enters_without w u new f at k h.2 does));
+}
+
+-- the same of a header that has these fields
+pub yields_header : (u new : WalkerState) (f : HeaderFields) (h : HeaderValue) (at : ℕ) (k : Kind) → CanEnter u h → header_with f (octets_of h) ≡ h → at ≡ f.offset + length (octets_of h) → Enters u new f at k
+    → YieldsHeader u new h (event_of k h)
+yields_header u new f h at k can same e enter =
+    subst (λ (g : HeaderValue). YieldsHeader u new g (event_of k g)) same
+    (yields_behind u new f (octets_of h) at k (subst (CanEnter u) (sym same) can) (e ∙ ap (λ (g : HeaderValue). f.offset + length (octets_of g)) (sym same)) enter)
+
+-- ---- the octet that a reader is given
+
+-- a piece without octets
+pub used_up : (p : List ℕ) → length p < 1 → p ≡ []
+used_up [] h = refl
+used_up (x ∷ p) h = absurd (omega arith)
+
+-- the first octet of a piece, and the others
+pub first_octet : (p : List ℕ) → 1 ≤ length p → p ≡ get_or p 0 0 ∷ take (length p - 1) (drop 1 p)
+first_octet [] h = absurd (omega arith)
+first_octet (x ∷ p) h = ap (λ (l : List ℕ). x ∷ l) (sym (take_all (length (x ∷ p) - 1) p (omega arith)))
+
+-- an octet below the bound
+pub within_next : (b : Option ℕ) (n : ℕ) → Within b n → left_to b n ≢ Some 0 → Within b (n + 1)
+within_next None n h some = tt
+within_next (Some m) n h some = elim (cases_eq m n) [
+  | inl e ↦ let z : m - n ≡ 0 = omega arith in absurd (some (ap Some z))
+  | inr less ↦ omega arith
+]
+
+-- contents that fit behind it
+within_announced : (size : Size) (b : Option ℕ) (n : ℕ) → ContentsFit size (left_to b n) → Within b (n + 1 + announced size)
+within_announced (Definite k) None n h = tt
+within_announced (Definite k) (Some m) n h = omega (arith, h)
+within_announced Indefinite None n h = tt
+within_announced Indefinite (Some m) n h = omega (arith, h)
+
+-- the header that it completes may stand there
+pub whole_enters : (u : WalkerState) (q : HeadReaderState) (x depth at : ℕ) (h : HeaderValue) → u.events + length u.stack ≤ q.offset → q.offset + length q.octets ≡ at → at + 1 ≤ 2 ^ 40 → depth ≡ length u.stack
+    → Completes q x h → FitsThere h (left_to (bound_of u.stack) at) depth → CanEnter u h
+whole_enters u q x depth at h fewer place limit deep c f =
+    let end : h.offset + length (octets_of h) ≡ at + 1 = omega (arith, c.offset, ap length c.octets, length-append q.octets (x ∷ [])) in
+    record {
+      valid = c.valid;
+      fewer = omega (arith, c.offset);
+      limit = omega arith;
+      shallow = λ e. subst (λ (n : ℕ). n < 128) deep (f.shallow e);
+      fits = subst (λ (n : ℕ). Within (bound_of u.stack) (n + announced h.size)) (sym end) (within_announced h.size (bound_of u.stack) at f.within);
+    }
+
+-- and the walker yields it
+pub whole_yields : (w u new : WalkerState) (r q : HeadReaderState) (before after rest : List ℕ) (x : ℕ) (h : HeaderValue) (e : EventValue) → HandsOver w u r → HasTaken r q before after → after ≡ x ∷ rest → Completes q x h
+    → YieldsHeader u new h e → YieldsEvent w new before rest e
+whole_yields w u new r q before after rest x h e over k f c yields = record {
+  taken = k.taken ++ x ∷ [];
+  piece = k.piece ∙ (ap (λ (l : List ℕ). k.taken ++ l) f ∙ sym (append_assoc k.taken (x ∷ []) rest));
+  continues = yields w r (k.taken ++ x ∷ []) over (record {
+    offset = c.offset ∙ k.offset;
+    named = c.named ∙ k.named;
+    octets = c.octets ∙ (ap (λ (l : List ℕ). l ++ x ∷ []) k.octets ∙ append_assoc r.octets k.taken (x ∷ []));
+  });
+}
+
+-- ---- what a reader has before an octet
+
+-- octets, or a piece that begins with another octet than 00, below the bound
+abbrev pub CanGive : List ℕ → List ℕ → Option ℕ → Type 0
+CanGive octets piece room = (octets ≢ []) ⊎ ((x : ℕ) × (rest : List ℕ) × (piece ≡ x ∷ rest) × (x ≢ 0) × (room ≢ Some 0))
+
+-- where it has none, there is room
+pub give_room : (octets piece : List ℕ) (room : Option ℕ) → CanGive octets piece room → octets ≡ [] → room ≢ Some 0
+give_room octets piece room (inl some) none = absurd (some none)
+give_room octets piece room (inr k) none = k.4
+
+-- where the piece is used up, it has octets
+pub give_some : (octets piece : List ℕ) (room : Option ℕ) → CanGive octets piece room → piece ≡ [] → octets ≢ []
+give_some octets piece room (inl some) used = some
+give_some octets piece room (inr k) used = let z : [] ≡ k.0 ∷ k.1 = sym used ∙ k.2 in absurd (cc)
+
+-- with another octet
+pub pushed_place : (q p : HeadReaderState) (x at : ℕ) → p ≡ with_octet q x → q.offset + length q.octets ≡ at → p.offset + length p.octets ≡ at + 1
+pushed_place q p x at e place = omega (arith, ap (λ (r : HeadReaderState). r.offset) e, ap (λ (r : HeadReaderState). length r.octets) e, length-append q.octets (x ∷ []))
+
+pub pushed_some : (q p : HeadReaderState) (x : ℕ) → p ≡ with_octet q x → p.octets ≢ []
+pushed_some q p x e none = omega (arith, ap (λ (r : HeadReaderState). length r.octets) e, ap length none, length-append q.octets (x ∷ []))

@@ -1,0 +1,271 @@
+-- Each move of a walker, on its state.
+use Rattle.std.proofs.Common.{◌≡◌, ℕ, ◌+◌, ◌-◌, ◌≤◌, Bool, true, ◌||◌, List, [], ◌∷◌, ◌++◌, length, map, refl, sym, ap, ap₂, ◌∙◌, subst, arith, append_assoc, append-nil, length-append}
+use Rattle.std.proofs.lemmas.List.{map-append}
+use Rattle.std.proofs.Math.Bool.{or-true}
+use Rattle.tlv_head.specs.declared.header.Size.TheVariants.{Definite, Indefinite}
+use Rattle.tlv_head.specs.Header.{HeaderValue, octets_of}
+use Rattle.tlv_walk.specs.Phase.{Phase}
+use Rattle.tlv_walk.specs.Phase as phase
+use Rattle.tlv_walk.specs.Events.{AreEqualJoined, Begin, Bytes, End, EventValue, events, single_octets}
+use Rattle.tlv_walk.specs.Forest.{Forest, Stop, Fill, Whole, Closed, Partial, Entered, Awaiting, Begun, Zero, has_element, is_whole, spell}
+use Rattle.tlv_walk.specs.declared.framing.Framing.{Framing}
+use Rattle.tlv_walk.specs.WalkerState.{WalkerState}
+use Rattle.tlv_walk.specs.Private.WalkerState.{next_wrapper, wrappers_after}
+use Rattle.tlv_walk.specs.Wrappers.{wrapper_offsets}
+use Rattle.tlv_walk.proofs.EventLemmas.Wrappers.{enters-append}
+use Rattle.tlv_walk.specs.Place.{Fits, IsOpen, Place, is_indefinite, place_after}
+use Rattle.tlv_walk.specs.Stack.{Frame, IsInIndefinite, Within, bound_of}
+use Rattle.tlv_walk.specs.Private.Zipper.{AreWhole, BeforeUnused, Between, HasZipper, InContents, InEnd, InHeader, IsContents, IsPhaseOf, Layer, Tail, Zipper, begins_among, events_layers, frames_of, place_in, place_of, spell_layers}
+use Rattle.tlv_walk.specs.Private.Steps.{Continues}
+use Rattle.tlv_walk.proofs.EventLemmas.Joined.{apart-before, apart-from_joined, apart-more, joined-from_apart}
+use Rattle.tlv_walk.proofs.GrammarLemmas.Spellings.{append_assoc-3}
+use Rattle.tlv_walk.proofs.WalkerLemmas.Places.{indefinite-size, place-offset}
+use Rattle.tlv_walk.proofs.WalkerLemmas.Zipper.{behind, open-behind, spell-behind, whole-behind}
+use Rattle.tlv_walk.proofs.WalkerLemmas.ZipperEvents.{events-behind}
+
+-- events yielded one after another
+pub past_more : (past es new es' : List EventValue) → AreEqualJoined past es → single_octets es' ≡ single_octets (es ++ new) → AreEqualJoined (past ++ new) es'
+past_more past es new es' h e = joined-from_apart (past ++ new) es' (apart-before past es new (apart-from_joined past es h) ∙ sym e)
+
+-- wrappers found one after another
+pub found_in-append : (inside : List ℕ) (k : ℕ) (xs ys : List ℕ) → wrappers_after inside k (xs ++ ys) ≡ wrappers_after inside (wrappers_after inside k xs) ys
+found_in-append inside k [] ys = refl
+found_in-append inside k (x ∷ xs) ys = found_in-append inside (next_wrapper inside k x) xs ys
+
+found_both : (u v w : WalkerState) (d e : List EventValue) → v.framing ≡ u.framing → v.wrappers ≡ wrappers_after u.framing.inside u.wrappers (wrapper_offsets d) → w.wrappers ≡ wrappers_after v.framing.inside v.wrappers (wrapper_offsets e)
+    → w.wrappers ≡ wrappers_after u.framing.inside u.wrappers (wrapper_offsets (d ++ e))
+found_both u v w d e same p q =
+    q
+    ∙ ap₂ (λ (f : Framing) (k : ℕ). wrappers_after f.inside k (wrapper_offsets e)) same p
+    ∙ sym (ap (wrappers_after u.framing.inside u.wrappers) (enters-append d e) ∙ found_in-append u.framing.inside u.wrappers (wrapper_offsets d) (wrapper_offsets e))
+
+pub continues_both : (u v w : WalkerState) (s t : List ℕ) (d e : List EventValue) → Continues u v s d → Continues v w t e → Continues u w (s ++ t) (d ++ e)
+continues_both u v w s t d e f g = record {
+  framing = g.framing ∙ f.framing;
+  found = found_both u v w d e f.framing f.found g.found;
+  goes = λ b past st has.
+      let one = f.goes b past st has in
+      let two = g.goes (b ++ s) (past ++ d) one.0 one.1 in (
+        two.0,
+        subst (λ (x : List ℕ). HasZipper w x (past ++ (d ++ e)) two.0) (append_assoc b s t)
+            (subst (λ (x : List EventValue). HasZipper w ((b ++ s) ++ t) x two.0) (append_assoc past d e) two.1),
+      );
+}
+
+-- the events of a state, where the open end goes on
+pub past_behind : (past : List EventValue) (ls : List Layer) (here : Forest) (old new more : List EventValue) → AreEqualJoined past (events_layers ls ++ (events here ++ old))
+    → single_octets new ≡ single_octets (old ++ more) → AreEqualJoined (past ++ more) (events_layers ls ++ (events here ++ new))
+past_behind past ls here old new more h e =
+    past_more past (events_layers ls ++ (events here ++ old)) more (events_layers ls ++ (events here ++ new)) h
+    (apart-more (events_layers ls) (events here ++ new) (events here ++ old) more (apart-more (events here) new old more e))
+
+-- its octets likewise
+pub spelled_behind : (ls : List Layer) (here : Forest) (old new t b : List ℕ) → new ≡ old ++ t → spell_layers ls ++ (spell here ++ old) ≡ b
+    → spell_layers ls ++ (spell here ++ new) ≡ b ++ t
+spelled_behind ls here old new t b e f =
+    ap (λ (s : List ℕ). spell_layers ls ++ (spell here ++ s)) e ∙ (sym (append_assoc-3 (spell_layers ls) (spell here) old t) ∙ ap (λ (s : List ℕ). s ++ t) f)
+
+-- the same, where the open end is whole now
+pub past_whole : (past : List EventValue) (ls : List Layer) (here new : Forest) (old more : List EventValue) → is_whole here ≡ true → AreEqualJoined past (events_layers ls ++ (events here ++ old))
+    → single_octets (events new) ≡ single_octets (old ++ more) → AreEqualJoined (past ++ more) (events_layers ls ++ (events (behind here new) ++ []))
+past_whole past ls here new old more whole h e =
+    subst (λ (es : List EventValue). AreEqualJoined (past ++ more) (events_layers ls ++ es)) (sym (append-nil (events (behind here new)) ∙ events-behind here new whole))
+    (past_behind past ls here old (events new) more h e)
+
+pub spelled_whole : (ls : List Layer) (here more : Forest) (old t b : List ℕ) → is_whole here ≡ true → spell more ≡ old ++ t → spell_layers ls ++ (spell here ++ old) ≡ b
+    → spell_layers ls ++ (spell (behind here more) ++ []) ≡ b ++ t
+spelled_whole ls here more old t b whole e f =
+    ap (λ (s : List ℕ). spell_layers ls ++ s) (append-nil (spell (behind here more)) ∙ spell-behind here more whole) ∙ spelled_behind ls here old (spell more) t b e f
+
+-- whole elements, and then one more
+pub are_whole : (p : Place) (here more : Forest) → AreWhole p here → IsOpen (place_after p (length (spell here))) more → is_whole more ≡ true → AreWhole p (behind here more)
+are_whole p here more h o w = record { is_open = open-behind p here more h o; whole = whole-behind here more h.whole ∙ w }
+
+-- an element came
+pub element-either : (f g : Forest) → is_whole f ≡ true → has_element (behind f g) ≡ (has_element f || has_element g)
+element-either Stop g e = refl
+element-either (Fill rest) g e = element-either rest g e
+element-either (Whole h c rest) g e = refl
+element-either (Closed h inside rest) g e = refl
+element-either (Partial h c) g e = absurd (cc)
+element-either (Entered h inside) g e = absurd (cc)
+element-either (Awaiting h) g e = absurd (cc)
+element-either (Begun octets) g e = absurd (cc)
+element-either Zero g e = absurd (cc)
+
+pub began : (ls : List Layer) (here more : Forest) → is_whole here ≡ true → has_element more ≡ true → begins_among ls (behind here more) ≡ true
+began [] here more w e = element-either here more w ∙ (ap (λ (k : Bool). has_element here || k) e ∙ or-true (has_element here))
+began (l ∷ ls) here more w e = refl
+
+-- a state with this tail
+abbrev pub with_tail : Zipper → Tail → Zipper
+with_tail s t = record { layers = s.layers; here = s.here; tail = t }
+
+pub tail_state : (w : WalkerState) (b : List ℕ) (past : List EventValue) (s : Zipper) (t : Tail) → s.tail ≡ t → HasZipper w b past s → HasZipper w b past (with_tail s t)
+tail_state w b past s t e has = subst (λ (u : Tail). HasZipper w b past (with_tail s u)) e has
+
+pub phase_at : (w : WalkerState) (b : List ℕ) (past : List EventValue) (s : Zipper) (f : Phase) → w.phase ≡ f → HasZipper w b past s → IsPhaseOf f s.tail (place_of w.framing s)
+phase_at w b past s f e has = subst (λ (g : Phase). IsPhaseOf g s.tail (place_of w.framing s)) e has.phase
+
+-- contents of a primitive
+contents_tail : (left : ℕ) (t : Tail) (p : Place) → IsPhaseOf (phase.InContents left) t p → (h : HeaderValue) × (c : List ℕ) × (t ≡ InContents h c)
+contents_tail left Between p x = absurd x
+contents_tail left (InContents h c) p x = (h, c, refl)
+contents_tail left (BeforeUnused h) p x = absurd x
+contents_tail left (InHeader o) p x = absurd x
+contents_tail left InEnd p x = absurd x
+
+contents_state : (w : WalkerState) (b : List ℕ) (past : List EventValue) (s : Zipper) (h : HeaderValue) (c t : List ℕ) (left : ℕ)
+    → HasZipper w b past (with_tail s (InContents h c)) → w.phase ≡ phase.InContents left → length t ≤ left
+    → HasZipper (record w { phase = phase.InContents (left - length t); offset = w.offset + length t; events = w.events + 1 }) (b ++ t) (past ++ Bytes t ∷ [])
+    (with_tail s (InContents h (c ++ t)))
+contents_state w b past s h c t left has e most =
+    let k : IsContents (place_of w.framing s) h c left = phase_at w b past _ _ e has in
+    let same : length c + left ≡ length (c ++ t) + (left - length t) = omega (arith, length-append c t) in
+    record {
+      spelled = spelled_behind s.layers s.here (octets_of h ++ c) _ t b (sym (append_assoc (octets_of h) c t)) has.spelled;
+      offset = omega (arith, has.offset, length-append b t);
+      stack = has.stack;
+      layers = has.layers;
+      here = has.here;
+      phase = record {
+        header = k.header;
+        size = k.size ∙ ap Definite same;
+        fits = subst (λ (n : ℕ). Fits (place_of w.framing s) (length (octets_of h) + n)) same k.fits;
+      };
+      same_events = past_behind past s.layers s.here (Begin h ∷ Bytes c ∷ []) (Begin h ∷ Bytes (c ++ t) ∷ []) (Bytes t ∷ []) has.same_events (bytes_more h c t);
+      element = has.element;
+    }
+  where
+    bytes_more : (h : HeaderValue) (c t : List ℕ) → single_octets (Begin h ∷ Bytes (c ++ t) ∷ []) ≡ single_octets (Begin h ∷ Bytes c ∷ Bytes t ∷ [])
+    bytes_more h c t = ap (λ (es : List EventValue). Begin h ∷ es) (ap (λ (es : List EventValue). es ++ []) (map-append (λ x. Bytes (x ∷ [])) c t) ∙ append_assoc (map (λ x. Bytes (x ∷ [])) c) _ [])
+
+pub yields_contents : (w : WalkerState) (left : ℕ) (t : List ℕ) (n : ℕ) → w.phase ≡ phase.InContents left → length t ≤ left → n ≡ length t
+    → Continues w (record w { phase = phase.InContents (left - n); offset = w.offset + n; events = w.events + 1 }) t (Bytes t ∷ [])
+yields_contents w left t n e most len =
+    subst (λ (m : ℕ). Continues w (record w { phase = phase.InContents (left - m); offset = w.offset + m; events = w.events + 1 }) t (Bytes t ∷ [])) (sym len) (record {
+      framing = refl;
+      found = refl;
+      goes = λ b past s has.
+          let k = contents_tail left s.tail _ (phase_at w b past s _ e has) in
+          (_, contents_state w b past s k.0 k.1 t left (tail_state w b past s _ k.2 has) e most);
+    })
+
+-- the end of a primitive
+end_state : (w : WalkerState) (b : List ℕ) (past : List EventValue) (s : Zipper) (h : HeaderValue) (c : List ℕ) → HasZipper w b past (with_tail s (InContents h c)) → w.phase ≡ phase.InContents 0
+    → HasZipper (record w { phase = phase.Between; events = w.events + 1 }) (b ++ []) (past ++ End ∷ [])
+    (record { layers = s.layers; here = behind s.here (Whole h c Stop); tail = Between })
+end_state w b past s h c has e =
+    let p : Place = place_of w.framing s in
+    let k : IsContents p h c 0 = phase_at w b past _ _ e has in
+    let same : length c + 0 ≡ length c = omega arith in
+    record {
+      spelled = spelled_whole s.layers s.here (Whole h c Stop) (octets_of h ++ c) [] b has.here.whole (ap (λ (x : List ℕ). octets_of h ++ x) (append-nil c) ∙ sym (append-nil (octets_of h ++ c))) has.spelled;
+      offset = omega (arith, has.offset, ap length (append-nil b));
+      stack = has.stack;
+      layers = has.layers;
+      here = are_whole _ s.here (Whole h c Stop) has.here ((record { header = k.header; depth = λ e. absurd (cc (e)); fits = subst (λ (n : ℕ). Fits p (length (octets_of h) + n)) same k.fits }, k.size ∙ ap Definite same), tt) refl;
+      phase = tt;
+      same_events = past_whole past s.layers s.here (Whole h c Stop) (Begin h ∷ Bytes c ∷ []) (End ∷ []) has.here.whole has.same_events refl;
+      element = has.element ∙ sym (began s.layers s.here (Whole h c Stop) has.here.whole refl);
+    }
+
+pub yields_end : (w : WalkerState) → w.phase ≡ phase.InContents 0 → Continues w (record w { phase = phase.Between; events = w.events + 1 }) [] (End ∷ [])
+yields_end w e = record {
+  framing = refl;
+  found = refl;
+  goes = λ b past s has.
+      let k = contents_tail 0 s.tail _ (phase_at w b past s _ e has) in
+      (_, end_state w b past s k.0 k.1 (tail_state w b past s _ k.2 has) e);
+}
+
+-- between elements
+pub between_tail : (t : Tail) (p : Place) → IsPhaseOf phase.Between t p → t ≡ Between
+between_tail Between p x = refl
+between_tail (InContents h c) p x = absurd x
+between_tail (BeforeUnused h) p x = absurd x
+between_tail (InHeader o) p x = absurd x
+between_tail InEnd p x = absurd x
+
+pub lone_tail : (t : Tail) (p : Place) → IsPhaseOf phase.InEnd t p → t ≡ InEnd
+lone_tail Between p x = absurd x
+lone_tail (InContents h c) p x = absurd x
+lone_tail (BeforeUnused h) p x = absurd x
+lone_tail (InHeader o) p x = absurd x
+lone_tail InEnd p x = refl
+
+-- a state inside an element that has these layers
+abbrev pub with_layers : Zipper → List Layer → Tail → Zipper
+with_layers s ls t = record { layers = ls; here = s.here; tail = t }
+
+-- the innermost element closes
+abbrev pub closed_here : Layer → Forest → Forest
+closed_here l inside = behind l.before (Closed l.head inside Stop)
+
+-- the first of the end-of-contents octets
+zero_state : (w : WalkerState) (b : List ℕ) (past : List EventValue) (s : Zipper) (l : Layer) (ls : List Layer)
+    → HasZipper w b past (record { layers = l ∷ ls; here = s.here; tail = Between }) → l.head.size ≡ Indefinite → Fits (place_after (place_in w.framing (l ∷ ls)) (length (spell s.here))) 1
+    → HasZipper (record w { phase = phase.InEnd; offset = w.offset + 1 }) (b ++ 0 ∷ []) (past ++ []) (record { layers = l ∷ ls; here = s.here; tail = InEnd })
+zero_state w b past s l ls has e f = record {
+  spelled = spelled_behind (l ∷ ls) s.here [] (0 ∷ []) (0 ∷ []) b refl has.spelled;
+  offset = omega (arith, has.offset, length-append b (0 ∷ []));
+  stack = has.stack;
+  layers = has.layers;
+  here = has.here;
+  phase = (ap is_indefinite e, f);
+  same_events = past_behind past (l ∷ ls) s.here [] [] [] has.same_events refl;
+  element = has.element;
+}
+
+pub yields_zero : (w : WalkerState) → w.phase ≡ phase.Between → IsInIndefinite w.stack → Within (bound_of w.stack) (w.offset + 1)
+    → Continues w (record w { phase = phase.InEnd; offset = w.offset + 1 }) (0 ∷ []) []
+yields_zero w e i f = record {
+  framing = refl;
+  found = refl;
+  goes = λ b past s has.
+      let t = between_tail s.tail _ (phase_at w b past s _ e has) in
+      let has' : HasZipper w b past (with_tail s Between) = tail_state w b past s _ t has in
+      zero_from w b past s s.layers refl has' i f;
+}
+  where
+    zero_from : (w : WalkerState) (b : List ℕ) (past : List EventValue) (s : Zipper) (ls : List Layer) → s.layers ≡ ls → HasZipper w b past (with_layers s ls Between) → IsInIndefinite w.stack
+        → Within (bound_of w.stack) (w.offset + 1) → (t : Zipper) × HasZipper (record w { phase = phase.InEnd; offset = w.offset + 1 }) (b ++ 0 ∷ []) (past ++ []) t
+    zero_from w b past s [] q has i f = absurd (subst IsInIndefinite has.stack i)
+    zero_from w b past s (l ∷ ls) q has i f =
+        let inside : IsInIndefinite (frames_of w.framing (l ∷ ls)) = subst IsInIndefinite has.stack i in
+        let fits : Within (place_in w.framing (l ∷ ls)).bound (w.offset + 1) = subst (λ (fs : List Frame). Within (bound_of fs) (w.offset + 1)) has.stack f in
+        let at : w.offset ≡ (place_of w.framing (with_layers s (l ∷ ls) Between)).at + 0 = place-offset w b past _ has in (
+          _,
+          zero_state w b past s l ls has (indefinite-size l.head.size _ inside)
+              (subst (λ (n : ℕ). Within (place_in w.framing (l ∷ ls)).bound n) (omega (arith, at)) fits),
+        )
+
+-- all contents that are to come, and the end
+counted_state : (w : WalkerState) (n : ℕ) (b : List ℕ) (past : List EventValue) (s : Zipper) → HasZipper w b past s → HasZipper (record w { events = n }) b past s
+counted_state w n b past s has = record {
+  spelled = has.spelled;
+  offset = has.offset;
+  stack = has.stack;
+  layers = has.layers;
+  here = has.here;
+  phase = has.phase;
+  same_events = has.same_events;
+  element = has.element;
+}
+
+pub yields_passed : (w : WalkerState) (t : List ℕ) (n : ℕ) → w.phase ≡ phase.InContents (length t)
+    → Continues w (record w { phase = phase.Between; offset = w.offset + length t; events = n }) t (Bytes t ∷ End ∷ [])
+yields_passed w t n e =
+    let left : ℕ = length t in
+    let u : WalkerState = record w { phase = phase.InContents (left - left); offset = w.offset + left; events = w.events + 1 } in
+    let none : left - left ≡ 0 = omega arith in
+    let one : Continues w u t (Bytes t ∷ []) = yields_contents w left t left e (omega arith) refl in
+    let two : Continues u (record u { phase = phase.Between; events = u.events + 1 }) [] (End ∷ []) = yields_end u (ap phase.InContents none) in
+    let both = subst (λ (o : List ℕ). Continues w (record u { phase = phase.Between; events = u.events + 1 }) o (Bytes t ∷ End ∷ [])) (append-nil t) (continues_both w u _ t [] (Bytes t ∷ []) (End ∷ []) one two) in
+    record {
+      framing = both.framing;
+      found = both.found;
+      goes = λ b past s has.
+          let g = both.goes b past s has in
+          (g.0, counted_state _ n _ _ g.0 g.1);
+    }

@@ -1,0 +1,53 @@
+-- A walker has a frame for each open element that holds others, where no event is waiting.
+use Rattle.std.proofs.Common.{◌≡◌, ℕ, ◌+◌, true, List, [], ◌∷◌, suc, length, refl, sym, ap, ◌∙◌, arith}
+use Rattle.std.proofs.lemmas.Bool.{true≢false}
+use Rattle.tlv_walk.specs.Stack.{Frame}
+use Rattle.tlv_walk.specs.declared.framing.Framing.{Framing}
+use Rattle.tlv_walk.specs.Events.{EventValue}
+use Rattle.tlv_walk.specs.Forest.{Forest, Stop, Fill, Whole, Closed, Partial, Entered, Awaiting, Begun, Zero, is_whole}
+use Rattle.tlv_walk.specs.WalkerState.{WalkerState}
+use Rattle.tlv_walk.specs.Private.WalkerState.{EventWaits}
+use Rattle.tlv_walk.specs.OpenCount.{open_count}
+use Rattle.tlv_walk.specs.Place.{Place}
+use Rattle.tlv_walk.specs.Private.Zipper.{AreLayers, BeforeUnused, Between, HasZipper, InContents, InEnd, InHeader, Layer, Tail, Zipper, frames_of, place_of, stack_of}
+use Rattle.tlv_walk.proofs.WalkerLemmas.ZipperEndings.{forest_of, state-within}
+use Rattle.tlv_walk.proofs.WalkerLemmas.Zipper.{behind, reading_of, within}
+
+-- behind whole elements as many are open as of the others
+pub count-behind : (f g : Forest) → is_whole f ≡ true → open_count (behind f g) ≡ open_count g
+count-behind Stop g e = refl
+count-behind (Fill rest) g e = count-behind rest g e
+count-behind (Whole h c rest) g e = count-behind rest g e
+count-behind (Closed h inside rest) g e = count-behind rest g e
+count-behind (Partial h c) g e = absurd (true≢false (sym e))
+count-behind (Entered h inside) g e = absurd (true≢false (sym e))
+count-behind (Awaiting h) g e = absurd (true≢false (sym e))
+count-behind (Begun octets) g e = absurd (true≢false (sym e))
+count-behind Zero g e = absurd (true≢false (sym e))
+
+-- each layer is open
+pub count-within : (w : Framing) (ls : List Layer) (f : Forest) → AreLayers w ls → open_count (within ls f) ≡ length ls + open_count f
+count-within w [] f a = omega arith
+count-within w (l ∷ ls) f a =
+    omega (arith, count-within w ls (behind l.before (Entered l.head f)) a.0, count-behind l.before (Entered l.head f) a.1.whole)
+
+-- each layer has a frame
+length-frames : (w : Framing) (ls : List Layer) → length (frames_of w ls) ≡ length ls
+length-frames w [] = refl
+length-frames w (l ∷ ls) = ap suc (length-frames w ls)
+
+-- and so has a wrapping BIT STRING before its first contents octet
+length-stack : (w : Framing) (ls : List Layer) (p : Place) (t : Tail) → length (stack_of w ls p t) ≡ length ls + open_count (forest_of t)
+length-stack w ls p Between = omega (arith, length-frames w ls)
+length-stack w ls p (InContents h c) = omega (arith, length-frames w ls)
+length-stack w ls p (BeforeUnused h) = omega (arith, length-frames w ls)
+length-stack w ls p (InHeader octets) = omega (arith, length-frames w ls)
+length-stack w ls p InEnd = omega (arith, length-frames w ls)
+
+-- the frames of a walker are as many as the open elements of its reading that hold others
+pub state-depth : (w : WalkerState) (b : List ℕ) (past : List EventValue) (s : Zipper) → HasZipper w b past s → (EventWaits w → ⊥) → length w.stack ≡ open_count (reading_of s)
+state-depth w b past s h n =
+    ap (λ (stack : List Frame). length stack) h.stack
+    ∙ length-stack w.framing s.layers (place_of w.framing s) s.tail
+    ∙ sym (ap open_count (state-within w b past s h n) ∙ count-within w.framing s.layers (behind s.here (forest_of s.tail)) h.layers
+    ∙ ap (λ (k : ℕ). length s.layers + k) (count-behind s.here (forest_of s.tail) h.here.whole))

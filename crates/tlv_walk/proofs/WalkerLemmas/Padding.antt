@@ -1,0 +1,74 @@
+-- Padding, on a walker's state.
+use Rattle.std.proofs.Common.{◌≡◌, ℕ, ◌+◌, Bool, true, false, ◌||◌, List, [], ◌∷◌, ◌++◌, length, map, All, None, refl, sym, ap, ◌∙◌, subst, arith, append-nil, length-append}
+use Rattle.std.proofs.lemmas.List.Elements.{All-head, All-tail}
+use Rattle.tlv_walk.specs.Phase.{Phase}
+use Rattle.tlv_walk.specs.Phase as phase
+use Rattle.tlv_walk.specs.Events.{EventValue, Pad, events, single_octets}
+use Rattle.tlv_walk.specs.Forest.{Forest, Stop, Fill, has_element, is_whole, spell}
+use Rattle.tlv_walk.specs.WalkerState.{WalkerState}
+use Rattle.tlv_walk.specs.Place.{IsOpen, Place, place_after}
+use Rattle.tlv_walk.specs.Private.Zipper.{Between, HasZipper, IsPhaseOf, Layer, Zipper, place_in, place_of}
+use Rattle.tlv_walk.specs.Private.Steps.{Continues}
+use Rattle.tlv_walk.proofs.WalkerLemmas.Moves.{are_whole, element-either, between_tail, phase_at, spelled_whole, tail_state, past_whole, with_layers}
+use Rattle.tlv_walk.proofs.WalkerLemmas.Zipper.{behind}
+
+-- octets 00 between encodings
+abbrev pub fills : List ℕ → Forest
+fills [] = Stop
+fills (x ∷ xs) = Fill (fills xs)
+
+spell-fills : (t : List ℕ) → All (λ x. x ≡ 0) t → spell (fills t) ≡ t
+spell-fills [] z = refl
+spell-fills (x ∷ t) z =
+    ap (λ (s : List ℕ). 0 ∷ s) (spell-fills t (All-tail (λ x. x ≡ 0) x t z)) ∙ ap (λ (y : ℕ). y ∷ t) (sym (All-head (λ x. x ≡ 0) x t z))
+
+events-fills : (t : List ℕ) → All (λ x. x ≡ 0) t → single_octets (events (fills t)) ≡ map (λ x. Pad (x ∷ [])) t
+events-fills [] z = refl
+events-fills (x ∷ t) z =
+    ap (λ (es : List EventValue). Pad (0 ∷ []) ∷ es) (events-fills t (All-tail (λ x. x ≡ 0) x t z))
+    ∙ ap (λ (y : ℕ). Pad (y ∷ []) ∷ map (λ x. Pad (x ∷ [])) t) (sym (All-head (λ x. x ≡ 0) x t z))
+
+whole-fills : (t : List ℕ) → is_whole (fills t) ≡ true
+whole-fills [] = refl
+whole-fills (x ∷ t) = whole-fills t
+
+element-fills : (t : List ℕ) → has_element (fills t) ≡ false
+element-fills [] = refl
+element-fills (x ∷ t) = element-fills t
+
+open-fills : (p : Place) (t : List ℕ) → p.padding ≡ true → p.indefinite ≡ false → p.bound ≡ None → IsOpen p (fills t)
+open-fills p [] a d n = tt
+open-fills p (x ∷ t) a d n = ((a, d, rw n tt), open-fills (place_after p 1) t a d n)
+
+or-false : (k : Bool) → (k || false) ≡ k
+or-false true = refl
+or-false false = refl
+
+pad_state : (w : WalkerState) (b : List ℕ) (past : List EventValue) (s : Zipper) (t : List ℕ) → HasZipper w b past (with_layers s [] Between) → w.phase ≡ phase.Between → w.framing.padding ≡ true → All (λ x. x ≡ 0) t
+    → HasZipper (record w { offset = w.offset + length t; events = w.events + 1 }) (b ++ t) (past ++ Pad t ∷ []) (record { layers = []; here = behind s.here (fills t); tail = Between })
+pad_state w b past s t has e padding zeros = record {
+  spelled = spelled_whole [] s.here (fills t) [] t b has.here.whole (spell-fills t zeros) has.spelled;
+  offset = omega (arith, has.offset, length-append b t);
+  stack = has.stack;
+  layers = tt;
+  here = are_whole (place_in w.framing []) s.here (fills t) has.here (open-fills _ t padding refl refl) (whole-fills t);
+  phase = subst (λ (f : Phase). IsPhaseOf f Between (place_of w.framing (record { layers = []; here = behind s.here (fills t); tail = Between }))) (sym e) tt;
+  same_events = past_whole past [] s.here (fills t) [] (Pad t ∷ []) has.here.whole has.same_events (events-fills t zeros ∙ sym (append-nil (map (λ x. Pad (x ∷ [])) t)));
+  element = has.element ∙ sym (element-either s.here (fills t) has.here.whole ∙ (ap (λ (k : Bool). has_element s.here || k) (element-fills t) ∙ or-false (has_element s.here)));
+}
+
+pad_from : (w : WalkerState) (b : List ℕ) (past : List EventValue) (s : Zipper) (t : List ℕ) (ls : List Layer) → HasZipper w b past (with_layers s ls Between) → w.phase ≡ phase.Between → w.stack ≡ [] → w.framing.padding ≡ true → All (λ x. x ≡ 0) t
+    → (u : Zipper) × HasZipper (record w { offset = w.offset + length t; events = w.events + 1 }) (b ++ t) (past ++ Pad t ∷ []) u
+pad_from w b past s t [] has e none padding zeros = (_, pad_state w b past s t has e padding zeros)
+pad_from w b past s t (l ∷ ls) has e none padding zeros = absurd (cc (has.stack))
+
+pub yields_pad : (w : WalkerState) (t : List ℕ) (n : ℕ) → w.phase ≡ phase.Between → w.stack ≡ [] → w.framing.padding ≡ true → All (λ x. x ≡ 0) t → n ≡ length t
+    → Continues w (record w { offset = w.offset + n; events = w.events + 1 }) t (Pad t ∷ [])
+yields_pad w t n e none padding zeros len =
+    subst (λ (m : ℕ). Continues w (record w { offset = w.offset + m; events = w.events + 1 }) t (Pad t ∷ [])) (sym len) (record {
+      framing = refl;
+      found = refl;
+      goes = λ b past s has.
+          let tail = between_tail s.tail _ (phase_at w b past s _ e has) in
+          pad_from w b past s t s.layers (tail_state w b past s _ tail has) e none padding zeros;
+    })

@@ -1,0 +1,56 @@
+-- Whether an event waits, by the code's tests and by the list of those that do.
+use Rattle.std.proofs.Common.{◌≡◌, ℕ, Bool, true, false, eqb, if◌then◌else◌, List, [], ◌∷◌, Option, Some, None, refl, ap, ◌∙◌, ne_eqb, eq-eqb, IsTrue, ◌↔◌}
+use Rattle.tlv_walk.specs.Phase.{Phase}
+use Rattle.tlv_walk.specs.Phase as phase
+use Rattle.tlv_walk.specs.Events.{End, EventValue}
+use Rattle.tlv_walk.specs.WalkerState.{CanTake, WalkerState}
+use Rattle.tlv_walk.specs.Private.WalkerState.{EventWaits, EventWaitsIn}
+use Rattle.tlv_walk.specs.Stack.{Frame, IsFilled}
+use Rattle.tlv_walk.specs.Stands.{IsIdle, ending_event, ending_events, is_end, waiting_events, waiting_events_in}
+use Rattle.tlv_walk.proofs.WalkerLemmas.ZipperEndings.{ready-waits}
+
+-- where nothing waits no events do
+no_endings : (at : ℕ) (fs : List Frame) → (IsFilled fs at → ⊥) → ending_events at fs ≡ []
+no_endings at [] n = refl
+no_endings at (f ∷ fs) n = ap (λ (k : Bool). if k then ending_event f ∷ ending_events at fs else []) (unfilled f.end n)
+  where
+    unfilled : (e : Option ℕ) → (e ≡ Some at → ⊥) → is_end e at ≡ false
+    unfilled None n = refl
+    unfilled (Some m) n = ne_eqb m at (λ e. n (ap Some e))
+
+quiet_in : (f : Phase) (stack : List Frame) (at : ℕ) → (EventWaitsIn f stack at → ⊥) → waiting_events_in f stack at ≡ []
+quiet_in phase.Between stack at n = no_endings at stack n
+quiet_in (phase.InHeader r) stack at n = refl
+quiet_in (phase.InContents left) stack at n = ap (λ (k : Bool). if k then End ∷ ending_events at stack else []) (ne_eqb left 0 n)
+quiet_in phase.BeforeUnused stack at n = refl
+quiet_in phase.InEnd stack at n = refl
+quiet_in (phase.Failed fault) stack at n = refl
+
+pub quiet : (w : WalkerState) → (EventWaits w → ⊥) → waiting_events w ≡ []
+quiet w n = quiet_in w.phase w.stack w.offset n
+
+-- where one waits, there is one in the list
+no_more : (e : EventValue) (es : List EventValue) (k : Bool) → k ≡ true → (if k then e ∷ es else []) ≡ [] → ⊥
+no_more e es true t n = cc
+no_more e es false t n = absurd (cc)
+
+loud_in : (f : Phase) (stack : List Frame) (at : ℕ) → EventWaitsIn f stack at → waiting_events_in f stack at ≡ [] → ⊥
+loud_in phase.Between [] at i n = i
+loud_in phase.Between (f ∷ fs) at i n = no_more (ending_event f) (ending_events at fs) (is_end f.end at) (ap (λ (e : Option ℕ). is_end e at) i ∙ eq-eqb at at refl) n
+loud_in (phase.InHeader r) stack at i n = i
+loud_in (phase.InContents left) stack at i n = no_more End (ending_events at stack) (eqb left 0) (eq-eqb left 0 i) n
+loud_in phase.BeforeUnused stack at i n = i
+loud_in phase.InEnd stack at i n = i
+loud_in (phase.Failed fault) stack at i n = i
+
+pub idle : (w : WalkerState) → IsIdle w → EventWaits w → ⊥
+idle w n i = loud_in w.phase w.stack w.offset i n
+
+-- what `waiting` answers
+pub waits : (w : WalkerState) (k : Bool) → IsTrue k ↔ EventWaits w → (k ≡ false) ↔ IsIdle w
+waits w true h = (λ e. absurd (cc (e)), λ n. absurd (idle w n (h.0 refl)))
+waits w false h = (λ e. quiet w (λ i. cc (h.1 i)), λ n. refl)
+
+-- a walker that is ready has none waiting
+pub ready-quiet : (w : WalkerState) → CanTake w → IsIdle w
+ready-quiet w r = quiet w (ready-waits w r)

@@ -1,0 +1,249 @@
+-- A walker's state is an open forest, seen from its open end.
+use Rattle.std.proofs.Common.{◌≡◌, ◌↔◌, ℕ, ◌+◌, Bool, true, false, cond, ◌||◌, eqb, List, [], ◌∷◌, ◌++◌, length, None, refl, sym, ap, ◌∙◌, subst, arith, append_assoc, length-append}
+use Rattle.std.proofs.lemmas.Bool.{true≢false}
+use Rattle.tlv_head.specs.declared.header.Size.{Size}
+use Rattle.tlv_head.specs.declared.header.Size.TheVariants.{Definite, Indefinite}
+use Rattle.tlv_head.specs.Header.{HeaderValue, announced, octets_of}
+use Rattle.tlv_walk.specs.declared.framing.Framing.{Framing}
+use Rattle.tlv_walk.specs.Ending.{tip}
+use Rattle.tlv_walk.specs.Forest.{Forest, Stop, Fill, Whole, Closed, Partial, Entered, Awaiting, Begun, Zero, end_octets, extent, has_element, is_whole, opening, spell}
+use Rattle.tlv_walk.proofs.GrammarLemmas.ContentsLength.{contents_length}
+use Rattle.tlv_walk.specs.Place.{Fits, IsOpen, Place, is_indefinite, place_after, top_place}
+use Rattle.tlv_walk.proofs.GrammarLemmas.Lengths.{LacksOctets}
+use Rattle.tlv_walk.specs.Private.Stack.{bound_in}
+use Rattle.tlv_walk.specs.Stack.{IsInIndefinite, bound_of}
+use Rattle.tlv_walk.specs.Private.Zipper.{AreLayers, AreWhole, BeforeUnused, Between, InContents, InEnd, InHeader, Layer, Tail, Zipper, frames_of, place_in, spell_layers}
+use Rattle.tlv_walk.proofs.GrammarLemmas.Bounds.{fits-inside}
+use Rattle.tlv_walk.proofs.GrammarLemmas.PushSteps.{is_filled}
+use Rattle.tlv_walk.proofs.GrammarLemmas.Spellings.{append_assoc-3, append_assoc-4, length-closed, length-whole}
+
+-- whole elements, and then others
+abbrev pub behind : Forest → Forest → Forest
+behind Stop f = f
+behind (Fill rest) f = Fill (behind rest f)
+behind (Whole h c rest) f = Whole h c (behind rest f)
+behind (Closed h inside rest) f = Closed h inside (behind rest f)
+behind (Partial h c) f = Partial h c
+behind (Entered h inside) f = Entered h inside
+behind (Awaiting h) f = Awaiting h
+behind (Begun octets) f = Begun octets
+behind Zero f = Zero
+
+-- elements in the innermost open one
+abbrev pub within : List Layer → Forest → Forest
+within [] f = f
+within (l ∷ ls) f = within ls (behind l.before (Entered l.head f))
+
+-- the same, where each element that is filled ends
+abbrev pub settled : List Layer → Forest → Forest
+settled [] f = f
+settled (l ∷ ls) f = cond (is_filled l.head f) (settled ls (behind l.before (Closed l.head f Stop))) (within (l ∷ ls) f)
+
+abbrev pub primitive_in : List Layer → Forest → HeaderValue → List ℕ → Bool → Forest
+primitive_in ls here h c true = settled ls (behind here (Whole h c Stop))
+primitive_in ls here h c false = within ls (behind here (Partial h c))
+
+-- what a state has been read as
+abbrev pub reading_in : List Layer → Forest → Tail → Forest
+reading_in ls here Between = settled ls here
+reading_in ls here (InContents h c) = primitive_in ls here h c (eqb (length c) (announced h.size))
+reading_in ls here (BeforeUnused h) = within ls (behind here (Awaiting h))
+reading_in ls here (InHeader octets) = within ls (behind here (Begun octets))
+reading_in ls here InEnd = within ls (behind here Zero)
+
+abbrev pub reading_of : Zipper → Forest
+reading_of s = reading_in s.layers s.here s.tail
+
+-- ---- places
+
+-- a place behind one that is behind another
+after-after : (p : Place) (m n k : ℕ) → m + n ≡ k → place_after (place_after p m) n ≡ place_after p k
+after-after p m n k e = let same : (p.at + m) + n ≡ p.at + k = omega arith in ap (λ (i : ℕ). record p { at = i }) same
+
+-- no octets on
+pub after-none : (p : Place) → place_after p 0 ≡ p
+after-none p = let same : p.at + 0 ≡ p.at = omega arith in ap (λ (i : ℕ). record p { at = i }) same
+
+-- what is open there is so by either way to the place
+open-after : (p : Place) (m n k : ℕ) (g : Forest) → m + n ≡ k → IsOpen (place_after p k) g → IsOpen (place_after (place_after p m) n) g
+open-after p m n k g e w = subst (λ (q : Place). IsOpen q g) (sym (after-after p m n k e)) w
+
+-- ---- whole elements, and then others
+
+-- their octets
+pub spell-behind : (f g : Forest) → is_whole f ≡ true → spell (behind f g) ≡ spell f ++ spell g
+spell-behind Stop g e = refl
+spell-behind (Fill rest) g e = ap (λ (t : List ℕ). 0 ∷ t) (spell-behind rest g e)
+spell-behind (Whole h c rest) g e =
+    ap (λ (t : List ℕ). octets_of h ++ (c ++ t)) (spell-behind rest g e) ∙ sym (append_assoc-3 (octets_of h) c (spell rest) (spell g))
+spell-behind (Closed h inside rest) g e =
+    ap (λ (t : List ℕ). opening h ++ (spell inside ++ (end_octets h.size ++ t))) (spell-behind rest g e)
+    ∙ sym (append_assoc-4 (opening h) (spell inside) (end_octets h.size) (spell rest) (spell g))
+spell-behind (Partial h c) g e = absurd (true≢false (sym e))
+spell-behind (Entered h inside) g e = absurd (true≢false (sym e))
+spell-behind (Awaiting h) g e = absurd (true≢false (sym e))
+spell-behind (Begun octets) g e = absurd (true≢false (sym e))
+spell-behind Zero g e = absurd (true≢false (sym e))
+
+-- nothing is open where nothing of the others is
+pub whole-behind : (f g : Forest) → is_whole f ≡ true → is_whole (behind f g) ≡ is_whole g
+whole-behind Stop g e = refl
+whole-behind (Fill rest) g e = whole-behind rest g e
+whole-behind (Whole h c rest) g e = whole-behind rest g e
+whole-behind (Closed h inside rest) g e = whole-behind rest g e
+whole-behind (Partial h c) g e = absurd (true≢false (sym e))
+whole-behind (Entered h inside) g e = absurd (true≢false (sym e))
+whole-behind (Awaiting h) g e = absurd (true≢false (sym e))
+whole-behind (Begun octets) g e = absurd (true≢false (sym e))
+whole-behind Zero g e = absurd (true≢false (sym e))
+
+-- an octet of an element is there where one of theirs or of the others' is
+pub element-behind : (f g : Forest) → has_element (behind f g) ≡ (has_element f || has_element g)
+element-behind Stop g = refl
+element-behind (Fill rest) g = element-behind rest g
+element-behind (Whole h c rest) g = refl
+element-behind (Closed h inside rest) g = refl
+element-behind (Partial h c) g = refl
+element-behind (Entered h inside) g = refl
+element-behind (Awaiting h) g = refl
+element-behind (Begun octets) g = refl
+element-behind Zero g = refl
+
+-- they are open where the others are behind them
+pub open-behind : (p : Place) (f g : Forest) → AreWhole p f → IsOpen (place_after p (length (spell f))) g → IsOpen p (behind f g)
+open-behind p Stop g a w = subst (λ (q : Place). IsOpen q g) (after-none p) w
+open-behind p (Fill rest) g a w =
+    (a.is_open.0, open-behind (place_after p 1) rest g (record { is_open = a.is_open.1; whole = a.whole }) (open-after p 1 (length (spell rest)) _ g (omega arith) w))
+open-behind p (Whole h c rest) g a w = (
+  a.is_open.0,
+  open-behind (place_after p (length (octets_of h) + length c)) rest g (record { is_open = a.is_open.1; whole = a.whole })
+      (open-after p (length (octets_of h) + length c) (length (spell rest)) _ g (sym (length-whole h c rest)) w),
+)
+open-behind p (Closed h inside rest) g a w = (
+  a.is_open.0,
+  a.is_open.1,
+  open-behind (place_after p (extent h inside)) rest g (record { is_open = a.is_open.2; whole = a.whole })
+      (open-after p (extent h inside) (length (spell rest)) _ g (sym (length-closed h inside rest)) w),
+)
+open-behind p (Partial h c) g a w = absurd (true≢false (sym a.whole))
+open-behind p (Entered h inside) g a w = absurd (true≢false (sym a.whole))
+open-behind p (Awaiting h) g a w = absurd (true≢false (sym a.whole))
+open-behind p (Begun octets) g a w = absurd (true≢false (sym a.whole))
+open-behind p Zero g a w = absurd (true≢false (sym a.whole))
+
+-- a tip by either way to the place
+tip-after : (p : Place) (m n k : ℕ) (g : Forest) → m + n ≡ k → tip (place_after (place_after p m) n) g ≡ tip (place_after p k) g
+tip-after p m n k g e = ap (λ (q : Place). tip q g) (after-after p m n k e)
+
+-- the open end is that of the others
+pub tip-behind : (p : Place) (f g : Forest) → is_whole f ≡ true → tip p (behind f g) ≡ tip (place_after p (length (spell f))) g
+tip-behind p Stop g e = ap (λ (q : Place). tip q g) (sym (after-none p))
+tip-behind p (Fill rest) g e = tip-behind (place_after p 1) rest g e ∙ tip-after p 1 (length (spell rest)) _ g (omega arith)
+tip-behind p (Whole h c rest) g e =
+    tip-behind (place_after p (length (octets_of h) + length c)) rest g e ∙ tip-after p (length (octets_of h) + length c) (length (spell rest)) _ g (sym (length-whole h c rest))
+tip-behind p (Closed h inside rest) g e =
+    tip-behind (place_after p (extent h inside)) rest g e ∙ tip-after p (extent h inside) (length (spell rest)) _ g (sym (length-closed h inside rest))
+tip-behind p (Partial h c) g e = absurd (true≢false (sym e))
+tip-behind p (Entered h inside) g e = absurd (true≢false (sym e))
+tip-behind p (Awaiting h) g e = absurd (true≢false (sym e))
+tip-behind p (Begun octets) g e = absurd (true≢false (sym e))
+tip-behind p Zero g e = absurd (true≢false (sym e))
+
+-- no others
+pub behind-none : (f : Forest) → behind f Stop ≡ f
+behind-none Stop = refl
+behind-none (Fill rest) = ap Fill (behind-none rest)
+behind-none (Whole h c rest) = ap (Whole h c) (behind-none rest)
+behind-none (Closed h inside rest) = ap (Closed h inside) (behind-none rest)
+behind-none (Partial h c) = refl
+behind-none (Entered h inside) = refl
+behind-none (Awaiting h) = refl
+behind-none (Begun octets) = refl
+behind-none Zero = refl
+
+-- behind whole elements the open end is between them and the next
+pub tip-whole : (p : Place) (f : Forest) → is_whole f ≡ true → tip p f ≡ (place_after p (length (spell f)), Stop)
+tip-whole p f e = ap (λ (g : Forest). tip p g) (sym (behind-none f)) ∙ tip-behind p f Stop e
+
+-- ---- where the elements in the innermost open element begin
+
+-- behind the octets of the layers
+pub place-at : (w : Framing) (ls : List Layer) → (place_in w ls).at ≡ length (spell_layers ls)
+place-at w [] = refl
+place-at w (l ∷ ls) =
+    omega (arith, place-at w ls, length-append (spell_layers ls) (spell l.before ++ opening l.head), length-append (spell l.before) (opening l.head))
+
+-- in as many elements as there are layers
+pub place-depth : (w : Framing) (ls : List Layer) → (place_in w ls).depth ≡ length ls
+place-depth w [] = refl
+place-depth w (l ∷ ls) = omega (arith, place-depth w ls)
+
+-- with the bound of the innermost frame
+pub place-bound : (w : Framing) (ls : List Layer) → (place_in w ls).bound ≡ bound_of (frames_of w ls)
+place-bound w [] = refl
+place-bound w (l ∷ ls) = refl
+
+-- an indefinite length has no end that is known
+indefinite-endless : (s : Size) (start : ℕ) → (is_indefinite s ≡ true) ↔ (bound_in s start None ≡ None)
+indefinite-endless (Definite n) start = (λ e. absurd (cc), λ e. absurd (cc))
+indefinite-endless Indefinite start = (λ e. refl, λ e. refl)
+
+-- in an element of indefinite length where the innermost frame's is
+pub place-indefinite : (w : Framing) (ls : List Layer) → ((place_in w ls).indefinite ≡ true) ↔ IsInIndefinite (frames_of w ls)
+place-indefinite w [] = (λ e. absurd (true≢false (sym e)), λ e. absurd e)
+place-indefinite w (l ∷ ls) = indefinite-endless l.head.size _
+
+-- with padding where there is some at the top, and there alone
+pub place-padding-top : (w : Framing) → (place_in w []).padding ≡ w.padding
+place-padding-top w = refl
+
+pub place-padding-inside : (w : Framing) (l : Layer) (ls : List Layer) → (place_in w (l ∷ ls)).padding ≡ false
+place-padding-inside w l ls = refl
+
+-- with the offsets that the user named
+pub place-inside : (w : Framing) (ls : List Layer) → (place_in w ls).inside ≡ w.inside
+place-inside w [] = refl
+place-inside w (l ∷ ls) = place-inside w ls
+
+-- not past the bound
+pub layers-fit : (w : Framing) (ls : List Layer) → AreLayers w ls → Fits (place_in w ls) 0
+layers-fit w [] a = tt
+layers-fit w (l ∷ ls) a = fits-inside (place_after (place_in w ls) (length (spell l.before))) l.head a.2.header.form a.2.fits
+
+-- ---- elements in the innermost open one
+
+-- their octets, behind those of the layers
+pub spell-within : (w : Framing) (ls : List Layer) (f : Forest) → AreLayers w ls → spell (within ls f) ≡ spell_layers ls ++ spell f
+spell-within w [] f a = refl
+spell-within w (l ∷ ls) f a =
+    spell-within w ls (behind l.before (Entered l.head f)) a.0
+    ∙ ap (λ (t : List ℕ). spell_layers ls ++ t) (spell-behind l.before (Entered l.head f) a.1.whole ∙ sym (append_assoc (spell l.before) (opening l.head) (spell f)))
+    ∙ sym (append_assoc (spell_layers ls) (spell l.before ++ opening l.head) (spell f))
+
+-- where they are whole, contents octets of the innermost open element are lacking
+abbrev pub HasRoomIn : List Layer → Forest → Type 0
+HasRoomIn [] f = Unit {0}
+HasRoomIn (l ∷ ls) f = is_whole f ≡ true → LacksOctets l.head.size (contents_length l.head f)
+
+-- where something is open, none need be lacking
+pub room-if_open : (ls : List Layer) (f : Forest) → is_whole f ≡ false → HasRoomIn ls f
+room-if_open [] f e = tt
+room-if_open (l ∷ ls) f e = λ whole. absurd (true≢false (sym whole ∙ e))
+
+-- they are open where they stand, and so is the whole
+pub open-within : (w : Framing) (ls : List Layer) (f : Forest) → AreLayers w ls → IsOpen (place_in w ls) f → HasRoomIn ls f → IsOpen (top_place w) (within ls f)
+open-within w [] f a v r = v
+open-within w (l ∷ ls) f a v r =
+    open-within w ls (behind l.before (Entered l.head f)) a.0
+    (open-behind (place_in w ls) l.before (Entered l.head f) a.1 ((a.2, r), v))
+    (room-if_open ls _ (whole-behind l.before (Entered l.head f) a.1.whole))
+
+-- the open end is theirs
+pub tip-within : (w : Framing) (ls : List Layer) (f : Forest) → AreLayers w ls → tip (top_place w) (within ls f) ≡ tip (place_in w ls) f
+tip-within w [] f a = refl
+tip-within w (l ∷ ls) f a = tip-within w ls (behind l.before (Entered l.head f)) a.0 ∙ tip-behind (place_in w ls) l.before (Entered l.head f) a.1.whole
+
+-- inside a layer something is open
+pub whole-within : (w : Framing) (ls : List Layer) (f : Forest) → AreLayers w ls → (ls ≡ [] → is_whole f ≡ false) → is_whole (within ls f) ≡ false
+whole-within w [] f a e = e refl
+whole-within w (l ∷ ls) f a e = whole-within w ls (behind l.before (Entered l.head f)) a.0 (λ _. whole-behind l.before (Entered l.head f) a.1.whole)

@@ -1,0 +1,161 @@
+-- The end of the input, or an octet that is refused, behind what a walker has taken, where no event is waiting.
+use Rattle.std.proofs.Common.{◌≡◌, ℕ, true, false, List, [], ◌∷◌, ◌++◌, ◌+◌, length, refl, sym, ap, ◌∙◌, subst, arith}
+use Rattle.tlv_head.specs.declared.fault.FaultCode.{FaultCode}
+use Rattle.tlv_head.specs.declared.fault.FaultCode.TheVariants.{Empty, Short}
+use Rattle.tlv_walk.specs.Stack.{Frame}
+use Rattle.tlv_walk.specs.declared.ending.Ending.TheVariants.{Done}
+use Rattle.tlv_walk.specs.declared.framing.Framing.{Framing}
+use Rattle.tlv_walk.specs.Phase.{Phase}
+use Rattle.tlv_walk.specs.Phase as phase
+use Rattle.tlv_walk.specs.Ending.{IsEnding, IsFault, done, empty, fault, short, tip}
+use Rattle.tlv_walk.specs.Events.{EventValue}
+use Rattle.tlv_walk.specs.Forest.{Forest, Stop, Partial, Awaiting, Begun, Zero, has_element, is_whole, spell}
+use Rattle.tlv_walk.specs.WalkerState.{CanTake, CanTakeIn, WalkerState}
+use Rattle.tlv_walk.specs.Private.WalkerState.{EventWaits, EventWaitsIn}
+use Rattle.tlv_walk.specs.Place.{Place, top_place}
+use Rattle.tlv_walk.specs.Private.Zipper.{BeforeUnused, Between, HasZipper, InContents, InEnd, InHeader, IsPhaseOf, Layer, Tail, Zipper, begins_element, frames_of, place_in, place_of, spell_tail, stack_of}
+use Rattle.tlv_walk.proofs.GrammarLemmas.Endings.{halt-ending}
+use Rattle.tlv_walk.proofs.GrammarLemmas.Faults.{fault-refused}
+use Rattle.tlv_walk.proofs.GrammarLemmas.PushSteps.{Spells}
+use Rattle.tlv_walk.proofs.GrammarLemmas.Readings.{IsHalt}
+use Rattle.tlv_walk.proofs.GrammarLemmas.Settled.{end_in, settled-within}
+use Rattle.tlv_walk.proofs.WalkerLemmas.ZipperReading.{contents-less, place_behind, state-offset, state-reading, state-spells}
+use Rattle.tlv_walk.proofs.WalkerLemmas.Zipper.{behind, behind-none, reading_in, reading_of, tip-behind, tip-within, whole-behind, whole-within, within}
+
+-- what is open behind the whole elements, as a forest: of a primitive, one that lacks contents octets
+abbrev pub forest_of : Tail → Forest
+forest_of Between = Stop
+forest_of (InContents h c) = Partial h c
+forest_of (BeforeUnused h) = Awaiting h
+forest_of (InHeader octets) = Begun octets
+forest_of InEnd = Zero
+
+-- the whole elements end at the offset: no element is filled there
+filled-at : (w : Framing) (ls : List Layer) (here : Forest) (at : ℕ) → at ≡ end_in w ls here + 0 → (EventWaitsIn phase.Between (frames_of w ls) at → ⊥) → EventWaitsIn phase.Between (frames_of w ls) (end_in w ls here) → ⊥
+filled-at w ls here at e n f = let there : end_in w ls here ≡ at = omega arith in n (subst (λ (k : ℕ). EventWaitsIn phase.Between (frames_of w ls) k) there f)
+
+-- where nothing is waiting, no element has ended
+reading-within : (w : Framing) (ls : List Layer) (here : Forest) (f : Phase) (t : Tail) (at : ℕ) → IsPhaseOf f t (place_behind w ls here)
+    → at ≡ (place_behind w ls here).at + length (spell_tail t) → (EventWaitsIn f (stack_of w ls (place_behind w ls here) t) at → ⊥)
+    → reading_in ls here t ≡ within ls (behind here (forest_of t))
+reading-within w ls here phase.Between Between at j e n =
+    settled-within w ls here (filled-at w ls here at e n) ∙ ap (within ls) (sym (behind-none here))
+reading-within w ls here (phase.InContents left) (InContents h c) at j e n = rw (contents-less _ h c left j n) refl
+reading-within w ls here (phase.InHeader r) (InHeader octets) at j e n = refl
+reading-within w ls here phase.BeforeUnused (BeforeUnused h) at j e n = refl
+reading-within w ls here phase.InEnd InEnd at j e n = refl
+reading-within w ls here f t at j e n = absurd j
+
+-- so what a walker with nothing waiting has read is its layers, its whole elements and what is open
+pub state-within : (w : WalkerState) (b : List ℕ) (past : List EventValue) (s : Zipper) → HasZipper w b past s → (EventWaits w → ⊥) → reading_of s ≡ within s.layers (behind s.here (forest_of s.tail))
+state-within w b past s h n =
+    reading-within w.framing s.layers s.here w.phase s.tail w.offset h.phase (state-offset w b past s h)
+    (λ i. n (subst (λ (stack : List Frame). EventWaitsIn w.phase stack w.offset) (sym h.stack) i))
+
+-- a walker that is ready has no event waiting
+pub ready-waits : (w : WalkerState) → CanTake w → EventWaits w → ⊥
+ready-waits w = ready-waits-in w.phase w.stack w.offset where
+  ready-waits-in : (f : Phase) (stack : List Frame) (at : ℕ) → CanTakeIn f stack at → EventWaitsIn f stack at → ⊥
+  ready-waits-in phase.Between stack at r i = r i
+  ready-waits-in (phase.InContents left) stack at r i = r i
+  ready-waits-in (phase.InHeader p) stack at r i = i
+  ready-waits-in phase.BeforeUnused stack at r i = i
+  ready-waits-in phase.InEnd stack at r i = i
+  ready-waits-in (phase.Failed f) stack at r i = i
+
+-- ---- the open end
+
+-- what is open behind the whole elements is the open end
+tip-tail : (p : Place) (t : Tail) → tip p (forest_of t) ≡ (p, forest_of t)
+tip-tail p Between = refl
+tip-tail p (InContents h c) = refl
+tip-tail p (BeforeUnused h) = refl
+tip-tail p (InHeader octets) = refl
+tip-tail p InEnd = refl
+
+-- the open end of the reading is that of the state
+pub state-tip : (w : WalkerState) (b : List ℕ) (past : List EventValue) (s : Zipper) → HasZipper w b past s → (EventWaits w → ⊥)
+    → tip (top_place w.framing) (reading_of s) ≡ (place_of w.framing s, forest_of s.tail)
+state-tip w b past s h n =
+    ap (λ (f : Forest). tip (top_place w.framing) f) (state-within w b past s h n)
+    ∙ tip-within w.framing s.layers (behind s.here (forest_of s.tail)) h.layers
+    ∙ tip-behind (place_in w.framing s.layers) s.here (forest_of s.tail) h.here.whole
+    ∙ tip-tail (place_of w.framing s) s.tail
+
+-- an octet with a fault of the list at the open end gives the ending, whatever follows
+pub state-fault : (w : WalkerState) (b : List ℕ) (past : List EventValue) (s : Zipper) (x : ℕ) (rest : List ℕ) (code : FaultCode) → HasZipper w b past s → (EventWaits w → ⊥)
+    → IsFault (place_of w.framing s) x (forest_of s.tail) code → IsEnding w.framing (b ++ x ∷ rest) (fault code (length b))
+state-fault w b past s x rest code h n k =
+    let r : Spells (top_place w.framing) b (reading_of s) = state-spells w b past s h in
+    let there : IsFault (tip (top_place w.framing) (reading_of s)).0 x (tip (top_place w.framing) (reading_of s)).1 code = subst (λ (t : Place × Forest). IsFault t.0 x t.1 code) (sym (state-tip w b past s h n)) k in
+    let halt : IsHalt w.framing (reading_of s) code (b ++ x ∷ rest) =
+    record { is_open = r.is_open; octet = x; rest = rest; front = ap (λ (o : List ℕ). o ++ x ∷ rest) r.spelled; refused = fault-refused w.framing (reading_of s) x code r.is_open there } in
+    subst (λ (o : List ℕ). IsEnding w.framing (b ++ x ∷ rest) (fault code (length o))) r.spelled (halt-ending w.framing (reading_of s) code (b ++ x ∷ rest) halt there)
+
+-- ---- the end of the input
+
+-- outside all elements that hold others, between encodings, the whole elements are the reading
+outermost-reading : (w : Framing) (ls : List Layer) (here : Forest) (t : Tail) → IsPhaseOf phase.Between t (place_behind w ls here) → stack_of w ls (place_behind w ls here) t ≡ []
+    → reading_in ls here t ≡ here
+outermost-reading w [] here Between j e = refl
+outermost-reading w (l ∷ ls) here Between j e = absurd (cc)
+outermost-reading w ls here t j e = absurd j
+
+-- there an octet of an element came where one is in the reading
+outermost-element : (w : Framing) (ls : List Layer) (here : Forest) (t : Tail) → IsPhaseOf phase.Between t (place_behind w ls here) → stack_of w ls (place_behind w ls here) t ≡ []
+    → begins_element ls here t ≡ has_element here
+outermost-element w [] here Between j e = refl
+outermost-element w (l ∷ ls) here Between j e = absurd (cc)
+outermost-element w ls here t j e = absurd j
+
+-- what a walker has read between encodings and outside all elements that hold others
+record IsOutermost (w : WalkerState) (b : List ℕ) (s : Zipper) : Type 0 where
+  reading : reading_of s ≡ s.here
+  element : has_element s.here ≡ w.has_element
+  spelled : spell (reading_of s) ≡ b
+
+-- it is the whole elements there
+state-outermost : (w : WalkerState) (b : List ℕ) (past : List EventValue) (s : Zipper) → HasZipper w b past s → w.phase ≡ phase.Between → w.stack ≡ [] → IsOutermost w b s
+state-outermost w b past s h e none =
+    let j : IsPhaseOf phase.Between s.tail (place_of w.framing s) = subst (λ (f : Phase). IsPhaseOf f s.tail (place_of w.framing s)) e h.phase in
+    let empty : stack_of w.framing s.layers (place_of w.framing s) s.tail ≡ [] = sym h.stack ∙ none in
+    let r : Spells (top_place w.framing) b (reading_of s) = state-spells w b past s h in
+    record {
+      reading = outermost-reading w.framing s.layers s.here s.tail j empty;
+      element = sym (outermost-element w.framing s.layers s.here s.tail j empty) ∙ sym h.element;
+      spelled = r.spelled;
+    }
+
+-- there, behind an octet of an element, the input is done
+pub state-done : (w : WalkerState) (b : List ℕ) (past : List EventValue) (s : Zipper) → HasZipper w b past s → w.phase ≡ phase.Between → w.stack ≡ [] → w.has_element ≡ true
+    → IsEnding w.framing b Done
+state-done w b past s h e none some =
+    let o : IsOutermost w b s = state-outermost w b past s h e none in
+    done (reading_of s) (state-reading w b past s h) o.spelled (ap has_element o.reading ∙ o.element ∙ some) (ap is_whole o.reading ∙ h.here.whole)
+
+-- and where no octet of an element came, there is none
+pub state-empty : (w : WalkerState) (b : List ℕ) (past : List EventValue) (s : Zipper) → HasZipper w b past s → w.phase ≡ phase.Between → w.stack ≡ [] → w.has_element ≡ false
+    → IsEnding w.framing b (fault Empty (length b))
+state-empty w b past s h e none no_element =
+    let o : IsOutermost w b s = state-outermost w b past s h e none in
+    empty (reading_of s) (state-reading w b past s h) o.spelled (ap has_element o.reading ∙ o.element ∙ no_element)
+
+-- elsewhere something is open: an element that holds others, or what is behind the whole elements
+open-elsewhere : (w : Framing) (ls : List Layer) (here : Forest) (f : Phase) (t : Tail) → IsPhaseOf f t (place_behind w ls here)
+    → (f ≡ phase.Between → stack_of w ls (place_behind w ls here) t ≡ [] → ⊥) → ls ≡ [] → is_whole (forest_of t) ≡ false
+open-elsewhere w ls here phase.Between Between j n e = absurd (n refl (ap (frames_of w) e))
+open-elsewhere w ls here (phase.InHeader r) (InHeader octets) j n e = refl
+open-elsewhere w ls here (phase.InContents left) (InContents h c) j n e = refl
+open-elsewhere w ls here phase.BeforeUnused (BeforeUnused h) j n e = refl
+open-elsewhere w ls here phase.InEnd InEnd j n e = refl
+open-elsewhere w ls here f t j n e = absurd j
+
+-- there the input is too short
+pub state-short : (w : WalkerState) (b : List ℕ) (past : List EventValue) (s : Zipper) → HasZipper w b past s → (EventWaits w → ⊥) → (w.phase ≡ phase.Between → w.stack ≡ [] → ⊥)
+    → IsEnding w.framing b (fault Short (length b))
+state-short w b past s h n outside =
+    let r : Spells (top_place w.framing) b (reading_of s) = state-spells w b past s h in
+    let part : is_whole (within s.layers (behind s.here (forest_of s.tail))) ≡ false =
+    whole-within w.framing s.layers (behind s.here (forest_of s.tail)) h.layers
+    (λ e. whole-behind s.here (forest_of s.tail) h.here.whole ∙ open-elsewhere w.framing s.layers s.here w.phase s.tail h.phase (λ p q. outside p (h.stack ∙ q)) e) in
+    short (reading_of s) (state-reading w b past s h) r.spelled (ap is_whole (state-within w b past s h n) ∙ part)

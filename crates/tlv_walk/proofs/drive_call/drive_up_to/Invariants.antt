@@ -1,0 +1,21 @@
+use Rattle.std.proofs.Common.{◌≡◌, ◌-◌, ◌≤◌, [], length}
+use Rattle.tlv_walk.specs.WalkerState.{CanTake}
+use Rattle.tlv_io.specs.Out.{buffer_of, drain_of}
+use Rattle.tlv_walk.specs.OneTurn.{turn_state}
+use Rattle.tlv_walk.proofs.FollowerLemmas.SoFar.{Walking}
+use Rattle.tlv_walk.proofs.drive_call.drive_up_to.Given as goal
+
+abbrev pub invariant-turns : goal.invariant-turns
+invariant-turns g l = record {
+  taken : l.walker.offset ≤ l.limit;
+  walking :
+      Walking g.F.Follow.next l.framing l.initial.follower (g.S.Source.state l.initial.source) (g.D.Drain.state (drain_of l.initial.out).now)
+      (turn_state l.walker l.follower (g.S.Source.state l.source) (g.D.Drain.state (drain_of l.out).now));
+  ready : CanTake l.walker;
+  piece : length l.piece ≡ 4096;
+  empty : buffer_of l.out ≡ [];
+  same_reference : (drain_of l.out).ghost_name ≡ (drain_of l.initial.out).ghost_name;
+}
+
+abbrev pub decreases-turns : goal.decreases-turns
+decreases-turns g l = l.limit - l.walker.offset

@@ -1,0 +1,125 @@
+use Rattle.std.proofs.Common.{rules, ◌≡◌, ℕ, ◌+◌, List, [], ◌∷◌, length, refl, ap₂, ◌∙◌, subst}
+use Rattle.std.proofs.lemmas.Result.{err_from_is_err_and}
+use Rattle.tlv_walk.specs.declared.event.Step.{Step}
+use Rattle.tlv_walk.specs.declared.event.Step.TheVariants as step
+use Rattle.tlv_walk.specs.declared.follow.Go.{Go}
+use Rattle.tlv_walk.specs.declared.follow.Go.TheVariants as go
+use Rattle.tlv_walk.specs.Events.{EventValue, Open}
+use Rattle.tlv_walk.specs.WalkerState.{WalkerState}
+use Rattle.tlv_walk.specs.StepsTo.{StepsTo}
+use Rattle.tlv_walk.specs.Private.FollowsPiece.{WalksOver}
+use Rattle.tlv_walk.proofs.FollowerLemmas.Following.{fails_event, follows_as, follows_event, follows_none, stops_fault, stops_used_up}
+use Rattle.tlv_walk.proofs.FollowerLemmas.Parts.{fails_both, follows_left, follows_part, left_walked, part_passes}
+use Rattle.tlv_walk.proofs.WalkerLemmas.Standing.{event_offset, stands_all, walked_event}
+use Rattle.tlv_walk.proofs.one_turn.follow.Goals.{in-Some+in_ok-go-in-Some, in-None+in-Some-constructed+in_ok-go-in-Some-constructed, in-None+in-None-constructed+in-Some-contents_event+in_ok-go-in-Some-contents_event, in-None+in-None-constructed+in-None-contents_event+in-Event+in_ok-go-in-Event}
+use Rattle.tlv_walk.proofs.one_turn.follow.Goals as goal
+
+-- nothing was taken
+unmoved : (v w : WalkerState) (xs ys : List ℕ) → v ≡ w → xs ≡ ys → v.offset + length xs ≡ w.offset + length ys
+unmoved v w xs ys e f = ap₂ (λ (m : WalkerState) (o : List ℕ). m.offset + length o) e f
+
+-- so the next step is the first
+unmoved_event : (v w u : WalkerState) (xs ys after : List ℕ) (e : EventValue) → v ≡ w → xs ≡ ys → WalksOver v u xs after (e ∷ []) → WalksOver w u ys after (e ∷ [])
+unmoved_event v w u xs ys after e p q t = subst (λ (o : List ℕ). WalksOver w u o after (e ∷ [])) q (subst (λ (m : WalkerState). WalksOver m u xs after (e ∷ [])) p t)
+
+unmoved_step : (v w u : WalkerState) (xs ys after : List ℕ) (s : Step) → v ≡ w → xs ≡ ys → StepsTo v u xs after s → StepsTo w u ys after s
+unmoved_step v w u xs ys after s p q t = subst (λ (o : List ℕ). StepsTo w u o after s) q (subst (λ (m : WalkerState). StepsTo m u xs after s) p t)
+
+not_enough : (g : Go) → (g ≡ go.Enough → ⊥) → g ≡ go.On
+not_enough go.On n = refl
+not_enough go.Enough n = absurd (n refl)
+
+not_on : (g : Go) → (g ≡ go.On → ⊥) → g ≡ go.Enough
+not_on go.On n = absurd (n refl)
+not_on go.Enough n = refl
+
+pub events-init : goal.events-init
+events-init g c = record { follows = follows_none g.F.Follow.next g.D.Drain.state _ _ _ _; walked = refl }
+
+pub events-preserved-then-branch : goal.events-preserved-then-branch
+events-preserved-then-branch g c = record {
+  follows = follows_part g.F.Follow.next g.D.Drain.state _ _ _ _ _ _ _ _ _ _ _ _ _ c.events.invariant.follows c.if-branch.true c.in_ok-follow_primitive.ensures.parts;
+  walked = (part_passes g.F.Follow.next g.D.Drain.state _ _ _ _ _ _ _ _ _ c.if-branch.true c.in_ok-follow_primitive.ensures.parts).taken ∙ c.events.invariant.walked;
+}
+
+pub events-preserved : goal.events-preserved
+events-preserved g c =
+    let on : c.match-close.go ≡ go.On = not_enough _ (search rules) in
+    let left = follows_left g.F.Follow.next g.D.Drain.state _ _ _ _ _ _ _ _ _ _ _ _ _ c.events.invariant.follows c.if-branch.false c.in_ok-follow_primitive.ensures.parts in
+    elim c.match-close.branch [
+      | in-Some+in_ok-go-in-Some w ↦ record {
+        follows = rw (w.out-is, w.follower-is, w.walker-is, w.rest-is, ← on, w.go-is) (follows_event g.F.Follow.next g.D.Drain.state _ _ _ _ _ _ _ _ _ _ _ _ _ _ left (stands_all _ _ _ _ _ w.in-Some.ensures.yields) w.in_ok-go-in-Some.ensures.state _ w.in_ok-go-in-Some.ensures.puts);
+        walked = rw (w.walker-is, w.rest-is) (w.in-Some.ensures.steps.0.taken ∙ left_walked g.F.Follow.next g.D.Drain.state _ _ _ _ _ _ _ _ _ c.if-branch.false c.in_ok-follow_primitive.ensures.parts ∙ c.events.invariant.walked);
+      }
+      | in-None+in-Some-constructed+in_ok-go-in-Some-constructed w ↦ let opened : WalksOver c.close.new.self w.constructed.new.self c.close.new.piece.now w.constructed.new.piece.now (Open w.new.result ∷ []) = rw w.new.ensures (stands_all _ _ _ _ _ w.in-Some-constructed.ensures.yields) in record {
+        follows = rw (w.out-is, w.follower-is, w.walker-is, w.rest-is, ← on, w.go-is) (follows_event g.F.Follow.next g.D.Drain.state _ _ _ _ _ _ _ _ _ _ _ _ _ _ left (unmoved_event _ _ _ _ _ _ _ (w.in-None.ensures.steps.0) (w.in-None.ensures.steps.1) opened) w.in_ok-go-in-Some-constructed.ensures.state _ w.in_ok-go-in-Some-constructed.ensures.puts);
+        walked = rw (w.walker-is, w.rest-is) (w.in-Some-constructed.ensures.steps.0.taken ∙ unmoved _ _ _ _ (w.in-None.ensures.steps.0) (w.in-None.ensures.steps.1) ∙ left_walked g.F.Follow.next g.D.Drain.state _ _ _ _ _ _ _ _ _ c.if-branch.false c.in_ok-follow_primitive.ensures.parts ∙ c.events.invariant.walked);
+      }
+      | in-None+in-None-constructed+in-Some-contents_event+in_ok-go-in-Some-contents_event w ↦ record {
+        follows = rw (w.out-is, w.follower-is, w.walker-is, w.rest-is, ← on, w.go-is) (follows_event g.F.Follow.next g.D.Drain.state _ _ _ _ _ _ _ _ _ _ _ _ _ _ left (unmoved_event _ _ _ _ _ _ _ (w.in-None-constructed.ensures.steps.0 ∙ w.in-None.ensures.steps.0) (w.in-None-constructed.ensures.steps.1 ∙ w.in-None.ensures.steps.1) (stands_all _ _ _ _ _ w.in-Some-contents_event.ensures.yields)) w.in_ok-go-in-Some-contents_event.ensures.state _ w.in_ok-go-in-Some-contents_event.ensures.puts);
+        walked = rw (w.walker-is, w.rest-is) (w.in-Some-contents_event.ensures.steps.0.taken ∙ unmoved _ _ _ _ (w.in-None-constructed.ensures.steps.0 ∙ w.in-None.ensures.steps.0) (w.in-None-constructed.ensures.steps.1 ∙ w.in-None.ensures.steps.1) ∙ left_walked g.F.Follow.next g.D.Drain.state _ _ _ _ _ _ _ _ _ c.if-branch.false c.in_ok-follow_primitive.ensures.parts ∙ c.events.invariant.walked);
+      }
+      | in-None+in-None-constructed+in-None-contents_event+in-Event+in_ok-go-in-Event w ↦ record {
+        follows = rw (w.out-is, w.follower-is, w.walker-is, w.rest-is, ← on, w.go-is) (follows_event g.F.Follow.next g.D.Drain.state _ _ _ _ _ _ _ _ _ _ _ _ _ _ left (unmoved_event _ _ _ _ _ _ _ (w.in-None-contents_event.ensures.steps.0 ∙ w.in-None-constructed.ensures.steps.0 ∙ w.in-None.ensures.steps.0) (w.in-None-contents_event.ensures.steps.1 ∙ w.in-None-constructed.ensures.steps.1 ∙ w.in-None.ensures.steps.1) (walked_event _ _ _ _ _ w.in-Event.ensures)) w.in_ok-go-in-Event.ensures.state _ w.in_ok-go-in-Event.ensures.puts);
+        walked = rw (w.walker-is, w.rest-is) (event_offset _ _ _ _ _ w.in-Event.ensures ∙ unmoved _ _ _ _ (w.in-None-contents_event.ensures.steps.0 ∙ w.in-None-constructed.ensures.steps.0 ∙ w.in-None.ensures.steps.0) (w.in-None-contents_event.ensures.steps.1 ∙ w.in-None-constructed.ensures.steps.1 ∙ w.in-None.ensures.steps.1) ∙ left_walked g.F.Follow.next g.D.Drain.state _ _ _ _ _ _ _ _ _ c.if-branch.false c.in_ok-follow_primitive.ensures.parts ∙ c.events.invariant.walked);
+      }
+    ]
+
+pub returns-in_err-follow_primitive-clause-stops : goal.returns-in_err-follow_primitive-clause-stops
+returns-in_err-follow_primitive-clause-stops g c =
+    let p = err_from_is_err_and c.from_residual.result c.from_residual.ensures.1 in rw p.1
+    (fails_both g.F.Follow.next g.D.Drain.state _ _ _ _ _ _ _ _ _ _ _ c.events.invariant.follows c.in_err-follow_primitive.ensures.parts)
+
+pub returns-in_err-go-in-Some-clause-stops : goal.returns-in_err-go-in-Some-clause-stops
+returns-in_err-go-in-Some-clause-stops g c =
+    let p = err_from_is_err_and c.from_residual-in_err-go-in-Some.result c.from_residual-in_err-go-in-Some.ensures.1 in
+    let left = follows_left g.F.Follow.next g.D.Drain.state _ _ _ _ _ _ _ _ _ _ _ _ _ c.events.invariant.follows c.if-branch.false c.in_ok-follow_primitive.ensures.parts in
+    rw p.1
+    (fails_event g.F.Follow.next g.D.Drain.state _ _ _ _ _ _ _ _ _ _ _ _ left (stands_all _ _ _ _ _ c.in-Some.ensures.yields) _ _ c.in_err-go-in-Some.ensures.puts)
+
+pub returns-in_err-go-in-Some-constructed-clause-stops : goal.returns-in_err-go-in-Some-constructed-clause-stops
+returns-in_err-go-in-Some-constructed-clause-stops g c =
+    let p = err_from_is_err_and c.from_residual-in_err-go-in-Some-constructed.result c.from_residual-in_err-go-in-Some-constructed.ensures.1 in
+    let left = follows_left g.F.Follow.next g.D.Drain.state _ _ _ _ _ _ _ _ _ _ _ _ _ c.events.invariant.follows c.if-branch.false c.in_ok-follow_primitive.ensures.parts in
+    let opened : WalksOver c.close.new.self c.constructed.new.self c.close.new.piece.now c.constructed.new.piece.now (Open c.new.result ∷ []) = rw c.new.ensures (stands_all _ _ _ _ _ c.in-Some-constructed.ensures.yields) in
+    rw p.1
+    (fails_event g.F.Follow.next g.D.Drain.state _ _ _ _ _ _ _ _ _ _ _ _ left (unmoved_event _ _ _ _ _ _ _ (c.in-None.ensures.steps.0) (c.in-None.ensures.steps.1) opened) _ _ c.in_err-go-in-Some-constructed.ensures.puts)
+
+pub returns-in_err-go-in-Some-contents_event-clause-stops : goal.returns-in_err-go-in-Some-contents_event-clause-stops
+returns-in_err-go-in-Some-contents_event-clause-stops g c =
+    let p = err_from_is_err_and c.from_residual-in_err-go-in-Some-contents_event.result c.from_residual-in_err-go-in-Some-contents_event.ensures.1 in
+    let left = follows_left g.F.Follow.next g.D.Drain.state _ _ _ _ _ _ _ _ _ _ _ _ _ c.events.invariant.follows c.if-branch.false c.in_ok-follow_primitive.ensures.parts in
+    rw p.1
+    (fails_event g.F.Follow.next g.D.Drain.state _ _ _ _ _ _ _ _ _ _ _ _ left (unmoved_event _ _ _ _ _ _ _ (c.in-None-constructed.ensures.steps.0 ∙ c.in-None.ensures.steps.0) (c.in-None-constructed.ensures.steps.1 ∙ c.in-None.ensures.steps.1) (stands_all _ _ _ _ _ c.in-Some-contents_event.ensures.yields)) _ _ c.in_err-go-in-Some-contents_event.ensures.puts)
+
+pub returns-in_err-go-in-Event-clause-stops : goal.returns-in_err-go-in-Event-clause-stops
+returns-in_err-go-in-Event-clause-stops g c =
+    let p = err_from_is_err_and c.from_residual-in_err-go-in-Event.result c.from_residual-in_err-go-in-Event.ensures.1 in
+    let left = follows_left g.F.Follow.next g.D.Drain.state _ _ _ _ _ _ _ _ _ _ _ _ _ c.events.invariant.follows c.if-branch.false c.in_ok-follow_primitive.ensures.parts in
+    rw p.1
+    (fails_event g.F.Follow.next g.D.Drain.state _ _ _ _ _ _ _ _ _ _ _ _ left (unmoved_event _ _ _ _ _ _ _ (c.in-None-contents_event.ensures.steps.0 ∙ c.in-None-constructed.ensures.steps.0 ∙ c.in-None.ensures.steps.0) (c.in-None-contents_event.ensures.steps.1 ∙ c.in-None-constructed.ensures.steps.1 ∙ c.in-None.ensures.steps.1) (walked_event _ _ _ _ _ c.in-Event.ensures)) _ _ c.in_err-go-in-Event.ensures.puts)
+
+pub returns-in-NeedMore-clause-stops : goal.returns-in-NeedMore-clause-stops
+returns-in-NeedMore-clause-stops g c =
+    stops_used_up g.F.Follow.next g.D.Drain.state _ _ _ _ _ _ _ _ _ c.step-next.new.piece.now (follows_left g.F.Follow.next g.D.Drain.state _ _ _ _ _ _ _ _ _ _ _ _ _ c.events.invariant.follows c.if-branch.false c.in_ok-follow_primitive.ensures.parts)
+    (unmoved_step c.contents_event.new.self _ c.step-next.new.self c.contents_event.new.piece.now _ c.step-next.new.piece.now step.NeedMore (c.in-None-contents_event.ensures.steps.0 ∙ c.in-None-constructed.ensures.steps.0 ∙ c.in-None.ensures.steps.0) (c.in-None-contents_event.ensures.steps.1 ∙ c.in-None-constructed.ensures.steps.1 ∙ c.in-None.ensures.steps.1) c.in-NeedMore.ensures)
+
+pub returns-in-Fault-clause-stops : goal.returns-in-Fault-clause-stops
+returns-in-Fault-clause-stops g c =
+    stops_fault g.F.Follow.next g.D.Drain.state _ _ _ _ _ _ _ _ _ _ _ (follows_left g.F.Follow.next g.D.Drain.state _ _ _ _ _ _ _ _ _ _ _ _ _ c.events.invariant.follows c.if-branch.false c.in_ok-follow_primitive.ensures.parts)
+    (unmoved_step c.contents_event.new.self _ c.step-next.new.self c.contents_event.new.piece.now _ c.step-next.new.piece.now (step.Fault c.in-Fault.fault) (c.in-None-contents_event.ensures.steps.0 ∙ c.in-None-constructed.ensures.steps.0 ∙ c.in-None.ensures.steps.0) (c.in-None-contents_event.ensures.steps.1 ∙ c.in-None-constructed.ensures.steps.1 ∙ c.in-None.ensures.steps.1) c.in-Fault.ensures)
+
+pub returns-then-eq-clause-stops : goal.returns-then-eq-clause-stops
+returns-then-eq-clause-stops g c =
+    let enough : c.match-close.go ≡ go.Enough = not_on _ (search rules) in
+    let left = follows_left g.F.Follow.next g.D.Drain.state _ _ _ _ _ _ _ _ _ _ _ _ _ c.events.invariant.follows c.if-branch.false c.in_ok-follow_primitive.ensures.parts in
+    elim c.match-close.branch [
+      | in-Some+in_ok-go-in-Some w ↦ rw (w.out-is, w.follower-is, w.walker-is, ← enough, w.go-is)
+          (_, follows_as g.F.Follow.next g.D.Drain.state _ _ _ _ _ _ _ _ _ _ (follows_event g.F.Follow.next g.D.Drain.state _ _ _ _ _ _ _ _ _ _ _ _ _ _ left (stands_all _ _ _ _ _ w.in-Some.ensures.yields) w.in_ok-go-in-Some.ensures.state _ w.in_ok-go-in-Some.ensures.puts), w.in-Some.ensures.steps.0.after_event)
+      | in-None+in-Some-constructed+in_ok-go-in-Some-constructed w ↦ let opened : WalksOver c.close.new.self w.constructed.new.self c.close.new.piece.now w.constructed.new.piece.now (Open w.new.result ∷ []) = rw w.new.ensures (stands_all _ _ _ _ _ w.in-Some-constructed.ensures.yields) in rw (w.out-is, w.follower-is, w.walker-is, ← enough, w.go-is)
+          (_, follows_as g.F.Follow.next g.D.Drain.state _ _ _ _ _ _ _ _ _ _ (follows_event g.F.Follow.next g.D.Drain.state _ _ _ _ _ _ _ _ _ _ _ _ _ _ left (unmoved_event _ _ _ _ _ _ _ (w.in-None.ensures.steps.0) (w.in-None.ensures.steps.1) opened) w.in_ok-go-in-Some-constructed.ensures.state _ w.in_ok-go-in-Some-constructed.ensures.puts), w.in-Some-constructed.ensures.steps.0.after_event)
+      | in-None+in-None-constructed+in-Some-contents_event+in_ok-go-in-Some-contents_event w ↦ rw (w.out-is, w.follower-is, w.walker-is, ← enough, w.go-is)
+          (_, follows_as g.F.Follow.next g.D.Drain.state _ _ _ _ _ _ _ _ _ _ (follows_event g.F.Follow.next g.D.Drain.state _ _ _ _ _ _ _ _ _ _ _ _ _ _ left (unmoved_event _ _ _ _ _ _ _ (w.in-None-constructed.ensures.steps.0 ∙ w.in-None.ensures.steps.0) (w.in-None-constructed.ensures.steps.1 ∙ w.in-None.ensures.steps.1) (stands_all _ _ _ _ _ w.in-Some-contents_event.ensures.yields)) w.in_ok-go-in-Some-contents_event.ensures.state _ w.in_ok-go-in-Some-contents_event.ensures.puts), w.in-Some-contents_event.ensures.steps.0.after_event)
+      | in-None+in-None-constructed+in-None-contents_event+in-Event+in_ok-go-in-Event w ↦ rw (w.out-is, w.follower-is, w.walker-is, ← enough, w.go-is)
+          (_, follows_as g.F.Follow.next g.D.Drain.state _ _ _ _ _ _ _ _ _ _ (follows_event g.F.Follow.next g.D.Drain.state _ _ _ _ _ _ _ _ _ _ _ _ _ _ left (unmoved_event _ _ _ _ _ _ _ (w.in-None-contents_event.ensures.steps.0 ∙ w.in-None-constructed.ensures.steps.0 ∙ w.in-None.ensures.steps.0) (w.in-None-contents_event.ensures.steps.1 ∙ w.in-None-constructed.ensures.steps.1 ∙ w.in-None.ensures.steps.1) (walked_event _ _ _ _ _ w.in-Event.ensures)) w.in_ok-go-in-Event.ensures.state _ w.in_ok-go-in-Event.ensures.puts), w.in-Event.ensures.phase)
+    ]

@@ -1,0 +1,56 @@
+-- What a walk over all that a source gives comes to.
+use Rattle.std.specs.List.{find}
+use Rattle.std.specs.Prelude.{◌≡◌, ℕ, Bool, true, false, not, List, [], ◌∷◌, flat_map, length, Some, Result, OnOk}
+use Rattle.tlv_head.specs.Header.{octets_of}
+use Rattle.tlv_walk.specs.declared.ending.Ending.{Ending}
+use Rattle.tlv_walk.specs.declared.follow.Go.{Go}
+use Rattle.tlv_walk.specs.declared.follow.Go.TheVariants as go
+use Rattle.tlv_walk.specs.declared.framing.Framing.{Framing}
+use Rattle.tlv_walk.specs.declared.run.DeviceFault.{DeviceFault}
+use Rattle.tlv_walk.specs.declared.run.Run.{Run}
+use Rattle.tlv_io.specs.Device.{DrainState, SourceState}
+use Rattle.tlv_walk.specs.Events.{Begin, Bytes, Close, Enter, EventValue, Open, Pad, Unused, events}
+use Rattle.tlv_walk.specs.Follow.{Effect, effect_of, followed_events}
+use Rattle.tlv_walk.specs.Forest.{Forest, spell}
+use Rattle.tlv_walk.specs.Job.{Job, Runs, drain_result}
+use Rattle.tlv_walk.specs.Inside.{is_among}
+use Rattle.tlv_walk.specs.Wrappers.{first_unused, wrapper_offsets}
+
+-- whether a follower had enough
+abbrev pub had_enough : Go → Bool
+had_enough go.On = false
+had_enough go.Enough = true
+
+-- the octets that an event is of
+abbrev pub event_octets : EventValue → List ℕ
+event_octets (Open h) = octets_of h
+event_octets (Begin h) = octets_of h
+event_octets (Enter h) = octets_of h
+event_octets (Bytes octets) = octets
+event_octets (Pad octets) = octets
+event_octets Unused = 0 ∷ []
+event_octets (Close (Some at)) = 0 ∷ 0 ∷ []
+event_octets e = []
+
+-- the run over a forest of which a follower followed these events: if it had enough, it ends after the last of them
+abbrev pub run_over : Framing → Forest → List EventValue → Go → Ending → Run
+run_over framing f es go.On e =
+    record { ending = e; octets = length (spell f); enough = false; unused = first_unused framing.inside f }
+run_over framing f es go.Enough e =
+    record { ending = e; octets = length (flat_map event_octets es); enough = true; unused = find (λ n. not (is_among n (wrapper_offsets es))) framing.inside }
+
+module _ {S : Type 0} (next : S → EventValue → Effect S) where
+  -- a walk, followed from this state on
+  abbrev pub drive_job : Framing → ℕ → S → Job Run
+  drive_job framing limit s = record {
+    framing = framing;
+    limit = limit;
+    text = λ f. (effect_of next s (events f)).put;
+    is_enough = λ f. had_enough (effect_of next s (events f)).goes;
+    answer = λ f e. run_over framing f (followed_events next s (events f)) (effect_of next s (events f)).goes e;
+  }
+
+  -- what it comes to, and the state that it leaves
+  pub record Drives (framing : Framing) (limit : ℕ) (s t : S) (old new : SourceState) (from to : DrainState) (result : Result Run DeviceFault) : Type 0 where
+    pub runs : Runs (drive_job framing limit s) old new from to result
+    pub state : OnOk (drain_result result) (t ≡ (effect_of next s (events runs.reading)).state)

@@ -1,0 +1,69 @@
+-- What a walker has read, also after it refused an octet.
+use Rattle.std.specs.Prelude.{◌≡◌, ℕ, List, ◌∷◌, ◌++◌, length}
+use Rattle.tlv_head.specs.declared.fault.Fault.{Fault}
+use Rattle.tlv_walk.specs.declared.ending.Ending.{Ending}
+use Rattle.tlv_walk.specs.declared.ending.Ending.TheVariants as ending
+use Rattle.tlv_walk.specs.declared.framing.Framing.{Framing}
+use Rattle.tlv_walk.specs.declared.event.Event.{Event}
+use Rattle.tlv_walk.specs.declared.event.Event.TheVariants as event
+use Rattle.tlv_walk.specs.Phase.{Failed}
+use Rattle.tlv_walk.specs.Ending.{IsEnding}
+use Rattle.tlv_walk.specs.Events.{AreEqualJoined, Begin, Bytes, Close, End, Enter, EventValue, Leave, Open, Pad, Unused, events}
+use Rattle.tlv_walk.specs.WalkerState.{WalkerState, first_unused_in}
+use Rattle.tlv_walk.specs.OpenCount.{open_count}
+use Rattle.tlv_walk.specs.Stands.{IsIdle, Stands}
+use Rattle.tlv_walk.specs.Forest.{Forest, spell}
+use Rattle.tlv_walk.specs.Reading.{IsReading}
+use Rattle.tlv_walk.specs.Wrappers.{first_unused}
+
+-- an event, apart from where its octets lie in memory
+abbrev pub event_value : Event → EventValue
+event_value (event.Open h) = Open h
+event_value (event.Begin h) = Begin h
+event_value (event.Bytes octets) = Bytes octets.now
+event_value event.End = End
+event_value (event.Close at) = Close at
+event_value (event.Enter h) = Enter h
+event_value event.Unused = Unused
+event_value event.Leave = Leave
+event_value (event.Pad octets) = Pad octets.now
+
+-- after p the octet is refused: the events yielded are those of the reading, which spells p, and reading and
+-- ending are the same whatever follows that octet
+pub record IsRefusedAfter (framing : Framing) (p : List ℕ) (octet : ℕ) (past : List EventValue) (f : Fault) : Type 0 where
+  pub reading : Forest
+  pub spelled : spell reading ≡ p
+  pub offset : f.offset ≡ length p
+  pub all_events : AreEqualJoined past (events reading)
+  pub stays : (c : List ℕ) → IsReading framing (p ++ octet ∷ c) reading
+  pub ends : (c : List ℕ) → IsEnding framing (p ++ octet ∷ c) (ending.Fault f)
+
+-- what a walker stands for that refused an octet: the octets before it, and the events yielded, which are all of their
+-- reading
+pub record StandsRefused (w : WalkerState) (b : List ℕ) (octet : ℕ) (past : List EventValue) (f : Fault) : Type 0 where
+  pub behind : IsRefusedAfter w.framing b octet past f
+  pub phase : w.phase ≡ Failed f
+  pub offset : w.offset ≡ length b
+  pub depth : length w.stack ≡ open_count behind.reading
+  pub unused : first_unused_in w ≡ first_unused w.framing.inside behind.reading
+
+-- what a walker has read: the octets that it took, and their reading. Once it refused an octet, these are the octets
+-- before that one
+pub data HasRead (w : WalkerState) (b : List ℕ) (reading : Forest) : Type 0 where
+  took : (past : List EventValue) (stands : Stands w b past) → stands.reading ≡ reading → HasRead w b reading
+  stopped : (x : ℕ) (past : List EventValue) (f : Fault) (stands : StandsRefused w b x past f) → stands.behind.reading ≡ reading
+      → HasRead w b reading
+
+-- a walker refused an octet of these, and yielded these events of the octets before it
+pub record StopsAt (w : WalkerState) (octets : List ℕ) (past : List EventValue) (f : Fault) : Type 0 where
+  pub front : List ℕ
+  pub octet : ℕ
+  pub rest : List ℕ
+  pub octets_is : front ++ octet ∷ rest ≡ octets
+  pub stands : StandsRefused w front octet past f
+
+-- where a walker stands that walked over these octets to the end, and yielded these events: after all octets, or at the
+-- octet that it refused
+pub data StandsAtEnd (w : WalkerState) (octets : List ℕ) (past : List EventValue) : Ending → Type 0 where
+  took_all : {e : Ending} → Stands w octets past → IsIdle w → StandsAtEnd w octets past e
+  refused_one : {f : Fault} → StopsAt w octets past f → StandsAtEnd w octets past (ending.Fault f)

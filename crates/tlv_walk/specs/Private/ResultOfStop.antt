@@ -1,0 +1,35 @@
+-- What a turn returns after a piece that was followed.
+use Rattle.std.specs.Prelude.{◌≡◌, ℕ, ◌<◌, Bool, true, false, List, Result, Ok, Err}
+use Rattle.tlv_walk.specs.declared.ending.Ending.{Ending}
+use Rattle.tlv_walk.specs.declared.ending.Ending.TheVariants as ending
+use Rattle.tlv_walk.specs.declared.run.DeviceFault.{DeviceFault}
+use Rattle.tlv_walk.specs.declared.run.DeviceFault.TheVariants.{InputTooLong}
+use Rattle.tlv_walk.specs.declared.run.Run.{Run}
+use Rattle.tlv_walk.specs.declared.run.Turn.{Turn}
+use Rattle.tlv_walk.specs.declared.run.Turn.TheVariants.{Again, Ended}
+use Rattle.tlv_walk.specs.declared.one_turn.Stop.{Stop}
+use Rattle.tlv_walk.specs.declared.one_turn.Stop.TheVariants as stop
+use Rattle.tlv_walk.specs.Ending.{IsEnding}
+use Rattle.tlv_walk.specs.Events.{EventValue}
+use Rattle.tlv_walk.specs.WalkerState.{WalkerState, first_unused_in}
+use Rattle.tlv_walk.specs.Stands.{Stands}
+
+-- a run that goes by these values
+pub record IsRun (run : Run) (e : Ending) (stopped : Bool) (v : WalkerState) : Type 0 where
+  pub ending : run.ending ≡ e
+  pub enough : run.enough ≡ stopped
+  pub octets : run.octets ≡ v.offset
+  pub unused : run.unused ≡ first_unused_in v
+
+-- the run of a walker that stands after the last octet of the input
+abbrev pub IsLastRun : Run → WalkerState → Type 0
+IsLastRun run v = (e : Ending) × IsRun run e false v × ((o : List ℕ) (past : List EventValue) → Stands v o past → IsEnding v.framing o e)
+
+-- what comes of a walker that stopped, if of so many octets that were read so many were followed
+abbrev pub IsResultOfStop : ℕ → ℕ → WalkerState → Stop → Result Turn DeviceFault → Type 0
+IsResultOfStop read followed v stop.Enough (Ok (Ended run)) = IsRun run ending.Done true v
+IsResultOfStop read followed v (stop.Fault f) (Ok (Ended run)) = IsRun run (ending.Fault f) false v
+IsResultOfStop read followed v stop.UsedUp (Err InputTooLong) = followed < read
+IsResultOfStop read followed v stop.UsedUp (Ok (Ended run)) = (followed < read → ⊥) × (read ≡ 0) × IsLastRun run v
+IsResultOfStop read followed v stop.UsedUp (Ok Again) = (followed < read → ⊥) × (read ≡ 0 → ⊥)
+IsResultOfStop read followed v why result = ⊥

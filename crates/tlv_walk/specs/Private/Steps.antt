@@ -1,0 +1,69 @@
+-- What the walker's own functions yield.
+use Rattle.std.specs.Prelude.{◌≡◌, ◌⊎◌, ℕ, List, [], ◌∷◌, ◌++◌, Option, Some, None}
+use Rattle.tlv_head.specs.declared.fault.Fault.{Fault}
+use Rattle.tlv_walk.specs.declared.ending.Ending.TheVariants as ending
+use Rattle.tlv_walk.specs.declared.event.Event.{Event}
+use Rattle.tlv_walk.specs.declared.event.Step.{Step}
+use Rattle.tlv_walk.specs.declared.event.Step.TheVariants as step
+use Rattle.tlv_walk.specs.Ending.{IsEnding}
+use Rattle.tlv_walk.specs.Events.{EventValue}
+use Rattle.tlv_walk.specs.WalkerState.{WalkerState}
+use Rattle.tlv_walk.specs.Private.WalkerState.{EventWaits, wrappers_after}
+use Rattle.tlv_walk.specs.Private.Zipper.{HasZipper, Zipper}
+use Rattle.tlv_walk.specs.Wrappers.{wrapper_offsets}
+use Rattle.tlv_walk.specs.StepsTo.{RefusesAgain}
+use Rattle.tlv_walk.specs.HasRead.{event_value}
+
+-- from whatever state the walker had, it came to one with these octets and events more
+pub record Continues (old new : WalkerState) (taken : List ℕ) (more : List EventValue) : Type 0 where
+  pub framing : new.framing ≡ old.framing
+  pub found : new.wrappers ≡ wrappers_after old.framing.inside old.wrappers (wrapper_offsets more)
+  pub goes : (b : List ℕ) (past : List EventValue) (s : Zipper) → HasZipper old b past s
+      → (t : Zipper) × HasZipper new (b ++ taken) (past ++ more) t
+
+-- octets were taken from the front of a piece, and these events were yielded
+pub record YieldsEvents (old new : WalkerState) (before after : List ℕ) (es : List EventValue) : Type 0 where
+  pub taken : List ℕ
+  pub piece : before ≡ taken ++ after
+  pub continues : Continues old new taken es
+
+-- the same of one event
+abbrev pub YieldsEvent : WalkerState → WalkerState → List ℕ → List ℕ → EventValue → Type 0
+YieldsEvent old new before after e = YieldsEvents old new before after (e ∷ [])
+
+-- after the octets b, of which these events were yielded, an octet is refused, whatever follows it: a walker has a state of
+-- these octets and events, and no event waits
+pub record RefusesAfter (old : WalkerState) (b : List ℕ) (octet : ℕ) (past : List EventValue) (f : Fault) : Type 0 where
+  pub walker : WalkerState
+  pub state : Zipper
+  pub has_state : HasZipper walker b past state
+  pub idle : EventWaits walker → ⊥
+  pub offset : f.offset ≡ walker.offset
+  pub ends : (c : List ℕ) → IsEnding old.framing (b ++ octet ∷ c) (ending.Fault f)
+  pub framing : walker.framing ≡ old.framing
+  pub stack : walker.stack ≡ old.stack
+
+-- the octet after those that were taken is refused
+pub record RefusesOctet (old : WalkerState) (before after : List ℕ) (f : Fault) : Type 0 where
+  pub taken : List ℕ
+  pub octet : ℕ
+  pub rest : List ℕ
+  pub before_is : before ≡ taken ++ octet ∷ rest
+  pub after_is : after ≡ octet ∷ rest
+  pub refuses : (b : List ℕ) (past : List EventValue) (s : Zipper) → HasZipper old b past s
+      → RefusesAfter old (b ++ taken) octet past f
+
+-- an octet is refused, or was refused before
+abbrev pub YieldsFault : WalkerState → WalkerState → List ℕ → List ℕ → Fault → Type 0
+YieldsFault old new before after f = RefusesOctet old before after f ⊎ RefusesAgain old new before after f
+
+-- what a call yields that may yield an event at once
+abbrev pub YieldsAtOnce : WalkerState → WalkerState → List ℕ → List ℕ → Option Event → Type 0
+YieldsAtOnce old new before after (Some e) = YieldsEvent old new before after (event_value e)
+YieldsAtOnce old new before after None = Unit {0}
+
+-- what a step yields
+abbrev pub YieldsStep : WalkerState → WalkerState → List ℕ → List ℕ → Step → Type 0
+YieldsStep old new before after (step.Event e) = YieldsEvent old new before after (event_value e)
+YieldsStep old new before after step.NeedMore = Continues old new before []
+YieldsStep old new before after (step.Fault f) = YieldsFault old new before after f

@@ -1,0 +1,177 @@
+-- What the walker's own functions require and return.
+use Rattle.std.specs.Prelude.{◌≡◌, ◌≢◌, ◌⊎◌, ℕ, ◌+◌, ◌^◌, ◌<◌, ◌≤◌, true, false, ◌||◌, eqb, if◌then◌else◌, slice_get, List, [], ◌∷◌, length, take, Option, Some, None}
+use Rattle.tlv_head.specs.declared.fault.Fault.{Fault as FaultOf}
+use Rattle.tlv_head.specs.declared.fault.FaultCode.{FaultCode}
+use Rattle.tlv_head.specs.Header.{HeaderValue, IsHeader, announced, holds, is_wrapper, octets_of}
+use Rattle.tlv_head.specs.HeadReaderState.{HeadReaderState}
+use Rattle.tlv_head.specs.Fields.{header_with}
+use Rattle.tlv_head.specs.ReadHeader.{BeginsWithFields}
+use Rattle.std.specs.Borrow.{Bor}
+use Rattle.std.specs.Option.{option_map, option_map_or}
+use Rattle.tlv_walk.specs.declared.event.Event.{Event}
+use Rattle.tlv_walk.specs.declared.event.Event.TheVariants as event
+use Rattle.tlv_walk.specs.declared.event.Step.{Step}
+use Rattle.tlv_walk.specs.declared.event.Step.TheVariants as step
+use Rattle.tlv_walk.specs.declared.event.Kind.{Kind}
+use Rattle.tlv_walk.specs.declared.event.Kind.TheVariants as kind
+use Rattle.tlv_head.specs.declared.header.HeaderFields.{HeaderFields}
+use Rattle.tlv_walk.specs.declared.walker.quick.WholePrimitive.{WholePrimitive}
+use Rattle.tlv_walk.specs.Inside.{is_among}
+use Rattle.tlv_walk.specs.Phase.{Phase, Between, InHeader, InContents, BeforeUnused, InEnd, Failed}
+use Rattle.tlv_walk.specs.Stack.{Frame, IsFilled, Within, bound_of}
+use Rattle.tlv_walk.specs.Private.Stack.{frame_with, room_in}
+use Rattle.tlv_walk.specs.WalkerState.{CanTake, HasOctets, IsAfterEvent, WalkerState}
+
+-- an event is to come that needs no further octet
+abbrev pub EventWaitsIn : Phase → List Frame → ℕ → Type 0
+EventWaitsIn Between stack offset = IsFilled stack offset
+EventWaitsIn (InHeader r) stack offset = ⊥
+EventWaitsIn (InContents left) stack offset = left ≡ 0
+EventWaitsIn BeforeUnused stack offset = ⊥
+EventWaitsIn InEnd stack offset = ⊥
+EventWaitsIn (Failed fault) stack offset = ⊥
+
+abbrev pub EventWaits : WalkerState → Type 0
+EventWaits w = EventWaitsIn w.phase w.stack w.offset
+
+-- an event was yielded, and the walker stands at this offset
+pub record YieldsAt (old new : WalkerState) (at : ℕ) : Type 0 where
+  pub offset : new.offset ≡ at
+  pub events : new.events ≡ old.events + 1
+  pub within : new.events ≤ new.offset
+  pub after_event : IsAfterEvent new.phase
+
+-- a header begins with the piece, inside the bound
+pub record CanBegin (w : WalkerState) (piece : List ℕ) : Type 0 where
+  pub phase : w.phase ≡ Between
+  pub first : ℕ
+  pub rest : List ℕ
+  pub octets : piece ≡ first ∷ rest
+  pub nonzero : first ≢ 0
+  pub room : room_in w.stack w.offset ≢ Some 0
+
+-- a header has begun
+abbrev pub HasBegunHeader : Phase → Type 0
+HasBegunHeader Between = ⊥
+HasBegunHeader (InHeader r) = Unit {0}
+HasBegunHeader (InContents left) = ⊥
+HasBegunHeader BeforeUnused = ⊥
+HasBegunHeader InEnd = ⊥
+HasBegunHeader (Failed fault) = ⊥
+
+-- the piece begins with octets of a header
+abbrev pub CanRead : WalkerState → List ℕ → Type 0
+CanRead w piece = CanBegin w piece ⊎ (HasBegunHeader w.phase × (piece ≢ []))
+
+-- the walker stands after the octets that the reader has; if those are none, a header begins with the piece
+pub record CanReadOn (w : WalkerState) (r : HeadReaderState) (piece : List ℕ) : Type 0 where
+  pub unfinished : r.done ≡ false
+  pub place : r.offset + length r.octets ≡ w.offset
+  pub fewer : w.events + length w.stack ≤ r.offset
+  pub first : (r.octets ≢ []) ⊎ CanBegin w piece
+
+-- so many octets were taken, and one event was yielded
+pub record YieldsOne (old new : WalkerState) (before after : List ℕ) : Type 0 where
+  pub taken : new.offset + length after ≡ old.offset + length before
+  pub events : new.events ≡ old.events + 1
+  pub within : new.events ≤ new.offset
+  pub after_event : IsAfterEvent new.phase
+
+-- all octets were taken, and no event was yielded nor waits
+pub record TakesAll (old new : WalkerState) (before after : List ℕ) : Type 0 where
+  pub taken : new.offset ≡ old.offset + length before
+  pub none_left : after ≡ []
+  pub events : new.events ≡ old.events
+  pub ready : CanTake new
+
+-- an octet was refused, and no element ended
+pub record Refuses (old new : WalkerState) (before after : List ℕ) (fault : FaultOf) : Type 0 where
+  pub taken : new.offset + length after ≡ old.offset + length before
+  pub events : new.events ≡ old.events
+  pub phase : new.phase ≡ Failed fault
+  pub framing : new.framing ≡ old.framing
+  pub wrappers : new.wrappers ≡ old.wrappers
+  pub stack : new.stack ≡ old.stack
+
+-- what a step took from the front of a piece
+abbrev pub Steps : WalkerState → WalkerState → List ℕ → List ℕ → Step → Type 0
+Steps old new before after (step.Event e) = YieldsOne old new before after × HasOctets e
+Steps old new before after step.NeedMore = TakesAll old new before after
+Steps old new before after (step.Fault f) = Refuses old new before after f
+
+-- what an event that came at once took from the front of a piece; nothing, if none came
+abbrev pub StepsAtOnce : WalkerState → WalkerState → List ℕ → List ℕ → Option Event → Type 0
+StepsAtOnce old new before after (Some e) = YieldsOne old new before after × HasOctets e
+StepsAtOnce old new before after None = (new ≡ old) × (after ≡ before)
+
+-- how many of the named offsets, from the first on, are wrappers' once one was found at this offset
+abbrev pub next_wrapper : List ℕ → ℕ → ℕ → ℕ
+next_wrapper inside k at = option_map_or (λ n. if eqb n at then k + 1 else k) (slice_get inside k) k
+
+-- the same, once wrappers were found at these offsets, one after another
+abbrev pub wrappers_after : List ℕ → ℕ → List ℕ → ℕ
+wrappers_after inside k [] = k
+wrappers_after inside k (at ∷ ats) = wrappers_after inside (next_wrapper inside k at) ats
+
+-- a header that may stand there, and of which the walker has taken a part at most
+pub record CanEnter (w : WalkerState) (h : HeaderValue) : Type 0 where
+  pub valid : IsHeader h
+  pub fewer : w.events + length w.stack ≤ h.offset
+  pub limit : h.offset + length (octets_of h) ≤ 2 ^ 40
+  pub shallow : holds h ≡ true → length w.stack < 128
+  pub fits : Within (bound_of w.stack) (h.offset + length (octets_of h) + announced h.size)
+
+abbrev pub fault_at : FaultCode → ℕ → FaultOf
+fault_at code offset = record { code = code; offset = offset }
+
+-- after a whole header
+abbrev pub after_header : WalkerState → Phase → ℕ → WalkerState
+after_header w phase at = record w { phase = phase; offset = at; events = w.events + 1; has_element = true }
+
+-- where a walker stands after a header
+abbrev pub Enters : WalkerState → WalkerState → HeaderFields → ℕ → Kind → Type 0
+Enters old new f at kind.Primitive =
+    ((f.constructed || is_wrapper f.named f.class f.constructed f.number f.size) ≡ false)
+    × (new ≡ after_header old (InContents (announced f.size)) at)
+Enters old new f at kind.Constructed =
+    (f.constructed ≡ true)
+    × (new ≡ record (after_header old Between at) {
+      stack = frame_with at (bound_of old.stack) f.size f.constructed ∷ old.stack;
+    })
+Enters old new f at kind.Wrapper =
+    (f.constructed ≡ false)
+    × (is_wrapper f.named f.class f.constructed f.number f.size ≡ true)
+    × (new ≡ record (after_header old (if eqb f.number 3 then BeforeUnused else Between) at) {
+      stack = frame_with at (bound_of old.stack) f.size f.constructed ∷ old.stack;
+      wrappers = next_wrapper old.framing.inside old.wrappers f.offset;
+    })
+
+-- a primitive that is not named, lies whole at the front of a piece, and may stand there
+pub record CanPass (w : WalkerState) (piece : List ℕ) (p : WholePrimitive) : Type 0 where
+  pub phase : w.phase ≡ Between
+  pub unnamed : is_among w.offset w.framing.inside ≡ false
+  pub begins : BeginsWithFields piece w.offset false p.fields p.header
+  pub primitive : p.fields.constructed ≡ false
+  pub octets : p.octets ≡ p.header + announced p.fields.size
+  pub within : p.octets ≤ length piece
+  pub fits : Within (bound_of w.stack) (w.offset + p.octets)
+
+-- its header
+abbrev pub header_at : WholePrimitive → List ℕ → HeaderValue
+header_at p piece = header_with p.fields (take p.header piece)
+
+-- the event of a constructed header that was taken, if one was
+abbrev pub open_event : Option (HeaderFields × Bor (List ℕ)) → Option Event
+open_event found = option_map (λ f. event.Open (header_with f.0 f.1.now)) found
+
+-- the event of the end of a constructed element that was taken, if one was: where its end-of-contents octets are, if it
+-- has any
+abbrev pub close_event : Option (Option ℕ) → Option Event
+close_event found = option_map event.Close found
+
+-- some octets were taken from the front of a piece, and some events yielded
+pub record Passes (old new : WalkerState) (before after : List ℕ) : Type 0 where
+  pub taken : new.offset + length after ≡ old.offset + length before
+  pub more : old.events < new.events
+  pub within : new.events ≤ new.offset
+  pub after_event : IsAfterEvent new.phase

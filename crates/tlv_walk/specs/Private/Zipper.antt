@@ -1,0 +1,154 @@
+-- The state of proofs: the open forest that a walker stands for, cut open at its open end.
+use Rattle.std.specs.Prelude.{◌≡◌, ℕ, ◌+◌, Bool, true, false, List, [], ◌∷◌, ◌++◌, length}
+use Rattle.tlv_head.specs.declared.header.Size.TheVariants.{Definite}
+use Rattle.tlv_head.specs.Header.{HeaderValue, octets_of}
+use Rattle.tlv_walk.specs.Stack.{Frame}
+use Rattle.tlv_walk.specs.declared.framing.Framing.{Framing}
+use Rattle.tlv_walk.specs.Phase.{Phase}
+use Rattle.tlv_walk.specs.Phase as phase
+use Rattle.tlv_walk.specs.Events.{AreEqualJoined, Begin, Bytes, Enter, EventValue, events, opening_events}
+use Rattle.tlv_walk.specs.Forest.{Forest, Awaiting, Begun, Zero, has_element, is_whole, opening, spell}
+use Rattle.tlv_walk.specs.Inside.{CanName, is_among}
+use Rattle.tlv_walk.specs.WalkerState.{WalkerState}
+use Rattle.tlv_walk.specs.Private.WalkerState.{wrappers_after}
+use Rattle.tlv_walk.specs.Private.Stack.{frame_with}
+use Rattle.tlv_walk.specs.Place.{Fits, IsEntry, IsHeadAt, IsOpen, Place, place_after, place_inside, top_place}
+use Rattle.tlv_walk.specs.Wrappers.{wrapper_at, wrapper_offsets, wrappers}
+
+-- an open element that holds others, and the whole elements before it in the element around it
+pub record Layer : Type 0 where
+  pub before : Forest
+  pub head : HeaderValue
+
+-- what is open after the whole elements of the innermost open element
+pub data Tail : Type 0 where
+  Between : Tail
+  -- contents octets so far, which may be all: the end is then still to be yielded
+  InContents : (head : HeaderValue) (contents : List ℕ) → Tail
+  -- a wrapping BIT STRING without its first contents octet
+  BeforeUnused : (head : HeaderValue) → Tail
+  -- the front of a header
+  InHeader : (octets : List ℕ) → Tail
+  -- the first of the end-of-contents octets
+  InEnd : Tail
+
+-- the open elements that hold others, innermost first; the whole elements in the innermost of them; and
+-- what is open after those
+pub record Zipper : Type 0 where
+  pub layers : List Layer
+  pub here : Forest
+  pub tail : Tail
+
+-- where the elements in the innermost open element begin
+abbrev pub place_in : Framing → List Layer → Place
+place_in w [] = top_place w
+place_in w (l ∷ ls) = place_inside (place_after (place_in w ls) (length (spell l.before))) l.head
+
+-- after the whole elements there
+abbrev pub place_of : Framing → Zipper → Place
+place_of w s = place_after (place_in w s.layers) (length (spell s.here))
+
+-- whole elements are there, and nothing is open
+pub record AreWhole (p : Place) (f : Forest) : Type 0 where
+  pub is_open : IsOpen p f
+  pub whole : is_whole f ≡ true
+
+-- each layer's elements are whole, and its header may stand after them
+abbrev pub AreLayers : Framing → List Layer → Type 0
+AreLayers w [] = Unit {0}
+AreLayers w (l ∷ ls) =
+    AreLayers w ls × AreWhole (place_in w ls) l.before
+    × IsEntry (place_after (place_in w ls) (length (spell l.before))) true l.head
+
+-- 8.1.3.3: a primitive of which so many contents octets are still to come
+pub record IsContents (p : Place) (h : HeaderValue) (c : List ℕ) (left : ℕ) : Type 0 where
+  pub header : IsHeadAt p false h
+  pub size : h.size ≡ Definite (length c + left)
+  pub fits : Fits p (length (octets_of h) + (length c + left))
+
+-- the frame of an element that is there
+abbrev pub frame_at : Place → HeaderValue → Frame
+frame_at p h = frame_with (p.at + length (octets_of h)) p.bound h.size h.constructed
+
+abbrev pub frames_of : Framing → List Layer → List Frame
+frames_of w [] = []
+frames_of w (l ∷ ls) = frame_at (place_after (place_in w ls) (length (spell l.before))) l.head ∷ frames_of w ls
+
+-- the frames of a state: a wrapping BIT STRING has one before its first contents octet
+abbrev pub stack_of : Framing → List Layer → Place → Tail → List Frame
+stack_of w ls p Between = frames_of w ls
+stack_of w ls p (InContents h c) = frames_of w ls
+stack_of w ls p (BeforeUnused h) = frame_at p h ∷ frames_of w ls
+stack_of w ls p (InHeader octets) = frames_of w ls
+stack_of w ls p InEnd = frames_of w ls
+
+-- the phase of a walker is what is open there
+abbrev pub IsPhaseOf : Phase → Tail → Place → Type 0
+IsPhaseOf phase.Between Between p = Unit {0}
+IsPhaseOf (phase.InHeader r) (InHeader octets) p =
+    (r.octets ≡ octets) × (r.offset ≡ p.at) × (r.named ≡ is_among p.at p.inside) × IsOpen p (Begun octets)
+IsPhaseOf (phase.InContents left) (InContents h c) p = IsContents p h c left
+IsPhaseOf phase.BeforeUnused (BeforeUnused h) p = IsOpen p (Awaiting h)
+IsPhaseOf phase.InEnd InEnd p = IsOpen p Zero
+IsPhaseOf f t p = ⊥
+
+-- the octets
+abbrev pub spell_layers : List Layer → List ℕ
+spell_layers [] = []
+spell_layers (l ∷ ls) = spell_layers ls ++ (spell l.before ++ opening l.head)
+
+abbrev pub spell_tail : Tail → List ℕ
+spell_tail Between = []
+spell_tail (InContents h c) = octets_of h ++ c
+spell_tail (BeforeUnused h) = octets_of h
+spell_tail (InHeader octets) = octets
+spell_tail InEnd = 0 ∷ []
+
+abbrev pub spell_zipper : Zipper → List ℕ
+spell_zipper s = spell_layers s.layers ++ (spell s.here ++ spell_tail s.tail)
+
+-- the events yielded: of a primitive and of an element that is filled, not yet the end
+abbrev pub events_layers : List Layer → List EventValue
+events_layers [] = []
+events_layers (l ∷ ls) = events_layers ls ++ (events l.before ++ opening_events l.head)
+
+abbrev pub events_tail : Tail → List EventValue
+events_tail Between = []
+events_tail (InContents h c) = Begin h ∷ Bytes c ∷ []
+events_tail (BeforeUnused h) = Enter h ∷ []
+events_tail (InHeader octets) = []
+events_tail InEnd = []
+
+abbrev pub events_zipper : Zipper → List EventValue
+events_zipper s = events_layers s.layers ++ (events s.here ++ events_tail s.tail)
+
+-- an octet of an element came
+abbrev pub begins_among : List Layer → Forest → Bool
+begins_among [] here = has_element here
+begins_among (l ∷ ls) here = true
+
+abbrev pub begins_element : List Layer → Forest → Tail → Bool
+begins_element layers here Between = begins_among layers here
+begins_element layers here (InContents h c) = true
+begins_element layers here (BeforeUnused h) = true
+begins_element layers here (InHeader octets) = true
+begins_element layers here InEnd = true
+
+-- the walker has this zipper: octets so far, frames, phase and counts are the zipper's
+pub record HasZipper (w : WalkerState) (b : List ℕ) (past : List EventValue) (s : Zipper) : Type 0 where
+  pub spelled : spell_zipper s ≡ b
+  pub offset : w.offset ≡ length b
+  pub stack : w.stack ≡ stack_of w.framing s.layers (place_of w.framing s) s.tail
+  pub layers : AreLayers w.framing s.layers
+  pub here : AreWhole (place_in w.framing s.layers) s.here
+  pub phase : IsPhaseOf w.phase s.tail (place_of w.framing s)
+  pub same_events : AreEqualJoined past (events_zipper s)
+  pub element : w.has_element ≡ begins_element s.layers s.here s.tail
+
+-- what proofs keep of a walker that stands for these octets and events: a state that it has, and the wrappers that it
+-- found
+pub record HasPrivateState (w : WalkerState) (b : List ℕ) (past : List EventValue) : Type 0 where
+  pub state : Zipper
+  pub has_state : HasZipper w b past state
+  pub named : CanName w.framing.inside
+  pub found : w.wrappers ≡ wrappers_after w.framing.inside 0 (wrapper_offsets past)

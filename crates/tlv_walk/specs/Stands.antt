@@ -1,0 +1,48 @@
+-- What a walker stands for: the octets that it took and the events that it yielded of them.
+use Rattle.std.specs.Prelude.{◌≡◌, ℕ, Bool, false, eqb, if◌then◌else◌, List, [], ◌∷◌, ◌++◌, Option, Some, None}
+use Rattle.tlv_walk.specs.Stack.{Frame}
+use Rattle.tlv_walk.specs.Phase.{Phase}
+use Rattle.tlv_walk.specs.Phase as phase
+use Rattle.tlv_walk.specs.Events.{AreEqualJoined, Close, End, EventValue, Leave, events}
+use Rattle.tlv_walk.specs.Forest.{Forest}
+use Rattle.tlv_walk.specs.WalkerState.{WalkerState}
+use Rattle.tlv_walk.specs.Private.Zipper.{HasPrivateState}
+use Rattle.tlv_walk.specs.Reading.{IsReading}
+
+-- 8.1.5: the end of an element that is filled
+abbrev pub ending_event : Frame → EventValue
+ending_event f = if f.wrapper then Leave else Close None
+
+abbrev pub is_end : Option ℕ → ℕ → Bool
+is_end None at = false
+is_end (Some e) at = eqb e at
+
+-- the ends of the elements that are filled at the offset, innermost first
+abbrev pub ending_events : ℕ → List Frame → List EventValue
+ending_events at [] = []
+ending_events at (f ∷ fs) = if is_end f.end at then ending_event f ∷ ending_events at fs else []
+
+-- the events that need no further octet
+abbrev pub waiting_events_in : Phase → List Frame → ℕ → List EventValue
+waiting_events_in phase.Between stack at = ending_events at stack
+waiting_events_in (phase.InHeader r) stack at = []
+waiting_events_in (phase.InContents left) stack at = if eqb left 0 then End ∷ ending_events at stack else []
+waiting_events_in phase.BeforeUnused stack at = []
+waiting_events_in phase.InEnd stack at = []
+waiting_events_in (phase.Failed fault) stack at = []
+
+abbrev pub waiting_events : WalkerState → List EventValue
+waiting_events w = waiting_events_in w.phase w.stack w.offset
+
+-- no event waits: none is to come that needs no further octet
+abbrev pub IsIdle : WalkerState → Type 0
+IsIdle w = waiting_events w ≡ []
+
+-- what a walker stands for that was refused nothing: octets, and the events yielded for them. Yielded and waiting
+-- together they are those of the reading
+pub record Stands (w : WalkerState) (b : List ℕ) (past : List EventValue) : Type 0 where
+  pub reading : Forest
+  pub is_reading : IsReading w.framing b reading
+  pub all_events : AreEqualJoined (past ++ waiting_events w) (events reading)
+  -- of use to proofs alone
+  pub private_state : HasPrivateState w b past

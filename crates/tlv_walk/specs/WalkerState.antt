@@ -1,0 +1,88 @@
+-- What contracts see of a `Walker`, which takes octets and yields events.
+use Rattle.std.specs.Prelude.{◌≡◌, ◌≢◌, ℕ, ◌+◌, ◌^◌, ◌≤◌, Bool, false, slice_get, List, [], length, Option}
+use Rattle.tlv_head.specs.HeadReaderState.{HeadReaderState}
+use Rattle.tlv_walk.specs.declared.event.Event.{Event}
+use Rattle.tlv_walk.specs.declared.event.Event.TheVariants as event
+use Rattle.tlv_walk.specs.declared.framing.Framing.{Framing}
+use Rattle.tlv_walk.specs.Phase.{Phase, Between, InHeader, InContents, BeforeUnused, InEnd, Failed}
+use Rattle.tlv_walk.specs.Stack.{Frame, IsFilled, IsInIndefinite, IsInWrapper, IsNested, Within, bound_of}
+
+pub record WalkerState : Type 0 where
+  -- the open elements, innermost first
+  pub stack : List Frame
+  -- what the next octet belongs to
+  pub phase : Phase
+  -- how many octets were taken, and how many events yielded
+  pub offset : ℕ
+  pub events : ℕ
+  pub framing : Framing
+  -- an octet of an element came
+  pub has_element : Bool
+  -- how many of the named offsets, from the first on, are those of wrappers
+  pub wrappers : ℕ
+
+abbrev pub new_walker : Framing → WalkerState
+new_walker framing =
+    record { stack = []; phase = Between; offset = 0; events = 0; framing = framing; has_element = false; wrappers = 0 }
+
+-- a header's octets so far are before the offset
+pub record IsInHeader (r : HeadReaderState) (at : ℕ) : Type 0 where
+  pub unfinished : r.done ≡ false
+  pub some : r.octets ≢ []
+  pub place : r.offset + length r.octets ≡ at
+
+-- by phase: an open element, a begun header and a lone 00 have octets that no event was yielded for
+abbrev pub IsPhase : Phase → List Frame → ℕ → ℕ → Type 0
+IsPhase Between stack offset events = events + length stack ≤ offset
+IsPhase (InHeader r) stack offset events = IsInHeader r offset × (events + length stack + length r.octets ≤ offset)
+IsPhase (InContents left) stack offset events = Within (bound_of stack) (offset + left) × (events + length stack + 1 ≤ offset)
+IsPhase BeforeUnused stack offset events = IsInWrapper stack × Within (bound_of stack) (offset + 1) × (events + length stack ≤ offset)
+IsPhase InEnd stack offset events = IsInIndefinite stack × (events + length stack + 1 ≤ offset)
+IsPhase (Failed fault) stack offset events = events + length stack ≤ offset
+
+pub record IsWalkerState (w : WalkerState) : Type 0 where
+  pub nested : IsNested w.stack
+  pub within : Within (bound_of w.stack) w.offset
+  pub limit : w.offset ≤ 2 ^ 40
+  pub fewer : length w.stack ≤ 128
+  pub phased : IsPhase w.phase w.stack w.offset w.events
+  pub named : length w.framing.inside ≤ 16
+  pub found : w.wrappers ≤ length w.framing.inside
+
+-- an octet can be taken: no event waits, and no octet was refused
+abbrev pub CanTakeIn : Phase → List Frame → ℕ → Type 0
+CanTakeIn Between stack offset = IsFilled stack offset → ⊥
+CanTakeIn (InHeader r) stack offset = Unit {0}
+CanTakeIn (InContents left) stack offset = left ≢ 0
+CanTakeIn BeforeUnused stack offset = Unit {0}
+CanTakeIn InEnd stack offset = Unit {0}
+CanTakeIn (Failed fault) stack offset = ⊥
+
+abbrev pub CanTake : WalkerState → Type 0
+CanTake w = CanTakeIn w.phase w.stack w.offset
+
+-- a phase in which an event was yielded for each octet taken: no header has begun, no end-of-contents octets, and no
+-- octet was refused
+abbrev pub IsAfterEvent : Phase → Type 0
+IsAfterEvent Between = Unit {0}
+IsAfterEvent (InHeader r) = ⊥
+IsAfterEvent (InContents left) = Unit {0}
+IsAfterEvent BeforeUnused = Unit {0}
+IsAfterEvent InEnd = ⊥
+IsAfterEvent (Failed fault) = ⊥
+
+-- parts of contents and of padding are not empty
+abbrev pub HasOctets : Event → Type 0
+HasOctets (event.Open h) = Unit {0}
+HasOctets (event.Begin h) = Unit {0}
+HasOctets (event.Bytes octets) = octets.now ≢ []
+HasOctets event.End = Unit {0}
+HasOctets (event.Close at) = Unit {0}
+HasOctets (event.Enter h) = Unit {0}
+HasOctets event.Unused = Unit {0}
+HasOctets event.Leave = Unit {0}
+HasOctets (event.Pad octets) = octets.now ≢ []
+
+-- the first of the named offsets that is not known to be a wrapper's
+abbrev pub first_unused_in : WalkerState → Option ℕ
+first_unused_in w = slice_get w.framing.inside w.wrappers

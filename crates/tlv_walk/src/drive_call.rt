@@ -1,0 +1,56 @@
+//! A walk over all that a source gives.
+ghost use Rattle.std.specs.Prelude.{◌≤◌, ◌^◌};
+ghost use Rattle.tlv_walk.specs.DriveJob.{Drives};
+
+use crate::one_turn::turn_to;
+use crate::{DeviceFault, Drain, Follow, Framing, INPUT_LIMIT, Out, Run, Source, Turn, Walker};
+
+/// How many octets are asked for with each read.
+const PIECE: usize = 4096;
+
+/// [`drive_up_to`], with the limit of 2^40 octets.
+///
+/// # Errors
+///
+/// As for [`drive_up_to`].
+pub fn drive<S: Source, F: Follow, D: Drain>(
+    source: &mut S,
+    follower: &mut F,
+    drain: &mut D,
+    framing: &Framing,
+) -> Result<Run, DeviceFault>
+    ensures { Drives F.next framing.now (2 ^ 40) follower.old follower.new
+        (S.state source.old) (S.state source.new) (D.state drain.old) (D.state drain.new) result }
+{
+    drive_up_to(source, follower, drain, INPUT_LIMIT, framing)
+}
+
+/// Reads the source until it ends, an octet is refused or the follower has enough, and lets the
+/// follower follow what is read. Makes no further read then; at most `limit` + 1 in all.
+///
+/// # Errors
+///
+/// `ReadFailed` exactly if the source's failures rose in the call, and `WriteFailed` exactly if
+/// the drain's did. `InputTooLong` if the source gave more octets than `limit`, and those up to
+/// the limit held neither a fault nor enough; they are followed and flushed.
+pub fn drive_up_to<S: Source, F: Follow, D: Drain>(
+    source: &mut S,
+    follower: &mut F,
+    drain: &mut D,
+    limit: u64,
+    framing: &Framing,
+) -> Result<Run, DeviceFault>
+    requires { limit ≤ 2 ^ 40 }
+    ensures { Drives F.next framing.now limit follower.old follower.new
+        (S.state source.old) (S.state source.new) (D.state drain.old) (D.state drain.new) result }
+{
+    let mut piece = [0; PIECE];
+    let mut walker = Walker::new(framing);
+    let mut out = Out::new(drain);
+    'turns: loop {
+        match turn_to(&mut walker, follower, source, &mut out, &mut piece, limit)? {
+            Turn::Again => {}
+            Turn::Ended(run) => return Ok(run),
+        }
+    }
+}

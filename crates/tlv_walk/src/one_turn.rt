@@ -1,0 +1,231 @@
+//! One read of a source, followed.
+ghost use Rattle.std.specs.Prelude.{◌≡◌, [], ◌+◌, ◌<◌, ◌≤◌, ◌^◌, IfOk, OnOk, length};
+ghost use Rattle.tlv_io.specs.Device.{failures_after};
+ghost use Rattle.tlv_walk.specs.Follow.{HasEffect};
+ghost use Rattle.tlv_walk.specs.Private.ResultOfStop.{IsResultOfStop, IsRun};
+ghost use Rattle.tlv_walk.specs.Private.FollowsPiece.{FollowsPartOrNone, Stops};
+ghost use Rattle.tlv_walk.specs.Laws.{AreOctets};
+ghost use Rattle.tlv_walk.specs.WalkerState.{CanTake};
+ghost use Rattle.tlv_io.specs.Out.{Puts, Sends, buffer_of, drain_of};
+ghost use Rattle.tlv_walk.specs.HasRead.{event_value};
+ghost use Rattle.tlv_walk.specs.OneTurn.{FollowsOneRead, turn_state};
+
+use crate::{
+    DeviceFault, Drain, Ending, Event, Follow, Go, Out, Run, Source, Step, Turn, Walker, WriteFault,
+};
+use tlv_head::{Fault, Header};
+
+/// Why a piece is not followed any further.
+#[derive(Clone, Copy)]
+enum Stop {
+    /// It is used up, and no event waits.
+    UsedUp,
+    Fault(Fault),
+    Enough,
+}
+
+/// Makes one read into `piece`, lets the follower follow what it gave, and flushes what that put.
+///
+/// `Again` comes if the octets held neither a fault nor enough for the follower, and were not the
+/// end; else `Ended`. The walker's octets count towards `limit`: of those that go past it none is
+/// walked over.
+///
+/// # Errors
+///
+/// `ReadFailed` exactly if the source's failures rose in the call, and `WriteFailed` exactly if
+/// the drain's did. `InputTooLong` if the source gave more octets than `limit`, and those up to
+/// the limit held neither a fault nor enough; they are followed and flushed.
+pub fn turn<F: Follow, S: Source, D: Drain>(
+    walker: &mut Walker,
+    follower: &mut F,
+    source: &mut S,
+    drain: &mut D,
+    piece: &mut [u8],
+    limit: u64,
+) -> Result<Turn, DeviceFault>
+    requires piece { (0 < length piece.old) × (length piece.old ≤ 4096) }
+    requires limit { limit ≤ 2 ^ 40 }
+    requires taken { walker.old.offset ≤ limit }
+    requires ready { CanTake walker.old }
+    ensures { FollowsOneRead F.next limit
+        (turn_state walker.old follower.old (S.state source.old) (D.state drain.old))
+        (turn_state walker.new follower.new (S.state source.new) (D.state drain.new))
+        piece.new result }
+{
+    let mut out = Out::new(drain);
+    turn_to(walker, follower, source, &mut out, piece, limit)
+}
+
+/// [`turn`], to an `Out` that holds nothing, and holds nothing again if more is to be read. So one `Out`
+/// serves a whole run, and need not be made for each read.
+pub(crate) fn turn_to<F: Follow, S: Source, D: Drain>(
+    walker: &mut Walker,
+    follower: &mut F,
+    source: &mut S,
+    out: &mut Out<'_, D>,
+    piece: &mut [u8],
+    limit: u64,
+) -> Result<Turn, DeviceFault>
+    requires piece { (0 < length piece.old) × (length piece.old ≤ 4096) }
+    requires limit { limit ≤ 2 ^ 40 }
+    requires taken { walker.old.offset ≤ limit }
+    requires ready { CanTake walker.old }
+    requires empty { buffer_of out.old ≡ [] }
+    ensures read { FollowsOneRead F.next limit
+        (turn_state walker.old follower.old (S.state source.old) (D.state (drain_of out.old).now))
+        (turn_state walker.new follower.new (S.state source.new) (D.state (drain_of out.new).now))
+        piece.new result }
+    ensures same_reference { (drain_of out.new).ghost_name ≡ (drain_of out.old).ghost_name }
+    ensures empty { IfOk result (λ t. t ≡ Turn.Again → buffer_of out.new ≡ []) }
+{
+    let Ok(count) = source.read(piece) else {
+        return Err(DeviceFault::ReadFailed);
+    };
+    let left = limit - walker.offset();
+    let walked = left.min(count as u64) as usize;
+    let Ok(stop) = follow_and_flush(walker, follower, &piece[..walked], out) else {
+        return Err(DeviceFault::WriteFailed);
+    };
+    result_of_stop(walker, stop, count, walked)
+}
+
+/// What a turn returns for this stop, if of `read` octets so many were followed.
+fn result_of_stop(walker: &Walker, stop: Stop, read: usize, followed: usize) -> Result<Turn, DeviceFault>
+    requires { stop ≡ Stop.UsedUp → CanTake walker.now }
+    ensures { IsResultOfStop read followed walker.now stop result }
+{
+    match stop {
+        Stop::Enough => Ok(Turn::Ended(run_of(walker, Ending::Done, true))),
+        Stop::Fault(fault) => Ok(Turn::Ended(run_of(walker, Ending::Fault(fault), false))),
+        Stop::UsedUp if followed < read => Err(DeviceFault::InputTooLong),
+        Stop::UsedUp if read == 0 => Ok(Turn::Ended(run_of(walker, walker.finish(), false))),
+        Stop::UsedUp => Ok(Turn::Again),
+    }
+}
+
+fn run_of(walker: &Walker, ending: Ending, enough: bool) -> Run
+    ensures { IsRun result ending enough walker.now }
+{
+    Run {
+        ending,
+        octets: walker.offset(),
+        enough,
+        unused: walker.unused(),
+    }
+}
+
+/// Walks over a piece, lets the follower follow each event, and hands all that it put to the drain.
+fn follow_and_flush<F: Follow, D: Drain>(
+    walker: &mut Walker,
+    follower: &mut F,
+    piece: &[u8],
+    out: &mut Out<'_, D>,
+) -> Result<Stop, WriteFault>
+    requires limit { walker.old.offset + length piece.now ≤ 2 ^ 40 }
+    requires empty { buffer_of out.old ≡ [] }
+    ensures stops { Stops F.next walker.old walker.new follower.old follower.new piece.now
+        (λ text. Sends (D.state (drain_of out.old).now) (D.state (drain_of out.new).now) text result) result }
+    ensures failed { (D.state (drain_of out.new).now).failures
+        ≡ failures_after result (D.state (drain_of out.old).now).failures }
+    ensures used_up { IfOk result (λ s. s ≡ Stop.UsedUp
+        → (walker.new.offset ≡ walker.old.offset + length piece.now) × CanTake walker.new) }
+    ensures octets { AreOctets piece.now }
+    ensures same_reference { (drain_of out.new).ghost_name ≡ (drain_of out.old).ghost_name }
+    ensures empty { OnOk result (buffer_of out.new ≡ []) }
+{
+    let stop = follow(walker, follower, piece, out)?;
+    out.flush()?;
+    Ok(stop)
+}
+
+/// Walks over a piece, and lets the follower follow each event.
+fn follow<F: Follow, D: Drain>(
+    walker: &mut Walker,
+    follower: &mut F,
+    piece: &[u8],
+    out: &mut Out<'_, D>,
+) -> Result<Stop, WriteFault>
+    requires { walker.old.offset + length piece.now ≤ 2 ^ 40 }
+    ensures stops { Stops F.next walker.old walker.new follower.old follower.new piece.now
+        (λ text. Puts D.state out.old out.new text result) result }
+    ensures same_reference { (drain_of out.new).ghost_name ≡ (drain_of out.old).ghost_name }
+    ensures failed { (D.state (drain_of out.new).now).failures
+        ≡ failures_after result (D.state (drain_of out.old).now).failures }
+    ensures used_up { IfOk result (λ s. s ≡ Stop.UsedUp
+        → (walker.new.offset ≡ walker.old.offset + length piece.now) × CanTake walker.new) }
+{
+    let mut rest = piece;
+    'events: loop {
+        if follow_primitive(walker, follower, &mut rest, out)? {
+            continue;
+        }
+        let go = match walker.close(&mut rest) {
+            Some(at) => follower.on(&Event::Close(at), out)?,
+            None => match walker.constructed(&mut rest) {
+                // Its event is made here, so that where it is inlined nothing is made of it that the follower does not look at.
+                Some((fields, octets)) => {
+                    follower.on(&Event::Open(Header::new(&fields, octets)), out)?
+                }
+                None => match walker.contents_event(&mut rest) {
+                    Some(event) => follower.on(&event, out)?,
+                    None => {
+                        // A copy is lent, so that `rest` itself stays in registers.
+                        let mut left = rest;
+                        let next = walker.step(&mut left);
+                        rest = left;
+                        match next {
+                            Step::Event(event) => follow_event(follower, &event, out)?,
+                            Step::NeedMore => return Ok(Stop::UsedUp),
+                            Step::Fault(fault) => return Ok(Stop::Fault(fault)),
+                        }
+                    }
+                },
+            },
+        };
+        if go == Go::Enough {
+            return Ok(Stop::Enough);
+        }
+    }
+}
+
+/// Follows a primitive with which the piece begins, at once: if its header has few octets, all of it is at hand, and
+/// the follower takes it so. Returns whether it was followed; otherwise nothing is taken.
+#[inline(always)]
+fn follow_primitive<F: Follow, D: Drain>(
+    walker: &mut Walker,
+    follower: &mut F,
+    piece: &mut &[u8],
+    out: &mut Out<'_, D>,
+) -> Result<bool, WriteFault>
+    requires { walker.old.offset + length piece.old.now ≤ 2 ^ 40 }
+    ensures parts { FollowsPartOrNone F.next walker.old walker.new follower.old follower.new piece.old.now piece.new.now
+        (λ text. Puts D.state out.old out.new text result) result }
+    ensures same_reference { (drain_of out.new).ghost_name ≡ (drain_of out.old).ghost_name }
+    ensures failed { (D.state (drain_of out.new).now).failures
+        ≡ failures_after result (D.state (drain_of out.old).now).failures }
+{
+    let octets = *piece;
+    let Some(primitive) = walker.primitive(octets) else {
+        return Ok(false);
+    };
+    let header = Header::new(&primitive.fields, &octets[..primitive.header]);
+    if !follower.whole(&header, &octets[..primitive.octets], out)? {
+        return Ok(false);
+    }
+    walker.pass(&primitive, piece);
+    Ok(true)
+}
+
+/// Lets the follower follow an event. It stands apart for the events that seldom come, so that the follower is inlined
+/// only where speed counts.
+#[inline(never)]
+fn follow_event<F: Follow, D: Drain>(
+    follower: &mut F,
+    event: &Event<'_>,
+    out: &mut Out<'_, D>,
+) -> Result<Go, WriteFault>
+    ensures puts { Puts D.state out.old out.new (F.next follower.old (event_value event.now)).put result }
+    ensures state { HasEffect (F.next follower.old (event_value event.now)) follower.new result }
+{
+    follower.on(event, out)
+}
