@@ -7,4 +7,5 @@ pub mod IndefText
 pub mod IndefStep
 pub mod IndefJob
 pub mod IndefReading
+pub mod IndefRun
 pub mod IndefLaws

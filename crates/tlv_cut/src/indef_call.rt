@@ -1,6 +1,5 @@
 //! The call `indef`: it reads a source and writes to a drain.
-ghost use Rattle.tlv_walk.specs.Job.{Runs};
-ghost use Rattle.tlv_cut.specs.IndefJob.{indef_job};
+ghost use Rattle.tlv_cut.specs.IndefRun.{RunsIndef};
 
 use crate::Indef;
 use tlv_walk::{DeviceFault, Drain, Ending, Framing, Inside, Source, drive};
@@ -10,6 +9,9 @@ use tlv_walk::{DeviceFault, Drain, Ending, Framing, Inside, Source, drive};
 ///
 /// It reads up to the end of the input, or to the first octet that is refused. If the input ends in
 /// a fault, no end-of-contents octets are written for the elements that are still open.
+///
+/// If the ending is `Done`, what was written is read, with the same `padding`, as the same elements with
+/// indefinite lengths. Its ending is `Done` too, and of it `indef` writes the same octets again.
 ///
 /// With `padding`, octets `00` may be between the encodings, and are written as they are.
 ///
@@ -24,7 +26,7 @@ pub fn indef<S: Source, D: Drain>(
     drain: &mut D,
     padding: bool,
 ) -> Result<Ending, DeviceFault>
-    ensures { Runs (indef_job padding)
+    ensures { RunsIndef padding
         (S.state source.old) (S.state source.new) (D.state drain.old) (D.state drain.new) result }
 {
     let framing = Framing {

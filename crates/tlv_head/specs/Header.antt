@@ -40,11 +40,12 @@ pub record IsHighForm (class : Class) (constructed : Bool) (number : ℕ) (octet
   pub last_digit : last < 128
   pub few : length digits ≤ 8
   pub value : number ≡ value_of 128 (digits ++ last ∷ [])
-  pub octet : octets ≡ leading_octet class constructed 31 ∷ (map (λ d. 128 + d) digits ++ last ∷ [])
+  pub octet : octets ≡ leading_octet class constructed 31 ∷ (with_bit_8 digits ++ last ∷ [])
 
 -- 8.1.2: identifier octets
 abbrev pub IsIdentifier : Class → Bool → ℕ → List ℕ → Type 0
-IsIdentifier class constructed number octets = IsLowForm class constructed number octets ⊎ IsHighForm class constructed number octets
+IsIdentifier class constructed number octets =
+    IsLowForm class constructed number octets ⊎ IsHighForm class constructed number octets
 
 -- 8.1.3.5: the number of octets that follow, 1 to 126, and the length in base 256, here below 2^40
 pub record IsLongForm (n : ℕ) (octets : List ℕ) : Type 0 where

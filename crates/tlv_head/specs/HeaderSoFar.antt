@@ -14,7 +14,9 @@ pub record IsNumberFront (class : Class) (constructed : Bool) (digits octets : L
   pub octet : octets ≡ leading_octet class constructed 31 ∷ with_bit_8 digits
 
 -- 8.1.3.5: identifier octets, the first length octet, and digits, of which so many are still to come
-pub record IsLengthFront (class : Class) (constructed : Bool) (number : ℕ) (identifier digits : List ℕ) (left : ℕ) (octets : List ℕ) : Type 0 where
+pub record IsLengthFront
+    (class : Class) (constructed : Bool) (number : ℕ) (identifier digits : List ℕ) (left : ℕ) (octets : List ℕ)
+    : Type 0 where
   pub identified : IsIdentifier class constructed number identifier
   pub each : All (λ d. d < 256) digits
   pub some : 1 ≤ left

@@ -19,4 +19,5 @@ pub record IsShort (f : HeaderFields) (count : ℕ) : Type 0 where
 -- no header with at most three identifier octets and three length octets is a front of the octets
 abbrev pub BeginsWithNoShort : List ℕ → Type 0
 BeginsWithNoShort octets =
-    (h : HeaderValue) (rest : List ℕ) → IsHeader h → octets ≡ octets_of h ++ rest → length h.identifier ≤ 3 → length h.lengths ≤ 3 → ⊥
+    (h : HeaderValue) (rest : List ℕ) → IsHeader h → octets ≡ octets_of h ++ rest
+    → length h.identifier ≤ 3 → length h.lengths ≤ 3 → ⊥

@@ -1,9 +1,9 @@
 -- The front of a header, and the octets that no header has after it: X.690 8.1.2 and 8.1.3.
-use Rattle.std.specs.Prelude.{◌≡◌, ◌≢◌, ℕ, ◌+◌, ◌<◌, ◌≤◌, Bool, false, List, [], ◌∷◌, ◌++◌, length, map, All}
+use Rattle.std.specs.Prelude.{◌≡◌, ◌≢◌, ℕ, ◌+◌, ◌<◌, ◌≤◌, Bool, false, List, [], ◌∷◌, ◌++◌, length, All}
 use Rattle.tlv_head.specs.declared.header.Class.{Class}
 use Rattle.tlv_head.specs.declared.fault.FaultCode.{FaultCode}
 use Rattle.tlv_head.specs.declared.fault.FaultCode.TheVariants.{TagTooLong, ReservedLength, IndefinitePrimitive, LengthTooLarge}
-use Rattle.tlv_head.specs.Header.{HeaderValue, IsHeader, IsIdentifier, leading_octet, octets_of}
+use Rattle.tlv_head.specs.Header.{HeaderValue, IsHeader, IsIdentifier, leading_octet, octets_of, with_bit_8}
 
 -- 8.1.2, 8.1.3: octets to which one or more others can be added to make a header
 pub record IsFront (octets : List ℕ) : Type 0 where
@@ -32,14 +32,21 @@ BeginsWithNoHeader octets = (h : HeaderValue) (rest : List ℕ) → IsHeader h �
 -- why the octet x is refused after the front of a header, wherever that is: a line for each cause
 pub data IsRefusedOctet (octets : List ℕ) (x : ℕ) : FaultCode → Type 0 where
   -- F06, 8.1.2.4.2: a ninth subsequent identifier octet with bit 8 set
-  tag_too_long : (class : Class) (constructed : Bool) (digits : List ℕ) → All (λ d. d < 128) digits → length digits ≡ 8
-      → octets ≡ leading_octet class constructed 31 ∷ map (λ d. 128 + d) digits → 128 ≤ x → IsRefusedOctet octets x TagTooLong
+  tag_too_long : (class : Class) (constructed : Bool) (digits : List ℕ)
+      → All (λ d. d < 128) digits → length digits ≡ 8
+      → octets ≡ leading_octet class constructed 31 ∷ with_bit_8 digits → 128 ≤ x
+      → IsRefusedOctet octets x TagTooLong
   -- F07, 8.1.3.5 c): a first length octet ff
-  reserved_length : (class : Class) (constructed : Bool) (number : ℕ) → IsIdentifier class constructed number octets → x ≡ 255
+  reserved_length : (class : Class) (constructed : Bool) (number : ℕ)
+      → IsIdentifier class constructed number octets → x ≡ 255
       → IsRefusedOctet octets x ReservedLength
   -- F08, 8.1.3.2 a): a first length octet 80 of a primitive
-  indefinite_primitive : (class : Class) (number : ℕ) → IsIdentifier class false number octets → x ≡ 128 → IsRefusedOctet octets x IndefinitePrimitive
+  indefinite_primitive : (class : Class) (number : ℕ)
+      → IsIdentifier class false number octets → x ≡ 128
+      → IsRefusedOctet octets x IndefinitePrimitive
   -- F09, 8.1.3.5: a length octet after the first, other than 00, that five or more are to follow
   length_too_large : (class : Class) (constructed : Bool) (number : ℕ) (identifier digits : List ℕ) (left : ℕ)
-      → IsIdentifier class constructed number identifier → All (λ d. d < 256) digits → octets ≡ identifier ++ (128 + (length digits + left)) ∷ digits
-      → length digits + left ≤ 126 → 6 ≤ left → x ≢ 0 → IsRefusedOctet octets x LengthTooLarge
+      → IsIdentifier class constructed number identifier → All (λ d. d < 256) digits
+      → octets ≡ identifier ++ (128 + (length digits + left)) ∷ digits
+      → length digits + left ≤ 126 → 6 ≤ left → x ≢ 0
+      → IsRefusedOctet octets x LengthTooLarge

@@ -32,15 +32,21 @@ pub record HasShorter (part : HeaderValue → List ℕ) (h : HeaderValue) : Type
 
 -- two headers of one tag and one size have the same octets if both are as short as these rules say
 abbrev pub ShortestHeadersAreOne : Type 0
-ShortestHeadersAreOne = (h g : HeaderValue) → IsHeader h → IsHeader g → HaveOneTag h g → h.size ≡ g.size → IsShortest h → IsShortest g
+ShortestHeadersAreOne =
+    (h g : HeaderValue) → IsHeader h → IsHeader g
+    → HaveOneTag h g → h.size ≡ g.size → IsShortest h → IsShortest g
     → (h.identifier ≡ g.identifier) × (h.lengths ≡ g.lengths)
 
 -- no other header of one tag and one size has fewer octets
 abbrev pub ShortestHeadersAreShortest : Type 0
-ShortestHeadersAreShortest = (h g : HeaderValue) → IsHeader h → IsHeader g → HaveOneTag h g → h.size ≡ g.size → IsShortest h
+ShortestHeadersAreShortest =
+    (h g : HeaderValue) → IsHeader h → IsHeader g
+    → HaveOneTag h g → h.size ≡ g.size → IsShortest h
     → (length h.identifier ≤ length g.identifier) × (length h.lengths ≤ length g.lengths)
 
--- each header but that of the universal primitive 0, whose low form would be 00, can be spelled as short as these rules say
+-- each header but that of the universal primitive 0, whose low form would be 00, can be spelled as short as these
+-- rules say
 abbrev pub HeadersHaveAShortest : Type 0
-HeadersHaveAShortest = (h : HeaderValue) → IsHeader h → leading_octet h.class h.constructed h.number ≢ 0
+HeadersHaveAShortest =
+    (h : HeaderValue) → IsHeader h → leading_octet h.class h.constructed h.number ≢ 0
     → (g : HeaderValue) × IsHeader g × HaveOneTag h g × (h.size ≡ g.size) × IsShortest g

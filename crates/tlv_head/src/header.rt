@@ -90,7 +90,8 @@ impl HeaderFields {
 
     /// [`Header::wraps`], of the header with these fields.
     pub fn wraps(&self) -> bool
-        ensures { result ≡ is_wrapper_of self.now.named self.now.class self.now.constructed self.now.number self.now.size }
+        ensures { result
+            ≡ is_wrapper_of self.now.named self.now.class self.now.constructed self.now.number self.now.size }
     {
         is_wrapper(
             self.named,
@@ -130,8 +131,9 @@ impl Header {
         }
     }
 
-    /// The header with these fields and octets, which are moved. ([`Header::new`] reads what it keeps of them from the slice
-    /// that it is given, so that nothing need be written if nobody asks for the octets.)
+    /// The header with these fields and octets, which are moved. ([`Header::new`] reads what it keeps
+    /// of them from the slice that it is given, so that nothing need be written if nobody asks for
+    /// the octets.)
     pub(crate) fn with_raw(fields: &HeaderFields, raw: ArrayVec<u8, 137>) -> Header
         requires { Suits fields.now raw.items }
         ensures { result ≡ header_with fields.now raw.items }

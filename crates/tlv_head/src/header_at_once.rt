@@ -12,7 +12,8 @@ use crate::{HeaderFields, Size};
 /// is cut into pieces goes through a [`HeadReader`].
 #[inline]
 pub fn read_header(offset: u64, named: bool, octets: &[u8]) -> Option<(HeaderFields, usize)>
-    ensures { MatchOption result (BeginsWithNoHeader octets.now) (λ found. BeginsWithFields octets.now offset named found.0 found.1) }
+    ensures { MatchOption result (BeginsWithNoHeader octets.now)
+        (λ found. BeginsWithFields octets.now offset named found.0 found.1) }
 {
     let mut part = Part::Start;
     for i in 0..octets.len() {
@@ -36,7 +37,8 @@ pub fn read_header(offset: u64, named: bool, octets: &[u8]) -> Option<(HeaderFie
 /// stands apart because most headers are so short, and few instructions read them.
 #[inline(always)]
 pub fn read_short(offset: u64, named: bool, octets: &[u8]) -> Option<(HeaderFields, usize)>
-    ensures begins { MatchOption result (BeginsWithNoShort octets.now) (λ found. BeginsWithFields octets.now offset named found.0 found.1) }
+    ensures begins { MatchOption result (BeginsWithNoShort octets.now)
+        (λ found. BeginsWithFields octets.now offset named found.0 found.1) }
     ensures short { IfSome result (λ found. IsShort found.0 found.1) }
 {
     let identifier = short_identifier(octets)?;
@@ -49,7 +51,8 @@ pub fn read_short(offset: u64, named: bool, octets: &[u8]) -> Option<(HeaderFiel
 /// that has an octet after it.
 #[inline(always)]
 fn short_identifier(octets: &[u8]) -> Option<Identifier>
-    ensures { MatchOption result (BeginsWithNoIdentifier octets.now) (λ id. BeginsWithIdentifier octets.now id × (id.octets ≤ 3)) }
+    ensures { MatchOption result (BeginsWithNoIdentifier octets.now)
+        (λ id. BeginsWithIdentifier octets.now id × (id.octets ≤ 3)) }
 {
     if octets.is_empty() || octets[0] == 0 {
         return None;

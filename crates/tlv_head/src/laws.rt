@@ -45,13 +45,14 @@ pub fn one_shortest_header()
     ensures { ShortestHeadersAreOne }
 {}
 
-/// No other header of that class, form, number and size has fewer identifier octets than such a one, or fewer length octets.
+/// No other header of that class, form, number and size has fewer identifier octets than such a one,
+/// or fewer length octets.
 pub fn no_shorter_header()
     ensures { ShortestHeadersAreShortest }
 {}
 
-/// Each header can be spelled as short as that, but the one of the universal primitive 0, whose identifier octet would be the
-/// `00` of end-of-contents octets (8.1.5).
+/// Each header can be spelled as short as that, but the one of the universal primitive 0, whose
+/// identifier octet would be the `00` of end-of-contents octets (8.1.5).
 pub fn some_shortest_header()
     ensures { HeadersHaveAShortest }
 {}

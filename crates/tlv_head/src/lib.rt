@@ -2,16 +2,16 @@
 //! octet at a time, the texts of tags, and the faults of an input.
 #![tactic(auto)]
 
-mod header_at_once;
 mod fault;
 mod header;
+mod header_at_once;
 pub mod laws;
 mod next_octet;
 mod reader;
 mod tag;
 
-pub use header_at_once::{read_header, read_short};
 pub use fault::{Fault, FaultCode};
 pub use header::{Class, Header, HeaderFields, Size, spell_indefinite};
+pub use header_at_once::{read_header, read_short};
 pub use reader::{Head, HeadReader};
 pub use tag::{padded_name, tag_text, type_name};

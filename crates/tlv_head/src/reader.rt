@@ -119,7 +119,8 @@ fn refused(code: FaultCode, offset: u64) -> Head
 
 /// Whether the element holds others: it is constructed, or a string that wraps encodings.
 fn holds(identifier: Identifier, size: Size, named: bool) -> bool
-    ensures { result ≡ (identifier.constructed || is_wrapper_of named identifier.class identifier.constructed identifier.number size) }
+    ensures { result ≡ (identifier.constructed
+        || is_wrapper_of named identifier.class identifier.constructed identifier.number size) }
 {
     identifier.constructed
         || is_wrapper(

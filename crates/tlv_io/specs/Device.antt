@@ -62,8 +62,8 @@ module _ {E : Type 0} where
     pub some : IfOk result (λ n. (0 < n) × (n ≤ length from))
     pub failures : new.failures ≡ failures_after result old.failures
 
--- reads of a source, one or more: the octets that each gave, and the last. Each but the last gave between one octet and 4096.
--- The last gave as many as the source says, or failed and gave none
+-- reads of a source, one or more: the octets that each gave, and the last. Each but the last gave between one octet
+-- and 4096. The last gave as many as the source says, or failed and gave none
 pub record Pieces (old new : SourceState) : Type 0 where
   pub pieces : List (List ℕ)
   pub last : List ℕ

@@ -27,7 +27,9 @@ module _ {T E : Type 0} where
 
   -- a call that puts octets to an `Out`. The drain takes a front of what was held and then these, and what it had stays
   -- in front of that; what it does not take is held. If the call fails that is lost, one octet or more
-  pub record Puts {D : Type 0} (state_of : D → DrainState) (old new : Out D) (octets : List ℕ) (result : Result T E) : Type 0 where
+  pub record Puts {D : Type 0} (state_of : D → DrainState)
+      (old new : Out D) (octets : List ℕ) (result : Result T E)
+      : Type 0 where
     pub same_reference : (drain_of new).ghost_name ≡ (drain_of old).ghost_name
     pub sent : List ℕ
     pub left : List ℕ

@@ -1,15 +1,16 @@
-//! Devices that octets come from and go to, and the octets on their way: what is read in pieces, gathered in lines, and written.
+//! Devices that octets come from and go to, and the octets on their way: what is read in pieces,
+//! gathered in lines, and written.
 #![tactic(auto)]
 
-mod drain;
 mod buffer;
+mod drain;
 mod memory;
 mod out;
 mod source;
 mod stream;
 
-pub use drain::{Drain, WriteFault};
 pub use buffer::Held;
+pub use drain::{Drain, WriteFault};
 pub use memory::{MemDrain, MemSource};
 pub use out::Out;
 pub use source::{ReadFault, Source};

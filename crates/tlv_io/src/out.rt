@@ -4,8 +4,8 @@ ghost use Rattle.std.specs.Prelude.{◌≡◌, ◌≤◌, ◌++◌, [], length, 
 ghost use Rattle.tlv_io.specs.LineTexts.{HasRoomFor};
 ghost use Rattle.tlv_io.specs.Out.{Puts, Sends, buffer_of, drain_of};
 
-use crate::drain::{Drain, WriteFault};
 use crate::buffer::{CAPACITY, Held};
+use crate::drain::{Drain, WriteFault};
 
 /// Room for the longest line: an element's, at level 255, with 64 octets of contents.
 const LINE: usize = 1024;

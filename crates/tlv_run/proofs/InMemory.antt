@@ -9,7 +9,7 @@ use Rattle.std.proofs.Math.Seq.{take-append-add, take-append_seam}
 use Rattle.std.specs.Prelude.{if◌then◌else◌, Option, Some, None, Result, Ok, Err, ⊤}
 use Rattle.std.specs.Io.KnownBytes.{Appends, Consumes, IsAtEnd}
 use Rattle.tlv_value.specs.Names.{Table}
-use Rattle.tlv_walk.proofs.FollowerLemmas.Enough.{ends_with, settled_by}
+use Rattle.tlv_walk.proofs.FollowerLemmas.Enough.{Settled, ends_with, returns, settled_by}
 use Rattle.tlv_io.proofs.Pieces.{GaveLast}
 use Rattle.tlv_walk.proofs.GrammarLemmas.Endings.{IsRefused, fault-halt}
 use Rattle.tlv_io.proofs.Puts.{more_left, sends_appends}
@@ -21,9 +21,9 @@ use Rattle.tlv_walk.specs.declared.run.DeviceFault.{DeviceFault}
 use Rattle.tlv_walk.specs.declared.run.DeviceFault.TheVariants.{ReadFailed, WriteFailed, InputTooLong}
 use Rattle.std.specs.List.{concat}
 use Rattle.tlv_io.specs.Device.{DrainState, Last, SourceState, failed, gave, never, new_source, next_count, octets_given}
-use Rattle.tlv_walk.specs.Ending.{IsEnding}
+use Rattle.tlv_walk.specs.Ending.{IsEnding, IsFinalEnding}
 use Rattle.tlv_walk.specs.Forest.{Forest, spell}
-use Rattle.tlv_walk.specs.Job.{AreSound, EndsWith, IsFinalEnding, Job, Runs}
+use Rattle.tlv_walk.specs.Job.{AreSound, EndsWith, Job, Runs}
 use Rattle.tlv_walk.specs.Laws.{AreOctets}
 use Rattle.tlv_io.specs.MemSource.{MemSourceState}
 use Rattle.tlv_io.specs.Out.{Sends}
@@ -158,19 +158,20 @@ module _ (job : Job ReportValue) (stays : Stays job)
     run_ok report x =
         let given : List ℕ = octets_given x.pieces in
         let left = left_of old.left new.left octets given known x.pieces.consumed in
-        let e : Ending = x.comes.0 in
+        let k = returns job given x.reading new (Ok report) x.comes in
+        let e : Ending = k.0 in
         let m : CommandResult = command_result job x.reading e in
         let b : List ℕ = take job.limit given in
-        let same : m.report ≡ report = sym x.comes.1 in
-        let y : MakesResult job b m = record { reading = x.reading; is_reading = x.is_reading; ends = ends_with job.framing b (job.is_enough x.reading) e (IsFinalEnding e ⊎ ((new.last ≡ gave 0) × IsAtEnd new.left)) x.comes.2; is_made = refl } in
+        let same : m.report ≡ report = sym k.1 in
+        let y : MakesResult job b m = record { reading = x.reading; is_reading = x.is_reading; ends = ends_with job.framing b (job.is_enough x.reading) e (Settled job given x.reading new e) k.2; is_made = refl } in
         let sent : written ≡ m.output = all_sent (job.text x.reading) x.sends in
         let front = take_front job.limit given left.0 in
         let is : seen ≡ b ++ front.0 = ap (take job.limit) left.2 ∙ front.1 in
-        let final : IsSettled y → RunsOctets job octets read_fails room written report = λ (k : IsSettled y).
-        let z = settled_stays job stays b front.0 m (subst AreOctets is (All-take (λ x. x < 256) job.limit octets all)) y k in
+        let final : IsSettled y → RunsOctets job octets read_fails room written report = λ (z : IsSettled y).
+        let z = settled_stays job stays b front.0 m (subst AreOctets is (All-take (λ x. x < 256) job.limit octets all)) y z in
         let z' : (z : MakesResult job seen m) × IsSettled z = subst (λ (o : List ℕ). (z : MakesResult job o m) × IsSettled z) (sym is) z in
         whole m report z'.0 sent (subst (λ (s : ReportValue). IsReport job octets read_fails z'.0 s) same (settled z'.1)) in
-        elim (settled_by job.framing b (job.is_enough x.reading) e (IsFinalEnding e ⊎ ((new.last ≡ gave 0) × IsAtEnd new.left)) x.comes.2) [
+        elim (settled_by job.framing b (job.is_enough x.reading) e (Settled job given x.reading new e) k.2) [
           | inl enough ↦ final (inl enough)
           | inr rest ↦ elim rest [
             | inl refused ↦ final (inr refused)
@@ -201,7 +202,7 @@ module _ (job : Job ReportValue) (stays : Stays job)
         let left = left_of old.left new.left octets given known x.pieces.consumed in
         let behind = fails (x.failures ∙ ap next_count quiet ∙ one_failure) in
         let none : left.0 ≡ [] = at_end new.left left.0 left.1 behind.1 in
-        let last : x.pieces.last ≡ [] = failed_none new.last x.pieces.last x.comes x.pieces.gave_last in
+        let last : x.pieces.last ≡ [] = failed_none new.last x.pieces.last (returns job given x.reading new (Err ReadFailed) x.comes) x.pieces.gave_last in
         let given_before : given ≡ before = ap (λ (l : List ℕ). before ++ l) last ∙ append-nil before in
         let is_given : octets ≡ given = left.2 ∙ ap (λ (l : List ℕ). given ++ l) none ∙ append-nil given in
         let few : length octets ≤ job.limit = omega (arith, x.within, ap length is_given, ap length given_before) in
@@ -216,12 +217,13 @@ module _ (job : Job ReportValue) (stays : Stays job)
     run_long x =
         let given : List ℕ = octets_given x.pieces in
         let left = left_of old.left new.left octets given known x.pieces.consumed in
-        let many : job.limit < length given = x.comes.0 in
+        let k = returns job given x.reading new (Err InputTooLong) x.comes in
+        let many : job.limit < length given = k.0 in
         let is : seen ≡ take job.limit given = ap (take job.limit) left.2 ∙ take-append-le job.limit given left.0 (omega (arith, many)) in
         let more : job.limit < length octets = omega (arith, many, ap length left.2, length-append given left.0) in
         unsettled_all x.reading (report_of_device InputTooLong)
         (subst (λ (o : List ℕ). IsReading job.framing o x.reading) (sym is) x.is_reading)
-        (subst (AreSound job) (sym is) x.comes.1)
+        (subst (AreSound job) (sym is) k.1)
         (all_sent (job.text x.reading) x.sends)
         (λ (made : CommandResult) y apart. too_long apart more)
 

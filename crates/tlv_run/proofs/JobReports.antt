@@ -3,8 +3,9 @@ use Rattle.std.proofs.Common.{◌≡◌, ℕ, List, ap}
 use Rattle.std.specs.Prelude.{Result, Ok, Err, MatchResult}
 use Rattle.tlv_walk.specs.declared.run.DeviceFault.{DeviceFault}
 use Rattle.tlv_walk.specs.declared.run.DeviceFault.TheVariants.{ReadFailed, WriteFailed, InputTooLong}
-use Rattle.tlv_io.specs.Device.{DrainState, SourceState}
-use Rattle.tlv_walk.specs.Job.{AreSound, Job, Runs}
+use Rattle.tlv_io.specs.Device.{DrainState, SourceState, octets_given}
+use Rattle.tlv_walk.specs.Job.{AreSound, Job, Runs, read_failed, too_long, write_failed}
+use Rattle.tlv_walk.proofs.FollowerLemmas.Enough.{comes_to, returns}
 use Rattle.tlv_run.specs.Report.{ReportValue, report_of, report_of_device}
 use Rattle.tlv_run.specs.Results.{job_with_report}
 use Rattle.tlv_run.specs.Runs.{RunsAndReports}
@@ -27,7 +28,9 @@ module _ {A : Type 0} (say : A → ReportValue) (job : Job A) where
         reading = x.reading;
         is_reading = x.is_reading;
         sends = x.sends;
-        comes = (x.comes.0, ap say x.comes.1, x.comes.2);
+        comes =
+            let k = returns job (octets_given x.pieces) x.reading new (Ok a) x.comes in
+            comes_to (job_with_report say job) (octets_given x.pieces) x.reading new (Ok (say a)) (k.0, ap say k.1, k.2);
       };
       report_is = e;
     }
@@ -41,7 +44,7 @@ module _ {A : Type 0} (say : A → ReportValue) (job : Job A) where
         reading = x.reading;
         is_reading = x.is_reading;
         sends = x.sends;
-        comes = x.comes;
+        comes = read_failed (returns job (octets_given x.pieces) x.reading new (Err ReadFailed) x.comes);
       };
       report_is = e;
     }
@@ -55,7 +58,7 @@ module _ {A : Type 0} (say : A → ReportValue) (job : Job A) where
         reading = x.reading;
         is_reading = x.is_reading;
         sends = x.sends;
-        comes = tt;
+        comes = write_failed;
       };
       report_is = e;
     }
@@ -69,7 +72,9 @@ module _ {A : Type 0} (say : A → ReportValue) (job : Job A) where
         reading = x.reading;
         is_reading = x.is_reading;
         sends = x.sends;
-        comes = (x.comes.0, sound_too _ x.comes.1);
+        comes =
+            let k = returns job (octets_given x.pieces) x.reading new (Err InputTooLong) x.comes in
+            too_long k.0 (sound_too _ k.1);
       };
       report_is = e;
     }

@@ -3,13 +3,13 @@ use Rattle.std.proofs.Common.{◌≡◌, ◌⊎◌, inl, inr, ℕ, ◌-◌, ◌^
 use Rattle.std.proofs.lemmas.List.{take_all}
 use Rattle.std.specs.Prelude.{Some, Result, Ok, Err}
 use Rattle.std.specs.Io.KnownBytes.{Appends, IsAtEnd}
-use Rattle.tlv_walk.proofs.FollowerLemmas.Enough.{ends_with, settled_by}
+use Rattle.tlv_walk.proofs.FollowerLemmas.Enough.{Settled, ends_with, returns, settled_by}
 use Rattle.tlv_io.proofs.Puts.{sends_appends}
 use Rattle.tlv_walk.specs.declared.ending.Ending.{Ending}
 use Rattle.tlv_walk.specs.declared.run.DeviceFault.{DeviceFault}
 use Rattle.tlv_walk.specs.declared.run.DeviceFault.TheVariants.{ReadFailed, WriteFailed, InputTooLong}
 use Rattle.tlv_io.specs.Device.{DrainState, SourceState, gave, next_count, octets_given}
-use Rattle.tlv_walk.specs.Job.{IsFinalEnding, Job, Runs}
+use Rattle.tlv_walk.specs.Job.{Job, Runs}
 use Rattle.tlv_walk.specs.Laws.{AreOctets}
 use Rattle.tlv_run.proofs.InMemory.{at_end, left_of}
 use Rattle.tlv_run.proofs.Results.{Stays, limit_is, settled_stays, stays_for}
@@ -34,23 +34,24 @@ module _ (job : Job ReportValue) (stays : Stays job) (octets : List ℕ) (all : 
   gives_ok report x =
       let given : List ℕ = octets_given x.pieces in
       let left = left_of old.left new.left octets given known x.pieces.consumed in
-      let e : Ending = x.comes.0 in
+      let k = returns job given x.reading new (Ok report) x.comes in
+      let e : Ending = k.0 in
       let m : CommandResult = command_result job x.reading e in
       let short : length given ≤ job.limit = omega (arith, few, ap length left.2, length-append given left.0) in
       let is : octets ≡ take job.limit given ++ left.0 = left.2 ∙ ap (λ (l : List ℕ). l ++ left.0) (sym (take_all job.limit given short)) in
-      let y : MakesResult job (take job.limit given) m = record { reading = x.reading; is_reading = x.is_reading; ends = ends_with job.framing (take job.limit given) (job.is_enough x.reading) e (IsFinalEnding e ⊎ ((new.last ≡ gave 0) × IsAtEnd new.left)) x.comes.2; is_made = refl } in
+      let y : MakesResult job (take job.limit given) m = record { reading = x.reading; is_reading = x.is_reading; ends = ends_with job.framing (take job.limit given) (job.is_enough x.reading) e (Settled job given x.reading new e) k.2; is_made = refl } in
       let sent : Appends from.octets to.octets m.output = sends_appends from to (job.text x.reading) tt x.sends in
-      let final : IsSettled y → Gives report = λ (k : IsSettled y).
-      let z = settled_stays job stays (take job.limit given) left.0 m (subst AreOctets is all) y k in
-      (m, subst (λ (o : List ℕ). MakesResult job o m) (sym is) z.0, sent, x.comes.1) in
-      elim (settled_by job.framing (take job.limit given) (job.is_enough x.reading) e (IsFinalEnding e ⊎ ((new.last ≡ gave 0) × IsAtEnd new.left)) x.comes.2) [
+      let final : IsSettled y → Gives report = λ (z : IsSettled y).
+      let z = settled_stays job stays (take job.limit given) left.0 m (subst AreOctets is all) y z in
+      (m, subst (λ (o : List ℕ). MakesResult job o m) (sym is) z.0, sent, k.1) in
+      elim (settled_by job.framing (take job.limit given) (job.is_enough x.reading) e (Settled job given x.reading new e) k.2) [
         | inl enough ↦ final (inl enough)
         | inr rest ↦ elim rest [
           | inl refused ↦ final (inr refused)
           | inr end ↦
               let none : left.0 ≡ [] = at_end new.left left.0 left.1 end.1 in
               let same : octets ≡ take job.limit given = is ∙ ap (λ (l : List ℕ). take job.limit given ++ l) none ∙ append-nil (take job.limit given) in
-              (m, subst (λ (o : List ℕ). MakesResult job o m) (sym same) y, sent, x.comes.1)
+              (m, subst (λ (o : List ℕ). MakesResult job o m) (sym same) y, sent, k.1)
         ]
       ]
 
@@ -61,7 +62,7 @@ module _ (job : Job ReportValue) (stays : Stays job) (octets : List ℕ) (all : 
   gives old_few quiet from_few took (Err WriteFailed) x = absurd (goes_up from.failures from_few (sym x.sends.failures ∙ took))
   gives old_few quiet from_few took (Err InputTooLong) x =
       let left = left_of old.left new.left octets (octets_given x.pieces) known x.pieces.consumed in
-      absurd (omega (arith, few, x.comes.0, ap length left.2, length-append (octets_given x.pieces) left.0))
+      absurd (omega (arith, few, (returns job (octets_given x.pieces) x.reading new (Err InputTooLong) x.comes).0, ap length left.2, length-append (octets_given x.pieces) left.0))
 
 pub run_results : RunsAreResults
 unfolding Gives

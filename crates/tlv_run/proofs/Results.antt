@@ -16,14 +16,13 @@ use Rattle.tlv_walk.proofs.GrammarLemmas.Unique.{ending-unique, refused-for-good
 use Rattle.tlv_walk.specs.declared.ending.Ending.{Ending}
 use Rattle.tlv_walk.specs.declared.ending.Ending.TheVariants as ending
 use Rattle.tlv_walk.specs.declared.framing.Framing.{Framing}
-use Rattle.tlv_walk.specs.Ending.{IsEnding}
+use Rattle.tlv_walk.specs.Ending.{IsEnding, IsFinalEnding}
 use Rattle.tlv_walk.specs.Forest.{Forest}
-use Rattle.tlv_walk.specs.Job.{EndsWith, IsFinalEnding, Job}
+use Rattle.tlv_walk.specs.Job.{EndsWith, Job}
 use Rattle.tlv_walk.specs.Laws.{AreOctets}
 use Rattle.tlv_walk.specs.Reading.{IsPrefixOf, IsReading}
 use Rattle.tlv_run.specs.Laws.{InputsHaveOneResult, OutputsGoOn, SecondIndefIsTheFirst, SettledResultsStay}
-use Rattle.tlv_run.specs.Report.{ReportValue, report_of_cut}
-use Rattle.tlv_run.specs.Private.Report.{report_of_indef}
+use Rattle.tlv_run.specs.Report.{ReportValue, report_of_cut, report_of_indef}
 use Rattle.tlv_run.specs.Results.{CommandResult, IsSettled, MakesResult, command_job, command_result}
 use Rattle.tlv_run.specs.declared.command.Command.{Command}
 use Rattle.tlv_run.specs.declared.command.Command.TheVariants.{Check, Dump, Extract, Indef}

@@ -14,8 +14,7 @@ use Rattle.tlv_walk.specs.Ending.{IsEnding}
 use Rattle.tlv_walk.specs.Forest.{Forest}
 use Rattle.tlv_walk.specs.Job.{EndsWith}
 use Rattle.tlv_run.specs.Laws.{StatusesShowSoundness}
-use Rattle.tlv_run.specs.Report.{report_of_findings, report_of_unused, report_with}
-use Rattle.tlv_run.specs.Private.Report.{report_of_found}
+use Rattle.tlv_run.specs.Report.{report_of_findings, report_of_found, report_of_unused, report_with}
 use Rattle.tlv_run.specs.Results.{CommandResult, command_job}
 use Rattle.tlv_run.specs.declared.command.Command.{Command}
 use Rattle.tlv_run.specs.declared.command.Command.TheVariants.{Check, Dump, Extract, Indef}

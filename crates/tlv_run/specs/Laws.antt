@@ -14,35 +14,49 @@ use Rattle.tlv_run.specs.declared.command.Command.TheVariants.{Indef}
 
 -- an input has a result, and no other
 abbrev pub InputsHaveOneResult : Type 0
-InputsHaveOneResult = (command : Command) (names : Table) (b : List ℕ) → AreOctets b
-    → (made : CommandResult) × IsResultOf command names b made × ((other : CommandResult) → IsResultOf command names b other → other ≡ made)
+InputsHaveOneResult =
+    (command : Command) (names : Table) (b : List ℕ) → AreOctets b
+    → (made : CommandResult)
+    × IsResultOf command names b made
+    × ((other : CommandResult) → IsResultOf command names b other → other ≡ made)
 
 -- at a fault other than F01 and F02, and if `extract` has its whole element, the result stays, whatever follows
 abbrev pub SettledResultsStay : Type 0
-SettledResultsStay = (command : Command) (names : Table) (b c : List ℕ) (made : CommandResult) → AreOctets (b ++ c)
+SettledResultsStay =
+    (command : Command) (names : Table) (b c : List ℕ) (made : CommandResult) → AreOctets (b ++ c)
     → (x : IsResultOf command names b made) → IsSettled x → IsResultOf command names (b ++ c) made
 
 -- what is written of an input, of no more octets than are read as encodings, goes on from what is written of its front
 abbrev pub OutputsGoOn : Type 0
-OutputsGoOn = (command : Command) (names : Table) (b c : List ℕ) (made more : CommandResult) → length (b ++ c) ≤ 2 ^ 40
-    → IsResultOf command names b made → IsResultOf command names (b ++ c) more → IsPrefixOf made.output more.output
+OutputsGoOn =
+    (command : Command) (names : Table) (b c : List ℕ) (made more : CommandResult) → length (b ++ c) ≤ 2 ^ 40
+    → IsResultOf command names b made → IsResultOf command names (b ++ c) more
+    → IsPrefixOf made.output more.output
 
 -- what `indef` wrote, read again by `indef`, is written unchanged; and if it ended without a fault it does so again
 abbrev pub SecondIndefIsTheFirst : Type 0
-SecondIndefIsTheFirst = (padding : Bool) (file : Option (List ℕ)) (names : Table) (b : List ℕ) (made again : CommandResult)
+SecondIndefIsTheFirst =
+    (padding : Bool) (file : Option (List ℕ)) (names : Table) (b : List ℕ) (made again : CommandResult)
     → IsResultOf (Indef padding file) names b made → IsResultOf (Indef padding file) names made.output again
     → (again.output ≡ made.output) × (made.ending ≡ Done → again ≡ made)
 
 -- what a run makes of a source that knows its octets, if neither device failed: the result of these octets
 abbrev pub RunsAreResults : Type 0
-RunsAreResults = (command : Command) (names : Table) (octets : List ℕ) (old new : SourceState) (from to : DrainState) (report : ReportValue)
+RunsAreResults =
+    (command : Command) (names : Table) (octets : List ℕ)
+    (old new : SourceState) (from to : DrainState) (report : ReportValue)
     → AreOctets octets → length octets ≤ 2 ^ 40 → old.left ≡ Some octets
-    → old.failures < 2 ^ 64 - 1 → new.failures ≡ old.failures → from.failures < 2 ^ 64 - 1 → to.failures ≡ from.failures
+    → old.failures < 2 ^ 64 - 1 → new.failures ≡ old.failures
+    → from.failures < 2 ^ 64 - 1 → to.failures ≡ from.failures
     → RunsAndReports (command_job command names) old new from to report
-    → (made : CommandResult) × IsResultOf command names octets made × Appends from.octets to.octets made.output × (report ≡ made.report)
+    → (made : CommandResult)
+    × IsResultOf command names octets made
+    × Appends from.octets to.octets made.output
+    × (report ≡ made.report)
 
 -- if no element is asked for, or it is not whole, the status 2 says just that the input is no sound list of encodings
 abbrev pub StatusesShowSoundness : Type 0
-StatusesShowSoundness = (command : Command) (names : Table) (b : List ℕ) (made : CommandResult) → (x : IsResultOf command names b made)
+StatusesShowSoundness =
+    (command : Command) (names : Table) (b : List ℕ) (made : CommandResult) (x : IsResultOf command names b made)
     → let job = command_job command names in job.is_enough x.reading ≡ false
     → (made.report.status ≡ 2) ↔ (IsSoundList job.framing b → ⊥)

@@ -18,7 +18,8 @@ module _ (job : Job ReportValue) (octets : List ℕ) (read_fails : Bool) where
     -- the input ends with the octets
     ended : read_fails ≡ false → length octets ≤ job.limit → IsReport x made.report
     -- after the octets a read failed
-    broken : (IsSettled x → ⊥) → read_fails ≡ true → length octets ≤ job.limit → IsReport x (report_of_device ReadFailed)
+    broken : (IsSettled x → ⊥) → read_fails ≡ true → length octets ≤ job.limit
+        → IsReport x (report_of_device ReadFailed)
     -- the octets are too many
     too_long : (IsSettled x → ⊥) → job.limit < length octets → IsReport x (report_of_device InputTooLong)
 

@@ -1,6 +1,7 @@
 -- What the program says of a run: the exit status, the number of findings, and the message.
-use Rattle.std.specs.Prelude.{◌∷◌, ⊤, ℕ, ◌==◌, if◌then◌else◌, List, [], ◌++◌, Option, Some, None, Result, Ok, Err, codes, decimal}
+use Rattle.std.specs.Prelude.{◌∷◌, ⊤, ℕ, Bool, ◌==◌, if◌then◌else◌, List, [], ◌++◌, Option, Some, None, Result, Ok, Err, codes, decimal}
 use Rattle.tlv_cut.specs.declared.extract_call.Cut.{Cut}
+use Rattle.tlv_head.specs.declared.fault.Fault.{Fault}
 use Rattle.tlv_head.specs.Fault.{fault_code, fault_text}
 use Rattle.tlv_show.specs.declared.outcome.Outcome.{Outcome}
 use Rattle.tlv_value.specs.declared.names.fault.NamesFault.{NamesFault}
@@ -28,9 +29,15 @@ report_with status message = record { status = status; findings = 0; message = m
 
 -- ---- what an input comes to. If there is nothing to say, the status is 0 and there is no message
 
--- a fault of the encoding, by its offset, its code and its text, takes precedence over what else there is to say
+-- a fault of the encoding, by its offset, its code and its text
+abbrev pub fault_line : Fault → List ℕ
+fault_line fault =
+    codes "fault at " ++ decimal fault.offset ++ codes ": "
+    ++ fault_code fault.code ++ codes " " ++ fault_text fault.code
+
+-- a fault takes precedence over what else there is to say
 abbrev pub report_of_ending : Ending → ReportValue → ReportValue
-report_of_ending (ending.Fault f) other = report_with 2 (codes "fault at " ++ decimal f.offset ++ codes ": " ++ fault_code f.code ++ codes " " ++ fault_text f.code)
+report_of_ending (ending.Fault f) other = report_with 2 (fault_line f)
 report_of_ending ending.Done other = other
 
 -- the first of the named offsets at which there is no string to read takes precedence over findings
@@ -44,11 +51,22 @@ report_of_findings n = if n == 0 then report_with 0 [] else report_with 1 (codes
 -- a dump or a check: the count stays, whatever is reported
 abbrev pub report_of_outcome : Outcome → ReportValue
 report_of_outcome outcome =
-    record (report_of_ending outcome.ending (report_of_unused outcome.unused (report_of_findings outcome.findings))) { findings = outcome.findings }
+    let other = report_of_unused outcome.unused (report_of_findings outcome.findings) in
+    record (report_of_ending outcome.ending other) { findings = outcome.findings }
+
+-- whether an element was found at this offset
+abbrev pub report_of_found : ℕ → Bool → ReportValue
+report_of_found offset found =
+    if found then report_with 0 []
+    else report_with 1 (codes "E4 no element at offset " ++ decimal offset)
 
 -- an extract of the element at this offset
 abbrev pub report_of_cut : ℕ → Cut → ReportValue
-report_of_cut offset cut = report_of_ending cut.ending (if cut.found then report_with 0 [] else report_with 1 (codes "E4 no element at offset " ++ decimal offset))
+report_of_cut offset cut = report_of_ending cut.ending (report_of_found offset cut.found)
+
+-- a copy that `indef` makes
+abbrev pub report_of_indef : Ending → ReportValue
+report_of_indef e = report_of_ending e (report_with 0 [])
 
 -- ---- devices
 

@@ -1,5 +1,5 @@
 -- What a command makes of an input.
-use Rattle.std.specs.Prelude.{◌≡◌, ◌⊎◌, ℕ, true, List, []}
+use Rattle.std.specs.Prelude.{◌≡◌, ◌⊎◌, ℕ, true, List}
 use Rattle.tlv_cut.specs.ExtractJob.{extract_job}
 use Rattle.tlv_cut.specs.IndefJob.{indef_job}
 use Rattle.tlv_show.specs.CheckJob.{check_job}
@@ -7,24 +7,31 @@ use Rattle.tlv_show.specs.DumpJob.{dump_job}
 use Rattle.tlv_value.specs.Names.{Table}
 use Rattle.tlv_walk.specs.declared.ending.Ending.{Ending}
 use Rattle.tlv_walk.specs.Forest.{Forest}
-use Rattle.tlv_walk.specs.Job.{EndsWith, IsFinalEnding, Job}
+use Rattle.tlv_walk.specs.Ending.{IsFinalEnding}
+use Rattle.tlv_walk.specs.Job.{EndsWith, Job}
 use Rattle.tlv_walk.specs.Reading.{IsReading}
-use Rattle.tlv_run.specs.Report.{ReportValue, report_of_cut, report_of_ending, report_of_outcome, report_with}
+use Rattle.tlv_run.specs.Report.{ReportValue, report_of_cut, report_of_indef, report_of_outcome}
 use Rattle.tlv_run.specs.declared.command.Command.{Command}
 use Rattle.tlv_run.specs.declared.command.Command.TheVariants.{Check, Dump, Extract, Indef}
 
 -- the same job, with the report of its answer in place of the answer
 abbrev pub job_with_report : {A : Type 0} → (A → ReportValue) → Job A → Job ReportValue
-job_with_report say job =
-    record { framing = job.framing; limit = job.limit; text = job.text; is_enough = job.is_enough; answer = λ f e. say (job.answer f e) }
+job_with_report say job = record {
+  framing = job.framing;
+  limit = job.limit;
+  text = job.text;
+  is_enough = job.is_enough;
+  answer = λ f e. say (job.answer f e);
+}
 
--- what each command wants of an input: what is written of its elements, when nothing more is wanted, and what is reported
+-- what each command wants of an input: what is written of its elements, when nothing more is wanted, and what is
+-- reported
 abbrev pub command_job : Command → Table → Job ReportValue
 command_job (Dump options names_file file) names = job_with_report report_of_outcome (dump_job options names)
 command_job (Check rules framing file) names = job_with_report report_of_outcome (check_job rules framing)
 command_job (Extract offset contents framing file) names =
     job_with_report (report_of_cut offset) (extract_job framing offset contents)
-command_job (Indef padding file) names = job_with_report (λ e. report_of_ending e (report_with 0 [])) (indef_job padding)
+command_job (Indef padding file) names = job_with_report report_of_indef (indef_job padding)
 
 -- what comes of an input: the octets written, its ending, and what is reported: status, number of findings, message
 pub record CommandResult : Type 0 where

@@ -13,8 +13,8 @@ pub fn runs_are_results()
     ensures { RunsAreResults }
 {}
 
-/// Nothing counts that follows a fault other than F01 and F02, or the whole element of `extract`: with whatever the input goes
-/// on, what is written and what is said stay.
+/// Nothing counts that follows a fault other than F01 and F02, or the whole element of `extract`:
+/// with whatever the input goes on, what is written and what is reported stay.
 pub fn settled_results_stay()
     ensures { SettledResultsStay }
 {}

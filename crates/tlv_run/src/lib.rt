@@ -2,8 +2,8 @@
 #![tactic(auto)]
 
 mod command;
-mod memory_devices;
 pub mod laws;
+mod memory_devices;
 mod message;
 mod octets;
 mod report;

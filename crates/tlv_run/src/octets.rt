@@ -20,9 +20,10 @@ pub struct Shown<const N: usize> {
 
 /// Runs the command over `octets`, with room for `N` octets of output.
 ///
-/// Read `i`, counted from 0, gives at most `cuts[i]` octets, where 0 counts as 1, and past the end of `cuts` as many as there
-/// is room for. After the octets the input ends, or a read fails. If there is room for all of the output, it is
-/// written, whatever the cuts; else the first `N` octets of it, and the report is that of a failed write.
+/// Read `i`, counted from 0, gives at most `cuts[i]` octets, or one if that is 0, and past the end of
+/// `cuts` as many as there is room for. After the octets the input ends, or a read fails. If there is
+/// room for all of the output, it is written, whatever the cuts; else the first `N` octets of it, and
+/// the report is that of a failed write.
 pub fn run_octets<const N: usize>(
     command: &Command,
     names: &Names,

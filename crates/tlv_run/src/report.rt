@@ -1,9 +1,7 @@
 //! What is reported of a run: the exit status and the message.
 ghost use Rattle.std.specs.Prelude.{◌≡◌, ◌+◌, ◌++◌, ◌≤◌, [], decimal, length};
-ghost use Rattle.tlv_run.specs.Report.{line_with, report_of, report_value, report_with};
-ghost use Rattle.tlv_run.specs.Private.Report.{fault_line};
+ghost use Rattle.tlv_run.specs.Report.{fault_line, line_with, report_of, report_of_found, report_of_indef, report_value, report_with};
 ghost use Rattle.tlv_run.specs.Report.{report_of_cut, report_of_ending, report_of_findings, report_of_outcome, report_of_unused};
-ghost use Rattle.tlv_run.specs.Private.Report.{report_of_found, report_of_indef};
 ghost use Rattle.tlv_run.specs.Report.{report_of_closed, report_of_device, report_of_names};
 
 use arrayvec::ArrayVec;
@@ -17,8 +15,9 @@ use tlv_walk::{DeviceFault, Ending};
 /// What a run came to.
 #[derive(Debug, Drop)]
 pub struct Report {
-    /// The exit status: 0 clean, 1 findings or nothing at an offset that was asked for, 2 a fault of the encoding, 3 a device
-    /// failed or the input is too long, 4 the words or the names file are refused, 5 memory was refused.
+    /// The exit status: 0 clean, 1 findings or nothing at an offset that was asked for, 2 a fault of
+    /// the encoding, 3 a device failed or the input is too long, 4 the words or the names file are
+    /// refused, 5 memory was refused.
     pub status: u8,
     /// The number of findings.
     pub findings: u64,

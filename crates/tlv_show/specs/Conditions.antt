@@ -1,10 +1,10 @@
 -- What is found in an element by the rules of X.690: each finding beside its condition, in the order of the codes.
 use Rattle.std.specs.Prelude.{ℕ, ◌+◌, ◌-◌, ◌%◌, Bool, false, ◌&&◌, ◌||◌, not, ◌==◌, nat_le, nat_lt, if◌then◌else◌, List, [], ◌∷◌, length, slice_index, Some, sum_by}
 use Rattle.std.specs.List.{list_all}
-use Rattle.tlv_head.specs.Header.{HeaderValue, announced, is_universal}
+use Rattle.tlv_head.specs.Header.{HeaderValue, announced}
 use Rattle.tlv_value.specs.declared.finding.Finding.{Finding}
 use Rattle.tlv_value.specs.declared.finding.Finding.TheVariants.{B01, B02, B03, B04, B05, B16, B17, S01, D01, D02, C01, C02, C03, C04, C05, C06}
-use Rattle.tlv_value.specs.Types.{bit_string, constructed_types, has_segments, is_a, is_one_of, is_primitive, is_string, octet_string, primitive_types}
+use Rattle.tlv_value.specs.Types.{bit_string, constructed_types, has_segments, is_a, is_one_of, is_primitive, is_string, is_unassigned, octet_string, primitive_types}
 use Rattle.tlv_walk.specs.Place.{is_indefinite}
 use Rattle.tlv_show.specs.Site.{Before, Sibling, Site, in_bit_string, in_string}
 
@@ -13,6 +13,18 @@ use Rattle.tlv_show.specs.Site.{Before, Sibling, Site, in_bit_string, in_string}
 -- 8.1.2.4: there are subsequent identifier octets
 abbrev pub has_high_form : HeaderValue → Bool
 has_high_form h = nat_lt 1 (length h.identifier)
+
+-- 8.1.2.4.2: bits 7 to 1 of the first of them
+abbrev pub leading_bits : HeaderValue → ℕ
+leading_bits h = slice_index h.identifier 1 % 128
+
+-- 8.1.3.5: there are subsequent length octets
+abbrev pub has_long_form : HeaderValue → Bool
+has_long_form h = nat_lt 1 (length h.lengths)
+
+-- the first of them
+abbrev pub first_length : HeaderValue → ℕ
+first_length h = slice_index h.lengths 1
 
 -- 8.6.2.2: a primitive BIT STRING with unused bits
 abbrev pub has_unused_bits : Before → Bool
@@ -29,9 +41,9 @@ header_conditions s h =
     -- 8.1.2.2: a number below 31 is in the single identifier octet
     (has_high_form h && nat_lt h.number 31, B01)
     -- 8.1.2.4.2 c): bits 7 to 1 of the first subsequent octet are not all 0
-    ∷ (has_high_form h && slice_index h.identifier 1 % 128 == 0, B02)
+    ∷ (has_high_form h && leading_bits h == 0, B02)
     -- X.680, table 1: the universal number is that of a type
-    ∷ (is_universal h.class && (h.number == 0 || h.number == 15 || nat_le 37 h.number), B03)
+    ∷ (is_unassigned h, B03)
     -- 8.2.1, 8.3.1, 8.4, 8.5.1, 8.8.1, 8.19.1, 8.20.1: the encodings of these types are primitive
     ∷ (h.constructed && is_one_of primitive_types h, B04)
     -- 8.9.1, 8.11.1, 8.17, 8.18, 8.24: the encodings of these types are constructed
@@ -40,8 +52,9 @@ header_conditions s h =
     ∷ (in_bit_string s && has_unused_bits s.before, B16)
     -- 8.6.4, 8.7.3: a segment has the tag of BIT STRING in a BIT STRING, and of OCTET STRING in any other string
     ∷ (in_string s && not (is_a (if in_bit_string s then bit_string else octet_string) h), B17)
-    -- 9.1, 10.1: a definite length has the fewest octets: those of the long form are for 128 and more, and do not begin with 00
-    ∷ (nat_lt 1 (length h.lengths) && (nat_lt (announced h.size) 128 || slice_index h.lengths 1 == 0), S01)
+    -- 9.1, 10.1: a definite length has the fewest octets: those of the long form are for 128 and more, and do not
+    -- begin with 00
+    ∷ (has_long_form h && (nat_lt (announced h.size) 128 || first_length h == 0), S01)
     -- 10.1: lengths are definite
     ∷ (is_indefinite h.size, D01)
     -- 10.2: strings are primitive
@@ -62,8 +75,8 @@ header_conditions s h =
 abbrev pub bits_octet : HeaderValue → ℕ
 bits_octet h = if is_a bit_string h then 1 else 0
 
--- 9.2: how many contents octets a string with these segments would have as a primitive: those of each segment but for its
--- octet for unused bits, and one such octet for the whole string
+-- 9.2: how many contents octets a string with these segments would have as a primitive: those of each segment but for
+-- its octet for unused bits, and one such octet for the whole string
 abbrev pub total : HeaderValue → List HeaderValue → ℕ
 total h segments = bits_octet h + sum_by (λ (g : HeaderValue). announced g.size - bits_octet h) segments
 
@@ -79,15 +92,3 @@ end_conditions h inside =
     -- 9.2: the last segment has one contents octet or more
     ∷ (has_segments h && ends_empty false inside, C06)
     ∷ []
-
--- ---- Words of proofs and of private functions alone
-
--- 8.1.3.5: there are subsequent length octets
-abbrev pub has_long_form : HeaderValue → Bool
-has_long_form h = nat_lt 1 (length h.lengths)
-
-abbrev pub leading_bits : HeaderValue → ℕ
-leading_bits h = slice_index h.identifier 1 % 128
-
-abbrev pub first_length : HeaderValue → ℕ
-first_length h = slice_index h.lengths 1

@@ -10,15 +10,16 @@ use Rattle.tlv_show.specs.declared.outcome.Outcome.{Outcome}
 use Rattle.tlv_show.specs.ShowJob.{show_job}
 use Rattle.tlv_show.specs.Texts.{dump_text, item_text}
 
--- all elements, as lines, with those of findings
-abbrev pub dump_job : Options → Table → Job Outcome
-dump_job options names = show_job options.framing options.rules (item_text (finite.get names) (record { level = 0; limit = options.limit; pure = options.pure }))
-
--- ---- Words of laws and proofs alone
-
 -- how the lines of the first elements are laid out
 abbrev pub top_layout : Options → Layout
 top_layout options = record { level = 0; limit = options.limit; pure = options.pure }
+
+-- all elements, as lines, with those of findings
+abbrev pub dump_job : Options → Table → Job Outcome
+dump_job options names =
+    show_job options.framing options.rules (item_text (finite.get names) (top_layout options))
+
+-- ---- A word of laws and proofs alone
 
 -- the text of a dump with these options
 abbrev pub dump_job_text : Options → Table → Forest → List ℕ

@@ -26,10 +26,18 @@ finding_lines s f = styled_lines (Dump s.lines.layout.pure) f.level f.at f.found
 
 -- what is found comes before the lines, or after them
 abbrev pub findings_first : DumpState → Finds → Effect LinesState → Effect DumpState
-findings_first s f d = record { state = record { lines = d.state; finder = f.state }; put = finding_lines s f ++ d.put; goes = On }
+findings_first s f d = record {
+  state = record { lines = d.state; finder = f.state };
+  put = finding_lines s f ++ d.put;
+  goes = On;
+}
 
 abbrev pub findings_last : DumpState → Finds → Effect LinesState → Effect DumpState
-findings_last s f d = record { state = record { lines = d.state; finder = f.state }; put = d.put ++ finding_lines s f; goes = On }
+findings_last s f d = record {
+  state = record { lines = d.state; finder = f.state };
+  put = d.put ++ finding_lines s f;
+  goes = On;
+}
 
 -- a contents octet, and an octet of padding
 abbrev pub dump_octet_step : DumpState → ℕ → Effect DumpState

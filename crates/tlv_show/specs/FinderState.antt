@@ -1,6 +1,5 @@
 -- What is kept of elements so that what is found in them can be reported event by event, and what is reported.
--- Nothing here is to be
--- believed: `Items` has what is reported, and a law has that it is the same.
+-- Nothing here is to be believed: `Items` has what is reported, and a law has that it is the same.
 use Rattle.std.specs.Prelude.{ℕ, ◌+◌, ◌-◌, ◌^◌, Bool, true, false, ◌&&◌, ◌||◌, not, ◌==◌, nat_le, nat_lt, if◌then◌else◌, List, [], ◌∷◌, ◌++◌, length, max, min, take, Option, Some, None}
 use Rattle.std.specs.List.{filter}
 use Rattle.tlv_head.specs.Header.{HeaderValue, announced}
@@ -136,7 +135,12 @@ count_up count n = max count (min (count + n) (2 ^ 64 - 1))
 
 -- findings are counted
 abbrev pub finds : FinderState → ℕ → ℕ → List Finding → Finds
-finds s level at found = record { state = record s { count = count_up s.count (length found) }; level = level; at = at; found = found }
+finds s level at found = record {
+  state = record s { count = count_up s.count (length found) };
+  level = level;
+  at = at;
+  found = found;
+}
 
 abbrev pub finds_nothing : FinderState → Finds
 finds_nothing s = record { state = s; level = 0; at = 0; found = [] }
@@ -145,7 +149,10 @@ finds_nothing s = record { state = s; level = 0; at = 0; found = [] }
 
 -- an element that holds others begins. Past 128 of them no frame is kept
 abbrev pub finder_inside : FinderState → HeaderValue → FinderState
-finder_inside s h = if nat_lt (length s.outer) 128 then record s { frame = frame_under s.frame h; outer = s.frame ∷ s.outer } else s
+finder_inside s h =
+    if nat_lt (length s.outer) 128
+    then record s { frame = frame_under s.frame h; outer = s.frame ∷ s.outer }
+    else s
 
 abbrev pub find_open : FinderState → HeaderValue → Finds
 find_open s h = finds (finder_inside s h) (length s.outer) h.offset (header_notes s.rules s.frame h)
@@ -169,20 +176,29 @@ find_bytes s octets = if length octets == 0 then s else record s { value = open_
 abbrev pub contents_notes : Rules → CheckState → List Finding
 contents_notes rules t = if t.left == 0 then filter (shows rules) (findings_in t) else []
 
+abbrev pub finder_after_value : FinderState → OpenValue → FinderState
+finder_after_value s v = record s {
+  frame = frame_after s.frame true v.check.size (has_unused v.check);
+  value = None;
+}
+
 abbrev pub find_value_end : FinderState → Option OpenValue → Finds
 find_value_end s None = finds_nothing s
-find_value_end s (Some v) =
-    finds (record s { frame = frame_after s.frame true v.check.size (has_unused v.check); value = None }) (length s.outer) v.at (contents_notes s.rules v.check)
+find_value_end s (Some v) = finds (finder_after_value s v) (length s.outer) v.at (contents_notes s.rules v.check)
 
 abbrev pub find_end : FinderState → Finds
 find_end s = find_value_end s s.value
 
--- an element that holds others ends
+-- an element that holds others ends, inside this frame and those around it
+abbrev pub finder_outside : FinderState → Frame → List Frame → FinderState
+finder_outside s w outer = record s {
+  frame = frame_after w s.frame.is_primitive s.frame.size false;
+  outer = outer;
+}
+
 abbrev pub find_frame_end : FinderState → List Frame → Finds
 find_frame_end s [] = finds_nothing s
-find_frame_end s (w ∷ outer) =
-    finds (record s { frame = frame_after w s.frame.is_primitive s.frame.size false; outer = outer }) (length outer) s.frame.at
-    (end_notes s.rules s.frame)
+find_frame_end s (w ∷ outer) = finds (finder_outside s w outer) (length outer) s.frame.at (end_notes s.rules s.frame)
 
 abbrev pub find_close : FinderState → Finds
 find_close s = find_frame_end s s.outer

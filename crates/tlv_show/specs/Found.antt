@@ -21,7 +21,7 @@ shows rules finding = list_any (eqb (slice_index (finding_wording finding).0 0))
 
 -- ---- Words of laws, proofs and private functions alone
 
--- with the header; with the last octet of a primitive; with the end of an element that holds others, by the headers of these
+-- with the header, and with the last octet of a primitive
 abbrev pub header_findings : Rules → Site → HeaderValue → List Finding
 header_findings rules s h = filter (shows rules) (findings_by (header_conditions s h))
 

@@ -40,13 +40,21 @@ module _ (rules : Rules) where
   -- its last
   abbrev pub items : Site → Forest → List Item
   -- a run of padding has one line
-  items s (Fill rest) = (if is_padding s.before then [] else PaddingLine s.level s.at ∷ []) ++ items (onward s 1 Padding) rest
-  items s (Whole h c rest) = finding_items s h (header_conditions s h) ++ (WholePrimitive s.level h c ∷ finding_items s h (contents_conditions h c)
+  items s (Fill rest) =
+      (if is_padding s.before then [] else PaddingLine s.level s.at ∷ [])
+      ++ items (onward s 1 Padding) rest
+  items s (Whole h c rest) =
+      finding_items s h (header_conditions s h)
+      ++ (WholePrimitive s.level h c ∷ finding_items s h (contents_conditions h c)
       ++ items (onward s (length (octets_of h) + length c) (Sibling h (slice_get c 0))) rest)
   items s (Closed h inside rest) =
-      finding_items s h (header_conditions s h) ++ (OpeningLine s.level h ∷ items (site_inside s h) inside
-      ++ (ClosingLine s.level (end_place h inside) ∷ finding_items s h (end_conditions h (heads inside)) ++ items (onward s (extent h inside) (Sibling h None)) rest))
+      finding_items s h (header_conditions s h)
+      ++ (OpeningLine s.level h ∷ items (site_inside s h) inside
+      ++ (ClosingLine s.level (end_place h inside) ∷ finding_items s h (end_conditions h (heads inside))
+      ++ items (onward s (extent h inside) (Sibling h None)) rest))
   items s (Partial h c) = finding_items s h (header_conditions s h) ++ OpenPrimitive s.level h c ∷ []
-  items s (Entered h inside) = finding_items s h (header_conditions s h) ++ OpeningLine s.level h ∷ items (site_inside s h) inside
+  items s (Entered h inside) =
+      finding_items s h (header_conditions s h)
+      ++ OpeningLine s.level h ∷ items (site_inside s h) inside
   items s (Awaiting h) = finding_items s h (header_conditions s h) ++ OpeningLine s.level h ∷ []
   items s _ = []

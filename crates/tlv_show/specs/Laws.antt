@@ -30,18 +30,28 @@ use Rattle.tlv_show.specs.DumpJob.{dump_job_text}
 
 -- the text of a longer input, of no more octets than are dumped, begins with that of the shorter
 abbrev pub DumpsGoOn : Type 0
-DumpsGoOn = (options : Options) (names : Table) (b c : List ℕ) (f g : Forest) → length (b ++ c) ≤ 2 ^ 40
-    → IsReading options.framing b f → IsReading options.framing (b ++ c) g → IsPrefixOf (dump_job_text options names f) (dump_job_text options names g)
+DumpsGoOn =
+    (options : Options) (names : Table) (b c : List ℕ) (f g : Forest) → length (b ++ c) ≤ 2 ^ 40
+    → IsReading options.framing b f → IsReading options.framing (b ++ c) g
+    → IsPrefixOf (dump_job_text options names f) (dump_job_text options names g)
 
 -- likewise what a check lists
 abbrev pub ChecksGoOn : Type 0
-ChecksGoOn = (rules : Rules) (framing : Framing) (b c : List ℕ) (f g : Forest) → length (b ++ c) ≤ 2 ^ 40
-    → IsReading framing b f → IsReading framing (b ++ c) g → IsPrefixOf (check_text rules f) (check_text rules g)
+ChecksGoOn =
+    (rules : Rules) (framing : Framing) (b c : List ℕ) (f g : Forest) → length (b ++ c) ≤ 2 ^ 40
+    → IsReading framing b f → IsReading framing (b ++ c) g
+    → IsPrefixOf (check_text rules f) (check_text rules g)
 
--- a primitive with as many contents octets as its header announces has the lines of its whole contents, between those of what
--- is found with its header and on its contents. Nothing of it is kept
+-- the lines of what is found on the contents of a primitive
+abbrev pub contents_finding_lines : DumpState → HeaderValue → List ℕ → List ℕ
+contents_finding_lines s h c =
+    styled_lines (Dump s.lines.layout.pure) (length s.finder.outer) h.offset (contents_findings s.finder.rules h c)
+
+-- a primitive with as many contents octets as its header announces has the lines of its whole contents, between those
+-- of what is found with its header and on its contents. Nothing of it is kept
 abbrev pub PrimitivesAreShown : Type 0
-PrimitivesAreShown = (s : DumpState) (h : HeaderValue) (c : List ℕ) → announced h.size ≡ length c
+PrimitivesAreShown =
+    (s : DumpState) (h : HeaderValue) (c : List ℕ) → announced h.size ≡ length c
     → (shown : DumpState)
     × (shown.lines.value ≡ None)
     × (shown.finder.value ≡ None)
@@ -51,19 +61,24 @@ PrimitivesAreShown = (s : DumpState) (h : HeaderValue) (c : List ℕ) → announ
       put =
           finding_lines s (find_begin s.finder h)
           ++ (whole_lines (finite.get s.lines.names) h s.lines.layout c
-          ++ styled_lines (Dump s.lines.layout.pure) (length s.finder.outer) h.offset (contents_findings s.finder.rules h c));
+          ++ contents_finding_lines s h c);
       goes = On;
     })
 
 -- a `Dump` puts the text of a reading of no more octets than are dumped, counts its findings, and never has enough
 abbrev pub DumpsMakeTexts : Type 0
-DumpsMakeTexts = (options : Options) (names : Table) (b : List ℕ) (f : Forest) → length b ≤ 2 ^ 40 → IsReading options.framing b f
+DumpsMakeTexts =
+    (options : Options) (names : Table) (b : List ℕ) (f : Forest)
+    → length b ≤ 2 ^ 40 → IsReading options.framing b f
     → let made = effect_of dump_step (new_dump options.rules (top_layout options) names) (events f) in
-    (made.put ≡ dump_job_text options names f) × (made.state.finder.count ≡ finding_count options.rules f) × (made.goes ≡ On)
+    (made.put ≡ dump_job_text options names f)
+    × (made.state.finder.count ≡ finding_count options.rules f)
+    × (made.goes ≡ On)
 
 -- likewise a `Check`
 abbrev pub ChecksMakeTexts : Type 0
-ChecksMakeTexts = (rules : Rules) (framing : Framing) (b : List ℕ) (f : Forest) → length b ≤ 2 ^ 40 → IsReading framing b f
+ChecksMakeTexts =
+    (rules : Rules) (framing : Framing) (b : List ℕ) (f : Forest) → length b ≤ 2 ^ 40 → IsReading framing b f
     → let made = effect_of check_step (new_finder rules) (events f) in
     (made.put ≡ check_text rules f) × (made.state.count ≡ finding_count rules f) × (made.goes ≡ On)
 
@@ -78,4 +93,6 @@ is_basic (PaddingLine level offset) = false
 
 -- what a check lists under BER is what it lists under other rules, but for the findings that these rules add
 abbrev pub BasicFindingsStay : Type 0
-BasicFindingsStay = (rules : Rules) (f : Forest) → check_text Ber f ≡ flat_map check_line (filter is_basic (items rules top_site f))
+BasicFindingsStay =
+    (rules : Rules) (f : Forest)
+    → check_text Ber f ≡ flat_map check_line (filter is_basic (items rules top_site f))

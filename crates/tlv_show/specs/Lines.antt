@@ -11,17 +11,19 @@ use Rattle.tlv_value.specs.Layout.{columns, line, no_columns}
 abbrev pub size_text : Size → List ℕ
 size_text size = option_map_or decimal (definite_length size) (codes "indef")
 
--- ---- Words of private functions and proofs alone
-
+-- a line with these first columns and this text
 abbrev pub text_line : Layout → List ℕ → List ℕ → List ℕ
 text_line layout first text = line layout.pure first layout.level text
 
 -- an element that holds others, with a word after its tag
 abbrev pub opening_line : Layout → HeaderValue → List ℕ → List ℕ
-opening_line layout h word = text_line layout (columns h.offset (size_text h.size)) (tag_text_of h.class h.number ++ word)
+opening_line layout h word =
+    text_line layout (columns h.offset (size_text h.size)) (tag_text_of h.class h.number ++ word)
 
+-- its end, with the offset of its end-of-contents octets, if it has them
 abbrev pub close_line : Layout → Option ℕ → List ℕ
-close_line layout offset = text_line layout (option_map_or (λ at. columns at (codes "end")) offset no_columns) (codes "}")
+close_line layout offset =
+    text_line layout (option_map_or (λ at. columns at (codes "end")) offset no_columns) (codes "}")
 
 abbrev pub padding_line : Layout → ℕ → List ℕ
 padding_line layout at = text_line layout (columns at (codes "pad")) (codes "padding")

@@ -48,16 +48,22 @@ past_header s h = record s { offset = offset_after h.offset (length (octets_of h
 
 -- an element that holds others begins
 abbrev pub lines_open_step : LinesState → HeaderValue → List ℕ → Effect LinesState
-lines_open_step s h word = put_lines (record (past_header s h) { layout = inner_layout s.layout }) (opening_line s.layout h word)
+lines_open_step s h word =
+    put_lines (record (past_header s h) { layout = inner_layout s.layout }) (opening_line s.layout h word)
 
 -- it ends
 abbrev pub lines_close_step : LinesState → Option ℕ → Effect LinesState
-lines_close_step s None = put_lines (record s { layout = outer_layout s.layout }) (close_line (outer_layout s.layout) None)
-lines_close_step s (Some at) = put_lines (record s { layout = outer_layout s.layout; offset = offset_after at 2 }) (close_line (outer_layout s.layout) (Some at))
+lines_close_step s None =
+    put_lines (record s { layout = outer_layout s.layout }) (close_line (outer_layout s.layout) None)
+lines_close_step s (Some at) =
+    put_lines (record s { layout = outer_layout s.layout; offset = offset_after at 2 })
+    (close_line (outer_layout s.layout) (Some at))
 
 -- a primitive begins
 abbrev pub lines_begin_step : LinesState → HeaderValue → Effect LinesState
-lines_begin_step s h = put_lines (record (past_header s h) { value = Some (new_text h s.layout) }) (begin_lines (new_text h s.layout))
+lines_begin_step s h =
+    put_lines (record (past_header s h) { value = Some (new_text h s.layout) })
+    (begin_lines (new_text h s.layout))
 
 -- contents octets: no more count than were announced
 abbrev pub value_after : Option TextState → List ℕ → Option TextState
@@ -70,7 +76,9 @@ value_contents_lines (Some t) octets = contents_lines t (take t.left octets)
 
 -- a contents octet
 abbrev pub lines_octet_step : LinesState → ℕ → Effect LinesState
-lines_octet_step s x = put_lines (record s { offset = offset_after s.offset 1; value = value_after s.value (x ∷ []) }) (value_contents_lines s.value (x ∷ []))
+lines_octet_step s x =
+    put_lines (record s { offset = offset_after s.offset 1; value = value_after s.value (x ∷ []) })
+    (value_contents_lines s.value (x ∷ []))
 
 -- a primitive ends, of which all contents octets have come
 abbrev pub value_end_lines : Table → Option TextState → List ℕ
@@ -82,7 +90,9 @@ lines_end_step s = put_lines (record s { value = None }) (value_end_lines s.name
 
 -- an octet of padding: the first of a run has a line
 abbrev pub lines_padding_step : LinesState → ℕ → Effect LinesState
-lines_padding_step s x = put_lines (record s { offset = offset_after s.offset 1; in_padding = true }) (if s.in_padding then [] else padding_line s.layout s.offset)
+lines_padding_step s x =
+    put_lines (record s { offset = offset_after s.offset 1; in_padding = true })
+    (if s.in_padding then [] else padding_line s.layout s.offset)
 
 -- an event
 abbrev pub lines_step : LinesState → EventValue → Effect LinesState

@@ -9,12 +9,17 @@ use Rattle.tlv_show.specs.Items.{Item, items}
 use Rattle.tlv_show.specs.Site.{top_site}
 use Rattle.tlv_show.specs.Texts.{is_finding}
 
--- the items of all elements are written, each with this text, and the findings are counted, whether they are written or not
+-- the items of all elements are written, each with this text, and the findings are counted, whether they are written
+-- or not
 abbrev pub show_job : Framing → Rules → (Item → List ℕ) → Job Outcome
 show_job framing rules text_of = record {
   framing = framing;
   limit = 2 ^ 40;
   text = λ f. flat_map text_of (items rules top_site f);
   is_enough = λ f. false;
-  answer = λ f e. record { ending = e; findings = count_by is_finding (items rules top_site f); unused = first_unused framing.inside f };
+  answer = λ f e. record {
+    ending = e;
+    findings = count_by is_finding (items rules top_site f);
+    unused = first_unused framing.inside f;
+  };
 }

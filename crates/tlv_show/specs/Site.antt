@@ -1,9 +1,9 @@
 -- Where an element is among others: X.690 8.1.1, 8.1.4.
-use Rattle.std.specs.Prelude.{ℕ, ◌+◌, Bool, true, false, ◌&&◌, List, length, Option, Some, None, slice_get}
+use Rattle.std.specs.Prelude.{ℕ, ◌+◌, Bool, true, false, ◌&&◌, length, Option, Some, None}
 use Rattle.std.specs.Option.{option_map_or}
-use Rattle.tlv_head.specs.Header.{HeaderValue, octets_of}
+use Rattle.tlv_head.specs.Header.{HeaderValue}
 use Rattle.tlv_value.specs.Types.{bit_string, has_segments, is_a}
-use Rattle.tlv_walk.specs.Forest.{Forest, extent, opening}
+use Rattle.tlv_walk.specs.Forest.{opening}
 
 -- what is right before an element, in what holds it
 pub data Before : Type 0 where
@@ -45,4 +45,3 @@ in_string s = option_map_or has_segments s.holder false
 
 abbrev pub in_bit_string : Site → Bool
 in_bit_string s = option_map_or (λ h. has_segments h && is_a bit_string h) s.holder false
-

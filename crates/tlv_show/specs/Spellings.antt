@@ -44,16 +44,20 @@ pub record IsWellSpelled (rules : Rules) (framing : Framing) (b : List ℕ) (f :
 
 -- by DER and by CER, two such inputs of elements alike are one, each read with the strings that are named in it
 abbrev pub OneSpelling : Type 0
-OneSpelling = (rules : Rules) (framing other : Framing) (b c : List ℕ) (f g : Forest) → rules ≢ Ber
+OneSpelling =
+    (rules : Rules) (framing other : Framing) (b c : List ℕ) (f g : Forest) → rules ≢ Ber
     → IsWellSpelled rules framing b f → IsWellSpelled rules other c g → AreAlike f g → b ≡ c
 
 -- by DER and by CER, the elements of a sound input have such a spelling, if none is the universal primitive 0, and
 -- the input has at most 2^38 octets, so that lengths stay below 2^40. In it the strings that hold elements are named,
 -- and no others; a user may name those offsets if those of the input may be named
 abbrev pub SomeSpelling : Type 0
-SomeSpelling = (rules : Rules) (framing : Framing) (b : List ℕ) (f : Forest) → rules ≢ Ber → length b ≤ 2 ^ 38
+SomeSpelling =
+    (rules : Rules) (framing : Framing) (b : List ℕ) (f : Forest) → rules ≢ Ber → length b ≤ 2 ^ 38
     → IsEnding framing b Done → IsReading framing b f → HaveLowForms f
-    → (c : List ℕ) × (g : Forest) × IsWellSpelled rules (record { inside = wrappers g; padding = framing.padding }) c g × AreAlike f g
+    → (c : List ℕ) × (g : Forest)
+    × IsWellSpelled rules (record { inside = wrappers g; padding = framing.padding }) c g
+    × AreAlike f g
     × (CanName framing.inside → CanName (wrappers g))
 
 -- a finding on the number of identifier octets, and on that of length octets
@@ -68,10 +72,13 @@ is_on_lengths finding = false
 
 -- B01 or B02 is found exactly if fewer identifier octets say the same. The universal primitive 0 alone has no low form
 abbrev pub LongerIdentifiersAreFound : Type 0
-LongerIdentifiersAreFound = (rules : Rules) (s : Site) (h : HeaderValue) → IsHeader h → leading_octet h.class h.constructed h.number ≢ 0
+LongerIdentifiersAreFound =
+    (rules : Rules) (s : Site) (h : HeaderValue)
+    → IsHeader h → leading_octet h.class h.constructed h.number ≢ 0
     → (list_any is_on_identifier (header_findings rules s h) ≡ true) ↔ HasShorter (λ k. k.identifier) h
 
 -- by DER and by CER, S01 is found exactly if fewer length octets say the same
 abbrev pub LongerLengthsAreFound : Type 0
-LongerLengthsAreFound = (rules : Rules) (s : Site) (h : HeaderValue) → rules ≢ Ber → IsHeader h
+LongerLengthsAreFound =
+    (rules : Rules) (s : Site) (h : HeaderValue) → rules ≢ Ber → IsHeader h
     → (list_any is_on_lengths (header_findings rules s h) ≡ true) ↔ HasShorter (λ k. k.lengths) h

@@ -6,9 +6,9 @@ use crate::outcome::Outcome;
 use crate::{Check, Rules};
 use tlv_walk::{DeviceFault, Drain, Framing, Source, drive};
 
-/// Lists what violates the rules in the encodings that the source gives, up to its end or the first octet that is
-/// refused. The line of a finding comes as soon as the octets allow: with the header of its element, with the last octet
-/// of a primitive, or with the end of an element that holds others.
+/// Lists what violates the rules in the encodings that the source gives, up to its end or the first
+/// octet that is refused. The line of a finding comes as soon as the octets allow: with the header of
+/// its element, with the last octet of a primitive, or with the end of an element that holds others.
 ///
 /// # Errors
 ///

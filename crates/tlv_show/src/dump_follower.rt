@@ -10,8 +10,8 @@ ghost use Rattle.tlv_show.specs.DumpJob.{top_layout};
 use crate::Options;
 use crate::contents::contents_in;
 use crate::finder::Finder;
-use crate::line_follower::Lines;
 use crate::finding_lines::put_findings;
+use crate::line_follower::Lines;
 use std::marker::Model;
 use tlv_head::Header;
 use tlv_value::{Layout, Names};
@@ -102,7 +102,11 @@ impl Follow for Dump<'_> {
 impl Dump<'_> {
     /// Writes the lines that an event allows.
     #[inline(always)]
-    fn write_lines<D: Drain>(&mut self, event: &Event<'_>, out: &mut Out<'_, D>) -> Result<(), WriteFault>
+    fn write_lines<D: Drain>(
+        &mut self,
+        event: &Event<'_>,
+        out: &mut Out<'_, D>,
+    ) -> Result<(), WriteFault>
         ensures state { OnOk result (self.new ≡ (dump_step self.old (event_value event.now)).state) }
         ensures puts { Puts D.state out.old out.new (dump_step self.old (event_value event.now)).put result }
     {

@@ -147,8 +147,9 @@ impl Finder {
         }
     }
 
-    /// Takes a primitive of which all contents are at hand: its header, its contents and its end. Returns whether nothing is
-    /// found with them, as far as a short look shows. If there may be findings, it takes nothing.
+    /// Takes a primitive of which all contents are at hand: its header, its contents and its end.
+    /// Returns whether nothing is found with them, as far as a short look shows. If there may be
+    /// findings, it takes nothing.
     #[inline(always)]
     pub fn passes(&mut self, header: &Header, contents: &[u8]) -> bool
         requires { announced header.now.size ≡ length contents.now }

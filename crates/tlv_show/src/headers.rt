@@ -18,7 +18,8 @@ pub(crate) fn has_high_form(header: &Header) -> bool
 /// Whether fewer length octets would do (9.1, 10.1).
 #[inline(always)]
 pub(crate) fn is_length_padded(header: &Header) -> bool
-    ensures { result ≡ (has_long_form header.now && (nat_lt (announced header.now.size) 128 || first_length header.now == 0)) }
+    ensures { result ≡ (has_long_form header.now
+        && (nat_lt (announced header.now.size) 128 || first_length header.now == 0)) }
 {
     let is_long = header.raw().len() > usize::from(header.id_len) + 1;
     is_long && (size_of(header) < 128 || header.length_octet() == 0)

@@ -24,8 +24,9 @@ pub fn checks_go_on()
     ensures { ChecksGoOn }
 {}
 
-/// A primitive is shown with all of its contents octets, by the definition of a value's lines, between what is found with its
-/// header and on its contents. Once it has ended nothing of it is kept.
+/// A primitive is shown with all of its contents octets, by the definition of a value's lines,
+/// between what is found with its header and on its contents. Once it has ended nothing of it is
+/// kept.
 pub fn primitives_are_shown()
     ensures { PrimitivesAreShown }
 {}
@@ -42,10 +43,11 @@ pub fn one_spelling()
     ensures { OneSpelling }
 {}
 
-/// Elements can be spelled by DER, and by CER: with those of each sound input agree, in the same way, those of one in which
-/// none of the five is found. In it the strings that hold elements are named, where they then stand, and no others; a user may
-/// name those offsets if those of the input may be named. This is said of inputs of at most 2^38 octets, where no primitive is
-/// the universal 0.
+/// Elements can be spelled by DER, and by CER: with those of each sound input agree, in the same way,
+/// those of one in which none of the five is found. In it the strings that hold elements are named,
+/// by the offsets that they then have, and no others; a user may name those offsets if those of the
+/// input may be named. This is said of inputs of at most 2^38 octets in which no primitive is the
+/// universal 0.
 pub fn some_spelling()
     ensures { SomeSpelling }
 {}

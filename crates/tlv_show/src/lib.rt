@@ -1,12 +1,13 @@
 //! What `dump` writes: a line for each element, and rows for the contents of a long primitive.
 #![tactic(auto)]
 
-mod check_follower;
 mod check_call;
+mod check_follower;
 mod contents;
 mod dump_call;
-mod finder;
 mod dump_follower;
+mod finder;
+mod finding_lines;
 mod frames;
 mod header_findings;
 mod headers;
@@ -17,10 +18,9 @@ mod nesting;
 mod options;
 mod outcome;
 mod rules;
-mod finding_lines;
 
-pub use check_follower::Check;
 pub use check_call::check;
+pub use check_follower::Check;
 pub use dump_call::dump;
 pub use dump_follower::Dump;
 pub use options::Options;

@@ -68,7 +68,8 @@ impl Nesting {
     #[inline(always)]
     pub fn frame(&self) -> &Frame
         ensures segments { result.now.has_segments ≡ self.now.frame.has_segments }
-        ensures notes { (rules : Rules) (h : HeaderValue) → header_notes rules result.now h ≡ header_notes rules self.now.frame h }
+        ensures notes { (rules : Rules) (h : HeaderValue)
+            → header_notes rules result.now h ≡ header_notes rules self.now.frame h }
     {
         &self.frame
     }

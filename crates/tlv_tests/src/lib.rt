@@ -1,4 +1,5 @@
-//! The tests of `tlv_head`, `tlv_walk`, `tlv_value`, `tlv_show`, `tlv_cut` and `tlv_run`, by what these crates make public.
+//! The tests of `tlv_head`, `tlv_walk`, `tlv_value`, `tlv_show`, `tlv_cut` and `tlv_run`, by what
+//! these crates make public.
 #![tactic(auto)]
 
 #[cfg(test)]

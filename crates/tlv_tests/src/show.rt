@@ -1,4 +1,4 @@
-//! Dumps of events, told one by one.
+//! Dumps of events, followed one by one.
 mod calls;
 mod turns;
 

@@ -101,7 +101,8 @@ fn show<N: NameTable>(
     Some(drain.written().len())
 }
 
-/// Puts the lines of a primitive whose contents come in pieces of `size` octets behind the first. The last may be empty.
+/// Puts the lines of a primitive whose contents come in pieces of `size` octets after the first. The
+/// last may be empty.
 fn put_pieces<N: NameTable, D: Drain>(
     text: &mut ValueText,
     front: &[u8],

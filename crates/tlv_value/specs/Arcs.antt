@@ -12,12 +12,18 @@ parts_of (x ∷ xs) = if nat_lt x 128 then (x ∷ []) ∷ parts_of xs else onto_
 abbrev pub subidentifiers : List ℕ → List ℕ
 subidentifiers octets = map (λ part. value_of 128 (map (λ x. x % 128) part)) (parts_of octets)
 
+-- 8.19.4: the two arcs that the first subidentifier stands for
+abbrev pub first_arcs : ℕ → List ℕ
+first_arcs v =
+    if nat_lt v 40 then 0 ∷ v ∷ []
+    else if nat_lt v 80 then 1 ∷ (v - 40) ∷ []
+    else 2 ∷ (v - 80) ∷ []
+
 -- 8.19.3, 8.20.3: the arcs; those of a relative object identifier are the subidentifiers
--- 8.19.4: else the first subidentifier stands for two arcs
 abbrev pub arcs_of : Bool → List ℕ → List ℕ
 arcs_of true vs = vs
 arcs_of false [] = []
-arcs_of false (v ∷ vs) = (if nat_lt v 40 then 0 ∷ v ∷ [] else (if nat_lt v 80 then 1 ∷ (v - 40) ∷ [] else 2 ∷ (v - 80) ∷ [])) ++ vs
+arcs_of false (v ∷ vs) = first_arcs v ++ vs
 
 -- there are octets, and bit 8 of the last is clear
 abbrev pub is_finished : List ℕ → Bool

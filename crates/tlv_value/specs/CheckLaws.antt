@@ -12,7 +12,9 @@ ChecksJoin = (s : CheckState) (x y : List ℕ) → check_after (check_after s x)
 
 -- at the end of the contents all findings on them are there, and no others
 abbrev pub FindingsEnd : Type 0
-FindingsEnd = (h : HeaderValue) (octets : List ℕ) → length octets ≡ announced h.size → findings_in (check_after (new_check h) octets) ≡ findings_on_contents h octets
+FindingsEnd =
+    (h : HeaderValue) (octets : List ℕ) → length octets ≡ announced h.size
+    → findings_in (check_after (new_check h) octets) ≡ findings_on_contents h octets
 
 -- contents are well-formed UTF-8 exactly if each of their rows is
 abbrev pub RowsAreFormed : Type 0

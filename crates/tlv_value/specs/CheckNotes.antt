@@ -28,7 +28,9 @@ front_octet n = slice_index n.front 0
 
 -- 8.2.1, 11.1
 abbrev pub boolean_findings : Notes → List Finding
-boolean_findings n = finding_if (not (eqb n.size 1)) B06 ++ finding_if (eqb n.size 1 && not (eqb (front_octet n) 0 || eqb (front_octet n) 255)) S02
+boolean_findings n =
+    finding_if (not (eqb n.size 1)) B06
+    ++ finding_if (eqb n.size 1 && not (eqb (front_octet n) 0 || eqb (front_octet n) 255)) S02
 
 -- 8.3.1, 8.3.2
 abbrev pub integer_findings : Notes → List Finding
@@ -58,12 +60,18 @@ object_findings n = finding_if (eqb n.size 0) B10 ++ relative_findings n
 abbrev pub time_findings : Bool → Bool → List Finding
 time_findings of_grammar is_canonical = if of_grammar then finding_if (not is_canonical) S04 else B19 ∷ []
 
+abbrev pub utc_time_findings : List ℕ → List Finding
+utc_time_findings octets = time_findings (has_form utc_time octets) (has_form canonical_utc_time octets)
+
+abbrev pub general_time_findings : List ℕ → List Finding
+general_time_findings octets = time_findings (has_form general_time octets) (has_form canonical_general_time octets)
+
 -- of a time of at most 64 octets
 abbrev pub utc_findings : Notes → List Finding
-utc_findings n = if nat_le n.size 64 then time_findings (has_form utc_time n.time) (has_form canonical_utc_time n.time) else []
+utc_findings n = if nat_le n.size 64 then utc_time_findings n.time else []
 
 abbrev pub general_findings : Notes → List Finding
-general_findings n = if nat_le n.size 64 then time_findings (has_form general_time n.time) (has_form canonical_general_time n.time) else []
+general_findings n = if nat_le n.size 64 then general_time_findings n.time else []
 
 abbrev pub text_findings : Notes → List Finding
 text_findings n = finding_if (not n.allowed) B18

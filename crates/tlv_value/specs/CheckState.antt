@@ -58,7 +58,8 @@ new_check h = new_check_of (type_number h) (announced h.size)
 abbrev pub notes_front : ℕ → Bool
 notes_front number = eqb number 1 || eqb number 2 || eqb number 3 || eqb number 10
 
--- each octet of the type with this number is looked at: object identifiers, UTF8String, and the strings of some characters
+-- each octet of the type with this number is looked at: object identifiers, UTF8String, and the strings of some
+-- characters
 abbrev pub notes_each : ℕ → Bool
 notes_each number =
     eqb number 6 || eqb number 12 || eqb number 13 || eqb number 18 || eqb number 19 || eqb number 22 || eqb number 26
@@ -112,7 +113,14 @@ is_allowed_in s =
     && s.allowed
 
 abbrev pub notes_in : CheckState → Notes
-notes_in s = record { size = s.size; front = s.front; time = s.time; last = s.last; padded = s.padded; allowed = is_allowed_in s }
+notes_in s = record {
+  size = s.size;
+  front = s.front;
+  time = s.time;
+  last = s.last;
+  padded = s.padded;
+  allowed = is_allowed_in s;
+}
 
 -- what is found at the end
 abbrev pub findings_in : CheckState → List Finding

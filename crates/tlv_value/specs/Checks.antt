@@ -21,8 +21,7 @@ is_padded_integer (x ∷ y ∷ ys) = (eqb x 0 && nat_lt y 128) || (eqb x 255 && 
 is_padded_integer octets = false
 
 -- 8.19.2, 8.20.2: an octet 80 that begins a subidentifier: it is after an octet with bit 8 clear. The first octet
--- begins one
--- too: the octet before it is taken to be 0
+-- begins one too: the octet before it is taken to be 0
 abbrev pub is_padded_after : ℕ → List ℕ → Bool
 is_padded_after before [] = false
 is_padded_after before (x ∷ xs) = (nat_lt before 128 && eqb x 128) || is_padded_after x xs
@@ -56,6 +55,10 @@ findings_by rows = flat_map (λ row. if row.0 then row.1 ∷ [] else []) rows
 -- the first contents octet. In a BIT STRING it is the number of unused bits
 abbrev pub first : List ℕ → ℕ
 first c = slice_index c 0
+
+-- 8.6.2.2: the number that the unused bits of the last octet make
+abbrev pub unused_bits_value : List ℕ → ℕ
+unused_bits_value c = last_octet_of 0 c % 2 ^ first c
 
 -- 8.25: a UTCTime or GeneralizedTime of at most 64 octets: of a longer one the form is not looked at
 abbrev pub is_short_time : HeaderValue → List ℕ → Bool
@@ -97,7 +100,7 @@ contents_conditions h c =
     -- 11.1: TRUE is ff
     ∷ (is_a boolean h && length c == 1 && not (first c == 0 || first c == 0xff), S02)
     -- 11.2.1: unused bits are 0
-    ∷ (is_a bit_string h && nat_le 2 (length c) && nat_le (first c) 7 && not (last_octet_of 0 c % 2 ^ first c == 0), S03)
+    ∷ (is_a bit_string h && nat_le 2 (length c) && nat_le (first c) 7 && not (unused_bits_value c == 0), S03)
     -- 11.7, 11.8: a time is in the canonical form
     ∷ (is_short_time h c && times.has_form (time_form h) c && not (times.has_form (canonical_form h) c), S04)
     ∷ []

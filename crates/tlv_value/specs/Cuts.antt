@@ -7,7 +7,8 @@ abbrev pub octets_of_rows : List (List ℕ) → List ℕ
 octets_of_rows [] = []
 octets_of_rows (row ∷ rows) = row ++ octets_of_rows rows
 
--- a row has octets, no more than it has room for, and no character is split: none of its octets announces more than the row has left
+-- a row has octets, no more than it has room for, and no character is split: none of its octets announces more than
+-- the row has left
 pub record IsRow (kind : Kind) (row : List ℕ) : Type 0 where
   pub some : row ≢ []
   pub short : length row ≤ row_size kind
@@ -19,7 +20,9 @@ AreRows kind (row ∷ rows) = IsRow kind row × AreRows kind rows
 
 -- a row before another has no room, or none for the first octet of the other
 abbrev pub IsFull : Kind → List ℕ → List ℕ → Type 0
-IsFull kind row next = (length row ≡ row_size kind) ⊎ (row_size kind < length row + character_length kind (slice_index next 0))
+IsFull kind row next =
+    (length row ≡ row_size kind)
+    ⊎ (row_size kind < length row + character_length kind (slice_index next 0))
 
 abbrev pub AreFull : Kind → List (List ℕ) → Type 0
 AreFull kind [] = Unit {0}
@@ -37,7 +40,9 @@ RowsAreACut = (kind : Kind) (octets : List ℕ) → IsCut kind octets (rows_of k
 
 -- and are the only one
 abbrev pub RowsHaveOneCut : Type 0
-RowsHaveOneCut = (kind : Kind) (octets : List ℕ) (rows : List (List ℕ)) → IsCut kind octets rows → rows ≡ rows_of kind octets
+RowsHaveOneCut =
+    (kind : Kind) (octets : List ℕ) (rows : List (List ℕ))
+    → IsCut kind octets rows → rows ≡ rows_of kind octets
 
 -- the rows of a cut, without the last one if it is not full
 abbrev pub full_ones : Kind → List (List ℕ) → List (List ℕ)
@@ -47,4 +52,6 @@ full_ones kind (row ∷ next ∷ rows) = row ∷ full_ones kind (next ∷ rows)
 
 -- the rows that are full before the end of the contents
 abbrev pub FullRowsAreOfTheCut : Type 0
-FullRowsAreOfTheCut = (kind : Kind) (octets : List ℕ) (rows : List (List ℕ)) → IsCut kind octets rows → rows_from kind false [] octets ≡ full_ones kind rows
+FullRowsAreOfTheCut =
+    (kind : Kind) (octets : List ℕ) (rows : List (List ℕ))
+    → IsCut kind octets rows → rows_from kind false [] octets ≡ full_ones kind rows

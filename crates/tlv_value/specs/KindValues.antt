@@ -1,5 +1,5 @@
 -- The values of contents kind by kind, as private functions write them.
-use Rattle.std.specs.Prelude.{ℕ, ◌-◌, Bool, true, false, ◌&&◌, ◌||◌, not, eqb, nat_le, nat_lt, if◌then◌else◌, List, [], ◌∷◌, ◌++◌, length, Option, codes}
+use Rattle.std.specs.Prelude.{ℕ, ◌-◌, true, false, eqb, nat_le, if◌then◌else◌, List, [], ◌∷◌, ◌++◌, length, Option, codes}
 use Rattle.std.specs.Fmt.{signed_decimal}
 use Rattle.std.specs.Option.{option_map_or}
 use Rattle.tlv_value.specs.declared.kind.Kind.{Kind}
@@ -7,7 +7,7 @@ use Rattle.tlv_value.specs.declared.kind.Kind.TheVariants.{Octets, Boolean, Inte
 use Rattle.tlv_value.specs.Arcs.{dotted_text}
 use Rattle.tlv_value.specs.Number.{twos_complement}
 use Rattle.tlv_value.specs.Units.{quoted_text}
-use Rattle.tlv_value.specs.Value.{NameOf, Value, bit_count, most_on_line, no_names, octets_value, used_digits, value_on_line}
+use Rattle.tlv_value.specs.Value.{NameOf, Value, bit_count, is_readable, name_text, no_names, octets_value, used_digits, value_on_line}
 
 -- 8.2.2: FALSE is zero
 abbrev pub boolean_value : List ℕ → Value
@@ -18,10 +18,6 @@ abbrev pub integer_value : List ℕ → Value
 integer_value [] = octets_value []
 integer_value (x ∷ xs) = value_on_line (signed_decimal (twos_complement (x ∷ xs)))
 
--- 8.6.2: at most 7 unused bits, and none if there is no octet for them
-abbrev pub is_readable : ℕ → ℕ → Bool
-is_readable unused octets = nat_le unused 7 && (eqb unused 0 || not (eqb octets 0))
-
 -- 8.6.2: the first octet is the number of unused bits in the last one
 abbrev pub bits_value : List ℕ → Value
 bits_value [] = octets_value []
@@ -30,15 +26,9 @@ bits_value (unused ∷ octets) =
     then value_on_line (bit_count unused (length octets) ++ used_digits unused octets)
     else octets_value (unused ∷ octets)
 
--- a name after its object identifier
-abbrev pub name_text : Option (List ℕ) → List ℕ
-name_text name = option_map_or (λ text. codes " (" ++ text ++ codes ")") name []
-
 abbrev pub object_text : NameOf → Option (List ℕ) → List ℕ → Value
-object_text name_of dotted octets = option_map_or (λ text. value_on_line (text ++ name_text (name_of text))) dotted (octets_value octets)
-
-abbrev pub is_long : Kind → ℕ → Bool
-is_long kind n = nat_lt (most_on_line kind) n
+object_text name_of dotted octets =
+    option_map_or (λ text. value_on_line (text ++ name_text (name_of text))) dotted (octets_value octets)
 
 -- a held value by its kind
 abbrev pub kind_value : NameOf → Kind → List ℕ → Value

@@ -11,7 +11,10 @@ state_for h layout octets = text_after (new_text h layout) octets
 
 -- two pieces, one after the other, are as one
 abbrev pub PiecesJoin : Type 0
-PiecesJoin = (s : TextState) (x y : List ℕ) → (text_after (text_after s x) y ≡ text_after s (x ++ y)) × (contents_lines s (x ++ y) ≡ contents_lines s x ++ contents_lines (text_after s x) y)
+PiecesJoin =
+    (s : TextState) (x y : List ℕ)
+    → (text_after (text_after s x) y ≡ text_after s (x ++ y))
+    × (contents_lines s (x ++ y) ≡ contents_lines s x ++ contents_lines (text_after s x) y)
 
 -- with the header, the lines of a primitive without contents so far
 abbrev pub LinesBegin : Type 0
@@ -19,10 +22,12 @@ LinesBegin = (h : HeaderValue) (layout : Layout) → open_lines h layout [] ≡ 
 
 -- with more octets, what is new in the lines of the primitive, which is still open
 abbrev pub LinesGoOn : Type 0
-LinesGoOn = (h : HeaderValue) (layout : Layout) (octets x : List ℕ)
+LinesGoOn =
+    (h : HeaderValue) (layout : Layout) (octets x : List ℕ)
     → open_lines h layout (octets ++ x) ≡ open_lines h layout octets ++ contents_lines (state_for h layout octets) x
 
 -- with the end, the rest of the lines of the whole primitive
 abbrev pub LinesEnd : Type 0
-LinesEnd = (name_of : NameOf) (h : HeaderValue) (layout : Layout) (octets : List ℕ) → length octets ≡ announced h.size
+LinesEnd =
+    (name_of : NameOf) (h : HeaderValue) (layout : Layout) (octets : List ℕ) → length octets ≡ announced h.size
     → whole_lines name_of h layout octets ≡ open_lines h layout octets ++ end_lines name_of (state_for h layout octets)

@@ -15,10 +15,14 @@ line pure first level text = (if pure then [] else first) ++ spaces (2 * level) 
 -- a row of this number, from 0 on: above the limit the first row is three dots, and the others have no line
 abbrev pub row_within_limit : Option ℕ → ℕ → List ℕ → Option (List ℕ)
 row_within_limit None i text = Some text
-row_within_limit (Some limit) i text = if nat_lt i limit then Some text else (if eqb i limit then Some (codes "...") else None)
+row_within_limit (Some limit) i text =
+    if nat_lt i limit then Some text
+    else if eqb i limit then Some (codes "...")
+    else None
 
 abbrev pub row_line : Layout → ℕ → List ℕ → List ℕ
-row_line layout i text = option_map_or (line layout.pure no_columns (layout.level + 1)) (row_within_limit layout.limit i text) []
+row_line layout i text =
+    option_map_or (line layout.pure no_columns (layout.level + 1)) (row_within_limit layout.limit i text) []
 
 -- what is before the text of a line
 abbrev pub margin : Bool → List ℕ → ℕ → List ℕ

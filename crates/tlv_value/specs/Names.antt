@@ -8,6 +8,8 @@ use Rattle.std.specs.Str.{bytes_eq}
 use Rattle.std.specs.Coded.{Coded, coded_list, coded_ℕ}
 use Rattle.std.specs.FinMap as finite
 use Rattle.tlv_head.specs.Header.{value_of}
+use Rattle.tlv_value.specs.Times.{is_digit}
+use Rattle.tlv_value.specs.Units.{is_printable}
 use Rattle.tlv_value.specs.declared.names.fault.NamesFault.{NamesFault}
 use Rattle.tlv_value.specs.declared.names.fault.NamesFault.TheVariants.{BadOid, BadName, Repeated, TooLarge}
 
@@ -46,21 +48,19 @@ without_last_blanks (x ∷ xs) = if list_all is_blank (x ∷ xs) then [] else x 
 abbrev pub without_outer_blanks : List ℕ → List ℕ
 without_outer_blanks octets = without_last_blanks (without_first_blanks octets)
 
--- 48 is the digit 0, 57 is 9
-abbrev pub is_arc_digit : ℕ → Bool
-is_arc_digit x = nat_le 48 x && nat_le x 57
-
 -- the number that decimal digits stand for
 abbrev pub decimal_number : List ℕ → ℕ
 decimal_number digits = value_of 10 (map (λ x. x - 48) digits)
 
--- digits without a leading zero; 0 itself is an arc
+-- digits without a leading zero (48); 0 itself is an arc
 abbrev pub is_arc : List ℕ → Bool
-is_arc part = not (length part == 0) && list_all is_arc_digit part && ((length part == 1) || not (slice_index part 0 == 48))
+is_arc part =
+    not (length part == 0) && list_all is_digit part && ((length part == 1) || not (slice_index part 0 == 48))
 
 -- X.660: the first arc is 0, 1 or 2, and below 0 and 1 the second is at most 39
 abbrev pub may_begin : List ℕ → List ℕ → Bool
-may_begin first second = (decimal_number first == 2) || (nat_lt (decimal_number first) 2 && nat_le (decimal_number second) 39)
+may_begin first second =
+    (decimal_number first == 2) || (nat_lt (decimal_number first) 2 && nat_le (decimal_number second) 39)
 
 abbrev pub are_first_arcs : List (List ℕ) → Bool
 are_first_arcs [] = false
@@ -75,12 +75,9 @@ dotted_parts text = slice_split (λ x. x == 46) text
 abbrev pub is_dotted : List ℕ → Bool
 is_dotted text = list_all is_arc (dotted_parts text) && are_first_arcs (dotted_parts text)
 
-abbrev pub is_name_octet : ℕ → Bool
-is_name_octet x = nat_le 32 x && nat_le x 126
-
 -- one or more printable octets
 abbrev pub is_name : List ℕ → Bool
-is_name text = not (length text == 0) && list_all is_name_octet text
+is_name text = not (length text == 0) && list_all is_printable text
 
 -- what a line says
 pub data Line : Type 0 where
@@ -98,11 +95,15 @@ pair_line dotted name = if is_dotted dotted then (if is_name name then entry dot
 -- 35 is the mark of a comment
 abbrev pub entry_line : List ℕ → Line
 entry_line [] = no_entry
-entry_line (x ∷ xs) = if x == 35 then no_entry else pair_line (before_first is_blank (x ∷ xs)) (without_first_blanks (after_first is_blank (x ∷ xs)))
+entry_line (x ∷ xs) =
+    if x == 35 then no_entry
+    else pair_line (before_first is_blank (x ∷ xs)) (without_first_blanks (after_first is_blank (x ∷ xs)))
 
 -- a line of at most 400 octets
 abbrev pub names_line : List ℕ → Line
-names_line octets = if nat_lt 400 (length octets) then long_line else entry_line (without_outer_blanks (without_return octets))
+names_line octets =
+    if nat_lt 400 (length octets) then long_line
+    else entry_line (without_outer_blanks (without_return octets))
 
 abbrev pub line_entries : Line → List Entry
 line_entries no_entry = []

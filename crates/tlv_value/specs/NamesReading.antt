@@ -8,7 +8,8 @@ use Rattle.tlv_value.specs.declared.names.fault.NamesFault.TheVariants.{BadOid, 
 
 -- the source has ended, within the limit of octets, and these say the result
 abbrev pub IsWholeFile : SourceState → List ℕ → Result Table NamesFault → Type 0
-IsWholeFile new octets result = (new.last ≡ gave 0) × IsAtEnd new.left × (length octets ≤ 1048576) × (names_of octets ≡ result)
+IsWholeFile new octets result =
+    (new.last ≡ gave 0) × IsAtEnd new.left × (length octets ≤ 1048576) × (names_of octets ≡ result)
 
 -- the last read gave the first octet past the limit
 abbrev pub IsTooLong : Last → List ℕ → Type 0

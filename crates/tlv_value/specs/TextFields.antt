@@ -5,7 +5,7 @@ use Rattle.tlv_value.specs.declared.text.ValueText.TheInside.{Inside}
 use Rattle.tlv_value.specs.Kind.{kind_of}
 use Rattle.tlv_value.specs.Rows.{row_size}
 use Rattle.tlv_value.specs.TextState.{TextState}
-use Rattle.tlv_value.specs.KindValues.{is_long}
+use Rattle.tlv_value.specs.Value.{is_long}
 
 abbrev pub text_state_of : Inside → TextState
 text_state_of t = record {
@@ -26,4 +26,5 @@ pub record TextFieldsAgree (t : Inside) : Type 0 where
   -- of any other all octets that have come
   pub held : is_long t.value.kind t.value.size ≡ false → length t.row.items + t.left ≡ t.value.size
   -- before the first octet of a long BIT STRING
-  pub unlined : is_long t.value.kind t.value.size ≡ true → t.has_line ≡ false → (t.value.kind ≡ Bits) × (t.row.items ≡ []) × (t.rows ≡ 0)
+  pub unlined : is_long t.value.kind t.value.size ≡ true → t.has_line ≡ false
+      → (t.value.kind ≡ Bits) × (t.row.items ≡ []) × (t.rows ≡ 0)

@@ -1,5 +1,5 @@
 -- The lines of a primitive, and what is to be kept of its contents between their pieces.
-use Rattle.std.specs.Prelude.{ℕ, ◌+◌, ◌-◌, ◌&&◌, Bool, true, false, if◌then◌else◌, List, [], ◌∷◌, ◌++◌, length, decimal, flat_map, nat_lt}
+use Rattle.std.specs.Prelude.{ℕ, ◌+◌, ◌-◌, ◌&&◌, Bool, true, false, if◌then◌else◌, List, [], ◌∷◌, ◌++◌, length, decimal, flat_map}
 use Rattle.std.specs.List.{enumerate_from}
 use Rattle.tlv_head.specs.declared.header.Class.{Class}
 use Rattle.tlv_head.specs.Header.{HeaderValue, announced}
@@ -10,17 +10,22 @@ use Rattle.tlv_value.specs.declared.layout.Layout.{Layout}
 use Rattle.tlv_value.specs.Kind.{kind_of}
 use Rattle.tlv_value.specs.Layout.{columns, line, row_line}
 use Rattle.tlv_value.specs.Rows.{full_rows, last_rows, open_row}
-use Rattle.tlv_value.specs.KindValues.{is_long, kind_value, long_text, row_octets}
-use Rattle.tlv_value.specs.Value.{NameOf, Value, long_value, most_on_line, row_text, whole_value}
+use Rattle.tlv_value.specs.KindValues.{kind_value, long_text, row_octets}
+use Rattle.tlv_value.specs.Value.{NameOf, Value, is_long, long_value, row_text, whole_value}
 
 -- the kind of the element's type
 abbrev pub kind_by : HeaderValue → Kind
 kind_by h = kind_of h.class h.number
 
+-- the line of an element of this class, number and length, with this text after its tag
+abbrev pub element_line : Layout → ℕ → Class → ℕ → ℕ → List ℕ → List ℕ
+element_line layout offset class number n text =
+    line layout.pure (columns offset (decimal n)) layout.level (tag_text_of class number ++ text)
+
 -- the element's line, and those of its rows
 abbrev pub value_lines : HeaderValue → Layout → Value → List ℕ
 value_lines h layout value =
-    line layout.pure (columns h.offset (decimal (announced h.size))) layout.level (tag_text_of h.class h.number ++ value.text)
+    element_line layout h.offset h.class h.number (announced h.size) value.text
     ++ flat_map (λ row. row_line layout row.0 (row_text (kind_by h) row.1)) (enumerate_from 0 value.rows)
 
 -- the lines of a primitive that is whole
@@ -32,25 +37,23 @@ abbrev pub has_line : Kind → List ℕ → Bool
 has_line Bits [] = false
 has_line kind octets = true
 
--- the lines of a primitive of whose contents these octets have come, and others are still to come: of a long value those that are known
+-- the lines of a primitive of whose contents these octets have come, and others are still to come: of a long value
+-- those that are known
 abbrev pub open_lines : HeaderValue → Layout → List ℕ → List ℕ
 open_lines h layout octets =
-    if nat_lt (most_on_line (kind_by h)) (announced h.size) && has_line (kind_by h) octets
+    if is_long (kind_by h) (announced h.size) && has_line (kind_by h) octets
     then value_lines h layout (long_value false (kind_by h) (announced h.size) octets)
     else []
 
 -- ---- Words of private functions and of proofs: lines as they become known
-
-abbrev pub element_line : Layout → ℕ → Class → ℕ → ℕ → List ℕ → List ℕ
-element_line layout offset class number n text = line layout.pure (columns offset (decimal n)) layout.level (tag_text_of class number ++ text)
 
 -- rows in order, the first of which has this number
 abbrev pub row_lines : Kind → Layout → ℕ → List (List ℕ) → List ℕ
 row_lines kind layout i [] = []
 row_lines kind layout i (row ∷ rows) = row_line layout i (row_text kind row) ++ row_lines kind layout (i + 1) rows
 
--- what is kept: of a long value whether its line was written, how many rows were full, and the octets of the row that has
--- begun; of any other all octets
+-- what is kept: of a long value whether its line was written, how many rows were full, and the octets of the row that
+-- has begun; of any other all octets
 pub record RowsState : Type 0 where
   pub lined : Bool
   pub rows : ℕ
@@ -82,7 +85,11 @@ new_text h layout = record {
 module _ (kind : Kind) (layout : Layout) where
   -- of a long value with a line
   abbrev pub rows_after : RowsState → List ℕ → RowsState
-  rows_after k octets = record { lined = true; rows = k.rows + length (full_rows kind k.row octets); row = open_row kind k.row octets }
+  rows_after k octets = record {
+    lined = true;
+    rows = k.rows + length (full_rows kind k.row octets);
+    row = open_row kind k.row octets;
+  }
 
   abbrev pub full_row_lines : RowsState → List ℕ → List ℕ
   full_row_lines k octets = row_lines kind layout k.rows (full_rows kind k.row octets)
@@ -103,12 +110,21 @@ first_rows_after kind layout k (x ∷ octets) = rows_after kind layout (first_ro
 
 abbrev pub first_row_lines : TextState → List ℕ → List ℕ
 first_row_lines s [] = []
-first_row_lines s (x ∷ octets) = line_in s (long_text (kind_in s) s.size (x ∷ [])) ++ full_row_lines (kind_in s) s.layout (first_rows (kind_in s) s.layout x) octets
+first_row_lines s (x ∷ octets) =
+    line_in s (long_text (kind_in s) s.size (x ∷ []))
+    ++ full_row_lines (kind_in s) s.layout (first_rows (kind_in s) s.layout x) octets
+
+-- of a long value
+abbrev pub long_rows_after : TextState → List ℕ → RowsState
+long_rows_after s octets =
+    if s.kept.lined
+    then rows_after (kind_in s) s.layout s.kept octets
+    else first_rows_after (kind_in s) s.layout s.kept octets
 
 abbrev pub rows_state_after : TextState → List ℕ → RowsState
 rows_state_after s octets =
     if is_long (kind_in s) s.size
-    then (if s.kept.lined then rows_after (kind_in s) s.layout s.kept octets else first_rows_after (kind_in s) s.layout s.kept octets)
+    then long_rows_after s octets
     else record { lined = s.kept.lined; rows = s.kept.rows; row = s.kept.row ++ octets }
 
 -- the state after more octets
@@ -130,11 +146,17 @@ begin_lines s = if is_long (kind_in s) s.size then (if s.kept.lined then line_in
 -- the lines that are known with more octets
 abbrev pub contents_lines : TextState → List ℕ → List ℕ
 contents_lines s octets =
-    if is_long (kind_in s) s.size then (if s.kept.lined then full_row_lines (kind_in s) s.layout s.kept octets else first_row_lines s octets) else []
+    if is_long (kind_in s) s.size
+    then (if s.kept.lined then full_row_lines (kind_in s) s.layout s.kept octets else first_row_lines s octets)
+    else []
+
+-- the value of a primitive of which all contents are kept
+abbrev pub kept_value : NameOf → TextState → Value
+kept_value name_of s = kind_value name_of (kind_in s) s.kept.row
 
 -- the lines that are known with the end
 abbrev pub end_lines : NameOf → TextState → List ℕ
 end_lines name_of s =
     if is_long (kind_in s) s.size
     then row_lines (kind_in s) s.layout s.kept.rows (last_rows s.kept.row)
-    else line_in s (kind_value name_of (kind_in s) s.kept.row).text ++ row_lines (kind_in s) s.layout 0 (kind_value name_of (kind_in s) s.kept.row).rows
+    else line_in s (kept_value name_of s).text ++ row_lines (kind_in s) s.layout 0 (kept_value name_of s).rows

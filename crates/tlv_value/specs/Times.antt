@@ -36,6 +36,7 @@ one low high (x ∷ xs) = if nat_le low x && nat_le x high then xs ∷ [] else [
 abbrev pub mark : ℕ → Form
 mark x = one x x
 
+-- 48 is the digit 0, 57 is 9
 abbrev pub is_digit : ℕ → Bool
 is_digit x = nat_le 48 x && nat_le x 57
 
@@ -44,12 +45,18 @@ abbrev pub digits : Form
 digits [] = [] ∷ []
 digits (x ∷ xs) = (x ∷ xs) ∷ (if is_digit x then digits xs else [])
 
+-- the number that two digits stand for
+abbrev pub two_digit_number : ℕ → ℕ → ℕ
+two_digit_number x y = 10 * (x - 48) + (y - 48)
+
 -- two digits, of a number from low to high
 abbrev pub two : ℕ → ℕ → Form
 two low high [] = []
 two low high (x ∷ []) = []
 two low high (x ∷ y ∷ rest) =
-    if is_digit x && is_digit y && nat_le low (10 * (x - 48) + (y - 48)) && nat_le (10 * (x - 48) + (y - 48)) high then rest ∷ [] else []
+    if is_digit x && is_digit y && nat_le low (two_digit_number x y) && nat_le (two_digit_number x y) high
+    then rest ∷ []
+    else []
 
 -- month and day
 abbrev pub day : Form

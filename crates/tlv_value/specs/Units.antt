@@ -37,11 +37,15 @@ utf8_number _ = 0
 abbrev pub three_octets : ℕ → List ℕ
 three_octets n = n / 65536 % 256 ∷ n / 256 % 256 ∷ n % 256 ∷ []
 
+-- RFC 3629, 4: the octets of the character that the first octet announces, as far as they are there
+abbrev pub character_octets : List ℕ → List ℕ
+character_octets octets = take (character_length Utf8 (slice_index octets 0)) octets
+
 -- how many octets in front make a unit: a character, or an octet that belongs to none
 abbrev pub unit_size : Kind → List ℕ → ℕ
 unit_size Ucs2 octets = if nat_le 2 (length octets) then 2 else 1
 unit_size Ucs4 octets = if nat_le 4 (length octets) then 4 else 1
-unit_size Utf8 xs = if is_utf8 (take (character_length Utf8 (slice_index xs 0)) xs) then length (take (character_length Utf8 (slice_index xs 0)) xs) else 1
+unit_size Utf8 octets = if is_utf8 (character_octets octets) then length (character_octets octets) else 1
 unit_size _ octets = 1
 
 -- the units in order, after octets that belong to one before them

@@ -29,10 +29,16 @@ value_on_line text = record { text = 0x20 ∷ text; rows = [] }
 -- up to 16 octets are on the line
 abbrev pub octets_value : List ℕ → Value
 octets_value octets =
-    if nat_le (length octets) 16 then record { text = spaced_pairs octets; rows = [] } else record { text = []; rows = rows_from Octets true [] octets }
+    if nat_le (length octets) 16
+    then record { text = spaced_pairs octets; rows = [] }
+    else record { text = []; rows = rows_from Octets true [] octets }
 
 abbrev pub bit_count : ℕ → ℕ → List ℕ
 bit_count unused octets = decimal (8 * octets - unused) ++ codes " bits"
+
+-- 8.6.2: the number of unused bits is at most 7, and 0 if there is no octet for them
+abbrev pub is_readable : ℕ → ℕ → Bool
+is_readable unused octets = nat_le unused 7 && (eqb unused 0 || not (eqb octets 0))
 
 -- the bits of octets but for those that are not used, after a space if there are any
 abbrev pub used_digits : ℕ → List ℕ → List ℕ
@@ -46,27 +52,33 @@ most_on_line Object = 64
 most_on_line Relative = 64
 most_on_line kind = row_size kind
 
+-- n contents octets are longer than that
+abbrev pub is_long : Kind → ℕ → Bool
+is_long kind n = nat_lt (most_on_line kind) n
+
+-- a name after its object identifier
+abbrev pub name_text : Option (List ℕ) → List ℕ
+name_text name = option_map_or (λ text. codes " (" ++ text ++ codes ")") name []
+
 -- the value of contents that are no longer; those that cannot be read are shown as octets
 abbrev pub short_value : NameOf → Kind → List ℕ → Value
 -- 8.2.2: FALSE is zero
 short_value name_of Boolean (x ∷ []) = value_on_line (if eqb x 0 then codes "FALSE" else codes "TRUE")
 -- 8.3.3, 8.4
 short_value name_of Integer (x ∷ xs) = value_on_line (signed_decimal (signed_sum (bits_of (x ∷ xs))))
--- 8.6.2: the first octet is the number of unused bits in the last one: at most 7, and none if there is no octet for
--- them
+-- 8.6.2: the first octet is the number of unused bits in the last one
 short_value name_of Bits (unused ∷ octets) =
-    if nat_le unused 7 && (eqb unused 0 || not (eqb (length octets) 0))
+    if is_readable unused (length octets)
     then value_on_line (bit_count unused (length octets) ++ used_digits unused octets)
     else octets_value (unused ∷ octets)
--- a name is after its object identifier
 short_value name_of Object octets =
-    option_map_or (λ text. value_on_line (text ++ option_map_or (λ name. codes " (" ++ name ++ codes ")") (name_of text) []))
+    option_map_or (λ text. value_on_line (text ++ name_text (name_of text)))
     (dotted_text false octets) (octets_value octets)
 short_value name_of Relative octets = option_map_or value_on_line (dotted_text true octets) (octets_value octets)
 short_value name_of kind octets = if is_text kind then value_on_line (quoted_text kind octets) else octets_value octets
 
--- the value of long contents of n octets, of which these have come, as far as it is known: whether they are whole says the first
--- argument. 8.6.2: of a BIT STRING the number of bits is on the line, if its first octet can be read
+-- the value of long contents of n octets, of which these have come, as far as it is known: whether they are whole says
+-- the first argument. 8.6.2: of a BIT STRING the number of bits is on the line, if its first octet can be read
 abbrev pub long_value : Bool → Kind → ℕ → List ℕ → Value
 long_value whole Bits n (unused ∷ octets) =
     if nat_le unused 7 then record { text = 0x20 ∷ bit_count unused (n - 1); rows = rows_from Bits whole [] octets }
@@ -76,7 +88,9 @@ long_value whole kind n octets = record { text = []; rows = rows_from kind whole
 -- contents that are whole
 abbrev pub whole_value : NameOf → Kind → List ℕ → Value
 whole_value name_of kind octets =
-    if nat_lt (most_on_line kind) (length octets) then long_value true kind (length octets) octets else short_value name_of kind octets
+    if is_long kind (length octets)
+    then long_value true kind (length octets) octets
+    else short_value name_of kind octets
 
 -- the text of a row: characters, or pairs of digits with spaces between them
 abbrev pub row_text : Kind → List ℕ → List ℕ

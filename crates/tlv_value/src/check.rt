@@ -190,7 +190,9 @@ impl ValueCheck {
     pub fn end(&self) -> ArrayVec<Finding, 16>
         requires { self.now.left ≡ 0 }
         ensures found { result.items ≡ findings_in self.now }
-        ensures whole { (h : HeaderValue) (c : List ℕ) → self.now ≡ check_after (new_check h) c → length c ≡ announced h.size → result.items ≡ findings_on_contents h c }
+        ensures whole { (h : HeaderValue) (c : List ℕ)
+            → self.now ≡ check_after (new_check h) c → length c ≡ announced h.size
+            → result.items ≡ findings_on_contents h c }
     {
         self.found()
     }

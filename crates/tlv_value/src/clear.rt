@@ -1,9 +1,8 @@
 //! A short look at all of the contents of a primitive.
 ghost use Rattle.std.specs.Prelude.{◌≡◌, ◌%◌, ◌^◌, ◌&&◌, ◌||◌, ◌==◌, [], IsTrue, eqb, false, length, nat_le, nat_lt, not, true};
-ghost use Rattle.tlv_value.specs.CheckNotes.{time_findings};
+ghost use Rattle.tlv_value.specs.CheckNotes.{general_time_findings, utc_time_findings};
 ghost use Rattle.tlv_value.specs.Checks.{findings_on_contents, first, is_padded_after, is_padded_integer, last_octet_of};
 ghost use Rattle.tlv_value.specs.Private.Checks.{findings_of};
-ghost use Rattle.tlv_value.specs.Times.{canonical_general_time, canonical_utc_time, general_time, has_form, utc_time};
 
 use crate::check::{are_allowed, are_set, is_padded, is_well_formed, last_octet};
 use crate::time::{general_canonical, utc_canonical};
@@ -100,7 +99,7 @@ fn are_arcs(contents: &[u8]) -> bool
 #[inline(never)]
 #[tactic(auto, using(crate::proofs::CheckLemmas::Within::utc_clear))]
 fn is_utc_clear(time: &[u8]) -> bool
-    ensures { result ≡ eqb (length (time_findings (has_form utc_time time.now) (has_form canonical_utc_time time.now))) 0 }
+    ensures { result ≡ eqb (length (utc_time_findings time.now)) 0 }
 {
     // A canonical time is of its grammar.
     utc_canonical(time)
@@ -110,7 +109,7 @@ fn is_utc_clear(time: &[u8]) -> bool
 #[inline(never)]
 #[tactic(auto, using(crate::proofs::CheckLemmas::Within::general_clear))]
 fn is_general_clear(time: &[u8]) -> bool
-    ensures { result ≡ eqb (length (time_findings (has_form general_time time.now) (has_form canonical_general_time time.now))) 0 }
+    ensures { result ≡ eqb (length (general_time_findings time.now)) 0 }
 {
     // A canonical time is of its grammar.
     general_canonical(time)

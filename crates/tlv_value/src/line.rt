@@ -91,7 +91,12 @@ pub fn write_tag(held: &mut Held, class: Class, number: u64)
 {
     match class {
         Class::Universal => write_universal(held, number),
-        Class::Application => write_bracketed(held, b"[APPLICATION                    ", 13, number),
+        Class::Application => write_bracketed(
+            held,
+            b"[APPLICATION                    ",
+            13,
+            number,
+        ),
         Class::Context => write_bracketed(held, b"[                               ", 1, number),
         Class::Private => write_bracketed(held, b"[PRIVATE                        ", 9, number),
     }
@@ -110,8 +115,8 @@ fn write_universal(held: &mut Held, number: u64)
     }
 }
 
-/// Adds the text of a tag that has no name: what begins it, the number and a bracket. What begins it is the first of 32 octets,
-/// so that no copy depends on how many they are.
+/// Adds the text of a tag that has no name: what begins it, the number and a bracket. What begins it
+/// is the first of 32 octets, so that no copy depends on how many they are.
 #[inline]
 fn write_bracketed(held: &mut Held, front: &[u8; 32], count: usize, number: u64)
     requires short { count ≤ 16 }

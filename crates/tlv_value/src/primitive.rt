@@ -2,17 +2,17 @@
 ghost use Rattle.std.specs.Prelude.{◌≡◌, ◌+◌, ◌<◌, ◌≤◌, ◌++◌, ◌∷◌, [], IsTrue, None, OnOk, length, true, ◌↔◌};
 ghost use Rattle.tlv_io.specs.LineTexts.{HasRoomFor};
 ghost use Rattle.tlv_io.specs.Out.{Puts, buffer_of};
-ghost use Rattle.tlv_value.specs.KindValues.{is_long as is_long_value, long_text};
+ghost use Rattle.tlv_value.specs.KindValues.{long_text};
 ghost use Rattle.tlv_value.specs.Private.KindValues.{plain_text};
 ghost use Rattle.tlv_value.specs.Private.PrimitiveLines.{front_of, primitive_line, primitive_lines, primitive_of};
 ghost use Rattle.tlv_value.specs.Rows.{row_size as row_size_of};
-ghost use Rattle.tlv_value.specs.Value.{most_on_line};
+ghost use Rattle.tlv_value.specs.Value.{is_long as is_long_value, most_on_line};
 
 use crate::kind::{Kind, kind_of};
 use crate::line::write_element;
-use crate::value_lines::{put_object, put_relative};
 use crate::rows::row_size;
 use crate::value::{write_long_bits, write_long_value, write_value};
+use crate::value_lines::{put_object, put_relative};
 use crate::{Layout, NameTable};
 use tlv_head::{Class, Header, Size};
 use tlv_io::{Drain, Held, Out, WriteFault};

@@ -27,9 +27,9 @@ fn begin_row(unused: u8, row: &mut ArrayVec<u8, 64>)
 
 /// Writes the lines of a primitive from its contents, in whatever pieces they come.
 ///
-/// A value that fits on its element's line is held until its last octet has come. The line of a long value comes with
-/// the header (that of a BIT STRING with its first contents octet), and each row when it is full or with the last octet.
-/// At most 64 octets are held.
+/// A value that fits on its element's line is held until its last octet has come. The line of a long
+/// value comes with the header (that of a BIT STRING with its first contents octet), and each row
+/// when it is full or with the last octet. At most 64 octets are held.
 #[derive(Drop)]
 pub struct ValueText {
     value: Primitive,

@@ -3,10 +3,10 @@ ghost use Rattle.std.specs.Prelude.{◌≡◌, ◌+◌, ◌-◌, ◌*◌, ◌<�
 ghost use Rattle.std.specs.Fmt.{signed_decimal};
 ghost use Rattle.tlv_io.specs.LineTexts.{HasRoomFor};
 ghost use Rattle.tlv_value.specs.Bits.{last_bits};
-ghost use Rattle.tlv_value.specs.KindValues.{bits_value, boolean_value, integer_value, is_long, is_readable as is_readable_by, long_text};
+ghost use Rattle.tlv_value.specs.KindValues.{bits_value, boolean_value, integer_value, long_text};
 ghost use Rattle.tlv_value.specs.Private.KindValues.{digits_of, joined_pairs, plain_text};
 ghost use Rattle.tlv_value.specs.Units.{quoted_text};
-ghost use Rattle.tlv_value.specs.Value.{bit_count, most_on_line, row_text, used_digits};
+ghost use Rattle.tlv_value.specs.Value.{bit_count, is_long, is_readable as is_readable_by, most_on_line, row_text, used_digits};
 
 use crate::decimal::{decimal_of, short_number};
 use crate::kind::Kind;

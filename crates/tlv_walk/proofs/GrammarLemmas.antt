@@ -1,6 +1,5 @@
 pub mod Alike
 pub mod Bounds
-pub mod ContentsLength
 pub mod Endings
 pub mod Faults
 pub mod Finals

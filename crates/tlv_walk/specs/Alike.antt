@@ -4,8 +4,9 @@ use Rattle.tlv_head.specs.Header.{HeaderValue, leading_octet}
 use Rattle.tlv_head.specs.Shortest.{HaveOneTag}
 use Rattle.tlv_walk.specs.Forest.{Forest, Stop, Fill, Whole, Closed, Partial, Entered, Awaiting, Begun, Zero}
 
--- whole elements with the same classes, forms, numbers and contents, one by one: primitives with the same contents octets,
--- and elements that hold elements alike, with as much padding between them. Offsets, lengths and octets of headers may differ
+-- whole elements with the same classes, forms, numbers and contents, one by one: primitives with the same contents
+-- octets, and elements that hold elements alike, with as much padding between them. Offsets, lengths and octets of
+-- headers may differ
 pub data AreAlike : Forest → Forest → Type 0 where
   nothing : AreAlike Stop Stop
   padding : (f g : Forest) → AreAlike f g → AreAlike (Fill f) (Fill g)

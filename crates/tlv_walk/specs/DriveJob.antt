@@ -37,7 +37,12 @@ abbrev pub run_over : Framing → Forest → List EventValue → Go → Ending �
 run_over framing f es go.On e =
     record { ending = e; octets = length (spell f); enough = false; unused = first_unused framing.inside f }
 run_over framing f es go.Enough e =
-    record { ending = e; octets = length (flat_map event_octets es); enough = true; unused = find (λ n. not (is_among n (wrapper_offsets es))) framing.inside }
+    record {
+      ending = e;
+      octets = length (flat_map event_octets es);
+      enough = true;
+      unused = find (λ n. not (is_among n (wrapper_offsets es))) framing.inside;
+    }
 
 module _ {S : Type 0} (next : S → EventValue → Effect S) where
   -- a walk, followed from this state on
@@ -51,6 +56,7 @@ module _ {S : Type 0} (next : S → EventValue → Effect S) where
   }
 
   -- what it comes to, and the state that it leaves
-  pub record Drives (framing : Framing) (limit : ℕ) (s t : S) (old new : SourceState) (from to : DrainState) (result : Result Run DeviceFault) : Type 0 where
+  pub record Drives (framing : Framing) (limit : ℕ) (s t : S) (old new : SourceState) (from to : DrainState)
+      (result : Result Run DeviceFault) : Type 0 where
     pub runs : Runs (drive_job framing limit s) old new from to result
     pub state : OnOk (drain_result result) (t ≡ (effect_of next s (events runs.reading)).state)

@@ -1,5 +1,5 @@
 -- Where an input ends, or why it is refused.
-use Rattle.std.specs.Prelude.{◌≡◌, ◌≢◌, ℕ, ◌+◌, ◌<◌, ◌≤◌, true, false, List, [], ◌∷◌, ◌++◌, length}
+use Rattle.std.specs.Prelude.{◌≡◌, ◌≢◌, ◌↔◌, ℕ, ◌+◌, ◌<◌, ◌≤◌, true, false, List, [], ◌∷◌, ◌++◌, length}
 use Rattle.tlv_head.specs.declared.fault.FaultCode.{FaultCode}
 use Rattle.tlv_head.specs.declared.fault.FaultCode.TheVariants.{Empty, Short, StrayEnd, BadEnd, MissingEnd, TooDeep, Overrun, BadInside}
 use Rattle.tlv_head.specs.Header.{HeaderValue, announced, holds, octets_of}
@@ -9,7 +9,7 @@ use Rattle.tlv_walk.specs.declared.ending.Ending.{Ending}
 use Rattle.tlv_walk.specs.declared.ending.Ending.TheVariants.{Done, Fault}
 use Rattle.tlv_walk.specs.Forest.{Forest, Stop, Fill, Whole, Closed, Entered, Awaiting, Begun, Zero, extent, has_element, is_whole, spell}
 use Rattle.tlv_walk.specs.Place.{Fits, IsHeadAt, Place, place_after, place_inside, top_place}
-use Rattle.tlv_walk.specs.Reading.{IsReading}
+use Rattle.tlv_walk.specs.Reading.{CannotBecomeSound, IsReading, IsSoundList}
 
 -- where the innermost open end of a forest that begins there begins, and what is there: nothing between encodings
 -- (`Stop`), or a primitive, a wrapping BIT STRING, a header or end-of-contents octets that lack octets
@@ -20,7 +20,8 @@ tip p (Closed h inside rest) = tip (place_after p (extent h inside)) rest
 tip p (Entered h inside) = tip (place_inside p h) inside
 tip p end = (p, end)
 
--- why the octet x is refused at an open end that begins at p: a line for each cause. The bound is looked at before the octet
+-- why the octet x is refused at an open end that begins at p: a line for each cause. The bound is looked at before
+-- the octet
 pub data IsFault (p : Place) (x : ℕ) : Forest → FaultCode → Type 0 where
   -- 8.6.2.2: a wrapping BIT STRING must begin with 00
   bad_inside : {h : HeaderValue} → x ≢ 0 → IsFault p x (Awaiting h) BadInside
@@ -30,13 +31,15 @@ pub data IsFault (p : Place) (x : ℕ) : Forest → FaultCode → Type 0 where
   -- 8.1.3.3: the header passes the bound
   no_room : {o : List ℕ} → (Fits p (length o + 1) → ⊥) → IsFault p x (Begun o) Overrun
   -- F06 to F09: no header goes on with that octet
-  refused_octet : {o : List ℕ} {code : FaultCode} → Fits p (length o + 1) → IsRefusedOctet o x code → IsFault p x (Begun o) code
+  refused_octet : {o : List ℕ} {code : FaultCode} → Fits p (length o + 1) → IsRefusedOctet o x code
+      → IsFault p x (Begun o) code
   -- 8.1.4: the header of an element that holds others, inside 128 of them
-  too_deep : {o : List ℕ} → Fits p (length o + 1) → (h : HeaderValue) → IsHeadAt p true h → octets_of h ≡ o ++ x ∷ [] → 128 ≤ p.depth
-      → IsFault p x (Begun o) TooDeep
+  too_deep : {o : List ℕ} → Fits p (length o + 1) → (h : HeaderValue) → IsHeadAt p true h → octets_of h ≡ o ++ x ∷ []
+      → 128 ≤ p.depth → IsFault p x (Begun o) TooDeep
   -- 8.1.3.3: the header of contents that end past the bound
-  overrun : {o : List ℕ} → Fits p (length o + 1) → (h : HeaderValue) → IsHeadAt p (holds h) h → octets_of h ≡ o ++ x ∷ []
-      → (holds h ≡ true → p.depth < 128) → (Fits p (length (octets_of h) + announced h.size) → ⊥) → IsFault p x (Begun o) Overrun
+  overrun : {o : List ℕ} → Fits p (length o + 1) → (h : HeaderValue) → IsHeadAt p (holds h) h
+      → octets_of h ≡ o ++ x ∷ [] → (holds h ≡ true → p.depth < 128)
+      → (Fits p (length (octets_of h) + announced h.size) → ⊥) → IsFault p x (Begun o) Overrun
   -- 8.1.5: no end-of-contents octets before the bound
   no_end : p.indefinite ≡ true → (Fits p 1 → ⊥) → IsFault p x Stop MissingEnd
   -- 8.1.5: 00 where no end-of-contents octets can stand, and no padding
@@ -48,11 +51,30 @@ fault code offset = Fault (record { code = code; offset = offset })
 -- the ending of an input
 pub data IsEnding (framing : Framing) (b : List ℕ) : Ending → Type 0 where
   -- F01: no octet of an element came
-  empty : (f : Forest) → IsReading framing b f → spell f ≡ b → has_element f ≡ false → IsEnding framing b (fault Empty (length b))
+  empty : (f : Forest) → IsReading framing b f → spell f ≡ b → has_element f ≡ false
+      → IsEnding framing b (fault Empty (length b))
   -- F02: something is open
-  short : (f : Forest) → IsReading framing b f → spell f ≡ b → is_whole f ≡ false → IsEnding framing b (fault Short (length b))
+  short : (f : Forest) → IsReading framing b f → spell f ≡ b → is_whole f ≡ false
+      → IsEnding framing b (fault Short (length b))
   -- one or more elements, and nothing is open
-  done : (f : Forest) → IsReading framing b f → spell f ≡ b → has_element f ≡ true → is_whole f ≡ true → IsEnding framing b Done
+  done : (f : Forest) → IsReading framing b f → spell f ≡ b → has_element f ≡ true → is_whole f ≡ true
+      → IsEnding framing b Done
   -- the octet after the reading is refused
   refused : (f : Forest) (x : ℕ) (rest : List ℕ) (code : FaultCode) → IsReading framing b f → spell f ++ x ∷ rest ≡ b
-      → IsFault (tip (top_place framing) f).0 x (tip (top_place framing) f).1 code → IsEnding framing b (fault code (length (spell f)))
+      → IsFault (tip (top_place framing) f).0 x (tip (top_place framing) f).1 code
+      → IsEnding framing b (fault code (length (spell f)))
+
+-- a code other than F01 and F02, which alone say that the input ends too early
+abbrev pub IsFinalCode : FaultCode → Type 0
+IsFinalCode code = (code ≢ Empty) × (code ≢ Short)
+
+-- a fault that stays the ending whatever follows
+abbrev pub IsFinalEnding : Ending → Type 0
+IsFinalEnding Done = ⊥
+IsFinalEnding (Fault f) = IsFinalCode f.code
+
+-- what the ending of octets shows: it is `Done` exactly if they are a sound list, and if it is a fault other than F01
+-- and F02, no input that begins with them is one
+pub record ShowsSoundness (framing : Framing) (b : List ℕ) (e : Ending) : Type 0 where
+  pub done_is_sound : (e ≡ Done) ↔ IsSoundList framing b
+  pub faults_are_right : IsFinalEnding e → CannotBecomeSound framing b

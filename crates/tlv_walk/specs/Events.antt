@@ -33,7 +33,8 @@ opening_events h = (if h.constructed then Open h else Enter h) ∷ map (λ z. Un
 
 -- an element that holds others ends
 abbrev pub closing_event : HeaderValue → Forest → EventValue
-closing_event h inside = if h.constructed then Close (end_offset h.size (h.offset + length (opening h) + length (spell inside))) else Leave
+closing_event h inside =
+    if h.constructed then Close (end_offset h.size (h.offset + length (opening h) + length (spell inside))) else Leave
 
 -- an open forest read off in order
 abbrev pub events : Forest → List EventValue

@@ -74,7 +74,8 @@ HasEffectOrNone made old new (Err e) = Unit {0}
 
 -- what octets make in two parts they make in one
 abbrev pub Joins : {S : Type 0} → (S → EventValue → Effect S) → (List ℕ → EventValue) → Type 0
-Joins {S} next part = (s : S) (x y : List ℕ) → next s (part (x ++ y)) ≡ and_then (next s (part x)) (λ u. next u (part y))
+Joins {S} next part = (s : S) (x y : List ℕ)
+    → next s (part (x ++ y)) ≡ and_then (next s (part x)) (λ u. next u (part y))
 
 -- no octets make nothing
 abbrev pub Rests : {S : Type 0} → (S → EventValue → Effect S) → (List ℕ → EventValue) → Type 0

@@ -49,6 +49,10 @@ spell (Awaiting h) = octets_of h
 spell (Begun octets) = octets
 spell Zero = 0 ∷ []
 
+-- 8.1.4: the number of contents octets so far of an element that holds others
+abbrev pub contents_length : HeaderValue → Forest → ℕ
+contents_length h inside = length (lead h) + length (spell inside)
+
 -- 8.1.1.1: the number of octets of an element that holds others and has ended
 abbrev pub extent : HeaderValue → Forest → ℕ
 extent h inside = length (opening h) + (length (spell inside) + length (end_octets h.size))

@@ -1,5 +1,5 @@
 -- What a walker has read, also after it refused an octet.
-use Rattle.std.specs.Prelude.{◌≡◌, ℕ, List, ◌∷◌, ◌++◌, length}
+use Rattle.std.specs.Prelude.{◌≡◌, ℕ, List, [], ◌∷◌, ◌++◌, length}
 use Rattle.tlv_head.specs.declared.fault.Fault.{Fault}
 use Rattle.tlv_walk.specs.declared.ending.Ending.{Ending}
 use Rattle.tlv_walk.specs.declared.ending.Ending.TheVariants as ending
@@ -13,7 +13,7 @@ use Rattle.tlv_walk.specs.WalkerState.{WalkerState, first_unused_in}
 use Rattle.tlv_walk.specs.OpenCount.{open_count}
 use Rattle.tlv_walk.specs.Stands.{IsIdle, Stands}
 use Rattle.tlv_walk.specs.Forest.{Forest, spell}
-use Rattle.tlv_walk.specs.Reading.{IsReading}
+use Rattle.tlv_walk.specs.Reading.{CannotBecomeSound, IsReading}
 use Rattle.tlv_walk.specs.Wrappers.{first_unused}
 
 -- an event, apart from where its octets lie in memory
@@ -29,14 +29,16 @@ event_value event.Leave = Leave
 event_value (event.Pad octets) = Pad octets.now
 
 -- after p the octet is refused: the events yielded are those of the reading, which spells p, and reading and
--- ending are the same whatever follows that octet
-pub record IsRefusedAfter (framing : Framing) (p : List ℕ) (octet : ℕ) (past : List EventValue) (f : Fault) : Type 0 where
+-- ending are the same whatever follows that octet. No false alarm: no input that begins so is a sound list
+pub record IsRefusedAfter (framing : Framing) (p : List ℕ) (octet : ℕ) (past : List EventValue) (f : Fault)
+    : Type 0 where
   pub reading : Forest
   pub spelled : spell reading ≡ p
   pub offset : f.offset ≡ length p
   pub all_events : AreEqualJoined past (events reading)
   pub stays : (c : List ℕ) → IsReading framing (p ++ octet ∷ c) reading
   pub ends : (c : List ℕ) → IsEnding framing (p ++ octet ∷ c) (ending.Fault f)
+  pub never_sound : CannotBecomeSound framing (p ++ octet ∷ [])
 
 -- what a walker stands for that refused an octet: the octets before it, and the events yielded, which are all of their
 -- reading
@@ -51,8 +53,8 @@ pub record StandsRefused (w : WalkerState) (b : List ℕ) (octet : ℕ) (past : 
 -- before that one
 pub data HasRead (w : WalkerState) (b : List ℕ) (reading : Forest) : Type 0 where
   took : (past : List EventValue) (stands : Stands w b past) → stands.reading ≡ reading → HasRead w b reading
-  stopped : (x : ℕ) (past : List EventValue) (f : Fault) (stands : StandsRefused w b x past f) → stands.behind.reading ≡ reading
-      → HasRead w b reading
+  stopped : (x : ℕ) (past : List EventValue) (f : Fault) (stands : StandsRefused w b x past f)
+      → stands.behind.reading ≡ reading → HasRead w b reading
 
 -- a walker refused an octet of these, and yielded these events of the octets before it
 pub record StopsAt (w : WalkerState) (octets : List ℕ) (past : List EventValue) (f : Fault) : Type 0 where

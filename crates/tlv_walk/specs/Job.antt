@@ -1,15 +1,14 @@
 -- What a job over all that a source gives comes to.
-use Rattle.std.specs.Prelude.{◌≡◌, ◌≢◌, ◌⊎◌, ℕ, ◌<◌, ◌≤◌, Bool, true, false, List, length, take, Result, Ok, Err, ⊤}
+use Rattle.std.specs.Prelude.{◌≡◌, ℕ, ◌<◌, ◌≤◌, Bool, true, false, List, length, take, Result, Ok, Err, ⊤}
 use Rattle.std.specs.List.{concat}
 use Rattle.std.specs.Io.KnownBytes.{IsAtEnd}
-use Rattle.tlv_head.specs.declared.fault.FaultCode.TheVariants.{Empty, Short}
 use Rattle.tlv_walk.specs.declared.ending.Ending.{Ending}
 use Rattle.tlv_walk.specs.declared.ending.Ending.TheVariants as ending
 use Rattle.tlv_walk.specs.declared.framing.Framing.{Framing}
 use Rattle.tlv_walk.specs.declared.run.DeviceFault.{DeviceFault}
 use Rattle.tlv_walk.specs.declared.run.DeviceFault.TheVariants.{ReadFailed, WriteFailed, InputTooLong}
 use Rattle.tlv_io.specs.Device.{DrainState, Pieces, SourceState, failed, failures_after, gave, octets_given}
-use Rattle.tlv_walk.specs.Ending.{IsEnding}
+use Rattle.tlv_walk.specs.Ending.{IsEnding, IsFinalEnding, ShowsSoundness}
 use Rattle.tlv_walk.specs.Forest.{Forest, spell}
 use Rattle.tlv_io.specs.Out.{Sends}
 use Rattle.tlv_walk.specs.Reading.{IsReading}
@@ -39,11 +38,6 @@ module _ {A : Type 0} where
   abbrev pub drain_result : Result A DeviceFault → Result ⊤ DeviceFault
   drain_result result = device_result WriteFailed result
 
--- a fault that is the ending whatever follows: one other than F01 and F02, which alone say that the input ends too early
-abbrev pub IsFinalEnding : Ending → Type 0
-IsFinalEnding ending.Done = ⊥
-IsFinalEnding (ending.Fault f) = (f.code ≢ Empty) × (f.code ≢ Short)
-
 -- the ending: Done if there was enough, otherwise what the octets come to
 abbrev pub EndsWith : Framing → List ℕ → Bool → Ending → Type 0
 EndsWith framing octets true e = e ≡ ending.Done
@@ -54,15 +48,27 @@ module _ {A : Type 0} (job : Job A) where
   abbrev pub AreSound : List ℕ → Type 0
   AreSound octets = (f : Forest) × IsReading job.framing octets f × (spell f ≡ octets) × (job.is_enough f ≡ false)
 
-  -- by the result, for octets that were given and their reading: what is returned, or why it is not
-  abbrev pub ComesTo : List ℕ → Forest → SourceState → Result A DeviceFault → Type 0
-  -- there was enough, or the ending is that of the octets, and stays whatever follows, or nothing follows
-  ComesTo given f new (Ok a) = (e : Ending) × (a ≡ job.answer f e) × (
-      ((job.is_enough f ≡ true) × (e ≡ ending.Done))
-      ⊎ ((job.is_enough f ≡ false) × IsEnding job.framing (take job.limit given) e × (IsFinalEnding e ⊎ ((new.last ≡ gave 0) × IsAtEnd new.left))))
-  ComesTo given f new (Err ReadFailed) = new.last ≡ failed
-  ComesTo given f new (Err WriteFailed) = ⊤
-  ComesTo given f new (Err InputTooLong) = (job.limit < length given) × AreSound (take job.limit given)
+  -- there was not enough, and the octets have this ending, which shows whether they are sound
+  pub record HasEnding (octets : List ℕ) (f : Forest) (e : Ending) : Type 0 where
+    pub not_enough : job.is_enough f ≡ false
+    pub is_ending : IsEnding job.framing octets e
+    pub soundness : ShowsSoundness job.framing octets e
+
+  -- for octets that were given and their reading: what is returned, by why nothing more is read
+  pub data ComesTo (given : List ℕ) (f : Forest) (new : SourceState) : Result A DeviceFault → Type 0 where
+    -- there was enough
+    was_enough : job.is_enough f ≡ true → ComesTo given f new (Ok (job.answer f ending.Done))
+    -- an octet is refused, whatever follows
+    refused : (e : Ending) → HasEnding (take job.limit given) f e → IsFinalEnding e
+        → ComesTo given f new (Ok (job.answer f e))
+    -- the source has ended
+    ended : (e : Ending) → HasEnding (take job.limit given) f e → new.last ≡ gave 0 → IsAtEnd new.left
+        → ComesTo given f new (Ok (job.answer f e))
+    -- a device failed
+    read_failed : new.last ≡ failed → ComesTo given f new (Err ReadFailed)
+    write_failed : ComesTo given f new (Err WriteFailed)
+    -- the source gave more octets than the limit, and those up to it were no reason to stop
+    too_long : job.limit < length given → AreSound (take job.limit given) → ComesTo given f new (Err InputTooLong)
 
   -- a source was read to its end, to a fault or to enough, and what that makes was sent to a drain
   pub record Runs (old new : SourceState) (from to : DrainState) (result : Result A DeviceFault) : Type 0 where

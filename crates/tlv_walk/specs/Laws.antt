@@ -1,22 +1,17 @@
 -- Laws of open forests, of the readings and endings of inputs, and of their events.
-use Rattle.std.specs.Prelude.{◌≡◌, ◌≢◌, ℕ, ◌<◌, List, ◌++◌, All}
+use Rattle.std.specs.Prelude.{◌≡◌, ℕ, ◌<◌, List, ◌++◌, All}
 use Rattle.tlv_head.specs.declared.fault.FaultCode.{FaultCode}
-use Rattle.tlv_head.specs.declared.fault.FaultCode.TheVariants.{Empty, Short}
 use Rattle.tlv_walk.specs.declared.ending.Ending.{Ending}
 use Rattle.tlv_walk.specs.declared.framing.Framing.{Framing}
 use Rattle.tlv_walk.specs.Forest.{Forest, spell}
 use Rattle.tlv_walk.specs.Place.{IsOpen, Place}
-use Rattle.tlv_walk.specs.Reading.{IsPrefixOf, IsReading, IsSoundList}
+use Rattle.tlv_walk.specs.Reading.{CannotBecomeSound, IsPrefixOf, IsReading}
 use Rattle.tlv_walk.specs.Events.{AreEqualJoined, EventValue, events}
-use Rattle.tlv_walk.specs.Ending.{IsEnding, fault}
+use Rattle.tlv_walk.specs.Ending.{IsEnding, IsFinalCode, fault}
 
 -- octets, each below 256
 abbrev pub AreOctets : List ℕ → Type 0
 AreOctets b = All (λ x. x < 256) b
-
--- a code other than F01 and F02, which alone say that the input ends too early
-abbrev pub IsFinalCode : FaultCode → Type 0
-IsFinalCode code = (code ≢ Empty) × (code ≢ Short)
 
 -- each front of an open forest's spelling is the spelling of an open forest
 abbrev pub FrontsAreOpen : Type 0
@@ -45,8 +40,8 @@ FaultsAreFinal = (framing : Framing) (b c : List ℕ) (code : FaultCode) (offset
 
 -- whatever follows such an input, it is no sound list
 abbrev pub FaultsAreRight : Type 0
-FaultsAreRight = (framing : Framing) (b c : List ℕ) (code : FaultCode) (offset : ℕ) → IsFinalCode code
-    → IsEnding framing b (fault code offset) → IsSoundList framing (b ++ c) → ⊥
+FaultsAreRight = (framing : Framing) (b : List ℕ) (code : FaultCode) (offset : ℕ) → IsFinalCode code
+    → IsEnding framing b (fault code offset) → CannotBecomeSound framing b
 
 -- the events of a longer input are, joined, those of the shorter and then others
 abbrev pub EventsGoOn : Type 0

@@ -10,12 +10,12 @@ use Rattle.tlv_walk.specs.declared.run.Turn.{Turn}
 use Rattle.tlv_walk.specs.declared.run.Turn.TheVariants.{Again, Ended}
 use Rattle.tlv_io.specs.Device.{DrainState, Last, SourceState, failed, failures_after, gave, never, next_count}
 use Rattle.tlv_walk.specs.DriveJob.{event_octets}
-use Rattle.tlv_walk.specs.Ending.{IsEnding}
+use Rattle.tlv_walk.specs.Ending.{IsEnding, IsFinalEnding}
 use Rattle.tlv_walk.specs.Events.{AreEqualJoined, EventValue, events}
 use Rattle.tlv_walk.specs.Follow.{Effect, effect_of}
 use Rattle.tlv_walk.specs.FollowsEvents.{FollowsEvents}
 use Rattle.tlv_walk.specs.Forest.{Forest, spell}
-use Rattle.tlv_walk.specs.Job.{IsFinalEnding, drain_result, source_result}
+use Rattle.tlv_walk.specs.Job.{drain_result, source_result}
 use Rattle.tlv_walk.specs.Laws.{AreOctets}
 use Rattle.tlv_walk.specs.WalkerState.{CanTake, WalkerState}
 use Rattle.tlv_io.specs.Out.{Sends}

@@ -7,7 +7,7 @@ use Rattle.tlv_head.specs.Header.{HeaderValue, IsHeader, announced, definite_len
 use Rattle.tlv_head.specs.Refusal.{IsFront}
 use Rattle.tlv_walk.specs.declared.framing.Framing.{Framing}
 use Rattle.tlv_walk.specs.Inside.{is_among}
-use Rattle.tlv_walk.specs.Forest.{Forest, Stop, Fill, Whole, Closed, Partial, Entered, Awaiting, Begun, Zero, extent, is_whole, lead, opening, spell}
+use Rattle.tlv_walk.specs.Forest.{Awaiting, Begun, Closed, Entered, Fill, Forest, Partial, Stop, Whole, Zero, contents_length, extent, is_whole, lead, opening}
 
 -- where a forest is
 pub record Place : Type 0 where
@@ -26,7 +26,14 @@ pub record Place : Type 0 where
 
 -- the start of the input
 abbrev pub top_place : Framing → Place
-top_place framing = record { at = 0; depth = 0; bound = None; indefinite = false; padding = framing.padding; inside = framing.inside }
+top_place framing = record {
+  at = 0;
+  depth = 0;
+  bound = None;
+  indefinite = false;
+  padding = framing.padding;
+  inside = framing.inside;
+}
 
 -- n octets on
 abbrev pub place_after : Place → ℕ → Place
@@ -75,17 +82,19 @@ IsOpen p Stop = Unit {0}
 IsOpen p (Fill rest) = ((p.padding ≡ true) × (p.indefinite ≡ false) × Fits p 1) × IsOpen (place_after p 1) rest
 -- 8.1.4: a primitive with all its contents octets
 IsOpen p (Whole h c rest) =
-    (IsElementAt p false h (length (octets_of h) + length c) × (h.size ≡ Definite (length c))) × IsOpen (place_after p (length (octets_of h) + length c)) rest
+    (IsElementAt p false h (length (octets_of h) + length c) × (h.size ≡ Definite (length c)))
+    × IsOpen (place_after p (length (octets_of h) + length c)) rest
 -- 8.1.4, 8.1.5: an element that holds others and has ended. 8.1.3.3: a definite length is that of the contents
 IsOpen p (Closed h inside rest) =
-    (IsElementAt p true h (extent h inside) × (is_whole inside ≡ true) × IfSome (definite_length h.size) (λ n. length (lead h) + length (spell inside) ≡ n))
+    (IsElementAt p true h (extent h inside) × (is_whole inside ≡ true)
+    × IfSome (definite_length h.size) (λ n. contents_length h inside ≡ n))
     × IsOpen (place_inside p h) inside × IsOpen (place_after p (extent h inside)) rest
 -- 8.1.4: a primitive that lacks contents octets
 IsOpen p (Partial h c) = IsEntry p false h × (length c < announced h.size)
 -- 8.1.4: an element that holds others and has not ended: if what it holds is whole, and the length is
 -- definite, contents octets are lacking
 IsOpen p (Entered h inside) =
-    (IsEntry p true h × (is_whole inside ≡ true → IfSome (definite_length h.size) (λ n. length (lead h) + length (spell inside) < n)))
+    (IsEntry p true h × (is_whole inside ≡ true → IfSome (definite_length h.size) (λ n. contents_length h inside < n)))
     × IsOpen (place_inside p h) inside
 -- 8.6.2.2: a wrapping BIT STRING of which the header alone is there
 IsOpen p (Awaiting h) = IsEntry p true h × (lead h ≡ 0 ∷ [])

@@ -3,7 +3,7 @@ use Rattle.std.specs.Prelude.{◌≡◌, ℕ, ◌+◌, ◌<◌, ◌≤◌, true,
 use Rattle.tlv_head.specs.declared.header.Size.TheVariants.{Definite}
 use Rattle.tlv_head.specs.Header.{definite_length, octets_of}
 use Rattle.tlv_walk.specs.declared.framing.Framing.{Framing}
-use Rattle.tlv_walk.specs.Forest.{Forest, Stop, Fill, Whole, Closed, extent, has_element, lead, spell}
+use Rattle.tlv_walk.specs.Forest.{Closed, Fill, Forest, Stop, Whole, contents_length, extent, has_element, spell}
 use Rattle.tlv_walk.specs.Place.{IsHeadAt, IsOpen, Place, place_after, place_inside, top_place}
 
 -- p is a front of b
@@ -14,7 +14,8 @@ IsPrefixOf p b = (rest : List ℕ) × (p ++ rest ≡ b)
 pub record IsReading (framing : Framing) (b : List ℕ) (f : Forest) : Type 0 where
   pub is_open : IsOpen (top_place framing) f
   pub front : (rest : List ℕ) × (spell f ++ rest ≡ b)
-  pub longest : (g : Forest) → IsOpen (top_place framing) g → (rest : List ℕ) × (spell g ++ rest ≡ b) → length (spell g) ≤ length (spell f)
+  pub longest : (g : Forest) → IsOpen (top_place framing) g → (rest : List ℕ) × (spell g ++ rest ≡ b)
+      → length (spell g) ≤ length (spell f)
 
 -- 8.1.1 to 8.1.5: nothing is open, each definite length is that of the contents, and no element is held by
 -- more than 127 others; padding is between the outermost elements alone
@@ -24,7 +25,7 @@ IsSound p (Fill rest) = (p.padding ≡ true) × IsSound (place_after p 1) rest
 IsSound p (Whole h c rest) =
     IsHeadAt p false h × (h.size ≡ Definite (length c)) × IsSound (place_after p (length (octets_of h) + length c)) rest
 IsSound p (Closed h inside rest) =
-    IsHeadAt p true h × IfSome (definite_length h.size) (λ n. length (lead h) + length (spell inside) ≡ n) × (p.depth < 128)
+    IsHeadAt p true h × IfSome (definite_length h.size) (λ n. contents_length h inside ≡ n) × (p.depth < 128)
     × IsSound (place_inside p h) inside × IsSound (place_after p (extent h inside)) rest
 IsSound p end = ⊥
 
@@ -34,3 +35,7 @@ pub record IsSoundList (framing : Framing) (b : List ℕ) : Type 0 where
   pub sound : IsSound (top_place framing) forest
   pub some : has_element forest ≡ true
   pub octets : spell forest ≡ b
+
+-- no input that begins with p is a sound list
+abbrev pub CannotBecomeSound : Framing → List ℕ → Type 0
+CannotBecomeSound framing p = (rest : List ℕ) → IsSoundList framing (p ++ rest) → ⊥

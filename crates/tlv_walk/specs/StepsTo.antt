@@ -15,7 +15,8 @@ pub record YieldsNext (old new : WalkerState) (before after : List ℕ) (e : Eve
   pub not_failed : (g : Fault) → old.phase ≢ Failed g
   pub taken : List ℕ
   pub piece : before ≡ taken ++ after
-  pub stands : (b : List ℕ) (past : List EventValue) → Stands old b past → Stands new (b ++ taken) (past ++ event_value e ∷ [])
+  pub stands : (b : List ℕ) (past : List EventValue) → Stands old b past
+      → Stands new (b ++ taken) (past ++ event_value e ∷ [])
   -- parts of contents and of padding are not empty
   pub has_octets : HasOctets e
   pub framing : new.framing ≡ old.framing

@@ -35,8 +35,10 @@ pub record IsInHeader (r : HeadReaderState) (at : ℕ) : Type 0 where
 abbrev pub IsPhase : Phase → List Frame → ℕ → ℕ → Type 0
 IsPhase Between stack offset events = events + length stack ≤ offset
 IsPhase (InHeader r) stack offset events = IsInHeader r offset × (events + length stack + length r.octets ≤ offset)
-IsPhase (InContents left) stack offset events = Within (bound_of stack) (offset + left) × (events + length stack + 1 ≤ offset)
-IsPhase BeforeUnused stack offset events = IsInWrapper stack × Within (bound_of stack) (offset + 1) × (events + length stack ≤ offset)
+IsPhase (InContents left) stack offset events =
+    Within (bound_of stack) (offset + left) × (events + length stack + 1 ≤ offset)
+IsPhase BeforeUnused stack offset events =
+    IsInWrapper stack × Within (bound_of stack) (offset + 1) × (events + length stack ≤ offset)
 IsPhase InEnd stack offset events = IsInIndefinite stack × (events + length stack + 1 ≤ offset)
 IsPhase (Failed fault) stack offset events = events + length stack ≤ offset
 

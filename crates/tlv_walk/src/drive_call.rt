@@ -28,6 +28,9 @@ pub fn drive<S: Source, F: Follow, D: Drain>(
 /// Reads the source until it ends, an octet is refused or the follower has enough, and lets the
 /// follower follow what is read. Makes no further read then; at most `limit` + 1 in all.
 ///
+/// If the follower never has enough, the ending is `Done` exactly if the octets read are a sound list of
+/// encodings, and if an octet is refused, no input that begins with them is one.
+///
 /// # Errors
 ///
 /// `ReadFailed` exactly if the source's failures rose in the call, and `WriteFailed` exactly if

@@ -33,9 +33,9 @@ pub trait Follow {
         ensures puts { Puts D.state out.old out.new (next self.old (event_value event.now)).put result }
         ensures state { HasEffect (next self.old (event_value event.now)) self.new result };
 
-    /// Follows a primitive of which all octets are at hand, header and contents: its header, its contents and its end, one after
-    /// another, and wants more after each. Returns whether it did. It may always leave them to [`Follow::on`]: then
-    /// nothing was put, and nothing changed.
+    /// Follows a primitive of which all octets are at hand, header and contents: its header, its contents and its
+    /// end, one after another, and wants more after each. Returns whether it did. It may always leave them to
+    /// [`Follow::on`]: then nothing was put, and nothing changed.
     ///
     /// # Errors
     ///
@@ -50,7 +50,8 @@ pub trait Follow {
         requires whole { IsWhole header.now octets.now }
         ensures puts { Puts D.state out.old out.new
             (put_if_followed result (effect_of next self.old (whole_events header.now octets.now)).put) result }
-        ensures state { HasEffectOrNone (effect_of next self.old (whole_events header.now octets.now)) self.old self.new result }
+        ensures state { HasEffectOrNone (effect_of next self.old (whole_events header.now octets.now))
+            self.old self.new result }
     {
         Ok(false)
     }

@@ -8,9 +8,9 @@ mod event;
 mod follow;
 mod framing;
 pub mod laws;
+mod one_turn;
 mod run;
 mod stack;
-mod one_turn;
 mod walker;
 
 pub use drive_call::{drive, drive_up_to};
@@ -18,9 +18,9 @@ pub use ending::Ending;
 pub use event::{Event, Step};
 pub use follow::{Follow, Go};
 pub use framing::{Framing, Inside};
+pub use one_turn::turn;
 pub use run::{DeviceFault, INPUT_LIMIT, Run, Turn};
 pub use tlv_io::{
     Drain, Held, MemDrain, MemSource, Out, ReadFault, ReadSource, Source, WriteDrain, WriteFault,
 };
-pub use one_turn::turn;
 pub use walker::Walker;

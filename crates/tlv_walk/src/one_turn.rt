@@ -90,7 +90,12 @@ pub(crate) fn turn_to<F: Follow, S: Source, D: Drain>(
 }
 
 /// What a turn returns for this stop, if of `read` octets so many were followed.
-fn result_of_stop(walker: &Walker, stop: Stop, read: usize, followed: usize) -> Result<Turn, DeviceFault>
+fn result_of_stop(
+    walker: &Walker,
+    stop: Stop,
+    read: usize,
+    followed: usize,
+) -> Result<Turn, DeviceFault>
     requires { stop ≡ Stop.UsedUp → CanTake walker.now }
     ensures { IsResultOfStop read followed walker.now stop result }
 {
@@ -162,7 +167,8 @@ fn follow<F: Follow, D: Drain>(
         let go = match walker.close(&mut rest) {
             Some(at) => follower.on(&Event::Close(at), out)?,
             None => match walker.constructed(&mut rest) {
-                // Its event is made here, so that where it is inlined nothing is made of it that the follower does not look at.
+                // Its event is made here: if `on` is inlined, nothing is made of it that the follower does not
+                // look at.
                 Some((fields, octets)) => {
                     follower.on(&Event::Open(Header::new(&fields, octets)), out)?
                 }

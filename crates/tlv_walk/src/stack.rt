@@ -71,8 +71,8 @@ impl Stack {
         self.frames.is_empty()
     }
 
-    /// Opens an element inside the innermost one: where its contents end, if its length is definite, and whether it is a string
-    /// that wraps encodings.
+    /// Opens an element inside the innermost one: where its contents end, if its length is definite, and whether it
+    /// is a string that wraps encodings.
     #[inline(always)]
     pub fn push(&mut self, end: Option<u64>, wrapper: bool)
         requires { length self.old < 128 }
@@ -142,7 +142,8 @@ impl Stack {
         }
     }
 
-    /// Whether contents may go up to this offset: the innermost definite element, if there is one, does not end before it.
+    /// Whether contents may go up to this offset: the innermost definite element, if there is one, does not end
+    /// before it.
     #[inline(always)]
     pub fn reaches(&self, end: u64) -> bool
         ensures { IsTrue result ↔ Within (bound_of self.now) end }

@@ -65,7 +65,7 @@ impl Walker {
     ghost use Rattle.tlv_walk.specs.WalkerState.{first_unused_in, new_walker};
     ghost use Rattle.tlv_walk.specs.Private.WalkerState.{EventWaits, Steps, fault_at};
     ghost use Rattle.tlv_head.specs.declared.fault.Fault.{Fault as FaultOf};
-    ghost use Rattle.tlv_walk.specs.Ending.{IsEnding};
+    ghost use Rattle.tlv_walk.specs.Ending.{IsEnding, ShowsSoundness};
     ghost use Rattle.tlv_walk.specs.Events.{EventValue};
     ghost use Rattle.tlv_walk.specs.Forest.{Forest};
     ghost use Rattle.tlv_walk.specs.OpenCount.{open_count};
@@ -147,11 +147,14 @@ impl Walker {
         }
     }
 
-    /// What the input comes to, if it ends here. After a fault it is that fault.
+    /// What the input comes to, if it ends here. After a fault it is that fault. It is `Done` exactly if
+    /// the input is a sound list of encodings.
     pub fn finish(&self) -> Ending
         requires { IsIdle self.now }
         ensures ending { (o : List ℕ) (past : List EventValue) (e : Ending) → StandsAtEnd self.now o past e
             → IsEnding self.now.framing o result }
+        ensures soundness { (o : List ℕ) (past : List EventValue) (e : Ending) → StandsAtEnd self.now o past e
+            → ShowsSoundness self.now.framing o result }
         ensures failed { (f : FaultOf) → self.now.phase ≡ phases.Failed f → result ≡ Ending.Fault f }
     {
         if let Phase::Failed(fault) = &self.phase {
@@ -189,7 +192,8 @@ impl Walker {
     /// Takes octets from the front of `piece`, up to the next event.
     ///
     /// `NeedMore` comes only with an empty piece and no event waiting. After a fault each step returns
-    /// the same fault and takes nothing.
+    /// the same fault and takes nothing. A fault is no false alarm: no input that begins with the octets
+    /// taken and the one refused is a sound list of encodings.
     #[inline(never)]
     pub fn step<'a>(&mut self, piece: &mut &'a [u8]) -> Step<'a>
         requires { self.old.offset + length piece.old.now ≤ 2 ^ 40 }

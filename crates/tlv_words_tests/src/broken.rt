@@ -1,5 +1,5 @@
-//! Reads that fail after the first piece: what it held is written, and no read is made after an octet that is refused or a whole
-//! element.
+//! Reads that fail after the first piece: what it held is written, and no read is made after an octet
+//! that is refused or a whole element.
 use crate::READ_FAILED;
 use crate::row::{Case, command_for};
 use crate::runs::{Answer, Devices, expect_run};
@@ -31,7 +31,10 @@ static BROKEN: [Broken<'static>; 7] = [
         words: "dump --rules der",
         input: b"\x3a\x80\x04\x03Jon\x04\x02es\x00\x00",
         first: 2,
-        written: b"       0    D01: indefinite length\n       0    D02: constructed string\n       0  indef: VisibleString {\n",
+        written: b"       0    D01: indefinite length
+       0    D02: constructed string
+       0  indef: VisibleString {
+",
         status: 3,
         message: READ_FAILED,
     },

@@ -146,7 +146,7 @@ pub(crate) static RULES: [Judged<'static>; 7] = [
     (&["check", "--rules", "xer"], Comes::Value("--rules")),
 ];
 
-/// Values out of range, one of them told.
+/// Values out of range, of which one is reported.
 pub(crate) static REFUSED_VALUES: [Judged<'static>; 7] = [
     (
         &["dump", "--limit", "x", "--inside", "4,"],

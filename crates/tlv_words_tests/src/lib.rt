@@ -1,5 +1,5 @@
-//! The tests from words to octets, by what `tlv_words` and `tlv_run` make public: what words ask for, and what is written and
-//! reported then. Each row of tests/rows is run here in every way.
+//! The tests from words to octets, by what `tlv_words` and `tlv_run` make public: what words ask for,
+//! and what is written and reported then. Each row of tests/rows is run here in every way.
 #![tactic(auto)]
 
 #[cfg(test)]

@@ -59,8 +59,8 @@ fn push_openings(
     Ok(())
 }
 
-/// Adds the closing lines of so many elements, of which the outermost is at level 0: the first end-of-contents octets have this
-/// offset.
+/// Adds the closing lines of so many elements, of which the outermost is at level 0: the first
+/// end-of-contents octets have this offset.
 fn push_closings(alloc: Global, text: &mut Vec<u8>, offset: u64, count: u64) -> Result<(), Fail> {
     for i in 0..count {
         let at = offset.saturating_add(i.saturating_mul(2));
@@ -72,8 +72,9 @@ fn push_closings(alloc: Global, text: &mut Vec<u8>, offset: u64, count: u64) -> 
     Ok(())
 }
 
-/// Adds the lines that a group asks for: `openings,0,1,128` the opening lines of 128 elements, the first at offset 0 and level 1;
-/// `closings,256,128` their closing lines. Returns whether it is such a group.
+/// Adds the lines that a group asks for: `openings,0,1,128` the opening lines of 128 elements, the
+/// first at offset 0 and level 1; `closings,256,128` their closing lines. Returns whether it is such
+/// a group.
 pub(crate) fn push_lines(alloc: Global, text: &mut Vec<u8>, group: &str) -> Result<bool, Fail> {
     let (word, numbers) = group.split_once(',').unwrap_or((group, ""));
     let (first, rest) = numbers.split_once(',').unwrap_or((numbers, ""));

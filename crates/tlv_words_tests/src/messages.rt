@@ -1,4 +1,4 @@
-//! What is told where no input is read, and how it is told.
+//! What is reported if no input is read, and how it is written.
 use crate::expect::expect_eq;
 use std::process::Abort;
 use tlv_run::{Report, closed_report, device_report, names_report, tell};

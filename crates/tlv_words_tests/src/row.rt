@@ -5,12 +5,13 @@
 //! 1. where the row stands;
 //! 2. the words after the program's name;
 //! 3. the octets of the names file, 4. of the input, and 5. of what is written;
-//! 6. pairs as `7:33`, with a comma between two of them: with 7 octets of the input 33 of the output have come; nothing where
-//!    that is not said;
+//! 6. pairs as `7:33`, with a comma between two of them: with 7 octets of the input 33 of the output
+//!    have come; nothing if that is not said;
 //! 7. the status, 8. the number of findings, and 9. the message.
 //!
-//! Octets are groups with a space between two of them. A group is pairs of hexadecimal digits, and where they stand there more
-//! than once `*` and how often. Groups of the output may also be lines of nested elements, as `long.rt` makes them.
+//! Octets are groups with a space between two of them. A group is pairs of hexadecimal digits, and if
+//! they are there more than once `*` and how often. Groups of the output may also be lines of nested
+//! elements, as `long.rt` makes them.
 use crate::long::push_lines;
 use std::alloc::Global;
 use std::test::Fail;
@@ -22,7 +23,7 @@ use tlv_words::{Words, command_of};
 /// A command, an input, and what a run of it writes and reports.
 #[derive(Drop)]
 pub(crate) struct Case<'a> {
-    /// What is told where a run does something else.
+    /// What is reported if a run does something else.
     pub place: &'a str,
     pub command: Command,
     pub names: Names,

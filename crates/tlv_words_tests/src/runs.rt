@@ -70,8 +70,8 @@ fn answer_in<'a>(report: &'a Report, written: &'a [u8]) -> Answer<'a> {
     }
 }
 
-/// Whether nothing that follows the octets of a run with this answer could change it: an octet was refused, or the element of
-/// `extract` was whole.
+/// Whether nothing that follows the octets of a run with this answer could change it: an octet was
+/// refused, or the element of `extract` was whole.
 fn is_final(command: &Command, answer: Answer<'_>) -> bool {
     if answer.status == 2 {
         let text = answer.message;
@@ -183,8 +183,8 @@ fn expect_failed_read(
     expect_run(rt, case, case.input.as_slice(), devices, room, answer);
 }
 
-/// Each read of one octet fails in turn: what was written is the output of the octets before it. No read is made after an
-/// octet that is refused, nor after a whole element.
+/// Each read of one octet fails in turn: what was written is the output of the octets before it. No
+/// read is made after an octet that is refused, nor after a whole element.
 pub(crate) fn expect_failed_reads(
     rt: &impl Abort,
     case: &Case<'_>,
@@ -222,8 +222,8 @@ fn expect_too_little_room(rt: &impl Abort, case: &Case<'_>, devices: Devices<'_>
     }
 }
 
-/// The drain has room for each number of octets that is too small, and takes at most 1, 7 or 4096 with a write. A short input
-/// comes in single octets too.
+/// The drain has room for each number of octets that is too small, and takes at most 1, 7 or 4096
+/// with a write. A short input comes in single octets too.
 pub(crate) fn expect_failed_writes(rt: &impl Abort, case: &Case<'_>, room: &mut [u8]) {
     for most in [1, 7, 4096] {
         let devices = Devices {

@@ -1,20 +1,26 @@
 -- `indef` does its job: it is a walk that an `Indef` follows, which always wants more.
-use Rattle.std.proofs.Common.{◌≡◌, ℕ, ◌^◌, ◌≤◌, Bool, false, List, length, ap, ◌∙◌}
+use Rattle.std.proofs.Common.{◌≡◌, ℕ, ◌^◌, ◌≤◌, Bool, false, List, ◌++◌, length, take, sym, ap, ◌∙◌, subst, append-nil}
 use Rattle.std.specs.Prelude.{Ok, Err}
 use Rattle.tlv_walk.specs.declared.run.DeviceFault.{DeviceFault}
 use Rattle.tlv_walk.specs.declared.run.Run.{Run}
-use Rattle.tlv_io.specs.Device.{DrainState, SourceState}
+use Rattle.tlv_io.specs.Device.{DrainState, SourceState, octets_given}
+use Rattle.tlv_walk.specs.declared.ending.Ending.{Ending}
+use Rattle.tlv_walk.specs.declared.ending.Ending.TheVariants.{Done}
+use Rattle.tlv_walk.specs.Ending.{IsEnding}
 use Rattle.tlv_walk.specs.DriveJob.{Drives, had_enough}
 use Rattle.tlv_walk.specs.Events.{events}
 use Rattle.tlv_walk.specs.Follow.{Effect, effect_of, followed_events}
 use Rattle.tlv_walk.specs.Forest.{Forest}
 use Rattle.tlv_walk.specs.Job.{Runs}
 use Rattle.tlv_walk.specs.Reading.{IsReading}
+use Rattle.tlv_walk.proofs.FollowerLemmas.Enough.{Settled, ends_with, returns}
 use Rattle.tlv_walk.proofs.FollowerLemmas.Jobs as jobs
 use Rattle.tlv_cut.specs.IndefText.{indef_text}
 use Rattle.tlv_cut.specs.IndefStep.{IndefState, indef_step}
 use Rattle.tlv_cut.specs.IndefJob.{indef_job, indef_framing}
+use Rattle.tlv_cut.specs.IndefRun.{IsReadBack, RunsIndef}
 use Rattle.tlv_cut.proofs.IndefLemmas.Elements.{followed-events, followed-indef_step}
+use Rattle.tlv_cut.proofs.IndefLemmas.SecondReading.{indef_text_is_done, indef_text_is_read_back}
 
 module _ (padding : Bool) (s t : IndefState) (old new : SourceState) (from to : DrainState) where
   -- what is put for a reading is what `indef` writes
@@ -27,14 +33,40 @@ module _ (padding : Bool) (s t : IndefState) (old new : SourceState) (from to : 
       → had_enough (effect_of indef_step s (events f)).goes ≡ false
   goes_on octets f few r = ap (λ (k : Effect IndefState). had_enough k.goes) (followed-indef_step s (events f))
 
-  pub indef_ok : (run : Run) → Drives indef_step (indef_framing padding) (2 ^ 40) s t old new from to (Ok run)
+  -- if it is done, what it wrote is read back
+  read_back : (e : Ending) (x : Runs (indef_job padding) old new from to (Ok e)) → e ≡ Done → IsReadBack padding x.reading x.sends.sent
+  read_back e x done =
+      let w = indef_framing padding in
+      let given : List ℕ = octets_given x.pieces in
+      let octets : List ℕ = take (2 ^ 40) given in
+      let k = returns (indef_job padding) given x.reading new (Ok e) x.comes in
+      let ends : IsEnding w octets k.0 = ends_with w octets false k.0 (Settled (indef_job padding) given x.reading new k.0) k.2 in
+      let again = indef_text_is_read_back padding octets x.reading x.is_reading in
+      let all : x.sends.sent ≡ indef_text x.reading =
+      sym (append-nil x.sends.sent) ∙ ap (λ (l : List ℕ). x.sends.sent ++ l) (sym x.sends.all) ∙ x.sends.front in
+      subst (λ (l : List ℕ). IsReadBack padding x.reading l) (sym all) (record {
+        is_reading = again.0;
+        is_done = indef_text_is_done padding octets x.reading x.is_reading (subst (λ (d : Ending). IsEnding w octets d) (sym k.1 ∙ done) ends);
+        same_again = again.1;
+      })
+
+  runs_ok : (run : Run) → Drives indef_step (indef_framing padding) (2 ^ 40) s t old new from to (Ok run)
       → Runs (indef_job padding) old new from to (Ok run.ending)
-  indef_ok run x =
+  runs_ok run x =
       jobs.runs_ok indef_step (indef_job padding) s text goes_on t old new from to run run.ending x
       (λ octets f e few r state is. ap (λ (k : Run). k.ending) is
       ∙ jobs.run-ending (indef_framing padding) f (followed_events indef_step s (events f))
       (effect_of indef_step s (events f)).goes e)
 
+  pub indef_ok : (run : Run) → Drives indef_step (indef_framing padding) (2 ^ 40) s t old new from to (Ok run)
+      → RunsIndef padding old new from to (Ok run.ending)
+  indef_ok run x =
+      let runs : Runs (indef_job padding) old new from to (Ok run.ending) = runs_ok run x in
+      record { runs = runs; read_back = λ is. read_back run.ending runs (cc (is)) }
+
   pub indef_err : (e : DeviceFault) → Drives indef_step (indef_framing padding) (2 ^ 40) s t old new from to (Err e)
-      → Runs (indef_job padding) old new from to (Err e)
-  indef_err e x = jobs.runs_err indef_step (indef_job padding) s text goes_on t old new from to e x
+      → RunsIndef padding old new from to (Err e)
+  indef_err e x = record {
+    runs = jobs.runs_err indef_step (indef_job padding) s text goes_on t old new from to e x;
+    read_back = λ is. absurd (cc (is));
+  }

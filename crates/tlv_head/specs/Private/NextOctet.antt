@@ -37,13 +37,16 @@ pub record BeginsWithLength (octets : List ℕ) (constructed : Bool) (size : Siz
 -- octets begin with no identifier of at most three octets that has another octet after it
 abbrev pub BeginsWithNoIdentifier : List ℕ → Type 0
 BeginsWithNoIdentifier octets =
-    (class : Class) (constructed : Bool) (number : ℕ) (identifier rest : List ℕ) → IsIdentifier class constructed number identifier
-    → length identifier ≤ 3 → rest ≢ [] → octets ≡ identifier ++ rest → ⊥
+    (class : Class) (constructed : Bool) (number : ℕ) (identifier rest : List ℕ)
+    → IsIdentifier class constructed number identifier → length identifier ≤ 3
+    → rest ≢ [] → octets ≡ identifier ++ rest → ⊥
 
 -- octets begin with no length of at most three octets that an element of that form may have
 abbrev pub BeginsWithNoLength : List ℕ → Bool → Type 0
 BeginsWithNoLength octets constructed =
-    (size : Size) (lengths rest : List ℕ) → IsLength size lengths → AllowsSize constructed size → length lengths ≤ 3 → octets ≡ lengths ++ rest → ⊥
+    (size : Size) (lengths rest : List ℕ)
+    → IsLength size lengths → AllowsSize constructed size → length lengths ≤ 3
+    → octets ≡ lengths ++ rest → ⊥
 
 -- what an octet makes of the octets before
 abbrev pub MakesNext : List ℕ → ℕ → Next → Type 0

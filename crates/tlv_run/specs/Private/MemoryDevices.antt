@@ -5,7 +5,12 @@ use Rattle.tlv_io.specs.MemSource.{MemSourceState}
 
 -- a source that fails with no read shows no failure
 abbrev pub ending_source_state : MemSourceState → SourceState
-ending_source_state source = record { left = Some source.left; reads = source.log.reads; last = source.log.last; failures = 0 }
+ending_source_state source = record {
+  left = Some source.left;
+  reads = source.log.reads;
+  last = source.log.last;
+  failures = 0;
+}
 
 -- if another would give nothing, at its end, such a source fails
 abbrev pub or_failed : Last → Last
@@ -30,4 +35,7 @@ failing_source_state source failures = record {
 
 -- what a drain shows of itself that has room for so many octets: its writes fail only if it is full
 abbrev pub room_state : ℕ → List ℕ → ℕ → DrainState
-room_state room octets failures = record { octets = Some octets; failures = if ltb (length octets) room then 0 else failures }
+room_state room octets failures = record {
+  octets = Some octets;
+  failures = if ltb (length octets) room then 0 else failures;
+}

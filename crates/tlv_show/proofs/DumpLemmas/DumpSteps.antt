@@ -1,5 +1,5 @@
 -- What a dump makes of an event: what its lines and its finder make of it.
-use Rattle.std.proofs.Common.{◌≡◌, ℕ, Bool, true, false, if◌then◌else◌, List, [], ◌∷◌, ◌++◌, refl, sym, ap, ◌∙◌}
+use Rattle.std.proofs.Common.{◌≡◌, ℕ, Bool, List, [], ◌∷◌, ◌++◌, refl, sym, ap, ◌∙◌}
 use Rattle.std.specs.Prelude.{Err, IsErr, Ok, OnOk, Result}
 use Rattle.tlv_io.specs.declared.out.Out.{Out}
 use Rattle.tlv_io.specs.Device.{DrainState}
@@ -9,10 +9,9 @@ use Rattle.tlv_walk.specs.declared.follow.Go.{Go}
 use Rattle.tlv_walk.specs.declared.follow.Go.TheVariants as go
 use Rattle.tlv_walk.specs.Events.{Begin, Bytes, Close, End, Enter, EventValue, Leave, Open, Pad, Unused}
 use Rattle.tlv_walk.specs.Follow.{Effect, each_octet, effect_of, if_on}
-use Rattle.tlv_show.specs.LinesStep.{lines_octet_step, lines_padding_step, lines_step}
-use Rattle.tlv_show.specs.DumpStep.{DumpState, dump_octet_step, dump_padding_step, dump_step, finding_lines, findings_first}
-use Rattle.tlv_show.specs.FinderState.{FinderState, Finds, find_begin, find_bytes, find_open}
-use Rattle.tlv_head.specs.Header.{HeaderValue}
+use Rattle.tlv_show.specs.LinesStep.{lines_octet_step, lines_padding_step}
+use Rattle.tlv_show.specs.DumpStep.{DumpState, dump_octet_step, dump_padding_step, dump_step, finding_lines}
+use Rattle.tlv_show.specs.FinderState.{FinderState, Finds, find_bytes}
 use Rattle.tlv_show.specs.Private.CheckStep.{last_finding_lines}
 use Rattle.tlv_show.specs.Private.FinderState.{ReportsFindings, finds_if}
 use Rattle.tlv_show.specs.declared.finding_lines.Style.{Style}

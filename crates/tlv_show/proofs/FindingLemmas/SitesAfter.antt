@@ -1,9 +1,7 @@
 -- Where the next element is.
-use Rattle.std.specs.Prelude.{ℕ, ◌+◌, Bool, true, false, ◌&&◌, List, length, Option, Some, None, slice_get}
-use Rattle.std.specs.Option.{option_map_or}
+use Rattle.std.specs.Prelude.{ℕ, ◌+◌, List, length, None, slice_get}
 use Rattle.tlv_head.specs.Header.{HeaderValue, octets_of}
-use Rattle.tlv_value.specs.Types.{bit_string, has_segments, is_a}
-use Rattle.tlv_walk.specs.Forest.{Forest, extent, opening}
+use Rattle.tlv_walk.specs.Forest.{Forest, extent}
 use Rattle.tlv_show.specs.Site.{Padding, Sibling, Site, onward}
 
 -- after a primitive, after an element that holds others, and after an octet of padding

@@ -10,4 +10,7 @@ if_open is_open value = if is_open then Some value else None
 
 -- after a primitive with these contents
 abbrev pub past_primitive : LinesState → HeaderValue → List ℕ → LinesState
-past_primitive s h contents = record (past_header s h) { offset = offset_after (past_header s h).offset (length contents); value = None }
+past_primitive s h contents = record (past_header s h) {
+  offset = offset_after (past_header s h).offset (length contents);
+  value = None;
+}

@@ -17,12 +17,18 @@ new_nesting = record { frame = top_frame; outer = [] }
 
 -- an element that holds others begins. Past 128 of them no frame is kept
 abbrev pub nesting_inside : NestingState → HeaderValue → NestingState
-nesting_inside s h = if nat_lt (length s.outer) 128 then record { frame = frame_under s.frame h; outer = s.frame ∷ s.outer } else s
+nesting_inside s h =
+    if nat_lt (length s.outer) 128
+    then record { frame = frame_under s.frame h; outer = s.frame ∷ s.outer }
+    else s
 
 -- it ends
 abbrev pub nesting_around : Frame → List Frame → NestingState
 nesting_around closed [] = record { frame = closed; outer = [] }
-nesting_around closed (w ∷ outer) = record { frame = frame_after w closed.is_primitive closed.size false; outer = outer }
+nesting_around closed (w ∷ outer) = record {
+  frame = frame_after w closed.is_primitive closed.size false;
+  outer = outer;
+}
 
 abbrev pub nesting_outside : NestingState → NestingState
 nesting_outside s = nesting_around s.frame s.outer
@@ -70,7 +76,8 @@ abbrev pub innermost_of : List Kept → Option Kept
 innermost_of [] = None
 innermost_of (k ∷ outer) = Some k
 
-pub record IsTakenBack (closed : Frame) (k : Kept) (outer : List Kept) (w : Frame) (plain : ℕ) (rest : List Kept) : Type 0 where
+pub record IsTakenBack (closed : Frame) (k : Kept) (outer : List Kept) (w : Frame) (plain : ℕ) (rest : List Kept)
+    : Type 0 where
   pub frame : w ≡ frame_after k.frame closed.is_primitive closed.size false
   pub count : plain ≡ k.plain
   pub others : rest ≡ outer

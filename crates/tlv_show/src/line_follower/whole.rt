@@ -1,5 +1,5 @@
-//! The lines of a primitive of which all octets are at hand. Written at once, nothing is kept of it: no contents are copied, and
-//! its type is asked for once, not again with its contents and its end.
+//! The lines of a primitive of which all octets are at hand. Written at once, nothing is kept of it:
+//! no contents are copied, and its type is asked for once, not again with its contents and its end.
 ghost use Rattle.std.specs.FinMap as finite;
 ghost use Rattle.std.specs.Prelude.{◌≡◌, length};
 ghost use Rattle.tlv_head.specs.Header.{announced};

@@ -24,7 +24,8 @@ fn whole(octets: u64) -> Run {
     }
 }
 
-/// Expects the lines of the string read by read of four octets, each with its octets: 1 behind the first, then 2, 4 and 4.
+/// Expects the lines of the string read by read of four octets, each with its octets: 1 after the
+/// first, then 2, 4 and 4.
 fn expect_reads(rt: &impl Abort, limit: u64)
     requires { limit ≤ 2 ^ 40 }
 {

@@ -62,9 +62,9 @@ const LINES: &[u8] = b"       0     17: INTEGER
                    00
 ";
 
-/// An `Out` holds 4096 octets, and hands them to the drain before a line where room for fewer than 1024 is left. So it
-/// depends on how many were put before, which call fails. Whichever it is, the drain has then as much of what was put as
-/// it has room for.
+/// An `Out` holds 4096 octets, and hands them to the drain before a line if room for fewer than 1024
+/// is left. So it depends on how many were put before, which call fails. Whichever it is, the drain
+/// has then as much of what was put as it has room for.
 #[test]
 fn drains_without_room(rt: HostRuntime) {
     let mut room = [0; 4300];

@@ -25,7 +25,7 @@ fn put_five(text: &mut ValueText, drain: &mut MemDrain<'_>) -> Option<()> {
     out.flush().ok()
 }
 
-/// The same, told at once.
+/// The same, written at once.
 fn put_five_whole(header: &Header, drain: &mut MemDrain<'_>) -> Option<()> {
     let octets = b"\x05";
     if !matches!(header.size, tlv_head::Size::Definite(1)) {

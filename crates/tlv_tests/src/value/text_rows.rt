@@ -221,7 +221,9 @@ pub(super) static OTHER_ROWS: [Row<'static>; 4] = [
         ],
     },
     Row {
-        element: b"\x1e\x41\x00a\x00a\x00a\x00a\x00a\x00a\x00a\x00a\x00a\x00a\x00a\x00a\x00a\x00a\x00a\x00a\x00a\x00a\x00a\x00a\x00a\x00a\x00a\x00a\x00a\x00a\x00a\x00a\x00a\x00a\x00a\x00a ",
+        element: b"\x1e\x41\
+            \x00a\x00a\x00a\x00a\x00a\x00a\x00a\x00a\x00a\x00a\x00a\x00a\x00a\x00a\x00a\x00a\
+            \x00a\x00a\x00a\x00a\x00a\x00a\x00a\x00a\x00a\x00a\x00a\x00a\x00a\x00a\x00a\x00a ",
         lines: &[
             "       0     65: BMPString",
             "                   \"aaaaaaaaaaaaaaaaaaaaaaaaaaaaaaaa\"",
@@ -229,7 +231,12 @@ pub(super) static OTHER_ROWS: [Row<'static>; 4] = [
         ],
     },
     Row {
-        element: b"\x1c\x43\x00\x00\x00a\x00\x00\x00a\x00\x00\x00a\x00\x00\x00a\x00\x00\x00a\x00\x00\x00a\x00\x00\x00a\x00\x00\x00a\x00\x00\x00a\x00\x00\x00a\x00\x00\x00a\x00\x00\x00a\x00\x00\x00a\x00\x00\x00a\x00\x00\x00a\x00\x00\x00a\x00\x01\xf6",
+        element: b"\x1c\x43\
+            \x00\x00\x00a\x00\x00\x00a\x00\x00\x00a\x00\x00\x00a\
+            \x00\x00\x00a\x00\x00\x00a\x00\x00\x00a\x00\x00\x00a\
+            \x00\x00\x00a\x00\x00\x00a\x00\x00\x00a\x00\x00\x00a\
+            \x00\x00\x00a\x00\x00\x00a\x00\x00\x00a\x00\x00\x00a\
+            \x00\x01\xf6",
         lines: &[
             "       0     67: UniversalString",
             "                   \"aaaaaaaaaaaaaaaa\"",
@@ -237,10 +244,16 @@ pub(super) static OTHER_ROWS: [Row<'static>; 4] = [
         ],
     },
     Row {
-        element: b"\x1e\x42 \xac \xac \xac \xac \xac \xac \xac \xac \xac \xac \xac \xac \xac \xac \xac \xac \xac \xac \xac \xac \xac \xac \xac \xac \xac \xac \xac \xac \xac \xac \xac \xac \xac",
+        element: b"\x1e\x42 \
+            \xac \xac \xac \xac \xac \xac \xac \xac \xac \xac \xac \xac \
+            \xac \xac \xac \xac \xac \xac \xac \xac \xac \xac \xac \xac \
+            \xac \xac \xac \xac \xac \xac \xac \xac \xac",
         lines: &[
             "       0     66: BMPString",
-            "                   \"\\u{20ac}\\u{20ac}\\u{20ac}\\u{20ac}\\u{20ac}\\u{20ac}\\u{20ac}\\u{20ac}\\u{20ac}\\u{20ac}\\u{20ac}\\u{20ac}\\u{20ac}\\u{20ac}\\u{20ac}\\u{20ac}\\u{20ac}\\u{20ac}\\u{20ac}\\u{20ac}\\u{20ac}\\u{20ac}\\u{20ac}\\u{20ac}\\u{20ac}\\u{20ac}\\u{20ac}\\u{20ac}\\u{20ac}\\u{20ac}\\u{20ac}\\u{20ac}\"",
+            "                   \"\\u{20ac}\\u{20ac}\\u{20ac}\\u{20ac}\\u{20ac}\\u{20ac}\\u{20ac}\\u{20ac}\
+                \\u{20ac}\\u{20ac}\\u{20ac}\\u{20ac}\\u{20ac}\\u{20ac}\\u{20ac}\\u{20ac}\
+                \\u{20ac}\\u{20ac}\\u{20ac}\\u{20ac}\\u{20ac}\\u{20ac}\\u{20ac}\\u{20ac}\
+                \\u{20ac}\\u{20ac}\\u{20ac}\\u{20ac}\\u{20ac}\\u{20ac}\\u{20ac}\\u{20ac}\"",
             "                   \"\\u{20ac}\"",
         ],
     },

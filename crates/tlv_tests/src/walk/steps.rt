@@ -90,7 +90,7 @@ fn a_header_is_cut(rt: HostRuntime) {
     expect_need(&rt, &mut walker, b"");
 }
 
-/// Contents are told in the parts in which they come, and ends without a further octet.
+/// Contents are yielded in the parts in which they come, and ends without a further octet.
 #[test]
 fn contents_are_cut(rt: HostRuntime) {
     let mut walker = Walker::new(&Framing::plain());
@@ -117,7 +117,8 @@ fn expect_fault(rt: &impl Abort, walker: &mut Walker, octets: &[u8], fault: Faul
     expect_eq(rt, finish(rt, walker), Ending::Fault(fault));
 }
 
-/// Behind a fault the walker stands where it stood before the octet that is refused: here that of the third header's length.
+/// After a fault the walker is as it was before the octet that is refused: here that of the third
+/// header's length.
 #[test]
 fn what_is_open_stays_so_behind_a_fault(rt: HostRuntime) {
     let mut walker = Walker::new(&Framing::plain());

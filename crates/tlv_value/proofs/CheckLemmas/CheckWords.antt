@@ -1,11 +1,7 @@
 -- Words of what strings may hold, of all of their octets.
-use Rattle.std.specs.Prelude.{ℕ, ◌%◌, Bool, true, false, ◌&&◌, eqb, if◌then◌else◌, List, [], length}
+use Rattle.std.specs.Prelude.{ℕ, ◌%◌, Bool, true, ◌&&◌, eqb, if◌then◌else◌, List, length}
 use Rattle.std.specs.Str.{is_utf8}
-use Rattle.tlv_head.specs.declared.header.Class.TheVariants.{Universal}
-use Rattle.tlv_head.specs.declared.header.Size.TheVariants.{Definite}
-use Rattle.tlv_head.specs.Header.{HeaderValue}
-use Rattle.tlv_value.specs.declared.finding.Finding.{Finding}
-use Rattle.tlv_value.specs.Checks.{allows_octet, every, findings_on_contents, is_padded_after}
+use Rattle.tlv_value.specs.Checks.{allows_octet, every, is_padded_after}
 
 abbrev pub is_padded_object : List ℕ → Bool
 is_padded_object octets = is_padded_after 0 octets

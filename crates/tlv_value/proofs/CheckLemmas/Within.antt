@@ -6,7 +6,7 @@ use Rattle.std.proofs.lemmas.Bool.{or_cases, leb-true, le-leb}
 use Rattle.std.proofs.lemmas.Bool.Decides.{nat_tests}
 use Rattle.std.proofs.lemmas.List.Folds.{list_any-append}
 use Rattle.tlv_value.specs.Times.{◌then◌, ◌or◌, Form, canonical_fraction, canonical_general_time, canonical_utc_time, day, digits, fraction, general_time, general_zone, has_form, hour, is_digit, is_rest_empty, mark, maybe, minute, no_octets, one, second, sign, two, utc_time}
-use Rattle.tlv_value.specs.CheckNotes.{time_findings}
+use Rattle.tlv_value.specs.CheckNotes.{general_time_findings, time_findings, utc_time_findings}
 
 abbrev is_nil : List ℕ → Bool
 is_nil [] = true
@@ -218,10 +218,10 @@ clear-within {f} {g} w octets =
 
 pub utc_clear :
     (octets : List ℕ)
-    → has_form canonical_utc_time octets ≡ eqb (length (time_findings (has_form utc_time octets) (has_form canonical_utc_time octets))) 0
+    → has_form canonical_utc_time octets ≡ eqb (length (utc_time_findings octets)) 0
 utc_clear octets = clear-within utc-within octets
 
 pub general_clear :
     (octets : List ℕ)
-    → has_form canonical_general_time octets ≡ eqb (length (time_findings (has_form general_time octets) (has_form canonical_general_time octets))) 0
+    → has_form canonical_general_time octets ≡ eqb (length (general_time_findings octets)) 0
 general_clear octets = clear-within general-within octets

@@ -1,6 +1,6 @@
 -- Words of object identifiers.
-use Rattle.std.specs.Prelude.{ℕ, ◌-◌, Bool, true, false, nat_lt, if◌then◌else◌, List, [], ◌∷◌, ◌++◌, flat_map, codes, decimal}
-use Rattle.std.specs.List.{join_by, list_all}
+use Rattle.std.specs.Prelude.{ℕ, Bool, nat_lt, List, ◌++◌, flat_map, codes, decimal}
+use Rattle.std.specs.List.{list_all}
 
 abbrev pub all_below : ℕ → List ℕ → Bool
 all_below bound vs = list_all (λ v. nat_lt v bound) vs

@@ -14,9 +14,9 @@ use Rattle.tlv_value.specs.Private.PrimitiveLines.{front_of, primitive_line, pri
 use Rattle.tlv_value.specs.declared.primitive.Primitive.{Primitive}
 use Rattle.tlv_value.specs.Rows.{full_rows, last_rows}
 use Rattle.tlv_value.specs.TextState.{RowsState, TextState, contents_lines, end_lines, line_in, row_lines}
-use Rattle.tlv_value.specs.KindValues.{bits_value, boolean_value, integer_value, is_long, is_readable, kind_value, long_text, row_octets}
+use Rattle.tlv_value.specs.KindValues.{bits_value, boolean_value, integer_value, kind_value, long_text, row_octets}
 use Rattle.tlv_value.specs.Private.KindValues.{plain_text}
-use Rattle.tlv_value.specs.Value.{NameOf, Value, bit_count, most_on_line, no_names, octets_value, row_text, used_digits, value_on_line}
+use Rattle.tlv_value.specs.Value.{NameOf, Value, bit_count, is_long, is_readable, most_on_line, no_names, octets_value, row_text, used_digits, value_on_line}
 
 -- rows of octets are the same for an object identifier
 object-rows : (layout : Layout) (i : ℕ) (rows : List (List ℕ)) → row_lines Object layout i rows ≡ row_lines Octets layout i rows

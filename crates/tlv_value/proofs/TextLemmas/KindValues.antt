@@ -8,12 +8,12 @@ use Rattle.tlv_value.specs.declared.kind.Kind.{Kind}
 use Rattle.tlv_value.specs.declared.kind.Kind.TheVariants.{Octets, Boolean, Integer, Bits, Object, Relative, Text, Utf8, Ucs2, Ucs4}
 use Rattle.tlv_value.specs.declared.layout.Layout.{Layout}
 use Rattle.tlv_value.specs.Arcs.{dotted_text}
-use Rattle.tlv_value.specs.KindValues.{is_long, kind_value, long_text, object_text, row_octets}
+use Rattle.tlv_value.specs.KindValues.{kind_value, long_text, object_text, row_octets}
 use Rattle.tlv_value.specs.Layout.{row_line}
 use Rattle.tlv_value.specs.Rows.{full_rows, rows_from}
 use Rattle.tlv_value.proofs.RowLemmas.RowCut.{cut_rows}
 use Rattle.tlv_value.specs.TextState.{has_line, kind_by, line_in, new_text, open_lines, row_lines, value_lines, whole_lines}
-use Rattle.tlv_value.specs.Value.{NameOf, Value, bit_count, long_value, no_names, octets_value, row_text, short_value, value_on_line, whole_value}
+use Rattle.tlv_value.specs.Value.{NameOf, Value, bit_count, is_long, long_value, no_names, octets_value, row_text, short_value, value_on_line, whole_value}
 use Rattle.tlv_value.proofs.RowLemmas.RowsFrom.{rows-full, rows-whole}
 
 abbrev pub value_with : List ℕ → List (List ℕ) → Value

@@ -12,8 +12,8 @@ use Rattle.tlv_value.specs.Rows.{full_rows, has_room, last_rows, open_row, row_s
 use Rattle.tlv_value.proofs.RowLemmas.RowCut.{cut_rows}
 use Rattle.tlv_value.specs.Private.PrimitiveLines.{lines_in_steps, new_text_of, primitive_line, primitive_lines, primitive_of}
 use Rattle.tlv_value.specs.TextState.{RowsState, TextState, begin_lines, contents_lines, end_lines, first_rows, first_rows_after, full_row_lines, has_line, kind_in, line_in, new_text, open_lines, row_lines, rows_after, rows_state_after, text_after, whole_lines}
-use Rattle.tlv_value.specs.KindValues.{is_long, kind_value, long_text, row_octets}
-use Rattle.tlv_value.specs.Value.{NameOf}
+use Rattle.tlv_value.specs.KindValues.{kind_value, long_text, row_octets}
+use Rattle.tlv_value.specs.Value.{NameOf, is_long}
 use Rattle.std.proofs.lemmas.Bool.Decides.{nat_tests}
 use Rattle.tlv_value.proofs.TextLemmas.KindValues.{open-lines-by, whole-lines}
 use Rattle.tlv_value.proofs.TextLemmas.Puts.{row_lines-append}

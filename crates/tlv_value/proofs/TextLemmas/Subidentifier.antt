@@ -1,6 +1,5 @@
 -- One subidentifier.
-use Rattle.std.specs.Prelude.{ℕ, ◌-◌, ◌%◌, ◌^◌, Bool, true, false, ◌&&◌, nat_lt, nat_le, if◌then◌else◌, List, [], ◌∷◌, ◌++◌, length, map, slice_index, Option, Some, None, codes, decimal}
-use Rattle.std.specs.List.{join_by, list_all, onto_first}
+use Rattle.std.specs.Prelude.{ℕ, ◌%◌, List, map}
 use Rattle.tlv_head.specs.Header.{value_of}
 
 abbrev pub subidentifier : List ℕ → ℕ

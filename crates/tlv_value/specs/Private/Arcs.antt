@@ -1,10 +1,7 @@
 -- Words of object identifiers that private functions and proofs use.
-use Rattle.std.specs.Prelude.{ℕ, ◌-◌, Bool, true, false, nat_lt, if◌then◌else◌, List, [], ◌∷◌, ◌++◌, flat_map, codes, decimal}
-use Rattle.std.specs.List.{join_by, list_all}
-
--- the arcs that the first subidentifier stands for
-abbrev pub first_arcs : ℕ → List ℕ
-first_arcs v = if nat_lt v 40 then 0 ∷ v ∷ [] else (if nat_lt v 80 then 1 ∷ (v - 40) ∷ [] else 2 ∷ (v - 80) ∷ [])
+use Rattle.std.specs.Prelude.{ℕ, Bool, true, false, List, ◌∷◌, codes, decimal}
+use Rattle.std.specs.List.{join_by}
+use Rattle.tlv_value.specs.Arcs.{first_arcs}
 
 abbrev pub dotted_arcs : List ℕ → List ℕ
 dotted_arcs arcs = join_by decimal (codes ".") arcs

@@ -15,7 +15,8 @@ digits_of bits = map (λ bit. 48 + bit) bits
 abbrev pub joined_pairs : List ℕ → List ℕ
 joined_pairs octets = join_by (λ x. encode_lower (x ∷ [])) (codes " ") octets
 
--- the text on the line of a held value that is no object identifier, or of an object identifier that is shown in hexadecimal
+-- the text on the line of a held value that is no object identifier, or of an object identifier that is shown in
+-- hexadecimal
 abbrev pub plain_text : Kind → List ℕ → List ℕ
 plain_text Boolean octets = (boolean_value octets).text
 plain_text Integer octets = (integer_value octets).text

@@ -30,7 +30,10 @@ entry_or_refusal number long_line = Err TooLarge
 -- an entry is added to others, or refused
 abbrev pub Adds : {T : Type 0} → ℕ → List ℕ → List ℕ → List Entry → List Entry → Result T NamesFault → Type 0
 Adds number dotted name old new (Ok done) =
-    (has_entry dotted old ≡ false) × (length old < 65536) × (new ≡ finite.put (slice_cmp nat_cmp) dotted name old) × (length new ≡ length old + 1)
+    (has_entry dotted old ≡ false)
+    × (length old < 65536)
+    × (new ≡ finite.put (slice_cmp nat_cmp) dotted name old)
+    × (length new ≡ length old + 1)
 Adds number dotted name old new (Err (BadOid n)) = ⊥
 Adds number dotted name old new (Err (BadName n)) = ⊥
 Adds number dotted name old new (Err (Repeated n)) = (has_entry dotted old ≡ true) × (n ≡ number)

@@ -14,4 +14,5 @@ abbrev pub octets_lines : Layout → List ℕ → List ℕ → List ℕ
 octets_lines layout line octets = rest_of_lines layout line (octets_value octets)
 
 abbrev pub object_lines : NameOf → Layout → List ℕ → Bool → List ℕ → List ℕ
-object_lines name_of layout line relative octets = rest_of_lines layout line (object_text name_of (dotted_text relative octets) octets)
+object_lines name_of layout line relative octets =
+    rest_of_lines layout line (object_text name_of (dotted_text relative octets) octets)

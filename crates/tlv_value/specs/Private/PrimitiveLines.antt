@@ -30,7 +30,9 @@ primitive_line p text = element_line p.layout p.offset p.class p.number p.size t
 
 -- its lines, if its value is on its line
 abbrev pub primitive_lines : NameOf → Primitive → List ℕ → List ℕ
-primitive_lines name_of p octets = primitive_line p (kind_value name_of p.kind octets).text ++ row_lines p.kind p.layout 0 (kind_value name_of p.kind octets).rows
+primitive_lines name_of p octets =
+    primitive_line p (kind_value name_of p.kind octets).text
+    ++ row_lines p.kind p.layout 0 (kind_value name_of p.kind octets).rows
 
 -- what is kept of it before any octet
 abbrev pub new_text_of : Primitive → TextState

@@ -1,10 +1,8 @@
 -- Words of rows that proofs use.
-use Rattle.std.specs.Prelude.{ℕ, ◌+◌, List, [], ◌++◌, flat_map}
-use Rattle.tlv_value.specs.declared.kind.Kind.{Kind}
+use Rattle.std.specs.Prelude.{ℕ, ◌+◌, List, flat_map}
 use Rattle.tlv_value.specs.declared.kind.Kind.TheVariants.{Octets}
 use Rattle.tlv_value.specs.declared.layout.Layout.{Layout}
 use Rattle.tlv_value.specs.Layout.{line, no_columns}
-use Rattle.tlv_value.specs.Rows.{full_rows, open_row, last_rows}
 use Rattle.tlv_value.specs.Value.{row_text}
 
 -- the lines of rows of pairs of digits, if there is no limit to rows

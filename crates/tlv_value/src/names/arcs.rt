@@ -1,7 +1,8 @@
 //! Object identifiers as dotted texts, judged.
 ghost use Rattle.std.specs.Prelude.{◌≡◌, nat_le, true};
 ghost use Rattle.std.specs.List.{list_all};
-ghost use Rattle.tlv_value.specs.Names.{are_first_arcs as are_first, decimal_number, dotted_parts, is_arc as is_arc_text, is_arc_digit, is_dotted as is_dotted_text, may_begin as may_begin_text};
+ghost use Rattle.tlv_value.specs.Names.{are_first_arcs as are_first, decimal_number, dotted_parts, is_arc as is_arc_text, is_dotted as is_dotted_text, may_begin as may_begin_text};
+ghost use Rattle.tlv_value.specs.Times.{is_digit};
 
 use super::line::{behind, end_before};
 
@@ -42,7 +43,7 @@ fn is_arc(part: &[u8]) -> bool
 }
 
 fn are_digits(part: &[u8]) -> bool
-    ensures { result ≡ list_all is_arc_digit part.now }
+    ensures { result ≡ list_all is_digit part.now }
 {
     for octet in part {
         if *octet < b'0' || *octet > b'9' {

@@ -1,7 +1,8 @@
 //! What a line of a names file says.
 ghost use Rattle.std.specs.Prelude.{◌≡◌, ◌==◌, ◌+◌, ◌≤◌, drop, length};
 ghost use Rattle.std.specs.List.{list_all, position_or_len};
-ghost use Rattle.tlv_value.specs.Names.{is_blank as is_blank_octet, is_name as is_name_text, is_name_octet, names_line, without_first_blanks, without_last_blanks, without_outer_blanks, without_return as without_return_at_end};
+ghost use Rattle.tlv_value.specs.Names.{is_blank as is_blank_octet, is_name as is_name_text, names_line, without_first_blanks, without_last_blanks, without_outer_blanks, without_return as without_return_at_end};
+ghost use Rattle.tlv_value.specs.Units.{is_printable};
 ghost use Rattle.tlv_value.specs.Private.NamesSteps.{entry_or_refusal, texts_of};
 
 use super::NamesFault;
@@ -125,7 +126,7 @@ fn is_name(text: &[u8]) -> bool
 }
 
 fn are_printable(text: &[u8]) -> bool
-    ensures { result ≡ list_all is_name_octet text.now }
+    ensures { result ≡ list_all is_printable text.now }
 {
     for octet in text {
         if *octet < b' ' || *octet > b'~' {

@@ -21,7 +21,8 @@ use Rattle.tlv_walk.specs.Events.{AreEqualJoined, Bytes, EventValue, Pad, events
 use Rattle.tlv_walk.specs.Follow.{Effect, GoesOn, Joins, Rests, effect_of, followed_events}
 use Rattle.tlv_walk.specs.FollowsEvents.{FollowsEvents}
 use Rattle.tlv_walk.specs.Forest.{Forest, spell}
-use Rattle.tlv_walk.specs.Job.{AreSound, ComesTo, EndsWith, IsFinalEnding, Runs, drain_result, source_result}
+use Rattle.tlv_walk.specs.Ending.{IsFinalEnding}
+use Rattle.tlv_walk.specs.Job.{AreSound, ComesTo, EndsWith, Runs, drain_result, read_failed, source_result, too_long, write_failed}
 use Rattle.tlv_walk.specs.Laws.{AreOctets}
 use Rattle.tlv_io.specs.Out.{Sends}
 use Rattle.tlv_walk.specs.Reading.{IsReading}
@@ -30,7 +31,7 @@ use Rattle.tlv_walk.specs.OneTurn.{EndsBy, EndsIn, FollowsOneRead, Gave, GaveUpT
 use Rattle.tlv_walk.specs.Wrappers.{first_other, first_unused, wrapper_offsets}
 use Rattle.tlv_walk.proofs.FollowerLemmas.Followed.{events_enough, followed-alike, followed-enough, kept-alike}
 use Rattle.tlv_walk.proofs.FollowerLemmas.Following.{made_both, made_put}
-use Rattle.tlv_walk.proofs.FollowerLemmas.Enough.{ends_so}
+use Rattle.tlv_walk.proofs.FollowerLemmas.Enough.{comes_to, ends_so}
 use Rattle.tlv_io.proofs.Pieces.{GaveLast, gathered_more, pieces_all, together_more}
 use Rattle.tlv_io.proofs.Puts.{sends_ok, sends_then}
 use Rattle.tlv_walk.proofs.FollowerLemmas.Turns.{stands_spelled, stands_past}
@@ -212,12 +213,12 @@ module _ {S : Type 0} (next : S → EventValue → Effect S)
           let ends : EndsWith framing walked (had_enough (effect_of next s (events f)).goes) run.ending =
           subst (λ (b : Bool). EndsWith framing walked b run.ending) (sym (is_enough_so f go.On (effect_of next s es).put k))
           (subst (λ (k : Framing). EndsWith k walked false run.ending) x.same y.ending) in record {
-            runs = runs_by (Ok run) f (gave_last after.source.last piece g) is_reading es go.On k (ap source_result (sym is)) (sent y.more (Ok tt) y.put) (
+            runs = runs_by (Ok run) f (gave_last after.source.last piece g) is_reading es go.On k (ap source_result (sym is)) (sent y.more (Ok tt) y.put) (comes_to (drive_job next framing limit s) (b ++ r) f after.source (Ok run) (
               run.ending,
               answer,
               ends_so framing walked (had_enough (effect_of next s (events f)).goes) run.ending
                   (IsFinalEnding run.ending ⊎ ((after.source.last ≡ gave 0) × IsAtEnd after.source.left)) ends (ended_by run f (λ e. absurd (true≢false (sym e ∙ none))) g ended),
-            );
+            ));
             state = k.state;
           }
 
@@ -238,7 +239,8 @@ module _ {S : Type 0} (next : S → EventValue → Effect S)
           (y.unused ∙ ap (λ (k : Framing). first_other k.inside (wrapper_offsets es)) x.same ∙ ap (first_other framing.inside) (enough_enters s after.follower es others.0 f made others.1))
           ∙ ap (λ (g : Go). run_over framing f (followed_events next s (events f)) g run.ending) (sym k.goes_so) in
           let enough : had_enough (effect_of next s (events f)).goes ≡ true = is_enough_so f go.Enough (effect_of next s es).put k in record {
-            runs = runs_by (Ok run) f (gave_last after.source.last piece g) is_reading es go.Enough k (ap source_result (sym is)) (sent y.more (Ok tt) y.put) (run.ending, answer, inl (enough, y.ending));
+            runs = runs_by (Ok run) f (gave_last after.source.last piece g) is_reading es go.Enough k (ap source_result (sym is)) (sent y.more (Ok tt) y.put)
+                (comes_to (drive_job next framing limit s) (b ++ r) f after.source (Ok run) (run.ending, answer, inl (enough, y.ending)));
             state = k.state;
           }
 
@@ -262,7 +264,7 @@ module _ {S : Type 0} (next : S → EventValue → Effect S)
           let put : Sends from after.drain (effect_of next s x.past).put (Ok tt) =
           sends_ok {T = ⊤} {U = ⊤} {E = DeviceFault} {F = DeviceFault} from after.drain ((effect_of next s x.past).put ++ []) (effect_of next s x.past).put tt tt
           (sends_then from before.drain after.drain (effect_of next s x.past).put [] tt (Ok tt) x.sends y.put) (append-nil _) in record {
-            runs = runs_by (Err ReadFailed) f (inr (last, none)) (subst (λ (o : List ℕ). IsReading framing o f) all first_reading) x.past go.On k (ap source_result (sym is)) put last;
+            runs = runs_by (Err ReadFailed) f (inr (last, none)) (subst (λ (o : List ℕ). IsReading framing o f) all first_reading) x.past go.On k (ap source_result (sym is)) put (read_failed last);
             state = k.state;
           }
 
@@ -281,7 +283,7 @@ module _ {S : Type 0} (next : S → EventValue → Effect S)
               reading = f;
               is_reading = subst (λ (k : Framing). IsReading k walked f) x.same y.is_reading;
               sends = subst (λ (l : List ℕ). Sends {T = ⊤} {E = DeviceFault} from after.drain l (Err WriteFailed)) (ap (λ (k : Effect S). k.put) same) (sent y.more (Err WriteFailed) y.put);
-              comes = tt;
+              comes = write_failed;
             };
             state = tt;
           }
@@ -299,7 +301,7 @@ module _ {S : Type 0} (next : S → EventValue → Effect S)
           made_all s after.follower es f go.On (made_both next s before.follower after.follower x.past z.more go.On x.made z.made) (stands_past after.walker walked es f z.stands z.idle z.stands.is_reading) in
           let sound : AreSound (drive_job next framing limit s) walked =
           (f, is_reading, stands_spelled after.walker walked es f z.stands z.stands.is_reading, is_enough_so f go.On (effect_of next s es).put k) in record {
-            runs = runs_by (Err InputTooLong) f (gave_last after.source.last piece g) is_reading es go.On k (ap source_result (sym is)) (sent z.more (Ok tt) z.put) (y.beyond, sound);
+            runs = runs_by (Err InputTooLong) f (gave_last after.source.last piece g) is_reading es go.On k (ap source_result (sym is)) (sent z.more (Ok tt) z.put) (too_long y.beyond sound);
             state = k.state;
           }
 

@@ -10,8 +10,6 @@ use Rattle.tlv_walk.specs.declared.framing.Framing.{Framing}
 use Rattle.tlv_io.specs.declared.out.Out.{Out}
 use Rattle.tlv_walk.specs.declared.one_turn.Stop.{Stop}
 use Rattle.tlv_walk.specs.declared.one_turn.Stop.TheVariants as stop
-use Rattle.tlv_walk.specs.Phase.{Phase}
-use Rattle.tlv_walk.specs.Phase as phase
 use Rattle.tlv_io.specs.Device.{DrainState}
 use Rattle.tlv_walk.specs.Events.{AreEqualJoined, EventValue, events, single_octets}
 use Rattle.tlv_walk.specs.Follow.{Effect, and_then, effect_of, followed_events}
@@ -22,9 +20,7 @@ use Rattle.tlv_walk.specs.Inside.{CanName}
 use Rattle.tlv_walk.specs.WalkerState.{WalkerState}
 use Rattle.tlv_walk.specs.Private.WalkerState.{wrappers_after}
 use Rattle.tlv_io.specs.Out.{Puts}
-use Rattle.tlv_walk.specs.Place.{Place}
 use Rattle.tlv_walk.specs.Reading.{IsReading}
-use Rattle.tlv_walk.specs.Private.Zipper.{IsPhaseOf, Tail, place_of}
 use Rattle.tlv_walk.specs.Stands.{Stands, waiting_events}
 use Rattle.tlv_walk.specs.StepsTo.{StepsTo}
 use Rattle.tlv_walk.specs.HasRead.{IsRefusedAfter, StandsRefused}
@@ -34,13 +30,7 @@ use Rattle.tlv_walk.proofs.EventLemmas.Joined.{apart-before, apart-from_joined, 
 use Rattle.tlv_walk.proofs.EventLemmas.Prefixes.{events-prefix}
 use Rattle.tlv_io.proofs.Puts.{HasPut, puts_as, puts_failed_last, puts_nothing, puts_then_as}
 use Rattle.tlv_walk.proofs.EventLemmas.Unused.{past_unused}
-
--- a walker that stands for octets was refused none
-never_failed : (w : WalkerState) (b : List ℕ) (past : List EventValue) (f : Fault) → Stands w b past → w.phase ≡ phase.Failed f → ⊥
-never_failed w b past f st e = no_phase st.private_state.state.tail (place_of w.framing st.private_state.state) (subst (λ (p : Phase). IsPhaseOf p st.private_state.state.tail (place_of w.framing st.private_state.state)) e st.private_state.has_state.phase)
-  where
-    no_phase : (t : Tail) (p : Place) → IsPhaseOf (phase.Failed f) t p → ⊥
-    no_phase t p h = h
+use Rattle.tlv_walk.proofs.WalkerLemmas.HasRead.{never_failed}
 
 -- nothing was walked over
 pub walked_none : (w : WalkerState) (piece : List ℕ) → WalksOver w w piece piece []

@@ -1,8 +1,7 @@
 -- A job that is a walk with some follower.
-use Rattle.std.proofs.Common.{◌≡◌, ◌⊎◌, ℕ, ◌≤◌, Bool, true, false, List, length, take, refl, sym, ◌∙◌, subst, arith}
+use Rattle.std.proofs.Common.{◌≡◌, ℕ, ◌≤◌, Bool, true, false, List, length, take, refl, sym, ◌∙◌, subst, arith}
 use Rattle.std.proofs.lemmas.List.{length-take}
 use Rattle.std.specs.Prelude.{Result, Ok, Err, ⊤}
-use Rattle.std.specs.Io.KnownBytes.{IsAtEnd}
 use Rattle.tlv_walk.specs.declared.ending.Ending.{Ending}
 use Rattle.tlv_walk.specs.declared.follow.Go.{Go}
 use Rattle.tlv_walk.specs.declared.follow.Go.TheVariants as go
@@ -11,13 +10,13 @@ use Rattle.tlv_walk.specs.declared.run.DeviceFault.{DeviceFault}
 use Rattle.tlv_walk.specs.declared.run.DeviceFault.TheVariants.{ReadFailed, WriteFailed, InputTooLong}
 use Rattle.tlv_walk.specs.declared.run.Run.{Run}
 use Rattle.std.specs.List.{concat}
-use Rattle.tlv_io.specs.Device.{DrainState, SourceState, gave, octets_given}
+use Rattle.tlv_io.specs.Device.{DrainState, SourceState, octets_given}
 use Rattle.tlv_walk.specs.DriveJob.{Drives, drive_job, had_enough, run_over}
 use Rattle.tlv_walk.specs.Events.{EventValue, events}
 use Rattle.tlv_walk.specs.Follow.{Effect, effect_of, goes_of}
 use Rattle.tlv_walk.specs.Forest.{Forest}
-use Rattle.tlv_walk.specs.Job.{AreSound, IsFinalEnding, Job, Runs}
-use Rattle.tlv_walk.proofs.FollowerLemmas.Enough.{EndsSo}
+use Rattle.tlv_walk.specs.Job.{AreSound, Job, Runs, read_failed, too_long, write_failed}
+use Rattle.tlv_walk.proofs.FollowerLemmas.Enough.{EndsSo, Returns, Settled, comes_to, returns}
 use Rattle.tlv_io.specs.Out.{Sends}
 use Rattle.tlv_walk.specs.Reading.{IsReading}
 
@@ -50,7 +49,8 @@ module _ {S A : Type 0} (next : S → EventValue → Effect S) (job : Job A) (s 
   runs_ok run a x answer =
       let w = x.runs in
       let given : List ℕ = octets_given w.pieces in
-      let same = enough (take job.limit given) w.reading (within_limit given) w.is_reading in record {
+      let same = enough (take job.limit given) w.reading (within_limit given) w.is_reading in
+      let k : Returns (drive_job next job.framing job.limit s) given w.reading new (Ok run) = returns (drive_job next job.framing job.limit s) given w.reading new (Ok run) w.comes in record {
         pieces = w.pieces;
         failures = w.failures;
         sound = sound_as (concat w.pieces.pieces) w.within w.sound;
@@ -58,10 +58,10 @@ module _ {S A : Type 0} (next : S → EventValue → Effect S) (job : Job A) (s 
         reading = w.reading;
         is_reading = w.is_reading;
         sends = sent_as given w.reading (Ok tt) w.is_reading w.sends;
-        comes = (
-          w.comes.0,
-          answer (take job.limit given) w.reading w.comes.0 (within_limit given) w.is_reading x.state w.comes.1,
-          subst (λ (k : Bool). EndsSo job.framing (take job.limit given) k w.comes.0 (IsFinalEnding w.comes.0 ⊎ ((new.last ≡ gave 0) × IsAtEnd new.left))) same w.comes.2,
+        comes = comes_to job given w.reading new (Ok a) (
+          k.0,
+          answer (take job.limit given) w.reading k.0 (within_limit given) w.is_reading x.state k.1,
+          subst (λ (y : Bool). EndsSo job.framing (take job.limit given) y k.0 (Settled job given w.reading new k.0)) same k.2,
         );
       }
 
@@ -75,7 +75,7 @@ module _ {S A : Type 0} (next : S → EventValue → Effect S) (job : Job A) (s 
         reading = w.reading;
         is_reading = w.is_reading;
         sends = sent_as (octets_given w.pieces) w.reading (Ok tt) w.is_reading w.sends;
-        comes = w.comes;
+        comes = read_failed (returns (drive_job next job.framing job.limit s) (octets_given w.pieces) w.reading new (Err ReadFailed) w.comes);
       }
   runs_err WriteFailed x =
       let w = x.runs in record {
@@ -86,10 +86,11 @@ module _ {S A : Type 0} (next : S → EventValue → Effect S) (job : Job A) (s 
         reading = w.reading;
         is_reading = w.is_reading;
         sends = sent_as (octets_given w.pieces) w.reading (Err WriteFailed) w.is_reading w.sends;
-        comes = tt;
+        comes = write_failed;
       }
   runs_err InputTooLong x =
-      let w = x.runs in record {
+      let w = x.runs in
+      let k = returns (drive_job next job.framing job.limit s) (octets_given w.pieces) w.reading new (Err InputTooLong) w.comes in record {
         pieces = w.pieces;
         failures = w.failures;
         sound = sound_as (concat w.pieces.pieces) w.within w.sound;
@@ -97,5 +98,5 @@ module _ {S A : Type 0} (next : S → EventValue → Effect S) (job : Job A) (s 
         reading = w.reading;
         is_reading = w.is_reading;
         sends = sent_as (octets_given w.pieces) w.reading (Ok tt) w.is_reading w.sends;
-        comes = (w.comes.0, sound_as (take job.limit (octets_given w.pieces)) (within_limit (octets_given w.pieces)) w.comes.1);
+        comes = too_long k.0 (sound_as (take job.limit (octets_given w.pieces)) (within_limit (octets_given w.pieces)) k.1);
       }

@@ -21,13 +21,12 @@ use Rattle.tlv_walk.specs.declared.one_turn.Stop.{Stop}
 use Rattle.tlv_walk.specs.declared.one_turn.Stop.TheVariants as stop
 use Rattle.tlv_io.specs.Device.{DrainState}
 use Rattle.tlv_walk.specs.DriveJob.{event_octets}
-use Rattle.tlv_walk.specs.Ending.{IsEnding}
+use Rattle.tlv_walk.specs.Ending.{IsEnding, IsFinalEnding}
 use Rattle.tlv_walk.specs.Events.{AreEqualJoined, EventValue, events}
 use Rattle.tlv_walk.specs.Follow.{Effect, effect_of}
 use Rattle.tlv_walk.specs.Private.ResultOfStop.{IsResultOfStop, IsRun}
 use Rattle.tlv_walk.specs.Private.FollowsPiece.{Fails, Follows, FollowsTo, GoesOnIn, Stops, WalksTo}
 use Rattle.tlv_walk.specs.Forest.{Forest, spell}
-use Rattle.tlv_walk.specs.Job.{IsFinalEnding}
 use Rattle.tlv_walk.specs.Laws.{AreOctets}
 use Rattle.tlv_walk.specs.WalkerState.{WalkerState}
 use Rattle.tlv_io.specs.Out.{Puts, Sends, buffer_of, drain_of}

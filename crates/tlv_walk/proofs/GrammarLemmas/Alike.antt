@@ -6,8 +6,7 @@ use Rattle.tlv_head.specs.Header.{HeaderValue, IsHeader, octets_of}
 use Rattle.tlv_head.specs.Shortest.{HaveOneTag, IsShortest}
 use Rattle.tlv_head.proofs.Shortest.{shortest_are_one}
 use Rattle.tlv_walk.specs.Alike.{AreAlike, holders, nothing, padding, primitives}
-use Rattle.tlv_walk.specs.Forest.{Forest, Stop, Fill, Whole, Closed, Partial, Entered, Awaiting, Begun, Zero, end_octets, extent, lead, opening, spell}
-use Rattle.tlv_walk.proofs.GrammarLemmas.ContentsLength.{contents_length}
+use Rattle.tlv_walk.specs.Forest.{Awaiting, Begun, Closed, Entered, Fill, Forest, Partial, Stop, Whole, Zero, contents_length, end_octets, extent, lead, opening, spell}
 use Rattle.tlv_walk.specs.Place.{Place, is_indefinite, place_after, place_inside}
 use Rattle.tlv_walk.proofs.GrammarLemmas.Lengths.{HasLength}
 use Rattle.tlv_walk.specs.Reading.{IsSound}

@@ -7,9 +7,8 @@ use Rattle.tlv_head.specs.Refusal.{IsRefusedOctet, tag_too_long, reserved_length
 use Rattle.tlv_walk.specs.declared.ending.Ending.{Ending}
 use Rattle.tlv_walk.specs.declared.ending.Ending.TheVariants.{Done, Fault}
 use Rattle.tlv_walk.specs.declared.framing.Framing.{Framing}
-use Rattle.tlv_walk.specs.Ending.{IsEnding, IsFault, bad_inside, missing_end, bad_end, no_room, refused_octet, too_deep, overrun, no_end, stray_end, done, empty, refused, short}
+use Rattle.tlv_walk.specs.Ending.{IsEnding, IsFault, IsFinalCode, bad_inside, missing_end, bad_end, no_room, refused_octet, too_deep, overrun, no_end, stray_end, done, empty, refused, short}
 use Rattle.tlv_walk.specs.Forest.{Forest}
-use Rattle.tlv_walk.specs.Laws.{IsFinalCode}
 use Rattle.tlv_walk.specs.Place.{Place}
 use Rattle.tlv_walk.proofs.GrammarLemmas.Endings.{offset_in}
 

@@ -8,8 +8,7 @@ use Rattle.tlv_head.specs.Private.Header.{AllowsSize}
 use Rattle.tlv_head.specs.Refusal.{IsFront}
 use Rattle.tlv_head.proofs.Scan.{Origin, Scan, Fresh, High, Named, Long, Ready, Stuck, Over, origin_of, step, scan, first-more}
 use Rattle.tlv_head.proofs.Meaning.{Reads, reads-step, reads-scan, front-from_more, front-bytes}
-use Rattle.tlv_walk.specs.Forest.{Forest, Stop, Fill, Whole, Closed, Partial, Entered, Awaiting, Begun, Zero, end_octets, extent, is_whole, lead, opening, spell}
-use Rattle.tlv_walk.proofs.GrammarLemmas.ContentsLength.{contents_length}
+use Rattle.tlv_walk.specs.Forest.{Awaiting, Begun, Closed, Entered, Fill, Forest, Partial, Stop, Whole, Zero, contents_length, end_octets, extent, is_whole, lead, opening, spell}
 use Rattle.tlv_walk.specs.Place.{Fits, IsEntry, IsHeadAt, IsOpen, Place, place_after, place_inside}
 use Rattle.tlv_walk.proofs.GrammarLemmas.Lengths.{LacksOctets}
 use Rattle.tlv_walk.proofs.GrammarLemmas.Bounds.{IsEndless, IsFull, fits, fits-inside, has_length, indefinite-endless, lead-zero, length-full, length-lacks, within-fits, within-le, within-outside}

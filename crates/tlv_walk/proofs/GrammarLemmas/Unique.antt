@@ -1,18 +1,19 @@
--- An input has one ending, and a fault that an octet has is final.
-use Rattle.std.proofs.Common.{◌≡◌, ◌≢◌, ℕ, Bool, true, false, List, ◌∷◌, ◌++◌, length, refl, sym, ap, ◌∙◌, arith, length-append}
+-- An input has one ending, and a fault that an octet has is final. What an ending shows of soundness.
+use Rattle.std.proofs.Common.{◌≡◌, ◌≢◌, ℕ, Bool, true, false, List, ◌∷◌, ◌++◌, length, refl, sym, ap, ◌∙◌, subst, arith, length-append}
 use Rattle.std.proofs.lemmas.Bool.{true≢false}
 use Rattle.std.proofs.lemmas.List.{append_cancel_left}
 use Rattle.tlv_head.specs.declared.fault.FaultCode.{FaultCode}
 use Rattle.tlv_head.specs.declared.fault.FaultCode.TheVariants.{Empty, Short}
 use Rattle.tlv_walk.specs.declared.ending.Ending.{Ending}
+use Rattle.tlv_walk.specs.declared.ending.Ending.TheVariants.{Done, Fault}
 use Rattle.tlv_walk.specs.declared.framing.Framing.{Framing}
 use Rattle.tlv_walk.specs.Forest.{Forest, Stop, Fill, Whole, Closed, Partial, Entered, Awaiting, Begun, Zero, has_element, is_whole, spell}
 use Rattle.tlv_walk.specs.Place.{top_place}
-use Rattle.tlv_walk.specs.Reading.{IsReading}
-use Rattle.tlv_walk.specs.Ending.{IsEnding, IsFault, done, empty, fault, refused, short, tip}
+use Rattle.tlv_walk.specs.Reading.{CannotBecomeSound, IsReading, IsSoundList}
+use Rattle.tlv_walk.specs.Ending.{IsEnding, IsFault, IsFinalEnding, ShowsSoundness, done, empty, fault, refused, short, tip}
 use Rattle.tlv_walk.proofs.GrammarLemmas.Readings.{Halted, IsHalt, halt-longer, reading-unique, run-reading}
 use Rattle.tlv_walk.proofs.GrammarLemmas.Faults.{fault-unique}
-use Rattle.tlv_walk.proofs.GrammarLemmas.Endings.{IsRefused, fault-halt, halt-ending}
+use Rattle.tlv_walk.proofs.GrammarLemmas.Endings.{IsRefused, done-sound, fault-halt, halt-ending, no-false-alarm, sound-done}
 
 -- without an octet of an element nothing is open
 none-whole : (f : Forest) → has_element f ≡ false → is_whole f ≡ true
@@ -76,3 +77,18 @@ refused-for-good w b c code offset f a d e r =
     let reading : IsReading w (b ++ c) k.forest = run-reading w (Halted k.forest code) (b ++ c) longer in
     let end : IsEnding w (b ++ c) (fault code (length (spell k.forest))) = halt-ending w k.forest code (b ++ c) longer k.fault in
     (rw same at reading, rw (← k.there) at end)
+
+-- whatever follows an ending that is final, no input that goes on is sound
+pub never-sound : (w : Framing) (b : List ℕ) (e : Ending) → IsEnding w b e → IsFinalEnding e → CannotBecomeSound w b
+never-sound w b Done x final = absurd final
+never-sound w b (Fault f) x final = λ more. no-false-alarm w b more f.code f.offset final.0 final.1 x
+
+-- the ending of octets shows whether they are sound
+pub shows-soundness : (w : Framing) (b : List ℕ) (e : Ending) → IsEnding w b e → ShowsSoundness w b e
+shows-soundness w b e x = record {
+  done_is_sound = (
+    (λ (is : e ≡ Done). done-sound w b (subst (IsEnding w b) is x)),
+    (λ (s : IsSoundList w b). ending-unique w b e Done x (sound-done w b s)),
+  );
+  faults_are_right = never-sound w b e x;
+}

@@ -7,8 +7,7 @@ use Rattle.tlv_head.specs.Header.{HeaderValue, announced, octets_of}
 use Rattle.tlv_head.specs.Private.Header.{AllowsSize}
 use Rattle.tlv_walk.specs.Phase as phase
 use Rattle.tlv_walk.specs.Events.{AreEqualJoined, Close, EventValue, Leave, closing_event, end_offset, events, opening_events, single_octets}
-use Rattle.tlv_walk.specs.Forest.{Forest, Stop, Closed, Zero, end_octets, extent, is_whole, opening, spell}
-use Rattle.tlv_walk.proofs.GrammarLemmas.ContentsLength.{contents_length}
+use Rattle.tlv_walk.specs.Forest.{Closed, Forest, Stop, Zero, contents_length, end_octets, extent, is_whole, opening, spell}
 use Rattle.tlv_walk.specs.Wrappers.{wrapper_offsets}
 use Rattle.std.proofs.lemmas.Bool.{cases_Bool}
 use Rattle.tlv_walk.specs.WalkerState.{WalkerState}

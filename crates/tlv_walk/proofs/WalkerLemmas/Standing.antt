@@ -16,7 +16,7 @@ use Rattle.tlv_walk.proofs.WalkerLemmas.Moves.{found_in-append}
 use Rattle.tlv_walk.proofs.EventLemmas.Wrappers.{enters-append}
 use Rattle.tlv_walk.specs.declared.ending.Ending.TheVariants as ending
 use Rattle.tlv_walk.specs.Ending.{IsEnding}
-use Rattle.tlv_walk.specs.Reading.{IsReading}
+use Rattle.tlv_walk.specs.Reading.{CannotBecomeSound, IsReading}
 use Rattle.tlv_walk.specs.Place.{IsOpen, top_place}
 use Rattle.tlv_walk.specs.Stands.{IsIdle, Stands, waiting_events}
 use Rattle.tlv_walk.specs.StepsTo.{RefusesAgain, RefusesNext, StepsTo, UsesUpPiece, YieldsNext}
@@ -25,6 +25,8 @@ use Rattle.tlv_walk.specs.Private.FollowsPiece.{WalksOver}
 use Rattle.tlv_walk.specs.Private.Steps.{Continues, RefusesOctet, YieldsEvent, YieldsEvents, YieldsFault, YieldsStep}
 use Rattle.std.specs.Prelude.{slice_get}
 use Rattle.tlv_walk.proofs.GrammarLemmas.Endings.{refused-reading}
+use Rattle.tlv_walk.proofs.GrammarLemmas.Finals.{refused-final}
+use Rattle.tlv_walk.proofs.GrammarLemmas.Unique.{never-sound}
 use Rattle.tlv_walk.proofs.WalkerLemmas.OpenCounts.{state-depth}
 use Rattle.tlv_walk.proofs.EventLemmas.Unused.{past_unused}
 use Rattle.tlv_walk.proofs.WalkerLemmas.ZipperEndings.{ready-waits}
@@ -68,6 +70,8 @@ refused_reading old g before after f same r b past st =
       stays = λ c. subst (λ (w : Framing). IsReading w ((b ++ r.taken) ++ r.octet ∷ c) (reading_of u.state)) (sym same)
           (refused-reading old.framing (b ++ r.taken) r.octet c f (reading_of u.state) (record { is_open = is_open; spelled = spells.spelled }) there (u.ends c));
       ends = λ c. subst (λ (w : Framing). IsEnding w ((b ++ r.taken) ++ r.octet ∷ c) (ending.Fault f)) (sym same) (u.ends c);
+      never_sound = subst (λ (w : Framing). CannotBecomeSound w ((b ++ r.taken) ++ r.octet ∷ [])) (sym same)
+          (never-sound old.framing ((b ++ r.taken) ++ r.octet ∷ []) (ending.Fault f) (u.ends []) (refused-final old.framing (b ++ r.taken) r.octet [] f there (u.ends [])));
     }
 
 -- the walker behind the octet that it refused

@@ -6,8 +6,7 @@ use Rattle.tlv_head.specs.declared.header.Size.TheVariants.{Definite, Indefinite
 use Rattle.tlv_head.specs.Header.{HeaderValue, announced, octets_of}
 use Rattle.tlv_walk.specs.declared.framing.Framing.{Framing}
 use Rattle.tlv_walk.specs.Ending.{tip}
-use Rattle.tlv_walk.specs.Forest.{Forest, Stop, Fill, Whole, Closed, Partial, Entered, Awaiting, Begun, Zero, end_octets, extent, has_element, is_whole, opening, spell}
-use Rattle.tlv_walk.proofs.GrammarLemmas.ContentsLength.{contents_length}
+use Rattle.tlv_walk.specs.Forest.{Awaiting, Begun, Closed, Entered, Fill, Forest, Partial, Stop, Whole, Zero, contents_length, end_octets, extent, has_element, is_whole, opening, spell}
 use Rattle.tlv_walk.specs.Place.{Fits, IsOpen, Place, is_indefinite, place_after, top_place}
 use Rattle.tlv_walk.proofs.GrammarLemmas.Lengths.{LacksOctets}
 use Rattle.tlv_walk.specs.Private.Stack.{bound_in}

@@ -26,7 +26,8 @@ pub record WalksOver (old new : WalkerState) (before after : List ℕ) (more : L
   pub stands : (b : List ℕ) (past : List EventValue) → Stands old b past → Stands new (b ++ taken) (past ++ more)
 
 -- an octet was refused after those that were walked over
-pub record WalksTo (old new : WalkerState) (before : List ℕ) (more : List EventValue) (f : Fault) (b : List ℕ) (past : List EventValue) : Type 0 where
+pub record WalksTo (old new : WalkerState) (before : List ℕ) (more : List EventValue) (f : Fault)
+    (b : List ℕ) (past : List EventValue) : Type 0 where
   pub taken : List ℕ
   pub octet : ℕ
   pub rest : List ℕ
@@ -38,18 +39,21 @@ pub record WalksTo (old new : WalkerState) (before : List ℕ) (more : List Even
 
 -- the octets yield these events, joined, and then others
 abbrev pub GoesOnIn : Framing → List ℕ → List EventValue → Type 0
-GoesOnIn framing octets past = (f : Forest) → IsReading framing octets f → (others : List EventValue) × AreEqualJoined (past ++ others) (events f)
+GoesOnIn framing octets past = (f : Forest) → IsReading framing octets f
+    → (others : List EventValue) × AreEqualJoined (past ++ others) (events f)
 
 module _ {S : Type 0} (next : S → EventValue → Effect S) where
   -- what was made of the front of a piece, where `puts` says that octets were put
-  pub record Follows (w v : WalkerState) (s t : S) (before after : List ℕ) (puts : List ℕ → Type 0) (goes : Go) : Type 0 where
+  pub record Follows (w v : WalkerState) (s t : S) (before after : List ℕ) (puts : List ℕ → Type 0) (goes : Go)
+      : Type 0 where
     pub more : List EventValue
     pub made : FollowsEvents next s t more goes
     pub put : puts (effect_of next s more).put
     pub walked : WalksOver w v before after more
 
   -- the same of a piece in which an octet is refused
-  pub record FollowsTo (w v : WalkerState) (s t : S) (piece : List ℕ) (puts : List ℕ → Type 0) (f : Fault) : Type 0 where
+  pub record FollowsTo (w v : WalkerState) (s t : S) (piece : List ℕ) (puts : List ℕ → Type 0) (f : Fault)
+      : Type 0 where
     pub more : List EventValue
     pub made : FollowsEvents next s t more go.On
     pub put : puts (effect_of next s more).put
@@ -59,14 +63,17 @@ module _ {S : Type 0} (next : S → EventValue → Effect S) where
   pub record Fails (w : WalkerState) (s : S) (piece : List ℕ) (puts : List ℕ → Type 0) : Type 0 where
     pub more : List EventValue
     pub put : puts (effect_of next s more).put
-    pub yields : (b : List ℕ) (past : List EventValue) → Stands w b past → GoesOnIn w.framing (b ++ piece) (past ++ more)
+    pub yields : (b : List ℕ) (past : List EventValue) → Stands w b past
+        → GoesOnIn w.framing (b ++ piece) (past ++ more)
 
   -- what was made of a piece, by why it is not followed any further
   abbrev pub Stops : WalkerState → WalkerState → S → S → List ℕ → (List ℕ → Type 0) → Result Stop WriteFault → Type 0
   Stops w v s t piece puts (Ok stop.UsedUp) =
-      Follows w v s t piece [] puts go.On × ((b : List ℕ) (past : List EventValue) → Stands w b past → waiting_events v ≡ [])
+      Follows w v s t piece [] puts go.On
+      × ((b : List ℕ) (past : List EventValue) → Stands w b past → waiting_events v ≡ [])
   Stops w v s t piece puts (Ok (stop.Fault f)) = FollowsTo w v s t piece puts f
-  Stops w v s t piece puts (Ok stop.Enough) = (after : List ℕ) × Follows w v s t piece after puts go.Enough × IsAfterEvent v.phase
+  Stops w v s t piece puts (Ok stop.Enough) =
+      (after : List ℕ) × Follows w v s t piece after puts go.Enough × IsAfterEvent v.phase
   Stops w v s t piece puts (Err e) = Fails w s piece puts
 
   -- what was made of the front of a piece, if that has one event or more, and more is wanted
@@ -75,7 +82,8 @@ module _ {S : Type 0} (next : S → EventValue → Effect S) where
     pub passes : Passes w v before after
 
   -- it is followed, or nothing of it is taken
-  abbrev pub FollowsPartOrNone : WalkerState → WalkerState → S → S → List ℕ → List ℕ → (List ℕ → Type 0) → Result Bool WriteFault → Type 0
+  abbrev pub FollowsPartOrNone : WalkerState → WalkerState → S → S → List ℕ → List ℕ → (List ℕ → Type 0)
+      → Result Bool WriteFault → Type 0
   FollowsPartOrNone w v s t before after puts (Ok false) = (v ≡ w) × (t ≡ s) × (after ≡ before) × puts []
   FollowsPartOrNone w v s t before after puts (Ok true) = FollowsPart w v s t before after puts
   FollowsPartOrNone w v s t before after puts (Err e) = Fails w s before puts

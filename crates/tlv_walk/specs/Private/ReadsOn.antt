@@ -18,7 +18,9 @@ pub record BeginsAt (w : WalkerState) (r : HeadReaderState) : Type 0 where
 
 -- the walker w becomes u if its reader r is taken out of it, or if it begins a header with r
 abbrev pub HandsOver : WalkerState → WalkerState → HeadReaderState → Type 0
-HandsOver w u r = ((w.phase ≡ InHeader r) × (u ≡ record w { phase = Between })) ⊎ (BeginsAt w r × (u ≡ record w { has_element = true }))
+HandsOver w u r =
+    ((w.phase ≡ InHeader r) × (u ≡ record w { phase = Between }))
+    ⊎ (BeginsAt w r × (u ≡ record w { has_element = true }))
 
 -- the reader's octets and these make the header
 pub record CompletesHeader (r : HeadReaderState) (t : List ℕ) (h : HeaderValue) : Type 0 where
@@ -32,4 +34,5 @@ YieldsFrom old r new before after result = (w : WalkerState) → HandsOver w old
 
 -- what it yields for a whole header
 abbrev pub YieldsHeader : WalkerState → WalkerState → HeaderValue → EventValue → Type 0
-YieldsHeader old new h e = (w : WalkerState) (r : HeadReaderState) (t : List ℕ) → HandsOver w old r → CompletesHeader r t h → Continues w new t (e ∷ [])
+YieldsHeader old new h e = (w : WalkerState) (r : HeadReaderState) (t : List ℕ) → HandsOver w old r
+    → CompletesHeader r t h → Continues w new t (e ∷ [])

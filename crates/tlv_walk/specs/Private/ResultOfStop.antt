@@ -23,7 +23,8 @@ pub record IsRun (run : Run) (e : Ending) (stopped : Bool) (v : WalkerState) : T
 
 -- the run of a walker that stands after the last octet of the input
 abbrev pub IsLastRun : Run → WalkerState → Type 0
-IsLastRun run v = (e : Ending) × IsRun run e false v × ((o : List ℕ) (past : List EventValue) → Stands v o past → IsEnding v.framing o e)
+IsLastRun run v = (e : Ending) × IsRun run e false v
+    × ((o : List ℕ) (past : List EventValue) → Stands v o past → IsEnding v.framing o e)
 
 -- what comes of a walker that stopped, if of so many octets that were read so many were followed
 abbrev pub IsResultOfStop : ℕ → ℕ → WalkerState → Stop → Result Turn DeviceFault → Type 0

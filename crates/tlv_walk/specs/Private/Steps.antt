@@ -31,8 +31,8 @@ pub record YieldsEvents (old new : WalkerState) (before after : List ℕ) (es : 
 abbrev pub YieldsEvent : WalkerState → WalkerState → List ℕ → List ℕ → EventValue → Type 0
 YieldsEvent old new before after e = YieldsEvents old new before after (e ∷ [])
 
--- after the octets b, of which these events were yielded, an octet is refused, whatever follows it: a walker has a state of
--- these octets and events, and no event waits
+-- after the octets b, of which these events were yielded, an octet is refused, whatever follows it: a walker has a
+-- state of these octets and events, and no event waits
 pub record RefusesAfter (old : WalkerState) (b : List ℕ) (octet : ℕ) (past : List EventValue) (f : Fault) : Type 0 where
   pub walker : WalkerState
   pub state : Zipper

@@ -13,7 +13,7 @@ use Rattle.tlv_walk.specs.WalkerState.{WalkerState}
 use Rattle.tlv_walk.specs.Private.WalkerState.{wrappers_after}
 use Rattle.tlv_walk.specs.Private.Stack.{frame_with}
 use Rattle.tlv_walk.specs.Place.{Fits, IsEntry, IsHeadAt, IsOpen, Place, place_after, place_inside, top_place}
-use Rattle.tlv_walk.specs.Wrappers.{wrapper_at, wrapper_offsets, wrappers}
+use Rattle.tlv_walk.specs.Wrappers.{wrapper_offsets}
 
 -- an open element that holds others, and the whole elements before it in the element around it
 pub record Layer : Type 0 where

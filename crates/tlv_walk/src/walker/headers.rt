@@ -46,7 +46,8 @@ impl Walker {
     ) -> Option<Event<'a>>
         requires phase { self.old.phase ≡ phases.Between }
         requires fewer { self.old.events + length self.old.stack ≤ self.old.offset }
-        requires begins { BeginsWithFields piece.old.now self.old.offset (is_among self.old.offset self.old.framing.inside) fields.now count }
+        requires begins { BeginsWithFields piece.old.now self.old.offset
+            (is_among self.old.offset self.old.framing.inside) fields.now count }
         requires limit { self.old.offset + length piece.old.now ≤ 2 ^ 40 }
         ensures steps { StepsAtOnce self.old self.new piece.old.now piece.new.now result }
         ensures yields { YieldsAtOnce self.old self.new piece.old.now piece.new.now result }
@@ -168,7 +169,8 @@ impl Walker {
     /// unused.
     #[tactic(auto, using(std::proofs::lemmas::Option::slice_get_within))]
     fn found_wrapper(&mut self, offset: u64)
-        ensures { self.new ≡ record self.old { wrappers = next_wrapper self.old.framing.inside self.old.wrappers offset } }
+        ensures { self.new
+            ≡ record self.old { wrappers = next_wrapper self.old.framing.inside self.old.wrappers offset } }
     {
         if let Some(named) = self.framing.inside.get(self.wrappers)
             && named == offset
@@ -184,8 +186,10 @@ impl Walker {
         requires place { fields.now.offset ≡ self.now.offset }
         requires limit { fields.now.offset + length octets.now ≤ 2 ^ 40 }
         requires length { announced fields.now.size < 2 ^ 40 }
-        ensures shallow { IsTrue result → holds (header_with fields.now octets.now) ≡ true → length self.now.stack < 128 }
-        ensures fits { IsTrue result → Within (bound_of self.now.stack) (fields.now.offset + length octets.now + announced fields.now.size) }
+        ensures shallow { IsTrue result → holds (header_with fields.now octets.now) ≡ true
+            → length self.now.stack < 128 }
+        ensures fits { IsTrue result → Within (bound_of self.now.stack)
+            (fields.now.offset + length octets.now + announced fields.now.size) }
     {
         if self.stack.len() == 128 && (fields.constructed || fields.wraps()) {
             return false;

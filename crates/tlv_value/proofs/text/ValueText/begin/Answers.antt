@@ -5,7 +5,7 @@ use Rattle.tlv_value.specs.declared.kind.Kind.{Kind}
 use Rattle.tlv_value.specs.Kind.{kind_of}
 use Rattle.tlv_value.specs.TextState.{TextState, begin_lines, line_in}
 use Rattle.tlv_value.specs.TextFields.{text_state_of}
-use Rattle.tlv_value.specs.KindValues.{is_long}
+use Rattle.tlv_value.specs.Value.{is_long}
 use Rattle.tlv_value.proofs.text.ValueText.begin.Goals.{then-not-is_long-via-then-not-is_long, then-not-is_long-via-else-not-is_long+then-not-self}
 use Rattle.tlv_value.proofs.text.ValueText.begin.Goals as goal
 

@@ -2,7 +2,7 @@ use Rattle.std.proofs.Common.{◌≡◌, ◌∙◌, length, sym, ap, arith}
 use Rattle.std.specs.Prelude.{false}
 use Rattle.tlv_io.proofs.Puts.{puts_text}
 use Rattle.tlv_value.specs.TextState.{TextState, end_lines}
-use Rattle.tlv_value.specs.KindValues.{is_long}
+use Rattle.tlv_value.specs.Value.{is_long}
 use Rattle.tlv_value.specs.Private.PrimitiveLines.{primitive_lines}
 use Rattle.tlv_value.specs.TextFields.{text_state_of}
 use Rattle.tlv_value.proofs.TextLemmas.Ends.{ended-shown, held-most}

@@ -1,6 +1,6 @@
 use Rattle.std.proofs.Common.{rules}
 use Rattle.tlv_walk.proofs.WalkerLemmas.Finishing.{finish_done, finish_empty, finish_short}
-use Rattle.tlv_walk.proofs.WalkerLemmas.HasRead.{ends_by}
+use Rattle.tlv_walk.proofs.WalkerLemmas.HasRead.{ends_by, never_failed, shows_by}
 use Rattle.tlv_walk.proofs.WalkerLemmas.Waiting.{idle}
 use Rattle.tlv_walk.proofs.walker.Walker.finish.Goals as goal
 
@@ -14,4 +14,20 @@ returns-then-self-clause-ending c = λ o past e. ends_by c.args.self.now o past 
 
 pub returns-clause-ending : goal.returns-clause-ending
 returns-clause-ending c = λ o past e. ends_by c.args.self.now o past e _
+    (λ b past st. rw c.ended_by-2.ensures (finish_empty c.args.self.now b past st (search rules) (search rules) (search rules))) (search rules)
+
+pub returns-in-Failed-clause-soundness : goal.returns-in-Failed-clause-soundness
+returns-in-Failed-clause-soundness c = λ o past e. shows_by c.args.self.now o past e _
+    (λ b past st. absurd (never_failed c.args.self.now b past c.in-Failed.fault st (search rules))) (search rules)
+
+pub returns-then-not-is_outermost-clause-soundness : goal.returns-then-not-is_outermost-clause-soundness
+returns-then-not-is_outermost-clause-soundness c = λ o past e. shows_by c.args.self.now o past e _
+    (λ b past st. rw c.ended_by.ensures (finish_short c.args.self.now b past st (idle c.args.self.now c.requires) (search rules))) (search rules)
+
+pub returns-then-self-clause-soundness : goal.returns-then-self-clause-soundness
+returns-then-self-clause-soundness c = λ o past e. shows_by c.args.self.now o past e _
+    (λ b past st. finish_done c.args.self.now b past st (search rules) (search rules) (search rules)) (search rules)
+
+pub returns-clause-soundness : goal.returns-clause-soundness
+returns-clause-soundness c = λ o past e. shows_by c.args.self.now o past e _
     (λ b past st. rw c.ended_by-2.ensures (finish_empty c.args.self.now b past st (search rules) (search rules) (search rules))) (search rules)
