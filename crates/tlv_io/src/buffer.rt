@@ -79,14 +79,14 @@ impl Held {
         self.len = end;
     }
 
-    /// Adds the first of 32 octets. There is room for all, so that they can be copied at once.
+    /// Adds the first of these octets. There is room for all, so that they can be copied at once.
     #[inline(always)]
-    pub fn add_front(&mut self, octets: &[u8; 32], count: usize)
-        requires few { count ≤ 32 }
-        requires room { HasRoomFor self.old 32 }
+    pub fn add_front<const N: usize>(&mut self, octets: &[u8; N], count: usize)
+        requires few { count ≤ N }
+        requires room { HasRoomFor self.old N }
         ensures { self.new ≡ self.old ++ take count octets.now }
     {
-        self.octets[self.len..self.len + 32].copy_from_slice(octets);
+        self.octets[self.len..self.len + N].copy_from_slice(octets);
         self.len += count;
     }
 

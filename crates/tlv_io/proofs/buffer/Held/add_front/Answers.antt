@@ -3,7 +3,7 @@ use Rattle.tlv_io.proofs.BufferTexts.{behind_front}
 use Rattle.tlv_io.proofs.buffer.Held.add_front.Goals as goal
 
 pub returns : goal.returns
-returns c =
+returns g c =
     let text : List ℕ = take c.args.count c.args.octets.now in
     behind_front c.self.inside.octets c.copy_from_slice.new.self _ text c.self.inside.len c.args.count (omega (arith, c.self.invariant, c.self.told))
     (omega (arith, c.requires.few, c.told-octets, ap length c.copy_from_slice.ensures.after)) (ap (take c.args.count) c.copy_from_slice.ensures.after)
