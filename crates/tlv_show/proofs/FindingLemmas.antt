@@ -15,4 +15,3 @@ pub mod SiteWords
 pub mod SitesAfter
 pub mod SomeSpelling
 pub mod Spellings
-pub mod Wordings

@@ -4,3 +4,4 @@ pub mod CheckLemmas
 pub mod NamesLemmas
 pub mod RowLemmas
 pub mod TextLemmas
+pub mod Wordings

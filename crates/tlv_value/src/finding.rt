@@ -70,84 +70,63 @@ pub enum Finding {
 }
 
 impl Finding {
-    ghost use Rattle.std.specs.Prelude.{◌≡◌};
+    ghost use Rattle.std.specs.Prelude.{◌≡◌, ◌≤◌, ◌++◌, ◌∷◌, take};
     ghost use Rattle.tlv_value.specs.Finding.{finding_code, finding_text};
 
     /// The three characters that name the finding, as `B01`.
     pub fn code(self) -> &'static [u8]
         ensures { result.now ≡ finding_code self }
     {
-        match self {
-            Finding::B01 => b"B01",
-            Finding::B02 => b"B02",
-            Finding::B03 => b"B03",
-            Finding::B04 => b"B04",
-            Finding::B05 => b"B05",
-            Finding::B06 => b"B06",
-            Finding::B07 => b"B07",
-            Finding::B08 => b"B08",
-            Finding::B09 => b"B09",
-            Finding::B10 => b"B10",
-            Finding::B11 => b"B11",
-            Finding::B12 => b"B12",
-            Finding::B13 => b"B13",
-            Finding::B14 => b"B14",
-            Finding::B15 => b"B15",
-            Finding::B16 => b"B16",
-            Finding::B17 => b"B17",
-            Finding::B18 => b"B18",
-            Finding::B19 => b"B19",
-            Finding::S01 => b"S01",
-            Finding::S02 => b"S02",
-            Finding::S03 => b"S03",
-            Finding::S04 => b"S04",
-            Finding::D01 => b"D01",
-            Finding::D02 => b"D02",
-            Finding::C01 => b"C01",
-            Finding::C02 => b"C02",
-            Finding::C03 => b"C03",
-            Finding::C04 => b"C04",
-            Finding::C05 => b"C05",
-            Finding::C06 => b"C06",
-        }
+        let (wording, _) = self.padded_wording();
+        &wording[..3]
     }
 
     /// What is found, in ASCII.
     pub fn text(self) -> &'static [u8]
         ensures { result.now ≡ finding_text self }
     {
+        let (wording, count) = self.padded_wording();
+        &wording[4..count]
+    }
+
+    /// The code, a space and the text, with spaces after them, so that they can be copied at once, and how many octets
+    /// they are.
+    pub fn padded_wording(self) -> (&'static [u8; 48], usize)
+        ensures wording { take result.1 result.0.now ≡ finding_code self ++ 32 ∷ finding_text self }
+        ensures count { (4 ≤ result.1) × (result.1 ≤ 44) }
+    {
         match self {
-            Finding::B01 => b"high form for a number below 31",
-            Finding::B02 => b"tag number begins with zero bits",
-            Finding::B03 => b"unassigned universal number",
-            Finding::B04 => b"type must be primitive",
-            Finding::B05 => b"type must be constructed",
-            Finding::B06 => b"BOOLEAN is not one octet",
-            Finding::B07 => b"no contents of an integer",
-            Finding::B08 => b"integer is padded",
-            Finding::B09 => b"NULL has contents",
-            Finding::B10 => b"no contents of an object identifier",
-            Finding::B11 => b"subidentifier is padded",
-            Finding::B12 => b"last subidentifier is unfinished",
-            Finding::B13 => b"no first octet of a bit string",
-            Finding::B14 => b"more than 7 unused bits",
-            Finding::B15 => b"unused bits of no octet",
-            Finding::B16 => b"segment follows unused bits",
-            Finding::B17 => b"segment has another tag",
-            Finding::B18 => b"characters not of the type",
-            Finding::B19 => b"time not of its grammar",
-            Finding::S01 => b"length is not the shortest",
-            Finding::S02 => b"TRUE is not ff",
-            Finding::S03 => b"unused bits are set",
-            Finding::S04 => b"time is not canonical",
-            Finding::D01 => b"indefinite length",
-            Finding::D02 => b"constructed string",
-            Finding::C01 => b"definite length of a constructed element",
-            Finding::C02 => b"primitive string above 1000 octets",
-            Finding::C03 => b"segment is constructed",
-            Finding::C04 => b"segment follows one not of 1000 octets",
-            Finding::C05 => b"constructed string fits in 1000 octets",
-            Finding::C06 => b"last segment is empty",
+            Finding::B01 => (b"B01 high form for a number below 31             ", 35),
+            Finding::B02 => (b"B02 tag number begins with zero bits            ", 36),
+            Finding::B03 => (b"B03 unassigned universal number                 ", 31),
+            Finding::B04 => (b"B04 type must be primitive                      ", 26),
+            Finding::B05 => (b"B05 type must be constructed                    ", 28),
+            Finding::B06 => (b"B06 BOOLEAN is not one octet                    ", 28),
+            Finding::B07 => (b"B07 no contents of an integer                   ", 29),
+            Finding::B08 => (b"B08 integer is padded                           ", 21),
+            Finding::B09 => (b"B09 NULL has contents                           ", 21),
+            Finding::B10 => (b"B10 no contents of an object identifier         ", 39),
+            Finding::B11 => (b"B11 subidentifier is padded                     ", 27),
+            Finding::B12 => (b"B12 last subidentifier is unfinished            ", 36),
+            Finding::B13 => (b"B13 no first octet of a bit string              ", 34),
+            Finding::B14 => (b"B14 more than 7 unused bits                     ", 27),
+            Finding::B15 => (b"B15 unused bits of no octet                     ", 27),
+            Finding::B16 => (b"B16 segment follows unused bits                 ", 31),
+            Finding::B17 => (b"B17 segment has another tag                     ", 27),
+            Finding::B18 => (b"B18 characters not of the type                  ", 30),
+            Finding::B19 => (b"B19 time not of its grammar                     ", 27),
+            Finding::S01 => (b"S01 length is not the shortest                  ", 30),
+            Finding::S02 => (b"S02 TRUE is not ff                              ", 18),
+            Finding::S03 => (b"S03 unused bits are set                         ", 23),
+            Finding::S04 => (b"S04 time is not canonical                       ", 25),
+            Finding::D01 => (b"D01 indefinite length                           ", 21),
+            Finding::D02 => (b"D02 constructed string                          ", 22),
+            Finding::C01 => (b"C01 definite length of a constructed element    ", 44),
+            Finding::C02 => (b"C02 primitive string above 1000 octets          ", 38),
+            Finding::C03 => (b"C03 segment is constructed                      ", 26),
+            Finding::C04 => (b"C04 segment follows one not of 1000 octets      ", 42),
+            Finding::C05 => (b"C05 constructed string fits in 1000 octets      ", 42),
+            Finding::C06 => (b"C06 last segment is empty                       ", 25),
         }
     }
 }
