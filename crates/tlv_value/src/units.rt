@@ -1,6 +1,6 @@
 //! The texts of characters.
 ghost use Rattle.std.specs.List.{list_all};
-ghost use Rattle.std.specs.Prelude.{◌≡◌, ◌+◌, ◌*◌, ◌<◌, ◌≤◌, ◌++◌, false, flat_map, length, slice_index, true};
+ghost use Rattle.std.specs.Prelude.{◌≡◌, ◌+◌, ◌*◌, ◌<◌, ◌≤◌, ◌++◌, false, flat_map, length, slice_index, take, true};
 ghost use Rattle.tlv_io.specs.LineTexts.{AddsIfRoom, HasRoomFor};
 ghost use Rattle.tlv_value.specs.Private.Plain.{ArePlain, IsPart, is_ascii, is_plain as is_plain_octet};
 ghost use Rattle.tlv_value.specs.Units.{escaped_number, escaped_octet, is_printable as is_printable_octet, octet_text, printable_text, unit_size as unit_size_of, unit_text, units, utf8_number as utf8_number_of, without_zeros};
@@ -9,17 +9,35 @@ use crate::kind::Kind;
 use crate::rows::utf8_length;
 use tlv_io::Held;
 
+/// As many octets as a row of characters has at most.
+const ROW: usize = 64;
+
 /// Adds the characters of a row, of which each octet may take five.
 pub(crate) fn write_characters(held: &mut Held, kind: Kind, row: &[u8])
-    requires { HasRoomFor held.old (5 * length row.now) }
+    requires short { length row.now ≤ 64 }
+    requires room { HasRoomFor held.old 320 }
     ensures { held.new ≡ held.old ++ flat_map (unit_text kind) (units kind 0 row.now) }
 {
-    // Most rows are written as they are.
-    if has_ascii(kind) && are_plain(row) {
-        held.add(row);
-    } else {
-        write_units(held, kind, row);
+    // Most rows are written as they are. They are looked at and copied as a block of one size, so that no branch goes
+    // by how many octets there are.
+    if has_ascii(kind) {
+        let block = block_of(row);
+        if are_plain(&block) {
+            return held.add_front(&block, row.len());
+        }
     }
+    write_units(held, kind, row);
+}
+
+/// A block that begins with the row, and has spaces after it.
+#[inline(always)]
+fn block_of(row: &[u8]) -> [u8; ROW]
+    requires { length row.now ≤ 64 }
+    ensures { take (length row.now) result ≡ row.now }
+{
+    let mut block = [b' '; ROW];
+    block[..row.len()].copy_from_slice(row);
+    block
 }
 
 /// Adds the units of a row of characters.
@@ -193,7 +211,7 @@ fn has_ascii(kind: Kind) -> bool
 
 /// Whether all of the octets are written as they are.
 #[inline(always)]
-fn are_plain(octets: &[u8]) -> bool
+fn are_plain(octets: &[u8; ROW]) -> bool
     ensures { result ≡ list_all is_plain_octet octets.now }
 {
     // There is no way out of the loop, so that many octets are looked at in one go.

@@ -1,6 +1,8 @@
 -- Characters that stand as they are, one behind another.
-use Rattle.std.proofs.Common.{◌≡◌, ℕ, zero, suc, ◌<◌, ◌≤◌, Bool, true, false, List, [], ◌∷◌, ◌++◌, length, take, drop, get_or, if◌then◌else◌, refl, ap, ◌∙◌, arith}
+use Rattle.std.proofs.Common.{◌≡◌, ℕ, zero, suc, ◌<◌, ◌≤◌, Bool, true, false, List, [], ◌∷◌, ◌++◌, length, take, drop, get_or, if◌then◌else◌, refl, sym, ap, ◌∙◌, arith}
 use Rattle.std.proofs.lemmas.Bool.Decides.{nat_tests}
+use Rattle.std.proofs.lemmas.List.{take-append-drop}
+use Rattle.std.proofs.lemmas.List.Folds.{list_all-append}
 use Rattle.std.specs.Prelude.{◌&&◌, flat_map}
 use Rattle.std.specs.List.{list_all}
 use Rattle.std.specs.Str.{is_utf8}
@@ -70,3 +72,8 @@ plain-row kind (x ∷ xs) a p =
     units-step kind 1 (x ∷ xs) (plain-size kind x xs a both.0) (omega arith) (omega arith)
     ∙ ap (λ (t : List ℕ). t ++ flat_map (unit_text kind) (units kind 0 xs)) (plain-text kind x a both.0)
     ∙ ap (λ (t : List ℕ). x ∷ t) (plain-row kind xs a both.1)
+
+-- the first of octets that are plain are plain
+pub plain-front : (n : ℕ) (xs : List ℕ) → list_all is_plain xs ≡ true → list_all is_plain (take n xs) ≡ true
+plain-front n xs e = (and-true _ _
+    (sym (list_all-append is_plain (take n xs) (drop n xs)) ∙ ap (list_all is_plain) (take-append-drop n xs) ∙ e)).0
