@@ -2,3 +2,4 @@ pub mod CheckStep
 pub mod LinesStep
 pub mod FinderState
 pub mod Nesting
+pub mod UsualTypes

@@ -10,7 +10,7 @@ ghost use Rattle.tlv_show.specs.Found.{shows};
 
 use crate::Rules;
 use crate::frames::Frame;
-use crate::header_findings::{is_plain, note_end, note_header};
+use crate::header_findings::{is_plain, is_plain_if_usual, note_end, note_header};
 use crate::nesting::Nesting;
 use arrayvec::ArrayVec;
 use std::marker::Model;
@@ -55,7 +55,8 @@ impl LastFindings {
     {
         self.level = level;
         self.at = at;
-        self.findings.clear();
+        // `clear` would fill the room with blanks, by a call of memset.
+        self.findings = ArrayVec::new();
     }
 }
 
@@ -156,8 +157,10 @@ impl Finder {
         ensures { PassesOrStays self.old self.new header.now contents.now result }
     {
         let frame = self.holders.frame();
-        if frame.has_segments
-            || !is_plain(self.rules, frame, header)
+        // The type is asked for once: that it has primitives shows in `is_clear`. The form need not be known to the
+        // caller, and costs nothing where the compiler knows it.
+        if header.constructed
+            || !is_plain_if_usual(self.rules, frame, header)
             || !is_clear(header, contents)
         {
             return false;

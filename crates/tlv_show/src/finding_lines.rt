@@ -90,11 +90,10 @@ fn write_listed(held: &mut Held, at: u64, finding: Finding)
     requires { HasRoomFor held.old 1024 }
     ensures { held.new ≡ held.old ++ check_finding_line at finding }
 {
+    let (wording, count) = finding.padded_wording();
     held.number(at);
     held.add(b" ");
-    held.add(finding.code());
-    held.add(b" ");
-    held.add(finding.text());
+    held.add_front(wording, count);
     held.add(b"\n");
 }
 

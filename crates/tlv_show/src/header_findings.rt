@@ -1,8 +1,9 @@
 //! What is found with a header, and with the end of an element that holds others.
 ghost use Rattle.std.specs.Prelude.{IsTrue, false, ◌≡◌, ◌<◌, ◌≤◌, ◌+◌, ◌++◌, ◌&&◌, ◌||◌, ◌==◌, if◌then◌else◌, nat_le, nat_lt, length, []};
 ghost use Rattle.tlv_value.specs.CheckNotes.{finding_if};
-ghost use Rattle.tlv_value.specs.Types.{constructed_types, has_segments, is_one_of, is_primitive, is_unassigned as is_unassigned_of, primitive_types};
+ghost use Rattle.tlv_value.specs.Types.{has_segments};
 ghost use Rattle.tlv_show.specs.Conditions.{has_high_form as has_high_form_of, leading_bits};
+ghost use Rattle.tlv_show.specs.Private.UsualTypes.{IsUsual};
 ghost use Rattle.tlv_show.specs.FinderState.{basic_notes, cer_notes, der_notes, end_notes, header_notes, length_notes};
 
 use crate::Rules;
@@ -46,7 +47,17 @@ pub(crate) fn is_plain(rules: Rules, frame: &Frame, header: &Header) -> bool
     ensures notes { IsTrue result → header_notes rules frame.now header.now ≡ [] }
     ensures segments { IsTrue result → (frame.now.has_segments || has_segments header.now) ≡ false }
 {
-    if frame.has_segments || !is_tag_usual(header) || !is_usual(header) {
+    is_usual(header) && is_plain_if_usual(rules, frame, header)
+}
+
+/// Whether nothing is found with the header of a usual element, as far as a short look shows. The type is not asked
+/// for: callers look at it first, or with the contents.
+#[inline(always)]
+pub(crate) fn is_plain_if_usual(rules: Rules, frame: &Frame, header: &Header) -> bool
+    ensures notes { IsTrue result → IsUsual header.now → header_notes rules frame.now header.now ≡ [] }
+    ensures segments { IsTrue result → frame.now.has_segments ≡ false }
+{
+    if frame.has_segments || !is_tag_usual(header) {
         return false;
     }
     match rules {
@@ -72,10 +83,7 @@ fn is_tag_usual(header: &Header) -> bool
 /// Whether the element is of a type that can have its form, and no constructed string; or of another class.
 #[inline(always)]
 fn is_usual(header: &Header) -> bool
-    ensures assigned { IsTrue result → is_unassigned_of header.now ≡ false }
-    ensures primitive { IsTrue result → (header.now.constructed && is_one_of primitive_types header.now) ≡ false }
-    ensures constructed { IsTrue result → (is_primitive header.now && is_one_of constructed_types header.now) ≡ false }
-    ensures segments { IsTrue result → has_segments header.now ≡ false }
+    ensures { IsTrue result → IsUsual header.now }
 {
     if !is_universal(header) {
         return true;

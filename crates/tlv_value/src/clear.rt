@@ -2,24 +2,30 @@
 ghost use Rattle.std.specs.Prelude.{◌≡◌, ◌%◌, ◌^◌, ◌&&◌, ◌||◌, ◌==◌, [], IsTrue, eqb, false, length, nat_le, nat_lt, not, true};
 ghost use Rattle.tlv_value.specs.CheckNotes.{general_time_findings, utc_time_findings};
 ghost use Rattle.tlv_value.specs.Checks.{findings_on_contents, first, is_padded_after, is_padded_integer, last_octet_of};
-ghost use Rattle.tlv_value.specs.Private.Checks.{findings_of};
+ghost use Rattle.tlv_value.specs.Private.Checks.{findings_of, universal};
+ghost use Rattle.tlv_value.specs.Types.{constructed_types, is_one_of, is_unassigned};
 
 use crate::check::{are_allowed, are_set, is_padded, is_well_formed, last_octet};
 use crate::time::{general_canonical, utc_canonical};
 use tlv_head::{Class, Header};
 
-/// Whether nothing is found on these contents of a primitive with this header, as far as a short look shows.
+/// Whether nothing is found on these contents of a primitive with this header, as far as a short look shows. That its
+/// type has no primitives, or that no type has its number, shows too: the type is asked for once, for both.
 #[inline(always)]
 pub fn is_clear(header: &Header, contents: &[u8]) -> bool
-    ensures { IsTrue result → findings_on_contents header.now contents.now ≡ [] }
+    ensures contents { IsTrue result → findings_on_contents header.now contents.now ≡ [] }
+    ensures form { IsTrue result → (is_unassigned header.now || is_one_of constructed_types header.now) ≡ false }
 {
     !matches!(header.class, Class::Universal) || is_type_clear(header.number, contents)
 }
 
-/// Whether nothing is found on these contents of the universal type with this number, as far as a short look shows.
+/// Whether the universal type with this number has primitives, and nothing is found on these contents of one, as far as
+/// a short look shows.
 #[inline(always)]
 fn is_type_clear(number: u64, contents: &[u8]) -> bool
-    ensures { IsTrue result → findings_of number contents.now ≡ [] }
+    ensures contents { IsTrue result → findings_of number contents.now ≡ [] }
+    ensures form { IsTrue result
+        → (is_unassigned (universal number) || is_one_of constructed_types (universal number)) ≡ false }
 {
     match number {
         1 => is_truth(contents),
@@ -37,7 +43,9 @@ fn is_type_clear(number: u64, contents: &[u8]) -> bool
         26 => are_allowed(26, contents),
         28 => contents.len() % 4 == 0,
         30 => contents.len() % 2 == 0,
-        _ => true,
+        // Of the other types that have primitives nothing is asked here.
+        4 | 7 | 9 | 14 | 20 | 21 | 25 | 27 | 31..=36 => true,
+        _ => false,
     }
 }
 

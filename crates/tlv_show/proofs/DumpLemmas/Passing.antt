@@ -1,10 +1,11 @@
 -- A primitive with which nothing is found: what a finder and a check make of it at once.
-use Rattle.std.proofs.Common.{subst, ◌≡◌, Bool, false, true, ℕ, List, [], ◌∷◌, length, sym, ap, ◌∙◌, arith}
-use Rattle.std.specs.Prelude.{None, Ok, if◌then◌else◌}
+use Rattle.std.proofs.Common.{subst, rules, ◌≡◌, Bool, false, true, ℕ, List, [], ◌∷◌, length, sym, ap, ◌∙◌, arith}
+use Rattle.std.specs.Prelude.{None, Ok, if◌then◌else◌, ◌&&◌, ◌||◌, not}
 use Rattle.std.specs.List.{filter}
 use Rattle.tlv_head.specs.Header.{HeaderValue, announced}
 use Rattle.tlv_value.specs.declared.finding.Finding.{Finding}
 use Rattle.tlv_value.specs.Checks.{findings_on_contents}
+use Rattle.tlv_value.specs.Types.{constructed_types, is_one_of, is_string, is_unassigned, primitive_types}
 use Rattle.tlv_io.specs.declared.drain.WriteFault.{WriteFault}
 use Rattle.tlv_walk.specs.declared.follow.Go.TheVariants as go
 use Rattle.tlv_io.specs.declared.out.Out.{Out}
@@ -19,11 +20,20 @@ use Rattle.tlv_show.specs.declared.finding_lines.Style.TheVariants.{Check}
 use Rattle.tlv_show.specs.CheckStep.{check_step, findings_effect, styled_lines}
 use Rattle.tlv_show.specs.FinderState.{FinderState, Finds, count_up, find_begin, find_bytes, frame_after, frame_after_segment, header_notes}
 use Rattle.tlv_show.specs.Private.FinderState.{PassesOrStays, PassesPrimitive, find_whole, with_state}
+use Rattle.tlv_show.specs.Private.UsualTypes.{IsUsual}
 use Rattle.tlv_show.specs.Found.{shows}
 use Rattle.tlv_show.proofs.FindingLemmas.CheckLaws.{each-found}
 use Rattle.tlv_show.proofs.FindingLemmas.FinderItems.{behind_primitive, primitive-find, standing}
 
 -- ---- a finder
+
+pub usual_primitive : (h : HeaderValue) → h.constructed ≡ false → (is_unassigned h || is_one_of constructed_types h) ≡ false → IsUsual h
+usual_primitive h primitive form = record {
+  assigned = search rules;
+  primitive = ap (λ (b : Bool). b && is_one_of primitive_types h) primitive;
+  constructed = ap (λ (b : Bool). not b && is_one_of constructed_types h) primitive ∙ search rules;
+  segments = ap (λ (b : Bool). b && is_string h) primitive;
+}
 
 none-counted : (n : ℕ) → count_up n 0 ≡ n
 none-counted n = omega arith
