@@ -42,18 +42,22 @@ abbrev pub step_to : ExtractState → Position → List ℕ → Go → Effect Ex
 step_to s position octets goes =
     record { state = record s { position = position }; put = octets; goes = goes }
 
--- an element begins: the one wanted, one that it holds, or another. The count of those that it
--- holds stops at 255
-abbrev pub begin_step : ExtractState → HeaderValue → Effect ExtractState
-begin_step s h = at s.position
+-- an element begins at this offset, with these octets for its header: the one wanted, one that it holds, or
+-- another. The count of those that it holds stops at 255
+abbrev pub begin_step_at : ExtractState → ℕ → List ℕ → Effect ExtractState
+begin_step_at s offset octets = at s.position
   where
     at : Position → Effect ExtractState
     at Before =
-        if h.offset == s.offset
-        then step_to s (Inside 0) (outer_octets s.contents_only (octets_of h)) On
+        if offset == s.offset
+        then step_to s (Inside 0) (outer_octets s.contents_only octets) On
         else no_effect s
-    at (Inside level) = step_to s (Inside (min (level + 1) 255)) (octets_of h) On
+    at (Inside level) = step_to s (Inside (min (level + 1) 255)) octets On
     at After = no_effect s
+
+-- the element with this header begins
+abbrev pub begin_step : ExtractState → HeaderValue → Effect ExtractState
+begin_step s h = begin_step_at s h.offset (octets_of h)
 
 -- of octets that come at this position, those of the element wanted
 abbrev pub wanted_octets : Position → List ℕ → List ℕ

@@ -2,11 +2,11 @@
 ghost use Rattle.std.specs.Prelude.{◌≡◌};
 ghost use Rattle.tlv_walk.specs.Follow.{HasEffect};
 ghost use Rattle.tlv_io.specs.Out.{Puts};
-ghost use Rattle.tlv_cut.specs.ExtractStep.{begin_step, contents_step, end_step};
+ghost use Rattle.tlv_cut.specs.ExtractStep.{begin_step_at, contents_step, end_step};
 ghost use Rattle.tlv_cut.specs.ExtractStep.{has_found, new_extract, octet_step};
 
 use std::marker::Model;
-use tlv_head::Header;
+use tlv_head::{Header, HeaderFields};
 use tlv_walk::{Drain, Event, Follow, Go, Out, WriteFault};
 
 /// Where the walk is, seen from the element that is wanted.
@@ -62,20 +62,26 @@ impl Extract {
         !matches!(self.position, Position::Before)
     }
 
-    /// An element begins: the one wanted, one that it holds, or another.
-    fn begin<D: Drain>(&mut self, header: &Header, out: &mut Out<'_, D>) -> Result<Go, WriteFault>
-        ensures state { HasEffect (begin_step self.old header.now) self.new result }
-        ensures puts { Puts D.state out.old out.new (begin_step self.old header.now).put result }
+    /// An element begins at this offset, with these octets for its header: the one wanted, one that it holds, or
+    /// another.
+    fn begin<D: Drain>(
+        &mut self,
+        offset: u64,
+        octets: &[u8],
+        out: &mut Out<'_, D>,
+    ) -> Result<Go, WriteFault>
+        ensures state { HasEffect (begin_step_at self.old offset octets.now) self.new result }
+        ensures puts { Puts D.state out.old out.new (begin_step_at self.old offset octets.now).put result }
     {
         match self.position {
-            Position::Before if header.offset == self.offset => {
+            Position::Before if offset == self.offset => {
                 if !self.contents_only {
-                    out.put(header.raw())?;
+                    out.put(octets)?;
                 }
                 self.position = Position::Inside(0);
             }
             Position::Inside(level) => {
-                out.put(header.raw())?;
+                out.put(octets)?;
                 self.position = Position::Inside(level.saturating_add(1));
             }
             _ => {}
@@ -148,7 +154,7 @@ impl Follow for Extract {
     fn on<D: Drain>(&mut self, event: &Event<'_>, out: &mut Out<'_, D>) -> Result<Go, WriteFault> {
         match event {
             Event::Open(header) | Event::Begin(header) | Event::Enter(header) => {
-                self.begin(header, out)
+                self.begin(header.offset, header.raw(), out)
             }
             Event::Bytes(octets) => self.contents(octets, out),
             Event::Unused => self.contents(&[0], out),
@@ -176,5 +182,15 @@ impl Follow for Extract {
             Position::Inside(_) => Ok(false),
             Position::After => Ok(true),
         }
+    }
+
+    #[inline(always)]
+    fn open<D: Drain>(
+        &mut self,
+        fields: &HeaderFields,
+        octets: &[u8],
+        out: &mut Out<'_, D>,
+    ) -> Result<Go, WriteFault> {
+        self.begin(fields.offset, octets, out)
     }
 }

@@ -5,7 +5,7 @@ ghost use Rattle.tlv_walk.specs.HasRead.{event_value};
 ghost use Rattle.tlv_cut.specs.IndefStep.{indef_event_text, new_indef};
 
 use std::marker::Model;
-use tlv_head::{Header, spell_indefinite};
+use tlv_head::{Header, HeaderFields, spell_indefinite};
 use tlv_walk::{Drain, Event, Follow, Go, Out, WriteFault};
 
 /// A follower that writes the octets of a walk, with the indefinite form of the length in each
@@ -70,6 +70,18 @@ impl Follow for Indef {
     ) -> Result<bool, WriteFault> {
         out.put(octets)?;
         Ok(true)
+    }
+
+    #[inline(always)]
+    fn open<D: Drain>(
+        &mut self,
+        fields: &HeaderFields,
+        octets: &[u8],
+        out: &mut Out<'_, D>,
+    ) -> Result<Go, WriteFault> {
+        out.put(&octets[..usize::from(fields.id_len)])?;
+        out.put(&[0x80])?;
+        Ok(Go::On)
     }
 }
 

@@ -1,11 +1,13 @@
 //! What follows a walk.
-ghost use Rattle.tlv_walk.specs.Events.{Bytes, EventValue, Pad};
+ghost use Rattle.std.specs.Prelude.{◌≡◌, true};
+ghost use Rattle.tlv_head.specs.Fields.{Suits, header_with};
+ghost use Rattle.tlv_walk.specs.Events.{Bytes, EventValue, Open, Pad};
 ghost use Rattle.tlv_walk.specs.Follow.{Effect, GoesOn, HasEffect, HasEffectOrNone, IsWhole, Joins, Rests, effect_of, put_if_followed, whole_events};
 ghost use Rattle.tlv_io.specs.Out.{Puts};
 ghost use Rattle.tlv_walk.specs.HasRead.{event_value};
 
 use crate::{Drain, Event, Out, WriteFault};
-use tlv_head::Header;
+use tlv_head::{Header, HeaderFields};
 
 /// Whether a follower wants more.
 #[derive(Clone, Copy, Debug, PartialEq, Eq)]
@@ -54,6 +56,28 @@ pub trait Follow {
             self.old self.new result }
     {
         Ok(false)
+    }
+
+    /// Follows the header of a constructed element, given by its fields and its octets, as [`Follow::on`] follows
+    /// [`Event::Open`] with that header. A follower that needs no [`Header`] saves the making of one.
+    ///
+    /// # Errors
+    ///
+    /// As for [`Follow::on`].
+    #[inline(always)]
+    fn open<D: Drain>(
+        &mut self,
+        fields: &HeaderFields,
+        octets: &[u8],
+        out: &mut Out<'_, D>,
+    ) -> Result<Go, WriteFault>
+        requires suits { Suits fields.now octets.now }
+        requires constructed { fields.now.constructed ≡ true }
+        ensures puts { Puts D.state out.old out.new
+            (next self.old (Open (header_with fields.now octets.now))).put result }
+        ensures state { HasEffect (next self.old (Open (header_with fields.now octets.now))) self.new result }
+    {
+        self.on(&Event::Open(Header::new(fields, octets)), out)
     }
 
     // Contents in two parts are followed as in one, no octets as no event, and octets are never

@@ -167,11 +167,7 @@ fn follow<F: Follow, D: Drain>(
         let go = match walker.close(&mut rest) {
             Some(at) => follower.on(&Event::Close(at), out)?,
             None => match walker.constructed(&mut rest) {
-                // Its event is made here: if `on` is inlined, nothing is made of it that the follower does not
-                // look at.
-                Some((fields, octets)) => {
-                    follower.on(&Event::Open(Header::new(&fields, octets)), out)?
-                }
+                Some((fields, octets)) => follower.open(&fields, octets, out)?,
                 None => match walker.contents_event(&mut rest) {
                     Some(event) => follower.on(&event, out)?,
                     None => {

@@ -1,5 +1,5 @@
 //! How a walker finds the next event where few instructions do.
-ghost use Rattle.std.specs.Prelude.{◌≡◌, ◌+◌, ◌^◌, ◌≤◌, IfSome, length, take};
+ghost use Rattle.std.specs.Prelude.{◌≡◌, ◌+◌, ◌^◌, ◌≤◌, IfSome, length, take, true};
 ghost use Rattle.tlv_head.specs.Fields.{Suits};
 ghost use Rattle.tlv_walk.specs.Follow.{whole_events};
 ghost use Rattle.tlv_walk.specs.Private.WalkerState.{CanPass, Passes, StepsAtOnce, close_event, header_at, open_event};
@@ -90,6 +90,7 @@ impl Walker {
         ensures steps { StepsAtOnce self.old self.new piece.old.now piece.new.now (open_event result) }
         ensures yields { YieldsAtOnce self.old self.new piece.old.now piece.new.now (open_event result) }
         ensures suits { IfSome result (λ found. Suits found.0 found.1.now) }
+        ensures constructed { IfSome result (λ found. found.0.constructed ≡ true) }
     {
         if !matches!(self.phase, Phase::Between) {
             return None;

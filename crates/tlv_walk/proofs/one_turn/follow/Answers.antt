@@ -4,7 +4,7 @@ use Rattle.tlv_walk.specs.declared.event.Step.{Step}
 use Rattle.tlv_walk.specs.declared.event.Step.TheVariants as step
 use Rattle.tlv_walk.specs.declared.follow.Go.{Go}
 use Rattle.tlv_walk.specs.declared.follow.Go.TheVariants as go
-use Rattle.tlv_walk.specs.Events.{EventValue, Open}
+use Rattle.tlv_walk.specs.Events.{EventValue}
 use Rattle.tlv_walk.specs.WalkerState.{WalkerState}
 use Rattle.tlv_walk.specs.StepsTo.{StepsTo}
 use Rattle.tlv_walk.specs.Private.FollowsPiece.{WalksOver}
@@ -51,8 +51,8 @@ events-preserved g c =
         follows = rw (w.out-is, w.follower-is, w.walker-is, w.rest-is, ← on, w.go-is) (follows_event g.F.Follow.next g.D.Drain.state _ _ _ _ _ _ _ _ _ _ _ _ _ _ left (stands_all _ _ _ _ _ w.in-Some.ensures.yields) w.in_ok-go-in-Some.ensures.state _ w.in_ok-go-in-Some.ensures.puts);
         walked = rw (w.walker-is, w.rest-is) (w.in-Some.ensures.steps.0.taken ∙ left_walked g.F.Follow.next g.D.Drain.state _ _ _ _ _ _ _ _ _ c.if-branch.false c.in_ok-follow_primitive.ensures.parts ∙ c.events.invariant.walked);
       }
-      | in-None+in-Some-constructed+in_ok-go-in-Some-constructed w ↦ let opened : WalksOver c.close.new.self w.constructed.new.self c.close.new.piece.now w.constructed.new.piece.now (Open w.new.result ∷ []) = rw w.new.ensures (stands_all _ _ _ _ _ w.in-Some-constructed.ensures.yields) in record {
-        follows = rw (w.out-is, w.follower-is, w.walker-is, w.rest-is, ← on, w.go-is) (follows_event g.F.Follow.next g.D.Drain.state _ _ _ _ _ _ _ _ _ _ _ _ _ _ left (unmoved_event _ _ _ _ _ _ _ (w.in-None.ensures.steps.0) (w.in-None.ensures.steps.1) opened) w.in_ok-go-in-Some-constructed.ensures.state _ w.in_ok-go-in-Some-constructed.ensures.puts);
+      | in-None+in-Some-constructed+in_ok-go-in-Some-constructed w ↦ record {
+        follows = rw (w.out-is, w.follower-is, w.walker-is, w.rest-is, ← on, w.go-is) (follows_event g.F.Follow.next g.D.Drain.state _ _ _ _ _ _ _ _ _ _ _ _ _ _ left (unmoved_event _ _ _ _ _ _ _ (w.in-None.ensures.steps.0) (w.in-None.ensures.steps.1) (stands_all _ _ _ _ _ w.in-Some-constructed.ensures.yields)) w.in_ok-go-in-Some-constructed.ensures.state _ w.in_ok-go-in-Some-constructed.ensures.puts);
         walked = rw (w.walker-is, w.rest-is) (w.in-Some-constructed.ensures.steps.0.taken ∙ unmoved _ _ _ _ (w.in-None.ensures.steps.0) (w.in-None.ensures.steps.1) ∙ left_walked g.F.Follow.next g.D.Drain.state _ _ _ _ _ _ _ _ _ c.if-branch.false c.in_ok-follow_primitive.ensures.parts ∙ c.events.invariant.walked);
       }
       | in-None+in-None-constructed+in-Some-contents_event+in_ok-go-in-Some-contents_event w ↦ record {
@@ -81,9 +81,8 @@ pub returns-in_err-go-in-Some-constructed-clause-stops : goal.returns-in_err-go-
 returns-in_err-go-in-Some-constructed-clause-stops g c =
     let p = err_from_is_err_and c.from_residual-in_err-go-in-Some-constructed.result c.from_residual-in_err-go-in-Some-constructed.ensures.1 in
     let left = follows_left g.F.Follow.next g.D.Drain.state _ _ _ _ _ _ _ _ _ _ _ _ _ c.events.invariant.follows c.if-branch.false c.in_ok-follow_primitive.ensures.parts in
-    let opened : WalksOver c.close.new.self c.constructed.new.self c.close.new.piece.now c.constructed.new.piece.now (Open c.new.result ∷ []) = rw c.new.ensures (stands_all _ _ _ _ _ c.in-Some-constructed.ensures.yields) in
     rw p.1
-    (fails_event g.F.Follow.next g.D.Drain.state _ _ _ _ _ _ _ _ _ _ _ _ left (unmoved_event _ _ _ _ _ _ _ (c.in-None.ensures.steps.0) (c.in-None.ensures.steps.1) opened) _ _ c.in_err-go-in-Some-constructed.ensures.puts)
+    (fails_event g.F.Follow.next g.D.Drain.state _ _ _ _ _ _ _ _ _ _ _ _ left (unmoved_event _ _ _ _ _ _ _ (c.in-None.ensures.steps.0) (c.in-None.ensures.steps.1) (stands_all _ _ _ _ _ c.in-Some-constructed.ensures.yields)) _ _ c.in_err-go-in-Some-constructed.ensures.puts)
 
 pub returns-in_err-go-in-Some-contents_event-clause-stops : goal.returns-in_err-go-in-Some-contents_event-clause-stops
 returns-in_err-go-in-Some-contents_event-clause-stops g c =
@@ -116,8 +115,8 @@ returns-then-eq-clause-stops g c =
     elim c.match-close.branch [
       | in-Some+in_ok-go-in-Some w ↦ rw (w.out-is, w.follower-is, w.walker-is, ← enough, w.go-is)
           (_, follows_as g.F.Follow.next g.D.Drain.state _ _ _ _ _ _ _ _ _ _ (follows_event g.F.Follow.next g.D.Drain.state _ _ _ _ _ _ _ _ _ _ _ _ _ _ left (stands_all _ _ _ _ _ w.in-Some.ensures.yields) w.in_ok-go-in-Some.ensures.state _ w.in_ok-go-in-Some.ensures.puts), w.in-Some.ensures.steps.0.after_event)
-      | in-None+in-Some-constructed+in_ok-go-in-Some-constructed w ↦ let opened : WalksOver c.close.new.self w.constructed.new.self c.close.new.piece.now w.constructed.new.piece.now (Open w.new.result ∷ []) = rw w.new.ensures (stands_all _ _ _ _ _ w.in-Some-constructed.ensures.yields) in rw (w.out-is, w.follower-is, w.walker-is, ← enough, w.go-is)
-          (_, follows_as g.F.Follow.next g.D.Drain.state _ _ _ _ _ _ _ _ _ _ (follows_event g.F.Follow.next g.D.Drain.state _ _ _ _ _ _ _ _ _ _ _ _ _ _ left (unmoved_event _ _ _ _ _ _ _ (w.in-None.ensures.steps.0) (w.in-None.ensures.steps.1) opened) w.in_ok-go-in-Some-constructed.ensures.state _ w.in_ok-go-in-Some-constructed.ensures.puts), w.in-Some-constructed.ensures.steps.0.after_event)
+      | in-None+in-Some-constructed+in_ok-go-in-Some-constructed w ↦ rw (w.out-is, w.follower-is, w.walker-is, ← enough, w.go-is)
+          (_, follows_as g.F.Follow.next g.D.Drain.state _ _ _ _ _ _ _ _ _ _ (follows_event g.F.Follow.next g.D.Drain.state _ _ _ _ _ _ _ _ _ _ _ _ _ _ left (unmoved_event _ _ _ _ _ _ _ (w.in-None.ensures.steps.0) (w.in-None.ensures.steps.1) (stands_all _ _ _ _ _ w.in-Some-constructed.ensures.yields)) w.in_ok-go-in-Some-constructed.ensures.state _ w.in_ok-go-in-Some-constructed.ensures.puts), w.in-Some-constructed.ensures.steps.0.after_event)
       | in-None+in-None-constructed+in-Some-contents_event+in_ok-go-in-Some-contents_event w ↦ rw (w.out-is, w.follower-is, w.walker-is, ← enough, w.go-is)
           (_, follows_as g.F.Follow.next g.D.Drain.state _ _ _ _ _ _ _ _ _ _ (follows_event g.F.Follow.next g.D.Drain.state _ _ _ _ _ _ _ _ _ _ _ _ _ _ left (unmoved_event _ _ _ _ _ _ _ (w.in-None-constructed.ensures.steps.0 ∙ w.in-None.ensures.steps.0) (w.in-None-constructed.ensures.steps.1 ∙ w.in-None.ensures.steps.1) (stands_all _ _ _ _ _ w.in-Some-contents_event.ensures.yields)) w.in_ok-go-in-Some-contents_event.ensures.state _ w.in_ok-go-in-Some-contents_event.ensures.puts), w.in-Some-contents_event.ensures.steps.0.after_event)
       | in-None+in-None-constructed+in-None-contents_event+in-Event+in_ok-go-in-Event w ↦ rw (w.out-is, w.follower-is, w.walker-is, ← enough, w.go-is)
