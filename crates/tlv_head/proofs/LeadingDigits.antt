@@ -4,7 +4,7 @@ use Rattle.std.proofs.lemmas.Bool.Decides.{nat_tests}
 use Rattle.std.proofs.lemmas.List.{length-map}
 use Rattle.std.proofs.lemmas.List.Elements.{All-head, All-nil, All-push, All-tail}
 use Rattle.std.specs.Prelude.{slice_index}
-use Rattle.tlv_head.specs.Header.{HeaderValue, IsHeader, IsLength, IsLongForm, announced, leading_octet, value_of, with_bit_8}
+use Rattle.tlv_head.specs.Header.{HeaderValue, IsHeader, IsLength, IsLongForm, announced_length, leading_octet, value_of, with_bit_8}
 use Rattle.tlv_head.specs.declared.header.Size.{Size}
 use Rattle.tlv_head.specs.declared.header.Size.TheVariants.{Definite, Indefinite}
 use Rattle.tlv_head.proofs.Digits.{value_of-lt}
@@ -54,10 +54,10 @@ long-leading n octets f = rw (f.value, f.octet) (by-digits f.digits f.each f.som
 
 -- 10.1: the first subsequent octet is 0 exactly where one octet fewer holds the length
 pub first_length-zero : (h : HeaderValue) → IsHeader h → 1 < length h.lengths
-    → (slice_index h.lengths 1 == 0) ≡ nat_lt (announced h.size) (256 ^ (length h.lengths - 2))
+    → (slice_index h.lengths 1 == 0) ≡ nat_lt (announced_length h.size) (256 ^ (length h.lengths - 2))
 first_length-zero h valid long = by-size h.size valid.lengths
   where
-    by-size : (size : Size) → IsLength size h.lengths → (slice_index h.lengths 1 == 0) ≡ nat_lt (announced size) (256 ^ (length h.lengths - 2))
+    by-size : (size : Size) → IsLength size h.lengths → (slice_index h.lengths 1 == 0) ≡ nat_lt (announced_length size) (256 ^ (length h.lengths - 2))
     by-size (Definite n) (inl short) = absurd (omega (arith, ap length short.1))
     by-size (Definite n) (inr f) = long-leading n h.lengths f
     by-size Indefinite mark = absurd (omega (arith, ap length mark))

@@ -4,7 +4,7 @@ use Rattle.std.proofs.lemmas.List.Elements.{All-nil, All-push}
 use Rattle.std.proofs.Math.Nat.{pow-suc, pow-zero}
 use Rattle.tlv_head.specs.declared.header.Size.{Size}
 use Rattle.tlv_head.specs.declared.header.Size.TheVariants.{Definite, Indefinite}
-use Rattle.tlv_head.specs.Header.{IsLength, announced, value_of}
+use Rattle.tlv_head.specs.Header.{IsLength, announced_length, value_of}
 use Rattle.tlv_head.proofs.Digits.{value_of-snoc}
 use Rattle.tlv_head.proofs.Shortest.{length-le}
 use Rattle.tlv_head.proofs.ShortestSpelling.{ShortLength, one-octet, short-length}
@@ -34,7 +34,7 @@ pub record FewLengths (size : Size) : Type 0 where
   pub short : ShortLength size
   pub few : length short.octets ≤ 6
 
-pub few-lengths : (size : Size) → announced size < 2 ^ 40 → FewLengths size
+pub few-lengths : (size : Size) → announced_length size < 2 ^ 40 → FewLengths size
 few-lengths Indefinite below = record { short = record { octets = 128 ∷ []; valid = refl; shortest = one-octet 0 128 }; few = omega arith }
 few-lengths (Definite n) below =
     let five : HasDigits 5 n = digits-of 5 n (omega (arith, below)) in

@@ -7,7 +7,7 @@ use Rattle.std.specs.Prelude.{slice_index}
 use Rattle.tlv_head.specs.declared.header.Class.{Class}
 use Rattle.tlv_head.specs.declared.header.Size.{Size}
 use Rattle.tlv_head.specs.declared.header.Size.TheVariants.{Definite, Indefinite}
-use Rattle.tlv_head.specs.Header.{HeaderValue, IsHeader, IsHighForm, IsIdentifier, IsLength, announced, leading_octet, value_of, with_bit_8}
+use Rattle.tlv_head.specs.Header.{HeaderValue, IsHeader, IsHighForm, IsIdentifier, IsLength, announced_length, leading_octet, value_of, with_bit_8}
 use Rattle.tlv_head.specs.Shortest.{HaveOneTag, IsShortestIdentifier, IsShortestLength, ShortestHeadersAreOne, ShortestHeadersAreShortest}
 use Rattle.tlv_head.proofs.OneValue.{fewest-digits, same-digits}
 
@@ -72,7 +72,7 @@ identifier-same class constructed n xs ys (inr f) (inr g) e = high-same class co
 
 -- ---- length octets
 
-pub length-le : (size : Size) (xs ys : List ℕ) → IsLength size xs → IsLength size ys → IsShortestLength (announced size) xs → length xs ≤ length ys
+pub length-le : (size : Size) (xs ys : List ℕ) → IsLength size xs → IsLength size ys → IsShortestLength (announced_length size) xs → length xs ≤ length ys
 length-le Indefinite xs ys u v s = omega (arith, ap length u, ap length v)
 length-le (Definite n) xs ys (inl f) (inl g) s = omega (arith, ap length f.1, ap length g.1)
 length-le (Definite n) xs ys (inl f) (inr g) s = omega (arith, ap length f.1, ap length g.octet)
@@ -108,7 +108,7 @@ pub shortest-identifier : (h g : HeaderValue) → IsHeader h → IsHeader g → 
     → length h.identifier ≤ length g.identifier
 shortest-identifier h g u v tag s = identifier-le h.class h.constructed h.number h.identifier g.identifier u.identifier (moved-identifier h g v tag) s
 
-pub shortest-length : (h g : HeaderValue) → IsHeader h → IsHeader g → h.size ≡ g.size → IsShortestLength (announced h.size) h.lengths
+pub shortest-length : (h g : HeaderValue) → IsHeader h → IsHeader g → h.size ≡ g.size → IsShortestLength (announced_length h.size) h.lengths
     → length h.lengths ≤ length g.lengths
 shortest-length h g u v size s = length-le h.size h.lengths g.lengths u.lengths (moved-lengths h g v size) s
 
@@ -154,9 +154,9 @@ identifier-from h valid high = record {
   leading = λ more. (high more).1;
 }
 
-pub lengths-from : (h : HeaderValue) → IsHeader h → (1 < length h.lengths → (128 ≤ announced h.size) × (slice_index h.lengths 1 ≢ 0))
-    → IsShortestLength (announced h.size) h.lengths
+pub lengths-from : (h : HeaderValue) → IsHeader h → (1 < length h.lengths → (128 ≤ announced_length h.size) × (slice_index h.lengths 1 ≢ 0))
+    → IsShortestLength (announced_length h.size) h.lengths
 lengths-from h valid long = record {
-  single = single-octet (length h.lengths) (announced h.size) 128 (lengths-some h.size h.lengths valid.lengths) (λ more. (long more).0);
+  single = single-octet (length h.lengths) (announced_length h.size) 128 (lengths-some h.size h.lengths valid.lengths) (λ more. (long more).0);
   leading = λ more. (long more).1;
 }

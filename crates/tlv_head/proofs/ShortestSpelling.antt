@@ -6,7 +6,7 @@ use Rattle.std.specs.Prelude.{slice_index}
 use Rattle.tlv_head.specs.declared.header.Class.{Class}
 use Rattle.tlv_head.specs.declared.header.Size.{Size}
 use Rattle.tlv_head.specs.declared.header.Size.TheVariants.{Definite, Indefinite}
-use Rattle.tlv_head.specs.Header.{HeaderValue, IsHeader, IsIdentifier, IsLength, announced, leading_octet, value_of, with_bit_8}
+use Rattle.tlv_head.specs.Header.{HeaderValue, IsHeader, IsIdentifier, IsLength, announced_length, leading_octet, value_of, with_bit_8}
 use Rattle.tlv_head.specs.Shortest.{HasShorter, HeadersHaveAShortest, IsShortestIdentifier, IsShortestLength}
 use Rattle.tlv_head.proofs.Shortest.{high-first, identifier-le, identifier-same, length-le, length-same, shortest-identifier, shortest-length}
 
@@ -82,7 +82,7 @@ short-identifier class constructed n octets (inr f) nonzero = elim (cases_lt n 3
 pub record ShortLength (size : Size) : Type 0 where
   pub octets : List ℕ
   pub valid : IsLength size octets
-  pub shortest : IsShortestLength (announced size) octets
+  pub shortest : IsShortestLength (announced_length size) octets
 
 pub one-octet : (n x : ℕ) → IsShortestLength n (x ∷ [])
 one-octet n x = record { single = λ s. refl; leading = λ more. absurd (omega (arith, more)) }
@@ -161,7 +161,7 @@ shorter-identifier h valid nonzero none =
           absurd (none (subst (IsShortestIdentifier h.number) same i.shortest))
     ]
 
-pub shorter-length : (h : HeaderValue) → IsHeader h → (IsShortestLength (announced h.size) h.lengths → ⊥) → HasShorter (λ k. k.lengths) h
+pub shorter-length : (h : HeaderValue) → IsHeader h → (IsShortestLength (announced_length h.size) h.lengths → ⊥) → HasShorter (λ k. k.lengths) h
 shorter-length h valid none =
     let l : ShortLength h.size = short-length h.size h.lengths valid.lengths in
     elim (cases_lt (length l.octets) (length h.lengths)) [
@@ -175,12 +175,12 @@ shorter-length h valid none =
       | inr le ↦
           let ge : length l.octets ≤ length h.lengths = length-le h.size l.octets h.lengths l.valid valid.lengths l.shortest in
           let same : l.octets ≡ h.lengths = length-same h.size l.octets h.lengths l.valid valid.lengths (omega (arith, le, ge)) in
-          absurd (none (subst (IsShortestLength (announced h.size)) same l.shortest))
+          absurd (none (subst (IsShortestLength (announced_length h.size)) same l.shortest))
     ]
 
 -- and one that is has none
 pub no-shorter_identifier : (h : HeaderValue) → IsHeader h → IsShortestIdentifier h.number h.identifier → HasShorter (λ k. k.identifier) h → ⊥
 no-shorter_identifier h valid s r = omega (arith, r.fewer, shortest-identifier h r.other valid r.valid r.tag s)
 
-pub no-shorter_length : (h : HeaderValue) → IsHeader h → IsShortestLength (announced h.size) h.lengths → HasShorter (λ k. k.lengths) h → ⊥
+pub no-shorter_length : (h : HeaderValue) → IsHeader h → IsShortestLength (announced_length h.size) h.lengths → HasShorter (λ k. k.lengths) h → ⊥
 no-shorter_length h valid s r = omega (arith, r.fewer, shortest-length h r.other valid r.valid r.size s)

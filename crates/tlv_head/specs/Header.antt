@@ -91,8 +91,8 @@ pub record IsHeader (h : HeaderValue) : Type 0 where
   pub allowed : (h.constructed || is_some (definite_length h.size)) ≡ true
 
 -- 8.1.3.3: how many contents octets are announced
-abbrev pub announced : Size → ℕ
-announced size = unwrap_or (definite_length size) 0
+abbrev pub announced_length : Size → ℕ
+announced_length size = unwrap_or (definite_length size) 0
 
 -- 8.1.2.2 a): the class is universal
 abbrev pub is_universal : Class → Bool
@@ -102,7 +102,7 @@ is_universal class = eqb (class_bits class) 0
 -- its contents are to be read as encodings
 abbrev pub is_wrapper : Bool → Class → Bool → ℕ → Size → Bool
 is_wrapper named class constructed number size =
-    named && not constructed && is_universal class && (eqb number 4 || (eqb number 3 && not (eqb (announced size) 0)))
+    named && not constructed && is_universal class && (eqb number 4 || (eqb number 3 && not (eqb (announced_length size) 0)))
 
 -- the same, of the element with this header
 abbrev pub wraps : HeaderValue → Bool

@@ -1,6 +1,6 @@
 -- Identifier and length octets that are as few as they can be: X.690 8.1.2, 9.1 and 10.1.
 use Rattle.std.specs.Prelude.{◌≡◌, ◌≢◌, ℕ, ◌%◌, ◌<◌, ◌≤◌, List, length, slice_index}
-use Rattle.tlv_head.specs.Header.{HeaderValue, IsHeader, announced, leading_octet}
+use Rattle.tlv_head.specs.Header.{HeaderValue, IsHeader, announced_length, leading_octet}
 
 -- 8.1.2.2: a number below 31 is in the single octet. 8.1.2.4.2 c): no subsequent octets begin with seven bits 0
 pub record IsShortestIdentifier (number : ℕ) (octets : List ℕ) : Type 0 where
@@ -14,7 +14,7 @@ pub record IsShortestLength (n : ℕ) (octets : List ℕ) : Type 0 where
 
 pub record IsShortest (h : HeaderValue) : Type 0 where
   pub identifier : IsShortestIdentifier h.number h.identifier
-  pub lengths : IsShortestLength (announced h.size) h.lengths
+  pub lengths : IsShortestLength (announced_length h.size) h.lengths
 
 -- 8.1.2: class, form and number are the same
 pub record HaveOneTag (h g : HeaderValue) : Type 0 where

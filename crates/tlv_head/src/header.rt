@@ -1,4 +1,5 @@
 //! An element's header: its identifier and length octets, and what they say.
+use crate::universal;
 use arrayvec::ArrayVec;
 use std::marker::Model;
 
@@ -18,6 +19,22 @@ pub enum Size {
     Definite(u64),
     /// Contents follow up to the end-of-contents octets.
     Indefinite,
+}
+
+impl Size {
+    ghost use Rattle.std.specs.Prelude.{◌≡◌};
+    ghost use Rattle.tlv_head.specs.Header.{announced_length};
+
+    /// How many contents octets are announced; none in the indefinite form.
+    #[inline(always)]
+    pub fn announced_length(self) -> u64
+        ensures { result ≡ announced_length self }
+    {
+        match self {
+            Size::Definite(length) => length,
+            Size::Indefinite => 0,
+        }
+    }
 }
 
 /// Identifier and length octets of an element, with what they say.
@@ -211,7 +228,7 @@ impl Header {
 }
 
 ghost use Rattle.std.specs.Prelude.{◌≡◌, ◌≤◌, drop, eqb, length, slice_index, take, true};
-ghost use Rattle.tlv_head.specs.Header.{announced, indefinite_octets, is_wrapper as is_wrapper_of};
+ghost use Rattle.tlv_head.specs.Header.{announced_length, indefinite_octets, is_wrapper as is_wrapper_of};
 
 /// The second octets of an identifier of so many octets and of the length after it, or 0 if there is none.
 pub(crate) fn seconds(id_len: u8, octets: &[u8]) -> (u8, u8)
@@ -247,19 +264,9 @@ pub(crate) fn is_wrapper(
         return false;
     }
     match (class, number) {
-        (Class::Universal, 3) => !is_empty(size),
-        (Class::Universal, 4) => true,
+        (Class::Universal, universal::BIT_STRING) => size.announced_length() != 0,
+        (Class::Universal, universal::OCTET_STRING) => true,
         _ => false,
-    }
-}
-
-/// Whether the length octets announce no contents octet.
-fn is_empty(size: Size) -> bool
-    ensures { result ≡ eqb (announced size) 0 }
-{
-    match size {
-        Size::Definite(length) => length == 0,
-        Size::Indefinite => true,
     }
 }
 

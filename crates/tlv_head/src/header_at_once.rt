@@ -88,15 +88,19 @@ fn short_length(constructed: bool, octets: &[u8]) -> Option<(Size, usize)>
     if octets[0] < 0x80 {
         return Some((Size::Definite(u64::from(octets[0])), 1));
     }
+    if octets[0] == 0x80 {
+        return if constructed {
+            Some((Size::Indefinite, 1))
+        } else {
+            None
+        };
+    }
     if octets[0] == 0x81 && octets.len() >= 2 {
         return Some((Size::Definite(u64::from(octets[1])), 2));
     }
     if octets[0] == 0x82 && octets.len() >= 3 {
         let length = u64::from(octets[1]) * 256 + u64::from(octets[2]);
         return Some((Size::Definite(length), 3));
-    }
-    if octets[0] == 0x80 && constructed {
-        return Some((Size::Indefinite, 1));
     }
     None
 }

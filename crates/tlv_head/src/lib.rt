@@ -9,6 +9,7 @@ pub mod laws;
 mod next_octet;
 mod reader;
 mod tag;
+pub mod universal;
 
 pub use fault::{Fault, FaultCode};
 pub use header::{Class, Header, HeaderFields, Size, spell_indefinite};

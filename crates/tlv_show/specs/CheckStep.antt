@@ -6,7 +6,7 @@ use Rattle.tlv_walk.specs.Events.{Begin, Bytes, Close, End, Enter, EventValue, L
 use Rattle.tlv_walk.specs.Follow.{Effect, each_octet, no_effect}
 use Rattle.tlv_show.specs.declared.finding_lines.Style.{Style}
 use Rattle.tlv_show.specs.declared.finding_lines.Style.TheVariants.{Check, Dump}
-use Rattle.tlv_show.specs.FinderState.{FinderState, Finds, find_begin, find_bytes, find_close, find_end, find_open}
+use Rattle.tlv_show.specs.FinderState.{FinderState, FinderValue, find_begin, find_bytes, find_close, find_end, find_open}
 use Rattle.tlv_show.specs.Texts.{check_finding_line, finding_line}
 
 -- a finding in an element at this level and offset, as it is written
@@ -18,7 +18,7 @@ abbrev pub styled_lines : Style → ℕ → ℕ → List Finding → List ℕ
 styled_lines style level at findings = flat_map (styled_line style level at) findings
 
 -- the findings are put, each with its line
-abbrev pub findings_effect : Finds → Effect FinderState
+abbrev pub findings_effect : FinderValue → Effect FinderState
 findings_effect f = record { state = f.state; put = styled_lines Check f.level f.at f.found; goes = On }
 
 -- a contents octet

@@ -1,7 +1,7 @@
 -- What is found in an element by the rules of X.690: each finding beside its condition, in the order of the codes.
 use Rattle.std.specs.Prelude.{ℕ, ◌+◌, ◌-◌, ◌%◌, Bool, false, ◌&&◌, ◌||◌, not, ◌==◌, nat_le, nat_lt, if◌then◌else◌, List, [], ◌∷◌, length, slice_index, Some, sum_by}
 use Rattle.std.specs.List.{list_all}
-use Rattle.tlv_head.specs.Header.{HeaderValue, announced}
+use Rattle.tlv_head.specs.Header.{HeaderValue, announced_length}
 use Rattle.tlv_value.specs.declared.finding.Finding.{Finding}
 use Rattle.tlv_value.specs.declared.finding.Finding.TheVariants.{B01, B02, B03, B04, B05, B16, B17, S01, D01, D02, C01, C02, C03, C04, C05, C06}
 use Rattle.tlv_value.specs.Types.{bit_string, constructed_types, has_segments, is_a, is_one_of, is_primitive, is_string, is_unassigned, octet_string, primitive_types}
@@ -33,7 +33,7 @@ has_unused_bits _ = false
 
 -- 9.2: an element, but no primitive of 1000 contents octets
 abbrev pub is_not_full : Before → Bool
-is_not_full (Sibling h first) = h.constructed || not (announced h.size == 1000)
+is_not_full (Sibling h first) = h.constructed || not (announced_length h.size == 1000)
 is_not_full _ = false
 
 abbrev pub header_conditions : Site → HeaderValue → List (Bool × Finding)
@@ -54,7 +54,7 @@ header_conditions s h =
     ∷ (in_string s && not (is_a (if in_bit_string s then bit_string else octet_string) h), B17)
     -- 9.1, 10.1: a definite length has the fewest octets: those of the long form are for 128 and more, and do not
     -- begin with 00
-    ∷ (has_long_form h && (nat_lt (announced h.size) 128 || first_length h == 0), S01)
+    ∷ (has_long_form h && (nat_lt (announced_length h.size) 128 || first_length h == 0), S01)
     -- 10.1: lengths are definite
     ∷ (is_indefinite h.size, D01)
     -- 10.2: strings are primitive
@@ -62,7 +62,7 @@ header_conditions s h =
     -- 9.1: the length of a constructed element is indefinite
     ∷ (h.constructed && not (is_indefinite h.size), C01)
     -- 9.2: a primitive string has at most 1000 contents octets
-    ∷ (is_primitive h && is_string h && nat_lt 1000 (announced h.size), C02)
+    ∷ (is_primitive h && is_string h && nat_lt 1000 (announced_length h.size), C02)
     -- 9.2: segments are primitive
     ∷ (h.constructed && in_string s, C03)
     -- 9.2: each segment but the last has 1000 contents octets
@@ -78,12 +78,12 @@ bits_octet h = if is_a bit_string h then 1 else 0
 -- 9.2: how many contents octets a string with these segments would have as a primitive: those of each segment but for
 -- its octet for unused bits, and one such octet for the whole string
 abbrev pub total : HeaderValue → List HeaderValue → ℕ
-total h segments = bits_octet h + sum_by (λ (g : HeaderValue). announced g.size - bits_octet h) segments
+total h segments = bits_octet h + sum_by (λ (g : HeaderValue). announced_length g.size - bits_octet h) segments
 
 -- whether the last of the elements is a primitive without contents octets, after one that is or is not
 abbrev pub ends_empty : Bool → List HeaderValue → Bool
 ends_empty empty [] = empty
-ends_empty empty (h ∷ hs) = ends_empty (is_primitive h && announced h.size == 0) hs
+ends_empty empty (h ∷ hs) = ends_empty (is_primitive h && announced_length h.size == 0) hs
 
 abbrev pub end_conditions : HeaderValue → List HeaderValue → List (Bool × Finding)
 end_conditions h inside =

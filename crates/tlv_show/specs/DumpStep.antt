@@ -9,7 +9,7 @@ use Rattle.tlv_show.specs.declared.rules.Rules.{Rules}
 use Rattle.tlv_show.specs.declared.finding_lines.Style.TheVariants.{Dump}
 use Rattle.tlv_show.specs.CheckStep.{styled_lines}
 use Rattle.tlv_show.specs.LinesStep.{LinesState, lines_octet_step, lines_padding_step, lines_step, new_lines}
-use Rattle.tlv_show.specs.FinderState.{FinderState, Finds, find_begin, find_bytes, find_close, find_end, find_open, finds_nothing, new_finder}
+use Rattle.tlv_show.specs.FinderState.{FinderState, FinderValue, find_begin, find_bytes, find_close, find_end, find_open, finds_nothing, new_finder}
 
 -- what contracts see of a `Dump`
 pub record DumpState : Type 0 where
@@ -21,18 +21,18 @@ abbrev pub new_dump : Rules → Layout → Table → DumpState
 new_dump rules layout names = record { lines = new_lines layout names; finder = new_finder rules }
 
 -- the lines of what is found
-abbrev pub finding_lines : DumpState → Finds → List ℕ
+abbrev pub finding_lines : DumpState → FinderValue → List ℕ
 finding_lines s f = styled_lines (Dump s.lines.layout.pure) f.level f.at f.found
 
 -- what is found comes before the lines, or after them
-abbrev pub findings_first : DumpState → Finds → Effect LinesState → Effect DumpState
+abbrev pub findings_first : DumpState → FinderValue → Effect LinesState → Effect DumpState
 findings_first s f d = record {
   state = record { lines = d.state; finder = f.state };
   put = finding_lines s f ++ d.put;
   goes = On;
 }
 
-abbrev pub findings_last : DumpState → Finds → Effect LinesState → Effect DumpState
+abbrev pub findings_last : DumpState → FinderValue → Effect LinesState → Effect DumpState
 findings_last s f d = record {
   state = record { lines = d.state; finder = f.state };
   put = d.put ++ finding_lines s f;

@@ -2,7 +2,7 @@
 -- Nothing here is to be believed: `Items` has what is reported, and a law has that it is the same.
 use Rattle.std.specs.Prelude.{ℕ, ◌+◌, ◌-◌, ◌^◌, Bool, true, false, ◌&&◌, ◌||◌, not, ◌==◌, nat_le, nat_lt, if◌then◌else◌, List, [], ◌∷◌, ◌++◌, length, max, min, take, Option, Some, None}
 use Rattle.std.specs.List.{filter}
-use Rattle.tlv_head.specs.Header.{HeaderValue, announced}
+use Rattle.tlv_head.specs.Header.{HeaderValue, announced_length}
 use Rattle.tlv_value.specs.declared.finding.Finding.{Finding}
 use Rattle.tlv_value.specs.declared.finding.Finding.TheVariants.{B01, B02, B03, B04, B05, B16, B17, S01, D01, D02, C01, C02, C03, C04, C05, C06}
 use Rattle.tlv_value.specs.CheckNotes.{finding_if}
@@ -36,7 +36,7 @@ top_frame = record {
 abbrev pub frame_of : HeaderValue → Frame
 frame_of h = record {
   at = h.offset;
-  size = announced h.size;
+  size = announced_length h.size;
   is_primitive = is_primitive h;
   has_segments = has_segments h;
   has_bits = has_segments h && is_a bit_string h;
@@ -79,7 +79,7 @@ basic_notes w h =
     ++ finding_if (w.has_segments && not (is_a (if w.has_bits then bit_string else octet_string) h)) B17
 
 abbrev pub length_notes : HeaderValue → List Finding
-length_notes h = finding_if (has_long_form h && (nat_lt (announced h.size) 128 || first_length h == 0)) S01
+length_notes h = finding_if (has_long_form h && (nat_lt (announced_length h.size) 128 || first_length h == 0)) S01
 
 abbrev pub der_notes : HeaderValue → List Finding
 der_notes h = finding_if (is_indefinite h.size) D01 ++ finding_if (has_segments h) D02
@@ -87,7 +87,7 @@ der_notes h = finding_if (is_indefinite h.size) D01 ++ finding_if (has_segments 
 abbrev pub cer_notes : Frame → HeaderValue → List Finding
 cer_notes w h =
     finding_if (h.constructed && not (is_indefinite h.size)) C01
-    ++ finding_if (is_primitive h && is_string h && nat_lt 1000 (announced h.size)) C02
+    ++ finding_if (is_primitive h && is_string h && nat_lt 1000 (announced_length h.size)) C02
     ++ finding_if (h.constructed && w.has_segments) C03
     ++ finding_if (w.has_segments && w.is_not_full) C04
 
@@ -124,7 +124,7 @@ abbrev pub new_finder : Rules → FinderState
 new_finder rules = record { rules = rules; frame = top_frame; outer = []; value = None; count = 0 }
 
 -- it becomes `state`, and these are found in the element that begins at the offset and that so many elements hold
-pub record Finds : Type 0 where
+pub record FinderValue : Type 0 where
   pub state : FinderState
   pub level : ℕ
   pub at : ℕ
@@ -134,7 +134,7 @@ abbrev pub count_up : ℕ → ℕ → ℕ
 count_up count n = max count (min (count + n) (2 ^ 64 - 1))
 
 -- findings are counted
-abbrev pub finds : FinderState → ℕ → ℕ → List Finding → Finds
+abbrev pub finds : FinderState → ℕ → ℕ → List Finding → FinderValue
 finds s level at found = record {
   state = record s { count = count_up s.count (length found) };
   level = level;
@@ -142,7 +142,7 @@ finds s level at found = record {
   found = found;
 }
 
-abbrev pub finds_nothing : FinderState → Finds
+abbrev pub finds_nothing : FinderState → FinderValue
 finds_nothing s = record { state = s; level = 0; at = 0; found = [] }
 
 -- ---- What it makes of an event
@@ -154,14 +154,14 @@ finder_inside s h =
     then record s { frame = frame_under s.frame h; outer = s.frame ∷ s.outer }
     else s
 
-abbrev pub find_open : FinderState → HeaderValue → Finds
+abbrev pub find_open : FinderState → HeaderValue → FinderValue
 find_open s h = finds (finder_inside s h) (length s.outer) h.offset (header_notes s.rules s.frame h)
 
 -- a primitive begins
 abbrev pub finder_at_value : FinderState → HeaderValue → FinderState
 finder_at_value s h = record s { value = Some (record { at = h.offset; check = new_check h }) }
 
-abbrev pub find_begin : FinderState → HeaderValue → Finds
+abbrev pub find_begin : FinderState → HeaderValue → FinderValue
 find_begin s h = finds (finder_at_value s h) (length s.outer) h.offset (header_notes s.rules s.frame h)
 
 -- contents octets: no more count than were announced
@@ -182,11 +182,11 @@ finder_after_value s v = record s {
   value = None;
 }
 
-abbrev pub find_value_end : FinderState → Option OpenValue → Finds
+abbrev pub find_value_end : FinderState → Option OpenValue → FinderValue
 find_value_end s None = finds_nothing s
 find_value_end s (Some v) = finds (finder_after_value s v) (length s.outer) v.at (contents_notes s.rules v.check)
 
-abbrev pub find_end : FinderState → Finds
+abbrev pub find_end : FinderState → FinderValue
 find_end s = find_value_end s s.value
 
 -- an element that holds others ends, inside this frame and those around it
@@ -196,9 +196,9 @@ finder_outside s w outer = record s {
   outer = outer;
 }
 
-abbrev pub find_frame_end : FinderState → List Frame → Finds
+abbrev pub find_frame_end : FinderState → List Frame → FinderValue
 find_frame_end s [] = finds_nothing s
 find_frame_end s (w ∷ outer) = finds (finder_outside s w outer) (length outer) s.frame.at (end_notes s.rules s.frame)
 
-abbrev pub find_close : FinderState → Finds
+abbrev pub find_close : FinderState → FinderValue
 find_close s = find_frame_end s s.outer

@@ -10,7 +10,7 @@ use Rattle.tlv_show.specs.FinderState.{new_finder}
 use Rattle.tlv_show.specs.Texts.{check_line, check_text, finding_count}
 use Rattle.tlv_show.specs.CheckStep.{check_step}
 use Rattle.tlv_show.specs.DumpStep.{new_dump}
-use Rattle.tlv_head.specs.Header.{HeaderValue, announced}
+use Rattle.tlv_head.specs.Header.{HeaderValue, announced_length}
 use Rattle.tlv_value.specs.Names.{Table}
 use Rattle.tlv_value.specs.TextState.{whole_lines}
 use Rattle.tlv_walk.specs.Events.{Begin, Bytes, End, events}
@@ -51,7 +51,7 @@ contents_finding_lines s h c =
 -- of what is found with its header and on its contents. Nothing of it is kept
 abbrev pub PrimitivesAreShown : Type 0
 PrimitivesAreShown =
-    (s : DumpState) (h : HeaderValue) (c : List ℕ) → announced h.size ≡ length c
+    (s : DumpState) (h : HeaderValue) (c : List ℕ) → announced_length h.size ≡ length c
     → (shown : DumpState)
     × (shown.lines.value ≡ None)
     × (shown.finder.value ≡ None)

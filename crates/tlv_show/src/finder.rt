@@ -1,7 +1,7 @@
 //! What is found in elements, event by event.
 ghost use Rattle.std.specs.Prelude.{◌≡◌, [], if◌then◌else◌, length};
 ghost use Rattle.std.specs.List.{filter};
-ghost use Rattle.tlv_head.specs.Header.{announced};
+ghost use Rattle.tlv_head.specs.Header.{announced_length};
 ghost use Rattle.tlv_value.specs.CheckState.{findings_in};
 ghost use Rattle.tlv_walk.specs.HasRead.{event_value};
 ghost use Rattle.tlv_show.specs.FinderState.{end_notes, find_begin, find_bytes, find_close, find_end, find_open, finder_at_value, finder_inside, finds, finds_nothing, header_notes, new_finder};
@@ -61,10 +61,10 @@ impl LastFindings {
 }
 
 impl Model for Finder {
-    ghost use Rattle.tlv_show.specs.FinderState.{Finds};
+    ghost use Rattle.tlv_show.specs.FinderState.{FinderValue};
     ghost use Rattle.tlv_show.specs.Private.FinderState.{open_by};
 
-    ghost Value = { Finds };
+    ghost Value = { FinderValue };
 
     ghost view = { λ f. record {
       state = record {
@@ -153,7 +153,7 @@ impl Finder {
     /// findings, it takes nothing.
     #[inline(always)]
     pub fn passes(&mut self, header: &Header, contents: &[u8]) -> bool
-        requires { announced header.now.size ≡ length contents.now }
+        requires { announced_length header.now.size ≡ length contents.now }
         ensures { PassesOrStays self.old self.new header.now contents.now result }
     {
         let frame = self.holders.frame();

@@ -13,7 +13,7 @@ use crate::headers::{
     is_segment, is_string, is_unassigned, is_universal, size_of,
 };
 use arrayvec::ArrayVec;
-use tlv_head::Header;
+use tlv_head::{Header, universal};
 use tlv_value::Finding;
 
 /// Notes what is found with a header, in order, by the frame of the element that holds it.
@@ -89,9 +89,24 @@ fn is_usual(header: &Header) -> bool
         return true;
     }
     if header.constructed {
-        matches!(header.number, 8 | 11 | 16 | 17 | 29)
+        matches!(
+            header.number,
+            universal::EXTERNAL
+                | universal::EMBEDDED_PDV
+                | universal::SEQUENCE
+                | universal::SET
+                | universal::CHARACTER_STRING
+        )
     } else {
-        matches!(header.number, 1..=7 | 9 | 10 | 12..=14 | 18..=28 | 30..=36)
+        matches!(
+            header.number,
+            universal::BOOLEAN..=universal::OBJECT_DESCRIPTOR
+                | universal::REAL
+                | universal::ENUMERATED
+                | universal::UTF8_STRING..=universal::TIME
+                | universal::NUMERIC_STRING..=universal::UNIVERSAL_STRING
+                | universal::BMP_STRING..=universal::RELATIVE_OID_IRI
+        )
     }
 }
 

@@ -1,11 +1,11 @@
 //! What a header says of its element.
 ghost use Rattle.std.specs.Prelude.{◌≡◌, ◌&&◌, ◌||◌, ◌==◌, if◌then◌else◌, nat_lt};
-ghost use Rattle.tlv_head.specs.Header.{announced, is_universal as is_universal_class};
+ghost use Rattle.tlv_head.specs.Header.{announced_length, is_universal as is_universal_class};
 ghost use Rattle.tlv_value.specs.Types.{bit_string, constructed_types, is_a, is_one_of, is_string as is_string_of, is_unassigned as is_unassigned_of, octet_string, primitive_types};
 ghost use Rattle.tlv_walk.specs.Place.{is_indefinite as is_indefinite_of};
 ghost use Rattle.tlv_show.specs.Conditions.{first_length, has_high_form as has_high_form_of, has_long_form};
 
-use tlv_head::{Class, Header, Size};
+use tlv_head::{Class, Header, Size, universal};
 
 /// Whether the tag is in the high form (8.1.2.4).
 #[inline(always)]
@@ -19,7 +19,7 @@ pub(crate) fn has_high_form(header: &Header) -> bool
 #[inline(always)]
 pub(crate) fn is_length_padded(header: &Header) -> bool
     ensures { result ≡ (has_long_form header.now
-        && (nat_lt (announced header.now.size) 128 || first_length header.now == 0)) }
+        && (nat_lt (announced_length header.now.size) 128 || first_length header.now == 0)) }
 {
     let is_long = header.raw().len() > usize::from(header.id_len) + 1;
     is_long && (size_of(header) < 128 || header.length_octet() == 0)
@@ -28,12 +28,9 @@ pub(crate) fn is_length_padded(header: &Header) -> bool
 /// How many contents octets the header announces; none in the indefinite form.
 #[inline(always)]
 pub(crate) fn size_of(header: &Header) -> u64
-    ensures { result ≡ announced header.now.size }
+    ensures { result ≡ announced_length header.now.size }
 {
-    match header.size {
-        Size::Definite(size) => size,
-        Size::Indefinite => 0,
-    }
+    header.size.announced_length()
 }
 
 #[inline(always)]
@@ -55,7 +52,10 @@ pub(crate) fn is_universal(header: &Header) -> bool
 pub(crate) fn is_unassigned(header: &Header) -> bool
     ensures { result ≡ is_unassigned_of header.now }
 {
-    is_universal(header) && (header.number == 0 || header.number == 15 || header.number >= 37)
+    is_universal(header)
+        && (header.number == 0
+            || header.number == 15
+            || header.number > universal::RELATIVE_OID_IRI)
 }
 
 /// Whether the encodings of the type are primitive.
@@ -63,7 +63,17 @@ pub(crate) fn is_unassigned(header: &Header) -> bool
 pub(crate) fn is_always_primitive(header: &Header) -> bool
     ensures { result ≡ is_one_of primitive_types header.now }
 {
-    is_universal(header) && matches!(header.number, 1 | 2 | 5 | 6 | 9 | 10 | 13)
+    is_universal(header)
+        && matches!(
+            header.number,
+            universal::BOOLEAN
+                | universal::INTEGER
+                | universal::NULL
+                | universal::OBJECT_IDENTIFIER
+                | universal::REAL
+                | universal::ENUMERATED
+                | universal::RELATIVE_OID
+        )
 }
 
 /// Whether the encodings of the type are constructed.
@@ -71,7 +81,15 @@ pub(crate) fn is_always_primitive(header: &Header) -> bool
 pub(crate) fn is_always_constructed(header: &Header) -> bool
     ensures { result ≡ is_one_of constructed_types header.now }
 {
-    is_universal(header) && matches!(header.number, 8 | 11 | 16 | 17 | 29)
+    is_universal(header)
+        && matches!(
+            header.number,
+            universal::EXTERNAL
+                | universal::EMBEDDED_PDV
+                | universal::SEQUENCE
+                | universal::SET
+                | universal::CHARACTER_STRING
+        )
 }
 
 /// Whether the type is that of a string, with the strings of characters and the two times.
@@ -79,7 +97,16 @@ pub(crate) fn is_always_constructed(header: &Header) -> bool
 pub(crate) fn is_string(header: &Header) -> bool
     ensures { result ≡ is_string_of header.now }
 {
-    is_universal(header) && matches!(header.number, 3 | 4 | 7 | 12 | 30 | 18..=28)
+    is_universal(header)
+        && matches!(
+            header.number,
+            universal::BIT_STRING
+                | universal::OCTET_STRING
+                | universal::OBJECT_DESCRIPTOR
+                | universal::UTF8_STRING
+                | universal::BMP_STRING
+                | universal::NUMERIC_STRING..=universal::UNIVERSAL_STRING
+        )
 }
 
 /// Whether the type is BIT STRING.
@@ -87,7 +114,7 @@ pub(crate) fn is_string(header: &Header) -> bool
 pub(crate) fn is_bit_string(header: &Header) -> bool
     ensures { result ≡ is_a bit_string header.now }
 {
-    is_universal(header) && header.number == 3
+    is_universal(header) && header.number == universal::BIT_STRING
 }
 
 /// Whether the tag is that of a segment, of a BIT STRING or of any other string.
@@ -95,5 +122,11 @@ pub(crate) fn is_bit_string(header: &Header) -> bool
 pub(crate) fn is_segment(has_bits: bool, header: &Header) -> bool
     ensures { result ≡ is_a (if has_bits then bit_string else octet_string) header.now }
 {
-    is_universal(header) && header.number == if has_bits { 3 } else { 4 }
+    is_universal(header)
+        && header.number
+            == if has_bits {
+                universal::BIT_STRING
+            } else {
+                universal::OCTET_STRING
+            }
 }

@@ -1,6 +1,6 @@
 -- Laws of what is found on contents.
 use Rattle.std.specs.Prelude.{◌≡◌, ◌↔◌, ℕ, true, List, ◌++◌, length, IsUtf8}
-use Rattle.tlv_head.specs.Header.{HeaderValue, announced}
+use Rattle.tlv_head.specs.Header.{HeaderValue, announced_length}
 use Rattle.tlv_value.specs.declared.kind.Kind.TheVariants.{Utf8}
 use Rattle.tlv_value.specs.Checks.{findings_on_contents}
 use Rattle.tlv_value.specs.CheckState.{CheckState, all_utf8, check_after, findings_in, new_check}
@@ -13,7 +13,7 @@ ChecksJoin = (s : CheckState) (x y : List ℕ) → check_after (check_after s x)
 -- at the end of the contents all findings on them are there, and no others
 abbrev pub FindingsEnd : Type 0
 FindingsEnd =
-    (h : HeaderValue) (octets : List ℕ) → length octets ≡ announced h.size
+    (h : HeaderValue) (octets : List ℕ) → length octets ≡ announced_length h.size
     → findings_in (check_after (new_check h) octets) ≡ findings_on_contents h octets
 
 -- contents are well-formed UTF-8 exactly if each of their rows is

@@ -1,7 +1,7 @@
 -- What is to be kept of the contents of a primitive, so that what is found on them can be reported at their end.
 use Rattle.std.specs.Prelude.{ℕ, ◌-◌, ◌%◌, Bool, true, false, ◌&&◌, ◌||◌, not, eqb, if◌then◌else◌, List, [], ◌∷◌, ◌++◌, length, take}
 use Rattle.std.specs.Str.{is_utf8}
-use Rattle.tlv_head.specs.Header.{HeaderValue, announced, is_universal}
+use Rattle.tlv_head.specs.Header.{HeaderValue, announced_length, is_universal}
 use Rattle.tlv_value.specs.declared.kind.Kind.TheVariants.{Utf8}
 use Rattle.tlv_value.specs.declared.finding.Finding.{Finding}
 use Rattle.tlv_value.specs.Checks.{allows_octet, every, is_padded_after, last_octet_of}
@@ -52,7 +52,7 @@ new_check_of number size = record {
 }
 
 abbrev pub new_check : HeaderValue → CheckState
-new_check h = new_check_of (type_number h) (announced h.size)
+new_check h = new_check_of (type_number h) (announced_length h.size)
 
 -- the first octets are looked at, and the last one: BOOLEAN, INTEGER, BIT STRING, ENUMERATED
 abbrev pub notes_front : ℕ → Bool

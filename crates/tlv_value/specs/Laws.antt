@@ -1,6 +1,6 @@
 -- Laws of the lines of a primitive.
 use Rattle.std.specs.Prelude.{◌≡◌, ℕ, List, [], ◌++◌, length}
-use Rattle.tlv_head.specs.Header.{HeaderValue, announced}
+use Rattle.tlv_head.specs.Header.{HeaderValue, announced_length}
 use Rattle.tlv_value.specs.declared.layout.Layout.{Layout}
 use Rattle.tlv_value.specs.TextState.{TextState, begin_lines, contents_lines, end_lines, new_text, open_lines, text_after, whole_lines}
 use Rattle.tlv_value.specs.Value.{NameOf}
@@ -29,5 +29,5 @@ LinesGoOn =
 -- with the end, the rest of the lines of the whole primitive
 abbrev pub LinesEnd : Type 0
 LinesEnd =
-    (name_of : NameOf) (h : HeaderValue) (layout : Layout) (octets : List ℕ) → length octets ≡ announced h.size
+    (name_of : NameOf) (h : HeaderValue) (layout : Layout) (octets : List ℕ) → length octets ≡ announced_length h.size
     → whole_lines name_of h layout octets ≡ open_lines h layout octets ++ end_lines name_of (state_for h layout octets)

@@ -2,7 +2,7 @@
 use Rattle.std.specs.Prelude.{ℕ, ◌+◌, ◌-◌, ◌&&◌, Bool, true, false, if◌then◌else◌, List, [], ◌∷◌, ◌++◌, length, decimal, flat_map}
 use Rattle.std.specs.List.{enumerate_from}
 use Rattle.tlv_head.specs.declared.header.Class.{Class}
-use Rattle.tlv_head.specs.Header.{HeaderValue, announced}
+use Rattle.tlv_head.specs.Header.{HeaderValue, announced_length}
 use Rattle.tlv_head.specs.Tag.{tag_text_of}
 use Rattle.tlv_value.specs.declared.kind.Kind.{Kind}
 use Rattle.tlv_value.specs.declared.kind.Kind.TheVariants.{Bits}
@@ -25,7 +25,7 @@ element_line layout offset class number n text =
 -- the element's line, and those of its rows
 abbrev pub value_lines : HeaderValue → Layout → Value → List ℕ
 value_lines h layout value =
-    element_line layout h.offset h.class h.number (announced h.size) value.text
+    element_line layout h.offset h.class h.number (announced_length h.size) value.text
     ++ flat_map (λ row. row_line layout row.0 (row_text (kind_by h) row.1)) (enumerate_from 0 value.rows)
 
 -- the lines of a primitive that is whole
@@ -41,8 +41,8 @@ has_line kind octets = true
 -- those that are known
 abbrev pub open_lines : HeaderValue → Layout → List ℕ → List ℕ
 open_lines h layout octets =
-    if is_long (kind_by h) (announced h.size) && has_line (kind_by h) octets
-    then value_lines h layout (long_value false (kind_by h) (announced h.size) octets)
+    if is_long (kind_by h) (announced_length h.size) && has_line (kind_by h) octets
+    then value_lines h layout (long_value false (kind_by h) (announced_length h.size) octets)
     else []
 
 -- ---- Words of private functions and of proofs: lines as they become known
@@ -76,9 +76,9 @@ new_text h layout = record {
   offset = h.offset;
   class = h.class;
   number = h.number;
-  size = announced h.size;
+  size = announced_length h.size;
   layout = layout;
-  left = announced h.size;
+  left = announced_length h.size;
   kept = record { lined = has_line (kind_of h.class h.number) []; rows = 0; row = [] };
 }
 

@@ -1,6 +1,6 @@
 //! What is found on the contents of a primitive.
 ghost use Rattle.std.specs.Prelude.{◌≡◌, ◌+◌, ◌≤◌, ◌&&◌, ℕ, List, length, slice_index};
-ghost use Rattle.tlv_head.specs.Header.{HeaderValue, announced};
+ghost use Rattle.tlv_head.specs.Header.{HeaderValue, announced_length};
 ghost use Rattle.tlv_value.specs.CheckState.{check_after, findings_in, has_unused, is_allowed_in, new_check, new_check_of, type_number, with_each, with_front};
 ghost use Rattle.tlv_value.specs.Checks.{findings_on_contents, is_padded_integer};
 
@@ -20,7 +20,7 @@ pub(crate) use rows::is_well_formed;
 use rows::take_rows;
 use std::marker::Model;
 use times::extend_time;
-use tlv_head::{Class, Header, Size};
+use tlv_head::{Class, Header, universal};
 
 /// Finds what is wrong with the contents of a primitive, in whatever pieces they come.
 #[derive(Drop)]
@@ -65,7 +65,7 @@ impl ValueCheck {
     pub fn new(header: &Header) -> ValueCheck
         ensures { result ≡ new_check header.now }
     {
-        ValueCheck::of_type(type_of(header), size_of(header))
+        ValueCheck::of_type(type_of(header), header.size.announced_length())
     }
 
     /// For a primitive of the universal type with this number, with so many contents octets, of which none has come.
@@ -93,7 +93,7 @@ impl ValueCheck {
     pub fn restart(&mut self, header: &Header)
         ensures { self.new ≡ new_check header.now }
     {
-        let size = size_of(header);
+        let size = header.size.announced_length();
         self.number = type_of(header);
         self.size = size;
         self.left = size;
@@ -128,7 +128,7 @@ impl ValueCheck {
     pub fn has_unused_bits(&self) -> bool
         ensures { result ≡ has_unused self.now }
     {
-        self.number == 3 && self.known != 0 && self.first != 0
+        self.number == universal::BIT_STRING && self.known != 0 && self.first != 0
     }
 
     /// Takes more contents octets.
@@ -178,8 +178,12 @@ impl ValueCheck {
         ensures { self.new ≡ with_each self.old octets.now }
     {
         match self.number {
-            6 | 13 => self.padded = padded_after(self.padded, self.last, octets),
-            12 => self.formed = both(self.formed, take_rows(&mut self.row, octets)),
+            universal::OBJECT_IDENTIFIER | universal::RELATIVE_OID => {
+                self.padded = padded_after(self.padded, self.last, octets);
+            }
+            universal::UTF8_STRING => {
+                self.formed = both(self.formed, take_rows(&mut self.row, octets));
+            }
             _ => self.allowed = both(self.allowed, are_allowed(self.number, octets)),
         }
         self.last = last_octet(self.last, octets);
@@ -191,7 +195,7 @@ impl ValueCheck {
         requires { self.now.left ≡ 0 }
         ensures found { result.items ≡ findings_in self.now }
         ensures whole { (h : HeaderValue) (c : List ℕ)
-            → self.now ≡ check_after (new_check h) c → length c ≡ announced h.size
+            → self.now ≡ check_after (new_check h) c → length c ≡ announced_length h.size
             → result.items ≡ findings_on_contents h c }
     {
         self.found()
@@ -226,9 +230,9 @@ impl ValueCheck {
         ensures { result ≡ is_allowed_in self.now }
     {
         let all = match self.number {
-            12 => both(self.formed, is_well_formed(self.row.as_slice())),
-            30 => self.size % 2 == 0,
-            28 => self.size % 4 == 0,
+            universal::UTF8_STRING => both(self.formed, is_well_formed(self.row.as_slice())),
+            universal::BMP_STRING => self.size % 2 == 0,
+            universal::UNIVERSAL_STRING => self.size % 4 == 0,
             _ => true,
         };
         both(all, self.allowed)
@@ -243,17 +247,7 @@ fn type_of(header: &Header) -> u64
     if matches!(header.class, Class::Universal) {
         header.number
     } else {
-        4
-    }
-}
-
-/// How many contents octets a primitive has.
-fn size_of(header: &Header) -> u64
-    ensures { result ≡ announced header.now.size }
-{
-    match header.size {
-        Size::Definite(size) => size,
-        Size::Indefinite => 0,
+        universal::OCTET_STRING
     }
 }
 

@@ -2,12 +2,12 @@
 ghost use Rattle.std.specs.Prelude.{◌≡◌, ◌%◌, ◌^◌, ◌&&◌, ◌||◌, ◌==◌, [], IsTrue, eqb, false, length, nat_le, nat_lt, not, true};
 ghost use Rattle.tlv_value.specs.CheckNotes.{general_time_findings, utc_time_findings};
 ghost use Rattle.tlv_value.specs.Checks.{findings_on_contents, first, is_padded_after, is_padded_integer, last_octet_of};
-ghost use Rattle.tlv_value.specs.Private.Checks.{findings_of, universal};
+ghost use Rattle.tlv_value.specs.Private.Checks.{findings_of, universal_header};
 ghost use Rattle.tlv_value.specs.Types.{constructed_types, is_one_of, is_unassigned};
 
 use crate::check::{are_allowed, are_set, is_padded, is_well_formed, last_octet};
 use crate::time::{general_canonical, utc_canonical};
-use tlv_head::{Class, Header};
+use tlv_head::{Class, Header, universal};
 
 /// Whether nothing is found on these contents of a primitive with this header, as far as a short look shows. That its
 /// type has no primitives, or that no type has its number, shows too: the type is asked for once, for both.
@@ -25,26 +25,34 @@ pub fn is_clear(header: &Header, contents: &[u8]) -> bool
 fn is_type_clear(number: u64, contents: &[u8]) -> bool
     ensures contents { IsTrue result → findings_of number contents.now ≡ [] }
     ensures form { IsTrue result
-        → (is_unassigned (universal number) || is_one_of constructed_types (universal number)) ≡ false }
+        → (is_unassigned (universal_header number) || is_one_of constructed_types (universal_header number)) ≡ false }
 {
     match number {
-        1 => is_truth(contents),
-        2 | 10 => is_shortest(contents),
-        3 => has_clear_bits(contents),
-        5 => contents.is_empty(),
-        6 => !contents.is_empty() && are_arcs(contents),
-        12 => is_well_formed(contents),
-        13 => are_arcs(contents),
-        18 => are_allowed(18, contents),
-        19 => are_allowed(19, contents),
-        22 => are_allowed(22, contents),
-        23 => contents.len() > 64 || is_utc_clear(contents),
-        24 => contents.len() > 64 || is_general_clear(contents),
-        26 => are_allowed(26, contents),
-        28 => contents.len() % 4 == 0,
-        30 => contents.len() % 2 == 0,
+        universal::BOOLEAN => is_truth(contents),
+        universal::INTEGER | universal::ENUMERATED => is_shortest(contents),
+        universal::BIT_STRING => has_clear_bits(contents),
+        universal::NULL => contents.is_empty(),
+        universal::OBJECT_IDENTIFIER => !contents.is_empty() && are_arcs(contents),
+        universal::RELATIVE_OID => are_arcs(contents),
+        universal::UTF8_STRING => is_well_formed(contents),
+        universal::NUMERIC_STRING
+        | universal::PRINTABLE_STRING
+        | universal::IA5_STRING
+        | universal::VISIBLE_STRING => are_allowed(number, contents),
+        universal::UTC_TIME => contents.len() > 64 || is_utc_clear(contents),
+        universal::GENERALIZED_TIME => contents.len() > 64 || is_general_clear(contents),
+        universal::UNIVERSAL_STRING => contents.len() % 4 == 0,
+        universal::BMP_STRING => contents.len() % 2 == 0,
         // Of the other types that have primitives nothing is asked here.
-        4 | 7 | 9 | 14 | 20 | 21 | 25 | 27 | 31..=36 => true,
+        universal::OCTET_STRING
+        | universal::OBJECT_DESCRIPTOR
+        | universal::REAL
+        | universal::TIME
+        | universal::TELETEX_STRING
+        | universal::VIDEOTEX_STRING
+        | universal::GRAPHIC_STRING
+        | universal::GENERAL_STRING
+        | universal::DATE..=universal::RELATIVE_OID_IRI => true,
         _ => false,
     }
 }

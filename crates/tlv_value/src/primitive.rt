@@ -14,7 +14,7 @@ use crate::rows::row_size;
 use crate::value::{write_long_bits, write_long_value, write_value};
 use crate::value_lines::{put_object, put_relative};
 use crate::{Layout, NameTable};
-use tlv_head::{Class, Header, Size};
+use tlv_head::{Class, Header};
 use tlv_io::{Drain, Held, Out, WriteFault};
 
 /// What a header says of a primitive, and how its lines are laid out.
@@ -35,15 +35,11 @@ impl Primitive {
     pub fn new(header: &Header, layout: Layout) -> Primitive
         ensures { result ≡ primitive_of header.now layout }
     {
-        let size = match header.size {
-            Size::Definite(size) => size,
-            Size::Indefinite => 0,
-        };
         Primitive {
             offset: header.offset,
             class: header.class,
             number: header.number,
-            size,
+            size: header.size.announced_length(),
             kind: kind_of(header.class, header.number),
             layout,
         }

@@ -1,7 +1,7 @@
 //! The lines of a primitive of which all contents are at hand. Those of a value that is on its line, or in rows of
 //! pairs of digits, are made at once: no contents are copied, and its type is asked for once.
 ghost use Rattle.std.specs.Prelude.{◌≡◌, ◌++◌, None, length, true};
-ghost use Rattle.tlv_head.specs.Header.{announced};
+ghost use Rattle.tlv_head.specs.Header.{announced_length};
 ghost use Rattle.tlv_io.specs.Out.{Puts};
 ghost use Rattle.tlv_value.specs.Kind.{kind_of};
 ghost use Rattle.tlv_value.specs.KindValues.{long_text, row_octets};
@@ -31,7 +31,7 @@ pub fn put_whole<N: NameTable, D: Drain>(
     names: &N,
     out: &mut Out<'_, D>,
 ) -> Result<(), WriteFault>
-    requires { announced header.now.size ≡ length contents.now }
+    requires { announced_length header.now.size ≡ length contents.now }
     ensures { Puts D.state out.old out.new (whole_lines (N.name_of names.now) header.now layout contents.now) result }
 {
     let value = Primitive::new(header, layout);

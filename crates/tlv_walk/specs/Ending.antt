@@ -2,7 +2,7 @@
 use Rattle.std.specs.Prelude.{◌≡◌, ◌≢◌, ◌↔◌, ℕ, ◌+◌, ◌<◌, ◌≤◌, true, false, List, [], ◌∷◌, ◌++◌, length}
 use Rattle.tlv_head.specs.declared.fault.FaultCode.{FaultCode}
 use Rattle.tlv_head.specs.declared.fault.FaultCode.TheVariants.{Empty, Short, StrayEnd, BadEnd, MissingEnd, TooDeep, Overrun, BadInside}
-use Rattle.tlv_head.specs.Header.{HeaderValue, announced, holds, octets_of}
+use Rattle.tlv_head.specs.Header.{HeaderValue, announced_length, holds, octets_of}
 use Rattle.tlv_head.specs.Refusal.{IsRefusedOctet}
 use Rattle.tlv_walk.specs.declared.framing.Framing.{Framing}
 use Rattle.tlv_walk.specs.declared.ending.Ending.{Ending}
@@ -39,7 +39,7 @@ pub data IsFault (p : Place) (x : ℕ) : Forest → FaultCode → Type 0 where
   -- 8.1.3.3: the header of contents that end past the bound
   overrun : {o : List ℕ} → Fits p (length o + 1) → (h : HeaderValue) → IsHeadAt p (holds h) h
       → octets_of h ≡ o ++ x ∷ [] → (holds h ≡ true → p.depth < 128)
-      → (Fits p (length (octets_of h) + announced h.size) → ⊥) → IsFault p x (Begun o) Overrun
+      → (Fits p (length (octets_of h) + announced_length h.size) → ⊥) → IsFault p x (Begun o) Overrun
   -- 8.1.5: no end-of-contents octets before the bound
   no_end : p.indefinite ≡ true → (Fits p 1 → ⊥) → IsFault p x Stop MissingEnd
   -- 8.1.5: 00 where no end-of-contents octets can stand, and no padding

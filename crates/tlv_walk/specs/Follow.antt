@@ -1,6 +1,6 @@
 -- What a follower makes of events.
 use Rattle.std.specs.Prelude.{◌≡◌, ℕ, Bool, true, false, List, [], ◌∷◌, ◌++◌, drop, length, Result, Ok, Err, IfOk}
-use Rattle.tlv_head.specs.Header.{HeaderValue, announced, octets_of}
+use Rattle.tlv_head.specs.Header.{HeaderValue, announced_length, octets_of}
 use Rattle.tlv_walk.specs.declared.follow.Go.{Go}
 use Rattle.tlv_walk.specs.declared.follow.Go.TheVariants as go
 use Rattle.tlv_walk.specs.Events.{Begin, Bytes, End, EventValue}
@@ -54,7 +54,7 @@ contents_in h octets = drop (length (octets_of h)) octets
 -- the octets are a header and all contents that it announces (8.1.3.3)
 pub record IsWhole (h : HeaderValue) (octets : List ℕ) : Type 0 where
   pub header : octets_of h ++ contents_in h octets ≡ octets
-  pub contents : announced h.size ≡ length (contents_in h octets)
+  pub contents : announced_length h.size ≡ length (contents_in h octets)
 
 -- a primitive of these octets: its header, its contents and its end
 abbrev pub whole_events : HeaderValue → List ℕ → List EventValue

@@ -3,7 +3,7 @@ use Rattle.std.specs.Prelude.{◌≡◌, ◌≢◌, ℕ, ◌+◌, ◌<◌, ◌�
 use Rattle.std.specs.Option.{is_none, option_map_or}
 use Rattle.tlv_head.specs.declared.header.Size.{Size}
 use Rattle.tlv_head.specs.declared.header.Size.TheVariants.{Definite}
-use Rattle.tlv_head.specs.Header.{HeaderValue, IsHeader, announced, definite_length, holds, octets_of}
+use Rattle.tlv_head.specs.Header.{HeaderValue, IsHeader, announced_length, definite_length, holds, octets_of}
 use Rattle.tlv_head.specs.Refusal.{IsFront}
 use Rattle.tlv_walk.specs.declared.framing.Framing.{Framing}
 use Rattle.tlv_walk.specs.Inside.{is_among}
@@ -73,7 +73,7 @@ pub record IsElementAt (p : Place) (holding : Bool) (h : HeaderValue) (n : ℕ) 
 
 -- 8.1.3.3: the same of its header and all the contents octets that are announced
 abbrev pub IsEntry : Place → Bool → HeaderValue → Type 0
-IsEntry p holding h = IsElementAt p holding h (length (octets_of h) + announced h.size)
+IsEntry p holding h = IsElementAt p holding h (length (octets_of h) + announced_length h.size)
 
 -- an open forest: each element in it stands by the rules, and no octet and no announced end lies past the bound
 abbrev pub IsOpen : Place → Forest → Type 0
@@ -90,7 +90,7 @@ IsOpen p (Closed h inside rest) =
     × IfSome (definite_length h.size) (λ n. contents_length h inside ≡ n))
     × IsOpen (place_inside p h) inside × IsOpen (place_after p (extent h inside)) rest
 -- 8.1.4: a primitive that lacks contents octets
-IsOpen p (Partial h c) = IsEntry p false h × (length c < announced h.size)
+IsOpen p (Partial h c) = IsEntry p false h × (length c < announced_length h.size)
 -- 8.1.4: an element that holds others and has not ended: if what it holds is whole, and the length is
 -- definite, contents octets are lacking
 IsOpen p (Entered h inside) =

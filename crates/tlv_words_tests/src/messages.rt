@@ -7,7 +7,7 @@ use tlv_walk::{DeviceFault, MemDrain};
 use tlv_words::{UsageFault, unprinted_report, usage_report, words_report};
 
 /// Expects this status, and this line with a line feed behind it.
-fn expect_told(rt: &impl Abort, report: &Report, status: u8, line: &[u8]) {
+fn expect_written(rt: &impl Abort, report: &Report, status: u8, line: &[u8]) {
     let mut room = [0; 129];
     let mut drain = MemDrain::new(&mut room, 5);
     expect_eq(rt, line, tell(report, &mut drain), status);
@@ -15,40 +15,40 @@ fn expect_told(rt: &impl Abort, report: &Report, status: u8, line: &[u8]) {
 }
 
 #[test]
-fn lines_of_devices_are_told(rt: HostRuntime) {
-    expect_told(
+fn lines_of_devices_are_written(rt: HostRuntime) {
+    expect_written(
         &rt,
         &device_report(DeviceFault::ReadFailed),
         3,
         b"E1 read failed\n",
     );
-    expect_told(
+    expect_written(
         &rt,
         &device_report(DeviceFault::WriteFailed),
         3,
         b"E2 write failed\n",
     );
-    expect_told(
+    expect_written(
         &rt,
         &device_report(DeviceFault::InputTooLong),
         3,
         b"E3 input too long\n",
     );
-    expect_told(&rt, &closed_report(), 3, b"E5 cannot open the file\n");
-    expect_told(&rt, &unprinted_report(), 3, b"E2 write failed\n");
+    expect_written(&rt, &closed_report(), 3, b"E5 cannot open the file\n");
+    expect_written(&rt, &unprinted_report(), 3, b"E2 write failed\n");
 }
 
 #[test]
-fn lines_of_words_are_told(rt: HostRuntime) {
+fn lines_of_words_are_written(rt: HostRuntime) {
     let value = UsageFault::Value("--inside");
-    expect_told(&rt, &words_report(), 4, b"U1 an argument is not UTF-8\n");
-    expect_told(
+    expect_written(&rt, &words_report(), 4, b"U1 an argument is not UTF-8\n");
+    expect_written(
         &rt,
         &usage_report(&value),
         4,
         b"U2 value out of range: --inside\n",
     );
-    expect_told(
+    expect_written(
         &rt,
         &usage_report(&UsageFault::Memory),
         5,
@@ -58,11 +58,11 @@ fn lines_of_words_are_told(rt: HostRuntime) {
 
 /// Expects the line of a names file that is refused.
 fn expect_refused(rt: &impl Abort, fault: NamesFault, status: u8, line: &[u8]) {
-    expect_told(rt, &names_report(fault), status, line);
+    expect_written(rt, &names_report(fault), status, line);
 }
 
 #[test]
-fn lines_of_names_are_told(rt: HostRuntime) {
+fn lines_of_names_are_written(rt: HostRuntime) {
     expect_refused(
         &rt,
         NamesFault::BadOid(3),
@@ -82,9 +82,9 @@ fn lines_of_names_are_told(rt: HostRuntime) {
 }
 
 #[test]
-fn reports_are_told(rt: HostRuntime) {
-    expect_told(&rt, &Report::silent(0), 0, b"");
-    expect_told(&rt, &Report::saying(1, b"findings: 3"), 1, b"findings: 3\n");
+fn reports_are_written(rt: HostRuntime) {
+    expect_written(&rt, &Report::silent(0), 0, b"");
+    expect_written(&rt, &Report::saying(1, b"findings: 3"), 1, b"findings: 3\n");
 }
 
 /// A line that is not taken whole changes no status.

@@ -11,7 +11,7 @@ use Rattle.tlv_show.specs.declared.finding_lines.Style.TheVariants.{Dump}
 use Rattle.tlv_show.specs.CheckStep.{styled_lines}
 use Rattle.tlv_show.specs.LinesStep.{LinesState, lines_octet_step, lines_step, past_header}
 use Rattle.tlv_show.specs.DumpStep.{DumpState, dump_step}
-use Rattle.tlv_show.specs.FinderState.{FinderState, Finds, find_begin, find_bytes, find_close, find_end, find_open}
+use Rattle.tlv_show.specs.FinderState.{FinderState, FinderValue, find_begin, find_bytes, find_close, find_end, find_open}
 use Rattle.tlv_show.specs.Laws.{PrimitivesAreShown}
 use Rattle.tlv_show.specs.LinesStep.{offset_after, value_after, value_contents_lines}
 use Rattle.tlv_show.proofs.DumpLemmas.Dumped.{dumped_bytes, of_bytes}
@@ -35,7 +35,7 @@ pub then_shown : (s t : DumpState) (put : List ℕ) (xs ys : List EventValue) �
 then_shown s t put xs ys e = shown-more s xs ys ∙ ap (λ (k : Effect DumpState). and_then k (λ u. effect_of dump_step u ys)) e
 
 -- the lines of what is found, as a dump in this layout puts them
-abbrev pub texts : Layout → Finds → List ℕ
+abbrev pub texts : Layout → FinderValue → List ℕ
 texts layout f = styled_lines (Dump layout.pure) f.level f.at f.found
 
 -- ---- an element that holds others
@@ -100,7 +100,7 @@ primitives_are_shown s h c size =
       refl,
       f.1,
       primitive-by s.lines s.finder h c
-          ∙ ap₂ (λ (d : Effect LinesState) (f : Finds). shows (pair d.state f.state) (texts s.lines.layout (find_begin s.finder h) ++ (d.put ++ texts s.lines.layout f))) d f.2,
+          ∙ ap₂ (λ (d : Effect LinesState) (f : FinderValue). shows (pair d.state f.state) (texts s.lines.layout (find_begin s.finder h) ++ (d.put ++ texts s.lines.layout f))) d f.2,
     )
 
 -- a primitive that is open

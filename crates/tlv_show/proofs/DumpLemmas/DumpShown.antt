@@ -3,7 +3,7 @@ use Rattle.std.proofs.Common.{◌≡◌, ℕ, ◌+◌, ◌-◌, ◌^◌, ◌<◌
 use Rattle.std.proofs.lemmas.Grind.{flat_map-append}
 use Rattle.std.specs.FinMap as finite
 use Rattle.std.specs.Prelude.{flat_map, Option, Some, None, codes}
-use Rattle.tlv_head.specs.Header.{HeaderValue, announced, octets_of, wraps}
+use Rattle.tlv_head.specs.Header.{HeaderValue, announced_length, octets_of, wraps}
 use Rattle.tlv_value.specs.declared.finding.Finding.{Finding}
 use Rattle.tlv_value.specs.declared.layout.Layout.{Layout}
 use Rattle.tlv_value.specs.CheckState.{check_after, has_unused, new_check}
@@ -23,7 +23,7 @@ use Rattle.tlv_show.specs.CheckStep.{styled_lines}
 use Rattle.tlv_show.specs.LinesStep.{LinesState}
 use Rattle.tlv_show.specs.DumpStep.{DumpState, dump_step}
 use Rattle.tlv_show.specs.EndPlace.{end_place}
-use Rattle.tlv_show.specs.FinderState.{Finds, frame_after, frame_under, header_notes}
+use Rattle.tlv_show.specs.FinderState.{FinderValue, frame_after, frame_under, header_notes}
 use Rattle.tlv_show.specs.Found.{contents_findings, header_findings}
 use Rattle.tlv_show.proofs.FindingLemmas.EndFindings.{end_findings}
 use Rattle.tlv_show.specs.Items.{Item, FindingAt, OpeningLine, ClosingLine, WholePrimitive, OpenPrimitive, PaddingLine, heads, items}
@@ -96,19 +96,19 @@ module _ (style : Layout) (names : Table) (rules : Rules) where
       ≡ shows (start (place_inside p h) false (frame_under w h) (w ∷ outer) (behind_header rules w h n)) (styled_lines (Dump style.pure) (length outer) h.offset (header_notes rules w h) ++ holder_line (at_level style names p.depth) h)
   opened-shown p holder before w outer n h k there low far =
       opens-by (lines_at style names p.depth p.at (is_padding before)) (standing rules w outer n) h h.constructed (h.number == 3)
-      ∙ ap₂ (λ (d : Effect LinesState) (f : Finds). shows (pair d.state f.state) (texts style f ++ d.put))
+      ∙ ap₂ (λ (d : Effect LinesState) (f : FinderValue). shows (pair d.state f.state) (texts style f ++ d.put))
       (holder_shown style names p.depth p.at (is_padding before) h there (omega (arith, low)) far)
       (opened-find rules w outer n h (omega (arith, k.1, low)))
 
   -- a primitive
-  primitive-shown : (p : Place) (padded : Bool) (w : Frame) (outer : List Frame) (n : ℕ) (h : HeaderValue) (c : List ℕ) → h.offset ≡ p.at → announced h.size ≡ length c
+  primitive-shown : (p : Place) (padded : Bool) (w : Frame) (outer : List Frame) (n : ℕ) (h : HeaderValue) (c : List ℕ) → h.offset ≡ p.at → announced_length h.size ≡ length c
       → p.at + (length (octets_of h) + length c) ≤ 2 ^ 64 - 1
       → effect_of dump_step (start p padded w outer n) (Begin h ∷ Bytes c ∷ End ∷ [])
       ≡ shows (start (place_after p (length (octets_of h) + length c)) false (behind_primitive rules w h c) outer (behind_contents rules w h c n))
       (styled_lines (Dump style.pure) (length outer) h.offset (header_notes rules w h) ++ (whole_lines (finite.get names) h (at_level style names p.depth) c ++ styled_lines (Dump style.pure) (length outer) h.offset (contents_findings rules h c)))
   primitive-shown p padded w outer n h c there size far =
       primitive-by (lines_at style names p.depth p.at padded) (standing rules w outer n) h c
-      ∙ ap₂ (λ (d : Effect LinesState) (f : Finds). shows (pair d.state f.state) (styled_lines (Dump style.pure) (length outer) h.offset (header_notes rules w h) ++ (d.put ++ texts style f)))
+      ∙ ap₂ (λ (d : Effect LinesState) (f : FinderValue). shows (pair d.state f.state) (styled_lines (Dump style.pure) (length outer) h.offset (header_notes rules w h) ++ (d.put ++ texts style f)))
       (primitive_shown style names p.depth p.at padded h c there size far)
       (primitive-find rules w outer n h c (sym size))
 
@@ -138,11 +138,11 @@ module _ (style : Layout) (names : Table) (rules : Rules) where
   shows_forest p holder before w outer (Whole h c rest) v b k =
       let s : Site = site p holder before in
       let q : Place = place_after p (length (octets_of h) + length c) in
-      let size : announced h.size ≡ length c = ap announced v.0.1 in
+      let size : announced_length h.size ≡ length c = ap announced_length v.0.1 in
       let form : h.constructed ≡ false = not-constructed h.constructed (wraps h) v.0.0.header.form in
       let u : Bool = has_unused (check_after (new_check h) c) in
       let known : Knows (behind_primitive rules w h c) (site_after s h c) =
-      subst (λ (x : Bool). Knows (frame_after w x (announced h.size) u) (site_after s h c)) (ap not form) (knows-behind w s (site_after s h c) h (first_octet c) u k.0 refl refl (unused-of h c form)) in
+      subst (λ (x : Bool). Knows (frame_after w x (announced_length h.size) u) (site_after s h c)) (ap not form) (knows-behind w s (site_after s h c) h (first_octet c) u k.0 refl refl (unused-of h c form)) in
       let t = shows_forest q holder (Sibling h (first_octet c)) (behind_primitive rules w h c) outer rest v.1 (omega (arith, b, length-whole h c rest)) (known, k.1, k.2) in
       let all = λ (n : ℕ). behind-shown p q (is_padding before) w outer n (behind_contents rules w h c n) (behind_primitive rules w h c) holder (Sibling h (first_octet c)) (Begin h ∷ Bytes c ∷ End ∷ []) _ rest refl
       (primitive-shown p (is_padding before) w outer n h c v.0.0.header.offset size (omega (arith, b, length-whole h c rest))) t in
@@ -169,7 +169,7 @@ module _ (style : Layout) (names : Table) (rules : Rules) where
       let i_place : Place = place_inside p h in
       let size = length-closed h inside rest in
       let i = shows_forest i_place (Some h) Start (frame_under w h) (w ∷ outer) inside v.1 (omega (arith, b, size)) (knows-inside w s h, omega (arith, k.1), λ e. absurd (cc (e))) in
-      let t = shows_forest q holder (Sibling h None) (frame_after w (is_primitive h) (announced h.size) false) outer rest v.2 (omega (arith, b, size))
+      let t = shows_forest q holder (Sibling h None) (frame_after w (is_primitive h) (announced_length h.size) false) outer rest v.2 (omega (arith, b, size))
       (knows-behind w s (site_after_holder s h inside) h None false k.0 refl refl refl, k.1, k.2) in
       let end : ℕ = p.at + length (opening h) + length (spell inside) in
       let line : List ℕ = holder_line (at_level style names p.depth) h in
@@ -178,15 +178,15 @@ module _ (style : Layout) (names : Table) (rules : Rules) where
       let last : List ℕ = styled_lines (Dump style.pure) (length outer) h.offset (end_findings rules h (heads inside)) in
       let held : List ℕ = texts_of (items rules (site_inside s h) inside) in
       let closes-shown : (m : ℕ) → effect_of dump_step (pair (lines_at style names (p.depth + 1) end false) (standing rules (noted_all (frame_under w h) inside) (w ∷ outer) m)) (closing_event h inside ∷ [])
-      ≡ shows (start q false (frame_after w (is_primitive h) (announced h.size) false) outer (behind_end rules h inside m)) (close ++ last) =
+      ≡ shows (start q false (frame_after w (is_primitive h) (announced_length h.size) false) outer (behind_end rules h inside m)) (close ++ last) =
       λ m.
       closes-by (lines_at style names (p.depth + 1) end false) (standing rules (noted_all (frame_under w h) inside) (w ∷ outer) m) (end_offset h.size (h.offset + length (opening h) + length (spell inside))) h.constructed
-      ∙ ap₂ (λ (d : Effect LinesState) (f : Finds). shows (pair d.state f.state) (d.put ++ texts style f))
+      ∙ ap₂ (λ (d : Effect LinesState) (f : FinderValue). shows (pair d.state f.state) (d.put ++ texts style f))
       (closer_shown style names p.depth end h inside (omega (arith, v.0.0.header.offset)) v.0.0.header.valid.allowed (omega (arith, b, size)))
       (closed-find rules i_place w outer m h inside v.1 v.0.1)
-      ∙ ap (λ (l : List ℕ). shows (pair (lines_at style names p.depth (end + length (end_octets h.size)) false) (standing rules (frame_after w (is_primitive h) (announced h.size) false) outer (behind_end rules h inside m))) (close ++ l))
+      ∙ ap (λ (l : List ℕ). shows (pair (lines_at style names p.depth (end + length (end_octets h.size)) false) (standing rules (frame_after w (is_primitive h) (announced_length h.size) false) outer (behind_end rules h inside m))) (close ++ l))
       (at-under rules i_place w h inside v.1 v.0.1 (styled_lines (Dump style.pure) (length outer)) (λ at. refl))
-      ∙ ap (λ (at : ℕ). shows (pair (lines_at style names p.depth at false) (standing rules (frame_after w (is_primitive h) (announced h.size) false) outer (behind_end rules h inside m))) (close ++ last)) (omega arith) in
+      ∙ ap (λ (at : ℕ). shows (pair (lines_at style names p.depth at false) (standing rules (frame_after w (is_primitive h) (announced_length h.size) false) outer (behind_end rules h inside m))) (close ++ last)) (omega arith) in
       let held-shown : (m : ℕ) → (r : ℕ) × (effect_of dump_step (start i_place false (frame_under w h) (w ∷ outer) m) (events inside)
       ≡ shows (pair (lines_at style names (p.depth + 1) end false) (standing rules (noted_all (frame_under w h) inside) (w ∷ outer) r)) held) =
       λ m.
@@ -196,7 +196,7 @@ module _ (style : Layout) (names : Table) (rules : Rules) where
             (r.1 ∙ ap (λ (x : Bool). pair (lines_at style names (p.depth + 1) end x) (standing rules (noted_all (frame_under w h) inside) (w ∷ outer) r.0)) (no_padding style names i_place inside refl v.1)) (i.text m),
       ) in
       let element : (n : ℕ) → (m : ℕ) × (effect_of dump_step (start p (is_padding before) w outer n) (opening_events h ++ (events inside ++ closing_event h inside ∷ []))
-      ≡ shows (start q false (frame_after w (is_primitive h) (announced h.size) false) outer m) ((first ++ line) ++ (held ++ (close ++ last)))) =
+      ≡ shows (start q false (frame_after w (is_primitive h) (announced_length h.size) false) outer m) ((first ++ line) ++ (held ++ (close ++ last)))) =
       λ n.
       let a : ℕ = behind_header rules w h n in
       let r = held-shown a in (
@@ -212,7 +212,7 @@ module _ (style : Layout) (names : Table) (rules : Rules) where
       append_assoc (opening_events h) (events inside ++ closing_event h inside ∷ []) (events rest) ∙ ap (λ (l : List EventValue). opening_events h ++ l) (append_assoc (events inside) (closing_event h inside ∷ []) (events rest)) in
       let all = λ (n : ℕ).
       ap (effect_of dump_step (start p (is_padding before) w outer n)) (sym joined)
-      ∙ behind-shown p q (is_padding before) w outer n (element n).0 (frame_after w (is_primitive h) (announced h.size) false) holder (Sibling h None) es ((first ++ line) ++ (held ++ (close ++ last))) rest refl (element n).1 t in
+      ∙ behind-shown p q (is_padding before) w outer n (element n).0 (frame_after w (is_primitive h) (announced_length h.size) false) holder (Sibling h None) es ((first ++ line) ++ (held ++ (close ++ last))) rest refl (element n).1 t in
       let others : List Item = items rules (site_after_holder s h inside) rest in
       let closing : List Item = ClosingLine p.depth (end_place h inside) ∷ (findings_at p.depth h.offset (end_findings rules h (heads inside)) ++ others) in
       record {
@@ -227,7 +227,7 @@ module _ (style : Layout) (names : Table) (rules : Rules) where
             let r = t.stands (element n).0 e in (
               r.0,
               ap (λ (x : Effect DumpState). x.state) (all n) ∙ r.1
-                  ∙ ap (λ (at : ℕ). pair (lines_at style names p.depth at (padded_behind style names false rest)) (standing rules (noted_all (frame_after w (is_primitive h) (announced h.size) false) rest) outer r.0)) (omega (arith, size)),
+                  ∙ ap (λ (at : ℕ). pair (lines_at style names p.depth at (padded_behind style names false rest)) (standing rules (noted_all (frame_after w (is_primitive h) (announced_length h.size) false) rest) outer r.0)) (omega (arith, size)),
             );
       }
     where

@@ -11,7 +11,7 @@ use Rattle.tlv_walk.specs.Events.{Begin, Bytes, Close, End, Enter, EventValue, L
 use Rattle.tlv_walk.specs.Follow.{Effect, each_octet, effect_of, if_on}
 use Rattle.tlv_show.specs.LinesStep.{lines_octet_step, lines_padding_step}
 use Rattle.tlv_show.specs.DumpStep.{DumpState, dump_octet_step, dump_padding_step, dump_step, finding_lines}
-use Rattle.tlv_show.specs.FinderState.{FinderState, Finds, find_bytes}
+use Rattle.tlv_show.specs.FinderState.{FinderState, FinderValue, find_bytes}
 use Rattle.tlv_show.specs.Private.CheckStep.{last_finding_lines}
 use Rattle.tlv_show.specs.Private.FinderState.{ReportsFindings, finds_if}
 use Rattle.tlv_show.specs.declared.finding_lines.Style.{Style}
@@ -64,7 +64,7 @@ all_on s (e ∷ es) = ap (λ (g : Go). (if_on g (dump_step s e) (λ u. effect_of
 
 -- ---- findings are put before the lines, or behind them
 
-module _ {D : Type 0} (taken : D → DrainState) (s : DumpState) (f last : Finds) (has_findings : Bool) (style : Style) where
+module _ {D : Type 0} (taken : D → DrainState) (s : DumpState) (f last : FinderValue) (has_findings : Bool) (style : Style) where
   lines-last : style ≡ Dump s.lines.layout.pure → ReportsFindings f last has_findings → last_finding_lines style (finds_if has_findings last) ≡ finding_lines s f
   lines-last is says = ap (λ (y : Style). last_finding_lines y (finds_if has_findings last)) is ∙ last-same (Dump s.lines.layout.pure) f last has_findings says
 

@@ -6,7 +6,7 @@ use Rattle.std.specs.FinMap as finite
 use Rattle.std.specs.Prelude.{Some, None, codes}
 use Rattle.tlv_head.specs.declared.header.Size.{Size}
 use Rattle.tlv_head.specs.declared.header.Size.TheVariants.{Definite, Indefinite}
-use Rattle.tlv_head.specs.Header.{HeaderValue, announced, octets_of}
+use Rattle.tlv_head.specs.Header.{HeaderValue, announced_length, octets_of}
 use Rattle.tlv_head.specs.Private.Header.{AllowsSize}
 use Rattle.tlv_value.specs.declared.layout.Layout.{Layout}
 use Rattle.tlv_value.specs.Names.{Table}
@@ -45,7 +45,7 @@ take-all : (n : ℕ) (c : List ℕ) → length c ≤ n → take n c ≡ c
 take-all n c h = grind (arith, common_steps)
 
 -- with the header, with the contents octets, and with the end
-whole_shown : (name_of : NameOf) (h : HeaderValue) (layout : Layout) (c : List ℕ) → length c ≡ announced h.size
+whole_shown : (name_of : NameOf) (h : HeaderValue) (layout : Layout) (c : List ℕ) → length c ≡ announced_length h.size
     → begin_lines (new_text h layout) ++ (contents_lines (new_text h layout) c ++ (end_lines name_of (text_after (new_text h layout) c) ++ [])) ≡ whole_lines name_of h layout c
 whole_shown name_of h layout c e =
     let t : TextState = new_text h layout in
@@ -55,17 +55,17 @@ whole_shown name_of h layout c e =
     ∙ sym (lines-end name_of h layout c e)
 
 -- whatever went before
-pub primitives_shown : (s : LinesState) (h : HeaderValue) (c : List ℕ) → announced h.size ≡ length c
+pub primitives_shown : (s : LinesState) (h : HeaderValue) (c : List ℕ) → announced_length h.size ≡ length c
     → effect_of lines_step s (Begin h ∷ Bytes c ∷ End ∷ [])
     ≡ put_lines (record (past_header s h) { offset = offset_after (past_header s h).offset (length c); value = None }) (whole_lines (finite.get s.names) h s.layout c)
 primitives_shown s h c size =
     let t : TextState = new_text h s.layout in
     let u : LinesState = record (past_header s h) { value = Some t } in
     let place_after : LinesState = record (past_header s h) { offset = offset_after (past_header s h).offset (length c); value = None } in
-    let took = take-all (announced h.size) c (omega (arith, size)) in
-    let none : announced h.size - length c ≡ 0 = omega (arith, size) in
+    let took = take-all (announced_length h.size) c (omega (arith, size)) in
+    let none : announced_length h.size - length c ≡ 0 = omega (arith, size) in
     ap (λ (k : Effect LinesState). behind_put (begin_lines t) (if_on k.goes k (λ w. effect_of lines_step w (End ∷ [])))) (dumped_bytes u c)
-    ∙ ap (λ (l : List ℕ). put_lines place_after (begin_lines t ++ (contents_lines t l ++ ((if eqb (announced h.size - length l) 0 then end_lines (finite.get s.names) (text_after t l) else []) ++ [])))) took
+    ∙ ap (λ (l : List ℕ). put_lines place_after (begin_lines t ++ (contents_lines t l ++ ((if eqb (announced_length h.size - length l) 0 then end_lines (finite.get s.names) (text_after t l) else []) ++ [])))) took
     ∙ ap (λ (n : ℕ). put_lines place_after (begin_lines t ++ (contents_lines t c ++ ((if eqb n 0 then end_lines (finite.get s.names) (text_after t c) else []) ++ [])))) none
     ∙ ap (put_lines place_after) (whole_shown (finite.get s.names) h s.layout c (sym size))
 
@@ -88,19 +88,19 @@ module _ (style : Layout) (names : Table) where
   abbrev begun_in : ℕ → ℕ → Bool → HeaderValue → LinesState
   begun_in level at padded h = record (past_header (standing level at padded) h) { value = Some (new_text h (at_level level)) }
 
-  pub primitive_shown : (level at : ℕ) (padded : Bool) (h : HeaderValue) (c : List ℕ) → h.offset ≡ at → announced h.size ≡ length c → at + (length (octets_of h) + length c) ≤ 2 ^ 64 - 1
+  pub primitive_shown : (level at : ℕ) (padded : Bool) (h : HeaderValue) (c : List ℕ) → h.offset ≡ at → announced_length h.size ≡ length c → at + (length (octets_of h) + length c) ≤ 2 ^ 64 - 1
       → effect_of lines_step (standing level at padded) (Begin h ∷ Bytes c ∷ End ∷ []) ≡ put_lines (standing level (at + (length (octets_of h) + length c)) false) (whole_lines (finite.get names) h (at_level level) c)
   primitive_shown level at padded h c there size far_enough =
       primitives_shown (standing level at padded) h c size
       ∙ settled level level (offset_after (offset_after h.offset (length (octets_of h))) (length c)) (at + (length (octets_of h) + length c)) false false _ (whole_lines (finite.get names) h (at_level level) c)
       refl (omega (arith, there, far_enough)) refl refl
 
-  pub part_shown : (level at : ℕ) (padded : Bool) (h : HeaderValue) (c : List ℕ) → length c ≤ announced h.size
+  pub part_shown : (level at : ℕ) (padded : Bool) (h : HeaderValue) (c : List ℕ) → length c ≤ announced_length h.size
       → (effect_of lines_step (standing level at padded) (Begin h ∷ Bytes c ∷ [])).put ≡ open_lines h (at_level level) c
   part_shown level at padded h c size =
       let t : TextState = new_text h (at_level level) in
       ap (λ (k : Effect LinesState). (behind_put (begin_lines t) (if_on k.goes k (λ w. effect_of lines_step w []))).put) (dumped_bytes (begun_in level at padded h) c)
-      ∙ ap (λ (l : List ℕ). begin_lines t ++ (contents_lines t l ++ [])) (take-all (announced h.size) c size)
+      ∙ ap (λ (l : List ℕ). begin_lines t ++ (contents_lines t l ++ [])) (take-all (announced_length h.size) c size)
       ∙ ap (λ (l : List ℕ). begin_lines t ++ l) (append-nil (contents_lines t c))
       ∙ sym (open-lines h (at_level level) c)
 

@@ -2,7 +2,7 @@
 use Rattle.std.proofs.Common.{subst, rules, ◌≡◌, Bool, false, true, ℕ, List, [], ◌∷◌, length, sym, ap, ◌∙◌, arith}
 use Rattle.std.specs.Prelude.{None, Ok, if◌then◌else◌, ◌&&◌, ◌||◌, not}
 use Rattle.std.specs.List.{filter}
-use Rattle.tlv_head.specs.Header.{HeaderValue, announced}
+use Rattle.tlv_head.specs.Header.{HeaderValue, announced_length}
 use Rattle.tlv_value.specs.declared.finding.Finding.{Finding}
 use Rattle.tlv_value.specs.Checks.{findings_on_contents}
 use Rattle.tlv_value.specs.Types.{constructed_types, is_one_of, is_string, is_unassigned, primitive_types}
@@ -18,7 +18,7 @@ use Rattle.tlv_io.proofs.Puts.{puts_nothing, puts_text}
 use Rattle.tlv_show.specs.declared.frames.Frame.{Frame}
 use Rattle.tlv_show.specs.declared.finding_lines.Style.TheVariants.{Check}
 use Rattle.tlv_show.specs.CheckStep.{check_step, findings_effect, styled_lines}
-use Rattle.tlv_show.specs.FinderState.{FinderState, Finds, count_up, find_begin, find_bytes, frame_after, frame_after_segment, header_notes}
+use Rattle.tlv_show.specs.FinderState.{FinderState, FinderValue, count_up, find_begin, find_bytes, frame_after, frame_after_segment, header_notes}
 use Rattle.tlv_show.specs.Private.FinderState.{PassesOrStays, PassesPrimitive, find_whole, with_state}
 use Rattle.tlv_show.specs.Private.UsualTypes.{IsUsual}
 use Rattle.tlv_show.specs.Found.{shows}
@@ -45,31 +45,31 @@ outside w size unused e = ap (λ (b : Bool). if b then frame_after_segment w tru
 abbrev behind : FinderState → FinderState
 behind s = record s { value = None }
 
-pub passed : (s : FinderState) (h : HeaderValue) (c : List ℕ) → announced h.size ≡ length c → s.frame.has_segments ≡ false
+pub passed : (s : FinderState) (h : HeaderValue) (c : List ℕ) → announced_length h.size ≡ length c → s.frame.has_segments ≡ false
     → header_notes s.rules s.frame h ≡ [] → findings_on_contents h c ≡ []
     → find_whole s h c ≡ record { state = behind s; level = length s.outer; at = h.offset; found = [] }
 passed s h c size w header contents =
-    let at : Frame → ℕ → List Finding → Finds = λ (f : Frame) (n : ℕ) (fs : List Finding). record { state = standing s.rules f s.outer (count_up n (length fs)); level = length s.outer; at = h.offset; found = fs } in
+    let at : Frame → ℕ → List Finding → FinderValue = λ (f : Frame) (n : ℕ) (fs : List Finding). record { state = standing s.rules f s.outer (count_up n (length fs)); level = length s.outer; at = h.offset; found = fs } in
     primitive-find s.rules s.frame s.outer s.count h c (sym size)
     ∙ ap (λ (fs : List Finding). at (behind_primitive s.rules s.frame h c) (count_up s.count (length (header_notes s.rules s.frame h))) (filter (shows s.rules) fs)) contents
     ∙ ap (λ (fs : List Finding). at (behind_primitive s.rules s.frame h c) (count_up s.count (length fs)) []) header
     ∙ ap (λ (f : Frame). at f (count_up s.count 0) []) (outside s.frame _ _ w)
     ∙ ap (λ (n : ℕ). record { state = standing s.rules s.frame s.outer n; level = length s.outer; at = h.offset; found = [] }) (none-counted (count_up s.count 0) ∙ none-counted s.count)
 
-pub passes : (old new : Finds) (h : HeaderValue) (c : List ℕ) → announced h.size ≡ length c → old.state.frame.has_segments ≡ false
+pub passes : (old new : FinderValue) (h : HeaderValue) (c : List ℕ) → announced_length h.size ≡ length c → old.state.frame.has_segments ≡ false
     → header_notes old.state.rules old.state.frame h ≡ [] → findings_on_contents h c ≡ []
     → new ≡ with_state (behind old.state) old → PassesPrimitive old new h c
 passes old new h c size w header contents e =
     let all = passed old.state h c size w header contents in
     record {
       begins = header;
-      ends = ap (λ (f : Finds). f.found) all;
-      state = e ∙ ap (λ (f : Finds). with_state f.state old) (sym all);
+      ends = ap (λ (f : FinderValue). f.found) all;
+      state = e ∙ ap (λ (f : FinderValue). with_state f.state old) (sym all);
     }
 
 -- ---- a check
 
-lists-none : (f : Finds) → f.found ≡ [] → findings_effect f ≡ no_effect f.state
+lists-none : (f : FinderValue) → f.found ≡ [] → findings_effect f ≡ no_effect f.state
 lists-none f e = ap (λ (l : List Finding). record { state = f.state; put = styled_lines Check f.level f.at l; goes = go.On }) e
 
 whole-checked : (s : FinderState) (h : HeaderValue) (o : List ℕ) → (find_begin s h).found ≡ [] → (find_whole s h (contents_in h o)).found ≡ []
@@ -82,7 +82,7 @@ whole-checked s h o begins ends =
     ∙ followed-one check_step (find_bytes t c) End
     ∙ lists-none (find_whole s h c) ends
 
-module _ {D : Type 0} (state_of : D → DrainState) (a : Out D) (s : FinderState) (old new : Finds) (h : HeaderValue) (o : List ℕ) where
+module _ {D : Type 0} (state_of : D → DrainState) (a : Out D) (s : FinderState) (old new : FinderValue) (h : HeaderValue) (o : List ℕ) where
   pub whole-put : (x : Bool) (c : List ℕ) → s ≡ old.state → c ≡ contents_in h o → PassesOrStays old new h c x
       → Puts {T = Bool} {E = WriteFault} state_of a a (put_if_followed {E = WriteFault} (Ok x) (effect_of check_step s (whole_events h o)).put) (Ok x)
   whole-put false c e same p = puts_nothing state_of a false
@@ -90,10 +90,10 @@ module _ {D : Type 0} (state_of : D → DrainState) (a : Out D) (s : FinderState
       let p = subst (λ (l : List ℕ). PassesPrimitive old new h l) same q in
       rw e (puts_text state_of a a [] _ (Ok true) (sym (ap (λ (k : Effect FinderState). k.put) (whole-checked old.state h o p.begins p.ends))) (puts_nothing state_of a true))
 
-pub whole-state : (s t : FinderState) (old new : Finds) (h : HeaderValue) (o c : List ℕ) (x : Bool) → s ≡ old.state → t ≡ new.state → c ≡ contents_in h o → PassesOrStays old new h c x
+pub whole-state : (s t : FinderState) (old new : FinderValue) (h : HeaderValue) (o c : List ℕ) (x : Bool) → s ≡ old.state → t ≡ new.state → c ≡ contents_in h o → PassesOrStays old new h c x
     → HasEffectOrNone {E = WriteFault} (effect_of check_step s (whole_events h o)) s t (Ok x)
-whole-state s t old new h o c false e f same p = f ∙ ap (λ (u : Finds). u.state) p ∙ sym e
+whole-state s t old new h o c false e f same p = f ∙ ap (λ (u : FinderValue). u.state) p ∙ sym e
 whole-state s t old new h o c true e f same q =
     let p = subst (λ (l : List ℕ). PassesPrimitive old new h l) same q in
     let all = whole-checked old.state h o p.begins p.ends in
-    rw (e, f) (ap (λ (u : Finds). u.state) p.state ∙ sym (ap (λ (k : Effect FinderState). k.state) all), ap (λ (k : Effect FinderState). k.goes) all)
+    rw (e, f) (ap (λ (u : FinderValue). u.state) p.state ∙ sym (ap (λ (k : Effect FinderState). k.state) all), ap (λ (k : Effect FinderState). k.goes) all)

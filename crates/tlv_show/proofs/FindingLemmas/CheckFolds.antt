@@ -24,7 +24,7 @@ use Rattle.tlv_show.specs.declared.finding_lines.Style.TheVariants.{Check}
 use Rattle.tlv_show.specs.CheckStep.{check_step, styled_lines}
 use Rattle.tlv_show.specs.Conditions.{end_conditions, header_conditions}
 use Rattle.tlv_show.specs.EndPlace.{end_place}
-use Rattle.tlv_show.specs.FinderState.{FinderState, Finds, OpenValue, count_up, find_frame_end, find_open, find_value_end, frame_under, header_notes, new_finder, open_value_after, top_frame}
+use Rattle.tlv_show.specs.FinderState.{FinderState, FinderValue, OpenValue, count_up, find_frame_end, find_open, find_value_end, frame_under, header_notes, new_finder, open_value_after, top_frame}
 use Rattle.tlv_show.specs.Private.FinderState.{find_step}
 use Rattle.tlv_show.specs.Found.{contents_findings, header_findings, shows}
 use Rattle.tlv_show.proofs.FindingLemmas.EndFindings.{end_findings}
@@ -50,7 +50,7 @@ listed_run u = record { state = u.state; put = flat_map check_line u.put; goes =
 pub followed-run : (s : FinderState) (es : List EventValue) → effect_of check_step s es ≡ listed_run (run s es)
 followed-run s [] = refl
 followed-run s (e ∷ es) =
-    let f : Finds = find_step s e in
+    let f : FinderValue = find_step s e in
     ap (λ (t : Effect FinderState). if_on t.goes t (λ u. effect_of check_step u es)) (step-is s e)
     ∙ ap (λ (t : Effect FinderState). record t { put = styled_lines Check f.level f.at f.found ++ t.put }) (followed-run f.state es)
     ∙ ap (λ (l : List ℕ). record { state = (run f.state es).state; put = l; goes = go.On })
@@ -105,7 +105,7 @@ counted-one s (Pad octets) = count-none s.count
 pub counted-all : (s : FinderState) (es : List EventValue) → (run s es).state.count ≡ count_up s.count (length (run s es).put)
 counted-all s [] = count-none s.count
 counted-all s (e ∷ es) =
-    let f : Finds = find_step s e in
+    let f : FinderValue = find_step s e in
     counted-all f.state es
     ∙ ap (λ (n : ℕ). count_up n (length (run f.state es).put)) (counted-one s e)
     ∙ count-more s.count (length f.found) (length (run f.state es).put)

@@ -11,7 +11,7 @@ use Rattle.tlv_show.specs.declared.finding_lines.Style.{Style}
 use Rattle.tlv_show.specs.declared.finding_lines.Style.TheVariants.{Check}
 use Rattle.tlv_show.specs.CheckStep.{check_octet_step, check_step, findings_effect, styled_lines}
 use Rattle.tlv_show.specs.Private.CheckStep.{last_finding_lines}
-use Rattle.tlv_show.specs.FinderState.{FinderState, Finds, OpenValue, find_bytes, open_value_after}
+use Rattle.tlv_show.specs.FinderState.{FinderState, FinderValue, OpenValue, find_bytes, open_value_after}
 use Rattle.tlv_show.specs.Private.FinderState.{ReportsFindings, find_step, finds_if}
 use Rattle.tlv_show.proofs.DumpLemmas.Dumped.{take-both}
 
@@ -49,16 +49,16 @@ step-is s Leave = refl
 step-is s (Pad octets) = refl
 
 -- what was reported, if anything was, is all that there is
-pub last-same : (style : Style) (f v : Finds) (has_findings : Bool) → ReportsFindings f v has_findings → last_finding_lines style (finds_if has_findings v) ≡ last_finding_lines style f
+pub last-same : (style : Style) (f v : FinderValue) (has_findings : Bool) → ReportsFindings f v has_findings → last_finding_lines style (finds_if has_findings v) ≡ last_finding_lines style f
 last-same style f v true e = ap (last_finding_lines style) e
 last-same style f v false e = sym (ap (styled_lines style f.level f.at) e.1)
 
-pub last-state : (f v : Finds) (has_findings : Bool) → ReportsFindings f v has_findings → v.state ≡ f.state
-last-state f v true e = ap (λ (u : Finds). u.state) e
+pub last-state : (f v : FinderValue) (has_findings : Bool) → ReportsFindings f v has_findings → v.state ≡ f.state
+last-state f v true e = ap (λ (u : FinderValue). u.state) e
 last-state f v false e = e.0
 
 -- what was reported and put is what the step says
-module _ (s t : FinderState) (v : Finds) (has_findings : Bool) (e : EventValue) where
+module _ (s t : FinderState) (v : FinderValue) (has_findings : Bool) (e : EventValue) where
   pub step-text : s ≡ t → ReportsFindings (find_step t e) v has_findings → last_finding_lines Check (finds_if has_findings v) ≡ (check_step s e).put
   step-text i f = rw i (last-same Check (find_step t e) v has_findings f ∙ ap (λ (k : Effect FinderState). k.put) (sym (step-is t e)))
 

@@ -4,7 +4,7 @@ use Rattle.std.proofs.Math.Bool.{and_assoc}
 use Rattle.std.proofs.lemmas.Bool.{eqb-true, true≢false}
 use Rattle.std.specs.List.{fold, list_all}
 use Rattle.std.specs.Prelude.{Option, None, eqb}
-use Rattle.tlv_head.specs.Header.{HeaderValue, announced, is_universal, octets_of, wraps}
+use Rattle.tlv_head.specs.Header.{HeaderValue, announced_length, is_universal, octets_of, wraps}
 use Rattle.tlv_value.specs.declared.finding.Finding.{Finding}
 use Rattle.tlv_value.specs.CheckState.{check_after, has_unused, is_not_zero, new_check, new_check_of, type_number}
 use Rattle.tlv_value.specs.Types.{bit_string, has_segments, is_a, is_primitive, octet_string}
@@ -66,24 +66,24 @@ unused-of h [] e = ap has_unused (checked-none h) ∙ by-none (eqb (type_number 
     by-none false = refl
 unused-of h (x ∷ c) e =
     let t : eqb (type_number h) bit_string ≡ is_a bit_string h = type-is (is_universal h.class) h.number in
-    unused-at (is_a bit_string h) (type_number h) (announced h.size) x c t ∙ ap (λ (k : Bool). not k && is_a bit_string h && not (x == 0)) (sym e)
+    unused-at (is_a bit_string h) (type_number h) (announced_length h.size) x c t ∙ ap (λ (k : Bool). not k && is_a bit_string h && not (x == 0)) (sym e)
 
 pub knows-behind : (w : Frame) (s t : Site) (h : HeaderValue) (first : Option ℕ) (unused : Bool) → Knows w s → t.holder ≡ s.holder → t.before ≡ Sibling h first
-    → unused ≡ has_unused_bits (Sibling h first) → Knows (frame_after w (is_primitive h) (announced h.size) unused) t
+    → unused ≡ has_unused_bits (Sibling h first) → Knows (frame_after w (is_primitive h) (announced_length h.size) unused) t
 knows-behind w s t h first unused k e b u =
     let same : in_string s ≡ in_string t = ap (is_held_by has_segments) (sym e) in
     let bits : w.has_bits ≡ in_bit_string t = k.bits ∙ ap (is_held_by (λ h. has_segments h && is_a bit_string h)) (sym e) in
     by-segments same bits w.has_segments refl
   where
     by-segments : in_string s ≡ in_string t → w.has_bits ≡ in_bit_string t → (b : Bool) → w.has_segments ≡ b
-        → Knows (if b then frame_after_segment w (is_primitive h) (announced h.size) unused else w) t
+        → Knows (if b then frame_after_segment w (is_primitive h) (announced_length h.size) unused else w) t
     by-segments same bits true c =
         let inside : true ≡ in_string t = sym c ∙ k.segments ∙ same in
         record {
           segments = k.segments ∙ same;
           bits = bits;
           unused = u ∙ ap has_unused_bits (sym b) ∙ ap (λ (x : Bool). x && has_unused_bits t.before) inside;
-          not_full = full-or-not h.constructed (announced h.size == 1000) ∙ ap is_not_full (sym b) ∙ ap (λ (x : Bool). x && is_not_full t.before) inside;
+          not_full = full-or-not h.constructed (announced_length h.size == 1000) ∙ ap is_not_full (sym b) ∙ ap (λ (x : Bool). x && is_not_full t.before) inside;
         }
     by-segments same bits false c =
         let outside : in_string s ≡ false = sym k.segments ∙ c in
@@ -109,8 +109,8 @@ knows-padding w s k e =
 abbrev pub noted_all : Frame → Forest → Frame
 noted_all w Stop = w
 noted_all w (Fill rest) = noted_all w rest
-noted_all w (Whole h c rest) = noted_all (frame_after w true (announced h.size) (has_unused (check_after (new_check h) c))) rest
-noted_all w (Closed h inside rest) = noted_all (frame_after w (is_primitive h) (announced h.size) false) rest
+noted_all w (Whole h c rest) = noted_all (frame_after w true (announced_length h.size) (has_unused (check_after (new_check h) c))) rest
+noted_all w (Closed h inside rest) = noted_all (frame_after w (is_primitive h) (announced_length h.size) false) rest
 noted_all w (Partial h c) = w
 noted_all w (Entered h inside) = w
 noted_all w (Awaiting h) = w
@@ -121,8 +121,8 @@ noted_all w Zero = w
 abbrev segments_noted : Frame → Forest → Frame
 segments_noted w Stop = w
 segments_noted w (Fill rest) = segments_noted w rest
-segments_noted w (Whole h c rest) = segments_noted (frame_after_segment w true (announced h.size) (has_unused (check_after (new_check h) c))) rest
-segments_noted w (Closed h inside rest) = segments_noted (frame_after_segment w (is_primitive h) (announced h.size) false) rest
+segments_noted w (Whole h c rest) = segments_noted (frame_after_segment w true (announced_length h.size) (has_unused (check_after (new_check h) c))) rest
+segments_noted w (Closed h inside rest) = segments_noted (frame_after_segment w (is_primitive h) (announced_length h.size) false) rest
 segments_noted w (Partial h c) = w
 segments_noted w (Entered h inside) = w
 segments_noted w (Awaiting h) = w
@@ -140,9 +140,9 @@ all-in-string w Stop e = refl
 all-in-string w (Fill rest) e = all-in-string w rest e
 all-in-string w (Whole h c rest) e =
     let u : Bool = has_unused (check_after (new_check h) c) in
-    ap (λ (t : Frame). noted_all t rest) (in-string w true (announced h.size) u e) ∙ all-in-string (frame_after_segment w true (announced h.size) u) rest e
+    ap (λ (t : Frame). noted_all t rest) (in-string w true (announced_length h.size) u e) ∙ all-in-string (frame_after_segment w true (announced_length h.size) u) rest e
 all-in-string w (Closed h inside rest) e =
-    ap (λ (t : Frame). noted_all t rest) (in-string w (is_primitive h) (announced h.size) false e) ∙ all-in-string (frame_after_segment w (is_primitive h) (announced h.size) false) rest e
+    ap (λ (t : Frame). noted_all t rest) (in-string w (is_primitive h) (announced_length h.size) false e) ∙ all-in-string (frame_after_segment w (is_primitive h) (announced_length h.size) false) rest e
 all-in-string w (Partial h c) e = refl
 all-in-string w (Entered h inside) e = refl
 all-in-string w (Awaiting h) e = refl
@@ -152,8 +152,8 @@ all-in-string w Zero e = refl
 all-outside : (w : Frame) (f : Forest) → w.has_segments ≡ false → noted_all w f ≡ w
 all-outside w Stop e = refl
 all-outside w (Fill rest) e = all-outside w rest e
-all-outside w (Whole h c rest) e = ap (λ (t : Frame). noted_all t rest) (outside w true (announced h.size) (has_unused (check_after (new_check h) c)) e) ∙ all-outside w rest e
-all-outside w (Closed h inside rest) e = ap (λ (t : Frame). noted_all t rest) (outside w (is_primitive h) (announced h.size) false e) ∙ all-outside w rest e
+all-outside w (Whole h c rest) e = ap (λ (t : Frame). noted_all t rest) (outside w true (announced_length h.size) (has_unused (check_after (new_check h) c)) e) ∙ all-outside w rest e
+all-outside w (Closed h inside rest) e = ap (λ (t : Frame). noted_all t rest) (outside w (is_primitive h) (announced_length h.size) false e) ∙ all-outside w rest e
 all-outside w (Partial h c) e = refl
 all-outside w (Entered h inside) e = refl
 all-outside w (Awaiting h) e = refl
@@ -179,8 +179,8 @@ stays-then a b = record { at = b.at ∙ a.at; size = b.size ∙ a.size; primitiv
 stays : (w : Frame) (f : Forest) → Stays w (noted_all w f)
 stays w Stop = record { at = refl; size = refl; primitive = refl }
 stays w (Fill rest) = stays w rest
-stays w (Whole h c rest) = stays-then (stays-noted w true (announced h.size) (has_unused (check_after (new_check h) c))) (stays (frame_after w true (announced h.size) (has_unused (check_after (new_check h) c))) rest)
-stays w (Closed h inside rest) = stays-then (stays-noted w (is_primitive h) (announced h.size) false) (stays (frame_after w (is_primitive h) (announced h.size) false) rest)
+stays w (Whole h c rest) = stays-then (stays-noted w true (announced_length h.size) (has_unused (check_after (new_check h) c))) (stays (frame_after w true (announced_length h.size) (has_unused (check_after (new_check h) c))) rest)
+stays w (Closed h inside rest) = stays-then (stays-noted w (is_primitive h) (announced_length h.size) false) (stays (frame_after w (is_primitive h) (announced_length h.size) false) rest)
 stays w (Partial h c) = record { at = refl; size = refl; primitive = refl }
 stays w (Entered h inside) = record { at = refl; size = refl; primitive = refl }
 stays w (Awaiting h) = record { at = refl; size = refl; primitive = refl }
@@ -193,7 +193,7 @@ not-constructed true wraps e = absurd (true≢false e)
 not-constructed false wraps e = refl
 
 abbrev added : ℕ → ℕ → List HeaderValue → ℕ
-added bits n hs = fold (λ (m : ℕ) (g : HeaderValue). m + (announced g.size - bits)) n hs
+added bits n hs = fold (λ (m : ℕ) (g : HeaderValue). m + (announced_length g.size - bits)) n hs
 
 abbrev bit_of : Bool → ℕ
 bit_of b = if b then 1 else 0
@@ -219,20 +219,20 @@ sums-up p w n (Fill rest) v e o =
     let r = sums-up (place_after p 1) w n rest v.1 e o in
     record { segments = r.segments; bits = r.bits; all = r.all; octets = r.octets; empty = r.empty }
 sums-up p w n (Whole h c rest) v e o =
-    let d : ℕ = announced h.size - bit_of w.has_bits in
+    let d : ℕ = announced_length h.size - bit_of w.has_bits in
     let k : is_primitive h ≡ true = ap not (not-constructed h.constructed (wraps h) v.0.0.header.form) in
     let u : Bool = has_unused (check_after (new_check h) c) in
-    let r = sums-up (place_after p (length (octets_of h) + length c)) (frame_after_segment w true (announced h.size) u) (n + d) rest v.1 e (more-octets w.octets n d o) in
+    let r = sums-up (place_after p (length (octets_of h) + length c)) (frame_after_segment w true (announced_length h.size) u) (n + d) rest v.1 e (more-octets w.octets n d o) in
     record {
       segments = r.segments;
       bits = r.bits;
       all = r.all ∙ and_assoc w.all_primitive true (list_all is_primitive (heads rest)) ∙ ap (λ (b : Bool). w.all_primitive && (b && list_all is_primitive (heads rest))) (sym k);
       octets = r.octets;
-      empty = r.empty ∙ ap (λ (b : Bool). ends_empty (b && announced h.size == 0) (heads rest)) (sym k);
+      empty = r.empty ∙ ap (λ (b : Bool). ends_empty (b && announced_length h.size == 0) (heads rest)) (sym k);
     }
 sums-up p w n (Closed h inside rest) v e o =
-    let d : ℕ = announced h.size - bit_of w.has_bits in
-    let r = sums-up (place_after p (extent h inside)) (frame_after_segment w (is_primitive h) (announced h.size) false) (n + d) rest v.2 e (more-octets w.octets n d o) in
+    let d : ℕ = announced_length h.size - bit_of w.has_bits in
+    let r = sums-up (place_after p (extent h inside)) (frame_after_segment w (is_primitive h) (announced_length h.size) false) (n + d) rest v.2 e (more-octets w.octets n d o) in
     record {
       segments = r.segments;
       bits = r.bits;
@@ -308,12 +308,12 @@ module _ (rules : Rules) (p : Place) (w : Frame) (h : HeaderValue) (inside : For
           ap (put at) (nothing-ends e) ∙ none at ∙ sym (ap (put h.offset) (nothing-ends e) ∙ none h.offset)
 
 -- the holder of an element asks for its form and size only if it is a string
-pub noted-under : (w : Frame) (h : HeaderValue) (inside : Forest) → frame_after w (noted_all (frame_under w h) inside).is_primitive (noted_all (frame_under w h) inside).size false ≡ frame_after w (is_primitive h) (announced h.size) false
+pub noted-under : (w : Frame) (h : HeaderValue) (inside : Forest) → frame_after w (noted_all (frame_under w h) inside).is_primitive (noted_all (frame_under w h) inside).size false ≡ frame_after w (is_primitive h) (announced_length h.size) false
 noted-under w h inside = by w.has_segments refl
   where
     by : (k : Bool) → w.has_segments ≡ k
-        → frame_after w (noted_all (if k || has_segments h then frame_of h else top_frame) inside).is_primitive (noted_all (if k || has_segments h then frame_of h else top_frame) inside).size false ≡ frame_after w (is_primitive h) (announced h.size) false
+        → frame_after w (noted_all (if k || has_segments h then frame_of h else top_frame) inside).is_primitive (noted_all (if k || has_segments h then frame_of h else top_frame) inside).size false ≡ frame_after w (is_primitive h) (announced_length h.size) false
     by true e = let r = stays (frame_of h) inside in ap₂ (λ (b : Bool) (size : ℕ). frame_after w b size false) r.primitive r.size
     by false e =
         let f : Frame = noted_all (if has_segments h then frame_of h else top_frame) inside in
-        outside w f.is_primitive f.size false e ∙ sym (outside w (is_primitive h) (announced h.size) false e)
+        outside w f.is_primitive f.size false e ∙ sym (outside w (is_primitive h) (announced_length h.size) false e)

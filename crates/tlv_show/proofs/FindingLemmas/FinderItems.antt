@@ -5,7 +5,7 @@ use Rattle.std.proofs.lemmas.Grind.{common_steps}
 use Rattle.std.proofs.lemmas.List.Elements.{filter-append}
 use Rattle.std.specs.List.{filter}
 use Rattle.std.specs.Prelude.{Option, Some, None}
-use Rattle.tlv_head.specs.Header.{HeaderValue, announced, octets_of, wraps}
+use Rattle.tlv_head.specs.Header.{HeaderValue, announced_length, octets_of, wraps}
 use Rattle.tlv_value.specs.declared.finding.Finding.{Finding}
 use Rattle.tlv_value.specs.CheckState.{CheckState, check_after, findings_in, has_unused, new_check}
 use Rattle.tlv_value.specs.Types.{is_primitive}
@@ -16,7 +16,7 @@ use Rattle.tlv_walk.specs.Place.{IsOpen, Place, place_after, place_inside}
 use Rattle.tlv_show.specs.declared.frames.Frame.{Frame}
 use Rattle.tlv_show.specs.declared.rules.Rules.{Rules}
 use Rattle.tlv_show.specs.EndPlace.{end_place}
-use Rattle.tlv_show.specs.FinderState.{FinderState, Finds, contents_notes, count_up, find_begin, find_bytes, find_close, find_end, find_open, frame_after, frame_under, header_notes}
+use Rattle.tlv_show.specs.FinderState.{FinderState, FinderValue, contents_notes, count_up, find_begin, find_bytes, find_close, find_end, find_open, frame_after, frame_under, header_notes}
 use Rattle.tlv_show.specs.Private.FinderState.{find_step}
 use Rattle.tlv_show.specs.Found.{contents_findings, header_findings, shows}
 use Rattle.tlv_show.proofs.FindingLemmas.EndFindings.{end_findings}
@@ -35,7 +35,7 @@ pub record Step : Type 0 where
   pub state : FinderState
   pub put : List Item
 
-abbrev pub found_items : Finds → List Item
+abbrev pub found_items : FinderValue → List Item
 found_items f = findings_at f.level f.at f.found
 
 abbrev pub then_found : List Item → Step → Step
@@ -62,14 +62,14 @@ take-all n c h = grind (arith, common_steps)
 abbrev with_check : FinderState → ℕ → CheckState → FinderState
 with_check s at t = record s { value = Some (record { at = at; check = t }) }
 
-took : (s : FinderState) (at : ℕ) (h : HeaderValue) (c : List ℕ) → length c ≤ announced h.size → find_bytes (with_check s at (new_check h)) c ≡ with_check s at (check_after (new_check h) c)
+took : (s : FinderState) (at : ℕ) (h : HeaderValue) (c : List ℕ) → length c ≤ announced_length h.size → find_bytes (with_check s at (new_check h)) c ≡ with_check s at (check_after (new_check h) c)
 took s at h [] e = ap (with_check s at) (sym (checked-none h))
-took s at h (x ∷ c) e = rw (one-or-more x c) (ap (λ (l : List ℕ). with_check s at (check_after (new_check h) l)) (take-all (announced h.size) (x ∷ c) e))
+took s at h (x ∷ c) e = rw (one-or-more x c) (ap (λ (l : List ℕ). with_check s at (check_after (new_check h) l)) (take-all (announced_length h.size) (x ∷ c) e))
 
 -- what is found at their end
-ended : (rules : Rules) (h : HeaderValue) (c : List ℕ) → length c ≡ announced h.size → contents_notes rules (check_after (new_check h) c) ≡ contents_findings rules h c
+ended : (rules : Rules) (h : HeaderValue) (c : List ℕ) → length c ≡ announced_length h.size → contents_notes rules (check_after (new_check h) c) ≡ contents_findings rules h c
 ended rules h c e =
-    let none : (announced h.size - length c == 0) ≡ true = grind (arith, nat_tests) in
+    let none : (announced_length h.size - length c == 0) ≡ true = grind (arith, nat_tests) in
     ap (λ (b : Bool). if b then filter (shows rules) (findings_in (check_after (new_check h) c)) else []) none ∙ ap (filter (shows rules)) (findings-end h c e)
 
 -- ---- items
@@ -86,12 +86,12 @@ only-pads true level at l = refl
 only-pads false level at l = refl
 
 -- what a finder makes of a primitive
-pub primitive-found : (s : FinderState) (h : HeaderValue) (c : List ℕ) → length c ≡ announced h.size
+pub primitive-found : (s : FinderState) (h : HeaderValue) (c : List ℕ) → length c ≡ announced_length h.size
     → (u : FinderState) × (u.value ≡ None) × (find_end (find_bytes (find_begin s h).state c) ≡ record { state = u; level = length s.outer; at = h.offset; found = contents_findings s.rules h c })
 primitive-found s h c e =
     let n = count_up s.count (length (header_notes s.rules s.frame h)) in
     let t : CheckState = check_after (new_check h) c in
-    let site_after : List Finding → FinderState = λ fs. record { rules = s.rules; frame = frame_after s.frame true (announced h.size) (has_unused t); outer = s.outer; value = None; count = count_up n (length fs) } in (
+    let site_after : List Finding → FinderState = λ fs. record { rules = s.rules; frame = frame_after s.frame true (announced_length h.size) (has_unused t); outer = s.outer; value = None; count = count_up n (length fs) } in (
       site_after (contents_findings s.rules h c),
       refl,
       ap find_end (took (record s { count = n }) h.offset h c (omega (arith, e)))
@@ -125,7 +125,7 @@ module _ (rules : Rules) where
       → run (standing w outer n) (opening_events h ++ es) ≡ then_found (findings_at (length outer) h.offset (header_notes rules w h)) (run (standing (frame_under w h) (w ∷ outer) (behind_header w h n)) es)
   opened w outer n h es few =
       opened-by (standing w outer n) h h.constructed (h.number == 3) es
-      ∙ ap (λ (f : Finds). then_found (found_items f) (run f.state es)) (opened-find w outer n h few)
+      ∙ ap (λ (f : FinderValue). then_found (found_items f) (run f.state es)) (opened-find w outer n h few)
 
   -- ---- and ends
 
@@ -138,7 +138,7 @@ module _ (rules : Rules) where
 
   pub closed : (p : Place) (w : Frame) (outer : List Frame) (n : ℕ) (h : HeaderValue) (inside : Forest) (es : List EventValue) → IsOpen p inside → is_whole inside ≡ true
       → run (standing (noted_all (frame_under w h) inside) (w ∷ outer) n) (closing_event h inside ∷ es)
-      ≡ then_found (findings_at (length outer) h.offset (end_findings rules h (heads inside))) (run (standing (frame_after w (is_primitive h) (announced h.size) false) outer (behind_end h inside n)) es)
+      ≡ then_found (findings_at (length outer) h.offset (end_findings rules h (heads inside))) (run (standing (frame_after w (is_primitive h) (announced_length h.size) false) outer (behind_end h inside n)) es)
   closed p w outer n h inside es v whole =
       let f : Frame = noted_all (frame_under w h) inside in
       closed-by (standing f (w ∷ outer) n) (end_offset h.size (h.offset + length (opening h) + length (spell inside))) h.constructed es
@@ -148,12 +148,12 @@ module _ (rules : Rules) where
   -- ---- a primitive
 
   abbrev pub behind_primitive : Frame → HeaderValue → List ℕ → Frame
-  behind_primitive w h c = frame_after w true (announced h.size) (has_unused (check_after (new_check h) c))
+  behind_primitive w h c = frame_after w true (announced_length h.size) (has_unused (check_after (new_check h) c))
 
   abbrev pub behind_contents : Frame → HeaderValue → List ℕ → ℕ → ℕ
   behind_contents w h c n = count_up (behind_header w h n) (length (contents_findings rules h c))
 
-  pub primitive : (w : Frame) (outer : List Frame) (n : ℕ) (h : HeaderValue) (c : List ℕ) (es : List EventValue) → length c ≡ announced h.size
+  pub primitive : (w : Frame) (outer : List Frame) (n : ℕ) (h : HeaderValue) (c : List ℕ) (es : List EventValue) → length c ≡ announced_length h.size
       → run (standing w outer n) (Begin h ∷ Bytes c ∷ End ∷ es)
       ≡ then_found (findings_at (length outer) h.offset (header_notes rules w h))
       (then_found (findings_at (length outer) h.offset (contents_findings rules h c)) (run (standing (behind_primitive w h c) outer (behind_contents w h c n)) es))
@@ -167,13 +167,13 @@ module _ (rules : Rules) where
 
   pub closed-find : (p : Place) (w : Frame) (outer : List Frame) (n : ℕ) (h : HeaderValue) (inside : Forest) → IsOpen p inside → is_whole inside ≡ true
       → find_close (standing (noted_all (frame_under w h) inside) (w ∷ outer) n)
-      ≡ record { state = standing (frame_after w (is_primitive h) (announced h.size) false) outer (behind_end h inside n); level = length outer; at = (noted_all (frame_under w h) inside).at; found = end_findings rules h (heads inside) }
+      ≡ record { state = standing (frame_after w (is_primitive h) (announced_length h.size) false) outer (behind_end h inside n); level = length outer; at = (noted_all (frame_under w h) inside).at; found = end_findings rules h (heads inside) }
   closed-find p w outer n h inside v whole =
       let f : Frame = noted_all (frame_under w h) inside in
       ap (λ (gs : List Finding). record { state = standing (frame_after w f.is_primitive f.size false) outer (count_up n (length gs)); level = length outer; at = f.at; found = gs }) (summed-under rules p w h inside v whole)
       ∙ ap (λ (t : Frame). record { state = standing t outer (behind_end h inside n); level = length outer; at = f.at; found = end_findings rules h (heads inside) }) (noted-under w h inside)
 
-  pub primitive-find : (w : Frame) (outer : List Frame) (n : ℕ) (h : HeaderValue) (c : List ℕ) → length c ≡ announced h.size
+  pub primitive-find : (w : Frame) (outer : List Frame) (n : ℕ) (h : HeaderValue) (c : List ℕ) → length c ≡ announced_length h.size
       → find_end (find_bytes (find_begin (standing w outer n) h).state c)
       ≡ record { state = standing (behind_primitive w h c) outer (behind_contents w h c n); level = length outer; at = h.offset; found = contents_findings rules h c }
   primitive-find w outer n h c e =
@@ -208,11 +208,11 @@ module _ (rules : Rules) where
       let r = finds_forest (place_after p 1) (site_after_padding s) w outer rest v.1 (knows-padding w s k (free v.0.0)) l d free in
       record { put = λ n. r.put n ∙ sym (only-pads (is_padding s.before) s.level s.at (items rules (site_after_padding s) rest)); stands = r.stands }
   finds_forest p s w outer (Whole h c rest) v k l d free =
-      let size : length c ≡ announced h.size = sym (ap announced v.0.1) in
+      let size : length c ≡ announced_length h.size = sym (ap announced_length v.0.1) in
       let form : h.constructed ≡ false = not-constructed h.constructed (wraps h) v.0.0.header.form in
       let u : Bool = has_unused (check_after (new_check h) c) in
       let known : Knows (behind_primitive w h c) (site_after s h c) =
-      subst (λ (b : Bool). Knows (frame_after w b (announced h.size) u) (site_after s h c)) (ap not form) (knows-behind w s (site_after s h c) h (first_octet c) u k refl refl (unused-of h c form)) in
+      subst (λ (b : Bool). Knows (frame_after w b (announced_length h.size) u) (site_after s h c)) (ap not form) (knows-behind w s (site_after s h c) h (first_octet c) u k refl refl (unused-of h c form)) in
       let r = finds_forest (place_after p (length (octets_of h) + length c)) (site_after s h c) (behind_primitive w h c) outer rest v.1 known l d free in
       record {
         put = λ n.
@@ -225,13 +225,13 @@ module _ (rules : Rules) where
       }
   finds_forest p s w outer (Closed h inside rest) v k l d free =
       let i = finds_forest (place_inside p h) (site_inside s h) (frame_under w h) (w ∷ outer) inside v.1 (knows-inside w s h) (omega (arith, l)) (omega (arith, d)) (λ e. absurd (cc (e))) in
-      let r = finds_forest (place_after p (extent h inside)) (site_after_holder s h inside) (frame_after w (is_primitive h) (announced h.size) false) outer rest v.2
+      let r = finds_forest (place_after p (extent h inside)) (site_after_holder s h inside) (frame_after w (is_primitive h) (announced_length h.size) false) outer rest v.2
       (knows-behind w s (site_after_holder s h inside) h None false k refl refl refl) l d free in
       let few : length outer < 128 = omega (arith, l, d, (v.0.0.depth refl)) in
       let es : List EventValue = closing_event h inside ∷ events rest in
       let all : (n : ℕ) → (m : ℕ) × (run (standing w outer n) (events (Closed h inside rest))
       ≡ then_found (findings_at (length outer) h.offset (header_notes rules w h)) (then_found (only (items rules (site_inside s h) inside))
-      (then_found (findings_at (length outer) h.offset (end_findings rules h (heads inside))) (run (standing (frame_after w (is_primitive h) (announced h.size) false) outer m) (events rest))))) =
+      (then_found (findings_at (length outer) h.offset (end_findings rules h (heads inside))) (run (standing (frame_after w (is_primitive h) (announced_length h.size) false) outer m) (events rest))))) =
       λ n.
       let a : ℕ = behind_header w h n in
       let t = i.stands a v.0.1 in

@@ -4,7 +4,7 @@ use Rattle.std.proofs.lemmas.Bool.Decides.{nat_tests}
 use Rattle.std.specs.List.{filter}
 use Rattle.std.specs.Prelude.{◌||◌, ◌==◌, Option, Some, None}
 use Rattle.tlv_walk.specs.Place.{is_indefinite}
-use Rattle.tlv_head.specs.Header.{HeaderValue, announced}
+use Rattle.tlv_head.specs.Header.{HeaderValue, announced_length}
 use Rattle.tlv_value.specs.declared.finding.Finding.{Finding}
 use Rattle.tlv_value.specs.declared.finding.Finding.TheVariants.{B01, B02, B03, B04, B05, B16, B17, S01, D01, D02, C01, C02, C03, C04, C05, C06}
 use Rattle.tlv_value.specs.Checks.{findings_by}
@@ -79,11 +79,11 @@ rows_by unused other inner short h =
     ∷ (is_primitive h && is_one_of constructed_types h, B05)
     ∷ (unused, B16)
     ∷ (other, B17)
-    ∷ (has_long_form h && (nat_lt (announced h.size) 128 || first_length h == 0), S01)
+    ∷ (has_long_form h && (nat_lt (announced_length h.size) 128 || first_length h == 0), S01)
     ∷ (is_indefinite h.size, D01)
     ∷ (has_segments h, D02)
     ∷ (h.constructed && not (is_indefinite h.size), C01)
-    ∷ (is_primitive h && is_string h && nat_lt 1000 (announced h.size), C02)
+    ∷ (is_primitive h && is_string h && nat_lt 1000 (announced_length h.size), C02)
     ∷ (inner, C03)
     ∷ (short, C04)
     ∷ []
@@ -108,7 +108,7 @@ noted-by Der w h =
     (finding_if (is_primitive h && is_one_of constructed_types h) B05)
     (finding_if (w.has_segments && w.has_bits && w.is_unused) B16)
     (finding_if (w.has_segments && not (is_a (if w.has_bits then bit_string else octet_string) h)) B17)
-    (finding_if (has_long_form h && (nat_lt (announced h.size) 128 || first_length h == 0)) S01)
+    (finding_if (has_long_form h && (nat_lt (announced_length h.size) 128 || first_length h == 0)) S01)
     (finding_if (is_indefinite h.size) D01)
     (finding_if (has_segments h) D02)
 noted-by Cer w h =
@@ -120,9 +120,9 @@ noted-by Cer w h =
     (finding_if (is_primitive h && is_one_of constructed_types h) B05)
     (finding_if (w.has_segments && w.has_bits && w.is_unused) B16)
     (finding_if (w.has_segments && not (is_a (if w.has_bits then bit_string else octet_string) h)) B17)
-    (finding_if (has_long_form h && (nat_lt (announced h.size) 128 || first_length h == 0)) S01)
+    (finding_if (has_long_form h && (nat_lt (announced_length h.size) 128 || first_length h == 0)) S01)
     (finding_if (h.constructed && not (is_indefinite h.size)) C01)
-    (finding_if (is_primitive h && is_string h && nat_lt 1000 (announced h.size)) C02)
+    (finding_if (is_primitive h && is_string h && nat_lt 1000 (announced_length h.size)) C02)
     (finding_if (h.constructed && w.has_segments) C03)
     (finding_if (w.has_segments && w.is_not_full) C04)
 

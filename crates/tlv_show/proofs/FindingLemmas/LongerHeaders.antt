@@ -4,7 +4,7 @@ use Rattle.std.proofs.lemmas.Bool.{cases_lt, or_from, or_parts, true≢false}
 use Rattle.std.proofs.lemmas.Bool.Decides.{nat_tests}
 use Rattle.std.proofs.Math.Bool.{and-false, or-false}
 use Rattle.std.specs.List.{list_any}
-use Rattle.tlv_head.specs.Header.{HeaderValue, IsHeader, announced}
+use Rattle.tlv_head.specs.Header.{HeaderValue, IsHeader, announced_length}
 use Rattle.tlv_head.specs.Shortest.{IsShortestIdentifier, IsShortestLength}
 use Rattle.tlv_head.proofs.Shortest.{identifier-from, lengths-from}
 use Rattle.tlv_head.proofs.ShortestSpelling.{no-shorter_identifier, no-shorter_length, shorter-identifier, shorter-length}
@@ -69,24 +69,24 @@ identifiers-found rules s h valid nonzero =
 -- ---- length octets
 
 abbrev pub longer_lengths : HeaderValue → Bool
-longer_lengths h = has_long_form h && (nat_lt (announced h.size) 128 || first_length h == 0)
+longer_lengths h = has_long_form h && (nat_lt (announced_length h.size) 128 || first_length h == 0)
 
 on-lengths : (rules : Rules) (s : Site) (h : HeaderValue) → rules ≢ Ber → any_of is_on_lengths rules (header_conditions s h) ≡ longer_lengths h
 on-lengths Ber s h strict = absurd (strict refl)
 on-lengths Der s h strict = or-false (longer_lengths h)
 on-lengths Cer s h strict = or-false (longer_lengths h)
 
-pub longer_lengths-absent : (h : HeaderValue) → IsShortestLength (announced h.size) h.lengths → longer_lengths h ≡ false
+pub longer_lengths-absent : (h : HeaderValue) → IsShortestLength (announced_length h.size) h.lengths → longer_lengths h ≡ false
 longer_lengths-absent h s = elim (cases_lt 1 (length h.lengths)) [
   | inl more ↦
-      let large : 128 ≤ announced h.size = at-least (announced h.size) 128 (λ small. omega (arith, more, s.single small)) in
-      let number : nat_lt (announced h.size) 128 ≡ false = grind (arith, nat_tests) in
+      let large : 128 ≤ announced_length h.size = at-least (announced_length h.size) 128 (λ small. omega (arith, more, s.single small)) in
+      let number : nat_lt (announced_length h.size) 128 ≡ false = grind (arith, nat_tests) in
       let nonzero : first_length h ≢ 0 = s.leading more in
       let first : (first_length h == 0) ≡ false = grind (arith, nat_tests) in
       ap (λ (b : Bool). has_long_form h && b) (or_from _ _ number first) ∙ and-false (has_long_form h)
   | inr le ↦
       let short : has_long_form h ≡ false = grind (arith, nat_tests) in
-      ap (λ (b : Bool). b && (nat_lt (announced h.size) 128 || first_length h == 0)) short
+      ap (λ (b : Bool). b && (nat_lt (announced_length h.size) 128 || first_length h == 0)) short
 ]
 
 pub lengths-found : LongerLengthsAreFound

@@ -7,7 +7,7 @@ use Rattle.std.specs.List.{list_any}
 use Rattle.std.specs.Prelude.{if◌then◌else◌, slice_index}
 use Rattle.tlv_head.specs.declared.header.Size.{Size}
 use Rattle.tlv_head.specs.declared.header.Size.TheVariants.{Definite, Indefinite}
-use Rattle.tlv_head.specs.Header.{HeaderValue, IsHeader, announced, octets_of}
+use Rattle.tlv_head.specs.Header.{HeaderValue, IsHeader, announced_length, octets_of}
 use Rattle.tlv_head.specs.Private.Header.{AllowsSize}
 use Rattle.tlv_head.specs.Shortest.{IsShortest}
 use Rattle.tlv_head.proofs.Shortest.{identifier-from, lengths-from}
@@ -61,18 +61,18 @@ high-form h a b more =
     let nonzero : (leading_bits h == 0) ≡ false = rw high at b in
     (grind (arith, nat_tests), grind (arith, nat_tests))
 
-pub long-form : (h : HeaderValue) → (has_long_form h && (nat_lt (announced h.size) 128 || first_length h == 0)) ≡ false
-    → 1 < length h.lengths → (128 ≤ announced h.size) × (slice_index h.lengths 1 ≢ 0)
+pub long-form : (h : HeaderValue) → (has_long_form h && (nat_lt (announced_length h.size) 128 || first_length h == 0)) ≡ false
+    → 1 < length h.lengths → (128 ≤ announced_length h.size) × (slice_index h.lengths 1 ≢ 0)
 long-form h a more =
     let long : nat_lt 1 (length h.lengths) ≡ true = grind (arith, nat_tests) in
-    let neither : (nat_lt (announced h.size) 128 || first_length h == 0) ≡ false = rw long at a in
-    let both : (nat_lt (announced h.size) 128 ≡ false) × ((first_length h == 0) ≡ false) = or_parts _ _ neither in
-    let large : nat_lt (announced h.size) 128 ≡ false = both.0 in
+    let neither : (nat_lt (announced_length h.size) 128 || first_length h == 0) ≡ false = rw long at a in
+    let both : (nat_lt (announced_length h.size) 128 ≡ false) × ((first_length h == 0) ≡ false) = or_parts _ _ neither in
+    let large : nat_lt (announced_length h.size) 128 ≡ false = both.0 in
     let nonzero : (first_length h == 0) ≡ false = both.1 in
     (grind (arith, nat_tests), grind (arith, nat_tests))
 
 shortest : (h : HeaderValue) → IsHeader h → (has_high_form h && nat_lt h.number 31) ≡ false → (has_high_form h && leading_bits h == 0) ≡ false
-    → (has_long_form h && (nat_lt (announced h.size) 128 || first_length h == 0)) ≡ false → IsShortest h
+    → (has_long_form h && (nat_lt (announced_length h.size) 128 || first_length h == 0)) ≡ false → IsShortest h
 shortest h valid a b c = record { identifier = identifier-from h valid (high-form h a b); lengths = lengths-from h valid (long-form h c) }
 
 -- whether the length of an element of that form is indefinite: by DER never, by CER where it is constructed
@@ -94,11 +94,11 @@ regular : (rules : Rules) (s : Site) (h : HeaderValue) → rules ≢ Ber → IsH
 regular Ber s h strict valid e = absurd (strict refl)
 regular Der s h strict valid e =
     let none = none-of_four (has_high_form h && nat_lt h.number 31) (has_high_form h && leading_bits h == 0)
-    (has_long_form h && (nat_lt (announced h.size) 128 || first_length h == 0)) (is_indefinite h.size) (absent Der s h e) in
+    (has_long_form h && (nat_lt (announced_length h.size) 128 || first_length h == 0)) (is_indefinite h.size) (absent Der s h e) in
     record { shortest = shortest h valid none.0 none.1 none.2; by_form = none.3 }
 regular Cer s h strict valid e =
     let none = none-of_four (has_high_form h && nat_lt h.number 31) (has_high_form h && leading_bits h == 0)
-    (has_long_form h && (nat_lt (announced h.size) 128 || first_length h == 0)) (h.constructed && not (is_indefinite h.size)) (absent Cer s h e) in
+    (has_long_form h && (nat_lt (announced_length h.size) 128 || first_length h == 0)) (h.constructed && not (is_indefinite h.size)) (absent Cer s h e) in
     record { shortest = shortest h valid none.0 none.1 none.2; by_form = by-form h.constructed h.size valid.allowed none.3 }
 
 -- ---- elements

@@ -1,9 +1,9 @@
 -- What is written of findings, as private functions say it.
 use Rattle.std.specs.Prelude.{ℕ, List}
 use Rattle.tlv_show.specs.declared.finding_lines.Style.{Style}
-use Rattle.tlv_show.specs.FinderState.{Finds}
+use Rattle.tlv_show.specs.FinderState.{FinderValue}
 use Rattle.tlv_show.specs.CheckStep.{styled_lines}
 
 -- the lines of the last findings
-abbrev pub last_finding_lines : Style → Finds → List ℕ
+abbrev pub last_finding_lines : Style → FinderValue → List ℕ
 last_finding_lines style f = styled_lines style f.level f.at f.found

@@ -2,7 +2,7 @@
 //! no contents are copied, and its type is asked for once, not again with its contents and its end.
 ghost use Rattle.std.specs.FinMap as finite;
 ghost use Rattle.std.specs.Prelude.{◌≡◌, length};
-ghost use Rattle.tlv_head.specs.Header.{announced};
+ghost use Rattle.tlv_head.specs.Header.{announced_length};
 ghost use Rattle.tlv_io.specs.Out.{Puts};
 ghost use Rattle.tlv_value.specs.TextState.{whole_lines};
 ghost use Rattle.tlv_show.specs.Private.LinesStep.{past_primitive};
@@ -21,7 +21,7 @@ impl Lines<'_> {
         contents: &[u8],
         out: &mut Out<'_, D>,
     ) -> Result<(), WriteFault>
-        requires { announced header.now.size ≡ length contents.now }
+        requires { announced_length header.now.size ≡ length contents.now }
         ensures state { self.new ≡ past_primitive self.old header.now contents.now }
         ensures puts { Puts D.state out.old out.new
             (whole_lines (finite.get self.old.names) header.now self.old.layout contents.now) result }

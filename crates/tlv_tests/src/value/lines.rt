@@ -37,7 +37,7 @@ fn put_five_whole(header: &Header, drain: &mut MemDrain<'_>) -> Option<()> {
 }
 
 #[test]
-fn a_primitive_is_told_in_pieces_and_at_once(rt: HostRuntime) {
+fn a_primitive_is_written_in_pieces_and_at_once(rt: HostRuntime) {
     let Some(header) = header_at(5, b"\x02\x01") else {
         panic!(rt; "header");
     };

@@ -75,7 +75,7 @@ fn expect_unused(rt: &impl Abort, ends: u64, octets: u64, unused: Option<u64>) {
 
 /// A named string behind the end that is enough is not found.
 #[test]
-fn unused_offsets_are_told_with_enough(rt: HostRuntime) {
+fn unused_offsets_are_returned_with_enough(rt: HostRuntime) {
     expect_unused(&rt, 1, 4, Some(4));
     expect_unused(&rt, 2, 4, Some(4));
     expect_unused(&rt, 3, 6, None);

@@ -199,7 +199,7 @@ fn a_string_wraps(rt: HostRuntime) {
 }
 
 #[test]
-fn padding_is_told_in_parts(rt: HostRuntime) {
+fn padding_is_yielded_in_parts(rt: HostRuntime) {
     let mut walker = Walker::new(&framing_of(&rt, &[], true));
     let mut piece: &[u8] = b"\x00\x00";
     expect_event(&rt, &mut walker, &mut piece, Event::Pad(b"\x00\x00"));

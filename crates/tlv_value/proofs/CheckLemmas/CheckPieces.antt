@@ -2,7 +2,7 @@
 use Rattle.std.proofs.Common.{◌≡◌, ℕ, zero, suc, ◌-◌, Bool, true, false, List, [], ◌∷◌, ◌++◌, length, take, refl, sym, ap, ◌∙◌, arith, append_assoc, length-append}
 use Rattle.std.specs.Prelude.{◌&&◌, ◌||◌, eqb, nat_lt, if◌then◌else◌}
 use Rattle.std.specs.Str.{is_utf8}
-use Rattle.tlv_head.specs.Header.{HeaderValue, announced}
+use Rattle.tlv_head.specs.Header.{HeaderValue, announced_length}
 use Rattle.tlv_value.specs.declared.kind.Kind.TheVariants.{Utf8}
 use Rattle.tlv_value.specs.CheckLaws.{ChecksJoin, FindingsEnd}
 use Rattle.tlv_value.specs.CheckState.{CheckState, all_utf8, check_after, new_check, new_check_of, notes_each, notes_front, notes_in, notes_time, type_number, with_each, with_front, with_notes, with_time}
@@ -150,4 +150,4 @@ none-by false false false n size = ap (λ (l : ℕ). record (new_check_of n size
 pub checked-none : (h : HeaderValue) → check_after (new_check h) [] ≡ new_check h
 checked-none h =
     let n = type_number h in
-    none-by (notes_front n) (notes_each n) (notes_time n) n (announced h.size)
+    none-by (notes_front n) (notes_each n) (notes_time n) n (announced_length h.size)

@@ -60,7 +60,7 @@ pub record IsUnit (u : List ℕ) : Type 0 where
   pub first : ℕ
   pub tail : List ℕ
   pub octets : u ≡ first ∷ tail
-  pub announced : utf8_length first ≡ suc (length tail)
+  pub announced_length : utf8_length first ≡ suc (length tail)
   pub quiet : IsTail tail
   pub few : length tail ≤ 3
 
@@ -93,12 +93,12 @@ lead4 c h g = grind (arith, nat_tests)
 
 encode-at : (c : ℕ) (a b d : Bool) → ltb c 128 ≡ a → ltb c 2048 ≡ b → ltb c 65536 ≡ d → c < 1114112
     → IsUnit (cond a (c ∷ []) (cond b ((192 + c / 64) ∷ (128 + c % 64) ∷ []) (cond d ((224 + c / 4096) ∷ (128 + c / 64 % 64) ∷ (128 + c % 64) ∷ []) ((240 + c / 262144) ∷ (128 + c / 4096 % 64) ∷ (128 + c / 64 % 64) ∷ (128 + c % 64) ∷ []))))
-encode-at c true b d e f g h = record { first = c; tail = []; octets = refl; announced = lead1 c (ltb-true c 128 e); quiet = tail-nil; few = omega arith }
+encode-at c true b d e f g h = record { first = c; tail = []; octets = refl; announced_length = lead1 c (ltb-true c 128 e); quiet = tail-nil; few = omega arith }
 encode-at c false true d e f g h = record {
   first = 192 + c / 64;
   tail = (128 + c % 64) ∷ [];
   octets = refl;
-  announced = lead2 c (grind (arith, nat_tests)) (ltb-true c 2048 f);
+  announced_length = lead2 c (grind (arith, nat_tests)) (ltb-true c 2048 f);
   quiet = tail-one (128 + c % 64) (behind-quiet c);
   few = omega arith;
 }
@@ -106,7 +106,7 @@ encode-at c false false true e f g h = record {
   first = 224 + c / 4096;
   tail = (128 + c / 64 % 64) ∷ (128 + c % 64) ∷ [];
   octets = refl;
-  announced = lead3 c (grind (arith, nat_tests)) (ltb-true c 65536 g);
+  announced_length = lead3 c (grind (arith, nat_tests)) (ltb-true c 65536 g);
   quiet = tail-more (128 + c / 64 % 64) ((128 + c % 64) ∷ []) (behind-quiet (c / 64)) (tail-one (128 + c % 64) (behind-quiet c));
   few = omega arith;
 }
@@ -114,7 +114,7 @@ encode-at c false false false e f g h = record {
   first = 240 + c / 262144;
   tail = (128 + c / 4096 % 64) ∷ (128 + c / 64 % 64) ∷ (128 + c % 64) ∷ [];
   octets = refl;
-  announced = lead4 c (grind (arith, nat_tests)) h;
+  announced_length = lead4 c (grind (arith, nat_tests)) h;
   quiet = tail-more (128 + c / 4096 % 64) ((128 + c / 64 % 64) ∷ (128 + c % 64) ∷ []) (behind-quiet (c / 4096)) (tail-more (128 + c / 64 % 64) ((128 + c % 64) ∷ []) (behind-quiet (c / 64)) (tail-one (128 + c % 64) (behind-quiet c)));
   few = omega arith;
 }
@@ -169,23 +169,23 @@ AreFormed row xs = (all_utf8 (full_rows Utf8 row xs) ≡ true) × IsUtf8 (open_r
 put_row : (row : List ℕ) (rows all : List (List ℕ)) → IsUtf8 row → all_utf8 rows ≡ true → all ≡ row ∷ rows → all_utf8 all ≡ true
 put_row row rows all u e f = rw (f, is_utf8-from_IsUtf8 row u) e
 
-module _ (row : List ℕ) (x : ℕ) (tail rest : List ℕ) (announced : utf8_length x ≡ suc (length tail)) (quiet : IsTail tail) (few : length tail ≤ 3)
+module _ (row : List ℕ) (x : ℕ) (tail rest : List ℕ) (announced_length : utf8_length x ≡ suc (length tail)) (quiet : IsTail tail) (few : length tail ≤ 3)
     (v : IsUtf8 (x ∷ tail)) (u : IsUtf8 row) (h : length row < 64) (more : (r : List ℕ) → IsUtf8 r → length r < 64 → AreFormed r rest) where
   -- a character behind the row that has begun
   unit-within : (full : Bool) → eqb (length row + suc (length tail)) 64 ≡ full → length row + suc (length tail) ≤ 64 → AreFormed row ((x ∷ tail) ++ rest)
   unit-within false e l =
-      let f = fill row (x ∷ tail) rest (room-unit (length row) x tail announced quiet l) (grind (arith, nat_tests)) in
+      let f = fill row (x ∷ tail) rest (room-unit (length row) x tail announced_length quiet l) (grind (arith, nat_tests)) in
       let g = more (row ++ x ∷ tail) (IsUtf8-append row (x ∷ tail) u v) (let w : length row + suc (length tail) < 64 = grind (arith, nat_tests) in omega (arith, length-append row (x ∷ tail))) in
       (ap all_utf8 f.0 ∙ g.0, rw f.1 g.1)
   unit-within true e l =
-      let f = fill-up row (x ∷ tail) rest (room-unit (length row) x tail announced quiet l) (grind (arith, nat_tests)) (omega arith) in
+      let f = fill-up row (x ∷ tail) rest (room-unit (length row) x tail announced_length quiet l) (grind (arith, nat_tests)) (omega arith) in
       let g = more [] IsUtf8-nil (omega arith) in
       (put_row (row ++ x ∷ tail) (full_rows Utf8 [] rest) (full_rows Utf8 row ((x ∷ tail) ++ rest)) (IsUtf8-append row (x ∷ tail) u v) g.0 f.0, rw f.1 g.1)
 
   -- a character that begins a row
   unit-behind : has_room Utf8 (length row) x ≡ false → AreFormed row ((x ∷ tail) ++ rest)
   unit-behind r =
-      let f = fill [] (x ∷ tail) rest (room-unit 0 x tail announced quiet (omega arith)) (omega arith) in
+      let f = fill [] (x ∷ tail) rest (room-unit 0 x tail announced_length quiet (omega arith)) (omega arith) in
       let g = more (x ∷ tail) v (omega arith) in
       let p : full_rows Utf8 row ((x ∷ tail) ++ rest) ≡ row ∷ full_rows Utf8 (x ∷ tail) rest = rw r (ap (λ (t : List (List ℕ)). row ∷ t) (sym (full-begins Utf8 x (tail ++ rest)) ∙ f.0)) in
       let q : open_row Utf8 row ((x ∷ tail) ++ rest) ≡ open_row Utf8 (x ∷ tail) rest = rw r (sym (open-begins Utf8 x (tail ++ rest)) ∙ f.1) in
@@ -193,7 +193,7 @@ module _ (row : List ℕ) (x : ℕ) (tail rest : List ℕ) (announced : utf8_len
 
   unit-step : (room : Bool) → nat_le (length row + suc (length tail)) 64 ≡ room → AreFormed row ((x ∷ tail) ++ rest)
   unit-step true e = unit-within (eqb (length row + suc (length tail)) 64) refl (leb-true (length row + suc (length tail)) 64 e)
-  unit-step false e = unit-behind (rw announced e)
+  unit-step false e = unit-behind (rw announced_length e)
 
 formed : (row cs : List ℕ) → scalars cs ≡ true → IsUtf8 row → length row < 64 → AreFormed row (encodes cs)
 formed row [] e u h = (refl, u)
@@ -201,7 +201,7 @@ formed row (c ∷ cs) e u h =
     let one : scalar c ≡ true = and_left (scalar c) (scalars cs) e in
     let w = encode-unit c one in
     let v : IsUtf8 (w.first ∷ w.tail) = rw (← w.octets) (IsUtf8-encode c one) in
-    rw w.octets (unit-step row w.first w.tail (encodes cs) w.announced w.quiet w.few v u h (λ r v g. formed r cs (and_right (scalar c) (scalars cs) e) v g) (nat_le (length row + suc (length w.tail)) 64) refl)
+    rw w.octets (unit-step row w.first w.tail (encodes cs) w.announced_length w.quiet w.few v u h (λ r v g. formed r cs (and_right (scalar c) (scalars cs) e) v g) (nat_le (length row + suc (length w.tail)) 64) refl)
 
 same-bool : (a b : Bool) → (a ≡ true → b ≡ true) → (b ≡ true → a ≡ true) → a ≡ b
 same-bool true true f g = refl

@@ -3,7 +3,7 @@ use Rattle.std.proofs.Common.{◌≡◌, ℕ, ◌+◌, ◌-◌, Bool, true, fals
 use Rattle.std.specs.Prelude.{◌&&◌, nat_le, if◌then◌else◌, flat_map, Option, Some, None}
 use Rattle.std.specs.List.{enumerate_from}
 use Rattle.std.specs.Option.{option_map_or}
-use Rattle.tlv_head.specs.Header.{HeaderValue, announced}
+use Rattle.tlv_head.specs.Header.{HeaderValue, announced_length}
 use Rattle.tlv_value.specs.declared.kind.Kind.{Kind}
 use Rattle.tlv_value.specs.declared.kind.Kind.TheVariants.{Octets, Boolean, Integer, Bits, Object, Relative, Text, Utf8, Ucs2, Ucs4}
 use Rattle.tlv_value.specs.declared.layout.Layout.{Layout}
@@ -85,11 +85,11 @@ whole-lines name_of h layout octets =
 
 pub open-lines-by : (h : HeaderValue) (layout : Layout) (octets : List ℕ)
     → open_lines h layout octets
-    ≡ (if is_long (kind_by h) (announced h.size) && has_line (kind_by h) octets
-    then lines_by h layout (value_with (long_text (kind_by h) (announced h.size) octets) (full_rows (kind_by h) [] (row_octets (kind_by h) octets)))
+    ≡ (if is_long (kind_by h) (announced_length h.size) && has_line (kind_by h) octets
+    then lines_by h layout (value_with (long_text (kind_by h) (announced_length h.size) octets) (full_rows (kind_by h) [] (row_octets (kind_by h) octets)))
     else [])
 open-lines-by h layout octets =
-    let n : ℕ = announced h.size in
+    let n : ℕ = announced_length h.size in
     ap (λ (t : List ℕ). if is_long (kind_by h) n && has_line (kind_by h) octets then t else [])
     (value-lines h layout (long_value false (kind_by h) n octets)
     ∙ ap (lines_by h layout) (long-same false (kind_by h) n octets ∙ ap (value_with (long_text (kind_by h) n octets)) (rows-full (kind_by h) (row_octets (kind_by h) octets))))

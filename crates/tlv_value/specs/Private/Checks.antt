@@ -8,8 +8,8 @@ use Rattle.tlv_value.specs.declared.finding.Finding.{Finding}
 use Rattle.tlv_value.specs.Checks.{findings_on_contents}
 
 -- a primitive of the universal type with this number
-abbrev pub universal : ℕ → HeaderValue
-universal number = record {
+abbrev pub universal_header : ℕ → HeaderValue
+universal_header number = record {
   offset = 0;
   named = false;
   class = Universal;
@@ -22,4 +22,4 @@ universal number = record {
 
 -- what is found on its contents
 abbrev pub findings_of : ℕ → List ℕ → List Finding
-findings_of number octets = findings_on_contents (universal number) octets
+findings_of number octets = findings_on_contents (universal_header number) octets

@@ -1,6 +1,6 @@
 -- The lines of a primitive, by what its header says of it.
 use Rattle.std.specs.Prelude.{ℕ, List, [], ◌++◌, decimal}
-use Rattle.tlv_head.specs.Header.{HeaderValue, announced}
+use Rattle.tlv_head.specs.Header.{HeaderValue, announced_length}
 use Rattle.tlv_head.specs.Tag.{tag_text_of}
 use Rattle.tlv_value.specs.declared.layout.Layout.{Layout}
 use Rattle.tlv_value.specs.declared.primitive.Primitive.{Primitive}
@@ -15,7 +15,7 @@ primitive_of h layout = record {
   offset = h.offset;
   class = h.class;
   number = h.number;
-  size = announced h.size;
+  size = announced_length h.size;
   kind = kind_of h.class h.number;
   layout = layout;
 }

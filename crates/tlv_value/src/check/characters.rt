@@ -3,6 +3,7 @@ ghost use Rattle.std.specs.Prelude.{◌≡◌};
 ghost use Rattle.tlv_value.specs.Checks.{allows_octet as allows_octet_of, every, is_printable_string};
 
 use super::both;
+use tlv_head::universal;
 
 /// The characters of PrintableString (X.680 41.4), each at its own place, and an asterisk at every other place.
 static PRINTABLE: [u8; 256] = *b"\
@@ -22,10 +23,10 @@ pub(crate) fn are_allowed(number: u64, octets: &[u8]) -> bool
 {
     // A call for each type: where it is inlined, the type is then not asked for again at each octet.
     match number {
-        18 => is_each_allowed(18, octets),
-        19 => is_each_allowed(19, octets),
-        22 => is_each_allowed(22, octets),
-        26 => is_each_allowed(26, octets),
+        universal::NUMERIC_STRING => is_each_allowed(universal::NUMERIC_STRING, octets),
+        universal::PRINTABLE_STRING => is_each_allowed(universal::PRINTABLE_STRING, octets),
+        universal::IA5_STRING => is_each_allowed(universal::IA5_STRING, octets),
+        universal::VISIBLE_STRING => is_each_allowed(universal::VISIBLE_STRING, octets),
         _ => true,
     }
 }
@@ -49,10 +50,10 @@ fn allows_octet(number: u64, octet: u8) -> bool
     ensures { result ≡ allows_octet_of number octet }
 {
     match number {
-        18 => matches!(octet, b' ' | b'0'..=b'9'),
-        19 => is_printable(octet),
-        22 => octet < 128,
-        26 => matches!(octet, 0x20..=0x7e),
+        universal::NUMERIC_STRING => matches!(octet, b' ' | b'0'..=b'9'),
+        universal::PRINTABLE_STRING => is_printable(octet),
+        universal::IA5_STRING => octet < 128,
+        universal::VISIBLE_STRING => matches!(octet, 0x20..=0x7e),
         _ => true,
     }
 }

@@ -7,6 +7,7 @@ use super::ValueCheck;
 use crate::Finding;
 use crate::time::{general_canonical, general_ok, utc_canonical, utc_ok};
 use arrayvec::ArrayVec;
+use tlv_head::universal;
 
 impl ValueCheck {
     /// What is found on the contents by what was noted of them.
@@ -15,29 +16,29 @@ impl ValueCheck {
     {
         let mut found = ArrayVec::new();
         match self.number {
-            1 => self.note_boolean(&mut found),
-            2 | 10 => {
+            universal::BOOLEAN => self.note_boolean(&mut found),
+            universal::INTEGER | universal::ENUMERATED => {
                 note(self.size == 0, Finding::B07, &mut found);
                 note(self.is_number_padded(), Finding::B08, &mut found);
             }
-            3 => self.note_bits(&mut found),
-            5 => note(self.size != 0, Finding::B09, &mut found),
-            6 => {
+            universal::BIT_STRING => self.note_bits(&mut found),
+            universal::NULL => note(self.size != 0, Finding::B09, &mut found),
+            universal::OBJECT_IDENTIFIER => {
                 note(self.size == 0, Finding::B10, &mut found);
                 note(self.padded, Finding::B11, &mut found);
                 note(self.last >= 128, Finding::B12, &mut found);
             }
-            13 => {
+            universal::RELATIVE_OID => {
                 note(self.padded, Finding::B11, &mut found);
                 note(self.last >= 128, Finding::B12, &mut found);
             }
-            23 => {
+            universal::UTC_TIME => {
                 if self.size <= 64 {
                     let time = self.time.as_slice();
                     note_time(utc_ok(time), utc_canonical(time), &mut found);
                 }
             }
-            24 => {
+            universal::GENERALIZED_TIME => {
                 if self.size <= 64 {
                     let time = self.time.as_slice();
                     note_time(general_ok(time), general_canonical(time), &mut found);

@@ -3,13 +3,18 @@ ghost use Rattle.std.specs.Prelude.{◌≡◌, ◌||◌};
 ghost use Rattle.tlv_value.specs.CheckState.{notes_each, notes_front, notes_time};
 ghost use Rattle.tlv_value.specs.Checks.{is_padded_after, last_octet_of};
 
+use tlv_head::universal;
+
 /// Whether the first octets of the type with this universal number are looked at, and the last one: BOOLEAN, INTEGER,
 /// BIT STRING, ENUMERATED.
 #[inline(always)]
 pub(super) fn is_front_noted(number: u64) -> bool
     ensures { result ≡ notes_front number }
 {
-    number == 1 || number == 2 || number == 3 || number == 10
+    matches!(
+        number,
+        universal::BOOLEAN | universal::INTEGER | universal::BIT_STRING | universal::ENUMERATED
+    )
 }
 
 /// Whether each contents octet of the type with this universal number is looked at.
@@ -17,13 +22,16 @@ pub(super) fn is_front_noted(number: u64) -> bool
 pub(super) fn is_each_noted(number: u64) -> bool
     ensures { result ≡ notes_each number }
 {
-    number == 6
-        || number == 12
-        || number == 13
-        || number == 18
-        || number == 19
-        || number == 22
-        || number == 26
+    matches!(
+        number,
+        universal::OBJECT_IDENTIFIER
+            | universal::UTF8_STRING
+            | universal::RELATIVE_OID
+            | universal::NUMERIC_STRING
+            | universal::PRINTABLE_STRING
+            | universal::IA5_STRING
+            | universal::VISIBLE_STRING
+    )
 }
 
 /// Whether the type with this universal number is one of the two times.
@@ -31,7 +39,7 @@ pub(super) fn is_each_noted(number: u64) -> bool
 pub(super) fn is_time(number: u64) -> bool
     ensures { result ≡ notes_time number }
 {
-    number == 23 || number == 24
+    matches!(number, universal::UTC_TIME | universal::GENERALIZED_TIME)
 }
 
 /// The last of the octets, or the one before them.

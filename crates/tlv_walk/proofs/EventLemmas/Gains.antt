@@ -3,7 +3,7 @@ use Rattle.std.proofs.Common.{◌≡◌, inl, inr, ℕ, ◌+◌, Bool, true, fal
 use Rattle.std.proofs.lemmas.Bool.{cases_Bool}
 use Rattle.std.proofs.lemmas.List.{map_push}
 use Rattle.tlv_head.specs.declared.fault.FaultCode.TheVariants.{BadEnd, BadInside, MissingEnd}
-use Rattle.tlv_head.specs.Header.{HeaderValue, announced, octets_of}
+use Rattle.tlv_head.specs.Header.{HeaderValue, announced_length, octets_of}
 use Rattle.tlv_walk.specs.Forest.{Forest, Stop, Fill, Whole, Closed, Partial, Entered, Awaiting, Begun, Zero, extent, lead}
 use Rattle.tlv_walk.specs.Place.{IsOpen, Place, place_after, place_inside}
 use Rattle.tlv_walk.specs.Events.{Begin, Bytes, End, Enter, EventValue, Pad, Unused, closing_event, events, opening_events, single_octets}
@@ -29,7 +29,7 @@ gained p Stop x = step_events (push p Stop x)
 gained p (Fill rest) x = gained (place_after p 1) rest x
 gained p (Whole h c rest) x = gained (place_after p (length (octets_of h) + length c)) rest x
 gained p (Closed h inside rest) x = gained (place_after p (extent h inside)) rest x
-gained p (Partial h c) x = Bytes (x ∷ []) ∷ cond (eqb (length (c ++ x ∷ [])) (announced h.size)) (End ∷ []) []
+gained p (Partial h c) x = Bytes (x ∷ []) ∷ cond (eqb (length (c ++ x ∷ [])) (announced_length h.size)) (End ∷ []) []
 gained p (Entered h inside) x = gained (place_inside p h) inside x ++ closing h (push (place_inside p h) inside x)
 gained p (Awaiting h) x = cond (eqb x 0) (Unused ∷ closing h (Grown Stop)) []
 gained p (Begun o) x = step_events (push p (Begun o) x)
@@ -61,8 +61,8 @@ follow-brings f before old new (Ended g) split e = ap single_octets (split g) �
 follow-brings f before old new (Refused code) split e = tt
 
 -- a contents octet of a primitive brings that octet, and the end behind the last
-partial-brings : (h : HeaderValue) (c : List ℕ) (x : ℕ) → Brings (events (Partial h c) ++ Bytes (x ∷ []) ∷ cond (eqb (length (c ++ x ∷ [])) (announced h.size)) (End ∷ []) []) (Grown (partial h (c ++ x ∷ [])))
-partial-brings h c x = elim (cases_Bool (eqb (length (c ++ x ∷ [])) (announced h.size))) [
+partial-brings : (h : HeaderValue) (c : List ℕ) (x : ℕ) → Brings (events (Partial h c) ++ Bytes (x ∷ []) ∷ cond (eqb (length (c ++ x ∷ [])) (announced_length h.size)) (End ∷ []) []) (Grown (partial h (c ++ x ∷ [])))
+partial-brings h c x = elim (cases_Bool (eqb (length (c ++ x ∷ [])) (announced_length h.size))) [
   | inl full ↦ rw (full, map_push (λ x. Bytes (x ∷ [])) c x, append_assoc (bytes_apart c) (Bytes (x ∷ []) ∷ []) (End ∷ []))
   | inr less ↦ rw (less, map_push (λ x. Bytes (x ∷ [])) c x, append-nil (bytes_apart c ++ Bytes (x ∷ []) ∷ []))
 ]

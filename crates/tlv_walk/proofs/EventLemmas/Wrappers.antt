@@ -2,7 +2,7 @@
 use Rattle.std.proofs.Common.{◌≡◌, inl, inr, ℕ, ◌+◌, ◌<◌, ◌≤◌, Bool, true, false, cond, ◌||◌, eqb, if◌then◌else◌, List, [], ◌∷◌, ◌++◌, length, map, refl, sym, ap, ◌∙◌, arith, length-append}
 use Rattle.std.proofs.lemmas.Bool.{cases_Bool, true≢false}
 use Rattle.tlv_head.specs.declared.fault.FaultCode.TheVariants.{MissingEnd, Overrun, TooDeep}
-use Rattle.tlv_head.specs.Header.{HeaderValue, announced, holds, is_wrapper, octets_of}
+use Rattle.tlv_head.specs.Header.{HeaderValue, announced_length, holds, is_wrapper, octets_of}
 use Rattle.tlv_head.proofs.Scan.{Scan, Fresh, High, Named, Long, Ready, Stuck, Over, scan, step}
 use Rattle.tlv_walk.specs.Forest.{Forest, Stop, Fill, Whole, Closed, Partial, Entered, Awaiting, Begun, Zero, extent, lead, opening, spell}
 use Rattle.tlv_walk.specs.Inside.{is_among}
@@ -142,7 +142,7 @@ opened-few h (x ∷ l) = omega arith
 
 -- a primitive
 partial-none : (h : HeaderValue) (c : List ℕ) → EntersFew (events (partial h c))
-partial-none h c = elim (cases_Bool (eqb (length c) (announced h.size))) [
+partial-none h c = elim (cases_Bool (eqb (length c) (announced_length h.size))) [
   | inl e ↦ rw e (omega arith)
   | inr e ↦ rw e (omega arith)
 ]
@@ -187,7 +187,7 @@ gained-few p Stop x = between-few (x ∷ []) (fits p 1) (eqb x 0) p.indefinite p
 gained-few p (Fill rest) x = gained-few (place_after p 1) rest x
 gained-few p (Whole h c rest) x = gained-few (place_after p (length (octets_of h) + length c)) rest x
 gained-few p (Closed h inside rest) x = gained-few (place_after p (extent h inside)) rest x
-gained-few p (Partial h c) x = elim (cases_Bool (eqb (length (c ++ x ∷ [])) (announced h.size))) [
+gained-few p (Partial h c) x = elim (cases_Bool (eqb (length (c ++ x ∷ [])) (announced_length h.size))) [
   | inl e ↦ rw e (omega arith)
   | inr e ↦ rw e (omega arith)
 ]

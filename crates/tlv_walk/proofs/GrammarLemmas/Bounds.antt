@@ -5,7 +5,7 @@ use Rattle.tlv_head.specs.declared.header.Class.{Class}
 use Rattle.tlv_head.specs.declared.header.Class.TheVariants.{Universal, Application, Context, Private}
 use Rattle.tlv_head.specs.declared.header.Size.{Size}
 use Rattle.tlv_head.specs.declared.header.Size.TheVariants.{Definite, Indefinite}
-use Rattle.tlv_head.specs.Header.{HeaderValue, announced, holds, is_wrapper, octets_of}
+use Rattle.tlv_head.specs.Header.{HeaderValue, announced_length, holds, is_wrapper, octets_of}
 use Rattle.tlv_walk.specs.Forest.{end_octets, lead}
 use Rattle.tlv_walk.proofs.GrammarLemmas.Spellings.{length-opening}
 use Rattle.tlv_walk.specs.Place.{Fits, Place, is_indefinite, place_inside}
@@ -45,7 +45,7 @@ has_length Indefinite m = false
 pub record IsFull (s : Size) (m : ℕ) : Type 0 where
   pub filled : HasLength s m
   pub ends : end_octets s ≡ []
-  pub all : announced s ≡ m
+  pub all : announced_length s ≡ m
 
 -- what the test says
 pub length-full : (s : Size) (m : ℕ) → has_length s m ≡ true → IsFull s m
@@ -58,7 +58,7 @@ pub record IsEndless (s : Size) (start : ℕ) (outside : Option ℕ) (m : ℕ) :
   pub ends : end_octets s ≡ 0 ∷ 0 ∷ []
   pub bound : bound_in s start outside ≡ outside
   pub lacks : (k : ℕ) → LacksOctets s k
-  pub none : announced s ≡ 0
+  pub none : announced_length s ≡ 0
 
 -- what an indefinite length says
 pub indefinite-endless : (s : Size) (start : ℕ) (outside : Option ℕ) (m : ℕ) → is_indefinite s ≡ true → IsEndless s start outside m
@@ -66,13 +66,13 @@ indefinite-endless (Definite n) start outside m e = absurd (cc)
 indefinite-endless Indefinite start outside m e = record { filled = tt; ends = refl; bound = refl; lacks = λ k. tt; none = refl }
 
 -- contents within the length announced, and that within the bound, are within the bound inside
-pub contents-within : (s : Size) (start : ℕ) (outside : Option ℕ) (m : ℕ) → m ≤ announced s → IfSome outside (λ b. start + announced s ≤ b)
+pub contents-within : (s : Size) (start : ℕ) (outside : Option ℕ) (m : ℕ) → m ≤ announced_length s → IfSome outside (λ b. start + announced_length s ≤ b)
     → IfSome (bound_in s start outside) (λ b. start + m ≤ b)
 contents-within (Definite n) start outside m h f = omega arith
 contents-within Indefinite start outside m h f = within-le outside _ _ (omega arith) f
 
 -- what is within the bound inside is within that outside
-pub within-outside : (s : Size) (start : ℕ) (outside : Option ℕ) (m : ℕ) → IfSome outside (λ b. start + announced s ≤ b)
+pub within-outside : (s : Size) (start : ℕ) (outside : Option ℕ) (m : ℕ) → IfSome outside (λ b. start + announced_length s ≤ b)
     → IfSome (bound_in s start outside) (λ b. start + m ≤ b) → IfSome outside (λ b. start + m ≤ b)
 within-outside (Definite n) start outside m f g = within-le outside _ _ (omega arith) f
 within-outside Indefinite start outside m f g = g
@@ -113,7 +113,7 @@ lead_of constructed number = if constructed then [] else (if eqb number 3 then 0
 
 -- `lead-announced`, by the fields
 lead-least : (constructed named : Bool) (class : Class) (number : ℕ) (size : Size) → (constructed || is_wrapper named class constructed number size) ≡ true
-    → length (lead_of constructed number) ≤ announced size
+    → length (lead_of constructed number) ≤ announced_length size
 lead-least true named class number size e = omega arith
 lead-least false false class number size e = absurd (cc)
 lead-least false true Application number size e = absurd (cc)
@@ -121,15 +121,15 @@ lead-least false true Context number size e = absurd (cc)
 lead-least false true Private number size e = absurd (cc)
 lead-least false true Universal number size e = elim (cases_Bool (eqb number 3)) [
   | inl three ↦
-      let some : not (eqb (announced size) 0) ≡ true = rw (eqb-true number 3 three) at e in
-      let apart : announced size ≡ 0 → ⊥ = eqb-false _ 0 (not-true _ some) in
+      let some : not (eqb (announced_length size) 0) ≡ true = rw (eqb-true number 3 three) at e in
+      let apart : announced_length size ≡ 0 → ⊥ = eqb-false _ 0 (not-true _ some) in
       rw three (omega arith)
   | inr other ↦ rw other (omega arith)
 ]
 
 -- what comes before the elements that an element holds is announced
-pub lead-announced : (h : HeaderValue) → holds h ≡ true → length (lead h) ≤ announced h.size
-lead-announced h e = lead-least h.constructed h.named h.class h.number h.size e
+pub lead-announced_length : (h : HeaderValue) → holds h ≡ true → length (lead h) ≤ announced_length h.size
+lead-announced_length h e = lead-least h.constructed h.named h.class h.number h.size e
 
 -- `lead-zero`, by the fields
 lead-cases : (constructed : Bool) (number x : ℕ) (xs : List ℕ) → lead_of constructed number ≡ x ∷ xs → lead_of constructed number ≡ 0 ∷ []
@@ -144,7 +144,7 @@ pub lead-zero : (h : HeaderValue) (x : ℕ) (xs : List ℕ) → lead h ≡ x ∷
 lead-zero h x xs e = lead-cases h.constructed h.number x xs e
 
 -- the bound is not before the first element that an element holds
-pub fits-inside : (p : Place) (h : HeaderValue) → holds h ≡ true → Fits p (length (octets_of h) + announced h.size) → Fits (place_inside p h) 0
+pub fits-inside : (p : Place) (h : HeaderValue) → holds h ≡ true → Fits p (length (octets_of h) + announced_length h.size) → Fits (place_inside p h) 0
 fits-inside p h e f =
     within-le (place_inside p h).bound _ _ (omega (arith, length-opening h))
-    (contents-within h.size (p.at + length (octets_of h)) p.bound (length (lead h)) (lead-announced h e) (within-le p.bound _ _ (omega arith) f))
+    (contents-within h.size (p.at + length (octets_of h)) p.bound (length (lead h)) (lead-announced_length h e) (within-le p.bound _ _ (omega arith) f))

@@ -3,7 +3,7 @@ use Rattle.std.proofs.Common.{◌≡◌, inl, inr, ℕ, ◌+◌, ◌<◌, Bool, 
 use Rattle.std.proofs.lemmas.Bool.{cases_Bool, cases_eq, and_parts, and_cases, and_from, lt-leb, true≢false}
 use Rattle.tlv_head.specs.declared.fault.FaultCode.{FaultCode}
 use Rattle.tlv_head.specs.declared.fault.FaultCode.TheVariants.{StrayEnd}
-use Rattle.tlv_head.specs.Header.{HeaderValue, announced, holds, is_wrapper, octets_of}
+use Rattle.tlv_head.specs.Header.{HeaderValue, announced_length, holds, is_wrapper, octets_of}
 use Rattle.tlv_head.specs.Refusal.{IsRefusedOctet}
 use Rattle.tlv_head.proofs.Scan.{Origin, Scan, Fresh, High, Named, Long, Ready, Stuck, Over, moved, step, scan, scan-moved, more-from_front}
 use Rattle.tlv_head.proofs.Meaning.{Reads, reads-step, reads-scan, front-bytes}
@@ -90,7 +90,7 @@ complete-blames p o x h room s octets = elim (cases_Bool (holds h && leb 128 p.d
       let parts : (holds h ≡ true) × (leb 128 p.depth ≡ true) = and_parts _ _ deep in
       let there : IsHeadAt p true h = record { valid = s.valid; offset = s.offset; named = s.named; form = parts.0 } in
       rw deep (too_deep room h there octets (leb-true _ _ parts.1))
-  | inr not_deep ↦ elim (cases_Bool (fits p (length (octets_of h) + announced h.size))) [
+  | inr not_deep ↦ elim (cases_Bool (fits p (length (octets_of h) + announced_length h.size))) [
     | inl f ↦ rw (not_deep, f) tt
     | inr f ↦ rw (not_deep, f) (overrun room h s octets (shallow (holds h) p.depth not_deep) (too-long p _ f))
   ]
@@ -159,7 +159,7 @@ fault-refusal p f x code t (too_deep {o = o} room h s octets deep) =
     ap refusal (read-there p o x h true room s octets) ∙ rw test
 fault-refusal p f x code t (overrun {o = o} room h s octets k past) =
     let test : (holds (moved (origin p) h) && leb 128 p.depth) ≡ false = not-deep _ p.depth (λ q. k (sym (holds-there p h (holds h) s) ∙ q)) in
-    let none : fits p (length (octets_of h) + announced h.size) ≡ false = no-fit p _ past in
+    let none : fits p (length (octets_of h) + announced_length h.size) ≡ false = no-fit p _ past in
     ap refusal (read-there p o x h (holds h) room s octets) ∙ rw (test, none)
 fault-refusal p f x code t (no_end i a) = rw (no-fit p 1 a)
 fault-refusal p f x code t (stray_end i d z) = rw (fits-within p.bound (p.at + 1) (t.1 i), eq-eqb x 0 z, i, d)

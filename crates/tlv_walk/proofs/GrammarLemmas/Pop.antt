@@ -2,7 +2,7 @@
 use Rattle.std.proofs.Common.{◌≡◌, ◌⊎◌, inl, inr, ℕ, ◌+◌, ◌<◌, ◌≤◌, true, false, List, [], ◌∷◌, ◌++◌, length, refl, sym, ap, ◌∙◌, arith, append_assoc, append-nil, length-append, eq-eqb, ne_eqb}
 use Rattle.std.proofs.lemmas.Bool.{cases_Bool, and_from, true≢false}
 use Rattle.tlv_head.specs.declared.header.Size.TheVariants.{Definite}
-use Rattle.tlv_head.specs.Header.{HeaderValue, announced, octets_of}
+use Rattle.tlv_head.specs.Header.{HeaderValue, announced_length, octets_of}
 use Rattle.tlv_walk.specs.Forest.{Awaiting, Begun, Closed, Entered, Fill, Forest, Partial, Stop, Whole, Zero, contents_length, end_octets, extent, is_whole, lead, opening, spell}
 use Rattle.tlv_walk.specs.Place.{Fits, IsEntry, IsHeadAt, IsOpen, Place, is_indefinite, place_after, place_inside}
 use Rattle.tlv_walk.proofs.GrammarLemmas.Lengths.{LacksOctets}
@@ -14,13 +14,13 @@ use Rattle.tlv_walk.proofs.GrammarLemmas.PopHeaders.{back, Popped, header-popped
 
 -- a primitive with all its contents octets
 partial-whole : (h : HeaderValue) (c : List ℕ) → h.size ≡ Definite (length c) → partial h c ≡ Whole h c Stop
-partial-whole h c e = rw (eq-eqb (length c) (announced h.size) (sym (ap announced e)))
+partial-whole h c e = rw (eq-eqb (length c) (announced_length h.size) (sym (ap announced_length e)))
 
 -- a primitive that lacks contents octets
 partial-partial : (h : HeaderValue) (c : List ℕ) (n : ℕ) → h.size ≡ Definite n → length c < n → partial h c ≡ Partial h c
 partial-partial h c n e less =
-    let all : announced h.size ≡ n = ap announced e in
-    rw (ne_eqb (length c) (announced h.size) (λ z. omega arith))
+    let all : announced_length h.size ≡ n = ap announced_length e in
+    rw (ne_eqb (length c) (announced_length h.size) (λ z. omega arith))
 
 -- a primitive is popped by a contents octet
 contents-popped : (p : Place) (h : HeaderValue) (c : List ℕ) (x n : ℕ) (g : Forest) → IsHeadAt p false h → h.size ≡ Definite n → length c < n → Fits p (length (octets_of h) + n)
@@ -28,7 +28,7 @@ contents-popped : (p : Place) (h : HeaderValue) (c : List ℕ) (x n : ℕ) (g : 
 contents-popped p h c x n g header e less f same spelled = record {
   from = Partial h c;
   last = x;
-  is_open = (record { header = header; depth = λ e. absurd (cc (e)); fits = rw (ap announced e) f }, omega (arith, less, ap announced e));
+  is_open = (record { header = header; depth = λ e. absurd (cc (e)); fits = rw (ap announced_length e) f }, omega (arith, less, ap announced_length e));
   spelled = spelled ∙ sym (append_assoc (octets_of h) c (x ∷ []));
   pushed = ap Grown same;
 }
@@ -38,7 +38,7 @@ primitive-popped : (p : Place) (h : HeaderValue) (c : List ℕ) (n : ℕ) (g : F
     → partial h c ≡ g → spell g ≡ octets_of h ++ c → Popped p g
 primitive-popped p h c n g header e most f same spelled = elim (back c) [
   | is_nil z ↦
-      let f' : Fits p (length (octets_of h) + announced h.size) = rw (ap announced e) f in
+      let f' : Fits p (length (octets_of h) + announced_length h.size) = rw (ap announced_length e) f in
       let r : Popped p (partial h []) = header-popped p h false header refl f' in
       let same' : partial h [] ≡ g = ap (partial h) (sym z) ∙ same in
       rw same' at r
@@ -56,7 +56,7 @@ whole-popped p h c w =
 partial-popped : (p : Place) (h : HeaderValue) (c : List ℕ) → IsOpen p (Partial h c) → Popped p (Partial h c)
 partial-popped p h c w =
     let n : (n : ℕ) × (h.size ≡ Definite n) = size-definite h w.0.header.valid w.0.header.form in
-    let all : announced h.size ≡ n.0 = ap announced n.1 in
+    let all : announced_length h.size ≡ n.0 = ap announced_length n.1 in
     primitive-popped p h c n.0 (Partial h c) w.0.header n.1 (omega (arith, w.1)) (within-le p.bound _ _ (omega arith) w.0.fits) (partial-partial h c n.0 n.1 (omega (arith, w.1))) refl
 
 -- an element that lacks contents octets is entered

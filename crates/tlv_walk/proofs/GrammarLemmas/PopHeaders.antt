@@ -4,7 +4,7 @@ use Rattle.std.proofs.lemmas.Bool.{lt-leb}
 use Rattle.tlv_head.specs.declared.header.Class.{Class}
 use Rattle.tlv_head.specs.declared.header.Size.{Size}
 use Rattle.tlv_head.specs.declared.header.Size.TheVariants.{Definite, Indefinite}
-use Rattle.tlv_head.specs.Header.{HeaderValue, IsHeader, IsIdentifier, IsLength, announced, holds, octets_of}
+use Rattle.tlv_head.specs.Header.{HeaderValue, IsHeader, IsIdentifier, IsLength, announced_length, holds, octets_of}
 use Rattle.tlv_head.specs.Refusal.{IsFront}
 use Rattle.tlv_head.proofs.Scan.{Origin, Scan, Fresh, High, Named, Long, Ready, Stuck, Over, origin_of, scan, scan_from-append, scan-header, is_more, more-from_front}
 use Rattle.tlv_walk.specs.Forest.{Forest, Stop, Awaiting, Begun, lead, opening, spell}
@@ -78,7 +78,7 @@ pub push-front : (p : Place) (o : List ℕ) (x : ℕ) → IsFront (o ++ x ∷ []
 push-front p o x front f = push-scan p o x _ f refl ∙ begin-more p (o ++ x ∷ []) _ (more-from_front (origin p) (o ++ x ∷ []) front)
 
 -- a header that may stand there is a forest
-pub complete-begun : (p : Place) (h : HeaderValue) (k : Bool) → holds h ≡ k → (k && leb 128 p.depth) ≡ false → Fits p (length (octets_of h) + announced h.size) → complete p h ≡ Grown (begun k h)
+pub complete-begun : (p : Place) (h : HeaderValue) (k : Bool) → holds h ≡ k → (k && leb 128 p.depth) ≡ false → Fits p (length (octets_of h) + announced_length h.size) → complete p h ≡ Grown (begun k h)
 complete-begun p h k e d f = rw (e, d, fits-within p.bound _ f)
 
 -- a header that stands there begins there
@@ -86,7 +86,7 @@ pub header-origin : (p : Place) (k : Bool) (h : HeaderValue) → IsHeadAt p k h 
 header-origin p k h header = λ i. record { offset = header.offset i; named = header.named i }
 
 -- a header alone is popped by its last octet
-pub header-popped : (p : Place) (h : HeaderValue) (k : Bool) → IsHeadAt p k h → (k && leb 128 p.depth) ≡ false → Fits p (length (octets_of h) + announced h.size) → Popped p (begun k h)
+pub header-popped : (p : Place) (h : HeaderValue) (k : Bool) → IsHeadAt p k h → (k && leb 128 p.depth) ≡ false → Fits p (length (octets_of h) + announced_length h.size) → Popped p (begun k h)
 header-popped p h k header d f = elim (back (octets_of h)) [
   | is_nil e ↦ absurd (omega (arith, ap length e, header-length h header.valid))
   | is_push o x e ↦

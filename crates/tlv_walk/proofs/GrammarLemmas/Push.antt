@@ -3,7 +3,7 @@ use Rattle.std.proofs.Common.{◌≡◌, ◌≢◌, inl, inr, ℕ, ◌+◌, ◌<
 use Rattle.std.proofs.lemmas.Bool.{cases_eq, cases_Bool, and_parts, true≢false}
 use Rattle.tlv_head.specs.declared.header.Size.{Size}
 use Rattle.tlv_head.specs.declared.header.Size.TheVariants.{Definite, Indefinite}
-use Rattle.tlv_head.specs.Header.{HeaderValue, IsHeader, announced, holds, octets_of, wraps}
+use Rattle.tlv_head.specs.Header.{HeaderValue, IsHeader, announced_length, holds, octets_of, wraps}
 use Rattle.tlv_head.specs.Private.Header.{AllowsSize}
 use Rattle.tlv_head.specs.Refusal.{IsFront}
 use Rattle.tlv_head.proofs.Scan.{Origin, Scan, Fresh, High, Named, Long, Ready, Stuck, Over, origin_of, step, scan, first-more}
@@ -16,7 +16,7 @@ use Rattle.tlv_walk.proofs.GrammarLemmas.Spellings.{append_assoc-3, append_assoc
 use Rattle.tlv_walk.proofs.GrammarLemmas.PushSteps.{IsWhole, IsClosed, Step, origin, is_filled, entered, partial, opened, begun, complete, begin, zero_between, follow, settle, push, Spells, IsStep, Grown, Ended, Refused}
 
 -- where what an element holds ends within the bound inside, the element so far ends within that outside
-reaches-entered : (p : Place) (h : HeaderValue) (inside : Forest) → Fits p (length (octets_of h) + announced h.size) → Fits (place_inside p h) (length (spell inside))
+reaches-entered : (p : Place) (h : HeaderValue) (inside : Forest) → Fits p (length (octets_of h) + announced_length h.size) → Fits (place_inside p h) (length (spell inside))
     → Fits p (length (opening h ++ spell inside))
 reaches-entered p h inside f g =
     let size : length (opening h ++ spell inside) ≡ length (octets_of h) + (length (lead h) + length (spell inside)) = omega (arith, length-append (opening h) (spell inside), length-opening h) in
@@ -60,13 +60,13 @@ size-definite h valid e = definite-primitive h.constructed h.size (not-holding h
 partial-sound : (p : Place) (h : HeaderValue) (c : List ℕ) (n : ℕ) → IsHeadAt p false h → h.size ≡ Definite n → length c ≤ n → Fits p (length (octets_of h) + n)
     → Spells p (octets_of h ++ c) (partial h c)
 partial-sound p h c n header e most f =
-    let all : announced h.size ≡ n = ap announced e in
+    let all : announced_length h.size ≡ n = ap announced_length e in
     elim (cases_eq (length c) n) [
-      | inl full ↦ rw (eq-eqb (length c) (announced h.size) (full ∙ sym all)) (record {
+      | inl full ↦ rw (eq-eqb (length c) (announced_length h.size) (full ∙ sym all)) (record {
         is_open = ((record { header = header; depth = λ e. absurd (cc (e)); fits = rw full f }, e ∙ ap Definite (sym full)), tt);
         spelled = ap (λ (t : List ℕ). octets_of h ++ t) (append-nil c);
       })
-      | inr less ↦ rw (ne_eqb (length c) (announced h.size) (λ z. less (z ∙ all))) (record {
+      | inr less ↦ rw (ne_eqb (length c) (announced_length h.size) (λ z. less (z ∙ all))) (record {
         is_open = (record { header = header; depth = λ e. absurd (cc (e)); fits = within-le p.bound _ _ (omega arith) f }, omega arith);
         spelled = refl;
       })
@@ -116,12 +116,12 @@ opened-sound p h [] e entry =
 opened-sound p h (x ∷ xs) e entry = record { is_open = (entry, lead-zero h x xs e); spelled = refl }
 
 -- a header where one may stand is an open forest
-pub begun-sound : (p : Place) (h : HeaderValue) (k : Bool) → IsHeadAt p k h → (k && leb 128 p.depth) ≡ false → Fits p (length (octets_of h) + announced h.size)
+pub begun-sound : (p : Place) (h : HeaderValue) (k : Bool) → IsHeadAt p k h → (k && leb 128 p.depth) ≡ false → Fits p (length (octets_of h) + announced_length h.size)
     → Spells p (octets_of h) (begun k h)
 begun-sound p h true header d f = opened-sound p h (lead h) refl (record { header = header; depth = λ _. leb-false 128 p.depth d; fits = f })
 begun-sound p h false header d f =
     let n : (n : ℕ) × (h.size ≡ Definite n) = size-definite h header.valid header.form in
-    let f' : Fits p (length (octets_of h) + n.0) = rw (ap announced n.1) at f in
+    let f' : Fits p (length (octets_of h) + n.0) = rw (ap announced_length n.1) at f in
     rw (append-nil (octets_of h)) at (partial-sound p h [] n.0 header n.1 (omega arith) f')
 
 -- a header that is complete
@@ -130,7 +130,7 @@ complete-sound p h valid at =
     let header : IsHeadAt p (holds h) h = record { valid = valid; offset = ap (λ (o : Origin). o.offset) at; named = ap (λ (o : Origin). o.named) at; form = refl } in
     elim (cases_Bool (holds h && leb 128 p.depth)) [
       | inl deep ↦ rw deep tt
-      | inr room ↦ elim (cases_Bool (fits p (length (octets_of h) + announced h.size))) [
+      | inr room ↦ elim (cases_Bool (fits p (length (octets_of h) + announced_length h.size))) [
         | inl f ↦ rw (room, f) (begun-sound p h (holds h) header room (within-fits p.bound _ f))
         | inr f ↦ rw (room, f) tt
       ]
@@ -196,7 +196,7 @@ zero-step p x i = elim (cases_Bool (fits p 2)) [
 partial-step : (p : Place) (h : HeaderValue) (c : List ℕ) (x : ℕ) → IsOpen p (Partial h c) → IsStep p ((octets_of h ++ c) ++ x ∷ []) (push p (Partial h c) x)
 partial-step p h c x w =
     let n : (n : ℕ) × (h.size ≡ Definite n) = size-definite h w.0.header.valid w.0.header.form in
-    let all : announced h.size ≡ n.0 = ap announced n.1 in
+    let all : announced_length h.size ≡ n.0 = ap announced_length n.1 in
     rw (append_assoc (octets_of h) c (x ∷ []))
     (partial-sound p h (c ++ x ∷ []) n.0 w.0.header n.1 (omega (arith, length-append c (x ∷ []), w.1)) (within-le p.bound _ _ (omega arith) w.0.fits))
 

@@ -3,7 +3,7 @@ use Rattle.std.proofs.Common.{◌≡◌, ℕ, ◌+◌, Bool, true, false, cond, 
 use Rattle.tlv_head.specs.declared.fault.FaultCode.{FaultCode}
 use Rattle.tlv_head.specs.declared.fault.FaultCode.TheVariants.{StrayEnd, BadEnd, MissingEnd, TooDeep, Overrun, BadInside}
 use Rattle.tlv_head.specs.declared.header.Size.TheVariants.{Definite}
-use Rattle.tlv_head.specs.Header.{HeaderValue, announced, holds, octets_of}
+use Rattle.tlv_head.specs.Header.{HeaderValue, announced_length, holds, octets_of}
 use Rattle.tlv_head.proofs.Scan.{Origin, Scan, Fresh, High, Named, Long, Ready, Stuck, Over, step, scan}
 use Rattle.tlv_walk.specs.Forest.{Awaiting, Begun, Closed, Entered, Fill, Forest, Partial, Stop, Whole, Zero, contents_length, extent, is_whole, lead, spell}
 use Rattle.tlv_walk.specs.Inside.{is_among}
@@ -41,7 +41,7 @@ entered h f = cond (is_filled h f) (Closed h f Stop) (Entered h f)
 
 -- a primitive with these contents octets so far
 abbrev pub partial : HeaderValue → List ℕ → Forest
-partial h c = cond (eqb (length c) (announced h.size)) (Whole h c Stop) (Partial h c)
+partial h c = cond (eqb (length c) (announced_length h.size)) (Whole h c Stop) (Partial h c)
 
 -- an element that holds none yet, behind its header: the octets are those to come before the first
 abbrev pub opened : HeaderValue → List ℕ → Forest
@@ -56,7 +56,7 @@ begun false h = partial h []
 -- a header is complete
 abbrev pub complete : Place → HeaderValue → Step
 complete p h = cond (holds h && leb 128 p.depth) (Refused TooDeep)
-    (cond (fits p (length (octets_of h) + announced h.size)) (Grown (begun (holds h) h)) (Refused Overrun))
+    (cond (fits p (length (octets_of h) + announced_length h.size)) (Grown (begun (holds h) h)) (Refused Overrun))
 
 -- octets of a header, by what they say
 abbrev pub begin : Place → List ℕ → Scan → Step

@@ -6,7 +6,7 @@ use Rattle.std.specs.Prelude.{if◌then◌else◌}
 use Rattle.tlv_head.specs.declared.header.Class.{Class}
 use Rattle.tlv_head.specs.declared.header.Size.{Size}
 use Rattle.tlv_head.specs.declared.header.Size.TheVariants.{Definite, Indefinite}
-use Rattle.tlv_head.specs.Header.{HeaderValue, IsHeader, IsIdentifier, announced, is_universal, is_wrapper, leading_octet}
+use Rattle.tlv_head.specs.Header.{HeaderValue, IsHeader, IsIdentifier, announced_length, is_universal, is_wrapper, leading_octet}
 use Rattle.tlv_head.specs.Private.Header.{AllowsSize}
 use Rattle.tlv_head.specs.Shortest.{IsShortest}
 use Rattle.tlv_head.proofs.LengthOctets.{FewLengths, few-lengths}
@@ -55,7 +55,7 @@ few-octets Indefinite l few = omega (arith, ap length l.valid)
 
 pub octets-for : (h : HeaderValue) (constructed : Bool) (size : Size) → IsIdentifier h.class constructed h.number h.identifier
     → leading_octet h.class constructed h.number ≢ 0
-    → AllowsSize constructed size → announced size < 2 ^ 40 → Octets h constructed size
+    → AllowsSize constructed size → announced_length size < 2 ^ 40 → Octets h constructed size
 octets-for h constructed size valid nonzero allowed below =
     let i : ShortIdentifier h.class constructed h.number = short-identifier h.class constructed h.number h.identifier valid nonzero in
     let l : FewLengths size = few-lengths size below in
@@ -82,7 +82,7 @@ abbrev pub size-for : Bool → ℕ → Size
 size-for true m = Indefinite
 size-for false m = Definite m
 
-pub size-below : (t : Bool) (m : ℕ) → m < 2 ^ 40 → announced (size-for t m) < 2 ^ 40
+pub size-below : (t : Bool) (m : ℕ) → m < 2 ^ 40 → announced_length (size-for t m) < 2 ^ 40
 size-below true m below = omega arith
 size-below false m below = below
 
@@ -166,8 +166,8 @@ number-of number some e = elim (cases (eqb number 4) (eqb number 3 && some) e) [
 
 string-of : (named : Bool) (class : Class) (number : ℕ) (size : Size) → is_wrapper named class false number size ≡ true → IsString class number
 string-of true class number size e =
-    let parts = and_parts (is_universal class) (eqb number 4 || (eqb number 3 && not (eqb (announced size) 0))) e in
-    record { universal = parts.0; kind = number-of number (not (eqb (announced size) 0)) parts.1 }
+    let parts = and_parts (is_universal class) (eqb number 4 || (eqb number 3 && not (eqb (announced_length size) 0))) e in
+    record { universal = parts.0; kind = number-of number (not (eqb (announced_length size) 0)) parts.1 }
 string-of false class number size e = absurd (true≢false (sym e))
 
 string-nonzero : (class : Class) (number : ℕ) → IsString class number → leading_octet class false number ≢ 0

@@ -3,7 +3,7 @@ use Rattle.std.proofs.Common.{◌≡◌, inl, inr, ℕ, ◌+◌, ◌-◌, ◌≤
 use Rattle.std.proofs.lemmas.Bool.{false_from_ne_true, true≢false}
 use Rattle.tlv_head.specs.declared.header.Size.{Size}
 use Rattle.tlv_head.specs.declared.header.Size.TheVariants.{Definite, Indefinite}
-use Rattle.tlv_head.specs.Header.{HeaderValue, announced, octets_of}
+use Rattle.tlv_head.specs.Header.{HeaderValue, announced_length, octets_of}
 use Rattle.tlv_head.specs.Private.Header.{AllowsSize}
 use Rattle.tlv_walk.specs.Phase as phase
 use Rattle.tlv_walk.specs.Events.{AreEqualJoined, Close, EventValue, Leave, closing_event, end_offset, events, opening_events, single_octets}
@@ -148,7 +148,7 @@ filled_from w b past s (l ∷ ls) has e f fs is full =
     let none : end_octets l.head.size ≡ [] = ap end_octets size.1 in
     let zero : length (end_octets l.head.size) ≡ 0 = ap length none in
     let event : closing_event l.head s.here ≡ ending_event f = closes_definite l.head.constructed l.head.size size.0 _ size.1 ∙ ap ending_event (sym same) in
-    let entry : Fits p (length (octets_of l.head) + size.0) = subst (λ (t : Size). Fits p (length (octets_of l.head) + announced t)) size.1 has.layers.2.fits in
+    let entry : Fits p (length (octets_of l.head) + size.0) = subst (λ (t : Size). Fits p (length (octets_of l.head) + announced_length t)) size.1 has.layers.2.fits in
     let fits : Fits p (extent l.head s.here) = subst (λ (n : ℕ). Fits p n) (omega (arith, long, zero, length-opening l.head)) entry in
     let still : w.offset ≡ w.offset + 0 = omega arith in (
       _,

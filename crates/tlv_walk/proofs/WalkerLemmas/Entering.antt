@@ -1,7 +1,7 @@
 -- A walker's state goes on behind a header.
 use Rattle.std.proofs.Common.{◌≡◌, ℕ, ◌+◌, ◌<◌, Bool, true, false, eqb, if◌then◌else◌, List, [], ◌∷◌, ◌++◌, length, map, Option, refl, sym, ap, ◌∙◌, subst, arith, append-nil, length-append}
 use Rattle.tlv_head.specs.declared.header.Size.TheVariants.{Definite}
-use Rattle.tlv_head.specs.Header.{HeaderValue, IsHeader, announced, holds, octets_of}
+use Rattle.tlv_head.specs.Header.{HeaderValue, IsHeader, announced_length, holds, octets_of}
 use Rattle.tlv_head.specs.HeadReaderState.{HeadReaderState}
 use Rattle.tlv_head.specs.Refusal.{IsFront}
 use Rattle.tlv_walk.specs.Phase as phase
@@ -72,7 +72,7 @@ pub record Completed (w : WalkerState) (r : HeadReaderState) (t : List ℕ) (h :
   pub offset : h.offset ≡ r.offset
   pub named : h.named ≡ r.named
   pub shallow : holds h ≡ true → length w.stack < 128
-  pub fits : Within (bound_of w.stack) (h.offset + length (octets_of h) + announced h.size)
+  pub fits : Within (bound_of w.stack) (h.offset + length (octets_of h) + announced_length h.size)
 
 head_at : (w : WalkerState) (b : List ℕ) (past : List EventValue) (s : Zipper) (r : HeadReaderState) (t : List ℕ) (h : HeaderValue) (k : Bool) → AtHeader w b past s r → Completed w r t h → holds h ≡ k
     → IsHeadAt (place_of w.framing s) k h
@@ -84,10 +84,10 @@ head_at w b past s r t h k at c e = record {
 }
 
 fits_at : (w : WalkerState) (b : List ℕ) (past : List EventValue) (s : Zipper) (r : HeadReaderState) (t : List ℕ) (h : HeaderValue) → AtHeader w b past s r → Completed w r t h
-    → Fits (place_of w.framing s) (length (octets_of h) + announced h.size)
+    → Fits (place_of w.framing s) (length (octets_of h) + announced_length h.size)
 fits_at w b past s r t h at c =
     let bound : bound_of w.stack ≡ (place_in w.framing s.layers).bound = ap bound_of at.stack ∙ sym (place-bound w.framing s.layers) in
-    let fits : Within (place_in w.framing s.layers).bound (h.offset + length (octets_of h) + announced h.size) = subst (λ (x : Option ℕ). Within x (h.offset + length (octets_of h) + announced h.size)) bound c.fits in
+    let fits : Within (place_in w.framing s.layers).bound (h.offset + length (octets_of h) + announced_length h.size) = subst (λ (x : Option ℕ). Within x (h.offset + length (octets_of h) + announced_length h.size)) bound c.fits in
     subst (λ (n : ℕ). Within (place_in w.framing s.layers).bound n) (omega (arith, c.offset, at.offset)) fits
 
 entry_at : (w : WalkerState) (b : List ℕ) (past : List EventValue) (s : Zipper) (r : HeadReaderState) (t : List ℕ) (h : HeaderValue) → AtHeader w b past s r → Completed w r t h → holds h ≡ true
@@ -123,7 +123,7 @@ primitive_state w b past s r t h n at c e size =
       phase = record {
         header = head_at w b past s r t h false at c e;
         size = size ∙ ap Definite zero;
-        fits = subst (λ (m : ℕ). Fits (place_of w.framing s) (length (octets_of h) + m)) (ap announced size ∙ zero) (fits_at w b past s r t h at c);
+        fits = subst (λ (m : ℕ). Fits (place_of w.framing s) (length (octets_of h) + m)) (ap announced_length size ∙ zero) (fits_at w b past s r t h at c);
       };
       same_events = past_behind past s.layers s.here [] (Begin h ∷ Bytes [] ∷ []) (Begin h ∷ []) (quiet_past w b past s r at) refl;
       element = refl;

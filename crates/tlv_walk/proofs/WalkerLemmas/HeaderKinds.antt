@@ -5,7 +5,7 @@ use Rattle.std.proofs.lemmas.List.{take-append-drop}
 use Rattle.tlv_head.specs.declared.header.HeaderFields.{HeaderFields}
 use Rattle.tlv_head.specs.declared.header.Size.TheVariants.{Definite}
 use Rattle.tlv_head.specs.Fields.{header_with}
-use Rattle.tlv_head.specs.Header.{HeaderValue, announced, holds, is_wrapper, octets_of}
+use Rattle.tlv_head.specs.Header.{HeaderValue, announced_length, holds, is_wrapper, octets_of}
 use Rattle.tlv_head.specs.HeadReaderState.{HeadReaderState}
 use Rattle.tlv_walk.specs.declared.event.Kind.{Kind}
 use Rattle.tlv_walk.specs.declared.event.Kind.TheVariants as kind
@@ -92,11 +92,11 @@ wrapper_enters w b past s r t h n at c k hold false bits =
     )
 
 primitive_enters : (w : WalkerState) (b : List ℕ) (past : List EventValue) (s : Zipper) (r : HeadReaderState) (t : List ℕ) (h : HeaderValue) → AtHeader w b past s r → Completed w r t h → holds h ≡ false
-    → (u : Zipper) × HasZipper (after_header w (phase.InContents (announced h.size)) (h.offset + length (octets_of h))) (b ++ t) (past ++ Begin h ∷ []) u
+    → (u : Zipper) × HasZipper (after_header w (phase.InContents (announced_length h.size)) (h.offset + length (octets_of h))) (b ++ t) (past ++ Begin h ∷ []) u
 primitive_enters w b past s r t h at c no_hold =
     let size : (n : ℕ) × (h.size ≡ Definite n) = size-definite h c.valid no_hold in (
       _,
-      subst (λ (n : ℕ). HasZipper (after_header w (phase.InContents n) (h.offset + length (octets_of h))) (b ++ t) (past ++ Begin h ∷ []) (with_tail s (InContents h []))) (sym (ap announced size.1))
+      subst (λ (n : ℕ). HasZipper (after_header w (phase.InContents n) (h.offset + length (octets_of h))) (b ++ t) (past ++ Begin h ∷ []) (with_tail s (InContents h []))) (sym (ap announced_length size.1))
           (primitive_state w b past s r t h size.0 at c no_hold size.1),
     )
 
@@ -129,7 +129,7 @@ enters_found w v f o at kind.Wrapper e = ap (λ (m : WalkerState). m.wrappers) e
 -- octets that begin with a header, at a walker between elements
 pub fast_enters : (w v : WalkerState) (piece : List ℕ) (named : Bool) (f : HeaderFields) (count : ℕ) (o : List ℕ) (k : Kind) → w.phase ≡ phase.Between
     → BeginsWithFields piece w.offset named f count → o ≡ take count piece → named ≡ is_among w.offset w.framing.inside
-    → (holds (header_with f o) ≡ true → length w.stack < 128) → Within (bound_of w.stack) (f.offset + length o + announced f.size)
+    → (holds (header_with f o) ≡ true → length w.stack < 128) → Within (bound_of w.stack) (f.offset + length o + announced_length f.size)
     → Enters w v f (f.offset + length o) k → Continues w v o (event_of k (header_with f o) ∷ [])
 fast_enters w v piece named f count o k e begins front name shallow fits enter =
     let h : HeaderValue = header_with f o in
@@ -142,7 +142,7 @@ fast_enters w v piece named f count o k e begins front name shallow fits enter =
       offset = begins'.offset;
       named = begins'.named;
       shallow = shallow;
-      fits = subst (λ (x : List ℕ). Within (bound_of w.stack) (f.offset + length x + announced f.size)) (sym whole) fits;
+      fits = subst (λ (x : List ℕ). Within (bound_of w.stack) (f.offset + length x + announced_length f.size)) (sym whole) fits;
     } in
     record {
       framing = enters_framing w v f (f.offset + length o) k enter;
@@ -155,7 +155,7 @@ fast_enters w v piece named f count o k e begins front name shallow fits enter =
 -- such a header may stand there
 pub fast_may_enter : (w : WalkerState) (piece : List ℕ) (named : Bool) (f : HeaderFields) (count : ℕ) (o : List ℕ) → BeginsWithFields piece w.offset named f count → o ≡ take count piece
     → w.events + length w.stack ≤ w.offset → w.offset + length piece ≤ 2 ^ 40 → (holds (header_with f o) ≡ true → length w.stack < 128)
-    → Within (bound_of w.stack) (f.offset + length o + announced f.size) → CanEnter w (header_with f o)
+    → Within (bound_of w.stack) (f.offset + length o + announced_length f.size) → CanEnter w (header_with f o)
 fast_may_enter w piece named f count o begins front fewer limit shallow fits =
     let h : HeaderValue = header_with f o in
     let whole : octets_of h ≡ o = take-append-drop f.id_len o in
@@ -166,7 +166,7 @@ fast_may_enter w piece named f count o begins front fewer limit shallow fits =
       fewer = omega (arith, there);
       limit = omega (arith, there, ap length whole, ap length front, length-take count piece);
       shallow = shallow;
-      fits = subst (λ (x : List ℕ). Within (bound_of w.stack) (f.offset + length x + announced f.size)) (sym whole) fits;
+      fits = subst (λ (x : List ℕ). Within (bound_of w.stack) (f.offset + length x + announced_length f.size)) (sym whole) fits;
     }
 
 -- a constructed header begins a constructed element

@@ -6,7 +6,7 @@ use Rattle.tlv_head.specs.declared.fault.FaultCode.TheVariants.{TooDeep, Overrun
 use Rattle.tlv_head.specs.declared.header.Class.{Class}
 use Rattle.tlv_head.specs.declared.header.Size.{Size}
 use Rattle.tlv_head.specs.declared.header.Size.TheVariants.{Definite, Indefinite}
-use Rattle.tlv_head.specs.Header.{HeaderValue, IsIdentifier, announced, holds, octets_of}
+use Rattle.tlv_head.specs.Header.{HeaderValue, IsIdentifier, announced_length, holds, octets_of}
 use Rattle.tlv_head.specs.Refusal.{IsRefusedOctet, tag_too_long, reserved_length, indefinite_primitive, length_too_large}
 use Rattle.tlv_head.specs.HeadReaderState.{ContentsFit, HeadReaderState}
 use Rattle.tlv_head.specs.Push.{Completes, IsRefusedPush}
@@ -61,7 +61,7 @@ refused-some code r x room depth k some e = refused-behind r.octets x code k.1 e
 -- ---- what a reader refuses is a fault there
 
 -- the contents end past the bound
-past_bound : (size : Size) (b : Option ℕ) (n m : ℕ) → (ContentsFit size (left_to b n) → ⊥) → n + 1 + announced size ≤ m → Within b m → ⊥
+past_bound : (size : Size) (b : Option ℕ) (n m : ℕ) → (ContentsFit size (left_to b n) → ⊥) → n + 1 + announced_length size ≤ m → Within b m → ⊥
 past_bound (Definite k) None n m past h f = past tt
 past_bound Indefinite None n m past h f = past tt
 past_bound (Definite k) (Some b) n m past h f = past (omega arith)

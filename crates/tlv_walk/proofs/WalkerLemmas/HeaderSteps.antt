@@ -6,7 +6,7 @@ use Rattle.tlv_head.specs.declared.header.HeaderFields.{HeaderFields}
 use Rattle.tlv_head.specs.declared.header.Size.{Size}
 use Rattle.tlv_head.specs.declared.header.Size.TheVariants.{Definite, Indefinite}
 use Rattle.tlv_head.specs.Fields.{header_with}
-use Rattle.tlv_head.specs.Header.{HeaderValue, announced, octets_of}
+use Rattle.tlv_head.specs.Header.{HeaderValue, announced_length, octets_of}
 use Rattle.tlv_head.specs.HeadReaderState.{ContentsFit, HeadReaderState, with_octet}
 use Rattle.tlv_head.specs.Push.{Completes, FitsThere}
 use Rattle.tlv_head.specs.Refusal.{IsFront}
@@ -179,7 +179,7 @@ within_next (Some m) n h some = elim (cases_eq m n) [
 ]
 
 -- contents that fit behind it
-within_announced : (size : Size) (b : Option ℕ) (n : ℕ) → ContentsFit size (left_to b n) → Within b (n + 1 + announced size)
+within_announced : (size : Size) (b : Option ℕ) (n : ℕ) → ContentsFit size (left_to b n) → Within b (n + 1 + announced_length size)
 within_announced (Definite k) None n h = tt
 within_announced (Definite k) (Some m) n h = omega (arith, h)
 within_announced Indefinite None n h = tt
@@ -195,7 +195,7 @@ whole_enters u q x depth at h fewer place limit deep c f =
       fewer = omega (arith, c.offset);
       limit = omega arith;
       shallow = λ e. subst (λ (n : ℕ). n < 128) deep (f.shallow e);
-      fits = subst (λ (n : ℕ). Within (bound_of u.stack) (n + announced h.size)) (sym end) (within_announced h.size (bound_of u.stack) at f.within);
+      fits = subst (λ (n : ℕ). Within (bound_of u.stack) (n + announced_length h.size)) (sym end) (within_announced h.size (bound_of u.stack) at f.within);
     }
 
 -- and the walker yields it

@@ -5,7 +5,7 @@ use Rattle.std.proofs.lemmas.List.{length-drop, length-take-le, take-append-drop
 use Rattle.std.proofs.Math.Seq.{drop-append_seam, take-add}
 use Rattle.tlv_head.specs.declared.header.HeaderFields.{HeaderFields}
 use Rattle.tlv_head.specs.Fields.{header_with}
-use Rattle.tlv_head.specs.Header.{announced, is_wrapper}
+use Rattle.tlv_head.specs.Header.{announced_length, is_wrapper}
 use Rattle.tlv_walk.specs.declared.event.Kind.TheVariants as kind
 use Rattle.tlv_walk.specs.declared.walker.quick.WholePrimitive.{WholePrimitive}
 use Rattle.tlv_walk.specs.Events.{Begin, Bytes, End}
@@ -21,15 +21,15 @@ use Rattle.tlv_walk.proofs.WalkerLemmas.Moves.{continues_both, yields_passed}
 
 -- the contents of a primitive with which the octets begin
 abbrev contents_at : WholePrimitive → List ℕ → List ℕ
-contents_at p piece = take (announced p.fields.size) (drop p.header piece)
+contents_at p piece = take (announced_length p.fields.size) (drop p.header piece)
 
 -- the octets are those of its header, and its contents
 whole_octets : (w : WalkerState) (piece : List ℕ) (p : WholePrimitive) → CanPass w piece p → take p.octets piece ≡ take p.header piece ++ contents_at p piece
-whole_octets w piece p can = ap (λ (n : ℕ). take n piece) can.octets ∙ take-add p.header (announced p.fields.size) piece
+whole_octets w piece p can = ap (λ (n : ℕ). take n piece) can.octets ∙ take-add p.header (announced_length p.fields.size) piece
 
-contents_length : (w : WalkerState) (piece : List ℕ) (p : WholePrimitive) → CanPass w piece p → length (contents_at p piece) ≡ announced p.fields.size
+contents_length : (w : WalkerState) (piece : List ℕ) (p : WholePrimitive) → CanPass w piece p → length (contents_at p piece) ≡ announced_length p.fields.size
 contents_length w piece p can =
-    length-take-le (announced p.fields.size) (drop p.header piece) (omega (arith, can.octets, can.within, length-drop p.header piece))
+    length-take-le (announced_length p.fields.size) (drop p.header piece) (omega (arith, can.octets, can.within, length-drop p.header piece))
 
 contents_behind : (f : HeaderFields) (o c : List ℕ) → contents_in (header_with f o) (o ++ c) ≡ c
 contents_behind f o c = ap (λ (l : List ℕ). drop (length l) (o ++ c)) (take-append-drop f.id_len o) ∙ drop-append_seam o c
@@ -53,13 +53,13 @@ passed w p n = record w { offset = w.offset + p.octets; events = n; has_element 
 
 -- its header begins a primitive
 yields_header : (w : WalkerState) (piece : List ℕ) (p : WholePrimitive) → CanPass w piece p
-    → Continues w (after_header w (phase.InContents (announced p.fields.size)) (p.fields.offset + length (take p.header piece))) (take p.header piece) (Begin (header_at p piece) ∷ [])
+    → Continues w (after_header w (phase.InContents (announced_length p.fields.size)) (p.fields.offset + length (take p.header piece))) (take p.header piece) (Begin (header_at p piece) ∷ [])
 yields_header w piece p can =
     let f : HeaderFields = p.fields in
     let o : List ℕ = take p.header piece in
     let form : (f.constructed || is_wrapper f.named f.class f.constructed f.number f.size) ≡ false =
     ap₂ (λ (c n : Bool). c || is_wrapper n f.class c f.number f.size) can.primitive can.begins.begins.named in
-    let end : w.offset + p.octets ≡ f.offset + length o + announced f.size = omega (arith, can.begins.begins.offset, can.octets, length-take-le p.header piece can.begins.within) in
+    let end : w.offset + p.octets ≡ f.offset + length o + announced_length f.size = omega (arith, can.begins.begins.offset, can.octets, length-take-le p.header piece can.begins.within) in
     fast_enters w _ piece false f p.header o kind.Primitive can.phase can.begins refl (sym can.unnamed) (λ e. absurd (true≢false (sym e ∙ form)))
     (subst (Within (bound_of w.stack)) end can.fits) (form, refl)
 
@@ -69,9 +69,9 @@ yields_primitive w piece p n can =
     let f : HeaderFields = p.fields in
     let o : List ℕ = take p.header piece in
     let c : List ℕ = contents_at p piece in
-    let size : length c ≡ announced f.size = contents_length w piece p can in
+    let size : length c ≡ announced_length f.size = contents_length w piece p can in
     let at : ℕ = f.offset + length o in
-    let u : WalkerState = after_header w (phase.InContents (announced f.size)) at in
+    let u : WalkerState = after_header w (phase.InContents (announced_length f.size)) at in
     let v : Phase → ℕ → WalkerState = λ q k. record w { phase = q; offset = k; events = n; has_element = true } in
     let end : at + length c ≡ w.offset + p.octets = omega (arith, can.begins.begins.offset, can.octets, length-take-le p.header piece can.begins.within, size) in
     let both : Continues w (v phase.Between (at + length c)) (o ++ c) (Begin (header_at p piece) ∷ Bytes c ∷ End ∷ []) =

@@ -3,7 +3,7 @@ use Rattle.std.proofs.Common.{◌≡◌, ◌↔◌, ℕ, ◌+◌, Bool, true, fa
 use Rattle.std.proofs.lemmas.Bool.{true≢false}
 use Rattle.tlv_head.specs.declared.header.Size.{Size}
 use Rattle.tlv_head.specs.declared.header.Size.TheVariants.{Definite, Indefinite}
-use Rattle.tlv_head.specs.Header.{HeaderValue, announced, octets_of}
+use Rattle.tlv_head.specs.Header.{HeaderValue, announced_length, octets_of}
 use Rattle.tlv_walk.specs.declared.framing.Framing.{Framing}
 use Rattle.tlv_walk.specs.Ending.{tip}
 use Rattle.tlv_walk.specs.Forest.{Awaiting, Begun, Closed, Entered, Fill, Forest, Partial, Stop, Whole, Zero, contents_length, end_octets, extent, has_element, is_whole, opening, spell}
@@ -45,7 +45,7 @@ primitive_in ls here h c false = within ls (behind here (Partial h c))
 -- what a state has been read as
 abbrev pub reading_in : List Layer → Forest → Tail → Forest
 reading_in ls here Between = settled ls here
-reading_in ls here (InContents h c) = primitive_in ls here h c (eqb (length c) (announced h.size))
+reading_in ls here (InContents h c) = primitive_in ls here h c (eqb (length c) (announced_length h.size))
 reading_in ls here (BeforeUnused h) = within ls (behind here (Awaiting h))
 reading_in ls here (InHeader octets) = within ls (behind here (Begun octets))
 reading_in ls here InEnd = within ls (behind here Zero)

@@ -2,7 +2,7 @@
 use Rattle.std.proofs.Common.{◌≡◌, inl, inr, ℕ, ◌+◌, true, false, eqb, List, [], ◌∷◌, ◌++◌, length, refl, sym, ap, ◌∙◌, arith, append_assoc, append-nil, length-append, eq-eqb, ne_eqb}
 use Rattle.std.proofs.lemmas.Bool.{cases_eq}
 use Rattle.tlv_head.specs.declared.header.Size.TheVariants.{Definite}
-use Rattle.tlv_head.specs.Header.{HeaderValue, announced, octets_of}
+use Rattle.tlv_head.specs.Header.{HeaderValue, announced_length, octets_of}
 use Rattle.tlv_walk.specs.Stack.{Frame}
 use Rattle.tlv_walk.specs.declared.framing.Framing.{Framing}
 use Rattle.tlv_walk.specs.Phase.{Phase}
@@ -94,18 +94,18 @@ contents-whole p h c left i e =
 -- else it lacks contents octets
 contents-partial : (p : Place) (h : HeaderValue) (c : List ℕ) (left : ℕ) → IsContents p h c left → (left ≡ 0 → ⊥) → IsOpen p (Partial h c)
 contents-partial p h c left i n = (
-  record { header = i.header; depth = λ e. absurd (cc (e)); fits = within-le p.bound _ _ (omega (arith, ap announced i.size)) i.fits },
-  omega (arith, ap announced i.size),
+  record { header = i.header; depth = λ e. absurd (cc (e)); fits = within-le p.bound _ _ (omega (arith, ap announced_length i.size)) i.fits },
+  omega (arith, ap announced_length i.size),
 )
 
 -- the test of its length says which
-contents-all : (p : Place) (h : HeaderValue) (c : List ℕ) (left : ℕ) → IsContents p h c left → left ≡ 0 → eqb (length c) (announced h.size) ≡ true
-contents-all p h c left i e = let all : announced h.size ≡ length c + left = ap announced i.size in eq-eqb (length c) (announced h.size) (omega arith)
+contents-all : (p : Place) (h : HeaderValue) (c : List ℕ) (left : ℕ) → IsContents p h c left → left ≡ 0 → eqb (length c) (announced_length h.size) ≡ true
+contents-all p h c left i e = let all : announced_length h.size ≡ length c + left = ap announced_length i.size in eq-eqb (length c) (announced_length h.size) (omega arith)
 
-pub contents-less : (p : Place) (h : HeaderValue) (c : List ℕ) (left : ℕ) → IsContents p h c left → (left ≡ 0 → ⊥) → eqb (length c) (announced h.size) ≡ false
+pub contents-less : (p : Place) (h : HeaderValue) (c : List ℕ) (left : ℕ) → IsContents p h c left → (left ≡ 0 → ⊥) → eqb (length c) (announced_length h.size) ≡ false
 contents-less p h c left i n =
-    let all : announced h.size ≡ length c + left = ap announced i.size in
-    ne_eqb (length c) (announced h.size) (λ z. n (omega arith))
+    let all : announced_length h.size ≡ length c + left = ap announced_length i.size in
+    ne_eqb (length c) (announced_length h.size) (λ z. n (omega arith))
 
 -- ---- by what is open
 

@@ -2,7 +2,7 @@
 use Rattle.std.specs.Prelude.{◌≡◌, ◌≢◌, ◌⊎◌, ℕ, ◌+◌, ◌^◌, ◌<◌, ◌≤◌, true, false, ◌||◌, eqb, if◌then◌else◌, slice_get, List, [], ◌∷◌, length, take, Option, Some, None}
 use Rattle.tlv_head.specs.declared.fault.Fault.{Fault as FaultOf}
 use Rattle.tlv_head.specs.declared.fault.FaultCode.{FaultCode}
-use Rattle.tlv_head.specs.Header.{HeaderValue, IsHeader, announced, holds, is_wrapper, octets_of}
+use Rattle.tlv_head.specs.Header.{HeaderValue, IsHeader, announced_length, holds, is_wrapper, octets_of}
 use Rattle.tlv_head.specs.HeadReaderState.{HeadReaderState}
 use Rattle.tlv_head.specs.Fields.{header_with}
 use Rattle.tlv_head.specs.ReadHeader.{BeginsWithFields}
@@ -119,7 +119,7 @@ pub record CanEnter (w : WalkerState) (h : HeaderValue) : Type 0 where
   pub fewer : w.events + length w.stack ≤ h.offset
   pub limit : h.offset + length (octets_of h) ≤ 2 ^ 40
   pub shallow : holds h ≡ true → length w.stack < 128
-  pub fits : Within (bound_of w.stack) (h.offset + length (octets_of h) + announced h.size)
+  pub fits : Within (bound_of w.stack) (h.offset + length (octets_of h) + announced_length h.size)
 
 abbrev pub fault_at : FaultCode → ℕ → FaultOf
 fault_at code offset = record { code = code; offset = offset }
@@ -132,7 +132,7 @@ after_header w phase at = record w { phase = phase; offset = at; events = w.even
 abbrev pub Enters : WalkerState → WalkerState → HeaderFields → ℕ → Kind → Type 0
 Enters old new f at kind.Primitive =
     ((f.constructed || is_wrapper f.named f.class f.constructed f.number f.size) ≡ false)
-    × (new ≡ after_header old (InContents (announced f.size)) at)
+    × (new ≡ after_header old (InContents (announced_length f.size)) at)
 Enters old new f at kind.Constructed =
     (f.constructed ≡ true)
     × (new ≡ record (after_header old Between at) {
@@ -152,7 +152,7 @@ pub record CanPass (w : WalkerState) (piece : List ℕ) (p : WholePrimitive) : T
   pub unnamed : is_among w.offset w.framing.inside ≡ false
   pub begins : BeginsWithFields piece w.offset false p.fields p.header
   pub primitive : p.fields.constructed ≡ false
-  pub octets : p.octets ≡ p.header + announced p.fields.size
+  pub octets : p.octets ≡ p.header + announced_length p.fields.size
   pub within : p.octets ≤ length piece
   pub fits : Within (bound_of w.stack) (w.offset + p.octets)
 

@@ -1,7 +1,7 @@
 //! How a walker takes headers.
 ghost use Rattle.std.specs.Prelude.{◌≡◌, ◌≢◌, ℕ, ◌+◌, ◌^◌, ◌<◌, ◌≤◌, ◌∷◌, [], IsTrue, Some, length, true};
 ghost use Rattle.tlv_head.specs.Fields.{Suits, header_with};
-ghost use Rattle.tlv_head.specs.Header.{announced, holds, octets_of};
+ghost use Rattle.tlv_head.specs.Header.{announced_length, holds, octets_of};
 ghost use Rattle.tlv_head.specs.ReadHeader.{BeginsWithFields};
 ghost use Rattle.tlv_walk.specs.Phase as phases;
 ghost use Rattle.tlv_walk.specs.Inside.{is_among};
@@ -17,7 +17,7 @@ use crate::event::Kind;
 use crate::stack::room_to;
 use crate::{Event, Step};
 use std::mem::replace;
-use tlv_head::{Head, HeadReader, Header, HeaderFields, Size, read_header};
+use tlv_head::{Head, HeadReader, Header, HeaderFields, Size, read_header, universal};
 
 impl Walker {
     /// Begins a header: takes it at once, if it lies whole in the piece and may stand here, and else octet by octet.
@@ -158,7 +158,7 @@ impl Walker {
             return Kind::Constructed;
         }
         self.found_wrapper(fields.offset);
-        if fields.number == 3 {
+        if fields.number == universal::BIT_STRING {
             self.phase = Phase::BeforeUnused;
         }
         Kind::Wrapper
@@ -185,20 +185,15 @@ impl Walker {
     pub(super) fn may_stand(&self, fields: &HeaderFields, octets: &[u8]) -> bool
         requires place { fields.now.offset ≡ self.now.offset }
         requires limit { fields.now.offset + length octets.now ≤ 2 ^ 40 }
-        requires length { announced fields.now.size < 2 ^ 40 }
+        requires length { announced_length fields.now.size < 2 ^ 40 }
         ensures shallow { IsTrue result → holds (header_with fields.now octets.now) ≡ true
             → length self.now.stack < 128 }
         ensures fits { IsTrue result → Within (bound_of self.now.stack)
-            (fields.now.offset + length octets.now + announced fields.now.size) }
+            (fields.now.offset + length octets.now + announced_length fields.now.size) }
     {
         if self.stack.len() == 128 && (fields.constructed || fields.wraps()) {
             return false;
         }
-        let length = match fields.size {
-            Size::Definite(length) => length,
-            Size::Indefinite => 0,
-        };
-        self.stack
-            .reaches(self.offset + octets.len() as u64 + length)
+        self.stack.reaches(self.offset + octets.len() as u64 + fields.size.announced_length())
     }
 }
