@@ -77,11 +77,11 @@ pub(crate) fn note_element(frame: &mut Frame, is_primitive: bool, size: u64, is_
     frame.is_empty = is_primitive && size == 0;
 }
 
-/// A frame, and how many elements are open inside its element that have none.
+/// A frame, and its floor: how many elements hold what stands directly in its element.
 #[derive(Clone, Copy, Default)]
 pub(crate) struct Kept {
     pub frame: Frame,
-    pub plain: u8,
+    pub floor: u8,
 }
 
 /// The frames outside of the innermost one, at most 128.

@@ -19,27 +19,28 @@ pub(crate) struct Nesting {
     level: u8,
     /// The innermost frame that is kept, or that of the top.
     frame: Frame,
-    /// How many elements are open inside its element that have no frame.
-    plain: u8,
+    /// Its floor: how many elements hold what stands directly in its element. The `level - floor` elements that are
+    /// open inside of it have no frame.
+    floor: u8,
     outer: Frames,
 }
 
 impl Model for Nesting {
-    ghost use Rattle.std.specs.Prelude.{◌≡◌, ◌≤◌, length};
+    ghost use Rattle.std.specs.Prelude.{◌≤◌, ◌-◌};
     ghost use Rattle.tlv_show.specs.Private.Nesting.{AreKept, IsKept, NestingState, all_frames, innermost, outside};
 
     ghost Value = { NestingState };
 
     ghost view = { λ n. record {
-      frame = innermost n.frame n.plain;
-      outer = outside n.frame n.plain (all_frames n.outer);
+      frame = innermost n.frame (n.level - n.floor);
+      outer = outside n.frame (n.level - n.floor) (all_frames n.floor n.outer);
     } };
 
     ghost invariant = { λ n. record {
-      level : n.level ≡ length (outside n.frame n.plain (all_frames n.outer));
       few : n.level ≤ 128;
-      innermost : IsKept n.frame n.plain;
-      others : AreKept n.outer;
+      inside : n.floor ≤ n.level;
+      innermost : IsKept n.frame (n.level - n.floor);
+      others : AreKept n.floor n.outer;
     } };
 }
 
@@ -51,12 +52,13 @@ impl Nesting {
         Nesting {
             level: 0,
             frame: top(),
-            plain: 0,
+            floor: 0,
             outer: Frames::new(),
         }
     }
 
     /// How many elements are open that hold others.
+    #[tactic(auto, using(crate::proofs::FindingLemmas::KeptFrames::one_each))]
     #[inline(always)]
     pub fn level(&self) -> u8
         ensures { result ≡ length self.now.outer }
@@ -75,6 +77,7 @@ impl Nesting {
     }
 
     /// An element that holds others begins.
+    #[tactic(auto, using(crate::proofs::FindingLemmas::KeptFrames::one_each))]
     #[inline(always)]
     pub fn enter(&mut self, header: &Header)
         ensures { self.new ≡ nesting_inside self.old header.now }
@@ -88,13 +91,14 @@ impl Nesting {
         self.level += 1;
         self.outer.push(Kept {
             frame: self.frame,
-            plain: self.plain,
+            floor: self.floor,
         });
         self.frame = frame_of(header);
-        self.plain = 0;
+        self.floor = self.level;
     }
 
     /// An element that holds others begins, which is no string and is in none.
+    #[tactic(auto, using(crate::proofs::FindingLemmas::KeptFrames::one_each))]
     #[inline(always)]
     pub fn enter_plain(&mut self, header: &Header)
         requires { (self.old.frame.has_segments || has_segments header.now) ≡ false }
@@ -102,7 +106,6 @@ impl Nesting {
     {
         if self.level < 128 {
             self.level += 1;
-            self.plain += 1;
         }
     }
 
@@ -120,16 +123,17 @@ impl Nesting {
         ensures nest { self.new ≡ nesting_outside self.old }
         ensures segments { result ≡ segments_left self.old }
     {
+        if self.level > self.floor {
+            // It has no frame.
+            self.level -= 1;
+            return None;
+        }
         if self.level == 0 {
             return None;
         }
         self.level -= 1;
-        if self.plain > 0 {
-            self.plain -= 1;
-            return None;
-        }
         let closed = self.frame;
-        take_back(&mut self.frame, &mut self.plain, &mut self.outer);
+        take_back(&mut self.frame, &mut self.floor, &mut self.outer);
         if closed.has_segments {
             Some(closed)
         } else {
@@ -149,13 +153,13 @@ fn has_frame(frame: &Frame, header: &Header) -> bool
 /// An element that has a frame ends: the frame outside is the innermost one again, and says of the element what has
 /// to be known of it.
 #[inline(never)]
-fn take_back(frame: &mut Frame, plain: &mut u8, outer: &mut Frames)
-    ensures { TakesBack frame.old outer.old frame.new plain.new outer.new }
+fn take_back(frame: &mut Frame, floor: &mut u8, outer: &mut Frames)
+    ensures { TakesBack frame.old outer.old frame.new floor.new outer.new }
 {
     if let Some(kept) = outer.pop() {
         let closed = *frame;
         *frame = kept.frame;
-        *plain = kept.plain;
+        *floor = kept.floor;
         note_element(frame, closed.is_primitive, closed.size, false);
     }
 }

@@ -1,12 +1,14 @@
 -- The frames that are kept stand for all frames.
-use Rattle.std.proofs.Common.{zero, suc, ◌≡◌, ℕ, ◌+◌, ◌-◌, ◌<◌, ◌≤◌, ◌||◌, Bool, true, false, nat_lt, if◌then◌else◌, List, [], ◌∷◌, length, refl, sym, ap, ap₂, ◌∙◌, arith, add-one}
+use Rattle.std.proofs.Common.{zero, suc, ◌≡◌, ℕ, ◌+◌, ◌-◌, ◌<◌, ◌≤◌, ◌||◌, Bool, true, false, nat_lt, if◌then◌else◌, List, [], ◌∷◌, length, None, refl, sym, ap, ap₂, subst, ◌∙◌, arith}
 use Rattle.std.proofs.lemmas.Bool.Decides.{nat_tests}
 use Rattle.tlv_head.specs.Header.{HeaderValue}
 use Rattle.tlv_value.specs.Types.{has_segments}
 use Rattle.tlv_show.specs.declared.frames.Frame.{Frame}
 use Rattle.tlv_show.specs.declared.frames.Kept.{Kept}
-use Rattle.tlv_show.specs.FinderState.{frame_after, frame_after_segment, frame_of, frame_under, top_frame}
-use Rattle.tlv_show.specs.Private.Nesting.{IsKept, NestingState, all_frames, all_of, innermost, nesting_around, nesting_inside, nesting_outside, outside}
+use Rattle.tlv_show.specs.declared.rules.Rules.{Rules}
+use Rattle.tlv_show.specs.declared.rules.Rules.TheVariants.{Ber, Der, Cer}
+use Rattle.tlv_show.specs.FinderState.{frame_after, frame_after_segment, frame_of, frame_under, header_notes, top_frame}
+use Rattle.tlv_show.specs.Private.Nesting.{AreKept, IsKept, NestingState, TakesBack, all_frames, all_of, innermost, nesting_around, nesting_inside, nesting_outside, outside, segments_by, segments_left}
 
 -- ---- how many there are
 
@@ -18,60 +20,149 @@ pub length-outside : (w : Frame) (n : ℕ) (outer : List Frame) → length (outs
 length-outside w zero outer = omega arith
 length-outside w (suc n) outer = let e = length-all w n outer in omega (arith, e)
 
-pub fewer-kept : (outer : List Kept) → length outer ≤ length (all_frames outer)
-fewer-kept [] = omega arith
-fewer-kept (k ∷ outer) = let e = length-all k.frame k.plain (all_frames outer) in let r = fewer-kept outer in omega (arith, e, r)
+length-others : (floor : ℕ) (outer : List Kept) → AreKept floor outer → length (all_frames floor outer) ≡ floor
+length-others floor [] none = sym none
+length-others floor (k ∷ outer) (above, kept, others) =
+    let e = length-all k.frame (floor - 1 - k.floor) (all_frames k.floor outer) in
+    let r = length-others k.floor outer others in
+    omega (arith, e, r, above)
 
--- ---- an element begins
+-- the level is their number
+pub one_each : (w : Frame) (floor level : ℕ) (outer : List Kept) → floor ≤ level → AreKept floor outer
+    → length (outside w (level - floor) (all_frames floor outer)) ≡ level
+one_each w floor level outer inside others =
+    let e = length-outside w (level - floor) (all_frames floor outer) in
+    let r = length-others floor outer others in
+    omega (arith, e, r, inside)
+
+pub fewer-kept : (floor : ℕ) (outer : List Kept) → AreKept floor outer → length outer ≤ floor
+fewer-kept floor [] none = omega arith
+fewer-kept floor (k ∷ outer) (above, kept, others) = let r = fewer-kept k.floor outer others in omega (arith, r, above)
+
+-- ---- what contracts see of those that are kept
 
 abbrev nest : Frame → ℕ → List Frame → NestingState
 nest w n outer = record { frame = innermost w n; outer = outside w n outer }
+
+abbrev seen : Frame → ℕ → ℕ → List Kept → NestingState
+seen w floor level outer = nest w (level - floor) (all_frames floor outer)
 
 split : (w : Frame) (n : ℕ) (outer : List Frame) → all_of w n outer ≡ innermost w n ∷ outside w n outer
 split w zero outer = refl
 split w (suc n) outer = refl
 
+-- all frames outside of strings say the same of headers
+pub same-notes : (rules : Rules) (w : Frame) (n : ℕ) (h : HeaderValue) → IsKept w n
+    → header_notes rules w h ≡ header_notes rules (innermost w n) h
+same-notes Ber w n h kept = grind arith
+same-notes Der w n h kept = grind arith
+same-notes Cer w n h kept = grind arith
+
+-- ---- an element begins
+
+entered-is : (w : Frame) (n : ℕ) (outer : List Frame) (h : HeaderValue) → length (outside w n outer) < 128
+    → nesting_inside (nest w n outer) h
+    ≡ record { frame = frame_under (innermost w n) h; outer = innermost w n ∷ outside w n outer }
+entered-is w n outer h few =
+    let yes : nat_lt (length (outside w n outer)) 128 ≡ true = grind (arith, nat_tests) in
+    rw yes refl
+
 neither : (a b : Bool) → (a || b) ≡ false → (a ≡ false) × (b ≡ false)
 neither true b e = absurd (cc (e))
 neither false b e = (refl, e)
 
-pub counted : (w : Frame) (n : ℕ) (k : Bool) → (w.has_segments || k) ≡ false → IsKept w (n + 1)
-counted w n k e = rw add-one (sym (neither w.has_segments k e).0)
+entered-plain : (w : Frame) (n : ℕ) (outer : List Frame) (h : HeaderValue) → length (outside w n outer) < 128
+    → IsKept w n → (w.has_segments || has_segments h) ≡ false → nest w (suc n) outer ≡ nesting_inside (nest w n outer) h
+entered-plain w n outer h few kept none =
+    let e : w.has_segments ≡ false = (neither w.has_segments (has_segments h) none).0 in
+    let f : has_segments h ≡ false = (neither w.has_segments (has_segments h) none).1 in
+    ap₂ (λ (a b : Bool). record { frame = if a || b then frame_of h else top_frame; outer = all_of w n outer })
+    (sym (kept ∙ e)) (sym f)
+    ∙ ap (λ (l : List Frame). record { frame = frame_under (innermost w n) h; outer = l }) (split w n outer)
+    ∙ sym (entered-is w n outer h few)
 
-module _ (w : Frame) (n : ℕ) (outer : List Frame) (h : HeaderValue) (few : length (outside w n outer) < 128) where
-  entered-is : nesting_inside (nest w n outer) h ≡ record { frame = frame_under (innermost w n) h; outer = innermost w n ∷ outside w n outer }
-  entered-is =
-      let yes : nat_lt (length (outside w n outer)) 128 ≡ true = grind (arith, nat_tests) in
-      rw yes refl
+entered-frame : (w : Frame) (n : ℕ) (outer : List Frame) (h : HeaderValue) → length (outside w n outer) < 128
+    → IsKept w n → (w.has_segments || has_segments h) ≡ true
+    → nest (frame_of h) 0 (all_of w n outer) ≡ nesting_inside (nest w n outer) h
+entered-frame w n outer h few kept one =
+    ap₂ (λ (b : Bool) (l : List Frame). record { frame = if b then frame_of h else top_frame; outer = l })
+    (sym (ap (λ (b : Bool). b || has_segments h) kept ∙ one)) (split w n outer)
+    ∙ sym (entered-is w n outer h few)
 
-  pub entered-plain : IsKept w n → (w.has_segments || has_segments h) ≡ false → nest w (n + 1) outer ≡ nesting_inside (nest w n outer) h
-  entered-plain k none =
-      let e : w.has_segments ≡ false = (neither w.has_segments (has_segments h) none).0 in
-      let f : has_segments h ≡ false = (neither w.has_segments (has_segments h) none).1 in
-      ap (λ (m : ℕ). nest w m outer) (add-one n)
-      ∙ ap₂ (λ (a b : Bool). record { frame = if a || b then frame_of h else top_frame; outer = all_of w n outer }) (sym (k ∙ e)) (sym f)
-      ∙ ap (λ (l : List Frame). record { frame = frame_under (innermost w n) h; outer = l }) (split w n outer)
-      ∙ sym entered-is
+module _
+    (w : Frame) (floor level : ℕ) (outer : List Kept)
+    (inside : floor ≤ level) (kept : IsKept w (level - floor)) (others : AreKept floor outer)
+    (h : HeaderValue) (few : level < 128)
+  where
+    few-outside : length (outside w (level - floor) (all_frames floor outer)) < 128
+    few-outside = let e = one_each w floor level outer inside others in omega (arith, e)
+
+    pub enters-plain : (w.has_segments || has_segments h) ≡ false
+        → seen w floor (level + 1) outer ≡ nesting_inside (seen w floor level outer) h
+    enters-plain none =
+        let one_more : level + 1 - floor ≡ suc (level - floor) = omega arith in
+        rw one_more (entered-plain w (level - floor) (all_frames floor outer) h few-outside kept none)
+
+    pub enters-frame : (w.has_segments || has_segments h) ≡ true
+        → seen (frame_of h) (level + 1) (level + 1) (record { frame = w; floor = floor } ∷ outer)
+        ≡ nesting_inside (seen w floor level outer) h
+    enters-frame one =
+        let none_inside : level + 1 - (level + 1) ≡ 0 = omega arith in
+        let as_before : level + 1 - 1 ≡ level = omega arith in
+        rw (none_inside, as_before) (entered-frame w (level - floor) (all_frames floor outer) h few-outside kept one)
 
 -- ---- an element ends
 
-outside-strings : (w : Frame) (primitive : Bool) (size : ℕ) (unused : Bool) → w.has_segments ≡ false → frame_after w primitive size unused ≡ w
-outside-strings w primitive size unused e = ap (λ (k : Bool). if k then frame_after_segment w primitive size unused else w) e
+outside-strings : (w : Frame) (primitive : Bool) (size : ℕ) (unused : Bool) → w.has_segments ≡ false
+    → frame_after w primitive size unused ≡ w
+outside-strings w primitive size unused e =
+    ap (λ (k : Bool). if k then frame_after_segment w primitive size unused else w) e
 
 one-less : (w : Frame) (n : ℕ) → IsKept w (suc n) → (innermost w n).has_segments ≡ false
-one-less w zero k = sym k
-one-less w (suc n) k = refl
+one-less w zero kept = sym kept
+one-less w (suc n) kept = refl
 
--- of elements without a frame
-left-one : (w : Frame) (n : ℕ) (outer : List Frame) → IsKept w (suc n) → nest w n outer ≡ nesting_outside (nest w (suc n) outer)
-left-one w n outer k =
-    ap (λ (v : Frame). record { frame = v; outer = outside w n outer }) (sym (outside-strings (innermost w n) false 0 false (one-less w n k)))
+left-plain : (w : Frame) (n : ℕ) (outer : List Frame) → IsKept w (suc n)
+    → nest w n outer ≡ nesting_outside (nest w (suc n) outer)
+left-plain w n outer kept =
+    ap (λ (v : Frame). record { frame = v; outer = outside w n outer })
+    (sym (outside-strings (innermost w n) false 0 false (one-less w n kept)))
     ∙ ap (nesting_around top_frame) (sym (split w n outer))
 
-pub left-plain : (w : Frame) (n : ℕ) (outer : List Frame) → IsKept w n → 0 < n → nest w (n - 1) outer ≡ nesting_outside (nest w n outer)
-left-plain w zero outer k e = absurd (omega (arith, e))
-left-plain w (suc n) outer k e = ap (λ (m : ℕ). nest w m outer) (omega arith) ∙ left-one w n outer k
+left-frame : (closed w : Frame) (n : ℕ) (outer : List Frame) → IsKept w n
+    → nest (frame_after w closed.is_primitive closed.size false) n outer ≡ nesting_around closed (all_of w n outer)
+left-frame closed w zero outer kept = refl
+left-frame closed w (suc n) outer kept =
+    ap (λ (v : Frame). record { frame = top_frame; outer = all_of v n outer })
+    (outside-strings w closed.is_primitive closed.size false (sym kept))
 
-pub kept-plain : (w : Frame) (n : ℕ) → IsKept w n → 0 < n → IsKept w (n - 1)
-kept-plain w zero k e = absurd (omega (arith, e))
-kept-plain w (suc n) k e = ap (λ (m : ℕ). (innermost w m).has_segments) (omega arith) ∙ one-less w n k ∙ k
+left-top : (w : Frame) (outer : List Frame) → length outer ≡ 0
+    → (record { frame = w; outer = outer } ≡ nesting_around w outer) × (None ≡ segments_by w outer)
+left-top w [] none = (refl, refl)
+left-top w (v ∷ outer) none = absurd (omega arith)
+
+module _ (w : Frame) (floor level : ℕ) (outer : List Kept) where
+  pub leaves-plain : IsKept w (level - floor) → floor < level
+      → seen w floor (level - 1) outer ≡ nesting_outside (seen w floor level outer)
+  leaves-plain kept above =
+      let one_more : level - floor ≡ suc (level - 1 - floor) = omega arith in
+      let same : IsKept w (suc (level - 1 - floor)) = subst (IsKept w) one_more kept in
+      rw one_more (left-plain w (level - 1 - floor) (all_frames floor outer) same)
+
+  pub leaves-top : floor ≤ level → AreKept floor outer → level ≡ 0
+      → (seen w floor level outer ≡ nesting_outside (seen w floor level outer))
+      × (None ≡ segments_left (seen w floor level outer))
+  leaves-top inside others top =
+      left-top (innermost w (level - floor)) (outside w (level - floor) (all_frames floor outer))
+      (one_each w floor level outer inside others ∙ top)
+
+pub leaves-frame : (w : Frame) (floor level : ℕ) (outer : List Kept) → AreKept floor outer → floor ≡ level → 0 < level
+    → (v : Frame) (lower : ℕ) (rest : List Kept) → TakesBack w outer v lower rest
+    → seen v lower (level - 1) rest ≡ nesting_outside (seen w floor level outer)
+leaves-frame w floor level [] none at_floor any v lower rest back = absurd (omega arith)
+leaves-frame w floor level (k ∷ outer) (above, kept, others) at_floor any v lower rest back =
+    let none_inside : level - level ≡ 0 = omega arith in
+    let same : IsKept k.frame (level - 1 - k.floor) =
+    subst (λ (n : ℕ). IsKept k.frame (n - 1 - k.floor)) at_floor kept in
+    rw (back.frame, back.level, back.others, at_floor, none_inside)
+    (left-frame w k.frame (level - 1 - k.floor) (all_frames k.floor outer) same)

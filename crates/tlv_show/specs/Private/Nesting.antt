@@ -1,5 +1,5 @@
 -- The frames that are kept of the elements that are open, and all those that they stand for.
-use Rattle.std.specs.Prelude.{ℕ, zero, suc, ◌≡◌, ⊤, nat_lt, if◌then◌else◌, false, List, [], ◌∷◌, length, Option, Some, None}
+use Rattle.std.specs.Prelude.{ℕ, zero, suc, ◌≡◌, ◌-◌, ◌<◌, ⊤, nat_lt, if◌then◌else◌, false, List, [], ◌∷◌, length, Option, Some, None}
 use Rattle.tlv_head.specs.Header.{HeaderValue}
 use Rattle.tlv_show.specs.declared.frames.Frame.{Frame}
 use Rattle.tlv_show.specs.declared.frames.Kept.{Kept}
@@ -59,29 +59,32 @@ abbrev pub outside : Frame → ℕ → List Frame → List Frame
 outside w zero outer = outer
 outside w (suc plain) outer = all_of w plain outer
 
-abbrev pub all_frames : List Kept → List Frame
-all_frames [] = []
-all_frames (k ∷ outer) = all_of k.frame k.plain (all_frames outer)
+-- those outside of an element that has a frame, by its floor. It is itself at the level `floor - 1`; outside of it,
+-- from the floor of `k` on, elements without a frame are open
+abbrev pub all_frames : ℕ → List Kept → List Frame
+all_frames floor [] = []
+all_frames floor (k ∷ outer) = all_of k.frame (floor - 1 - k.floor) (all_frames k.floor outer)
 
 -- a string counts no elements without a frame
 abbrev pub IsKept : Frame → ℕ → Type 0
 IsKept w plain = (innermost w plain).has_segments ≡ w.has_segments
 
-abbrev pub AreKept : List Kept → Type 0
-AreKept [] = ⊤
-AreKept (k ∷ outer) = IsKept k.frame k.plain × AreKept outer
+-- each floor is above the one outside of it, and that of the top is 0
+abbrev pub AreKept : ℕ → List Kept → Type 0
+AreKept floor [] = floor ≡ 0
+AreKept floor (k ∷ outer) = (k.floor < floor) × IsKept k.frame (floor - 1 - k.floor) × AreKept k.floor outer
 
 -- the innermost of these, and what is kept after the end of the element inside it
 abbrev pub innermost_of : List Kept → Option Kept
 innermost_of [] = None
 innermost_of (k ∷ outer) = Some k
 
-pub record IsTakenBack (closed : Frame) (k : Kept) (outer : List Kept) (w : Frame) (plain : ℕ) (rest : List Kept)
+pub record IsTakenBack (closed : Frame) (k : Kept) (outer : List Kept) (w : Frame) (floor : ℕ) (rest : List Kept)
     : Type 0 where
   pub frame : w ≡ frame_after k.frame closed.is_primitive closed.size false
-  pub count : plain ≡ k.plain
+  pub level : floor ≡ k.floor
   pub others : rest ≡ outer
 
 abbrev pub TakesBack : Frame → List Kept → Frame → ℕ → List Kept → Type 0
-TakesBack closed [] w plain rest = ⊤
-TakesBack closed (k ∷ outer) w plain rest = IsTakenBack closed k outer w plain rest
+TakesBack closed [] w floor rest = ⊤
+TakesBack closed (k ∷ outer) w floor rest = IsTakenBack closed k outer w floor rest

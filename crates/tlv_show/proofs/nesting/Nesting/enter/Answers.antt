@@ -1,8 +1,14 @@
-use Rattle.std.proofs.Common.{arith}
-use Rattle.tlv_show.specs.Private.Nesting.{all_frames}
-use Rattle.tlv_show.proofs.FindingLemmas.KeptFrames.{fewer-kept, length-outside}
+use Rattle.std.proofs.Common.{◌∙◌, sym, arith}
+use Rattle.tlv_show.proofs.FindingLemmas.KeptFrames.{enters-frame, fewer-kept}
 use Rattle.tlv_show.proofs.nesting.Nesting.enter.Goals as goal
 
 pub push-requires : goal.push-requires
-push-requires c =
-    omega (arith, fewer-kept c.self.inside.outer, length-outside c.self.inside.frame c.self.inside.plain (all_frames c.self.inside.outer), c.self.invariant.level, c.self.invariant.few, c.if-self.false)
+push-requires c = omega (arith, fewer-kept c.self.inside.floor c.self.inside.outer c.self.invariant.others)
+
+pub returns : goal.returns
+returns c =
+    let n = c.self.inside in
+    let known = c.self.invariant in
+    rw (← c.self.view_is, c.frame_of-self-inside.ensures, c.push.ensures)
+    (enters-frame n.frame n.floor n.level n.outer known.inside known.innermost known.others c.args.header.now
+    (omega arith) (sym c.has_frame.ensures ∙ c.if-not-has_frame.false))

@@ -1,19 +1,29 @@
-use Rattle.std.proofs.Common.{◌-◌, arith}
-use Rattle.tlv_show.specs.Private.Nesting.{all_frames}
-use Rattle.tlv_show.proofs.FindingLemmas.KeptFrames.{kept-plain, left-plain, length-outside}
+use Rattle.std.proofs.Common.{arith}
+use Rattle.tlv_show.proofs.FindingLemmas.KeptFrames.{leaves-frame, leaves-plain, leaves-top}
 use Rattle.tlv_show.proofs.nesting.Nesting.leave.Goals as goal
 
-pub invariant_of-self : goal.invariant_of-self
-invariant_of-self c =
-    let all = all_frames c.self.inside.outer in
-    record {
-      level = omega (arith, length-outside c.self.inside.frame c.self.inside.plain all, length-outside c.self.inside.frame (c.self.inside.plain - 1) all, c.self.invariant.level, c.if-self-gt0.true);
-      few = omega (arith, c.self.invariant.few);
-      innermost = kept-plain c.self.inside.frame c.self.inside.plain c.self.invariant.innermost c.if-self-gt0.true;
-      others = c.self.invariant.others;
-    }
+pub returns-then-self-clause-nest : goal.returns-then-self-clause-nest
+returns-then-self-clause-nest c =
+    let n = c.self.inside in
+    rw (← c.self.view_is) (leaves-plain n.frame n.floor n.level n.outer c.self.invariant.innermost c.if-self.true)
 
-pub returns-then-self-gt0-clause-nest : goal.returns-then-self-gt0-clause-nest
-returns-then-self-gt0-clause-nest c =
+pub returns-then-self-eq0-clause-nest : goal.returns-then-self-eq0-clause-nest
+returns-then-self-eq0-clause-nest c =
+    let n = c.self.inside in
+    let known = c.self.invariant in
     rw (← c.self.view_is)
-    (left-plain c.self.inside.frame c.self.inside.plain (all_frames c.self.inside.outer) c.self.invariant.innermost c.if-self-gt0.true)
+    (leaves-top n.frame n.floor n.level n.outer known.inside known.others c.if-self-eq0.true).0
+
+pub returns-then-self-eq0-clause-segments : goal.returns-then-self-eq0-clause-segments
+returns-then-self-eq0-clause-segments c =
+    let n = c.self.inside in
+    let known = c.self.invariant in
+    rw (← c.self.view_is)
+    (leaves-top n.frame n.floor n.level n.outer known.inside known.others c.if-self-eq0.true).1
+
+pub returns-clause-nest : goal.returns-clause-nest
+returns-clause-nest c =
+    let n = c.self.inside in
+    rw (← c.self.view_is)
+    (leaves-frame n.frame n.floor n.level n.outer c.self.invariant.others (omega arith) (omega arith)
+    c.take_back.new.frame c.take_back.new.floor c.take_back.new.outer c.take_back.ensures)
