@@ -1,5 +1,6 @@
 pub mod Rows
 pub mod GrammarLemmas
 pub mod EventLemmas
+pub mod StackLemmas
 pub mod WalkerLemmas
 pub mod FollowerLemmas

@@ -64,8 +64,17 @@ impl Inside {
         }
     }
 
-    /// Whether the offset is one of them.
+    /// Whether the offset is one of them. Each header asks this, and mostly there are none.
+    #[inline(always)]
     pub(crate) fn contains(&self, offset: u64) -> bool
+        ensures { result ≡ is_among offset self.now }
+    {
+        !self.offsets.is_empty() && self.has_offset(offset)
+    }
+
+    /// The search for the offset, kept out of the functions that ask for it.
+    #[inline(never)]
+    fn has_offset(&self, offset: u64) -> bool
         ensures { result ≡ is_among offset self.now }
     {
         self.offsets.contains(&offset)

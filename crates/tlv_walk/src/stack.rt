@@ -1,38 +1,43 @@
 //! The open elements that hold others.
-ghost use Rattle.std.specs.Prelude.{◌≡◌, ◌-◌, ◌<◌, ◌≤◌, ◌↔◌, ◌∷◌, IsTrue, [], length, drop};
+ghost use Rattle.std.specs.Prelude.{◌≡◌, ◌≢◌, ◌-◌, ◌^◌, ◌<◌, ◌≤◌, ◌↔◌, ◌∷◌, IfSome, IsTrue, None, [], length, drop, true};
 ghost use Rattle.tlv_walk.specs.Stack.{IsFilled, IsInIndefinite, IsInWrapper, Within, bound_of};
 ghost use Rattle.tlv_walk.specs.Private.Stack.{frame_inside, left_to, wraps_of};
 
 use arrayvec::ArrayVec;
 use std::marker::Model;
 
-/// An open element that holds others.
-#[derive(Default, Drop)]
-struct Frame {
-    /// Where the innermost definite element ends that is this one or holds it.
-    bound: Option<u64>,
-    /// Whether its length is definite, so that it is itself that element.
-    is_definite: bool,
-    /// Whether it is a string that wraps encodings.
-    wrapper: bool,
+/// What holds the elements that come next.
+#[derive(Clone, Copy, Default)]
+enum Holder {
+    /// No element: the input itself.
+    #[default]
+    Input,
+    /// A constructed element of a definite length.
+    Definite,
+    /// A constructed element of the indefinite length.
+    Indefinite,
+    /// A string that wraps encodings. Its length is definite.
+    Wrapper,
 }
 
-impl Model for Frame {
-    ghost use Rattle.tlv_walk.specs.Stack.{Frame as Seen};
-
-    ghost Value = { Seen };
-
-    ghost use Rattle.tlv_walk.specs.Private.FrameFields.{HasEnd, frame_from};
-
-    ghost view = { frame_from };
-
-    ghost invariant = { HasEnd };
+/// The input, or an open element that holds others.
+#[derive(Clone, Copy, Default)]
+struct Frame {
+    /// Where the innermost definite element ends that is this one or holds it; `u64::MAX` if there is none.
+    bound: u64,
+    holder: Holder,
 }
 
 /// The open elements that hold others, at most 128.
+///
+/// Each event asks about the innermost one, and seldom about another. So its frame stands by itself, where a look at
+/// it is one load and one comparison.
 #[derive(Drop)]
 pub(crate) struct Stack {
-    frames: ArrayVec<Frame, 128>,
+    /// The innermost open element, or the input if none is open.
+    innermost: Frame,
+    /// What holds that, from the input on; nothing, if it is the input itself.
+    outer: ArrayVec<Frame, 128>,
 }
 
 impl Model for Stack {
@@ -41,9 +46,11 @@ impl Model for Stack {
 
     ghost Value = { List Seen };
 
-    ghost view = { λ s. reverse s.frames.items };
+    ghost use Rattle.tlv_walk.specs.Private.FrameFields.{AreHolders, frames_from};
 
-    ghost invariant = { λ s. length s.frames.items ≤ 128 };
+    ghost view = { λ s. frames_from s.innermost (reverse s.outer.items) };
+
+    ghost invariant = { λ s. AreHolders s.innermost (reverse s.outer.items) × (length s.outer.items ≤ 128) };
 }
 
 impl Stack {
@@ -51,7 +58,11 @@ impl Stack {
         ensures { result ≡ [] }
     {
         Stack {
-            frames: ArrayVec::new(),
+            innermost: Frame {
+                bound: u64::MAX,
+                holder: Holder::Input,
+            },
+            outer: ArrayVec::new(),
         }
     }
 
@@ -61,39 +72,51 @@ impl Stack {
         ensures value { result ≡ length self.now }
         ensures within { result ≤ 128 }
     {
-        self.frames.len() as u8
+        self.outer.len() as u8
     }
 
     #[inline(always)]
     pub fn is_empty(&self) -> bool
         ensures { IsTrue result ↔ (self.now ≡ []) }
     {
-        self.frames.is_empty()
+        self.outer.is_empty()
     }
 
     /// Opens an element inside the innermost one: where its contents end, if its length is definite, and whether it
-    /// is a string that wraps encodings.
+    /// is a string that wraps encodings, whose length is definite.
     #[inline(always)]
     pub fn push(&mut self, end: Option<u64>, wrapper: bool)
-        requires { length self.old < 128 }
+        requires few { length self.old < 128 }
+        requires end { IfSome end (λ e. e < 2 ^ 64 - 1) }
+        requires definite { wrapper ≡ true → end ≢ None }
         ensures { self.new ≡ frame_inside self.old end wrapper ∷ self.old }
     {
-        let is_definite = end.is_some();
-        let bound = if is_definite { end } else { self.bound() };
-        self.frames.push(Frame {
-            bound,
-            is_definite,
-            wrapper,
-        });
+        self.outer.push(self.innermost);
+        match end {
+            Some(end) => {
+                self.innermost.bound = end;
+                self.innermost.holder = if wrapper {
+                    Holder::Wrapper
+                } else {
+                    Holder::Definite
+                };
+            }
+            None => self.innermost.holder = Holder::Indefinite,
+        }
     }
 
     /// Closes the innermost element, and returns whether it wraps encodings.
+    #[inline(always)]
     pub fn pop(&mut self) -> Option<bool>
         ensures value { result ≡ wraps_of self.old }
         ensures rest { self.new ≡ drop 1 self.old }
     {
-        match self.frames.pop() {
-            Some(frame) => Some(frame.wrapper),
+        let wrapper = self.is_in_wrapper();
+        match self.outer.pop() {
+            Some(frame) => {
+                self.innermost = frame;
+                Some(wrapper)
+            }
             None => None,
         }
     }
@@ -103,10 +126,8 @@ impl Stack {
     pub fn is_filled(&self, offset: u64) -> bool
         ensures { IsTrue result ↔ IsFilled self.now offset }
     {
-        match self.frames.as_slice() {
-            [.., frame] => frame.is_definite && frame.bound == Some(offset),
-            [] => false,
-        }
+        self.innermost.bound == offset
+            && matches!(self.innermost.holder, Holder::Definite | Holder::Wrapper)
     }
 
     /// Whether the innermost element is a string that wraps encodings.
@@ -114,10 +135,7 @@ impl Stack {
     pub fn is_in_wrapper(&self) -> bool
         ensures { IsTrue result ↔ IsInWrapper self.now }
     {
-        match self.frames.as_slice() {
-            [.., frame] => frame.wrapper,
-            [] => false,
-        }
+        matches!(self.innermost.holder, Holder::Wrapper)
     }
 
     /// Whether the innermost element has the indefinite length.
@@ -125,10 +143,7 @@ impl Stack {
     pub fn is_in_indefinite(&self) -> bool
         ensures { IsTrue result ↔ IsInIndefinite self.now }
     {
-        match self.frames.as_slice() {
-            [.., frame] => !frame.is_definite,
-            [] => false,
-        }
+        matches!(self.innermost.holder, Holder::Indefinite)
     }
 
     /// Where the innermost definite element ends.
@@ -136,9 +151,10 @@ impl Stack {
     pub fn bound(&self) -> Option<u64>
         ensures { result ≡ bound_of self.now }
     {
-        match self.frames.as_slice() {
-            [.., frame] => frame.bound,
-            [] => None,
+        if self.innermost.bound == u64::MAX {
+            None
+        } else {
+            Some(self.innermost.bound)
         }
     }
 
@@ -148,10 +164,7 @@ impl Stack {
     pub fn reaches(&self, end: u64) -> bool
         ensures { IsTrue result ↔ Within (bound_of self.now) end }
     {
-        match self.bound() {
-            Some(bound) => end <= bound,
-            None => true,
-        }
+        end <= self.innermost.bound
     }
 
     /// How many octets there are from this offset to the bound.

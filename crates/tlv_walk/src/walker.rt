@@ -38,8 +38,9 @@ pub struct Walker {
     /// Of use in an unfinished header alone. It is large, so it is no part of the phase, which changes with each event.
     reader: HeadReader,
     offset: u64,
-    events: u64,
     framing: Framing,
+    /// Not beside the offset: LLVM would join the sums of the two into vector code, which is slower.
+    events: u64,
     /// Whether an octet of an element came, and not padding alone.
     has_element: bool,
     /// How many of the named offsets, from the first on, are those of wrappers.

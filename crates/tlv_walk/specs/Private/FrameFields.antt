@@ -1,12 +1,47 @@
--- What the fields of a `Frame` say.
-use Rattle.std.specs.Prelude.{◌≡◌, ◌≢◌, true, if◌then◌else◌, None}
+-- What the fields of a `Stack` and of its frames say.
+use Rattle.std.specs.Prelude.{◌≡◌, ◌≢◌, ℕ, ◌-◌, ◌^◌, Bool, true, false, eqb, if◌then◌else◌, List, [], ◌∷◌, Option, Some, None}
 use Rattle.tlv_walk.specs.Stack.{Frame}
-use Rattle.tlv_walk.specs.declared.stack.Frame.TheInside.{Inside}
+use Rattle.tlv_walk.specs.declared.stack.Frame.{Frame as Kept}
+use Rattle.tlv_walk.specs.declared.stack.Holder.{Holder}
+use Rattle.tlv_walk.specs.declared.stack.Holder.TheVariants.{Input, Definite, Indefinite, Wrapper}
 
--- a definite element is itself the innermost that is definite
-abbrev pub frame_from : Inside → Frame
-frame_from f = record { end = if f.is_definite then f.bound else None; bound = f.bound; wrapper = f.wrapper }
+-- the largest u64 stands for no bound
+abbrev pub bound_from : ℕ → Option ℕ
+bound_from n = if eqb n (2 ^ 64 - 1) then None else Some n
 
--- and so its end is known
-abbrev pub HasEnd : Inside → Type 0
-HasEnd f = f.is_definite ≡ true → f.bound ≢ None
+-- an element of a definite length is itself the innermost that is definite
+abbrev pub end_from : Holder → ℕ → Option ℕ
+end_from Input n = None
+end_from Definite n = bound_from n
+end_from Indefinite n = None
+end_from Wrapper n = bound_from n
+
+abbrev pub wraps_from : Holder → Bool
+wraps_from Input = false
+wraps_from Definite = false
+wraps_from Indefinite = false
+wraps_from Wrapper = true
+
+abbrev pub frame_from : Kept → Frame
+frame_from f = record { end = end_from f.holder f.bound; bound = bound_from f.bound; wrapper = wraps_from f.holder }
+
+-- the open elements, innermost first, by the innermost frame and those that hold it: all but the input
+abbrev pub frames_from : Kept → List Kept → List Frame
+frames_from innermost [] = []
+frames_from innermost (f ∷ fs) = frame_from innermost ∷ frames_from f fs
+
+-- the frame is the input's, which has no bound
+abbrev pub IsInput : Kept → Type 0
+IsInput f = (f.holder ≡ Input) × (f.bound ≡ 2 ^ 64 - 1)
+
+-- a frame of an element: where its contents end is known, if its length is definite
+abbrev pub HasEnd : Holder → ℕ → Type 0
+HasEnd Input n = ⊥
+HasEnd Definite n = n ≢ 2 ^ 64 - 1
+HasEnd Indefinite n = Unit {0}
+HasEnd Wrapper n = n ≢ 2 ^ 64 - 1
+
+-- the input holds all the elements
+abbrev pub AreHolders : Kept → List Kept → Type 0
+AreHolders innermost [] = IsInput innermost
+AreHolders innermost (f ∷ fs) = HasEnd innermost.holder innermost.bound × AreHolders f fs
