@@ -35,10 +35,10 @@ fn is_type_clear(number: u64, contents: &[u8]) -> bool
         universal::OBJECT_IDENTIFIER => !contents.is_empty() && are_arcs(contents),
         universal::RELATIVE_OID => are_arcs(contents),
         universal::UTF8_STRING => is_well_formed(contents),
-        universal::NUMERIC_STRING
-        | universal::PRINTABLE_STRING
-        | universal::IA5_STRING
-        | universal::VISIBLE_STRING => are_allowed(number, contents),
+        universal::NUMERIC_STRING => are_allowed(universal::NUMERIC_STRING, contents),
+        universal::PRINTABLE_STRING => are_allowed(universal::PRINTABLE_STRING, contents),
+        universal::IA5_STRING => are_allowed(universal::IA5_STRING, contents),
+        universal::VISIBLE_STRING => are_allowed(universal::VISIBLE_STRING, contents),
         universal::UTC_TIME => contents.len() > 64 || is_utc_clear(contents),
         universal::GENERALIZED_TIME => contents.len() > 64 || is_general_clear(contents),
         universal::UNIVERSAL_STRING => contents.len() % 4 == 0,
