@@ -1,5 +1,6 @@
 -- What a stack shows of its frames: the innermost one, and those that hold it.
 use Rattle.std.proofs.Common.{◌≡◌, ◌≢◌, ◌⊎◌, inl, inr, ◌↔◌, ℕ, suc, ◌-◌, ◌^◌, ◌≤◌, Bool, true, false, eqb, if◌then◌else◌, List, [], ◌∷◌, ◌++◌, length, reverse, Option, Some, None, refl, sym, ap, ap₂, ◌∙◌, subst, arith, eqb-true, ne_eqb}
+use Rattle.std.proofs.lemmas.Bool.{false_from_ne_true}
 use Rattle.std.proofs.lemmas.List.{reverse-append, length-reverse}
 use Rattle.tlv_walk.specs.declared.stack.Frame.{Frame as Kept}
 use Rattle.tlv_walk.specs.declared.stack.Holder.{Holder}
@@ -10,21 +11,25 @@ use Rattle.tlv_walk.specs.Private.FrameFields.{AreHolders, HasEnd, bound_from, e
 
 -- one frame more
 
-pub reverse-more : (xs : List Kept) (f : Kept) → reverse (xs ++ f ∷ []) ≡ f ∷ reverse xs
+reverse-more : (xs : List Kept) (f : Kept) → reverse (xs ++ f ∷ []) ≡ f ∷ reverse xs
 reverse-more xs f = reverse-append xs (f ∷ [])
 
-pub more_frames : (i f : Kept) (xs : List Kept) → frames_from i (reverse (xs ++ f ∷ [])) ≡ frame_from i ∷ frames_from f (reverse xs)
+more_frames : (i f : Kept) (xs : List Kept)
+    → frames_from i (reverse (xs ++ f ∷ [])) ≡ frame_from i ∷ frames_from f (reverse xs)
 more_frames i f xs = ap (frames_from i) (reverse-more xs f)
 
-pub more_holders : (i f : Kept) (xs : List Kept) → HasEnd i.holder i.bound → AreHolders f (reverse xs) → AreHolders i (reverse (xs ++ f ∷ []))
+pub more_holders : (i f : Kept) (xs : List Kept) → HasEnd i.holder i.bound → AreHolders f (reverse xs)
+    → AreHolders i (reverse (xs ++ f ∷ []))
 more_holders i f xs e h = subst (AreHolders i) (sym (reverse-more xs f)) (e, h)
 
 length-frames_in : (i : Kept) (fs : List Kept) → length (frames_from i fs) ≡ length fs
 length-frames_in i [] = refl
 length-frames_in i (f ∷ fs) = ap suc (length-frames_in f fs)
 
-pub length-frames : (i : Kept) (xs : List Kept) → length (frames_from i (reverse xs)) ≡ length xs
-length-frames i xs = length-frames_in i (reverse xs) ∙ length-reverse xs
+pub length-frames : (i : Kept) (xs : List Kept) (now : List Frame) → frames_from i (reverse xs) ≡ now
+    → length now ≡ length xs
+length-frames i xs now shown =
+    sym (ap length shown) ∙ length-frames_in i (reverse xs) ∙ length-reverse xs
 
 -- the bound
 
@@ -34,11 +39,16 @@ no_bound n e = ap bound_from e
 pub some_bound : (n : ℕ) → n ≢ 2 ^ 64 - 1 → bound_from n ≡ Some n
 some_bound n e = rw (ne_eqb n (2 ^ 64 - 1) e) refl
 
-pub bound-frames : (i : Kept) (fs : List Kept) → AreHolders i fs → bound_of (frames_from i fs) ≡ bound_from i.bound
-bound-frames i [] h = sym (no_bound i.bound h.1)
-bound-frames i (f ∷ fs) h = refl
+bound-frames_in : (i : Kept) (fs : List Kept) → AreHolders i fs → bound_of (frames_from i fs) ≡ bound_from i.bound
+bound-frames_in i [] h = sym (no_bound i.bound h.1)
+bound-frames_in i (f ∷ fs) h = refl
 
-within_at : (n end : ℕ) (b : Bool) → eqb n (2 ^ 64 - 1) ≡ b → end ≤ 2 ^ 64 - 1 → (end ≤ n) ↔ Within (if b then None else Some n) end
+pub bound-frames : (i : Kept) (fs : List Kept) (now : List Frame) → AreHolders i fs → frames_from i fs ≡ now
+    → bound_of now ≡ bound_from i.bound
+bound-frames i fs now h shown = sym (ap bound_of shown) ∙ bound-frames_in i fs h
+
+within_at : (n end : ℕ) (b : Bool) → eqb n (2 ^ 64 - 1) ≡ b → end ≤ 2 ^ 64 - 1
+    → (end ≤ n) ↔ Within (if b then None else Some n) end
 within_at n end true e most = ((λ h. tt), (λ h. omega (arith, eqb-true n (2 ^ 64 - 1) e)))
 within_at n end false e most = ((λ h. h), (λ h. h))
 
@@ -53,7 +63,8 @@ wraps_alone Definite e = absurd (cc)
 wraps_alone Indefinite e = absurd (cc)
 wraps_alone Wrapper e = refl
 
-pub in_wrapper : (i : Kept) (fs : List Kept) → AreHolders i fs → IsInWrapper (frames_from i fs) ↔ (i.holder ≡ Wrapper)
+pub in_wrapper : (i : Kept) (fs : List Kept) → AreHolders i fs
+    → IsInWrapper (frames_from i fs) ↔ (i.holder ≡ Wrapper)
 in_wrapper i [] h = ((λ x. absurd x), (λ e. let is_input = h.0 in absurd (cc)))
 in_wrapper i (f ∷ fs) h = (wraps_alone i.holder, λ e. ap wraps_from e)
 
@@ -63,11 +74,13 @@ endless_alone Definite n h e = absurd (cc (some_bound n h))
 endless_alone Indefinite n h e = refl
 endless_alone Wrapper n h e = absurd (cc (some_bound n h))
 
-pub in_indefinite : (i : Kept) (fs : List Kept) → AreHolders i fs → IsInIndefinite (frames_from i fs) ↔ (i.holder ≡ Indefinite)
+pub in_indefinite : (i : Kept) (fs : List Kept) → AreHolders i fs
+    → IsInIndefinite (frames_from i fs) ↔ (i.holder ≡ Indefinite)
 in_indefinite i [] h = ((λ x. absurd x), (λ e. let is_input = h.0 in absurd (cc)))
 in_indefinite i (f ∷ fs) h = (endless_alone i.holder i.bound h.0, λ e. ap (λ (k : Holder). end_from k i.bound) e)
 
-end_alone : (h : Holder) (n at : ℕ) → HasEnd h n → end_from h n ≡ Some at → (n ≡ at) × ((h ≡ Definite) ⊎ (h ≡ Wrapper))
+end_alone : (h : Holder) (n at : ℕ) → HasEnd h n → end_from h n ≡ Some at
+    → (n ≡ at) × ((h ≡ Definite) ⊎ (h ≡ Wrapper))
 end_alone Input n at h e = absurd h
 end_alone Definite n at h e = let s = some_bound n h in (cc, inl refl)
 end_alone Indefinite n at h e = absurd (cc)
@@ -91,10 +104,13 @@ is_filled i (f ∷ fs) at h = (end_alone i.holder i.bound at h.0, λ k. ends_the
 
 -- an element of the indefinite length is opened inside the innermost one
 
-pub more_indefinite : (i : Kept) (xs : List Kept) (now : List Frame) → AreHolders i (reverse xs) → frames_from i (reverse xs) ≡ now
-    → frames_from (record { bound = i.bound; holder = Indefinite }) (reverse (xs ++ i ∷ [])) ≡ frame_inside now None false ∷ now
-more_indefinite i xs now h shown =
+pub more_indefinite : (i : Kept) (xs : List Kept) (now : List Frame) (end : Option ℕ) (wrapper : Bool)
+    → AreHolders i (reverse xs) → frames_from i (reverse xs) ≡ now → end ≡ None → (wrapper ≡ true → end ≢ None)
+    → frames_from (record { bound = i.bound; holder = Indefinite }) (reverse (xs ++ i ∷ []))
+    ≡ frame_inside now end wrapper ∷ now
+more_indefinite i xs now end wrapper h shown e definite =
+    let plain : false ≡ wrapper = sym (false_from_ne_true wrapper (λ w. definite w e)) in
+    let bound : bound_from i.bound ≡ bound_of now = sym (bound-frames i (reverse xs) now h shown) in
     more_frames _ i xs
-    ∙ ap₂ (λ (f : Frame) (fs : List Frame). f ∷ fs)
-    (ap (λ (b : Option ℕ). record { end = None; bound = b; wrapper = false }) (sym (bound-frames i (reverse xs) h) ∙ ap bound_of shown))
-    shown
+    ∙ ap₂ (λ (b : Option ℕ) (fs : List Frame). record { end = None; bound = b; wrapper = false } ∷ fs) bound shown
+    ∙ ap₂ (λ (n : Option ℕ) (w : Bool). frame_inside now n w ∷ now) (sym e) plain

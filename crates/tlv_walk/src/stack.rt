@@ -83,7 +83,8 @@ impl Stack {
     }
 
     /// Opens an element inside the innermost one: where its contents end, if its length is definite, and whether it
-    /// is a string that wraps encodings, whose length is definite.
+    /// is a string that wraps encodings. Such a string has a definite length, and `u64::MAX` is no end, since it
+    /// stands for no bound.
     #[inline(always)]
     pub fn push(&mut self, end: Option<u64>, wrapper: bool)
         requires few { length self.old < 128 }

@@ -9,13 +9,14 @@ use Rattle.tlv_walk.specs.declared.stack.Holder.TheVariants.{Input, Definite, In
 abbrev pub bound_from : ℕ → Option ℕ
 bound_from n = if eqb n (2 ^ 64 - 1) then None else Some n
 
--- an element of a definite length is itself the innermost that is definite
+-- where the contents end, if the length is definite: such an element is itself the innermost that is definite
 abbrev pub end_from : Holder → ℕ → Option ℕ
 end_from Input n = None
 end_from Definite n = bound_from n
 end_from Indefinite n = None
 end_from Wrapper n = bound_from n
 
+-- it is a string that wraps encodings
 abbrev pub wraps_from : Holder → Bool
 wraps_from Input = false
 wraps_from Definite = false
@@ -25,23 +26,24 @@ wraps_from Wrapper = true
 abbrev pub frame_from : Kept → Frame
 frame_from f = record { end = end_from f.holder f.bound; bound = bound_from f.bound; wrapper = wraps_from f.holder }
 
--- the open elements, innermost first, by the innermost frame and those that hold it: all but the input
+-- the open elements, innermost first, of the innermost frame and those that hold it: all but the last, which is the
+-- input
 abbrev pub frames_from : Kept → List Kept → List Frame
 frames_from innermost [] = []
 frames_from innermost (f ∷ fs) = frame_from innermost ∷ frames_from f fs
 
--- the frame is the input's, which has no bound
+-- the input has no bound
 abbrev pub IsInput : Kept → Type 0
 IsInput f = (f.holder ≡ Input) × (f.bound ≡ 2 ^ 64 - 1)
 
--- a frame of an element: where its contents end is known, if its length is definite
+-- an element, whose end is known if its length is definite
 abbrev pub HasEnd : Holder → ℕ → Type 0
 HasEnd Input n = ⊥
 HasEnd Definite n = n ≢ 2 ^ 64 - 1
 HasEnd Indefinite n = Unit {0}
 HasEnd Wrapper n = n ≢ 2 ^ 64 - 1
 
--- the input holds all the elements
+-- the input holds all the others, which are elements
 abbrev pub AreHolders : Kept → List Kept → Type 0
 AreHolders innermost [] = IsInput innermost
 AreHolders innermost (f ∷ fs) = HasEnd innermost.holder innermost.bound × AreHolders f fs

@@ -1,7 +1,7 @@
-use Rattle.std.proofs.Common.{length, sym, ap, ◌∙◌}
+use Rattle.std.proofs.Common.{sym, ◌∙◌}
 use Rattle.tlv_walk.proofs.StackLemmas.{length-frames}
 use Rattle.tlv_walk.proofs.stack.Stack.len.Goals as goal
 
 pub returns-clause-value : goal.returns-clause-value
 returns-clause-value c =
-    c.len.ensures.value ∙ sym (length-frames c.self.inside.innermost c.self.inside.outer.items) ∙ ap length c.self.view_is
+    c.len.ensures.value ∙ sym (length-frames c.self.inside.innermost c.self.inside.outer.items _ c.self.view_is)
