@@ -79,6 +79,7 @@ impl Follow for Indef {
         octets: &[u8],
         out: &mut Out<'_, D>,
     ) -> Result<Go, WriteFault> {
+        // The octets of `spell_indefinite`, but in two puts, so that no array is filled and copied.
         out.put(&octets[..usize::from(fields.id_len)])?;
         out.put(&[0x80])?;
         Ok(Go::On)
