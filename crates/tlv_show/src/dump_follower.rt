@@ -1,10 +1,12 @@
 //! The follower that writes a dump.
-ghost use Rattle.std.specs.Prelude.{◌≡◌, OnOk, refl};
+ghost use Rattle.std.specs.Prelude.{◌≡◌, ◌≤◌, OnOk, length, refl};
 ghost use Rattle.tlv_walk.proofs.FollowerLemmas.Followed.{each_octet-goes_on, each_octet-joins};
-ghost use Rattle.tlv_walk.specs.Events.{Begin, Bytes, Close, End, Enter, Open};
+ghost use Rattle.tlv_walk.specs.Events.{Begin, Bytes, Close, End, Enter};
 ghost use Rattle.tlv_io.specs.Out.{Puts};
 ghost use Rattle.tlv_walk.specs.HasRead.{event_value};
-ghost use Rattle.tlv_show.specs.DumpStep.{dump_octet_step, dump_padding_step, dump_step, new_dump};
+ghost use Rattle.tlv_show.specs.DumpStep.{dump_octet_step, dump_padding_step, dump_step, findings_first, new_dump};
+ghost use Rattle.tlv_show.specs.FinderState.{find_open};
+ghost use Rattle.tlv_show.specs.LinesStep.{lines_open_step};
 ghost use Rattle.tlv_show.specs.DumpJob.{top_layout};
 
 use crate::Options;
@@ -111,7 +113,7 @@ impl Dump<'_> {
         ensures puts { Puts D.state out.old out.new (dump_step self.old (event_value event.now)).put result }
     {
         match event {
-            Event::Open(header) => self.open(header, out),
+            Event::Open(header) => self.open(header, b" {", out),
             Event::Enter(header) => self.open_wrapper(header, out),
             Event::Begin(header) => self.begin(header, out),
             Event::Bytes(octets) => self.bytes(octets, out),
@@ -126,16 +128,24 @@ impl Dump<'_> {
         }
     }
 
-    /// A constructed element begins.
+    /// An element that holds others begins: its line ends with this word.
     #[inline(always)]
-    fn open<D: Drain>(&mut self, header: &Header, out: &mut Out<'_, D>) -> Result<(), WriteFault>
-        ensures state { OnOk result (self.new ≡ (dump_step self.old (Open header.now)).state) }
-        ensures puts { Puts D.state out.old out.new (dump_step self.old (Open header.now)).put result }
+    fn open<D: Drain>(
+        &mut self,
+        header: &Header,
+        word: &[u8],
+        out: &mut Out<'_, D>,
+    ) -> Result<(), WriteFault>
+        requires { length word.now ≤ 16 }
+        ensures state { OnOk result (self.new ≡ (findings_first self.old (find_open self.old.finder header.now)
+            (lines_open_step self.old.lines header.now word.now)).state) }
+        ensures puts { Puts D.state out.old out.new (findings_first self.old (find_open self.old.finder header.now)
+            (lines_open_step self.old.lines header.now word.now)).put result }
     {
         let has_findings = self.finder.open(header);
         let style = self.lines.style();
         put_findings(has_findings, style, &self.finder, out)?;
-        self.lines.open(header, b" {", out)
+        self.lines.open(header, word, out)
     }
 
     /// A string that wraps encodings begins. Such strings are few, so this stands apart.
@@ -148,10 +158,7 @@ impl Dump<'_> {
         ensures state { OnOk result (self.new ≡ (dump_step self.old (Enter header.now)).state) }
         ensures puts { Puts D.state out.old out.new (dump_step self.old (Enter header.now)).put result }
     {
-        let has_findings = self.finder.open(header);
-        let style = self.lines.style();
-        put_findings(has_findings, style, &self.finder, out)?;
-        self.lines.open(header, b" wraps {", out)
+        self.open(header, b" wraps {", out)
     }
 
     /// A primitive begins of which not all octets are at hand, or with which something is found.
