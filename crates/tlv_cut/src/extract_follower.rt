@@ -71,7 +71,8 @@ impl Extract {
         out: &mut Out<'_, D>,
     ) -> Result<Go, WriteFault>
         ensures state { HasEffect (begin_step_at self.old offset octets.now) self.new result }
-        ensures puts { Puts D.state out.old out.new (begin_step_at self.old offset octets.now).put result }
+        ensures puts { Puts D.state out.old out.new
+            (begin_step_at self.old offset octets.now).put result }
     {
         match self.position {
             Position::Before if offset == self.offset => {

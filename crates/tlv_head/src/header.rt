@@ -108,7 +108,8 @@ impl HeaderFields {
     /// [`Header::wraps`], of the header with these fields.
     pub fn wraps(&self) -> bool
         ensures { result
-            ≡ is_wrapper_of self.now.named self.now.class self.now.constructed self.now.number self.now.size }
+            ≡ is_wrapper_of self.now.named self.now.class self.now.constructed
+            self.now.number self.now.size }
     {
         is_wrapper(
             self.named,

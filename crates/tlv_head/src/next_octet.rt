@@ -142,7 +142,8 @@ pub(crate) fn next_number(identifier: Identifier, octet: u8) -> Next
 
 /// The first length octet (8.1.3.4 to 8.1.3.6).
 fn first_length(identifier: Identifier, octet: u8) -> Next
-    ensures { (octets : List ℕ) → CarriesIdentifier identifier octets → MakesNext octets octet result }
+    ensures { (octets : List ℕ) → CarriesIdentifier identifier octets
+        → MakesNext octets octet result }
 {
     if octet < 0x80 {
         Next::Finished(identifier, Size::Definite(u64::from(octet)))
@@ -165,7 +166,8 @@ fn first_length(identifier: Identifier, octet: u8) -> Next
 /// it so, whatever follows.
 fn next_length(identifier: Identifier, length: u64, left: u8, octet: u8) -> Next
     requires { (octets : List ℕ) × CarriesLength identifier length left octets }
-    ensures { (octets : List ℕ) → CarriesLength identifier length left octets → MakesNext octets octet result }
+    ensures { (octets : List ℕ) → CarriesLength identifier length left octets
+        → MakesNext octets octet result }
 {
     let left = left - 1;
     if octet != 0 && left >= 5 {

@@ -81,7 +81,8 @@ impl HeadReader {
         ensures pushes { Pushes self.old octet room depth self.new result }
 
         // Nothing else is returned for the octet that completes a header that may stand there.
-        ensures whole { (h : HeaderValue) → Completes self.old octet h → room ≢ Some 0 → FitsThere h room depth
+        ensures whole { (h : HeaderValue) → Completes self.old octet h → room ≢ Some 0
+            → FitsThere h room depth
             → result ≡ Head.Whole h }
     {
         let offset = self.offset + self.raw.len() as u64;

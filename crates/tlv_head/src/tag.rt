@@ -22,7 +22,8 @@ pub fn type_name(number: u64) -> Option<&'static [u8]>
 /// `None` if the number is not that of a type.
 #[inline(always)]
 pub fn padded_name(number: u64) -> Option<(&'static [u8; 32], usize)>
-    ensures name { option_map (λ padded. take padded.1 padded.0.now) result ≡ lookup (eqb number) universal_names }
+    ensures name { option_map (λ padded. take padded.1 padded.0.now) result
+        ≡ lookup (eqb number) universal_names }
     ensures short { IfSome result (λ padded. padded.1 ≤ 17) }
 {
     Some(match number {

@@ -59,7 +59,8 @@ impl Source for MemSource<'_> {
         requires { 0 < length to.old }
 
         // What each source promises.
-        ensures reads { ReadsOnce (source_state_of self.old) (source_state_of self.new) result to.new }
+        ensures reads { ReadsOnce (source_state_of self.old)
+            (source_state_of self.new) result to.new }
 
         // How many octets it gives, and which read fails.
         ensures count { IfOk result (λ n. n ≡ read_count self.old (length to.old)) }
@@ -140,7 +141,8 @@ impl Drain for MemDrain<'_> {
         requires { 0 < length from.now }
 
         // What each drain promises.
-        ensures writes { WritesOnce (drain_state_of self.old) (drain_state_of self.new) result from.now }
+        ensures writes { WritesOnce (drain_state_of self.old)
+            (drain_state_of self.new) result from.now }
 
         // How many octets it takes, and when it fails.
         ensures count { IfOk result (λ n. n ≡ write_count self.old (length from.now)) }
@@ -148,7 +150,8 @@ impl Drain for MemDrain<'_> {
 
         // What stays: the limit, the room, and what is after the octets taken.
         ensures most { write_limit self.new ≡ write_limit self.old }
-        ensures same_reference { (drain_room self.new).ghost_name ≡ (drain_room self.old).ghost_name }
+        ensures same_reference { (drain_room self.new).ghost_name
+            ≡ (drain_room self.old).ghost_name }
         ensures size { length (drain_room self.new).now ≡ length (drain_room self.old).now }
         ensures rest { let used = length (octets_taken self.new) in
             drop used (drain_room self.new).now ≡ drop used (drain_room self.old).now }

@@ -51,7 +51,8 @@ pub struct WriteDrain<W> {
 impl<W: Write + Drop> WriteDrain<W> {
     /// A drain that writes after what `writer` holds.
     pub fn new(writer: W) -> WriteDrain<W>
-        ensures { ⟦<WriteDrain<W> as Drain>⟧.state result ≡ record { octets = W.contents writer; failures = 0 } }
+        ensures { ⟦<WriteDrain<W> as Drain>⟧.state result
+            ≡ record { octets = W.contents writer; failures = 0 } }
     {
         WriteDrain {
             writer,

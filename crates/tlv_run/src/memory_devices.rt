@@ -44,7 +44,8 @@ pub(crate) struct FailingSource<'a> {
 impl<'a> FailingSource<'a> {
     /// A source that gives the octets, in pieces of at most `cuts`, and then fails.
     pub(crate) fn new(octets: &'a [u8], cuts: &'a [u64]) -> FailingSource<'a>
-        ensures { failing_source_state result.source result.failures ≡ new_source (Some octets.now) }
+        ensures { failing_source_state result.source result.failures
+            ≡ new_source (Some octets.now) }
     {
         FailingSource {
             source: MemSource::new(octets, cuts, None),
@@ -77,7 +78,8 @@ pub(crate) struct Room<const N: usize> {
 
 impl<const N: usize> Room<N> {
     pub(crate) fn new() -> Room<N>
-        ensures { room_state N result.octets.items result.failures ≡ record { octets = Some []; failures = 0 } }
+        ensures { room_state N result.octets.items result.failures
+            ≡ record { octets = Some []; failures = 0 } }
     {
         Room {
             octets: ArrayVec::new(),

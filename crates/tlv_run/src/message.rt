@@ -11,7 +11,8 @@ use tlv_walk::{Drain, Out, WriteFault};
 /// changes no status.
 pub fn tell<D: Drain>(report: &Report, drain: &mut D) -> u8
     ensures status { result ≡ report.now.status }
-    ensures writes { WritesMessage (message_line report.now.message.items) (D.state drain.old) (D.state drain.new) }
+    ensures writes { WritesMessage (message_line report.now.message.items) (D.state drain.old)
+        (D.state drain.new) }
 {
     let line = whole_line(report.message.as_slice());
     let _ = send(line.as_slice(), drain);

@@ -19,7 +19,8 @@ pub fn run<S: Source, D: Drain>(
     source: &mut S,
     drain: &mut D,
 ) -> Report
-    ensures { RunsAndReports (command_job command.now names.now) (S.state source.old) (S.state source.new)
+    ensures { RunsAndReports (command_job command.now names.now)
+        (S.state source.old) (S.state source.new)
         (D.state drain.old) (D.state drain.new) (report_value result) }
 {
     match command {

@@ -109,8 +109,10 @@ impl Dump<'_> {
         event: &Event<'_>,
         out: &mut Out<'_, D>,
     ) -> Result<(), WriteFault>
-        ensures state { OnOk result (self.new ≡ (dump_step self.old (event_value event.now)).state) }
-        ensures puts { Puts D.state out.old out.new (dump_step self.old (event_value event.now)).put result }
+        ensures state { OnOk result
+            (self.new ≡ (dump_step self.old (event_value event.now)).state) }
+        ensures puts { Puts D.state out.old out.new
+            (dump_step self.old (event_value event.now)).put result }
     {
         match event {
             Event::Open(header) => self.open(header, b" {", out),
@@ -137,9 +139,11 @@ impl Dump<'_> {
         out: &mut Out<'_, D>,
     ) -> Result<(), WriteFault>
         requires { length word.now ≤ 16 }
-        ensures state { OnOk result (self.new ≡ (findings_first self.old (find_open self.old.finder header.now)
+        ensures state { OnOk result
+            (self.new ≡ (findings_first self.old (find_open self.old.finder header.now)
             (lines_open_step self.old.lines header.now word.now)).state) }
-        ensures puts { Puts D.state out.old out.new (findings_first self.old (find_open self.old.finder header.now)
+        ensures puts { Puts D.state out.old out.new
+            (findings_first self.old (find_open self.old.finder header.now)
             (lines_open_step self.old.lines header.now word.now)).put result }
     {
         let has_findings = self.finder.open(header);
@@ -156,7 +160,8 @@ impl Dump<'_> {
         out: &mut Out<'_, D>,
     ) -> Result<(), WriteFault>
         ensures state { OnOk result (self.new ≡ (dump_step self.old (Enter header.now)).state) }
-        ensures puts { Puts D.state out.old out.new (dump_step self.old (Enter header.now)).put result }
+        ensures puts { Puts D.state out.old out.new
+            (dump_step self.old (Enter header.now)).put result }
     {
         self.open(header, b" wraps {", out)
     }
@@ -165,7 +170,8 @@ impl Dump<'_> {
     #[inline(never)]
     fn begin<D: Drain>(&mut self, header: &Header, out: &mut Out<'_, D>) -> Result<(), WriteFault>
         ensures state { OnOk result (self.new ≡ (dump_step self.old (Begin header.now)).state) }
-        ensures puts { Puts D.state out.old out.new (dump_step self.old (Begin header.now)).put result }
+        ensures puts { Puts D.state out.old out.new
+            (dump_step self.old (Begin header.now)).put result }
     {
         let has_findings = self.finder.begin(header);
         let style = self.lines.style();
@@ -177,7 +183,8 @@ impl Dump<'_> {
     #[inline]
     fn bytes<D: Drain>(&mut self, octets: &[u8], out: &mut Out<'_, D>) -> Result<(), WriteFault>
         ensures state { OnOk result (self.new ≡ (dump_step self.old (Bytes octets.now)).state) }
-        ensures puts { Puts D.state out.old out.new (dump_step self.old (Bytes octets.now)).put result }
+        ensures puts { Puts D.state out.old out.new
+            (dump_step self.old (Bytes octets.now)).put result }
     {
         self.finder.bytes(octets);
         self.lines.bytes(octets, out)

@@ -133,7 +133,8 @@ impl Finder {
     /// is left as it is.
     #[inline(always)]
     pub fn find(&mut self, event: &Event<'_>) -> bool
-        ensures { ReportsFindings (find_step self.old.state (event_value event.now)) self.new result }
+        ensures { ReportsFindings
+            (find_step self.old.state (event_value event.now)) self.new result }
     {
         match event {
             Event::Open(header) | Event::Enter(header) => self.open(header),
@@ -172,7 +173,8 @@ impl Finder {
     /// Finds what is to be found with a header. Returns whether there may be findings.
     #[inline(always)]
     fn header(&mut self, header: &Header) -> bool
-        ensures { ReportsFindings (finds self.old.state (length self.old.state.outer) header.now.offset
+        ensures { ReportsFindings
+            (finds self.old.state (length self.old.state.outer) header.now.offset
             (header_notes self.old.state.rules self.old.state.frame header.now)) self.new result }
     {
         if is_plain(self.rules, self.holders.frame(), header) {

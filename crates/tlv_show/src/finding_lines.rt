@@ -28,7 +28,8 @@ pub(crate) fn put_findings<D: Drain>(
     finder: &Finder,
     out: &mut Out<'_, D>,
 ) -> Result<(), WriteFault>
-    ensures { Puts D.state out.old out.new (last_finding_lines style (finds_if has_findings finder.now)) result }
+    ensures { Puts D.state out.old out.new
+        (last_finding_lines style (finds_if has_findings finder.now)) result }
 {
     if !has_findings {
         return Ok(());
@@ -44,7 +45,8 @@ fn put_each<D: Drain>(
     findings: &[Finding],
     out: &mut Out<'_, D>,
 ) -> Result<(), WriteFault>
-    ensures { Puts D.state out.old out.new (styled_lines style place.0 place.1 findings.now) result }
+    ensures { Puts D.state out.old out.new
+        (styled_lines style place.0 place.1 findings.now) result }
 {
     for finding in findings {
         put_finding(style, place, *finding, out)?;

@@ -54,7 +54,8 @@ pub(crate) fn is_plain(rules: Rules, frame: &Frame, header: &Header) -> bool
 /// for: callers look at it first, or with the contents.
 #[inline(always)]
 pub(crate) fn is_plain_if_usual(rules: Rules, frame: &Frame, header: &Header) -> bool
-    ensures notes { IsTrue result → IsUsual header.now → header_notes rules frame.now header.now ≡ [] }
+    ensures notes { IsTrue result → IsUsual header.now
+        → header_notes rules frame.now header.now ≡ [] }
     ensures segments { IsTrue result → frame.now.has_segments ≡ false }
 {
     if frame.has_segments || !is_tag_usual(header) {
@@ -74,8 +75,10 @@ pub(crate) fn is_plain_if_usual(rules: Rules, frame: &Frame, header: &Header) ->
 /// Whether nothing is found with the form of the tag: it is the low form, or the high form as it has to be.
 #[inline(always)]
 fn is_tag_usual(header: &Header) -> bool
-    ensures needed { IsTrue result → (has_high_form_of header.now && nat_lt header.now.number 31) ≡ false }
-    ensures shortest { IsTrue result → (has_high_form_of header.now && leading_bits header.now == 0) ≡ false }
+    ensures needed { IsTrue result
+        → (has_high_form_of header.now && nat_lt header.now.number 31) ≡ false }
+    ensures shortest { IsTrue result
+        → (has_high_form_of header.now && leading_bits header.now == 0) ≡ false }
 {
     !has_high_form(header) || (header.number >= 31 && header.number_octet() % 128 != 0)
 }

@@ -98,8 +98,10 @@ impl<'n> Lines<'n> {
         out: &mut Out<'_, D>,
     ) -> Result<(), WriteFault>
         requires { length word.now ≤ 16 }
-        ensures state { OnOk result (self.new ≡ (lines_open_step self.old header.now word.now).state) }
-        ensures puts { Puts D.state out.old out.new (lines_open_step self.old header.now word.now).put result }
+        ensures state { OnOk result
+            (self.new ≡ (lines_open_step self.old header.now word.now).state) }
+        ensures puts { Puts D.state out.old out.new
+            (lines_open_step self.old header.now word.now).put result }
     {
         put_opening(self.layout, header, word, out)?;
         self.layout.level = self.layout.level.saturating_add(1);
@@ -131,7 +133,8 @@ impl<'n> Lines<'n> {
         out: &mut Out<'_, D>,
     ) -> Result<(), WriteFault>
         ensures state { OnOk result (self.new ≡ (lines_begin_step self.old header.now).state) }
-        ensures puts { Puts D.state out.old out.new (lines_begin_step self.old header.now).put result }
+        ensures puts { Puts D.state out.old out.new
+            (lines_begin_step self.old header.now).put result }
     {
         self.enter(header);
         self.is_open = true;
@@ -142,8 +145,10 @@ impl<'n> Lines<'n> {
     /// Contents of a primitive go on.
     #[inline(always)]
     pub fn bytes<D: Drain>(&mut self, octets: &[u8], out: &mut Out<'_, D>) -> Result<(), WriteFault>
-        ensures state { OnOk result (self.new ≡ (each_octet lines_octet_step self.old octets.now).state) }
-        ensures puts { Puts D.state out.old out.new (each_octet lines_octet_step self.old octets.now).put result }
+        ensures state { OnOk result
+            (self.new ≡ (each_octet lines_octet_step self.old octets.now).state) }
+        ensures puts { Puts D.state out.old out.new
+            (each_octet lines_octet_step self.old octets.now).put result }
     {
         self.offset = self.offset.saturating_add(octets.len() as u64);
         put_bytes(self.is_open, &mut self.value, octets, out)
@@ -161,8 +166,10 @@ impl<'n> Lines<'n> {
 
     /// Padding goes on. A run of it has one line, which comes with its first octet.
     pub fn pad<D: Drain>(&mut self, octets: &[u8], out: &mut Out<'_, D>) -> Result<(), WriteFault>
-        ensures state { OnOk result (self.new ≡ (each_octet lines_padding_step self.old octets.now).state) }
-        ensures puts { Puts D.state out.old out.new (each_octet lines_padding_step self.old octets.now).put result }
+        ensures state { OnOk result
+            (self.new ≡ (each_octet lines_padding_step self.old octets.now).state) }
+        ensures puts { Puts D.state out.old out.new
+            (each_octet lines_padding_step self.old octets.now).put result }
     {
         if octets.is_empty() {
             return Ok(());
@@ -188,8 +195,10 @@ fn put_bytes<D: Drain>(
     octets: &[u8],
     out: &mut Out<'_, D>,
 ) -> Result<(), WriteFault>
-    ensures state { OnOk result (if_open is_open value.new ≡ value_after (if_open is_open value.old) octets.now) }
-    ensures puts { Puts D.state out.old out.new (value_contents_lines (if_open is_open value.old) octets.now) result }
+    ensures state { OnOk result
+        (if_open is_open value.new ≡ value_after (if_open is_open value.old) octets.now) }
+    ensures puts { Puts D.state out.old out.new
+        (value_contents_lines (if_open is_open value.old) octets.now) result }
 {
     if !is_open {
         return Ok(());
@@ -205,7 +214,8 @@ fn put_end<D: Drain>(
     names: &Names,
     out: &mut Out<'_, D>,
 ) -> Result<(), WriteFault>
-    ensures { Puts D.state out.old out.new (value_end_lines names.now (if_open is_open value.old)) result }
+    ensures { Puts D.state out.old out.new
+        (value_end_lines names.now (if_open is_open value.old)) result }
 {
     if !is_open || value.left() != 0 {
         return Ok(());

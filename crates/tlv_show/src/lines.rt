@@ -70,7 +70,8 @@ fn write_opening(held: &mut Held, layout: Layout, header: &Header, word: &[u8])
 #[inline(always)]
 fn begin_opening(held: &mut Held, layout: Layout, offset: u64, size: Size)
     requires { HasRoomFor held.old 592 }
-    ensures text { held.new ≡ held.old ++ margin layout.pure (columns offset (size_text size)) layout.level }
+    ensures text { held.new
+        ≡ held.old ++ margin layout.pure (columns offset (size_text size)) layout.level }
     ensures bound { length held.new ≤ length held.old + 553 }
 {
     match size {
@@ -94,7 +95,8 @@ fn write_closing(held: &mut Held, layout: Layout, at: Option<u64>)
 fn begin_closing(held: &mut Held, layout: Layout, at: Option<u64>)
     requires { HasRoomFor held.old 592 }
     ensures text { held.new
-        ≡ held.old ++ margin layout.pure (option_map_or (λ at. columns at (codes "end")) at no_columns) layout.level }
+        ≡ held.old ++ margin layout.pure
+        (option_map_or (λ at. columns at (codes "end")) at no_columns) layout.level }
     ensures bound { length held.new ≤ length held.old + 553 }
 {
     match at {

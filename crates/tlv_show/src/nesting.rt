@@ -112,7 +112,8 @@ impl Nesting {
     /// A primitive ends: how many contents octets it announces, and whether bits of it are unused.
     #[inline(always)]
     pub fn note_primitive(&mut self, size: u64, is_unused: bool)
-        ensures { self.new ≡ record self.old { frame = frame_after self.old.frame true size is_unused } }
+        ensures { self.new
+            ≡ record self.old { frame = frame_after self.old.frame true size is_unused } }
     {
         note_element(&mut self.frame, true, size, is_unused);
     }

@@ -14,7 +14,8 @@ use tlv_head::{Class, Header, universal};
 #[inline(always)]
 pub fn is_clear(header: &Header, contents: &[u8]) -> bool
     ensures contents { IsTrue result → findings_on_contents header.now contents.now ≡ [] }
-    ensures form { IsTrue result → (is_unassigned header.now || is_one_of constructed_types header.now) ≡ false }
+    ensures form { IsTrue result
+        → (is_unassigned header.now || is_one_of constructed_types header.now) ≡ false }
 {
     !matches!(header.class, Class::Universal) || is_type_clear(header.number, contents)
 }
@@ -25,7 +26,8 @@ pub fn is_clear(header: &Header, contents: &[u8]) -> bool
 fn is_type_clear(number: u64, contents: &[u8]) -> bool
     ensures contents { IsTrue result → findings_of number contents.now ≡ [] }
     ensures form { IsTrue result
-        → (is_unassigned (universal_header number) || is_one_of constructed_types (universal_header number)) ≡ false }
+        → (is_unassigned (universal_header number)
+        || is_one_of constructed_types (universal_header number)) ≡ false }
 {
     match number {
         universal::BOOLEAN => is_truth(contents),
@@ -90,7 +92,8 @@ fn has_clear_bits(contents: &[u8]) -> bool
     ensures some { IsTrue result → (length contents.now == 0) ≡ false }
     ensures few { IsTrue result → nat_lt 7 (first contents.now) ≡ false }
     ensures there { IsTrue result →
-        (length contents.now == 1 && nat_le 1 (first contents.now) && nat_le (first contents.now) 7) ≡ false }
+        (length contents.now == 1 && nat_le 1 (first contents.now) && nat_le (first contents.now) 7)
+        ≡ false }
     ensures zero { IsTrue result →
         (nat_le 2 (length contents.now) && nat_le (first contents.now) 7
         && not (last_octet_of 0 contents.now % 2 ^ first contents.now == 0)) ≡ false }

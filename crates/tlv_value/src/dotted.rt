@@ -32,7 +32,8 @@ pub(crate) fn write_dotted(held: &mut Held, contents: &[u8], relative: bool) -> 
     requires room { HasRoomFor held.old 320 }
     ensures exists { result ≡ is_some (dotted_text relative contents.now) }
     ensures text { held.new
-        ≡ (if result then held.old ++ 32 ∷ unwrap_or (dotted_text relative contents.now) [] else held.old) }
+        ≡ (if result then held.old ++ 32 ∷ unwrap_or (dotted_text relative contents.now) []
+        else held.old) }
     ensures bound { length held.new ≤ length held.old + 259 }
 {
     if !is_finished(contents) {

@@ -12,7 +12,8 @@ use tlv_io::Held;
 #[inline(always)]
 pub fn begin_sized(held: &mut Held, layout: Layout, offset: u64, size: u64)
     requires { HasRoomFor held.old 592 }
-    ensures text { held.new ≡ held.old ++ margin layout.pure (columns offset (decimal size)) layout.level }
+    ensures text { held.new
+        ≡ held.old ++ margin layout.pure (columns offset (decimal size)) layout.level }
     ensures bound { length held.new ≤ length held.old + 553 }
 {
     write_sized(held, layout.pure, offset, size);
@@ -35,7 +36,8 @@ fn write_sized(held: &mut Held, pure: bool, offset: u64, size: u64)
 #[inline(always)]
 pub fn begin_word(held: &mut Held, layout: Layout, offset: u64, word: &[u8; 6])
     requires { HasRoomFor held.old 592 }
-    ensures text { held.new ≡ held.old ++ margin layout.pure (columns offset word.now) layout.level }
+    ensures text { held.new
+        ≡ held.old ++ margin layout.pure (columns offset word.now) layout.level }
     ensures bound { length held.new ≤ length held.old + 553 }
 {
     write_worded(held, layout.pure, offset, word);
@@ -141,7 +143,9 @@ pub fn write_element(
 )
     requires { HasRoomFor held.old 640 }
     ensures text { held.new
-        ≡ held.old ++ (margin layout.pure (columns offset (decimal size)) layout.level ++ tag_text_of class number) }
+        ≡ held.old
+        ++ (margin layout.pure (columns offset (decimal size)) layout.level
+        ++ tag_text_of class number) }
     ensures bound { length held.new ≤ length held.old + 593 }
 {
     begin_sized(held, layout, offset, size);

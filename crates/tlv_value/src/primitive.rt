@@ -61,7 +61,8 @@ impl Primitive {
     /// Whether its rows are pairs of digits, and their number is not limited.
     #[inline(always)]
     pub fn has_pairs(&self) -> bool
-        ensures { IsTrue result ↔ ((row_size_of self.now.kind ≡ 16) × (self.now.layout.limit ≡ None)) }
+        ensures { IsTrue result
+            ↔ ((row_size_of self.now.kind ≡ 16) × (self.now.layout.limit ≡ None)) }
     {
         row_size(self.kind) == 16 && self.layout.limit.is_none()
     }
@@ -97,7 +98,9 @@ impl Primitive {
     fn write_bits(&self, held: &mut Held, unused: u8)
         requires room { HasRoomFor held.old 1024 }
         requires long { 9 < self.now.size }
-        ensures { held.new ≡ held.old ++ primitive_line self.now (long_text Kind.Bits self.now.size (unused ∷ [])) }
+        ensures { held.new
+            ≡ held.old
+            ++ primitive_line self.now (long_text Kind.Bits self.now.size (unused ∷ [])) }
     {
         self.write(held);
         write_long_bits(held, self.size, unused);
@@ -109,7 +112,9 @@ impl Primitive {
     fn write_long(&self, held: &mut Held, contents: &[u8])
         requires room { HasRoomFor held.old 1024 }
         requires long { is_long_value self.now.kind self.now.size ≡ true }
-        ensures { held.new ≡ held.old ++ primitive_line self.now (long_text self.now.kind self.now.size contents.now) }
+        ensures { held.new
+            ≡ held.old
+            ++ primitive_line self.now (long_text self.now.kind self.now.size contents.now) }
     {
         self.write(held);
         write_long_value(held, self.kind, self.size, contents);
@@ -173,7 +178,8 @@ impl Primitive {
         out: &mut Out<'_, D>,
     ) -> Result<(), WriteFault>
         requires { length contents.now ≤ most_on_line self.now.kind }
-        ensures { Puts D.state out.old out.new (primitive_lines (N.name_of names.now) self.now contents.now) result }
+        ensures { Puts D.state out.old out.new
+            (primitive_lines (N.name_of names.now) self.now contents.now) result }
     {
         self.put_front(out)?;
         match self.kind {

@@ -21,7 +21,8 @@ pub(crate) fn fitting(kind: Kind, begun: usize, octets: &[u8]) -> usize
     ensures within { result ≤ length octets.now }
     ensures bound { begun + result ≤ row_size_of kind }
     ensures fits { HaveRoom kind begun octets.now result }
-    ensures next { result < length octets.now → has_room kind (begun + result) (slice_index octets.now result) ≡ false }
+    ensures next { result < length octets.now
+        → has_room kind (begun + result) (slice_index octets.now result) ≡ false }
 {
     let most = octets.len().min(row_size(kind) - begun);
     if !matches!(kind, Kind::Utf8) {

@@ -174,7 +174,8 @@ impl ValueText {
     ) -> Result<(), WriteFault>
         requires { self.old.left ≡ 0 }
         ensures state { self.new ≡ self.old }
-        ensures puts { Puts D.state out.old out.new (end_lines (N.name_of names.now) self.old) result }
+        ensures puts { Puts D.state out.old out.new
+            (end_lines (N.name_of names.now) self.old) result }
     {
         let contents = self.row.as_slice();
         if self.value.is_long() {

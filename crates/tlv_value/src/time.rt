@@ -119,7 +119,8 @@ fn is_utc_difference(octets: &[u8]) -> bool
 
 /// `ss` or nothing, a fraction or nothing, and a zone or nothing.
 fn is_second_and_tail(octets: &[u8]) -> bool
-    ensures { result ≡ has_form (maybe second then maybe fraction then maybe general_zone) octets.now }
+    ensures { result
+        ≡ has_form (maybe second then maybe fraction then maybe general_zone) octets.now }
 {
     match two_digits(octets, 0, 60) {
         Some(after) => is_tail(after) || is_tail(octets),

@@ -22,7 +22,8 @@ pub(crate) fn put_object<N: NameTable, D: Drain>(
 ) -> Result<(), WriteFault>
     requires room { HasRoomFor (buffer_of out.old) 400 }
     requires short { length contents.now ≤ 64 }
-    ensures { Puts D.state out.old out.new (object_lines (N.name_of names.now) layout [] false contents.now) result }
+    ensures { Puts D.state out.old out.new
+        (object_lines (N.name_of names.now) layout [] false contents.now) result }
 {
     let start = out.held.len() + 1;
     if !write_dotted(&mut out.held, contents, false) {
@@ -55,7 +56,8 @@ pub(crate) fn put_relative<D: Drain>(
 ) -> Result<(), WriteFault>
     requires room { HasRoomFor (buffer_of out.old) 400 }
     requires short { length contents.now ≤ 64 }
-    ensures { Puts D.state out.old out.new (object_lines no_names layout [] true contents.now) result }
+    ensures { Puts D.state out.old out.new
+        (object_lines no_names layout [] true contents.now) result }
 {
     if !write_dotted(&mut out.held, contents, true) {
         return put_octets(layout, contents, out);

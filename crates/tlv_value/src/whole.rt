@@ -32,7 +32,8 @@ pub fn put_whole<N: NameTable, D: Drain>(
     out: &mut Out<'_, D>,
 ) -> Result<(), WriteFault>
     requires { announced_length header.now.size ≡ length contents.now }
-    ensures { Puts D.state out.old out.new (whole_lines (N.name_of names.now) header.now layout contents.now) result }
+    ensures { Puts D.state out.old out.new
+        (whole_lines (N.name_of names.now) header.now layout contents.now) result }
 {
     let value = Primitive::new(header, layout);
     if value.is_long() {

@@ -44,6 +44,16 @@ run_over framing f es go.Enough e =
       unused = find (λ n. not (is_among n (wrapper_offsets es))) framing.inside;
     }
 
+-- what takes part in a walk over all that a source gives, as it is before the walk or after it: the follower's
+-- state, and what the source and the drain show of themselves
+pub record DriveState (S : Type 0) : Type 0 where
+  pub follower : S
+  pub source : SourceState
+  pub drain : DrainState
+
+abbrev pub drive_state : {S : Type 0} → S → SourceState → DrainState → DriveState S
+drive_state follower source drain = record { follower = follower; source = source; drain = drain }
+
 module _ {S : Type 0} (next : S → EventValue → Effect S) where
   -- a walk, followed from this state on
   abbrev pub drive_job : Framing → ℕ → S → Job Run
@@ -56,7 +66,8 @@ module _ {S : Type 0} (next : S → EventValue → Effect S) where
   }
 
   -- what it comes to, and the state that it leaves
-  pub record Drives (framing : Framing) (limit : ℕ) (s t : S) (old new : SourceState) (from to : DrainState)
-      (result : Result Run DeviceFault) : Type 0 where
-    pub runs : Runs (drive_job framing limit s) old new from to result
-    pub state : OnOk (drain_result result) (t ≡ (effect_of next s (events runs.reading)).state)
+  pub record Drives (framing : Framing) (limit : ℕ) (before after : DriveState S) (result : Result Run DeviceFault)
+      : Type 0 where
+    pub runs : Runs (drive_job framing limit before.follower) before.source after.source before.drain after.drain result
+    pub state : OnOk (drain_result result)
+        (after.follower ≡ (effect_of next before.follower (events runs.reading)).state)

@@ -32,7 +32,8 @@ pub trait Follow {
     /// `WriteFault` exactly if the drain's failures rose in the call. The drain then has a prefix
     /// of what was put before and what was to be put now.
     fn on<D: Drain>(&mut self, event: &Event<'_>, out: &mut Out<'_, D>) -> Result<Go, WriteFault>
-        ensures puts { Puts D.state out.old out.new (next self.old (event_value event.now)).put result }
+        ensures puts { Puts D.state out.old out.new
+            (next self.old (event_value event.now)).put result }
         ensures state { HasEffect (next self.old (event_value event.now)) self.new result };
 
     /// Follows a primitive of which all octets are at hand, header and contents: its header, its contents and its
@@ -51,8 +52,10 @@ pub trait Follow {
     ) -> Result<bool, WriteFault>
         requires whole { IsWhole header.now octets.now }
         ensures puts { Puts D.state out.old out.new
-            (put_if_followed result (effect_of next self.old (whole_events header.now octets.now)).put) result }
-        ensures state { HasEffectOrNone (effect_of next self.old (whole_events header.now octets.now))
+            (put_if_followed result
+            (effect_of next self.old (whole_events header.now octets.now)).put) result }
+        ensures state { HasEffectOrNone
+            (effect_of next self.old (whole_events header.now octets.now))
             self.old self.new result }
     {
         Ok(false)
@@ -75,7 +78,8 @@ pub trait Follow {
         requires constructed { fields.now.constructed ≡ true }
         ensures puts { Puts D.state out.old out.new
             (next self.old (Open (header_with fields.now octets.now))).put result }
-        ensures state { HasEffect (next self.old (Open (header_with fields.now octets.now))) self.new result }
+        ensures state { HasEffect
+            (next self.old (Open (header_with fields.now octets.now))) self.new result }
     {
         self.on(&Event::Open(Header::new(fields, octets)), out)
     }

@@ -59,7 +59,8 @@ pub fn events_go_on()
 
 /// Events are equal joined if they are equal with contents and padding cut into single octets.
 pub fn joined_is_apart()
-    ensures { (xs ys : List EventValue) → AreEqualJoined xs ys ↔ (single_octets xs ≡ single_octets ys) }
+    ensures { (xs ys : List EventValue)
+        → AreEqualJoined xs ys ↔ (single_octets xs ≡ single_octets ys) }
 {}
 
 /// A sound list is an open forest in which nothing is open.
@@ -71,5 +72,6 @@ pub fn sound_is_whole()
 /// Nothing that a follower does shows how contents and padding were cut into pieces: of events that
 /// are equal joined it makes the same state and the same octets.
 pub fn pieces_do_not_show<F: Follow>(_follower: &F)
-    ensures { (s : F) (xs ys : List EventValue) → AreEqualJoined xs ys → effect_of F.next s xs ≡ effect_of F.next s ys }
+    ensures { (s : F) (xs ys : List EventValue) → AreEqualJoined xs ys
+        → effect_of F.next s xs ≡ effect_of F.next s ys }
 {}

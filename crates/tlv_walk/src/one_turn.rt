@@ -129,7 +129,8 @@ fn follow_and_flush<F: Follow, D: Drain>(
     requires limit { walker.old.offset + length piece.now ≤ 2 ^ 40 }
     requires empty { buffer_of out.old ≡ [] }
     ensures stops { Stops F.next walker.old walker.new follower.old follower.new piece.now
-        (λ text. Sends (D.state (drain_of out.old).now) (D.state (drain_of out.new).now) text result) result }
+        (λ text. Sends (D.state (drain_of out.old).now)
+        (D.state (drain_of out.new).now) text result) result }
     ensures failed { (D.state (drain_of out.new).now).failures
         ≡ failures_after result (D.state (drain_of out.old).now).failures }
     ensures used_up { IfOk result (λ s. s ≡ Stop.UsedUp
@@ -200,7 +201,8 @@ fn follow_primitive<F: Follow, D: Drain>(
     out: &mut Out<'_, D>,
 ) -> Result<bool, WriteFault>
     requires { walker.old.offset + length piece.old.now ≤ 2 ^ 40 }
-    ensures parts { FollowsPartOrNone F.next walker.old walker.new follower.old follower.new piece.old.now piece.new.now
+    ensures parts { FollowsPartOrNone F.next walker.old walker.new follower.old follower.new
+        piece.old.now piece.new.now
         (λ text. Puts D.state out.old out.new text result) result }
     ensures same_reference { (drain_of out.new).ghost_name ≡ (drain_of out.old).ghost_name }
     ensures failed { (D.state (drain_of out.new).now).failures
@@ -226,7 +228,8 @@ fn follow_event<F: Follow, D: Drain>(
     event: &Event<'_>,
     out: &mut Out<'_, D>,
 ) -> Result<Go, WriteFault>
-    ensures puts { Puts D.state out.old out.new (F.next follower.old (event_value event.now)).put result }
+    ensures puts { Puts D.state out.old out.new
+        (F.next follower.old (event_value event.now)).put result }
     ensures state { HasEffect (F.next follower.old (event_value event.now)) follower.new result }
 {
     follower.on(event, out)

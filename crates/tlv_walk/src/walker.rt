@@ -152,11 +152,14 @@ impl Walker {
     /// the input is a sound list of encodings.
     pub fn finish(&self) -> Ending
         requires { IsIdle self.now }
-        ensures ending { (o : List ℕ) (past : List EventValue) (e : Ending) → StandsAtEnd self.now o past e
+        ensures ending { (o : List ℕ) (past : List EventValue) (e : Ending)
+            → StandsAtEnd self.now o past e
             → IsEnding self.now.framing o result }
-        ensures soundness { (o : List ℕ) (past : List EventValue) (e : Ending) → StandsAtEnd self.now o past e
+        ensures soundness { (o : List ℕ) (past : List EventValue) (e : Ending)
+            → StandsAtEnd self.now o past e
             → ShowsSoundness self.now.framing o result }
-        ensures failed { (f : FaultOf) → self.now.phase ≡ phases.Failed f → result ≡ Ending.Fault f }
+        ensures failed { (f : FaultOf) → self.now.phase ≡ phases.Failed f
+            → result ≡ Ending.Fault f }
     {
         if let Phase::Failed(fault) = &self.phase {
             return Ending::Fault(*fault);
@@ -209,7 +212,8 @@ impl Walker {
         ensures steps { Steps self.old self.new piece.old.now piece.new.now result }
         ensures yields { YieldsStep self.old self.new piece.old.now piece.new.now result }
         ensures again { (f : FaultOf) → self.old.phase ≡ phases.Failed f
-            → (result ≡ Step.Fault f) × RefusesAgain self.old self.new piece.old.now piece.new.now f }
+            → (result ≡ Step.Fault f)
+            × RefusesAgain self.old self.new piece.old.now piece.new.now f }
     {
         if let Phase::InContents(left) = self.phase {
             if left == 0 {
@@ -244,7 +248,8 @@ impl Walker {
     /// Refuses the next octet.
     fn fail<'a>(&mut self, code: FaultCode) -> Step<'a>
         ensures { (result ≡ Step.Fault (fault_at code self.old.offset))
-            × (self.new ≡ record self.old { phase = phases.Failed (fault_at code self.old.offset) }) }
+            × (self.new
+            ≡ record self.old { phase = phases.Failed (fault_at code self.old.offset) }) }
     {
         let fault = Fault {
             code,

@@ -50,7 +50,8 @@ fn usage_fault(error: clap::Error) -> UsageFault
 /// The command of the subcommand that `clap` matches.
 fn matched_command(alloc: Global, matches: &ArgMatches<'_>) -> Result<Command, UsageFault>
     requires { is_some (subcommand_rows_of matches.now) ≡ true }
-    ensures { IfSome (subcommand_rows_of matches.now) (λ found. Returns (matched_command found) result) }
+    ensures { IfSome (subcommand_rows_of matches.now)
+        (λ found. Returns (matched_command found) result) }
 {
     let Some((name, found)) = matches.subcommand() else {
         unreachable!();

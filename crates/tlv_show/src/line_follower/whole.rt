@@ -24,7 +24,8 @@ impl Lines<'_> {
         requires { announced_length header.now.size ≡ length contents.now }
         ensures state { self.new ≡ past_primitive self.old header.now contents.now }
         ensures puts { Puts D.state out.old out.new
-            (whole_lines (finite.get self.old.names) header.now self.old.layout contents.now) result }
+            (whole_lines (finite.get self.old.names) header.now self.old.layout contents.now)
+            result }
     {
         self.enter(header);
         self.offset = self.offset.saturating_add(contents.len() as u64);

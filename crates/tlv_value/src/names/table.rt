@@ -39,7 +39,8 @@ fn add_line<A: Allocator + Copy>(
     line: &[u8],
     number: u32,
 ) -> Result<(), NamesFault>
-    ensures { AddsLine number (names_line line.now) (texts_in table.old) (texts_in table.new) result }
+    ensures { AddsLine number (names_line line.now) (texts_in table.old)
+        (texts_in table.new) result }
 {
     match entry_of(line, number) {
         Ok(None) => Ok(()),

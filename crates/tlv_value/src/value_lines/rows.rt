@@ -45,9 +45,11 @@ pub(crate) fn put_rows<D: Drain>(
     requires begun { length row.old.items < row_size_of kind }
     requires counted { rows.old + length row.old.items + length octets.now < 2 ^ 64 }
     ensures begun { length row.new.items < row_size_of kind }
-    ensures counted { rows.new + length row.new.items ≤ rows.old + length row.old.items + length octets.now }
+    ensures counted { rows.new + length row.new.items
+        ≤ rows.old + length row.old.items + length octets.now }
     ensures row { OnOk result (row.new.items ≡ open_row kind row.old.items octets.now) }
-    ensures rows { OnOk result (rows.new ≡ rows.old + length (full_rows kind row.old.items octets.now)) }
+    ensures rows { OnOk result
+        (rows.new ≡ rows.old + length (full_rows kind row.old.items octets.now)) }
     ensures puts { Puts D.state out.old out.new
         (row_lines kind layout rows.old (full_rows kind row.old.items octets.now)) result }
 {
@@ -107,7 +109,8 @@ pub(crate) fn put_pair_rows<D: Drain>(
     octets: &[u8],
     out: &mut Out<'_, D>,
 ) -> Result<(), WriteFault>
-    ensures { Puts D.state out.old out.new (full_lines layout (rows_of Kind.Octets octets.now)) result }
+    ensures { Puts D.state out.old out.new
+        (full_lines layout (rows_of Kind.Octets octets.now)) result }
 {
     let (full, last) = octets.as_chunks::<16>();
     put_full_rows(layout, full, out)?;
@@ -151,7 +154,8 @@ pub(crate) fn put_last<D: Drain>(
     out: &mut Out<'_, D>,
 ) -> Result<(), WriteFault>
     requires { length row.now ≤ 64 }
-    ensures { Puts D.state out.old out.new (row_lines kind layout index (last_rows row.now)) result }
+    ensures { Puts D.state out.old out.new
+        (row_lines kind layout index (last_rows row.now)) result }
 {
     if row.is_empty() {
         return Ok(());
@@ -189,7 +193,8 @@ fn put_dots<D: Drain>(
     out: &mut Out<'_, D>,
 ) -> Result<(), WriteFault>
     ensures { Puts D.state out.old out.new
-        (if is_first then line layout.pure no_columns (layout.level + 1) (codes "...") else []) result }
+        (if is_first then line layout.pure no_columns (layout.level + 1) (codes "...") else [])
+        result }
 {
     if !is_first {
         return Ok(());
@@ -204,7 +209,8 @@ fn put_dots<D: Drain>(
 fn write_line(held: &mut Held, layout: Layout, kind: Kind, row: &[u8])
     requires room { HasRoomFor held.old 1024 }
     requires short { length row.now ≤ 64 }
-    ensures { held.new ≡ held.old ++ line layout.pure no_columns (layout.level + 1) (row_text kind row.now) }
+    ensures { held.new
+        ≡ held.old ++ line layout.pure no_columns (layout.level + 1) (row_text kind row.now) }
 {
     held.spaces(row_indent(layout) - 1);
     write_row(held, kind, row);

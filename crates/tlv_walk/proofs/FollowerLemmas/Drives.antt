@@ -16,7 +16,7 @@ use Rattle.tlv_walk.specs.declared.run.Turn.{Turn}
 use Rattle.tlv_walk.specs.declared.run.Turn.TheVariants.{Again, Ended}
 use Rattle.std.specs.List.{concat}
 use Rattle.tlv_io.specs.Device.{DrainState, Last, SourceState, failed, failures_after, gave}
-use Rattle.tlv_walk.specs.DriveJob.{Drives, drive_job, event_octets, had_enough, run_over}
+use Rattle.tlv_walk.specs.DriveJob.{Drives, drive_job, drive_state, event_octets, had_enough, run_over}
 use Rattle.tlv_walk.specs.Events.{AreEqualJoined, Bytes, EventValue, Pad, events}
 use Rattle.tlv_walk.specs.Follow.{Effect, GoesOn, Joins, Rests, effect_of, followed_events}
 use Rattle.tlv_walk.specs.FollowsEvents.{FollowsEvents}
@@ -171,7 +171,7 @@ module _ {S : Type 0} (next : S → EventValue → Effect S)
       -- ---- the walk has ended
 
       abbrev Driven : Result Run DeviceFault → Type 0
-      Driven answer = Drives next framing limit s after.follower old after.source from after.drain answer
+      Driven answer = Drives next framing limit (drive_state s old from) (drive_state after.follower after.source after.drain) answer
 
       runs_by : (answer : Result Run DeviceFault) (f : Forest) → GaveLast after.source.last r → IsReading framing walked f → (es : List EventValue) → (goes : Go) (k : MadeAll s after.follower f goes (effect_of next s es).put)
           → source_result answer ≡ source_result result → Sends from after.drain (effect_of next s es).put (drain_result answer) → ComesTo (drive_job next framing limit s) (b ++ r) f after.source answer

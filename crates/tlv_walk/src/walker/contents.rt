@@ -18,7 +18,8 @@ impl Walker {
         requires some { (0 < left) × (piece.old.now ≢ []) }
         requires limit { self.old.offset + length piece.old.now ≤ 2 ^ 40 }
         ensures one { YieldsOne self.old self.new piece.old.now piece.new.now }
-        ensures event { YieldsEvent self.old self.new piece.old.now piece.new.now (event_value result) }
+        ensures event { YieldsEvent self.old self.new piece.old.now piece.new.now
+            (event_value result) }
         ensures octets { HasOctets result }
     {
         let octets: &'a [u8] = *piece;
@@ -52,7 +53,8 @@ impl Walker {
         requires top { self.old.stack ≡ [] }
         requires padding { self.old.framing.padding ≡ true }
         ensures one { YieldsOne self.old self.new piece.old.now piece.new.now }
-        ensures event { YieldsEvent self.old self.new piece.old.now piece.new.now (event_value result) }
+        ensures event { YieldsEvent self.old self.new piece.old.now piece.new.now
+            (event_value result) }
         ensures octets { HasOctets result }
     {
         let octets: &'a [u8] = *piece;

@@ -67,8 +67,10 @@ impl Walker {
     pub(super) fn end_octets<'a>(&mut self, piece: &mut &'a [u8]) -> Option<Option<u64>>
         requires phase { self.old.phase ≡ phases.Between }
         requires limit { self.old.offset + length piece.old.now ≤ 2 ^ 40 }
-        ensures steps { StepsAtOnce self.old self.new piece.old.now piece.new.now (close_event result) }
-        ensures yields { YieldsAtOnce self.old self.new piece.old.now piece.new.now (close_event result) }
+        ensures steps { StepsAtOnce self.old self.new piece.old.now piece.new.now
+            (close_event result) }
+        ensures yields { YieldsAtOnce self.old self.new piece.old.now piece.new.now
+            (close_event result) }
     {
         let octets: &'a [u8] = *piece;
         let [first, second, rest @ ..] = octets else {

@@ -140,7 +140,8 @@ impl Walker {
         requires suits { Suits fields.now octets.now }
         requires enter { CanEnter self.old (header_with fields.now octets.now) }
         ensures yields { YieldsAt self.old self.new (fields.now.offset + length octets.now) }
-        ensures enters { Enters self.old self.new fields.now (fields.now.offset + length octets.now) result }
+        ensures enters { Enters self.old self.new fields.now
+            (fields.now.offset + length octets.now) result }
     {
         self.offset = fields.offset + octets.len() as u64;
         self.events += 1;
@@ -170,7 +171,9 @@ impl Walker {
     #[tactic(auto, using(std::proofs::lemmas::Option::slice_get_within))]
     fn found_wrapper(&mut self, offset: u64)
         ensures { self.new
-            ≡ record self.old { wrappers = next_wrapper self.old.framing.inside self.old.wrappers offset } }
+            ≡ record self.old {
+              wrappers = next_wrapper self.old.framing.inside self.old.wrappers offset;
+            } }
     {
         if let Some(named) = self.framing.inside.get(self.wrappers)
             && named == offset

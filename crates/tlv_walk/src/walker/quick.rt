@@ -64,7 +64,8 @@ impl Walker {
         requires limit { self.old.offset + length piece.old.now ≤ 2 ^ 40 }
         ensures passes { Passes self.old self.new piece.old.now piece.new.now }
         ensures yields { YieldsEvents self.old self.new piece.old.now piece.new.now
-            (whole_events (header_at primitive.now piece.old.now) (take primitive.now.octets piece.old.now)) }
+            (whole_events (header_at primitive.now piece.old.now)
+            (take primitive.now.octets piece.old.now)) }
     {
         let octets: &'a [u8] = *piece;
         let (_, rest) = octets.split_at(primitive.octets);
@@ -87,8 +88,10 @@ impl Walker {
         piece: &mut &'a [u8],
     ) -> Option<(HeaderFields, &'a [u8])>
         requires { self.old.offset + length piece.old.now ≤ 2 ^ 40 }
-        ensures steps { StepsAtOnce self.old self.new piece.old.now piece.new.now (open_event result) }
-        ensures yields { YieldsAtOnce self.old self.new piece.old.now piece.new.now (open_event result) }
+        ensures steps { StepsAtOnce self.old self.new piece.old.now piece.new.now
+            (open_event result) }
+        ensures yields { YieldsAtOnce self.old self.new piece.old.now piece.new.now
+            (open_event result) }
         ensures suits { IfSome result (λ found. Suits found.0 found.1.now) }
         ensures constructed { IfSome result (λ found. found.0.constructed ≡ true) }
     {
@@ -122,8 +125,10 @@ impl Walker {
     #[inline(always)]
     pub(crate) fn close<'a>(&mut self, piece: &mut &'a [u8]) -> Option<Option<u64>>
         requires { self.old.offset + length piece.old.now ≤ 2 ^ 40 }
-        ensures steps { StepsAtOnce self.old self.new piece.old.now piece.new.now (close_event result) }
-        ensures yields { YieldsAtOnce self.old self.new piece.old.now piece.new.now (close_event result) }
+        ensures steps { StepsAtOnce self.old self.new piece.old.now piece.new.now
+            (close_event result) }
+        ensures yields { YieldsAtOnce self.old self.new piece.old.now piece.new.now
+            (close_event result) }
     {
         if !matches!(self.phase, Phase::Between) {
             return None;

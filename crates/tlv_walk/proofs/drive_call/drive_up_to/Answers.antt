@@ -5,7 +5,7 @@ use Rattle.tlv_walk.specs.declared.run.DeviceFault.{DeviceFault}
 use Rattle.tlv_io.specs.Device.{DrainState, SourceState}
 use Rattle.tlv_walk.specs.declared.framing.Framing.{Framing}
 use Rattle.tlv_walk.specs.declared.run.Run.{Run}
-use Rattle.tlv_walk.specs.DriveJob.{Drives}
+use Rattle.tlv_walk.specs.DriveJob.{Drives, drive_state}
 use Rattle.tlv_walk.specs.Events.{EventValue}
 use Rattle.tlv_walk.specs.Follow.{Effect}
 use Rattle.tlv_io.specs.Out.{drain_of}
@@ -15,7 +15,7 @@ use Rattle.tlv_walk.proofs.drive_call.drive_up_to.Goals as goal
 
 -- what a walk comes to, said of the drain that was lent
 drives_lent : {S D : Type 0} (next : S → EventValue → Effect S) (drain : D → DrainState) (f : Framing) (limit : ℕ) (s t : S) (old new : SourceState) (d d' e e' : D)
-    (result : Result Run DeviceFault) → d ≡ e → d' ≡ e' → Drives next f limit s t old new (drain e) (drain e') result → Drives next f limit s t old new (drain d) (drain d') result
+    (result : Result Run DeviceFault) → d ≡ e → d' ≡ e' → Drives next f limit (drive_state s old (drain e)) (drive_state t new (drain e')) result → Drives next f limit (drive_state s old (drain d)) (drive_state t new (drain d')) result
 drives_lent next drain f limit s t old new d d' e e' result from to x = rw (from, to) x
 
 pub turns-init : goal.turns-init
