@@ -5,11 +5,13 @@ ghost use Rattle.tlv_walk.specs.Follow.{HasEffect};
 ghost use Rattle.tlv_walk.specs.Private.ResultOfStop.{IsResultOfStop, IsRun};
 ghost use Rattle.tlv_walk.specs.Private.FollowsPiece.{FollowsPartOrNone, Stops};
 ghost use Rattle.tlv_walk.specs.Laws.{AreOctets};
+ghost use Rattle.tlv_walk.specs.Private.WalkerState.{CanPass};
 ghost use Rattle.tlv_walk.specs.WalkerState.{CanTake};
 ghost use Rattle.tlv_io.specs.Out.{Puts, Sends, buffer_of, drain_of};
 ghost use Rattle.tlv_walk.specs.HasRead.{event_value};
 ghost use Rattle.tlv_walk.specs.OneTurn.{FollowsOneRead, turn_state};
 
+use crate::walker::WholePrimitive;
 use crate::{
     DeviceFault, Drain, Ending, Event, Follow, Go, Out, Run, Source, Step, Turn, Walker, WriteFault,
 };
@@ -208,15 +210,42 @@ fn follow_primitive<F: Follow, D: Drain>(
     ensures failed { (D.state (drain_of out.new).now).failures
         ≡ failures_after result (D.state (drain_of out.old).now).failures }
 {
+    // Most headers have two octets. If that is known, most branches of what is done with a primitive fall away, so they
+    // are followed by code of their own.
+    if let Some(primitive) = walker.primitive(*piece, true) {
+        return follow_found(walker, follower, &primitive, piece, out);
+    }
+    if let Some(primitive) = walker.primitive(*piece, false) {
+        return follow_found(walker, follower, &primitive, piece, out);
+    }
+    Ok(false)
+}
+
+/// Follows a primitive that the walker found at the front of the piece, if the follower takes it at once. Returns
+/// whether it was followed; otherwise nothing is taken.
+#[inline(always)]
+fn follow_found<F: Follow, D: Drain>(
+    walker: &mut Walker,
+    follower: &mut F,
+    primitive: &WholePrimitive,
+    piece: &mut &[u8],
+    out: &mut Out<'_, D>,
+) -> Result<bool, WriteFault>
+    requires can { CanPass walker.old piece.old.now primitive.now }
+    requires limit { walker.old.offset + length piece.old.now ≤ 2 ^ 40 }
+    ensures parts { FollowsPartOrNone F.next walker.old walker.new follower.old follower.new
+        piece.old.now piece.new.now
+        (λ text. Puts D.state out.old out.new text result) result }
+    ensures same_reference { (drain_of out.new).ghost_name ≡ (drain_of out.old).ghost_name }
+    ensures failed { (D.state (drain_of out.new).now).failures
+        ≡ failures_after result (D.state (drain_of out.old).now).failures }
+{
     let octets = *piece;
-    let Some(primitive) = walker.primitive(octets) else {
-        return Ok(false);
-    };
     let header = Header::new(&primitive.fields, &octets[..primitive.header]);
     if !follower.whole(&header, &octets[..primitive.octets], out)? {
         return Ok(false);
     }
-    walker.pass(&primitive, piece);
+    walker.pass(primitive, piece);
     Ok(true)
 }
 

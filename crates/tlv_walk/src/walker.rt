@@ -9,6 +9,7 @@ mod quick;
 
 use crate::stack::Stack;
 use crate::{Ending, Event, Framing, Step};
+pub(crate) use quick::WholePrimitive;
 use std::marker::Model;
 use tlv_head::{Fault, FaultCode, HeadReader};
 

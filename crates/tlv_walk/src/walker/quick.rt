@@ -21,9 +21,9 @@ pub(crate) struct WholePrimitive {
 
 impl Walker {
     /// The primitive with which these octets begin, if all of it is among them, its header has few octets, it is not
-    /// named, and it may stand here.
+    /// named, and it may stand here. With `short`, only if its header has two octets.
     #[inline(always)]
-    pub(crate) fn primitive(&self, octets: &[u8]) -> Option<WholePrimitive>
+    pub(crate) fn primitive(&self, octets: &[u8], short: bool) -> Option<WholePrimitive>
         requires { self.now.offset + length octets.now ≤ 2 ^ 40 }
         ensures { IfSome result (λ p. CanPass self.now octets.now p) }
     {
@@ -34,6 +34,9 @@ impl Walker {
             || !matches!(self.phase, Phase::Between)
             || self.framing.inside.contains(self.offset)
         {
+            return None;
+        }
+        if short && !has_two_octets(octets) {
             return None;
         }
         let (fields, header) = read_short(self.offset, false, octets)?;
@@ -162,5 +165,14 @@ impl Walker {
             return None;
         }
         Some(self.contents(left, piece))
+    }
+}
+
+/// Whether the octets begin with a tag in the low form and a length in the short form, an octet each.
+#[inline(always)]
+fn has_two_octets(octets: &[u8]) -> bool {
+    match octets {
+        [identifier, length, ..] => *identifier & 0x1f != 0x1f && *length < 0x80,
+        _ => false,
     }
 }

@@ -2,17 +2,17 @@ use Rattle.std.proofs.Common.{rules, true}
 use Rattle.std.proofs.lemmas.Result.{err_from_is_err_and}
 use Rattle.tlv_walk.proofs.FollowerLemmas.Parts.{part_fails, part_whole}
 use Rattle.tlv_walk.proofs.WalkerLemmas.Passing.{is_whole}
-use Rattle.tlv_walk.proofs.one_turn.follow_primitive.Goals as goal
+use Rattle.tlv_walk.proofs.one_turn.follow_found.Goals as goal
 
 pub whole-requires : goal.whole-requires
-whole-requires g c = rw c.new-header.ensures (record { whole = is_whole c.args.walker.now c.args.piece.now.now c.in-Some.primitive c.in-Some.ensures })
+whole-requires g c = rw c.new-header.ensures (record { whole = is_whole c.args.walker.now c.args.piece.now.now c.args.primitive.now c.requires.can })
 
 pub returns-in_err-whole-clause-parts : goal.returns-in_err-whole-clause-parts
 returns-in_err-whole-clause-parts g c =
     let p = err_from_is_err_and c.from_residual.result c.from_residual.ensures.1 in rw p.1
-    (part_fails g.F.Follow.next g.D.Drain.state _ _ _ _ _ c.in-Some.primitive c.new-header.result _ _ c.in-Some.ensures c.new-header.ensures c.in_err-whole.ensures.puts)
+    (part_fails g.F.Follow.next g.D.Drain.state _ _ _ _ _ c.args.primitive.now c.new-header.result _ _ c.requires.can c.new-header.ensures c.in_err-whole.ensures.puts)
 
 pub returns-clause-parts : goal.returns-clause-parts
 returns-clause-parts g c =
-    part_whole g.F.Follow.next g.D.Drain.state _ _ c.args.follower.now c.whole.new.self c.args.out.now c.whole.new.out c.args.piece.now.now _ c.in-Some.primitive c.new-header.result true true c.new-header.ensures
+    part_whole g.F.Follow.next g.D.Drain.state _ _ c.args.follower.now c.whole.new.self c.args.out.now c.whole.new.out c.args.piece.now.now _ c.args.primitive.now c.new-header.result true true c.new-header.ensures
     (search rules) (search rules) (search rules) c.pass.ensures.yields c.pass.ensures.passes
