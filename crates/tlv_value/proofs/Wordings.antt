@@ -39,7 +39,8 @@ code_size C04 = refl
 code_size C05 = refl
 code_size C06 = refl
 
-module _ (whole code text : List ℕ) (count : ℕ) (size : length code ≡ 3) (few : 4 ≤ count) (e : take count whole ≡ code ++ 32 ∷ text) where
+module _ (whole code text : List ℕ) (count : ℕ)
+    (size : length code ≡ 3) (few : 4 ≤ count) (e : take count whole ≡ code ++ 32 ∷ text) where
   pub code_in_front : take 3 whole ≡ code
   code_in_front = sym (take-take 3 count whole (omega arith)) ∙ ap (take 3) e ∙ take_at code (32 ∷ text) 3 size
 

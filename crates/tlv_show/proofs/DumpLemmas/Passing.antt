@@ -27,7 +27,8 @@ use Rattle.tlv_show.proofs.FindingLemmas.FinderItems.{behind_primitive, primitiv
 
 -- ---- a finder
 
-pub usual_primitive : (h : HeaderValue) → h.constructed ≡ false → (is_unassigned h || is_one_of constructed_types h) ≡ false → IsUsual h
+pub usual_primitive : (h : HeaderValue) → h.constructed ≡ false
+    → (is_unassigned h || is_one_of constructed_types h) ≡ false → IsUsual h
 usual_primitive h primitive form = record {
   assigned = search rules;
   primitive = ap (λ (b : Bool). b && is_one_of primitive_types h) primitive;

@@ -8,10 +8,12 @@ add-requires c = omega (arith, number_short _ _ _ c.ranges.at.fits c.number.ensu
 pub add_front-requires : goal.add_front-requires
 add_front-requires c =
     let first = number_short _ _ _ c.ranges.at.fits c.number.ensures in
-    (omega arith, (omega (arith, c.padded_wording-count.ensures.count), omega (arith, first, added _ _ (32 ∷ []) c.add.ensures, c.requires)))
+    let second = added _ _ (32 ∷ []) c.add.ensures in
+    (omega arith, (omega (arith, c.padded_wording-count.ensures.count), omega (arith, first, second, c.requires)))
 
 pub add-requires-2 : goal.add-requires-2
 add-requires-2 c =
     let first = number_short _ _ _ c.ranges.at.fits c.number.ensures in
-    let wording = front_short _ _ _ c.padded_wording-count.result.1 c.add_front.ensures in
-    omega (arith, first, added _ _ (32 ∷ []) c.add.ensures, wording, c.padded_wording-count.ensures.count, c.requires)
+    let second = added _ _ (32 ∷ []) c.add.ensures in
+    let third = front_short _ _ _ c.padded_wording-count.result.1 c.add_front.ensures in
+    omega (arith, first, second, third, c.padded_wording-count.ensures.count, c.requires)
