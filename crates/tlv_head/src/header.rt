@@ -103,12 +103,12 @@ impl Model for Header {
 
 impl HeaderFields {
     ghost use Rattle.std.specs.Prelude.{◌≡◌};
-    ghost use Rattle.tlv_head.specs.Header.{is_wrapper as is_wrapper_of};
+    ghost use Rattle.tlv_head.specs.Header.{is_wrapper};
 
     /// [`Header::wraps`], of the header with these fields.
     pub fn wraps(&self) -> bool
         ensures { result
-            ≡ is_wrapper_of self.now.named self.now.class self.now.constructed
+            ≡ is_wrapper self.now.named self.now.class self.now.constructed
             self.now.number self.now.size }
     {
         is_wrapper(
@@ -229,7 +229,7 @@ impl Header {
 }
 
 ghost use Rattle.std.specs.Prelude.{◌≡◌, ◌≤◌, drop, eqb, length, slice_index, take, true};
-ghost use Rattle.tlv_head.specs.Header.{announced_length, indefinite_octets, is_wrapper as is_wrapper_of};
+ghost use Rattle.tlv_head.specs.Header.{announced_length, indefinite_octets, is_wrapper};
 
 /// The second octets of an identifier of so many octets and of the length after it, or 0 if there is none.
 pub(crate) fn seconds(id_len: u8, octets: &[u8]) -> (u8, u8)
@@ -259,7 +259,7 @@ pub(crate) fn is_wrapper(
     number: u64,
     size: Size,
 ) -> bool
-    ensures { result ≡ is_wrapper_of named class constructed number size }
+    ensures { result ≡ is_wrapper named class constructed number size }
 {
     if !named || constructed {
         return false;

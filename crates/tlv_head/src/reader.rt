@@ -1,6 +1,6 @@
 //! Reads a header, one octet at a time.
 ghost use Rattle.std.specs.Prelude.{◌≡◌, ◌≢◌, ◌↔◌, [], ◌||◌, false, IsTrue, Some};
-ghost use Rattle.tlv_head.specs.Header.{is_wrapper as is_wrapper_of};
+ghost use Rattle.tlv_head.specs.Header.{is_wrapper};
 ghost use Rattle.tlv_head.specs.HeadReaderState.{ContentsFit};
 
 use crate::header::is_wrapper;
@@ -121,7 +121,7 @@ fn refused(code: FaultCode, offset: u64) -> Head
 /// Whether the element holds others: it is constructed, or a string that wraps encodings.
 fn holds(identifier: Identifier, size: Size, named: bool) -> bool
     ensures { result ≡ (identifier.constructed
-        || is_wrapper_of named identifier.class identifier.constructed identifier.number size) }
+        || is_wrapper named identifier.class identifier.constructed identifier.number size) }
 {
     identifier.constructed
         || is_wrapper(

@@ -1,6 +1,6 @@
 //! Octets that are on their way to a drain.
 ghost use Rattle.std.specs.Prelude.{◌≡◌, ◌+◌, ◌*◌, ◌≤◌, ◌++◌, [], length, take};
-ghost use Rattle.tlv_io.specs.LineTexts.{AddsIfRoom, HasRoomFor, spaced_pairs as pairs_spaced, spaces as spaces_text};
+ghost use Rattle.tlv_io.specs.LineTexts.{AddsIfRoom, HasRoomFor, spaced_pairs, spaces};
 
 mod numbers;
 mod texts;
@@ -104,7 +104,7 @@ impl Held {
     #[inline(always)]
     pub fn spaces(&mut self, count: usize)
         requires { HasRoomFor self.old (count + 32) }
-        ensures { self.new ≡ self.old ++ spaces_text count }
+        ensures { self.new ≡ self.old ++ spaces count }
     {
         fill_spaces(&mut self.octets[self.len..], count);
         self.len += count;
@@ -114,7 +114,7 @@ impl Held {
     #[inline(always)]
     pub fn spaced_pairs(&mut self, octets: &[u8])
         requires { HasRoomFor self.old (3 * length octets.now) }
-        ensures { self.new ≡ self.old ++ pairs_spaced octets.now }
+        ensures { self.new ≡ self.old ++ spaced_pairs octets.now }
     {
         write_pairs(octets, &mut self.octets[self.len..]);
         self.len += 3 * octets.len();
@@ -124,7 +124,7 @@ impl Held {
     #[inline(always)]
     pub fn spaced_row(&mut self, octets: &[u8; 16])
         requires { HasRoomFor self.old 48 }
-        ensures { self.new ≡ self.old ++ pairs_spaced octets.now }
+        ensures { self.new ≡ self.old ++ spaced_pairs octets.now }
     {
         write_row(octets, &mut self.octets[self.len..]);
         self.len += 48;

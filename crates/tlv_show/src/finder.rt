@@ -1,14 +1,12 @@
 //! What is found in elements, event by event.
 ghost use Rattle.std.specs.Prelude.{◌≡◌, [], if◌then◌else◌, length};
-ghost use Rattle.std.specs.List.{filter};
 ghost use Rattle.tlv_head.specs.Header.{announced_length};
-ghost use Rattle.tlv_value.specs.CheckState.{findings_in};
 ghost use Rattle.tlv_walk.specs.HasRead.{event_value};
 ghost use Rattle.tlv_show.specs.FinderState.{end_notes, find_begin, find_bytes, find_close, find_end, find_open, finder_at_value, finder_inside, finds, finds_nothing, header_notes, new_finder};
 ghost use Rattle.tlv_show.specs.Private.FinderState.{PassesOrStays, ReportsFindings, find_step, with_state};
-ghost use Rattle.tlv_show.specs.Found.{shows};
 
 use crate::Rules;
+use crate::contents_findings::note_contents;
 use crate::frames::Frame;
 use crate::header_findings::{is_plain, is_plain_if_usual, note_end, note_header};
 use crate::nesting::Nesting;
@@ -272,7 +270,7 @@ impl Finder {
         }
         let level = self.holders.level();
         self.last.restart(level, self.at);
-        note_found(self.rules, check, &mut self.last.findings);
+        note_contents(self.rules, check, &mut self.last.findings);
         self.count = self.count.saturating_add(self.last.findings.len() as u64);
         true
     }
@@ -298,33 +296,5 @@ impl Finder {
         note_end(self.rules, closed, &mut self.last.findings);
         self.count = self.count.saturating_add(self.last.findings.len() as u64);
         true
-    }
-}
-
-/// Notes what is found on the contents of a primitive, of which all have come.
-#[inline(never)]
-fn note_found(rules: Rules, check: &ValueCheck, found: &mut ArrayVec<Finding, 16>)
-    requires left { check.now.left ≡ 0 }
-    requires none { found.old.items ≡ [] }
-    ensures { found.new.items ≡ filter (shows rules) (findings_in check.now) }
-{
-    for finding in check.end().as_slice() {
-        if is_shown(rules, *finding) {
-            found.push(*finding);
-        }
-    }
-}
-
-/// Whether the rules show the finding, by the letter of its code.
-fn is_shown(rules: Rules, finding: Finding) -> bool
-    ensures { result ≡ shows rules finding }
-{
-    match finding.code() {
-        [letter, ..] => match rules {
-            Rules::Ber => *letter == b'B',
-            Rules::Der => matches!(*letter, b'B' | b'S' | b'D'),
-            Rules::Cer => matches!(*letter, b'B' | b'S' | b'C'),
-        },
-        [] => false,
     }
 }

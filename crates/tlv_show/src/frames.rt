@@ -1,6 +1,6 @@
 //! What is kept of the elements that are beside one another.
 ghost use Rattle.std.specs.Prelude.{◌≡◌, ◌<◌, ◌∷◌, [], drop, length};
-ghost use Rattle.tlv_show.specs.FinderState.{frame_after, frame_of as frame_inside, top_frame};
+ghost use Rattle.tlv_show.specs.FinderState.{frame_after, frame_of, top_frame};
 ghost use Rattle.tlv_show.specs.Private.Nesting.{innermost_of};
 
 use crate::headers::{is_bit_string, is_string, size_of};
@@ -46,7 +46,7 @@ pub(crate) fn top() -> Frame
 /// The frame of an element of which nothing inside has come.
 #[inline(always)]
 pub(crate) fn frame_of(header: &Header) -> Frame
-    ensures { result ≡ frame_inside header.now }
+    ensures { result ≡ frame_of header.now }
 {
     let has_segments = header.constructed && is_string(header);
     Frame {

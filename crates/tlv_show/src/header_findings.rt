@@ -2,7 +2,7 @@
 ghost use Rattle.std.specs.Prelude.{IsTrue, false, ◌≡◌, ◌<◌, ◌≤◌, ◌+◌, ◌++◌, ◌&&◌, ◌||◌, ◌==◌, if◌then◌else◌, nat_le, nat_lt, length, []};
 ghost use Rattle.tlv_value.specs.CheckNotes.{finding_if};
 ghost use Rattle.tlv_value.specs.Types.{has_segments};
-ghost use Rattle.tlv_show.specs.Conditions.{has_high_form as has_high_form_of, leading_bits};
+ghost use Rattle.tlv_show.specs.Conditions.{has_high_form, leading_bits};
 ghost use Rattle.tlv_show.specs.Private.UsualTypes.{IsUsual};
 ghost use Rattle.tlv_show.specs.FinderState.{basic_notes, cer_notes, der_notes, end_notes, header_notes, length_notes};
 
@@ -76,9 +76,9 @@ pub(crate) fn is_plain_if_usual(rules: Rules, frame: &Frame, header: &Header) ->
 #[inline(always)]
 fn is_tag_usual(header: &Header) -> bool
     ensures needed { IsTrue result
-        → (has_high_form_of header.now && nat_lt header.now.number 31) ≡ false }
+        → (has_high_form header.now && nat_lt header.now.number 31) ≡ false }
     ensures shortest { IsTrue result
-        → (has_high_form_of header.now && leading_bits header.now == 0) ≡ false }
+        → (has_high_form header.now && leading_bits header.now == 0) ≡ false }
 {
     !has_high_form(header) || (header.number >= 31 && header.number_octet() % 128 != 0)
 }

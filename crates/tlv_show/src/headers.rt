@@ -1,16 +1,16 @@
 //! What a header says of its element.
 ghost use Rattle.std.specs.Prelude.{◌≡◌, ◌&&◌, ◌||◌, ◌==◌, if◌then◌else◌, nat_lt};
-ghost use Rattle.tlv_head.specs.Header.{announced_length, is_universal as is_universal_class};
-ghost use Rattle.tlv_value.specs.Types.{bit_string, constructed_types, is_a, is_one_of, is_string as is_string_of, is_unassigned as is_unassigned_of, octet_string, primitive_types};
-ghost use Rattle.tlv_walk.specs.Place.{is_indefinite as is_indefinite_of};
-ghost use Rattle.tlv_show.specs.Conditions.{first_length, has_high_form as has_high_form_of, has_long_form};
+ghost use Rattle.tlv_head.specs.Header.{announced_length, is_universal};
+ghost use Rattle.tlv_value.specs.Types.{bit_string, constructed_types, is_a, is_one_of, is_string, is_unassigned, octet_string, primitive_types};
+ghost use Rattle.tlv_walk.specs.Place.{is_indefinite};
+ghost use Rattle.tlv_show.specs.Conditions.{first_length, has_high_form, has_long_form};
 
 use tlv_head::{Class, Header, Size, universal};
 
 /// Whether the tag is in the high form (8.1.2.4).
 #[inline(always)]
 pub(crate) fn has_high_form(header: &Header) -> bool
-    ensures { result ≡ has_high_form_of header.now }
+    ensures { result ≡ has_high_form header.now }
 {
     header.id_len > 1
 }
@@ -35,14 +35,14 @@ pub(crate) fn size_of(header: &Header) -> u64
 
 #[inline(always)]
 pub(crate) fn is_indefinite(header: &Header) -> bool
-    ensures { result ≡ is_indefinite_of header.now.size }
+    ensures { result ≡ is_indefinite header.now.size }
 {
     matches!(header.size, Size::Indefinite)
 }
 
 #[inline(always)]
 pub(crate) fn is_universal(header: &Header) -> bool
-    ensures { result ≡ is_universal_class header.now.class }
+    ensures { result ≡ is_universal header.now.class }
 {
     matches!(header.class, Class::Universal)
 }
@@ -50,7 +50,7 @@ pub(crate) fn is_universal(header: &Header) -> bool
 /// Whether no type has this universal number.
 #[inline(always)]
 pub(crate) fn is_unassigned(header: &Header) -> bool
-    ensures { result ≡ is_unassigned_of header.now }
+    ensures { result ≡ is_unassigned header.now }
 {
     is_universal(header)
         && (header.number == 0
@@ -95,7 +95,7 @@ pub(crate) fn is_always_constructed(header: &Header) -> bool
 /// Whether the type is that of a string, with the strings of characters and the two times.
 #[inline(always)]
 pub(crate) fn is_string(header: &Header) -> bool
-    ensures { result ≡ is_string_of header.now }
+    ensures { result ≡ is_string header.now }
 {
     is_universal(header)
         && matches!(

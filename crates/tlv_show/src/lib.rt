@@ -4,6 +4,7 @@
 mod check_call;
 mod check_follower;
 mod contents;
+mod contents_findings;
 mod dump_call;
 mod dump_follower;
 mod finder;

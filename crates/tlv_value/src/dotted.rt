@@ -1,7 +1,7 @@
 //! Object identifiers as dotted texts.
 ghost use Rattle.std.specs.Prelude.{◌≡◌, ◌+◌, ◌<◌, ◌≤◌, ◌^◌, ◌++◌, ◌∷◌, [], if◌then◌else◌, is_some, length, true, unwrap_or};
 ghost use Rattle.tlv_io.specs.LineTexts.{HasRoomFor};
-ghost use Rattle.tlv_value.specs.Arcs.{dotted_text, first_arcs, is_finished as is_finished_list};
+ghost use Rattle.tlv_value.specs.Arcs.{dotted_text, first_arcs, is_finished};
 ghost use Rattle.tlv_value.specs.Private.Arcs.{dotted_arcs, part_text};
 
 use arrayvec::ArrayVec;
@@ -66,7 +66,7 @@ pub(crate) fn write_dotted(held: &mut Held, contents: &[u8], relative: bool) -> 
 /// each octet.
 #[inline(always)]
 fn write_short(held: &mut Held, contents: &[u8], relative: bool)
-    requires finished { is_finished_list contents.now ≡ true }
+    requires finished { is_finished contents.now ≡ true }
     requires short { length contents.now ≤ 9 }
     requires room { HasRoomFor held.old 320 }
     ensures exists { is_some (dotted_text relative contents.now) ≡ true }
@@ -88,7 +88,7 @@ fn write_short(held: &mut Held, contents: &[u8], relative: bool)
 
 /// Whether the octets end with a whole subidentifier.
 fn is_finished(contents: &[u8]) -> bool
-    ensures { result ≡ is_finished_list contents.now }
+    ensures { result ≡ is_finished contents.now }
 {
     matches!(contents.last(), Some(octet) if *octet < 128)
 }

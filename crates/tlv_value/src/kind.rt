@@ -1,6 +1,6 @@
 //! How the contents of a primitive are read.
 ghost use Rattle.std.specs.Prelude.{◌≡◌};
-ghost use Rattle.tlv_value.specs.Kind.{kind_of as kind_of_tag};
+ghost use Rattle.tlv_value.specs.Kind.{kind_of};
 
 use tlv_head::Class;
 
@@ -67,7 +67,7 @@ static KINDS: [Kind; 31] = [
 /// How the contents of a primitive with this tag are read.
 #[inline(always)]
 pub(crate) fn kind_of(class: Class, number: u64) -> Kind
-    ensures { result ≡ kind_of_tag class number }
+    ensures { result ≡ kind_of class number }
 {
     if matches!(class, Class::Universal) && number <= 30 {
         KINDS[number as usize]

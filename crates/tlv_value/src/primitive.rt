@@ -5,8 +5,8 @@ ghost use Rattle.tlv_io.specs.Out.{Puts, buffer_of};
 ghost use Rattle.tlv_value.specs.KindValues.{long_text};
 ghost use Rattle.tlv_value.specs.Private.KindValues.{plain_text};
 ghost use Rattle.tlv_value.specs.Private.PrimitiveLines.{front_of, primitive_line, primitive_lines, primitive_of};
-ghost use Rattle.tlv_value.specs.Rows.{row_size as row_size_of};
-ghost use Rattle.tlv_value.specs.Value.{is_long as is_long_value, most_on_line};
+ghost use Rattle.tlv_value.specs.Rows.{row_size};
+ghost use Rattle.tlv_value.specs.Value.{is_long, most_on_line};
 
 use crate::kind::{Kind, kind_of};
 use crate::line::write_element;
@@ -48,7 +48,7 @@ impl Primitive {
     /// Whether it has too many contents octets for them to stand on its line.
     #[inline(always)]
     pub fn is_long(&self) -> bool
-        ensures { result ≡ is_long_value self.now.kind self.now.size }
+        ensures { result ≡ is_long self.now.kind self.now.size }
     {
         let most = match self.kind {
             Kind::Octets | Kind::Boolean | Kind::Integer => 16,
@@ -62,7 +62,7 @@ impl Primitive {
     #[inline(always)]
     pub fn has_pairs(&self) -> bool
         ensures { IsTrue result
-            ↔ ((row_size_of self.now.kind ≡ 16) × (self.now.layout.limit ≡ None)) }
+            ↔ ((row_size self.now.kind ≡ 16) × (self.now.layout.limit ≡ None)) }
     {
         row_size(self.kind) == 16 && self.layout.limit.is_none()
     }
@@ -111,7 +111,7 @@ impl Primitive {
     #[inline(always)]
     fn write_long(&self, held: &mut Held, contents: &[u8])
         requires room { HasRoomFor held.old 1024 }
-        requires long { is_long_value self.now.kind self.now.size ≡ true }
+        requires long { is_long self.now.kind self.now.size ≡ true }
         ensures { held.new
             ≡ held.old
             ++ primitive_line self.now (long_text self.now.kind self.now.size contents.now) }
@@ -149,7 +149,7 @@ impl Primitive {
         contents: &[u8],
         out: &mut Out<'_, D>,
     ) -> Result<(), WriteFault>
-        requires { is_long_value self.now.kind self.now.size ≡ true }
+        requires { is_long self.now.kind self.now.size ≡ true }
         ensures { Puts D.state out.old out.new
             (primitive_line self.now (long_text self.now.kind self.now.size contents.now)) result }
     {

@@ -1,13 +1,13 @@
 //! Where a row of long contents ends.
 ghost use Rattle.std.specs.Prelude.{◌≡◌, ◌+◌, ◌<◌, ◌≤◌, false, length, slice_index};
 ghost use Rattle.tlv_value.specs.Private.Room.{HaveRoom};
-ghost use Rattle.tlv_value.specs.Rows.{character_length, has_room, row_size as row_size_of, utf8_length as utf8_length_of};
+ghost use Rattle.tlv_value.specs.Rows.{character_length, has_room, row_size, utf8_length};
 
 use crate::kind::Kind;
 
 /// How many octets a full row has.
 pub(crate) fn row_size(kind: Kind) -> usize
-    ensures { result ≡ row_size_of kind }
+    ensures { result ≡ row_size kind }
 {
     match kind {
         Kind::Text | Kind::Utf8 | Kind::Ucs2 | Kind::Ucs4 => 64,
@@ -17,9 +17,9 @@ pub(crate) fn row_size(kind: Kind) -> usize
 
 /// How many of the octets in front have room in a row that has so many already.
 pub(crate) fn fitting(kind: Kind, begun: usize, octets: &[u8]) -> usize
-    requires { begun ≤ row_size_of kind }
+    requires { begun ≤ row_size kind }
     ensures within { result ≤ length octets.now }
-    ensures bound { begun + result ≤ row_size_of kind }
+    ensures bound { begun + result ≤ row_size kind }
     ensures fits { HaveRoom kind begun octets.now result }
     ensures next { result < length octets.now
         → has_room kind (begun + result) (slice_index octets.now result) ≡ false }
@@ -39,7 +39,7 @@ pub(crate) fn fitting(kind: Kind, begun: usize, octets: &[u8]) -> usize
 
 /// Of how many octets a character is that begins with this one (RFC 3629).
 pub(crate) fn utf8_length(octet: u8) -> usize
-    ensures value { result ≡ utf8_length_of octet }
+    ensures value { result ≡ utf8_length octet }
     ensures most { result ≤ 4 }
 {
     match octet {

@@ -2,8 +2,8 @@
 ghost use Rattle.std.specs.List.{list_all};
 ghost use Rattle.std.specs.Prelude.{◌≡◌, ◌+◌, ◌*◌, ◌<◌, ◌≤◌, ◌++◌, false, flat_map, length, slice_index, take, true};
 ghost use Rattle.tlv_io.specs.LineTexts.{AddsIfRoom, HasRoomFor};
-ghost use Rattle.tlv_value.specs.Private.Plain.{ArePlain, IsPart, is_ascii, is_plain as is_plain_octet};
-ghost use Rattle.tlv_value.specs.Units.{escaped_number, escaped_octet, is_printable as is_printable_octet, octet_text, printable_text, unit_size as unit_size_of, unit_text, units, utf8_number as utf8_number_of, without_zeros};
+ghost use Rattle.tlv_value.specs.Private.Plain.{ArePlain, IsPart, is_ascii, is_plain};
+ghost use Rattle.tlv_value.specs.Units.{escaped_number, escaped_octet, is_printable, octet_text, printable_text, unit_size, unit_text, units, utf8_number, without_zeros};
 
 use crate::kind::Kind;
 use crate::rows::utf8_length;
@@ -190,14 +190,14 @@ fn significant(digits: &[u8]) -> &[u8]
 
 /// Whether the octet is a printable character of ASCII.
 fn is_printable(octet: u8) -> bool
-    ensures { result ≡ is_printable_octet octet }
+    ensures { result ≡ is_printable octet }
 {
     matches!(octet, 0x20..=0x7e)
 }
 
 /// Whether the octet is written as it is: it is printable, and neither the quotation mark nor the reverse solidus.
 fn is_plain(octet: u8) -> bool
-    ensures { result ≡ is_plain_octet octet }
+    ensures { result ≡ is_plain octet }
 {
     matches!(octet, 0x20..=0x7e) && octet != b'"' && octet != b'\\'
 }
@@ -212,7 +212,7 @@ fn has_ascii(kind: Kind) -> bool
 /// Whether all of the octets are written as they are.
 #[inline(always)]
 fn are_plain(octets: &[u8; ROW]) -> bool
-    ensures { result ≡ list_all is_plain_octet octets.now }
+    ensures { result ≡ list_all is_plain octets.now }
 {
     // There is no way out of the loop, so that many octets are looked at in one go.
     let mut all = true;
@@ -227,7 +227,7 @@ fn plain_size(kind: Kind, octets: &[u8]) -> usize
     ensures within { result ≤ length octets.now }
     ensures plain { ArePlain kind octets.now result }
     ensures next { result < length octets.now → is_ascii kind ≡ true
-        → is_plain_octet (slice_index octets.now result) ≡ false }
+        → is_plain (slice_index octets.now result) ≡ false }
 {
     if !has_ascii(kind) {
         return 0;
@@ -243,7 +243,7 @@ fn plain_size(kind: Kind, octets: &[u8]) -> usize
 /// How many octets in front make a unit.
 fn unit_size(kind: Kind, octets: &[u8]) -> usize
     requires { 1 ≤ length octets.now }
-    ensures value { result ≡ unit_size_of kind octets.now }
+    ensures value { result ≡ unit_size kind octets.now }
     ensures some { 1 ≤ result }
     ensures within { result ≤ length octets.now }
 {
@@ -258,7 +258,7 @@ fn unit_size(kind: Kind, octets: &[u8]) -> usize
 /// How many octets in front make a unit of UTF8String.
 fn utf8_size(octets: &[u8]) -> usize
     requires { 1 ≤ length octets.now }
-    ensures value { result ≡ unit_size_of Kind.Utf8 octets.now }
+    ensures value { result ≡ unit_size Kind.Utf8 octets.now }
     ensures some { 1 ≤ result }
     ensures within { result ≤ length octets.now }
 {
@@ -272,7 +272,7 @@ fn utf8_size(octets: &[u8]) -> usize
 
 /// The number of a character of two to four octets.
 fn utf8_number(unit: &[u8]) -> u32
-    ensures value { result ≡ utf8_number_of unit.now }
+    ensures value { result ≡ utf8_number unit.now }
     ensures bound { result < 2097152 }
 {
     match unit {

@@ -6,7 +6,7 @@ ghost use Rattle.tlv_value.specs.Bits.{last_bits};
 ghost use Rattle.tlv_value.specs.KindValues.{bits_value, boolean_value, integer_value, long_text};
 ghost use Rattle.tlv_value.specs.Private.KindValues.{digits_of, joined_pairs, plain_text};
 ghost use Rattle.tlv_value.specs.Units.{quoted_text};
-ghost use Rattle.tlv_value.specs.Value.{bit_count, is_long, is_readable as is_readable_by, most_on_line, row_text, used_digits};
+ghost use Rattle.tlv_value.specs.Value.{bit_count, is_long, is_readable, most_on_line, row_text, used_digits};
 
 use crate::decimal::{decimal_of, short_number};
 use crate::kind::Kind;
@@ -199,7 +199,7 @@ fn write_bit_digits(held: &mut Held, unused: u8, octets: &[u8])
 
 /// Whether the first contents octet of a BIT STRING can be read, before so many others.
 fn is_readable(unused: u8, octets: usize) -> bool
-    ensures { result ≡ is_readable_by unused octets }
+    ensures { result ≡ is_readable unused octets }
 {
     unused <= 7 && (unused == 0 || octets != 0)
 }

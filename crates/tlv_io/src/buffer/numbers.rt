@@ -1,6 +1,6 @@
 //! Numbers that are added to the octets held.
 ghost use Rattle.std.specs.Prelude.{◌≡◌, ◌+◌, ◌<◌, ◌^◌, ◌++◌, decimal, length};
-ghost use Rattle.tlv_io.specs.LineTexts.{HasRoomFor, columns as columns_text, right};
+ghost use Rattle.tlv_io.specs.LineTexts.{HasRoomFor, columns, right};
 
 use super::Held;
 use itoa::{Buffer, write_digits};
@@ -47,7 +47,7 @@ impl Held {
     #[inline(always)]
     pub fn columns(&mut self, offset: u64, size: u64)
         requires { HasRoomFor self.old 43 }
-        ensures { self.new ≡ self.old ++ columns_text offset (decimal size) }
+        ensures { self.new ≡ self.old ++ columns offset (decimal size) }
     {
         if offset >= 100_000_000 || size >= 1_000_000 {
             return self.wide_columns(offset, size);
@@ -63,7 +63,7 @@ impl Held {
     #[inline(never)]
     fn wide_columns(&mut self, offset: u64, size: u64)
         requires { HasRoomFor self.old 43 }
-        ensures { self.new ≡ self.old ++ columns_text offset (decimal size) }
+        ensures { self.new ≡ self.old ++ columns offset (decimal size) }
     {
         self.right_8(offset);
         self.add(b" ");
@@ -75,7 +75,7 @@ impl Held {
     #[inline(always)]
     pub fn worded(&mut self, offset: u64, word: &[u8; 6])
         requires { HasRoomFor self.old 29 }
-        ensures { self.new ≡ self.old ++ columns_text offset word.now }
+        ensures { self.new ≡ self.old ++ columns offset word.now }
     {
         if offset >= 100_000_000 {
             return self.wide_worded(offset, word);
@@ -91,7 +91,7 @@ impl Held {
     #[inline(never)]
     fn wide_worded(&mut self, offset: u64, word: &[u8; 6])
         requires { HasRoomFor self.old 29 }
-        ensures { self.new ≡ self.old ++ columns_text offset word.now }
+        ensures { self.new ≡ self.old ++ columns offset word.now }
     {
         self.right_8(offset);
         self.add(b" ");

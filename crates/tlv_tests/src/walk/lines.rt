@@ -2,7 +2,7 @@
 ghost use Rattle.std.specs.Prelude.{◌≡◌, ◌+◌, ◌*◌, ◌≤◌, ◌++◌, length};
 ghost use Rattle.arrayvec.specs.ArrayVec.{array_vec_len};
 ghost use Rattle.tlv_walk.specs.Follow.{HasEffect};
-ghost use Rattle.tlv_tests.specs.TestStep.{ends, header_line as header_line_of, pads, pair as pair_of, pairs, place as place_of, test_close_line};
+ghost use Rattle.tlv_tests.specs.TestStep.{ends, header_line, pads, pair, pairs, place, test_close_line};
 ghost use Rattle.tlv_io.specs.Out.{Puts};
 
 use arrayvec::ArrayVec;
@@ -48,7 +48,7 @@ impl Lines {
 
 /// An octet as a space and two digits.
 fn pair(octet: u8) -> [u8; 3]
-    ensures { result ≡ pair_of octet }
+    ensures { result ≡ pair octet }
 {
     [
         b' ',
@@ -59,7 +59,7 @@ fn pair(octet: u8) -> [u8; 3]
 
 /// An offset as a space and its last four decimal digits.
 fn place(offset: u64) -> [u8; 5]
-    ensures { result ≡ place_of offset }
+    ensures { result ≡ place offset }
 {
     [
         b' ',
@@ -86,7 +86,7 @@ fn push_pairs(line: &mut ArrayVec<u8, 512>, octets: &[u8])
 /// The line of a header.
 fn header_line(word: &[u8], header: &Header) -> ArrayVec<u8, 512>
     requires { length word.now ≤ 5 }
-    ensures { result.items ≡ header_line_of word.now header.now }
+    ensures { result.items ≡ header_line word.now header.now }
 {
     let mut line = ArrayVec::new();
     let _ = line.try_extend_from_slice(word);
@@ -116,7 +116,7 @@ fn put_header<D: Drain>(
     out: &mut Out<'_, D>,
 ) -> Result<(), WriteFault>
     requires { length word.now ≤ 5 }
-    ensures { Puts D.state out.old out.new (header_line_of word.now header.now) result }
+    ensures { Puts D.state out.old out.new (header_line word.now header.now) result }
 {
     out.put(header_line(word, header).as_slice())
 }
@@ -145,11 +145,11 @@ impl Follow for Lines {
     ghost use Rattle.std.specs.Prelude.{codes, refl};
     ghost use Rattle.std.proofs.Common.{ap};
     ghost use Rattle.std.proofs.lemmas.Grind.{flat_map-append};
-    ghost use Rattle.tlv_tests.specs.TestStep.{pair as pair_of, test_effect, test_step};
+    ghost use Rattle.tlv_tests.specs.TestStep.{pair, test_effect, test_step};
 
     ghost next = { test_step };
 
-    ghost bytes_join = { λ s x y. ap (test_effect s) (flat_map-append pair_of x y) };
+    ghost bytes_join = { λ s x y. ap (test_effect s) (flat_map-append pair x y) };
 
     ghost bytes_rest = { λ s. refl };
 

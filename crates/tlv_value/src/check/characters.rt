@@ -1,6 +1,6 @@
 //! Which octets the strings of some characters have.
 ghost use Rattle.std.specs.Prelude.{◌≡◌};
-ghost use Rattle.tlv_value.specs.Checks.{allows_octet as allows_octet_of, every, is_printable_string};
+ghost use Rattle.tlv_value.specs.Checks.{allows_octet, every, is_printable_string};
 
 use super::both;
 use tlv_head::universal;
@@ -19,7 +19,7 @@ static PRINTABLE: [u8; 256] = *b"\
 /// Whether the type with this universal number has all of the octets.
 #[inline(never)]
 pub(crate) fn are_allowed(number: u64, octets: &[u8]) -> bool
-    ensures { result ≡ every (allows_octet_of number) octets.now }
+    ensures { result ≡ every (allows_octet number) octets.now }
 {
     // A call for each type: where it is inlined, the type is then not asked for again at each octet.
     match number {
@@ -34,7 +34,7 @@ pub(crate) fn are_allowed(number: u64, octets: &[u8]) -> bool
 /// Whether the type with this universal number has each of the octets.
 #[inline(always)]
 fn is_each_allowed(number: u64, octets: &[u8]) -> bool
-    ensures { result ≡ every (allows_octet_of number) octets.now }
+    ensures { result ≡ every (allows_octet number) octets.now }
 {
     // There is no way out of the loop, so that many octets are looked at in one go.
     let mut all = true;
@@ -47,7 +47,7 @@ fn is_each_allowed(number: u64, octets: &[u8]) -> bool
 /// Whether the type with this universal number has the octet: NumericString, PrintableString, IA5String, VisibleString.
 #[inline(always)]
 fn allows_octet(number: u64, octet: u8) -> bool
-    ensures { result ≡ allows_octet_of number octet }
+    ensures { result ≡ allows_octet number octet }
 {
     match number {
         universal::NUMERIC_STRING => matches!(octet, b' ' | b'0'..=b'9'),

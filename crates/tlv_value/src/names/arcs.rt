@@ -1,7 +1,7 @@
 //! Object identifiers as dotted texts, judged.
 ghost use Rattle.std.specs.Prelude.{◌≡◌, nat_le, true};
 ghost use Rattle.std.specs.List.{list_all};
-ghost use Rattle.tlv_value.specs.Names.{are_first_arcs as are_first, decimal_number, dotted_parts, is_arc as is_arc_text, is_dotted as is_dotted_text, may_begin as may_begin_text};
+ghost use Rattle.tlv_value.specs.Names.{are_first_arcs, decimal_number, dotted_parts, is_arc, is_dotted, may_begin};
 ghost use Rattle.tlv_value.specs.Times.{is_digit};
 
 use super::line::{behind, end_before};
@@ -9,14 +9,14 @@ use super::line::{behind, end_before};
 /// Whether the text is two or more arcs with dots between them, of which the first is 0, 1 or 2, and the second at most
 /// 39 below 0 and 1 (ITU-T X.660). Arcs are decimals without a leading zero, of any size.
 pub(super) fn is_dotted(text: &[u8]) -> bool
-    ensures { result ≡ is_dotted_text text.now }
+    ensures { result ≡ is_dotted text.now }
 {
     are_arcs(text) && are_first_arcs(text)
 }
 
 /// Whether each part between dots is an arc.
 fn are_arcs(text: &[u8]) -> bool
-    ensures { result ≡ list_all is_arc_text (dotted_parts text.now) }
+    ensures { result ≡ list_all is_arc (dotted_parts text.now) }
 {
     let mut rest = text;
     loop {
@@ -33,7 +33,7 @@ fn are_arcs(text: &[u8]) -> bool
 
 /// Whether the part is digits without a leading zero.
 fn is_arc(part: &[u8]) -> bool
-    ensures { result ≡ is_arc_text part.now }
+    ensures { result ≡ is_arc part.now }
 {
     match part.len() {
         0 => false,
@@ -55,8 +55,8 @@ fn are_digits(part: &[u8]) -> bool
 
 /// Whether there are two arcs, and those may be the first ones.
 fn are_first_arcs(text: &[u8]) -> bool
-    requires { list_all is_arc_text (dotted_parts text.now) ≡ true }
-    ensures { result ≡ are_first (dotted_parts text.now) }
+    requires { list_all is_arc (dotted_parts text.now) ≡ true }
+    ensures { result ≡ are_first_arcs (dotted_parts text.now) }
 {
     let end = end_before(text, b'.');
     if end == text.len() {
@@ -68,9 +68,9 @@ fn are_first_arcs(text: &[u8]) -> bool
 
 /// Whether these arcs may be the first ones.
 fn may_begin(first: &[u8], second: &[u8]) -> bool
-    requires first { is_arc_text first.now ≡ true }
-    requires second { is_arc_text second.now ≡ true }
-    ensures { result ≡ may_begin_text first.now second.now }
+    requires first { is_arc first.now ≡ true }
+    requires second { is_arc second.now ≡ true }
+    ensures { result ≡ may_begin first.now second.now }
 {
     if first.len() > 1 || first[0] > b'2' {
         return false;
@@ -79,7 +79,7 @@ fn may_begin(first: &[u8], second: &[u8]) -> bool
 }
 
 fn is_below_forty(arc: &[u8]) -> bool
-    requires { is_arc_text arc.now ≡ true }
+    requires { is_arc arc.now ≡ true }
     ensures { result ≡ nat_le (decimal_number arc.now) 39 }
 {
     match arc.len() {

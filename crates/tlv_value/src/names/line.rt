@@ -1,7 +1,7 @@
 //! What a line of a names file says.
 ghost use Rattle.std.specs.Prelude.{◌≡◌, ◌==◌, ◌+◌, ◌≤◌, drop, length};
 ghost use Rattle.std.specs.List.{list_all, position_or_len};
-ghost use Rattle.tlv_value.specs.Names.{is_blank as is_blank_octet, is_name as is_name_text, names_line, without_first_blanks, without_last_blanks, without_outer_blanks, without_return as without_return_at_end};
+ghost use Rattle.tlv_value.specs.Names.{is_blank, is_name, names_line, without_first_blanks, without_last_blanks, without_outer_blanks, without_return};
 ghost use Rattle.tlv_value.specs.Units.{is_printable};
 ghost use Rattle.tlv_value.specs.Private.NamesSteps.{entry_or_refusal, texts_of};
 
@@ -63,7 +63,7 @@ pub(super) fn behind(text: &[u8], end: usize) -> &[u8]
 
 /// Where the first space or tab is, or the end.
 fn end_before_blank(text: &[u8]) -> usize
-    ensures value { result ≡ position_or_len is_blank_octet text.now }
+    ensures value { result ≡ position_or_len is_blank text.now }
     ensures within { result ≤ length text.now }
 {
     for (i, octet) in text.iter().enumerate() {
@@ -75,14 +75,14 @@ fn end_before_blank(text: &[u8]) -> usize
 }
 
 fn is_blank(octet: u8) -> bool
-    ensures { result ≡ is_blank_octet octet }
+    ensures { result ≡ is_blank octet }
 {
     octet == b' ' || octet == b'\t'
 }
 
 /// Without the one CR at the end, if there is one.
 fn without_return(line: &[u8]) -> &[u8]
-    ensures { result.now ≡ without_return_at_end line.now }
+    ensures { result.now ≡ without_return line.now }
 {
     match line.split_last() {
         Some((b'\r', front)) => front,
@@ -120,7 +120,7 @@ fn without_blanks_at_end(text: &[u8]) -> &[u8]
 
 /// Whether the text is one or more printable octets.
 fn is_name(text: &[u8]) -> bool
-    ensures { result ≡ is_name_text text.now }
+    ensures { result ≡ is_name text.now }
 {
     !text.is_empty() && are_printable(text)
 }

@@ -4,7 +4,7 @@ ghost use Rattle.tlv_io.specs.LineTexts.{HasRoomFor};
 ghost use Rattle.tlv_io.specs.Out.{Puts};
 ghost use Rattle.tlv_value.specs.Layout.{line, no_columns, row_line};
 ghost use Rattle.tlv_value.specs.Private.Rows.{full_line, full_lines};
-ghost use Rattle.tlv_value.specs.Rows.{full_rows, last_rows, open_row, row_size as row_size_of, rows_of};
+ghost use Rattle.tlv_value.specs.Rows.{full_rows, last_rows, open_row, row_size, rows_of};
 ghost use Rattle.tlv_value.specs.TextState.{row_lines};
 ghost use Rattle.tlv_value.specs.Value.{row_text};
 
@@ -42,9 +42,9 @@ pub(crate) fn put_rows<D: Drain>(
     octets: &[u8],
     out: &mut Out<'_, D>,
 ) -> Result<(), WriteFault>
-    requires begun { length row.old.items < row_size_of kind }
+    requires begun { length row.old.items < row_size kind }
     requires counted { rows.old + length row.old.items + length octets.now < 2 ^ 64 }
-    ensures begun { length row.new.items < row_size_of kind }
+    ensures begun { length row.new.items < row_size kind }
     ensures counted { rows.new + length row.new.items
         ≤ rows.old + length row.old.items + length octets.now }
     ensures row { OnOk result (row.new.items ≡ open_row kind row.old.items octets.now) }

@@ -1,0 +1,37 @@
+//! What is found on contents.
+ghost use Rattle.std.specs.List.{filter};
+ghost use Rattle.std.specs.Prelude.{◌≡◌, []};
+ghost use Rattle.tlv_show.specs.Found.{shows};
+ghost use Rattle.tlv_value.specs.CheckState.{findings_in};
+
+use crate::Rules;
+use arrayvec::ArrayVec;
+use tlv_value::{Finding, ValueCheck};
+
+/// Notes what is found on the contents of a primitive, of which all have come.
+#[inline(never)]
+pub(crate) fn note_contents(rules: Rules, check: &ValueCheck, found: &mut ArrayVec<Finding, 16>)
+    requires left { check.now.left ≡ 0 }
+    requires none { found.old.items ≡ [] }
+    ensures { found.new.items ≡ filter (shows rules) (findings_in check.now) }
+{
+    for finding in check.end().as_slice() {
+        if is_shown(rules, *finding) {
+            found.push(*finding);
+        }
+    }
+}
+
+/// Whether the rules show the finding, by the letter of its code.
+fn is_shown(rules: Rules, finding: Finding) -> bool
+    ensures { result ≡ shows rules finding }
+{
+    match finding.code() {
+        [letter, ..] => match rules {
+            Rules::Ber => *letter == b'B',
+            Rules::Der => matches!(*letter, b'B' | b'S' | b'D'),
+            Rules::Cer => matches!(*letter, b'B' | b'S' | b'C'),
+        },
+        [] => false,
+    }
+}
