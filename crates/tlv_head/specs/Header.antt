@@ -102,7 +102,8 @@ is_universal class = eqb (class_bits class) 0
 -- its contents are to be read as encodings
 abbrev pub is_wrapper : Bool → Class → Bool → ℕ → Size → Bool
 is_wrapper named class constructed number size =
-    named && not constructed && is_universal class && (eqb number 4 || (eqb number 3 && not (eqb (announced_length size) 0)))
+    named && not constructed && is_universal class
+    && (eqb number 4 || (eqb number 3 && not (eqb (announced_length size) 0)))
 
 -- the same, of the element with this header
 abbrev pub wraps : HeaderValue → Bool
