@@ -82,10 +82,16 @@ def closed_early(part):
         part.expect(what, (status, err) in wanted, f"status {status}", f"errors {err}")
 
 
+def heed(number):
+    """Has a signal its usual effect in the program, also if it has none here, as SIGINT in the background of a shell."""
+    if number != signal.SIGKILL:
+        signal.signal(number, signal.SIG_DFL)
+
+
 def signals(part):
     """A signal ends the program as it ends any; what was written stands. A pause changes nothing."""
     for number in (signal.SIGTERM, signal.SIGINT, signal.SIGHUP, signal.SIGKILL):
-        child = part.start(["dump"], **PIPES)
+        child = part.start(["dump"], **PIPES, preexec_fn=lambda: heed(number))
         child.stdin.write(STEPS[0][0])
         first = read_so_far(child.stdout, len(STEPS[0][1]))
         child.send_signal(number)
