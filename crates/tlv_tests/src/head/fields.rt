@@ -1,9 +1,10 @@
-//! What a whole header tells, and what is made of it.
+//! What a whole header says, and what is made of it.
 use super::octets::{OFFSET, SHAPES, Shape};
 use super::{front_header, is_of_shape};
-use tlv_head::{Header, HeaderFields, read_header, spell_indefinite};
+use crate::expect::expect_eq;
+use tlv_head::{Header, HeaderFields, Size, read_header, spell_indefinite};
 
-/// The octets behind the first of the identifier and of the length.
+/// The octets after the first of the identifier and of the length.
 #[test]
 fn headers_give_their_second_octets(rt: HostRuntime) {
     for (octets, number, length) in [
@@ -94,4 +95,11 @@ fn strings_wrap(rt: HostRuntime) {
         };
         assert!(rt; named.wraps() == wraps && !unnamed_wraps, "{:?}", octets);
     }
+}
+
+/// The length that is announced, as a number.
+#[test]
+fn sizes_announce_their_length(rt: HostRuntime) {
+    expect_eq(&rt, Size::Definite(1000).announced_length(), 1000);
+    expect_eq(&rt, Size::Indefinite.announced_length(), 0);
 }

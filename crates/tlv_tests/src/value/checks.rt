@@ -1,5 +1,6 @@
 //! What is found on contents, whatever pieces they come in.
 use super::found_rows::{BITS, Found, NUMBERS, OBJECTS, STRINGS, TIMES};
+use crate::expect::expect_eq;
 use arrayvec::ArrayVec;
 use std::process::Abort;
 use tlv_head::{Header, Size, read_header};
@@ -89,4 +90,12 @@ fn wordings(rt: HostRuntime) {
         Finding::B08.code() == b"B08".as_slice()
             && Finding::B08.text() == b"integer is padded".as_slice()
     );
+}
+
+/// The words of a finding, with spaces after them.
+#[test]
+fn wordings_are_padded(rt: HostRuntime) {
+    let (wording, count) = Finding::D01.padded_wording();
+    expect_eq(&rt, &wording[..count], b"D01 indefinite length".as_slice());
+    expect_eq(&rt, count, 21);
 }
