@@ -1,4 +1,4 @@
-"""README.md: its examples word for word, the options of its synopsis, its links, and the kit that it names; the faults of
+"""README.md: its examples word for word, the options of its synopsis, its links, and the logic of the kit that it names; the faults of
 docs/USE.md.
 
 The examples run one after another at the top of a copy of this repository in which the program is built.
@@ -84,13 +84,22 @@ def faults(part):
 
 
 def kit(part, text):
-    """The kit that README names is the one of this machine."""
+    """README names the kit that it is proved with. Kits of one logic prove by the same rules, so that of this machine may have another
+    name, which is noted, but no other logic."""
     if not part.has("rt"):
         return
     got = subprocess.run(["rt", "version"], cwd=part.root, capture_output=True, text=True)
     named = re.findall(r"^Proved with `([^`]*)` \(`rt version`\)\.$", text, re.M)
-    fine = got.returncode == 0 and named == [got.stdout.strip()]
-    part.expect("the kit", fine, f"README names {named}", f"rt version prints {got.stdout.strip()}")
+    here = got.stdout.strip()
+    fine = got.returncode == 0 and len(named) == 1 and logic_of(named[0]) == logic_of(here) != ""
+    part.expect("the kit", fine, f"README names {named}", f"rt version prints {here}")
+    if fine and named != [here]:
+        part.note(f"README names {named[0]}; this is {here}")
+
+
+def logic_of(kit):
+    """The logic of a kit, by the line that names the kit."""
+    return kit.partition(" logic ")[2]
 
 
 def test(part):

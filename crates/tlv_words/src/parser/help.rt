@@ -28,8 +28,8 @@ Write at most N rows of each value, and \"...\" for the rest: 0 to 4294967295
 [default: all rows]";
 
 pub(super) const PURE: &str = "\
-Leave out the first columns, those of offsets and lengths, so that dumps can be
-compared";
+Leave out the first columns, those of offsets and lengths, and the lines of findings,
+so that dumps can be compared";
 
 pub(super) const NAMES: &str = "\
 A file of names for object identifiers: lines such as \"2.5.4.3 commonName\", and
@@ -55,7 +55,8 @@ pub(super) const PROGRAM: Help<'static> = Help {
     more: "\
 Shows BER, CER and DER encodings (ITU-T X.690) without their ASN.1 module, as files of
 certificates, directory entries and telephony records have them. The input is read once,
-from its start, and may be a pipe.",
+from its start, and may be a pipe. It is taken as it is: for PEM, base64 and hexadecimal
+there is tlvdump-show.",
     after: "\
 Each command has help of its own, as \"tlvdump dump --help\".
 
@@ -69,9 +70,9 @@ Exit status:
   1  findings, no element at the offset of extract (E4), no string at an offset of --inside (E7)
   2  an octet is refused, or the input ends too early (F01 to F12)
   3  a read or a write failed (E1, E2), more than 2^40 octets (E3), FILE does not open (E5)
-  4  the command line (U2) or the file of names (N1 to N5) is refused
+  4  the command line (U1, U2) or the file of names (N1 to N5) is refused
   5  memory was refused (U3, N6)
-The message is one line on standard error.",
+The message goes to standard error: one line, or several on a refused command line.",
 };
 
 pub(super) const DUMP: Help<'static> = Help {
@@ -79,7 +80,8 @@ pub(super) const DUMP: Help<'static> = Help {
     more: "\
 Writes each element on a line of its own, as far as the input is an encoding: the offset of
 its first octet, the length of its contents (or \"indef\"), its tag and its value. What an
-element holds is indented below it. What violates the rules stands on lines of its own.",
+element holds is indented below it. What violates the rules stands on lines of its own. The
+input is taken as it is: for PEM, base64 and hexadecimal there is tlvdump-show.",
     after: "\
 Examples:
   tlvdump dump certificate.der
@@ -91,9 +93,9 @@ Exit status:
   1  findings, or no OCTET STRING or BIT STRING at an offset of --inside (E7)
   2  an octet is refused, or the input ends too early (F01 to F12)
   3  a read or a write failed (E1, E2), more than 2^40 octets (E3), FILE does not open (E5)
-  4  the command line (U2) or the file of names (N1 to N5) is refused
+  4  the command line (U1, U2) or the file of names (N1 to N5) is refused
   5  memory was refused (U3, N6)
-The message is one line on standard error.",
+The message goes to standard error: one line, or several on a refused command line.",
 };
 
 pub(super) const CHECK: Help<'static> = Help {
@@ -111,9 +113,9 @@ Exit status:
   1  findings, or no OCTET STRING or BIT STRING at an offset of --inside (E7)
   2  an octet is refused, or the input ends too early (F01 to F12)
   3  a read or a write failed (E1, E2), more than 2^40 octets (E3), FILE does not open (E5)
-  4  the command line is refused (U2)
+  4  the command line is refused (U1, U2)
   5  memory was refused (U3)
-The message is one line on standard error.",
+The message goes to standard error: one line, or several on a refused command line.",
 };
 
 pub(super) const EXTRACT: Help<'static> = Help {
@@ -131,9 +133,9 @@ Exit status:
   1  no element has its first octet at the offset (E4)
   2  an octet is refused, or the input ends too early (F01 to F12)
   3  a read or a write failed (E1, E2), more than 2^40 octets (E3), FILE does not open (E5)
-  4  the command line is refused (U2)
+  4  the command line is refused (U1, U2)
   5  memory was refused (U3)
-The message is one line on standard error.",
+The message goes to standard error: one line, or several on a refused command line.",
 };
 
 pub(super) const INDEF: Help<'static> = Help {
@@ -150,7 +152,7 @@ Exit status:
   0  the input is one or more whole encodings, and nothing else
   2  an octet is refused, or the input ends too early (F01 to F12)
   3  a read or a write failed (E1, E2), more than 2^40 octets (E3), FILE does not open (E5)
-  4  the command line is refused
+  4  the command line is refused (U1)
   5  memory was refused (U3)
-The message is one line on standard error.",
+The message goes to standard error: one line, or several on a refused command line.",
 };
