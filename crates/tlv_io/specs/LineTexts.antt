@@ -6,6 +6,10 @@ use Rattle.hex.specs.Hex.{encode_lower}
 abbrev pub HasRoomFor : List ℕ → ℕ → Type 0
 HasRoomFor line count = length line + count ≤ 4096
 
+-- at most so many octets were added
+abbrev pub GrowsBy : ℕ → List ℕ → List ℕ → Type 0
+GrowsBy n old new = length new ≤ length old + n
+
 -- the text was added to the line, if there was room for it
 abbrev pub AddsIfRoom : List ℕ → List ℕ → List ℕ → Type 0
 AddsIfRoom old new text = HasRoomFor old (length text) → new ≡ old ++ text

@@ -1,7 +1,7 @@
 //! The lines of a dump that are not those of primitives.
-ghost use Rattle.std.specs.Prelude.{◌≡◌, ◌+◌, ◌≤◌, ◌++◌, codes, length};
+ghost use Rattle.std.specs.Prelude.{◌≡◌, ◌≤◌, ◌++◌, codes, length};
 ghost use Rattle.std.specs.Option.{option_map_or};
-ghost use Rattle.tlv_io.specs.LineTexts.{HasRoomFor};
+ghost use Rattle.tlv_io.specs.LineTexts.{GrowsBy, HasRoomFor};
 ghost use Rattle.tlv_io.specs.Out.{Puts};
 ghost use Rattle.tlv_value.specs.Layout.{columns, margin, no_columns};
 ghost use Rattle.tlv_show.specs.Lines.{close_line, opening_line, padding_line, size_text};
@@ -72,7 +72,7 @@ fn begin_opening(held: &mut Held, layout: Layout, offset: u64, size: Size)
     requires { HasRoomFor held.old 592 }
     ensures text { held.new
         ≡ held.old ++ margin layout.pure (columns offset (size_text size)) layout.level }
-    ensures bound { length held.new ≤ length held.old + 553 }
+    ensures bound { GrowsBy 553 held.old held.new }
 {
     match size {
         Size::Definite(length) => begin_sized(held, layout, offset, length),
@@ -97,7 +97,7 @@ fn begin_closing(held: &mut Held, layout: Layout, at: Option<u64>)
     ensures text { held.new
         ≡ held.old ++ margin layout.pure
         (option_map_or (λ at. columns at (codes "end")) at no_columns) layout.level }
-    ensures bound { length held.new ≤ length held.old + 553 }
+    ensures bound { GrowsBy 553 held.old held.new }
 {
     match at {
         Some(at) => begin_word(held, layout, at, b"   end"),

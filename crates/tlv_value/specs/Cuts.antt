@@ -1,7 +1,22 @@
 -- How the octets of long contents are in rows, as a condition on rows.
-use Rattle.std.specs.Prelude.{◌≡◌, ◌≢◌, ◌⊎◌, ℕ, ◌+◌, ◌<◌, ◌≤◌, false, eqb, if◌then◌else◌, List, [], ◌∷◌, ◌++◌, length, slice_index}
+use Rattle.std.specs.Prelude.{◌≡◌, ◌≢◌, ◌⊎◌, ℕ, ◌+◌, ◌<◌, ◌≤◌, if◌then◌else◌, List, [], ◌∷◌, ◌++◌, length, slice_index}
+use Rattle.std.specs.Int.{is_in_range}
 use Rattle.tlv_value.specs.declared.kind.Kind.{Kind}
-use Rattle.tlv_value.specs.Rows.{character_length, row_size, rows_from, rows_of}
+use Rattle.tlv_value.specs.declared.kind.Kind.TheVariants.{Utf8}
+use Rattle.tlv_value.specs.Kind.{is_text}
+
+-- how many octets a full row has
+abbrev pub row_size : Kind → ℕ
+row_size kind = if is_text kind then 64 else 16
+
+-- how many octets want to stand in one row, from this one on. RFC 3629, 4: those of a character, by its first octet
+abbrev pub character_length : Kind → ℕ → ℕ
+character_length Utf8 x =
+    if is_in_range 0xc2 0xdf x then 2
+    else if is_in_range 0xe0 0xef x then 3
+    else if is_in_range 0xf0 0xf4 x then 4
+    else 1
+character_length _ x = 1
 
 abbrev pub octets_of_rows : List (List ℕ) → List ℕ
 octets_of_rows [] = []
@@ -34,24 +49,7 @@ pub record IsCut (kind : Kind) (octets : List ℕ) (rows : List (List ℕ)) : Ty
   pub each : AreRows kind rows
   pub full : AreFull kind rows
 
--- the rows of contents are such a cut
-abbrev pub RowsAreACut : Type 0
-RowsAreACut = (kind : Kind) (octets : List ℕ) → IsCut kind octets (rows_of kind octets)
-
--- and are the only one
-abbrev pub RowsHaveOneCut : Type 0
-RowsHaveOneCut =
-    (kind : Kind) (octets : List ℕ) (rows : List (List ℕ))
-    → IsCut kind octets rows → rows ≡ rows_of kind octets
-
--- the rows of a cut, without the last one if it is not full
-abbrev pub full_ones : Kind → List (List ℕ) → List (List ℕ)
-full_ones kind [] = []
-full_ones kind (row ∷ []) = if eqb (length row) (row_size kind) then row ∷ [] else []
-full_ones kind (row ∷ next ∷ rows) = row ∷ full_ones kind (next ∷ rows)
-
--- the rows that are full before the end of the contents
-abbrev pub FullRowsAreOfTheCut : Type 0
-FullRowsAreOfTheCut =
-    (kind : Kind) (octets : List ℕ) (rows : List (List ℕ))
-    → IsCut kind octets rows → rows_from kind false [] octets ≡ full_ones kind rows
+-- rows that are a cut of the octets
+pub record Cut (kind : Kind) (octets : List ℕ) : Type 0 where
+  pub rows : List (List ℕ)
+  pub is_cut : IsCut kind octets rows

@@ -1,7 +1,10 @@
--- Laws of the lines of a primitive.
+-- Laws of the lines of a primitive, and of rows.
 use Rattle.std.specs.Prelude.{◌≡◌, ℕ, List, [], ◌++◌, length}
 use Rattle.tlv_head.specs.Header.{HeaderValue, announced_length}
+use Rattle.tlv_value.specs.declared.kind.Kind.{Kind}
 use Rattle.tlv_value.specs.declared.layout.Layout.{Layout}
+use Rattle.tlv_value.specs.Cuts.{IsCut}
+use Rattle.tlv_value.specs.Rows.{rows_of}
 use Rattle.tlv_value.specs.TextState.{TextState, begin_lines, contents_lines, end_lines, new_text, open_lines, text_after, whole_lines}
 use Rattle.tlv_value.specs.Value.{NameOf}
 
@@ -31,3 +34,13 @@ abbrev pub LinesEnd : Type 0
 LinesEnd =
     (name_of : NameOf) (h : HeaderValue) (layout : Layout) (octets : List ℕ) → length octets ≡ announced_length h.size
     → whole_lines name_of h layout octets ≡ open_lines h layout octets ++ end_lines name_of (state_for h layout octets)
+
+-- the rows of contents are a cut
+abbrev pub RowsAreACut : Type 0
+RowsAreACut = (kind : Kind) (octets : List ℕ) → IsCut kind octets (rows_of kind octets)
+
+-- and are the only one
+abbrev pub RowsHaveOneCut : Type 0
+RowsHaveOneCut =
+    (kind : Kind) (octets : List ℕ) (rows : List (List ℕ))
+    → IsCut kind octets rows → rows ≡ rows_of kind octets

@@ -4,6 +4,9 @@ pub mod Bits
 pub mod Number
 pub mod Arcs
 pub mod Times
+pub mod Cuts
+pub mod RowsSoFar
+pub mod CutOf
 pub mod Rows
 pub mod Units
 pub mod Layout
@@ -21,5 +24,4 @@ pub mod CheckLaws
 pub mod Names
 pub mod NamesReading
 pub mod NamesSteps
-pub mod Cuts
 pub mod Private

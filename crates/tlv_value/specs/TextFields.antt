@@ -3,7 +3,7 @@ use Rattle.std.specs.Prelude.{◌≡◌, ◌+◌, ◌<◌, ◌≤◌, true, fals
 use Rattle.tlv_value.specs.declared.kind.Kind.TheVariants.{Bits}
 use Rattle.tlv_value.specs.declared.text.ValueText.TheInside.{Inside}
 use Rattle.tlv_value.specs.Kind.{kind_of}
-use Rattle.tlv_value.specs.Rows.{row_size}
+use Rattle.tlv_value.specs.Cuts.{row_size}
 use Rattle.tlv_value.specs.TextState.{TextState}
 use Rattle.tlv_value.specs.Value.{is_long}
 

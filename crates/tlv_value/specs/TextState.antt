@@ -9,7 +9,7 @@ use Rattle.tlv_value.specs.declared.kind.Kind.TheVariants.{Bits}
 use Rattle.tlv_value.specs.declared.layout.Layout.{Layout}
 use Rattle.tlv_value.specs.Kind.{kind_of}
 use Rattle.tlv_value.specs.Layout.{columns, line, row_line}
-use Rattle.tlv_value.specs.Rows.{full_rows, last_rows, open_row}
+use Rattle.tlv_value.specs.RowsSoFar.{full_rows, last_rows, open_row}
 use Rattle.tlv_value.specs.KindValues.{kind_value, long_text, row_octets}
 use Rattle.tlv_value.specs.Value.{NameOf, Value, is_long, long_value, row_text, whole_value}
 
@@ -45,7 +45,7 @@ open_lines h layout octets =
     then value_lines h layout (long_value false (kind_by h) (announced_length h.size) octets)
     else []
 
--- ---- Words of private functions and of proofs: lines as they become known
+-- ---- Lines as they become known: what a `ValueText` keeps, and what it writes
 
 -- rows in order, the first of which has this number
 abbrev pub row_lines : Kind → Layout → ℕ → List (List ℕ) → List ℕ

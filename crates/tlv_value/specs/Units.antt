@@ -4,7 +4,7 @@ use Rattle.std.specs.Str.{is_utf8}
 use Rattle.hex.specs.Hex.{encode_lower}
 use Rattle.tlv_value.specs.declared.kind.Kind.{Kind}
 use Rattle.tlv_value.specs.declared.kind.Kind.TheVariants.{Utf8, Ucs2, Ucs4}
-use Rattle.tlv_value.specs.Rows.{character_length}
+use Rattle.tlv_value.specs.Cuts.{character_length}
 
 -- 22 is the quotation mark, 5c the reverse solidus
 abbrev pub printable_text : ℕ → List ℕ

@@ -9,9 +9,10 @@ use Rattle.tlv_value.specs.declared.kind.Kind.{Kind}
 use Rattle.tlv_value.specs.declared.kind.Kind.TheVariants.{Boolean, Integer, Bits, Object, Octets, Relative}
 use Rattle.tlv_value.specs.Arcs.{dotted_text}
 use Rattle.tlv_value.specs.Bits.{bits_of}
+use Rattle.tlv_value.specs.Cuts.{row_size}
 use Rattle.tlv_value.specs.Kind.{is_text}
 use Rattle.tlv_value.specs.Number.{signed_sum}
-use Rattle.tlv_value.specs.Rows.{row_size, rows_from}
+use Rattle.tlv_value.specs.Rows.{known_rows, rows_of}
 use Rattle.tlv_value.specs.Units.{quoted_text}
 
 -- what the element's line has after the tag text, and the octets of each row
@@ -31,7 +32,7 @@ abbrev pub octets_value : List ℕ → Value
 octets_value octets =
     if nat_le (length octets) 16
     then record { text = spaced_pairs octets; rows = [] }
-    else record { text = []; rows = rows_from Octets true [] octets }
+    else record { text = []; rows = rows_of Octets octets }
 
 abbrev pub bit_count : ℕ → ℕ → List ℕ
 bit_count unused octets = decimal (8 * octets - unused) ++ codes " bits"
@@ -81,9 +82,9 @@ short_value name_of kind octets = if is_text kind then value_on_line (quoted_tex
 -- the first argument. 8.6.2: of a BIT STRING the number of bits is on the line, if its first octet can be read
 abbrev pub long_value : Bool → Kind → ℕ → List ℕ → Value
 long_value whole Bits n (unused ∷ octets) =
-    if nat_le unused 7 then record { text = 0x20 ∷ bit_count unused (n - 1); rows = rows_from Bits whole [] octets }
-    else record { text = []; rows = rows_from Bits whole [] (unused ∷ octets) }
-long_value whole kind n octets = record { text = []; rows = rows_from kind whole [] octets }
+    if nat_le unused 7 then record { text = 0x20 ∷ bit_count unused (n - 1); rows = known_rows whole Bits octets }
+    else record { text = []; rows = known_rows whole Bits (unused ∷ octets) }
+long_value whole kind n octets = record { text = []; rows = known_rows whole kind octets }
 
 -- contents that are whole
 abbrev pub whole_value : NameOf → Kind → List ℕ → Value

@@ -1,6 +1,6 @@
 //! Object identifiers as dotted texts.
-ghost use Rattle.std.specs.Prelude.{◌≡◌, ◌+◌, ◌<◌, ◌≤◌, ◌^◌, ◌++◌, ◌∷◌, [], if◌then◌else◌, is_some, length, true, unwrap_or};
-ghost use Rattle.tlv_io.specs.LineTexts.{HasRoomFor};
+ghost use Rattle.std.specs.Prelude.{◌≡◌, ◌<◌, ◌≤◌, ◌^◌, ◌++◌, ◌∷◌, [], if◌then◌else◌, is_some, length, true, unwrap_or};
+ghost use Rattle.tlv_io.specs.LineTexts.{GrowsBy, HasRoomFor};
 ghost use Rattle.tlv_value.specs.Arcs.{dotted_text, first_arcs, is_finished};
 ghost use Rattle.tlv_value.specs.Private.Arcs.{dotted_arcs, part_text};
 
@@ -34,7 +34,7 @@ pub(crate) fn write_dotted(held: &mut Held, contents: &[u8], relative: bool) -> 
     ensures text { held.new
         ≡ (if result then held.old ++ 32 ∷ unwrap_or (dotted_text relative contents.now) []
         else held.old) }
-    ensures bound { length held.new ≤ length held.old + 259 }
+    ensures bound { GrowsBy 259 held.old held.new }
 {
     if !is_finished(contents) {
         return false;
@@ -71,7 +71,7 @@ fn write_short(held: &mut Held, contents: &[u8], relative: bool)
     requires room { HasRoomFor held.old 320 }
     ensures exists { is_some (dotted_text relative contents.now) ≡ true }
     ensures text { held.new ≡ held.old ++ 32 ∷ unwrap_or (dotted_text relative contents.now) [] }
-    ensures bound { length held.new ≤ length held.old + 259 }
+    ensures bound { GrowsBy 259 held.old held.new }
 {
     held.add(b" ");
     let mut first = true;

@@ -1,8 +1,7 @@
 //! Laws of the definitions: each is the contract of a function that does nothing.
 
 ghost use Rattle.tlv_value.specs.CheckLaws.{ChecksJoin, FindingsEnd, RowsAreFormed};
-ghost use Rattle.tlv_value.specs.Cuts.{FullRowsAreOfTheCut, RowsAreACut, RowsHaveOneCut};
-ghost use Rattle.tlv_value.specs.Laws.{LinesBegin, LinesEnd, LinesGoOn, PiecesJoin};
+ghost use Rattle.tlv_value.specs.Laws.{LinesBegin, LinesEnd, LinesGoOn, PiecesJoin, RowsAreACut, RowsHaveOneCut};
 
 /// It does not matter into which pieces contents are cut.
 pub fn pieces_join()
@@ -48,10 +47,4 @@ pub fn rows_are_a_cut()
 /// The rows of contents are the only such cut: what [`rows_are_a_cut`] says of them leaves no other.
 pub fn rows_have_one_cut()
     ensures { RowsHaveOneCut }
-{}
-
-/// The rows that are written before the end of the contents are those of the cut, but for the last one if it has room
-/// for more.
-pub fn full_rows_are_of_the_cut()
-    ensures { FullRowsAreOfTheCut }
 {}

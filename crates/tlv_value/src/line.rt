@@ -1,6 +1,6 @@
 //! How lines begin.
-ghost use Rattle.std.specs.Prelude.{◌≡◌, ◌+◌, ◌≤◌, ◌++◌, ◌∷◌, [], decimal, if◌then◌else◌, length, take};
-ghost use Rattle.tlv_io.specs.LineTexts.{HasRoomFor};
+ghost use Rattle.std.specs.Prelude.{◌≡◌, ◌+◌, ◌≤◌, ◌++◌, ◌∷◌, [], decimal, if◌then◌else◌, take};
+ghost use Rattle.tlv_io.specs.LineTexts.{GrowsBy, HasRoomFor};
 ghost use Rattle.tlv_head.specs.Tag.{tag_text_of};
 ghost use Rattle.tlv_value.specs.Layout.{columns, margin, no_columns, spaces};
 
@@ -14,7 +14,7 @@ pub fn begin_sized(held: &mut Held, layout: Layout, offset: u64, size: u64)
     requires { HasRoomFor held.old 592 }
     ensures text { held.new
         ≡ held.old ++ margin layout.pure (columns offset (decimal size)) layout.level }
-    ensures bound { length held.new ≤ length held.old + 553 }
+    ensures bound { GrowsBy 553 held.old held.new }
 {
     write_sized(held, layout.pure, offset, size);
     held.spaces(2 * usize::from(layout.level));
@@ -25,7 +25,7 @@ pub fn begin_sized(held: &mut Held, layout: Layout, offset: u64, size: u64)
 fn write_sized(held: &mut Held, pure: bool, offset: u64, size: u64)
     requires { HasRoomFor held.old 50 }
     ensures text { held.new ≡ held.old ++ (if pure then [] else columns offset (decimal size)) }
-    ensures bound { length held.new ≤ length held.old + 43 }
+    ensures bound { GrowsBy 43 held.old held.new }
 {
     if !pure {
         held.columns(offset, size);
@@ -38,7 +38,7 @@ pub fn begin_word(held: &mut Held, layout: Layout, offset: u64, word: &[u8; 6])
     requires { HasRoomFor held.old 592 }
     ensures text { held.new
         ≡ held.old ++ margin layout.pure (columns offset word.now) layout.level }
-    ensures bound { length held.new ≤ length held.old + 553 }
+    ensures bound { GrowsBy 553 held.old held.new }
 {
     write_worded(held, layout.pure, offset, word);
     held.spaces(2 * usize::from(layout.level));
@@ -49,7 +49,7 @@ pub fn begin_word(held: &mut Held, layout: Layout, offset: u64, word: &[u8; 6])
 fn write_worded(held: &mut Held, pure: bool, offset: u64, word: &[u8; 6])
     requires { HasRoomFor held.old 50 }
     ensures text { held.new ≡ held.old ++ (if pure then [] else columns offset word.now) }
-    ensures bound { length held.new ≤ length held.old + 43 }
+    ensures bound { GrowsBy 43 held.old held.new }
 {
     if !pure {
         held.worded(offset, word);
@@ -61,7 +61,7 @@ fn write_worded(held: &mut Held, pure: bool, offset: u64, word: &[u8; 6])
 pub fn begin_blank(held: &mut Held, layout: Layout)
     requires { HasRoomFor held.old 592 }
     ensures text { held.new ≡ held.old ++ margin layout.pure no_columns layout.level }
-    ensures bound { length held.new ≤ length held.old + 553 }
+    ensures bound { GrowsBy 553 held.old held.new }
 {
     held.spaces(blank_columns(layout.pure) + 2 * usize::from(layout.level));
 }
@@ -89,7 +89,7 @@ fn blank_columns(pure: bool) -> usize
 pub fn write_tag(held: &mut Held, class: Class, number: u64)
     requires { HasRoomFor held.old 40 }
     ensures text { held.new ≡ held.old ++ tag_text_of class number }
-    ensures bound { length held.new ≤ length held.old + 40 }
+    ensures bound { GrowsBy 40 held.old held.new }
 {
     match class {
         Class::Universal => write_universal(held, number),
@@ -109,7 +109,7 @@ pub fn write_tag(held: &mut Held, class: Class, number: u64)
 fn write_universal(held: &mut Held, number: u64)
     requires { HasRoomFor held.old 40 }
     ensures text { held.new ≡ held.old ++ tag_text_of Class.Universal number }
-    ensures bound { length held.new ≤ length held.old + 40 }
+    ensures bound { GrowsBy 40 held.old held.new }
 {
     match padded_name(number) {
         Some((name, size)) => held.add_front(name, size),
@@ -124,7 +124,7 @@ fn write_bracketed(held: &mut Held, front: &[u8; 32], count: usize, number: u64)
     requires short { count ≤ 16 }
     requires room { HasRoomFor held.old 40 }
     ensures text { held.new ≡ held.old ++ (take count front.now ++ decimal number ++ 93 ∷ []) }
-    ensures bound { length held.new ≤ length held.old + 40 }
+    ensures bound { GrowsBy 40 held.old held.new }
 {
     held.add_front(front, count);
     held.number(number);
@@ -146,7 +146,7 @@ pub fn write_element(
         ≡ held.old
         ++ (margin layout.pure (columns offset (decimal size)) layout.level
         ++ tag_text_of class number) }
-    ensures bound { length held.new ≤ length held.old + 593 }
+    ensures bound { GrowsBy 593 held.old held.new }
 {
     begin_sized(held, layout, offset, size);
     write_tag(held, class, number);

@@ -1,11 +1,11 @@
 //! A primitive by what its header says.
-ghost use Rattle.std.specs.Prelude.{◌≡◌, ◌+◌, ◌<◌, ◌≤◌, ◌++◌, ◌∷◌, [], IsTrue, None, OnOk, length, true, ◌↔◌};
-ghost use Rattle.tlv_io.specs.LineTexts.{HasRoomFor};
+ghost use Rattle.std.specs.Prelude.{◌≡◌, ◌<◌, ◌≤◌, ◌++◌, ◌∷◌, [], IsTrue, None, OnOk, length, true, ◌↔◌};
+ghost use Rattle.tlv_io.specs.LineTexts.{GrowsBy, HasRoomFor};
 ghost use Rattle.tlv_io.specs.Out.{Puts, buffer_of};
+ghost use Rattle.tlv_value.specs.Cuts.{row_size};
 ghost use Rattle.tlv_value.specs.KindValues.{long_text};
 ghost use Rattle.tlv_value.specs.Private.KindValues.{plain_text};
 ghost use Rattle.tlv_value.specs.Private.PrimitiveLines.{front_of, primitive_line, primitive_lines, primitive_of};
-ghost use Rattle.tlv_value.specs.Rows.{row_size};
 ghost use Rattle.tlv_value.specs.Value.{is_long, most_on_line};
 
 use crate::kind::{Kind, kind_of};
@@ -72,7 +72,7 @@ impl Primitive {
     fn write(&self, held: &mut Held)
         requires { HasRoomFor held.old 640 }
         ensures text { held.new ≡ held.old ++ front_of self.now }
-        ensures bound { length held.new ≤ length held.old + 593 }
+        ensures bound { GrowsBy 593 held.old held.new }
     {
         write_element(
             held,

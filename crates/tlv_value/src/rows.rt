@@ -1,7 +1,8 @@
 //! Where a row of long contents ends.
 ghost use Rattle.std.specs.Prelude.{◌≡◌, ◌+◌, ◌<◌, ◌≤◌, false, length, slice_index};
-ghost use Rattle.tlv_value.specs.Private.Room.{HaveRoom};
-ghost use Rattle.tlv_value.specs.Rows.{character_length, has_room, row_size, utf8_length};
+ghost use Rattle.tlv_value.specs.Cuts.{row_size};
+ghost use Rattle.tlv_value.specs.Private.Room.{HaveRoom, utf8_length};
+ghost use Rattle.tlv_value.specs.RowsSoFar.{has_room};
 
 use crate::kind::Kind;
 

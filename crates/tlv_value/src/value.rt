@@ -1,7 +1,7 @@
 //! The texts of values.
-ghost use Rattle.std.specs.Prelude.{◌≡◌, ◌+◌, ◌-◌, ◌*◌, ◌<◌, ◌≤◌, ◌++◌, ◌∷◌, [], length, true};
+ghost use Rattle.std.specs.Prelude.{◌≡◌, ◌-◌, ◌*◌, ◌<◌, ◌≤◌, ◌++◌, ◌∷◌, [], length, true};
 ghost use Rattle.std.specs.Fmt.{signed_decimal};
-ghost use Rattle.tlv_io.specs.LineTexts.{HasRoomFor};
+ghost use Rattle.tlv_io.specs.LineTexts.{GrowsBy, HasRoomFor};
 ghost use Rattle.tlv_value.specs.Bits.{last_bits};
 ghost use Rattle.tlv_value.specs.KindValues.{bits_value, boolean_value, integer_value, long_text};
 ghost use Rattle.tlv_value.specs.Private.KindValues.{digits_of, joined_pairs, plain_text};
@@ -21,7 +21,7 @@ pub(crate) fn write_row(held: &mut Held, kind: Kind, row: &[u8])
     requires short { length row.now ≤ 64 }
     requires room { HasRoomFor held.old 400 }
     ensures text { held.new ≡ held.old ++ 32 ∷ row_text kind row.now }
-    ensures bound { length held.new ≤ length held.old + 323 }
+    ensures bound { GrowsBy 323 held.old held.new }
 {
     match kind {
         Kind::Text | Kind::Utf8 | Kind::Ucs2 | Kind::Ucs4 => write_text(held, kind, row),
@@ -49,7 +49,7 @@ pub(crate) fn write_value(held: &mut Held, kind: Kind, contents: &[u8])
     requires short { length contents.now ≤ most_on_line kind }
     requires room { HasRoomFor held.old 400 }
     ensures text { held.new ≡ held.old ++ plain_text kind contents.now }
-    ensures bound { length held.new ≤ length held.old + 330 }
+    ensures bound { GrowsBy 330 held.old held.new }
 {
     match kind {
         Kind::Boolean => write_boolean(held, contents),
@@ -147,7 +147,7 @@ pub(crate) fn write_long_value(held: &mut Held, kind: Kind, size: u64, contents:
     requires long { is_long kind size ≡ true }
     requires room { HasRoomFor held.old 64 }
     ensures text { held.new ≡ held.old ++ long_text kind size contents.now }
-    ensures bound { length held.new ≤ length held.old + 45 }
+    ensures bound { GrowsBy 45 held.old held.new }
 {
     if let (Kind::Bits, [unused, ..]) = (kind, contents) {
         write_long_bits(held, size, *unused);
@@ -160,7 +160,7 @@ pub(crate) fn write_long_bits(held: &mut Held, size: u64, unused: u8)
     requires long { 9 < size }
     requires room { HasRoomFor held.old 64 }
     ensures text { held.new ≡ held.old ++ long_text Kind.Bits size (unused ∷ []) }
-    ensures bound { length held.new ≤ length held.old + 45 }
+    ensures bound { GrowsBy 45 held.old held.new }
 {
     if unused <= 7 {
         write_bit_count(held, unused, size - 1);
@@ -172,7 +172,7 @@ fn write_bit_count(held: &mut Held, unused: u8, octets: u64)
     requires some { unused ≤ 8 * octets }
     requires room { HasRoomFor held.old 64 }
     ensures text { held.new ≡ held.old ++ 32 ∷ bit_count unused octets }
-    ensures bound { length held.new ≤ length held.old + 45 }
+    ensures bound { GrowsBy 45 held.old held.new }
 {
     held.add(b" ");
     held.wide(8 * u128::from(octets) - u128::from(unused));

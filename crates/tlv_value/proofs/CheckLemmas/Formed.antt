@@ -8,10 +8,10 @@ use Rattle.std.proofs.lemmas.Bool.Decides.{nat_tests}
 use Rattle.std.proofs.lemmas.Str.{IsUtf8-append, IsUtf8-encode, IsUtf8-nil, IsUtf8-from_is_utf8, is_utf8-from_IsUtf8}
 use Rattle.tlv_value.specs.declared.kind.Kind.TheVariants.{Utf8}
 use Rattle.tlv_value.specs.CheckState.{all_utf8}
-use Rattle.tlv_value.specs.Rows.{full_rows, has_room, last_rows, open_row, rows_of, utf8_length}
-use Rattle.tlv_value.specs.Private.Room.{HaveRoom}
+use Rattle.tlv_value.specs.Private.Room.{HaveRoom, utf8_length}
+use Rattle.tlv_value.specs.Rows.{rows_of}
+use Rattle.tlv_value.specs.RowsSoFar.{full_rows, has_room, last_rows, open_row}
 use Rattle.tlv_value.proofs.TextLemmas.Arcs.{and_right}
-use Rattle.tlv_value.proofs.RowLemmas.RowsFrom.{rows-whole}
 use Rattle.tlv_value.proofs.RowLemmas.RowSteps.{full-begins, open-begins, shift-room}
 
 and_left : (a b : Bool) → (a && b) ≡ true → a ≡ true
@@ -228,7 +228,7 @@ last-formed [] = sym (is_utf8-from_IsUtf8 [] IsUtf8-nil)
 last-formed (x ∷ row) = and-true (is_utf8 (x ∷ row))
 
 rows-all : (c : List ℕ) → all_utf8 (rows_of Utf8 c) ≡ is_utf8 c
-rows-all c = ap all_utf8 (rows-whole Utf8 c) ∙ utf8-append (full_rows Utf8 [] c) (last_rows (open_row Utf8 [] c)) ∙ ap (λ (b : Bool). all_utf8 (full_rows Utf8 [] c) && b) (last-formed (open_row Utf8 [] c)) ∙ rows-formed_at c
+rows-all c = utf8-append (full_rows Utf8 [] c) (last_rows (open_row Utf8 [] c)) ∙ ap (λ (b : Bool). all_utf8 (full_rows Utf8 [] c) && b) (last-formed (open_row Utf8 [] c)) ∙ rows-formed_at c
 
 pub rows-formed : (octets : List ℕ) → IsUtf8 octets ↔ (all_utf8 (rows_of Utf8 octets) ≡ true)
 rows-formed octets = (λ u. rows-all octets ∙ is_utf8-from_IsUtf8 octets u, λ e. IsUtf8-from_is_utf8 octets (sym (rows-all octets) ∙ e))

@@ -8,16 +8,17 @@ use Rattle.std.specs.Simd.{first_chunks}
 use Rattle.tlv_value.specs.declared.kind.Kind.{Kind}
 use Rattle.tlv_value.specs.declared.kind.Kind.TheVariants.{Octets, Boolean, Integer, Bits, Object, Relative, Text, Utf8, Ucs2, Ucs4}
 use Rattle.tlv_value.specs.declared.layout.Layout.{Layout}
+use Rattle.tlv_value.specs.Cuts.{character_length, row_size}
 use Rattle.tlv_value.specs.Kind.{is_text}
 use Rattle.tlv_value.specs.Layout.{margin, no_columns, row_line, spaces}
 use Rattle.tlv_value.specs.Private.Room.{HaveRoom}
 use Rattle.tlv_value.specs.Private.Rows.{full_line, full_lines}
-use Rattle.tlv_value.specs.Rows.{character_length, full_rows, last_rows, open_row, row_size, rows_of}
+use Rattle.tlv_value.specs.Rows.{rows_of}
+use Rattle.tlv_value.specs.RowsSoFar.{full_rows, last_rows, open_row}
 use Rattle.tlv_value.specs.TextState.{row_lines}
 use Rattle.tlv_value.specs.Value.{row_text, spaced_pairs}
 use Rattle.tlv_value.proofs.TextLemmas.Puts.{row_lines-append}
 use Rattle.tlv_value.proofs.RowLemmas.RowSteps.{keep, turn}
-use Rattle.tlv_value.proofs.RowLemmas.RowsFrom.{rows-whole}
 
 -- ---- kinds whose rows have 16 octets
 
@@ -70,8 +71,7 @@ module _ (kind : Kind) (short : row_size kind ≡ 16) where
       let l : length more < 16 = omega (arith, length-drop (n * 16) octets) in
       let t = rows_first n octets (omega arith) in
       let k = keep kind [] more (room (length more) more (omega (arith, l))) (omega (arith, l, short)) in
-      rows-whole kind octets
-      ∙ ap (λ (r : List (List ℕ)). r ++ last_rows (open_row kind [] octets)) (t.0 ∙ ap (λ (r : List (List ℕ)). first_chunks 16 n octets ++ r) k.0 ∙ append-nil (first_chunks 16 n octets))
+      ap (λ (r : List (List ℕ)). r ++ last_rows (open_row kind [] octets)) (t.0 ∙ ap (λ (r : List (List ℕ)). first_chunks 16 n octets ++ r) k.0 ∙ append-nil (first_chunks 16 n octets))
       ∙ ap (λ (r : List ℕ). first_chunks 16 n octets ++ last_rows r) (t.1 ∙ k.1)
 
   module _ (layout : Layout) (endless : layout.limit ≡ None) where

@@ -1,16 +1,17 @@
 -- Contents are cut into rows in one way alone.
-use Rattle.std.proofs.Common.{◌≡◌, inl, inr, ℕ, ◌+◌, ◌<◌, ◌≤◌, Bool, true, false, List, [], ◌∷◌, ◌++◌, length, get_or, refl, sym, ap, ◌∙◌, arith, append-nil, length-append}
+use Rattle.std.proofs.Common.{◌≡◌, inl, inr, ℕ, ◌+◌, ◌<◌, ◌≤◌, Bool, true, false, List, [], ◌∷◌, ◌++◌, length, get_or, refl, sym, ap, arith, append-nil, length-append}
 use Rattle.std.proofs.Math.Seq.{drop-append_seam, get_or-append_seam, take-append_seam}
 use Rattle.std.proofs.lemmas.Bool.{eqb-true}
 use Rattle.std.proofs.lemmas.Bool.Decides.{nat_tests}
 use Rattle.std.proofs.lemmas.List.{get_or_append_left}
 use Rattle.std.specs.Prelude.{eqb, if◌then◌else◌}
 use Rattle.tlv_value.specs.declared.kind.Kind.{Kind}
-use Rattle.tlv_value.specs.Cuts.{AreFull, AreRows, FullRowsAreOfTheCut, IsFull, IsRow, RowsHaveOneCut, full_ones, octets_of_rows}
+use Rattle.tlv_value.specs.CutOf.{cut_of, nil-or, size-some}
+use Rattle.tlv_value.specs.Cuts.{AreFull, AreRows, IsFull, IsRow, octets_of_rows, row_size}
+use Rattle.tlv_value.specs.Laws.{RowsHaveOneCut}
 use Rattle.tlv_value.specs.Private.Room.{HaveRoom}
-use Rattle.tlv_value.specs.Rows.{full_rows, last_rows, open_row, row_size}
-use Rattle.tlv_value.proofs.RowLemmas.Cutting.{nil-or, size-some}
-use Rattle.tlv_value.proofs.RowLemmas.RowsFrom.{rows-full, rows-whole}
+use Rattle.tlv_value.specs.Rows.{full_rows_in, rows_of}
+use Rattle.tlv_value.specs.RowsSoFar.{full_rows, last_rows, open_row}
 use Rattle.tlv_value.proofs.RowLemmas.RowSteps.{IsFilled, keep, turn}
 
 last-row : (row : List ℕ) → 1 ≤ length row → last_rows row ≡ row ∷ []
@@ -90,14 +91,17 @@ module _ (kind : Kind) where
       let t = keep kind [] row room (omega arith) in
       rw (append-nil row) t.0
 
-  full-rows : (rows : List (List ℕ)) → AreRows kind rows → AreFull kind rows → full_rows kind [] (octets_of_rows rows) ≡ full_ones kind rows
+  full-rows : (rows : List (List ℕ)) → AreRows kind rows → AreFull kind rows → full_rows kind [] (octets_of_rows rows) ≡ full_rows_in kind rows
   full-rows [] each full = refl
   full-rows (row ∷ []) each full = full-last row (eqb (length row) (row_size kind)) refl each.0
   full-rows (row ∷ next ∷ rows) each full =
-      full-front row (octets_of_rows (next ∷ rows)) (full_ones kind (next ∷ rows)) each.0 (as-filled row next (octets_of_rows rows) (has-octet next each.1.0) full.0) (full-rows (next ∷ rows) each.1 full.1)
+      full-front row (octets_of_rows (next ∷ rows)) (full_rows_in kind (next ∷ rows)) each.0 (as-filled row next (octets_of_rows rows) (has-octet next each.1.0) full.0) (full-rows (next ∷ rows) each.1 full.1)
 
-pub full-rows-of-cut : FullRowsAreOfTheCut
-full-rows-of-cut kind octets rows cut = rows-full kind octets ∙ (rw cut.together at (full-rows kind rows cut.each cut.full))
+-- those of the cut are those that octets make one after another
+pub rows-full : (kind : Kind) (octets : List ℕ) → full_rows_in kind (rows_of kind octets) ≡ full_rows kind [] octets
+rows-full kind octets =
+    let cut = (cut_of kind octets).is_cut in
+    sym (rw cut.together at (full-rows kind (rows_of kind octets) cut.each cut.full))
 
 pub rows-one-cut : RowsHaveOneCut
-rows-one-cut kind octets rows cut = (rw cut.together at (sym (one-cut kind rows cut.each cut.full))) ∙ sym (rows-whole kind octets)
+rows-one-cut kind octets rows cut = rw cut.together at (sym (one-cut kind rows cut.each cut.full))

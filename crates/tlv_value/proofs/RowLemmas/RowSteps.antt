@@ -5,24 +5,12 @@ use Rattle.std.proofs.lemmas.List.{take_all}
 use Rattle.std.specs.Prelude.{eqb}
 use Rattle.tlv_value.specs.declared.kind.Kind.{Kind}
 use Rattle.tlv_value.specs.declared.kind.Kind.TheVariants.{Octets, Boolean, Integer, Bits, Object, Relative, Text, Utf8, Ucs2, Ucs4}
+use Rattle.tlv_value.specs.CutOf.{first-room}
+use Rattle.tlv_value.specs.Cuts.{row_size}
 use Rattle.tlv_value.specs.Private.Room.{HaveRoom}
-use Rattle.tlv_value.specs.Rows.{full_rows, has_room, open_row, row_size}
-use Rattle.tlv_value.proofs.TextLemmas.UnitSteps.{utf8_length-most}
+use Rattle.tlv_value.specs.RowsSoFar.{full_rows, has_room, open_row}
 
--- there is room for the first octet of a row
-pub first-room : (kind : Kind) (x : ℕ) → has_room kind 0 x ≡ true
-first-room Octets x = refl
-first-room Boolean x = refl
-first-room Integer x = refl
-first-room Bits x = refl
-first-room Object x = refl
-first-room Relative x = refl
-first-room Text x = refl
-first-room Utf8 x = let h = utf8_length-most x in grind (arith, nat_tests)
-first-room Ucs2 x = refl
-first-room Ucs4 x = refl
-
--- which is not its last
+-- the first octet of a row is not its last
 first-open : (kind : Kind) → eqb 1 (row_size kind) ≡ false
 first-open Octets = refl
 first-open Boolean = refl

@@ -10,11 +10,11 @@ use Rattle.tlv_value.specs.declared.layout.Layout.{Layout}
 use Rattle.tlv_value.specs.Arcs.{dotted_text}
 use Rattle.tlv_value.specs.KindValues.{kind_value, long_text, object_text, row_octets}
 use Rattle.tlv_value.specs.Layout.{row_line}
-use Rattle.tlv_value.specs.Rows.{full_rows, rows_from}
-use Rattle.tlv_value.proofs.RowLemmas.RowCut.{cut_rows}
+use Rattle.tlv_value.specs.Rows.{known_rows, rows_of}
+use Rattle.tlv_value.specs.RowsSoFar.{full_rows}
 use Rattle.tlv_value.specs.TextState.{has_line, kind_by, line_in, new_text, open_lines, row_lines, value_lines, whole_lines}
 use Rattle.tlv_value.specs.Value.{NameOf, Value, bit_count, is_long, long_value, no_names, octets_value, row_text, short_value, value_on_line, whole_value}
-use Rattle.tlv_value.proofs.RowLemmas.RowsFrom.{rows-full, rows-whole}
+use Rattle.tlv_value.proofs.RowLemmas.OneCut.{rows-full}
 
 abbrev pub value_with : List ℕ → List (List ℕ) → Value
 value_with text rows = record { text = text; rows = rows }
@@ -40,12 +40,12 @@ held-same name_of Ucs2 octets = refl
 held-same name_of Ucs4 octets = refl
 
 bits-at : (b whole : Bool) (n u : ℕ) (octets : List ℕ)
-    → (if b then value_with (32 ∷ bit_count u (n - 1)) (rows_from Bits whole [] octets) else value_with [] (rows_from Bits whole [] (u ∷ octets)))
-    ≡ value_with (if b then 32 ∷ bit_count u (n - 1) else []) (rows_from Bits whole [] (if b then octets else u ∷ octets))
+    → (if b then value_with (32 ∷ bit_count u (n - 1)) (known_rows whole Bits octets) else value_with [] (known_rows whole Bits (u ∷ octets)))
+    ≡ value_with (if b then 32 ∷ bit_count u (n - 1) else []) (known_rows whole Bits (if b then octets else u ∷ octets))
 bits-at true whole n u octets = refl
 bits-at false whole n u octets = refl
 
-long-same : (whole : Bool) (kind : Kind) (n : ℕ) (octets : List ℕ) → long_value whole kind n octets ≡ value_with (long_text kind n octets) (rows_from kind whole [] (row_octets kind octets))
+long-same : (whole : Bool) (kind : Kind) (n : ℕ) (octets : List ℕ) → long_value whole kind n octets ≡ value_with (long_text kind n octets) (known_rows whole kind (row_octets kind octets))
 long-same whole Octets n octets = refl
 long-same whole Boolean n octets = refl
 long-same whole Integer n octets = refl
@@ -59,12 +59,12 @@ long-same whole Ucs2 n octets = refl
 long-same whole Ucs4 n octets = refl
 
 abbrev pub whole_by_kind : NameOf → Kind → ℕ → List ℕ → Value
-whole_by_kind name_of kind n octets = if is_long kind n then value_with (long_text kind n octets) (cut_rows kind (row_octets kind octets)) else kind_value name_of kind octets
+whole_by_kind name_of kind n octets = if is_long kind n then value_with (long_text kind n octets) (rows_of kind (row_octets kind octets)) else kind_value name_of kind octets
 
 whole-same : (name_of : NameOf) (kind : Kind) (octets : List ℕ) → whole_value name_of kind octets ≡ whole_by_kind name_of kind (length octets) octets
 whole-same name_of kind octets =
     ap₂ (λ (v w : Value). if is_long kind (length octets) then v else w)
-    (long-same true kind (length octets) octets ∙ ap (value_with (long_text kind (length octets) octets)) (rows-whole kind (row_octets kind octets)))
+    (long-same true kind (length octets) octets)
     (held-same name_of kind octets)
 
 rows-lines : (kind : Kind) (layout : Layout) (i : ℕ) (rows : List (List ℕ))

@@ -8,8 +8,9 @@ use Rattle.tlv_value.specs.declared.layout.Layout.{Layout}
 use Rattle.tlv_value.specs.declared.primitive.Primitive.{Primitive}
 use Rattle.tlv_value.specs.Kind.{kind_of}
 use Rattle.tlv_value.specs.Laws.{LinesBegin, LinesEnd, LinesGoOn, PiecesJoin, state_for}
-use Rattle.tlv_value.specs.Rows.{full_rows, has_room, last_rows, open_row, row_size, rows_of}
-use Rattle.tlv_value.proofs.RowLemmas.RowCut.{cut_rows}
+use Rattle.tlv_value.specs.Cuts.{row_size}
+use Rattle.tlv_value.specs.Rows.{rows_of}
+use Rattle.tlv_value.specs.RowsSoFar.{full_rows, has_room, last_rows, open_row}
 use Rattle.tlv_value.specs.Private.PrimitiveLines.{lines_in_steps, new_text_of, primitive_line, primitive_lines, primitive_of}
 use Rattle.tlv_value.specs.TextState.{RowsState, TextState, begin_lines, contents_lines, end_lines, first_rows, first_rows_after, full_row_lines, has_line, kind_in, line_in, new_text, open_lines, row_lines, rows_after, rows_state_after, text_after, whole_lines}
 use Rattle.tlv_value.specs.KindValues.{kind_value, long_text, row_octets}
@@ -18,7 +19,6 @@ use Rattle.std.proofs.lemmas.Bool.Decides.{nat_tests}
 use Rattle.tlv_value.proofs.TextLemmas.KindValues.{open-lines-by, whole-lines}
 use Rattle.tlv_value.proofs.TextLemmas.Puts.{row_lines-append}
 use Rattle.tlv_value.proofs.RowLemmas.RowSteps.{full-begins, open-begins}
-use Rattle.tlv_value.proofs.RowLemmas.RowsFrom.{rows-whole}
 
 abbrev kept_with : ℕ → List ℕ → RowsState
 kept_with n r = record { lined = true; rows = n; row = r }
@@ -140,8 +140,8 @@ module _ (layout : Layout) (line : List ℕ → List ℕ) (size : ℕ) where
 
   abbrev whole_at : NameOf → Kind → Bool → List ℕ → List ℕ
   whole_at name_of kind long octets =
-      line (if long then record { text = long_text kind size octets; rows = cut_rows kind (row_octets kind octets) } else kind_value name_of kind octets).text
-      ++ row_lines kind layout 0 (if long then record { text = long_text kind size octets; rows = cut_rows kind (row_octets kind octets) } else kind_value name_of kind octets).rows
+      line (if long then record { text = long_text kind size octets; rows = rows_of kind (row_octets kind octets) } else kind_value name_of kind octets).text
+      ++ row_lines kind layout 0 (if long then record { text = long_text kind size octets; rows = rows_of kind (row_octets kind octets) } else kind_value name_of kind octets).rows
 
   abbrev ended_at : NameOf → Kind → Bool → RowsState → List ℕ
   ended_at name_of kind long k =
@@ -217,8 +217,8 @@ long-some kind n size e h = grind (arith, nat_tests)
 
 abbrev whole_by : Layout → (List ℕ → List ℕ) → NameOf → Kind → ℕ → List ℕ → List ℕ
 whole_by layout line name_of kind n octets =
-    line (if is_long kind n then record { text = long_text kind n octets; rows = cut_rows kind (row_octets kind octets) } else kind_value name_of kind octets).text
-    ++ row_lines kind layout 0 (if is_long kind n then record { text = long_text kind n octets; rows = cut_rows kind (row_octets kind octets) } else kind_value name_of kind octets).rows
+    line (if is_long kind n then record { text = long_text kind n octets; rows = rows_of kind (row_octets kind octets) } else kind_value name_of kind octets).text
+    ++ row_lines kind layout 0 (if is_long kind n then record { text = long_text kind n octets; rows = rows_of kind (row_octets kind octets) } else kind_value name_of kind octets).rows
 
 pub lines-end : LinesEnd
 lines-end name_of h layout octets e =
@@ -245,7 +245,6 @@ new-long name_of p c is long e =
     let w = whole-ended p.layout (primitive_line p) p.size name_of kind (is_long kind p.size) c (long-some kind (length c) p.size e) in
     let o = open-new p.layout (primitive_line p) p.size kind (is_long kind p.size) c in
     ap by-kind is
-    ∙ ap (λ (rows : List (List ℕ)). primitive_line p (long_text kind p.size c) ++ row_lines kind p.layout 0 rows) (rows-whole kind (row_octets kind c))
     ∙ ap (λ (b : Bool). whole_at p.layout (primitive_line p) p.size name_of kind b c) (sym l)
     ∙ w
     ∙ ap (λ (t : List ℕ). t ++ end_lines name_of (text_after (started kind) c)) (o ∙ ap (λ (t : List ℕ). begin_lines (started kind) ++ t) (new_by-new (started kind) c))

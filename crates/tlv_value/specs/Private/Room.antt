@@ -1,7 +1,12 @@
 -- What has room in a row.
 use Rattle.std.specs.Prelude.{◌≡◌, ℕ, ◌+◌, ◌<◌, true, List, slice_index}
 use Rattle.tlv_value.specs.declared.kind.Kind.{Kind}
-use Rattle.tlv_value.specs.Rows.{has_room}
+use Rattle.tlv_value.specs.declared.kind.Kind.TheVariants.{Utf8}
+use Rattle.tlv_value.specs.Cuts.{character_length}
+use Rattle.tlv_value.specs.RowsSoFar.{has_room}
+
+abbrev pub utf8_length : ℕ → ℕ
+utf8_length x = character_length Utf8 x
 
 -- the first n of the octets have room after so many others
 abbrev pub HaveRoom : Kind → ℕ → List ℕ → ℕ → Type 0

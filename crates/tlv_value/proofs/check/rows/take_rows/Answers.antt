@@ -6,7 +6,8 @@ use Rattle.std.proofs.lemmas.Bool.Decides.{nat_tests}
 use Rattle.std.proofs.lemmas.Grind.{common_steps}
 use Rattle.tlv_value.specs.declared.kind.Kind.TheVariants.{Utf8}
 use Rattle.tlv_value.specs.CheckState.{all_utf8}
-use Rattle.tlv_value.specs.Rows.{full_rows, row_size}
+use Rattle.tlv_value.specs.Cuts.{row_size}
+use Rattle.tlv_value.specs.RowsSoFar.{full_rows}
 use Rattle.tlv_value.proofs.CheckLemmas.Noting.{and-nothing, and-row}
 use Rattle.tlv_value.proofs.RowLemmas.RowSteps.{kept, turned}
 use Rattle.tlv_value.proofs.check.rows.take_rows.Goals.{else-len-part-lt64-via-then-len-part-lt64+else-is_empty, else-len-part-lt64-via-else-len-part-lt64}

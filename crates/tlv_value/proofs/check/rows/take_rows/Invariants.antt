@@ -2,7 +2,7 @@ use Rattle.std.proofs.Common.{◌≡◌, ◌+◌, ◌<◌, length}
 use Rattle.std.specs.Prelude.{◌&&◌}
 use Rattle.tlv_value.specs.declared.kind.Kind.TheVariants.{Utf8}
 use Rattle.tlv_value.specs.CheckState.{all_utf8}
-use Rattle.tlv_value.specs.Rows.{full_rows, open_row}
+use Rattle.tlv_value.specs.RowsSoFar.{full_rows, open_row}
 use Rattle.tlv_value.proofs.check.rows.take_rows.Given as goal
 
 abbrev pub invariant-loop-rest : goal.invariant-loop-rest

@@ -5,7 +5,8 @@ use Rattle.std.proofs.lemmas.Grind.{common_steps}
 use Rattle.std.proofs.lemmas.List.{nil_from_length}
 use Rattle.tlv_io.proofs.Puts.{puts_as, puts_failed_in, puts_nothing, puts_then_as}
 use Rattle.tlv_value.specs.Layout.{row_line}
-use Rattle.tlv_value.specs.Rows.{full_rows, row_size}
+use Rattle.tlv_value.specs.Cuts.{row_size}
+use Rattle.tlv_value.specs.RowsSoFar.{full_rows}
 use Rattle.tlv_value.specs.Private.Rows.{full_lines}
 use Rattle.tlv_value.specs.TextState.{row_lines}
 use Rattle.tlv_value.specs.Value.{row_text}

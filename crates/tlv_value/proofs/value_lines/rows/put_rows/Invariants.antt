@@ -1,6 +1,7 @@
 use Rattle.std.proofs.Common.{◌≡◌, ℕ, ◌+◌, ◌<◌, ◌≤◌, ◌++◌, List, length}
 use Rattle.tlv_io.proofs.Puts.{HasPut}
-use Rattle.tlv_value.specs.Rows.{full_rows, open_row, row_size}
+use Rattle.tlv_value.specs.Cuts.{row_size}
+use Rattle.tlv_value.specs.RowsSoFar.{full_rows, open_row}
 use Rattle.tlv_value.specs.TextState.{row_lines}
 use Rattle.tlv_value.proofs.value_lines.rows.put_rows.Given as goal
 
