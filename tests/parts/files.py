@@ -60,7 +60,7 @@ def inputs(part):
 
 
 def inputs_that_break(part):
-    """A read that fails behind octets: what they allow is written."""
+    """A read that fails after octets: what they allow is written."""
     # A socket whose other end went away with octets unread gives what came, and then an error.
     near, far = socket.socketpair()
     near.sendall(b"unread")
@@ -73,7 +73,7 @@ def inputs_that_break(part):
     os.set_blocking(reading, False)
     os.write(writing, JONES[:7])
     part.gives(["dump"], None, 3, b"".join(JONES_LINES[:2]), READ, stdin=reading)
-    # No read is made behind a fault, or behind the whole element.
+    # No read is made after a fault, or after the whole element.
     os.write(writing, b"\x05\x00\x04\xff")
     said = "fault at 3: F07 length octet ff is reserved"
     part.gives(["dump"], None, 2, NULL_LINE, said, stdin=reading)
@@ -88,7 +88,7 @@ def outputs_that_fail(part):
     for words in COMMANDS:
         with open("/dev/full", "wb") as full:
             part.gives(words, NULL, 3, err=WRITE, stdout=full)
-            # What could not be written passes before a fault behind it.
+            # What could not be written passes before a fault after it.
             part.gives(words, b"\x30\x03\x02\x02\x01", 3, err=WRITE, stdout=full)
             part.gives(words, b"", 2, err="fault at 0: F01 empty input", stdout=full)
         part.gives(words, NULL, 3, err=WRITE, stdout=None, preexec_fn=closing(1))

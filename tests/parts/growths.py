@@ -120,7 +120,7 @@ class Line:
         return [NO_WORDS, self.own] if self.may_pass and is_alone else [NO_WORDS], []
 
     def refuse(self, number, is_alone):
-        """Refuses this request, alone or with all behind it.
+        """Refuses this request, alone or with all after it.
 
         Returns whether one was refused, and what came of it if that may not be.
         """
@@ -140,7 +140,7 @@ class Line:
                 number += 1
                 refused, lines = self.refuse(number, is_alone)
                 wrong += lines
-            how = "alone" if is_alone else "and all behind it"
+            how = "alone" if is_alone else "and all after it"
             what = f"{self.text}: each of {self.requests} requests refused, {how}"
             is_last = number == self.requests + 1 > 1
             self.program.part.expect(what, is_last and not wrong, f"{number} runs", *wrong[:12])
@@ -152,10 +152,10 @@ def taken(part, program):
         part.same(f"{text}: no request refused", line.own, Done(status, out, message(err)))
         part.expect(f"{text}: the files", line.files == files.split(), str(line.files))
         # The names file takes memory where it is read. A run takes none.
-        behind = line.requests - line.of_words
+        after = line.requests - line.of_words
         reads_names = not {"names", "many", "wrong"}.isdisjoint(line.files)
-        fine = behind > 0 if reads_names else behind == 0
-        part.expect(f"{text}: {behind} requests behind the words", fine)
+        fine = after > 0 if reads_names else after == 0
+        part.expect(f"{text}: {after} requests after the words", fine)
         line.refuse_each()
 
 

@@ -92,7 +92,7 @@ class Script:
         self.path = os.path.join(part.root, "tlvdump-inside")
 
     def run(self, *words, given=b""):
-        """Runs it on these words and octets. That it leaves no file behind is seen in `temporary`."""
+        """Runs it on these words and octets. That it leaves no file is seen in `temporary`."""
         env = dict(os.environ, TLVDUMP=self.part.program, TMPDIR=self.part.path("temporary"))
         how = {"cwd": self.part.folder, "env": env, "input": given, "capture_output": True, "timeout": 120}
         got = subprocess.run([self.path, *words], **how)
@@ -129,7 +129,7 @@ def by_hand(script):
         ("text", string(b"abc")),
         ("an element that is cut", string(b"\x30\x03\x02\x01")),
         ("an element and an octet", string(NULL + b"\x05")),
-        ("an element behind padding", string(b"\0" + NULL)),
+        ("an element after padding", string(b"\0" + NULL)),
         ("unused bits", element(3, b"\x01" + NULL)),
         ("an empty string", string(b"")),
         ("an empty bit string", element(3, b"\0")),
@@ -181,7 +181,7 @@ def forms(script):
         script.gives("a pipe with a name", ["named"], 0, "0")
     part.write(b"caf\xe9".decode("utf-8", "surrogateescape"), octets)
     script.gives("a name that is not UTF-8", [b"caf\xe9"], 0, "2")
-    part.expect("no file is left behind", os.listdir(part.path("temporary")) == [], *os.listdir(part.path("temporary")))
+    part.expect("no file is left", os.listdir(part.path("temporary")) == [], *os.listdir(part.path("temporary")))
 
 
 def segments(script):
@@ -194,7 +194,7 @@ def segments(script):
     script.gives("300 strings in an element with a tag of its own", ["tagged"], 0, str(2 + 5 * 300 + 2),
                  "taken for segments: 296 strings")
     part.write("few", element(0xA3, string(b"GSS-SPNEGO") + string(NULL)))
-    script.gives("credentials behind a name", ["few"], 0, "14")
+    script.gives("credentials after a name", ["few"], 0, "14")
     part.write("texts", element(0x30, string(b"text") * 1000 + string(NULL)))
     script.gives("a thousand texts", ["texts"], 0, str(4 + 6 * 1000))
 
@@ -226,13 +226,13 @@ def built_once(script):
 def ends(script):
     part = script.part
     part.write("many", string(b"\x05\x00\x05") * 300)
-    behind = "not tried: 44 strings behind the first 256"
-    script.gives("300 strings", ["many"], 1, "", behind, "no string holds encodings")
+    after = "not tried: 44 strings after the first 256"
+    script.gives("300 strings", ["many"], 1, "", after, "no string holds encodings")
     part.write("cut", element(0x30, string(NULL) + string(NULL))[:-1])
-    script.gives("a fault behind a string", ["cut"], 0, "2", "fault at 9: F02 input ends inside an encoding")
+    script.gives("a fault after a string", ["cut"], 0, "2", "fault at 9: F02 input ends inside an encoding")
     part.write("cut", element(4, NULL * 10)[:-2])
     cut = "fault at 20: F02 input ends inside an encoding"
-    script.gives("a string that is cut behind an element", ["cut"], 1, "", cut, "no string holds encodings")
+    script.gives("a string that is cut after an element", ["cut"], 1, "", cut, "no string holds encodings")
     deep = string(element(0x30, NULL))
     for _ in range(127):
         deep = element(0x30, deep)
@@ -242,7 +242,7 @@ def ends(script):
     script.gives("no file", ["missing"], 3, "", "missing is not a file that can be read")
     script.gives("a folder", ["."], 3, "", ". is not a file that can be read")
     part.write("-x", string(NULL))
-    script.gives("a file behind --", ["--", "-x"], 0, "0")
+    script.gives("a file after --", ["--", "-x"], 0, "0")
     part.write("a b", string(NULL))
     script.gives("a name with a space", ["a b"], 0, "0")
     for words in (["-x"], ["many", "cut"], ["--option", "--nothing"]):
@@ -275,7 +275,7 @@ def made(script):
     for name in ("cert.der", "file.p12", "crl.der"):
         with open(part.path(name), "rb") as file:
             script.agrees(name, file.read())
-    # A signature over 3 MB is made in pieces, and the certificate stands behind them.
+    # A signature over 3 MB is made in pieces, and the certificate stands after them.
     part.write("long", b"\x05\x00\x05\x00" * 750_000)
     command(part, "openssl cms -sign -binary -nodetach -stream -in long -signer cert -inkey key -outform DER -out cms")
     opened = script.run("--option", "cms")

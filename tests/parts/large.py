@@ -79,7 +79,7 @@ def test(part):
     line = f"{0:8} {TOTAL:6}: OCTET STRING\n".encode()
     long_run(part, "dump of one string", ["dump"], (string, block, times, b""), (line, text, times, b""))
 
-    # The last octets come behind the measure, since the program ends with them.
+    # The last octets come after the measure, since the program ends with them.
     words = ["extract", "--offset", "2", "--contents"]
     given = (b"\x30\x80" + string, block, times - 1, block + b"\x00\x00")
     long_run(part, "extract of one string", words, given, (b"", block, times, b""))

@@ -15,7 +15,7 @@ LENGTHS = (31, 32, 63, 64, 99, 100, 101, 127, 128, 199, 200, 201, 254, 255)
 
 
 def name_of(octets, letter="a"):
-    """A name of so many octets that begins with the number, and has two-octet characters behind it."""
+    """A name of so many octets that begins with the number, and has two-octet characters after it."""
     name = f"{octets}{letter}"
     return name + "é" * ((octets - len(name)) // 2) + "z" * ((octets - len(name)) % 2)
 
@@ -129,7 +129,7 @@ def many_words_refused(part):
 def longest_lines(part):
     """Each option once, with the longest values that are in range."""
     rising = ",".join(str(1099511627761 + number) for number in range(16))
-    # An OBJECT IDENTIFIER in an OCTET STRING at offset 4, behind two elements.
+    # An OBJECT IDENTIFIER in an OCTET STRING at offset 4, after two elements.
     part.write(name_of(200, "s"), b"\x05\x00\x05\x00\x04\x05" + OBJECT)
     path, names = path_of(name_of(200, "s"), LONGEST_PATH), path_of(name_of(200, "n"), LONGEST_PATH)
     framing = ["--padding", "--inside", "0000000000004"]

@@ -107,7 +107,7 @@ def limits(part):
     taken(part, f"{ENTRIES} entries", most, "n")
     taken(part, f"{ENTRIES} entries and a comment", most + b"# x\n\n", "n")
     refused(part, f"{ENTRIES + 1} entries", most + b"1.3 n\n", big)
-    refused(part, f"a repeat behind {ENTRIES} entries", most + b"1.2.7 n\n", f"N3 line {ENTRIES + 1}: repeated")
+    refused(part, f"a repeat after {ENTRIES} entries", most + b"1.2.7 n\n", f"N3 line {ENTRIES + 1}: repeated")
 
 
 def unread(part):
@@ -150,7 +150,7 @@ def words_first(part, names, file):
     part.gives(["dump", file, "--inside=x", "--names", names], b"", 4, err=f"{said} --inside")
     got = part.run(["dump", "--names", names, file, "--nonsense"])
     fine = (got.status, got.out) == (4, b"") and got.err.startswith(b"error: unexpected argument '--nonsense'")
-    part.expect(f"--nonsense behind names in {names} and FILE {file}", fine, *got.lines())
+    part.expect(f"--nonsense after names in {names} and FILE {file}", fine, *got.lines())
 
 
 def order(part):

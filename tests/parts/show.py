@@ -67,7 +67,7 @@ def forms(script):
         ("base64 without =", text.rstrip(b"="), "taken for base64"),
         ("PEM", pem(b"CERTIFICATE", SOUND), "taken for PEM, blocks: 1", "block 1: CERTIFICATE"),
         ("PEM with CR", pem(b"X509 CRL", SOUND).replace(b"\n", b"\r\n"), "taken for PEM, blocks: 1", "block 1: X509 CRL"),
-        ("PEM behind text", b"caf\xe9: 1\n" + pem(b"CMS", SOUND) + b"end\n", "taken for PEM, blocks: 1", "block 1: CMS"),
+        ("PEM after text", b"caf\xe9: 1\n" + pem(b"CMS", SOUND) + b"end\n", "taken for PEM, blocks: 1", "block 1: CMS"),
         ("PEM with a head", pem(b"CMS", SOUND, b"Name: a,\n b\n\n"), "taken for PEM, blocks: 1", "block 1: CMS"),
         ("PEM without its end", pem(b"CMS", SOUND)[:-18], "taken for PEM, blocks: 1", "block 1: CMS",
          "block 1 has no line END: the text is cut"),
@@ -130,7 +130,7 @@ def dumps(script):
 
 
 def choices(script):
-    """Where several forms fit: what parses is taken, and what else parses is told; --as decides."""
+    """Where several forms fit: what parses is taken, and what else parses is reported; --as decides."""
     part = script.part
     both = element(0xA0, string(b"\0" * 21)).hex().upper().encode()
     plain = part.run(["dump"], both)
@@ -144,10 +144,10 @@ def choices(script):
     got = script.run(["--as", "ber", "--raw"], wrapped)
     part.expect("an encoding that holds PEM, --as ber", (got.status, got.out) == (0, wrapped))
     got = script.run([], wrapped)
-    part.expect("an encoding that holds PEM: both are told", b"octets as they stand too: --as ber" in got.err, *got.lines())
+    part.expect("an encoding that holds PEM: both are reported", b"octets as they stand too: --as ber" in got.err, *got.lines())
     broken = b"-----BEGIN A-----\nBQA\n*\n-----END A-----\n"
     got = script.run(["--raw"], broken)
-    part.expect("base64 that is broken", b"the base64 is broken or cut behind " in got.err, *got.lines())
+    part.expect("base64 that is broken", b"the base64 is broken or cut after " in got.err, *got.lines())
     sealed = pem(b"RSA PRIVATE KEY", b"\xd3\x9d\x34\xff", b"Proc-Type: 4,ENCRYPTED\nDEK-Info: AES-256-CBC,00\n\n")
     got = script.run([], sealed)
     said = b"tlvdump-show: block 1 is encrypted: its octets are no encoding\n"
@@ -183,14 +183,14 @@ def shown(script):
     many = string(NULL) * 20
     got = script.run([], many)
     fine = got.out.count(b" wraps {") == 16 and b"left out: 64,68,72,76\n" in got.err
-    part.expect("what is left out is told", fine, *got.lines())
+    part.expect("what is left out is reported", fine, *got.lines())
     part.write(b"caf\xe9".decode("utf-8", "surrogateescape"), NULL)
     script.gives("a name that is not UTF-8", [b"caf\xe9"], b"", 0, b"       0      0: NULL\n", PLAIN)
     part.write("-x", NULL)
-    script.gives("a file behind --", ["--", "-x"], b"", 0, b"       0      0: NULL\n", PLAIN)
+    script.gives("a file after --", ["--", "-x"], b"", 0, b"       0      0: NULL\n", PLAIN)
     script.gives("no file", ["missing"], b"", 3, b"", "missing is not a file that can be read")
     script.gives("a folder", ["."], b"", 3, b"", ". is not a file that can be read")
-    part.expect("no file is left behind", os.listdir(part.path("temporary")) == [], *os.listdir(part.path("temporary")))
+    part.expect("no file is left", os.listdir(part.path("temporary")) == [], *os.listdir(part.path("temporary")))
 
 
 def handed_on(script):
@@ -230,7 +230,7 @@ INDEFINITE = "an indefinite number of octets"
 ANEW = "Try: fetch the input anew, in binary; or go on at the next record, with tail -c +M FILE, where M is its offset and 1."
 START = "No encoding begins so. Try: file FILE, which knows files of other kinds."
 WHOLE = "Try: head -c {0} FILE, for the whole encodings."
-# For each fault: the octets, the words, and the sentences behind "It does not parse".
+# For each fault: the octets, the words, and the sentences after "It does not parse".
 FAULTS = [
     ("F01", "", [], ["The input is empty.", "Try: look whether the program that should write it failed."]),
     ("F01", "00 00", ["--padding"],
@@ -279,7 +279,7 @@ FAULTS = [
     ("F08", "30 02 04 80", [],
      ["The header at offset 2 is that of a primitive, which cannot have the indefinite length: 04 80.",
       "Try: look at the element that ends at offset 2, or begins there: its length may be wrong; or fetch the input anew, in binary."]),
-    ("F09", "04 86 01", [], ["The header at offset 0 tells a length of 2^40 or more: 04 86 01.", START]),
+    ("F09", "04 86 01", [], ["The header at offset 0 announces a length of 2^40 or more: 04 86 01.", START]),
     ("F10", "30 80 " * 129, [], ["At offset 256 element 129 would be open. The program holds 128.",
       "Try: tail -c +M FILE, where M is 1 and the offset of an element some levels deep."]),
     ("F11", "30 03 02 02 01", [],
@@ -336,7 +336,7 @@ def hints(script):
         part.expect(f"hint: {what}", status == (0 if what == "UTF-16" else 2) and wanted in out, str(status), out)
     # What it tells to do works.
     out = script.run([], (b"\0\0\0" + body)[3:])
-    part.expect("behind the wrong start", out.status == 0)
+    part.expect("after the wrong start", out.status == 0)
     got = script.run(["--why"], pem(b"CMS", SOUND) + pem(b"A", SOUND[:-1]))
     lines = got.out.decode().splitlines()
     fine = got.status == 2 and lines[0].startswith("The input is PEM and not an encoding as it stands. Try: tlvdump-show FILE")
@@ -349,14 +349,14 @@ def hints(script):
 
 
 def cuts(script):
-    """Each front of an encoding: what is missing in all is told, and so much is missing."""
+    """Each front of an encoding: what is missing in all is reported, and so much is missing."""
     part = script.part
     octets = element(0x30, b"\x02\x01\x05" + element(0x31, string(b"\x05" * 130) + NULL))
     wrong = []
     for size in [*range(4, 20), *range(len(octets) - 6, len(octets))]:
         status, out = script.why(octets[:size])
-        told = re.findall(r"Missing in all: (\d+) octets?\.", out)
-        if status != 2 or told != [str(len(octets) - size)]:
+        stated = re.findall(r"Missing in all: (\d+) octets?\.", out)
+        if status != 2 or stated != [str(len(octets) - size)]:
             wrong += [f"{size}: {status}, {out}"]
     part.expect("fronts of an encoding", not wrong, *wrong)
 

@@ -143,7 +143,7 @@ class Report:
                 self.line(level, findings.TEXTS[code], element.offset, code)
 
     def siblings(self, items, parent, level):
-        """Adds the lines of elements that stand one behind another, and of padding."""
+        """Adds the lines of elements that stand one after another, and of padding."""
         previous = None
         for item in items:
             if isinstance(item, Padding):

@@ -140,7 +140,7 @@ def element(rng, level=0):
 
 
 def several(rng, level, count):
-    """Returns elements one behind another."""
+    """Returns elements one after another."""
     return b"".join(element(rng, level) for _ in range(count))
 
 
@@ -183,7 +183,7 @@ def damaged(rng, octets):
 
 
 def padded(rng, level=0):
-    """Returns elements with octets 00 before, between and behind them."""
+    """Returns elements with octets 00 before, between and after them."""
     zeros = [0, 0, 1, 2, 3, 16, 100]
     octets = b"\0" * rng.choice(zeros)
     for _ in range(rng.randrange(4)):
@@ -192,7 +192,7 @@ def padded(rng, level=0):
 
 
 def header(rng):
-    """Returns octets that begin as a header with odd lengths or long tags, and something behind it."""
+    """Returns octets that begin as a header with odd lengths or long tags, and something after it."""
     first = rng.choice([b"\x04", b"\x30", b"\x1f", b"\xbf", b"\x03", b"\x24"])
     if first[0] & 0x1F == 0x1F:
         first += bytes(rng.randrange(128, 256) for _ in range(rng.choice([0, 1, 2, 7, 8, 9]))) + b"\x07"

@@ -72,7 +72,7 @@ def difference(case, it, wanted, got):
 
 
 def first_unlike(what, wanted, got):
-    """Returns lines that tell the first place at which two outputs differ."""
+    """Returns lines that name the first place at which two outputs differ."""
     wanted, got = wanted.splitlines(True), got.splitlines(True)
     place = 0
     while wanted[place : place + 1] == got[place : place + 1]:

@@ -37,7 +37,7 @@ def most_octets(element):
 
 
 def shown(element, names):
-    """Returns what stands behind the tag, or None while the line has not come, and the rows that have come.
+    """Returns what stands after the tag, or None while the line has not come, and the rows that have come.
 
     `names` has names by arcs: {"2.5.4.3": "commonName"}.
     """
@@ -120,7 +120,7 @@ def subidentifiers(contents):
 
 
 def object_identifier(element, names):
-    """Returns arcs, and a name behind them; else pairs, in rows where there are more than 16."""
+    """Returns arcs, and a name after them; else pairs, in rows where there are more than 16."""
     numbers = subidentifiers(element.contents)
     if numbers is None or any(number >= 1 << 128 for number in numbers):
         if element.length > PAIRS_IN_A_ROW:

@@ -69,18 +69,18 @@ impl ReadLog {
     }
 
     /// Counts a read with this result, and returns the result.
-    pub(crate) fn count(&mut self, answer: Result<usize, ReadFault>) -> Result<usize, ReadFault>
-        ensures same { result ≡ answer }
-        ensures log { self.new ≡ after_read answer self.old }
+    pub(crate) fn count(&mut self, read: Result<usize, ReadFault>) -> Result<usize, ReadFault>
+        ensures same { result ≡ read }
+        ensures log { self.new ≡ after_read read self.old }
     {
         self.reads = self.reads.saturating_add(1);
-        match answer {
+        match read {
             Ok(count) => self.last = LastRead::Gave(count),
             Err(ReadFault) => {
                 self.last = LastRead::Failed;
                 self.failures = self.failures.saturating_add(1);
             }
         }
-        answer
+        read
     }
 }

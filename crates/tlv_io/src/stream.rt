@@ -36,8 +36,8 @@ impl<R: Read + Drop> Source for ReadSource<R> {
 
     fn read(&mut self, to: &mut [u8]) -> Result<usize, ReadFault> {
         // `read` itself: the reader's other methods try again after an interruption.
-        let answer = self.reader.read(to).map_err(|_| ReadFault);
-        self.log.count(answer)
+        let read = self.reader.read(to).map_err(|_| ReadFault);
+        self.log.count(read)
     }
 }
 

@@ -177,7 +177,7 @@ row-20 : result (dump Ber None false plain) (octets "0c 41" ++ replicate 62 0x61
 unfolding digits encode_with is_utf8 chars encode
 row-20 = refl
 
--- the same behind 63 letters
+-- the same after 63 letters
 row-21 : result (dump Ber None false plain) (octets "0c 41" ++ replicate 63 0x61 ++ octets "f0 c3")
     ≡ noted 1 "findings: 1" (lines (
     "       0     65: UTF8String" ∷

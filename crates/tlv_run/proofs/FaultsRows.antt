@@ -70,7 +70,7 @@ row-8 : result (dump Ber None false plain) (octets "30 05 30 80 02 01 05")
 unfolding digits encode_with is_utf8 chars encode
 row-8 = refl
 
--- an octet 00 behind the bound of an indefinite element
+-- an octet 00 after the bound of an indefinite element
 row-9 : result (dump Ber None false plain) (octets "30 05 30 80 02 01 05 00")
     ≡ faulty 0 MissingEnd 7 "fault at 7: F05 no end-of-contents inside the enclosing length" (lines (
     "       0      5: SEQUENCE {" ∷
@@ -118,7 +118,7 @@ row-15 : result (dump Ber None false plain) (octets "04 86 01")
 unfolding digits encode_with is_utf8 chars encode
 row-15 = refl
 
--- the same behind 120 octets 00
+-- the same after 120 octets 00
 row-16 : result (dump Ber None false plain) (octets "04 fe" ++ replicate 120 0x00 ++ octets "01")
     ≡ faulty 0 LengthTooLarge 122 "fault at 122: F09 length of 2^40 or more" []
 unfolding digits encode_with is_utf8 chars encode
@@ -175,7 +175,7 @@ row-24 : result (dump Ber None false plain) (octets "30 80 00")
 unfolding digits encode_with is_utf8 chars encode
 row-24 = refl
 
--- an element behind the bound of an indefinite element
+-- an element after the bound of an indefinite element
 row-25 : result (dump Ber None false plain) (octets "30 05 30 80 02 01 05 02 00")
     ≡ faulty 0 MissingEnd 7 "fault at 7: F05 no end-of-contents inside the enclosing length" (lines (
     "       0      5: SEQUENCE {" ∷

@@ -186,7 +186,7 @@ row-23 : result (check Der plain) (octets "01 01 01")
 unfolding digits encode_with is_utf8 chars encode
 row-23 = refl
 
--- the length 128 behind an octet 00
+-- the length 128 after an octet 00
 row-24 : result (check Der plain) (octets "04 82 00 80" ++ replicate 128 0x00)
     ≡ noted 1 "findings: 1" (lines (
     "0 S01 length is not the shortest" ∷ []))

@@ -180,7 +180,7 @@ row-33 : result (indef false) (octets "30 80 05 00 00 00")
 unfolding digits encode_with is_utf8 chars encode
 row-33 = refl
 
--- no end-of-contents octets behind what is open
+-- no end-of-contents octets after what is open
 row-34 : result (indef false) (octets "30 80 05 00 30 05")
     ≡ faulty 0 Short 6 "fault at 6: F02 input ends inside an encoding" (octets "30 80 05 00 30 80")
 unfolding digits encode_with is_utf8 chars encode

@@ -115,7 +115,7 @@ row-12 : result (dump Ber None false (framed (0 ∷ []) false)) (octets "84 02 0
 unfolding digits encode_with is_utf8 chars encode
 row-12 = refl
 
--- an offset behind the input
+-- an offset after the input
 row-13 : result (dump Ber None false (framed (1099511627776 ∷ []) false)) (octets "05 00")
     ≡ noted 0 "E7 no string to read at offset 1099511627776" (lines (
     "       0      0: NULL" ∷ []))
@@ -260,7 +260,7 @@ row-32 : result (dump Ber None false (framed (0 ∷ []) false)) (octets "0c 00")
 unfolding digits encode_with is_utf8 chars encode
 row-32 = refl
 
--- an offset passed over, one of a string, and one behind the input
+-- an offset passed over, one of a string, and one after the input
 row-33 : result (dump Ber None false (framed (1 ∷ 2 ∷ 9 ∷ []) false)) (octets "05 00 04 02 05 00")
     ≡ noted 0 "E7 no string to read at offset 1" (lines (
     "       0      0: NULL" ∷

@@ -10,7 +10,7 @@ use Rattle.tlv_show.specs.declared.rules.Rules.TheVariants.{Ber, Der}
 use Rattle.tlv_run.proofs.RowWords.{check, clean_with, dump, extract, faulty}
 use Rattle.tlv_run.proofs.RowWords.{framed, indef, lines, noted, octets, result}
 
--- padding before, between and behind
+-- padding before, between and after
 row-1 : result (dump Ber None false (framed [] true)) (octets "00 00 05 00 00 00 05 00 00")
     ≡ clean_with (lines (
     "       0    pad: padding" ∷
@@ -72,7 +72,7 @@ row-8 : result (check Der (framed [] true)) (octets "00 00 00")
 unfolding digits encode_with is_utf8 chars encode
 row-8 = refl
 
--- an element behind padding
+-- an element after padding
 row-9 : result (extract 1 false (framed [] true)) (octets "00 05 00 00")
     ≡ clean_with (octets "05 00")
 unfolding digits encode_with is_utf8 chars encode
@@ -108,7 +108,7 @@ row-14 : result (indef true) (octets "00 00 00")
 unfolding digits encode_with is_utf8 chars encode
 row-14 = refl
 
--- padding behind an indefinite element
+-- padding after an indefinite element
 row-15 : result (dump Ber None false (framed [] true)) (octets "30 80 00 00 00 30 02 05 00")
     ≡ clean_with (lines (
     "       0  indef: SEQUENCE {" ∷

@@ -82,7 +82,7 @@ row-11 : result (check Der plain) (octets "18 11 31 39 39 32 30 37 32 32 31 33 3
 unfolding digits encode_with is_utf8 chars encode
 row-11 = refl
 
--- no digit behind the point
+-- no digit after the point
 row-12 : result (check Der plain) (octets "18 10 31 39 39 32 30 37 32 32 31 33 32 31 30 30 2e 5a")
     ≡ noted 1 "findings: 1" (lines (
     "0 B19 time not of its grammar" ∷ []))

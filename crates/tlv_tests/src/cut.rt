@@ -1,4 +1,4 @@
-//! The calls of `tlv_cut` by themselves: what they write and answer.
+//! The calls of `tlv_cut` by themselves: what they write and return.
 use crate::expect::expect_eq;
 use std::process::Abort;
 use tlv_cut::{Cut, Extract, Indef, extract, indef};
@@ -28,20 +28,20 @@ fn followers_write_by_themselves(rt: HostRuntime) {
     assert!(rt; writes(&mut Indef::new(), INDEFINITE));
 }
 
-/// Expects the extract of the element at the offset to write these octets and answer this.
+/// Expects the extract of the element at the offset to write these octets and return this.
 fn expect_extract(
     rt: &impl Abort,
     offset: u64,
     fail_at: Option<u64>,
     written: &[u8],
-    answer: Result<Cut, DeviceFault>,
+    wanted: Result<Cut, DeviceFault>,
 ) {
     let mut room = [0; 8];
     let mut source = MemSource::new(INPUT, &[4], fail_at);
     let mut drain = MemDrain::new(&mut room, 8);
     let cut = extract(&mut source, &mut drain, offset, false, &Framing::plain());
     expect_eq(rt, drain.written(), written);
-    expect_eq(rt, cut, answer);
+    expect_eq(rt, cut, wanted);
 }
 
 #[test]
@@ -51,11 +51,11 @@ fn elements_are_extracted(rt: HostRuntime) {
         (2, true, b"\x02\x01\x05"),
         (3, false, b""),
     ] {
-        let answer = Cut {
+        let wanted = Cut {
             ending: Ending::Done,
             found,
         };
-        expect_extract(&rt, offset, None, written, Ok(answer));
+        expect_extract(&rt, offset, None, written, Ok(wanted));
     }
     expect_extract(&rt, 2, Some(1), b"\x02\x01", Err(DeviceFault::ReadFailed));
 }

@@ -7,7 +7,7 @@ pub(crate) fn expect_eq<T: Copy + PartialEq + Debug>(rt: &impl Abort, got: T, wa
     assert!(rt; got == want, "{:?} in place of {:?}", got, want);
 }
 
-/// The same, and tells `what` they are of where they differ.
+/// The same; if they differ, the message says `what` they are of.
 pub(crate) fn expect_eq_of<W: Copy + Debug, T: Copy + PartialEq + Debug>(
     rt: &impl Abort,
     what: W,

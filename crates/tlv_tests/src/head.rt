@@ -15,7 +15,7 @@ fn front_header(octets: &[u8]) -> Option<Header> {
     Some(Header::new(&fields, &octets[..count]))
 }
 
-/// What the octets of a header, or a front of one, come to: the first answer that is not More.
+/// What the octets of a header, or a front of one, come to: the first result that is not More.
 fn read(octets: &[u8], place: Place) -> Head
     requires { place.depth ≤ 128 }
 {

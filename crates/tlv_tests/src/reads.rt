@@ -9,7 +9,7 @@ use tlv_walk::{Follow, MemDrain, MemSource, Turn, Walker, turn};
 /// As many octets as the inputs of these tests have.
 pub(crate) const LENGTH: u64 = 11;
 
-/// Follows one read, behind which more is to be read.
+/// Follows one read, after which more is to be read.
 pub(crate) fn expect_again<F: Follow>(
     rt: &impl Abort,
     walker: &mut Walker,

@@ -29,8 +29,8 @@ fn plain() -> Options {
     }
 }
 
-/// Tells the events to a new dump.
-fn tell<D: Drain>(events: &[Event<'_>], drain: &mut D) -> Result<(), WriteFault> {
+/// Hands the events to a new dump.
+fn follow_all<D: Drain>(events: &[Event<'_>], drain: &mut D) -> Result<(), WriteFault> {
     let mut out = Out::new(drain);
     let names = Names::empty();
     let mut follower = Dump::new(&plain(), &names);
@@ -44,7 +44,7 @@ fn tell<D: Drain>(events: &[Event<'_>], drain: &mut D) -> Result<(), WriteFault>
 fn expect_text(rt: &impl Abort, events: &[Event<'_>], text: &[u8]) {
     let mut room = [0; 400];
     let mut drain = MemDrain::new(&mut room, 7);
-    expect_eq(rt, tell(events, &mut drain), Ok(()));
+    expect_eq(rt, follow_all(events, &mut drain), Ok(()));
     expect_eq(rt, drain.written(), text);
 }
 
@@ -108,11 +108,11 @@ fn rows_from_one_piece(rt: HostRuntime) -> Result<(), Fail> {
 #[test]
 fn rows_from_pieces(rt: HostRuntime) -> Result<(), Fail> {
     for cut in 0..=17 {
-        let (front, behind) = CONTENTS.split_at(cut);
+        let (front, after) = CONTENTS.split_at(cut);
         let events = [
             Event::Begin(header(0, &[2, 17])?),
             Event::Bytes(front),
-            Event::Bytes(behind),
+            Event::Bytes(after),
             Event::End,
         ];
         expect_text(&rt, &events, ROWS);
@@ -147,7 +147,7 @@ fn a_drain_without_room(rt: HostRuntime) -> Result<(), Fail> {
     let events = [Event::Begin(header(0, &[5, 0])?), Event::End];
     let mut room = [0; 10];
     let mut drain = MemDrain::new(&mut room, 400);
-    expect_eq(&rt, tell(&events, &mut drain), Err(WriteFault));
+    expect_eq(&rt, follow_all(&events, &mut drain), Err(WriteFault));
     expect_eq(&rt, drain.written(), b"       0  ".as_slice());
     Ok(())
 }

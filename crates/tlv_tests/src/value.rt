@@ -56,13 +56,13 @@ const PLAIN: Layout = Layout {
 struct Pieces {
     /// The most octets of the first piece.
     first: usize,
-    /// The most octets of each piece behind it.
+    /// The most octets of each piece after it.
     size: usize,
     /// The most octets of a write.
     most: usize,
 }
 
-/// Two pieces, cut here, or behind the last octet.
+/// Two pieces, cut here, or after the last octet.
 fn cut_at(cut: usize) -> Pieces
     ensures { 1 ≤ result.size }
 {
@@ -73,7 +73,7 @@ fn cut_at(cut: usize) -> Pieces
     }
 }
 
-/// Writes the lines of the element at this offset into the room. Answers how many octets were written.
+/// Writes the lines of the element at this offset into the room. Returns how many octets were written.
 fn show<N: NameTable>(
     element: &[u8],
     offset: u64,

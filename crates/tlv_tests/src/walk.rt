@@ -45,7 +45,7 @@ const WHOLE: Reads<'static> = Reads {
 
 /// What a walk comes to.
 #[derive(Clone, Copy)]
-struct Answer<'a> {
+struct Outcome<'a> {
     written: &'a [u8],
     result: Result<Run, DeviceFault>,
 }
@@ -93,13 +93,13 @@ fn framing_of(rt: &impl Abort, row: &Row<'_>) -> Framing {
     }
 }
 
-/// Walks over the row's input, and expects this answer.
+/// Walks over the row's input, and expects this outcome.
 fn expect_walk(
     rt: &impl Abort,
     row: &Row<'_>,
     reads: Reads<'_>,
     drain: &mut MemDrain<'_>,
-    answer: Answer<'_>,
+    outcome: Outcome<'_>,
 ) {
     let mut source = MemSource::new(row.input, reads.cuts, reads.fail_at);
     let result = drive_up_to(
@@ -109,17 +109,17 @@ fn expect_walk(
         reads.limit.min(INPUT_LIMIT),
         &framing_of(rt, row),
     );
-    let is_answer = drain.written() == answer.written && result == answer.result;
-    assert!(rt; is_answer, "{}: {:?}", row.name, result);
+    let is_outcome = drain.written() == outcome.written && result == outcome.result;
+    assert!(rt; is_outcome, "{}: {:?}", row.name, result);
 }
 
-/// Expects the row's own answer.
+/// Expects the row's own outcome.
 fn expect_row(rt: &impl Abort, row: &Row<'_>, text: &[u8], reads: Reads<'_>, room: &mut [u8]) {
-    let answer = Answer {
+    let outcome = Outcome {
         written: text,
         result: Ok(run_of(row)),
     };
-    expect_walk(rt, row, reads, &mut MemDrain::new(room, 4096), answer);
+    expect_walk(rt, row, reads, &mut MemDrain::new(room, 4096), outcome);
 }
 
 /// Expects it whole, in single octets, and in every cut into two pieces.
@@ -157,7 +157,7 @@ fn pieces_do_not_show(rt: HostRuntime) -> Result<(), Fail> {
 }
 
 /// Each read fails in turn, of reads of one octet: what is written is whole for the octets before. No
-/// read is made behind an octet that is refused.
+/// read is made after an octet that is refused.
 fn expect_failed_reads(rt: &impl Abort, alloc: Global, rows: &[Row<'_>]) -> Result<(), Fail> {
     let mut room = [0; 1024];
     for row in rows {
@@ -172,11 +172,11 @@ fn expect_failed_reads(rt: &impl Abort, alloc: Global, rows: &[Row<'_>]) -> Resu
                 expect_row(rt, row, text.as_slice(), reads, &mut room);
                 continue;
             }
-            let answer = Answer {
+            let outcome = Outcome {
                 written: text.as_slice(),
                 result: Err(DeviceFault::ReadFailed),
             };
-            expect_walk(rt, row, reads, &mut MemDrain::new(&mut room, 4096), answer);
+            expect_walk(rt, row, reads, &mut MemDrain::new(&mut room, 4096), outcome);
         }
     }
     Ok(())
@@ -190,7 +190,7 @@ fn reads_fail(rt: HostRuntime) -> Result<(), Fail> {
     Ok(())
 }
 
-/// The octets up to each limit are followed, and of those behind it none.
+/// The octets up to each limit are followed, and of those after it none.
 fn expect_limits(
     rt: &impl Abort,
     alloc: Global,
@@ -210,11 +210,11 @@ fn expect_limits(
                 expect_row(rt, row, text.as_slice(), reads, &mut room);
                 continue;
             }
-            let answer = Answer {
+            let outcome = Outcome {
                 written: text.as_slice(),
                 result: Err(DeviceFault::InputTooLong),
             };
-            expect_walk(rt, row, reads, &mut MemDrain::new(&mut room, 4096), answer);
+            expect_walk(rt, row, reads, &mut MemDrain::new(&mut room, 4096), outcome);
         }
     }
     Ok(())
@@ -241,12 +241,12 @@ fn expect_too_little_room(
     assert!(rt; text.len() <= room.len());
     let reads = Reads { cuts, ..WHOLE };
     for size in 0..text.len() {
-        let answer = Answer {
+        let outcome = Outcome {
             written: &text[..size],
             result: Err(DeviceFault::WriteFailed),
         };
         let mut drain = MemDrain::new(&mut room[..size], most);
-        expect_walk(rt, row, reads, &mut drain, answer);
+        expect_walk(rt, row, reads, &mut drain, outcome);
     }
     expect_row(rt, row, text, reads, &mut room[..text.len()]);
 }
@@ -272,9 +272,9 @@ fn writes_fail(rt: HostRuntime) -> Result<(), Fail> {
     Ok(())
 }
 
-/// No read is made behind an octet that is refused, and what was read with it is not followed.
+/// No read is made after an octet that is refused, and what was read with it is not followed.
 #[test]
-fn nothing_is_read_behind_a_fault(rt: HostRuntime) {
+fn nothing_is_read_after_a_fault(rt: HostRuntime) {
     let reads = Reads {
         cuts: &[4],
         fail_at: Some(1),
@@ -291,11 +291,11 @@ fn octets_before_a_failed_read_are_followed(rt: HostRuntime) {
         fail_at: Some(1),
         limit: INPUT_LIMIT,
     };
-    let answer = Answer {
+    let outcome = Outcome {
         written: b"open 0000 3a 09\nbegin 0002 04 03\n",
         result: Err(DeviceFault::ReadFailed),
     };
     let mut room = [0; 64];
     let mut drain = MemDrain::new(&mut room, 4096);
-    expect_walk(&rt, &ENCODINGS[1], reads, &mut drain, answer);
+    expect_walk(&rt, &ENCODINGS[1], reads, &mut drain, outcome);
 }

@@ -2,7 +2,7 @@
 //! that is refused or a whole element.
 use crate::READ_FAILED;
 use crate::row::{Case, command_for};
-use crate::runs::{Answer, Devices, expect_run};
+use crate::runs::{Devices, Outcome, expect_run};
 use std::alloc::Global;
 use std::process::Abort;
 use std::test::Fail;
@@ -101,13 +101,13 @@ fn expect_broken(rt: &impl Abort, alloc: Global, broken: &Broken<'_>) -> Result<
         fail_at: Some(1),
         most: 4096,
     };
-    let answer = Answer {
+    let outcome = Outcome {
         written: broken.written,
         status: broken.status,
         findings: 0,
         message: broken.message.as_bytes(),
     };
-    expect_run(rt, &case, broken.input, devices, &mut [0; 256], answer);
+    expect_run(rt, &case, broken.input, devices, &mut [0; 256], outcome);
     Ok(())
 }
 

@@ -1,4 +1,4 @@
-//! Words behind the program's name, and what they come to.
+//! Words after the program's name, and what they come to.
 use tlv_show::Rules;
 
 /// What words come to.
@@ -126,7 +126,7 @@ pub(crate) static CUTS: [Judged<'static>; 5] = [
     (&["indef", "--padding", "-"], Comes::Indef),
 ];
 
-/// Whose rules `dump` and `check` tell of.
+/// Whose rules `dump` and `check` go by.
 pub(crate) static RULES: [Judged<'static>; 7] = [
     (&["dump"], Comes::Dump(Rules::Ber, None, false)),
     (

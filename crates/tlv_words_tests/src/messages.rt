@@ -6,7 +6,7 @@ use tlv_value::NamesFault;
 use tlv_walk::{DeviceFault, MemDrain};
 use tlv_words::{UsageFault, unprinted_report, usage_report, words_report};
 
-/// Expects this status, and this line with a line feed behind it.
+/// Expects this status, and this line with a line feed after it.
 fn expect_written(rt: &impl Abort, report: &Report, status: u8, line: &[u8]) {
     let mut room = [0; 129];
     let mut drain = MemDrain::new(&mut room, 5);

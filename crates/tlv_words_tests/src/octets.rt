@@ -65,7 +65,7 @@ fn cuts_do_not_show(rt: HostRuntime) -> Result<(), Fail> {
 /// Words, an input, what is written of it before a read fails, the status and the message.
 type Broken<'a> = (&'a str, &'a [u8], &'a [u8], u8, &'a str);
 
-/// Behind these inputs a read fails.
+/// After these inputs a read fails.
 static BROKEN: [Broken<'static>; 6] = [
     ("indef", b"\x30\x03\x02", b"\x30\x80", 3, READ_FAILED),
     (
@@ -83,7 +83,7 @@ static BROKEN: [Broken<'static>; 6] = [
         3,
         READ_FAILED,
     ),
-    // No read is made behind a refused octet, or behind the element.
+    // No read is made after a refused octet, or after the element.
     (
         "dump",
         b"\x05\x00\x00",

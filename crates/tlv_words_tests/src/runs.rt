@@ -24,7 +24,7 @@ pub(crate) struct Devices<'a> {
 
 /// What a run writes and reports.
 #[derive(Clone, Copy)]
-pub(crate) struct Answer<'a> {
+pub(crate) struct Outcome<'a> {
     pub written: &'a [u8],
     pub status: u8,
     pub findings: u64,
@@ -41,8 +41,8 @@ pub(crate) fn sound(cuts: &[u64]) -> Devices<'_> {
 }
 
 /// What the case says that a run of its whole input writes and reports.
-fn answer_of<'a>(case: &'a Case<'_>) -> Answer<'a> {
-    Answer {
+fn outcome_of<'a>(case: &'a Case<'_>) -> Outcome<'a> {
+    Outcome {
         written: case.output.as_slice(),
         status: case.status,
         findings: case.findings,
@@ -50,9 +50,9 @@ fn answer_of<'a>(case: &'a Case<'_>) -> Answer<'a> {
     }
 }
 
-/// What a run reports whose device failed behind these octets of output.
-fn failed<'a>(written: &'a [u8], message: &'a str) -> Answer<'a> {
-    Answer {
+/// What a run reports whose device failed after these octets of output.
+fn failed<'a>(written: &'a [u8], message: &'a str) -> Outcome<'a> {
+    Outcome {
         written,
         status: 3,
         findings: 0,
@@ -61,8 +61,8 @@ fn failed<'a>(written: &'a [u8], message: &'a str) -> Answer<'a> {
 }
 
 /// What a run reported, with what it wrote.
-fn answer_in<'a>(report: &'a Report, written: &'a [u8]) -> Answer<'a> {
-    Answer {
+fn outcome_in<'a>(report: &'a Report, written: &'a [u8]) -> Outcome<'a> {
+    Outcome {
         written,
         status: report.status,
         findings: report.findings,
@@ -70,55 +70,55 @@ fn answer_in<'a>(report: &'a Report, written: &'a [u8]) -> Answer<'a> {
     }
 }
 
-/// Whether nothing that follows the octets of a run with this answer could change it: an octet was
+/// Whether nothing that follows the octets of a run with this outcome could change it: an octet was
 /// refused, or the element of `extract` was whole.
-fn is_final(command: &Command, answer: Answer<'_>) -> bool {
-    if answer.status == 2 {
-        let text = answer.message;
+fn is_final(command: &Command, outcome: Outcome<'_>) -> bool {
+    if outcome.status == 2 {
+        let text = outcome.message;
         return !text.ends_with(b"F01 empty input")
             && !text.ends_with(b"F02 input ends inside an encoding");
     }
-    answer.status == 0 && matches!(command, Command::Extract { .. })
+    outcome.status == 0 && matches!(command, Command::Extract { .. })
 }
 
-/// Runs the case's command over these octets into the room, and expects this answer.
+/// Runs the case's command over these octets into the room, and expects this outcome.
 pub(crate) fn expect_run(
     rt: &impl Abort,
     case: &Case<'_>,
     octets: &[u8],
     devices: Devices<'_>,
     room: &mut [u8],
-    answer: Answer<'_>,
+    outcome: Outcome<'_>,
 ) {
     let mut source = MemSource::new(octets, devices.cuts, devices.fail_at);
     let mut drain = MemDrain::new(room, devices.most);
     let report = run(&case.command, &case.names, &mut source, &mut drain);
-    expect_eq(rt, case.place, drain.written(), answer.written);
-    expect_eq(rt, case.place, report.message.as_slice(), answer.message);
-    expect_eq(rt, case.place, report.status, answer.status);
-    expect_eq(rt, case.place, report.findings, answer.findings);
+    expect_eq(rt, case.place, drain.written(), outcome.written);
+    expect_eq(rt, case.place, report.message.as_slice(), outcome.message);
+    expect_eq(rt, case.place, report.status, outcome.status);
+    expect_eq(rt, case.place, report.findings, outcome.findings);
 }
 
-/// Expects the same answer in single octets and in every cut into two pieces.
+/// Expects the same outcome in single octets and in every cut into two pieces.
 fn expect_in_pieces(
     rt: &impl Abort,
     case: &Case<'_>,
     octets: &[u8],
     room: &mut [u8],
-    answer: Answer<'_>,
+    outcome: Outcome<'_>,
 ) {
-    expect_run(rt, case, octets, sound(&ONES), room, answer);
+    expect_run(rt, case, octets, sound(&ONES), room, outcome);
     for cut in 1..octets.len() {
-        expect_run(rt, case, octets, sound(&[cut as u64]), room, answer);
+        expect_run(rt, case, octets, sound(&[cut as u64]), room, outcome);
     }
 }
 
-/// Expects the case's answer of its input whole, in single octets and in every cut into two pieces.
+/// Expects the case's outcome of its input whole, in single octets and in every cut into two pieces.
 pub(crate) fn expect_whole(rt: &impl Abort, case: &Case<'_>, room: &mut [u8]) {
     let input = case.input.as_slice();
-    let answer = answer_of(case);
-    expect_run(rt, case, input, sound(&[]), room, answer);
-    expect_in_pieces(rt, case, input, room, answer);
+    let outcome = outcome_of(case);
+    expect_run(rt, case, input, sound(&[]), room, outcome);
+    expect_in_pieces(rt, case, input, room, outcome);
 }
 
 /// How many octets of the output have come with so many octets of the input, where the case says so.
@@ -150,7 +150,7 @@ fn expect_front(
     Ok(())
 }
 
-/// Expects of each front of the input a front of the output; of a short input the same answer in whatever pieces.
+/// Expects of each front of the input a front of the output; of a short input the same outcome in whatever pieces.
 pub(crate) fn expect_fronts(
     rt: &impl Abort,
     case: &Case<'_>,
@@ -162,16 +162,16 @@ pub(crate) fn expect_fronts(
         let mut source = MemSource::new(front, &[], None);
         let mut drain = MemDrain::new(room, 4096);
         let report = run(&case.command, &case.names, &mut source, &mut drain);
-        let answer = answer_in(&report, drain.written());
-        expect_front(rt, case, count, answer.written)?;
+        let outcome = outcome_in(&report, drain.written());
+        expect_front(rt, case, count, outcome.written)?;
         if case.input.len() <= SHORT {
-            expect_in_pieces(rt, case, front, other, answer);
+            expect_in_pieces(rt, case, front, other, outcome);
         }
     }
     Ok(())
 }
 
-/// Expects a failed read behind these octets of output.
+/// Expects a failed read after these octets of output.
 fn expect_failed_read(
     rt: &impl Abort,
     case: &Case<'_>,
@@ -179,8 +179,8 @@ fn expect_failed_read(
     room: &mut [u8],
     written: &[u8],
 ) {
-    let answer = failed(written, READ_FAILED);
-    expect_run(rt, case, case.input.as_slice(), devices, room, answer);
+    let outcome = failed(written, READ_FAILED);
+    expect_run(rt, case, case.input.as_slice(), devices, room, outcome);
 }
 
 /// Each read of one octet fails in turn: what was written is the output of the octets before it. No
@@ -196,17 +196,17 @@ pub(crate) fn expect_failed_reads(
         let mut source = MemSource::new(front, &[], None);
         let mut drain = MemDrain::new(room, 4096);
         let report = run(&case.command, &case.names, &mut source, &mut drain);
-        let answer = answer_in(&report, drain.written());
+        let outcome = outcome_in(&report, drain.written());
         let devices = Devices {
             cuts: &ONES,
             fail_at: Some(count as u64),
             most: 4096,
         };
         let input = case.input.as_slice();
-        if is_final(&case.command, answer) {
-            expect_run(rt, case, input, devices, other, answer_of(case));
+        if is_final(&case.command, outcome) {
+            expect_run(rt, case, input, devices, other, outcome_of(case));
         } else {
-            expect_failed_read(rt, case, devices, other, answer.written);
+            expect_failed_read(rt, case, devices, other, outcome.written);
         }
     }
 }
@@ -217,8 +217,8 @@ fn expect_too_little_room(rt: &impl Abort, case: &Case<'_>, devices: Devices<'_>
         let (Some(place), Some(written)) = (room.get_mut(..size), case.output.get(..size)) else {
             panic!(rt; "{}: no room", case.place);
         };
-        let answer = failed(written, WRITE_FAILED);
-        expect_run(rt, case, case.input.as_slice(), devices, place, answer);
+        let outcome = failed(written, WRITE_FAILED);
+        expect_run(rt, case, case.input.as_slice(), devices, place, outcome);
     }
 }
 
@@ -249,18 +249,18 @@ pub(crate) fn expect_final_fault(
     room: &mut [u8],
     longer: &mut [u8],
 ) {
-    let answer = answer_of(case);
+    let outcome = outcome_of(case);
     let count = case.input.len();
     let Some(longer) = longer.get_mut(..=count) else {
         panic!(rt; "{}: no room", case.place);
     };
-    if case.status != 2 || !is_final(&case.command, answer) {
+    if case.status != 2 || !is_final(&case.command, outcome) {
         return;
     }
     longer[..count].copy_from_slice(case.input.as_slice());
     for octet in 0..=255 {
         longer[count] = octet;
-        expect_run(rt, case, longer, sound(&[]), room, answer);
+        expect_run(rt, case, longer, sound(&[]), room, outcome);
     }
 }
 

@@ -210,7 +210,7 @@ pub(crate) static REFUSALS: [Refusal; 13] = [
         code: FaultCode::TooDeep,
         is_header: true,
     },
-    // The depth passes before the bound behind the contents.
+    // The depth passes before the bound after the contents.
     Refusal {
         octets: b"\x30\x02",
         place: Place {

@@ -1,4 +1,4 @@
-//! The calls of `tlv_show` by themselves: what they write and answer.
+//! The calls of `tlv_show` by themselves: what they write and return.
 use super::plain;
 use crate::expect::expect_eq;
 use tlv_show::{Check, Outcome, Rules, check, dump};
@@ -8,7 +8,7 @@ use tlv_walk::{Ending, Framing, MemDrain, MemSource, drive};
 /// An INTEGER that is padded.
 const INPUT: &[u8] = b"\x02\x02\x00\x7f";
 
-/// What both calls answer of it.
+/// What both calls return for it.
 const OUTCOME: Outcome = Outcome {
     ending: Ending::Done,
     findings: 1,
@@ -20,13 +20,13 @@ fn a_dump_is_written(rt: HostRuntime) {
     let mut room = [0; 100];
     let mut source = MemSource::new(INPUT, &[], None);
     let mut drain = MemDrain::new(&mut room, 7);
-    let answer = dump(&mut source, &mut drain, &plain(), &Names::empty());
+    let outcome = dump(&mut source, &mut drain, &plain(), &Names::empty());
     expect_eq(
         &rt,
         drain.written(),
         b"       0      2: INTEGER 127\n       0    B08: integer is padded\n".as_slice(),
     );
-    expect_eq(&rt, answer, Ok(OUTCOME));
+    expect_eq(&rt, outcome, Ok(OUTCOME));
 }
 
 #[test]
@@ -34,13 +34,13 @@ fn a_check_is_written(rt: HostRuntime) {
     let mut room = [0; 100];
     let mut source = MemSource::new(INPUT, &[], None);
     let mut drain = MemDrain::new(&mut room, 7);
-    let answer = check(&mut source, &mut drain, Rules::Der, &Framing::plain());
+    let outcome = check(&mut source, &mut drain, Rules::Der, &Framing::plain());
     expect_eq(
         &rt,
         drain.written(),
         b"0 B08 integer is padded\n".as_slice(),
     );
-    expect_eq(&rt, answer, Ok(OUTCOME));
+    expect_eq(&rt, outcome, Ok(OUTCOME));
 }
 
 /// The follower by itself counts what it wrote.

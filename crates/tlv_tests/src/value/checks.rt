@@ -6,7 +6,7 @@ use std::process::Abort;
 use tlv_head::{Header, Size, read_header};
 use tlv_value::{Finding, ValueCheck, is_clear};
 
-/// What is found on the contents of an element, which come in two pieces, cut at `cut`, or behind the last octet, if
+/// What is found on the contents of an element, which come in two pieces, cut at `cut`, or after the last octet, if
 /// `is_clear` says whether that is nothing.
 fn check(element: &[u8], cut: usize) -> Option<ArrayVec<Finding, 16>> {
     let (fields, count) = read_header(0, false, element)?;

@@ -14,7 +14,7 @@ enum Call {
     Flush,
 }
 
-/// Writes so many letters, and behind them the lines of an element. `None` where no write failed.
+/// Writes so many letters, and after them the lines of an element. `None` where no write failed.
 fn failing_call(element: &[u8], letters: usize, drain: &mut MemDrain<'_>) -> Option<Call> {
     let (fields, count) = read_header(0, false, element)?;
     let header = Header::new(&fields, &element[..count]);
@@ -46,13 +46,13 @@ fn failing_call(element: &[u8], letters: usize, drain: &mut MemDrain<'_>) -> Opt
 
 /// Whether the octets are so many letters and the text, or a front of that.
 fn is_front(octets: &[u8], letters: usize, text: &[u8]) -> bool {
-    let (before, behind) = octets.split_at(letters.min(octets.len()));
+    let (before, after) = octets.split_at(letters.min(octets.len()));
     for octet in before {
         if *octet != b'x' {
             return false;
         }
     }
-    text.starts_with(behind)
+    text.starts_with(after)
 }
 
 const INTEGER: &[u8] = b"\x02\x11\x00\x80\0\0\0\0\0\0\0\0\0\0\0\0\0\0\0";

@@ -1,4 +1,4 @@
-//! Where lines stand, how many are written, and names behind object identifiers.
+//! Where lines stand, how many are written, and names after object identifiers.
 use super::number_rows::LARGE_NUMBERS;
 use super::object_rows::LARGE_ARCS;
 use super::{OneName, PLAIN, are_shown, cut_at, expect_lines, expect_lines_named, show};
@@ -8,7 +8,7 @@ use tlv_walk::MemSource;
 /// What stands for the rows that are left out.
 const DOTS: &str = "                   ...";
 
-/// An object identifier has its name behind it. A relative one has none, though its dotted text may be a name's.
+/// An object identifier has its name after it. A relative one has none, though its dotted text may be a name's.
 #[test]
 fn names_of_a_file_are_shown(rt: HostRuntime) {
     let mut source = MemSource::new(b"1.2.840 us\n", &[], None);
@@ -59,7 +59,7 @@ fn places(rt: HostRuntime) {
     }
 }
 
-/// Above the limit the first row is three dots, and those behind it are left out. As many rows as the limit are all
+/// Above the limit the first row is three dots, and those after it are left out. As many rows as the limit are all
 /// written.
 #[test]
 fn rows_are_left_out(rt: HostRuntime) {

@@ -1,7 +1,7 @@
 //! A long value.
 use super::{OneName, PLAIN, Pieces, are_lines, cut_at, show};
 
-/// 64 letters in quotation marks, behind the columns of a row.
+/// 64 letters in quotation marks, after the columns of a row.
 const ROW: &str =
     "                   \"aaaaaaaaaaaaaaaaaaaaaaaaaaaaaaaaaaaaaaaaaaaaaaaaaaaaaaaaaaaaaaaa\"\n";
 

@@ -79,7 +79,7 @@ pub(super) static NO_UTF8: [Row<'static>; 5] = [
         element: b"\x0c\x02\x41\xe2",
         lines: &["       0      2: UTF8String \"A\\xe2\""],
     },
-    // The last number of Unicode, and the one behind it.
+    // The last number of Unicode, and the one after it.
     Row {
         element: b"\x0c\x08\xf4\x8f\xbf\xbf\xf4\x90\x80\x80",
         lines: &["       0      8: UTF8String \"\\u{10ffff}\\xf4\\x90\\x80\\x80\""],

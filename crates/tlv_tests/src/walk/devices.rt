@@ -75,7 +75,7 @@ fn a_write_of_nothing_fails(rt: HostRuntime) {
     expect_eq(&rt, result, Err(DeviceFault::WriteFailed));
 }
 
-/// Octets that are too many to be held go to the drain behind those that were.
+/// Octets that are too many to be held go to the drain after those that were.
 #[test]
 fn a_long_put_fails(rt: HostRuntime) {
     let mut room = [0; 5];

@@ -31,9 +31,9 @@ const FIRST_END: Run = Run {
     unused: None,
 };
 
-/// Nothing is walked over behind the octets of the end that is enough, be it refused or not.
+/// Nothing is walked over after the octets of the end that is enough, be it refused or not.
 #[test]
-fn octets_behind_enough_are_not_followed(rt: HostRuntime) {
+fn octets_after_enough_are_not_followed(rt: HostRuntime) {
     let first = b"open 0000 30 80\nbegin 0002 02 01\n 05 end\n";
     let both = b"open 0000 30 80\nbegin 0002 02 01\n 05 end\nclose 0005\n";
     let second_end = Run {
@@ -50,9 +50,9 @@ fn octets_behind_enough_are_not_followed(rt: HostRuntime) {
     }
 }
 
-/// No read is made behind the octets of the end that is enough.
+/// No read is made after the octets of the end that is enough.
 #[test]
-fn nothing_is_read_behind_enough(rt: HostRuntime) {
+fn nothing_is_read_after_enough(rt: HostRuntime) {
     let first = b"open 0000 30 80\nbegin 0002 02 01\n 05 end\n";
     let cut = Reads {
         cuts: &[5],

@@ -174,7 +174,7 @@ pub(crate) static REFUSED: [Row<'static>; 12] = [
         ..CLEAN
     },
     Row {
-        name: "an octet 00 behind the bound of an indefinite element",
+        name: "an octet 00 after the bound of an indefinite element",
         input: b"\x30\x05\x30\x80\x02\x01\x05\x00",
         parts: &[
             (2, "open 0000 30 05\n"),

@@ -73,7 +73,7 @@ fn expect_unused(rt: &impl Abort, ends: u64, octets: u64, unused: Option<u64>) {
     expect_eq(rt, result, Ok(run));
 }
 
-/// A named string behind the end that is enough is not found.
+/// A named string after the end that is enough is not found.
 #[test]
 fn unused_offsets_are_returned_with_enough(rt: HostRuntime) {
     expect_unused(&rt, 1, 4, Some(4));

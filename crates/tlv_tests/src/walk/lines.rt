@@ -77,9 +77,9 @@ fn push_pairs(line: &mut ArrayVec<u8, 512>, octets: &[u8])
     ensures grows { array_vec_len line.new ≡ array_vec_len line.old + 3 * length octets.now }
 {
     let mut rest = octets;
-    while let [octet, behind @ ..] = rest {
+    while let [octet, after @ ..] = rest {
         let _ = line.try_extend_from_slice(&pair(*octet));
-        rest = behind;
+        rest = after;
     }
 }
 

@@ -90,7 +90,7 @@ pub(crate) static ENCODINGS: [Row<'static>; 6] = [
         ..CLEAN
     },
     Row {
-        name: "padding before, between and behind encodings",
+        name: "padding before, between and after encodings",
         padding: true,
         input: b"\x00\x00\x05\x00\x00\x00\x05\x00\x00",
         parts: &[

@@ -17,7 +17,7 @@ fn expect_step(rt: &impl Abort, walker: &mut Walker, piece: &mut &[u8], want: &S
     assert!(rt; got == *want, "{:?} in place of {:?}", got, want);
 }
 
-/// Expects the next step to tell this event.
+/// Expects the next step to yield this event.
 fn expect_event(rt: &impl Abort, walker: &mut Walker, piece: &mut &[u8], want: Event<'_>) {
     expect_step(rt, walker, piece, &Step::Event(want));
 }
@@ -44,7 +44,7 @@ fn finish(rt: &impl Abort, walker: &Walker) -> Ending {
     walker.finish()
 }
 
-/// How many octets are taken, events answered and elements open, and whether an event is to come.
+/// How many octets are taken, events yielded and elements open, and whether an event is to come.
 fn expect_state(
     rt: &impl Abort,
     walker: &Walker,
@@ -120,7 +120,7 @@ fn expect_fault(rt: &impl Abort, walker: &mut Walker, octets: &[u8], fault: Faul
 /// After a fault the walker is as it was before the octet that is refused: here that of the third
 /// header's length.
 #[test]
-fn what_is_open_stays_so_behind_a_fault(rt: HostRuntime) {
+fn what_is_open_stays_so_after_a_fault(rt: HostRuntime) {
     let mut walker = Walker::new(&Framing::plain());
     let mut piece: &[u8] = b"\x30\x80\x30\x80\x04\x80";
     expect_event(&rt, &mut walker, &mut piece, open(&rt, 0, b"\x30\x80"));
@@ -136,7 +136,7 @@ fn what_is_open_stays_so_behind_a_fault(rt: HostRuntime) {
     expect_eq(&rt, walker.unused(), None);
 }
 
-/// After a fault each step answers the same and takes nothing.
+/// After a fault each step returns the same and takes nothing.
 #[test]
 fn a_fault_is_answered_again(rt: HostRuntime) {
     let mut walker = Walker::new(&Framing::plain());

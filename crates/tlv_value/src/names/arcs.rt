@@ -4,7 +4,7 @@ ghost use Rattle.std.specs.List.{list_all};
 ghost use Rattle.tlv_value.specs.Names.{are_first_arcs, decimal_number, dotted_parts, is_arc, is_dotted, may_begin};
 ghost use Rattle.tlv_value.specs.Times.{is_digit};
 
-use super::line::{behind, end_before};
+use super::line::{after_mark, end_before};
 
 /// Whether the text is two or more arcs with dots between them, of which the first is 0, 1 or 2, and the second at most
 /// 39 below 0 and 1 (ITU-T X.660). Arcs are decimals without a leading zero, of any size.
@@ -27,7 +27,7 @@ fn are_arcs(text: &[u8]) -> bool
         if end == rest.len() {
             return true;
         }
-        rest = behind(rest, end);
+        rest = after_mark(rest, end);
     }
 }
 
@@ -62,7 +62,7 @@ fn are_first_arcs(text: &[u8]) -> bool
     if end == text.len() {
         return false;
     }
-    let rest = behind(text, end);
+    let rest = after_mark(text, end);
     may_begin(&text[..end], &rest[..end_before(rest, b'.')])
 }
 

@@ -51,7 +51,7 @@ pub(super) fn end_before(text: &[u8], mark: u8) -> usize
 }
 
 /// What is after the octet at `end`; nothing if the text ends there.
-pub(super) fn behind(text: &[u8], end: usize) -> &[u8]
+pub(super) fn after_mark(text: &[u8], end: usize) -> &[u8]
     ensures { result.now ≡ drop (end + 1) text.now }
 {
     if end < text.len() {

@@ -5,7 +5,7 @@ ghost use Rattle.tlv_value.specs.NamesSteps.{texts_in};
 ghost use Rattle.tlv_value.specs.Private.NamesSteps.{Adds, AddsLine, IsTableOf};
 
 use super::NamesFault;
-use super::line::{behind, end_before, entry_of};
+use super::line::{after_mark, end_before, entry_of};
 use std::alloc::Allocator;
 use std::collections::BTreeMap;
 
@@ -27,7 +27,7 @@ pub(super) fn table_of<A: Allocator + Copy>(alloc: A, octets: &[u8]) -> Result<T
         let end = end_before(rest, b'\n');
         number += 1;
         add_line(alloc, &mut table, &rest[..end], number)?;
-        rest = behind(rest, end);
+        rest = after_mark(rest, end);
     }
     Ok(table)
 }

@@ -12,8 +12,8 @@ returns-then-end-rest c = sym (c.loop-rest.invariant.same ∙ whole_arc c.loop-r
 
 pub loop-rest-preserved : goal.loop-rest-preserved
 loop-rest-preserved c = record {
-  within = omega (arith, ap length c.behind-rest.ensures, length-drop (c.end_before-end.result + 1) c.loop-rest.rest.now);
+  within = omega (arith, ap length c.after_mark-rest.ensures, length-drop (c.end_before-end.result + 1) c.loop-rest.rest.now);
   same = c.loop-rest.invariant.same
       ∙ rest_arcs c.loop-rest.rest.now c.end_before-end.result c.end_before-end.ensures.value (omega arith) (sym c.is_arc.ensures ∙ c.if-not-is_arc.false)
-      ∙ ap (λ (xs : List ℕ). list_all is_arc (dotted_parts xs)) (sym c.behind-rest.ensures);
+      ∙ ap (λ (xs : List ℕ). list_all is_arc (dotted_parts xs)) (sym c.after_mark-rest.ensures);
 }

@@ -15,8 +15,8 @@ loop-rest-preserved g c =
     let some : length c.loop-rest.rest.now ≡ 0 → ⊥ = eqb-false (length c.loop-rest.rest.now) 0 (sym c.is_empty.ensures ∙ c.loop-rest-test.true) in
     let line = next_line c.loop-rest.rest.now c.end_before-end.result (omega arith) c.end_before-end.ensures.value in
     record {
-      within = omega (arith, ap length c.behind-rest.ensures, length-drop (c.end_before-end.result + 1) c.loop-rest.rest.now);
-      standing = subst (λ (xs : List ℕ). Standing c.args.octets.now xs (c.loop-rest.number + 1) (texts_in c.add_line.new.table)) (sym c.behind-rest.ensures)
+      within = omega (arith, ap length c.after_mark-rest.ensures, length-drop (c.end_before-end.result + 1) c.loop-rest.rest.now);
+      standing = subst (λ (xs : List ℕ). Standing c.args.octets.now xs (c.loop-rest.number + 1) (texts_in c.add_line.new.table)) (sym c.after_mark-rest.ensures)
           (step c.args.octets.now c.loop-rest.rest.now (drop (c.end_before-end.result + 1) c.loop-rest.rest.now) c.loop-rest.number (texts_in c.loop-rest.table)
           (texts_in c.add_line.new.table) c.in_ok-add_line.field-0 (names_line (take c.end_before-end.result c.loop-rest.rest.now)) c.loop-rest.invariant.standing line
           c.in_ok-add_line.ensures);
