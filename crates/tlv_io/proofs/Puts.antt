@@ -128,7 +128,7 @@ module _ {D : Type 0} (state_of : D → DrainState) where
     pub puts_no_room : (a b : Out D) (xs : List ℕ) (e : E) (r : Result U E) → Puts {T = T} {E = E} state_of a b [] (Err e) → IsErr r → Puts state_of a b xs r
     puts_no_room a b xs e r p h = puts_failed_in a b [] xs e r p h (front_none xs)
 
-    -- the same was put, and another answer is given
+    -- the same was put, and another result is returned
     pub puts_as : (a b : Out D) (xs zs : List ℕ) (x : T) (y : U) → Puts {T = T} {E = E} state_of a b xs (Ok x) → xs ≡ zs → Puts {T = U} {E = E} state_of a b zs (Ok y)
     puts_as a b xs zs x y p z = record {
       same_reference = p.same_reference;

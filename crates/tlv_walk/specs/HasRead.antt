@@ -43,18 +43,18 @@ pub record IsRefusedAfter (framing : Framing) (p : List ℕ) (octet : ℕ) (past
 -- what a walker stands for that refused an octet: the octets before it, and the events yielded, which are all of their
 -- reading
 pub record StandsRefused (w : WalkerState) (b : List ℕ) (octet : ℕ) (past : List EventValue) (f : Fault) : Type 0 where
-  pub behind : IsRefusedAfter w.framing b octet past f
+  pub refused : IsRefusedAfter w.framing b octet past f
   pub phase : w.phase ≡ Failed f
   pub offset : w.offset ≡ length b
-  pub depth : length w.stack ≡ open_count behind.reading
-  pub unused : first_unused_in w ≡ first_unused w.framing.inside behind.reading
+  pub depth : length w.stack ≡ open_count refused.reading
+  pub unused : first_unused_in w ≡ first_unused w.framing.inside refused.reading
 
 -- what a walker has read: the octets that it took, and their reading. Once it refused an octet, these are the octets
 -- before that one
 pub data HasRead (w : WalkerState) (b : List ℕ) (reading : Forest) : Type 0 where
   took : (past : List EventValue) (stands : Stands w b past) → stands.reading ≡ reading → HasRead w b reading
   stopped : (x : ℕ) (past : List EventValue) (f : Fault) (stands : StandsRefused w b x past f)
-      → stands.behind.reading ≡ reading → HasRead w b reading
+      → stands.refused.reading ≡ reading → HasRead w b reading
 
 -- a walker refused an octet of these, and yielded these events of the octets before it
 pub record StopsAt (w : WalkerState) (octets : List ℕ) (past : List EventValue) (f : Fault) : Type 0 where

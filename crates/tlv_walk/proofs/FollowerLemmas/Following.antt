@@ -61,7 +61,7 @@ refused_there w u v piece mid after f more x o past st (inl r) =
     subst (λ (l : List ℕ). StandsRefused v l r.octet (past ++ more) f) all (r.stands (o ++ x.taken) (past ++ more) st) in
     let framing : v.framing ≡ w.framing = r.framing ∙ x.framing in
     let refused : IsRefusedAfter w.framing (o ++ (x.taken ++ r.taken)) r.octet (past ++ more) f =
-    subst (λ (g : Framing). IsRefusedAfter g (o ++ (x.taken ++ r.taken)) r.octet (past ++ more) f) framing there.behind in record {
+    subst (λ (g : Framing). IsRefusedAfter g (o ++ (x.taken ++ r.taken)) r.octet (past ++ more) f) framing there.refused in record {
       taken = x.taken ++ r.taken;
       octet = r.octet;
       rest = r.rest;

@@ -48,7 +48,7 @@ pub ends_by : (w : WalkerState) (o : List ℕ) (past : List EventValue) (e resul
 ends_by w o past e result stands failed (took_all st none) = stands o past st
 ends_by w o past e result stands failed (refused_one {f = f} at) =
     subst (λ (l : List ℕ). IsEnding w.framing l result) at.octets_is
-    (subst (λ (k : Ending). IsEnding w.framing (at.front ++ at.octet ∷ at.rest) k) (sym (failed f at.stands.phase)) (at.stands.behind.ends at.rest))
+    (subst (λ (k : Ending). IsEnding w.framing (at.front ++ at.octet ∷ at.rest) k) (sym (failed f at.stands.phase)) (at.stands.refused.ends at.rest))
 
 -- and it shows whether the input is sound
 pub shows_by : (w : WalkerState) (o : List ℕ) (past : List EventValue) (e result : Ending) → ((b : List ℕ) (past : List EventValue) → Stands w b past → IsEnding w.framing b result)

@@ -84,7 +84,7 @@ refused_walker old new before after f k r b past st =
     let there : IsRefusedAfter new.framing (b ++ r.taken) r.octet past f = refused_reading old new.framing before after f framing r b past st in
     let found : new.wrappers ≡ wrappers_after new.framing.inside 0 (wrapper_offsets past) = k.wrappers ∙ st.private_state.found ∙ ap (λ (g : Framing). wrappers_after g.inside 0 (wrapper_offsets past)) (sym framing) in
     record {
-      behind = there;
+      refused = there;
       phase = k.phase;
       offset = omega (arith, k.taken, st.private_state.has_state.offset, ap length r.before_is, ap length r.after_is, length-append r.taken (r.octet ∷ r.rest), length-append b r.taken);
       depth = ap (λ (fs : List Frame). length fs) (k.stack ∙ sym u.stack) ∙ state-depth u.walker (b ++ r.taken) past u.state u.has_state u.idle;
