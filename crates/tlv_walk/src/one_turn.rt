@@ -1,13 +1,11 @@
 //! One read of a source, followed.
-ghost use Rattle.std.specs.Prelude.{◌≡◌, [], ◌+◌, ◌<◌, ◌≤◌, ◌^◌, IfOk, OnOk, length};
-ghost use Rattle.tlv_io.specs.Device.{failures_after};
+ghost use Rattle.std.specs.Prelude.{◌≡◌, [], ◌+◌, ◌<◌, ◌≤◌, ◌^◌, IfOk, length};
 ghost use Rattle.tlv_walk.specs.Follow.{HasEffect};
 ghost use Rattle.tlv_walk.specs.Private.ResultOfStop.{IsResultOfStop, IsRun};
-ghost use Rattle.tlv_walk.specs.Private.FollowsPiece.{FollowsPartOrNone, Stops};
-ghost use Rattle.tlv_walk.specs.Laws.{AreOctets};
+ghost use Rattle.tlv_walk.specs.Private.FollowsPiece.{FollowsAndFlushes, FollowsPart, FollowsPiece, walk_state};
 ghost use Rattle.tlv_walk.specs.Private.WalkerState.{CanPass};
 ghost use Rattle.tlv_walk.specs.WalkerState.{CanTake};
-ghost use Rattle.tlv_io.specs.Out.{Puts, Sends, buffer_of, drain_of};
+ghost use Rattle.tlv_io.specs.Out.{Puts, buffer_of, drain_of};
 ghost use Rattle.tlv_walk.specs.HasRead.{event_value};
 ghost use Rattle.tlv_walk.specs.OneTurn.{FollowsOneRead, turn_state};
 
@@ -130,16 +128,10 @@ fn follow_and_flush<F: Follow, D: Drain>(
 ) -> Result<Stop, WriteFault>
     requires limit { walker.old.offset + length piece.now ≤ 2 ^ 40 }
     requires empty { buffer_of out.old ≡ [] }
-    ensures stops { Stops F.next walker.old walker.new follower.old follower.new piece.now
-        (λ text. Sends (D.state (drain_of out.old).now)
-        (D.state (drain_of out.new).now) text result) result }
-    ensures failed { (D.state (drain_of out.new).now).failures
-        ≡ failures_after result (D.state (drain_of out.old).now).failures }
-    ensures used_up { IfOk result (λ s. s ≡ Stop.UsedUp
-        → (walker.new.offset ≡ walker.old.offset + length piece.now) × CanTake walker.new) }
-    ensures octets { AreOctets piece.now }
-    ensures same_reference { (drain_of out.new).ghost_name ≡ (drain_of out.old).ghost_name }
-    ensures empty { OnOk result (buffer_of out.new ≡ []) }
+    ensures { FollowsAndFlushes F.next D.state
+        (walk_state walker.old follower.old out.old)
+        (walk_state walker.new follower.new out.new)
+        piece.now result }
 {
     let stop = follow(walker, follower, piece, out)?;
     out.flush()?;
@@ -154,13 +146,10 @@ fn follow<F: Follow, D: Drain>(
     out: &mut Out<'_, D>,
 ) -> Result<Stop, WriteFault>
     requires { walker.old.offset + length piece.now ≤ 2 ^ 40 }
-    ensures stops { Stops F.next walker.old walker.new follower.old follower.new piece.now
-        (λ text. Puts D.state out.old out.new text result) result }
-    ensures same_reference { (drain_of out.new).ghost_name ≡ (drain_of out.old).ghost_name }
-    ensures failed { (D.state (drain_of out.new).now).failures
-        ≡ failures_after result (D.state (drain_of out.old).now).failures }
-    ensures used_up { IfOk result (λ s. s ≡ Stop.UsedUp
-        → (walker.new.offset ≡ walker.old.offset + length piece.now) × CanTake walker.new) }
+    ensures { FollowsPiece F.next D.state
+        (walk_state walker.old follower.old out.old)
+        (walk_state walker.new follower.new out.new)
+        piece.now result }
 {
     let mut rest = piece;
     'events: loop {
@@ -203,12 +192,10 @@ fn follow_primitive<F: Follow, D: Drain>(
     out: &mut Out<'_, D>,
 ) -> Result<bool, WriteFault>
     requires { walker.old.offset + length piece.old.now ≤ 2 ^ 40 }
-    ensures parts { FollowsPartOrNone F.next walker.old walker.new follower.old follower.new
-        piece.old.now piece.new.now
-        (λ text. Puts D.state out.old out.new text result) result }
-    ensures same_reference { (drain_of out.new).ghost_name ≡ (drain_of out.old).ghost_name }
-    ensures failed { (D.state (drain_of out.new).now).failures
-        ≡ failures_after result (D.state (drain_of out.old).now).failures }
+    ensures { FollowsPart F.next D.state
+        (walk_state walker.old follower.old out.old)
+        (walk_state walker.new follower.new out.new)
+        piece.old.now piece.new.now result }
 {
     // Most headers have two octets. If that is known, most branches of what is done with a primitive fall away, so they
     // are followed by code of their own.
@@ -233,12 +220,10 @@ fn follow_found<F: Follow, D: Drain>(
 ) -> Result<bool, WriteFault>
     requires can { CanPass walker.old piece.old.now primitive.now }
     requires limit { walker.old.offset + length piece.old.now ≤ 2 ^ 40 }
-    ensures parts { FollowsPartOrNone F.next walker.old walker.new follower.old follower.new
-        piece.old.now piece.new.now
-        (λ text. Puts D.state out.old out.new text result) result }
-    ensures same_reference { (drain_of out.new).ghost_name ≡ (drain_of out.old).ghost_name }
-    ensures failed { (D.state (drain_of out.new).now).failures
-        ≡ failures_after result (D.state (drain_of out.old).now).failures }
+    ensures { FollowsPart F.next D.state
+        (walk_state walker.old follower.old out.old)
+        (walk_state walker.new follower.new out.new)
+        piece.old.now piece.new.now result }
 {
     let octets = *piece;
     let header = Header::new(&primitive.fields, &octets[..primitive.header]);

@@ -1,6 +1,6 @@
 -- One read of a source that gave octets, and the writes behind it.
 use Rattle.std.proofs.Common.{◌≡◌, ◌<◌, ◌≤◌, ◌+◌, ◌-◌, min, ℕ, List, length, refl, sym, ap, ◌∙◌, subst, arith}
-use Rattle.std.specs.Prelude.{Result, Ok, Err, IfOk, ⊤}
+use Rattle.std.specs.Prelude.{Result, Ok, Err, ⊤}
 use Rattle.std.specs.Io.KnownBytes.{Consumes}
 use Rattle.tlv_io.specs.declared.drain.WriteFault.{WriteFault}
 use Rattle.tlv_walk.specs.declared.run.DeviceFault.{DeviceFault}
@@ -10,9 +10,13 @@ use Rattle.tlv_walk.specs.declared.run.Turn.TheVariants.{Again, Ended}
 use Rattle.tlv_io.specs.declared.source.ReadFault.{ReadFault}
 use Rattle.tlv_walk.specs.declared.one_turn.Stop.{Stop}
 use Rattle.tlv_walk.specs.declared.one_turn.Stop.TheVariants as stop
+use Rattle.tlv_io.specs.declared.out.Out.{Out}
 use Rattle.tlv_io.specs.Device.{Last, never, gave, failed, failures_after, ReadsOnce}
+use Rattle.tlv_walk.specs.Events.{EventValue}
+use Rattle.tlv_walk.specs.Follow.{Effect}
 use Rattle.tlv_walk.specs.Job.{drain_result, source_result}
 use Rattle.tlv_walk.specs.WalkerState.{CanTake, WalkerState}
+use Rattle.tlv_walk.specs.Private.FollowsPiece.{Stops, WalkState, walk_state}
 use Rattle.tlv_walk.specs.Private.ResultOfStop.{IsResultOfStop}
 use Rattle.tlv_walk.specs.OneTurn.{CallsDevices, CanGoOn, Gave, TurnState, last_octets}
 
@@ -47,20 +51,26 @@ module _ {S : Type 0} (before after : TurnState S) (piece : List ℕ) where
   calls_answered n m v stop.UsedUp (Err WriteFailed) r some fits d is = absurd is
 
   -- how a walk can go on whose turn answers this, after octets within the limit
-  pub can_go_on_answered : (n m limit : ℕ) (walked : List ℕ) (why : Stop) (result : Result Turn DeviceFault)
+  pub can_go_on_answered : {D : Type 0} (next : S → EventValue → Effect S) (from to : Out D) (n m limit : ℕ) (walked : List ℕ) (more : List EventValue) (why : Stop) (result : Result Turn DeviceFault)
       → IsResultOfStop n m after.walker why result
-      → IfOk {E = WriteFault} (Ok why) (λ s. s ≡ stop.UsedUp → (after.walker.offset ≡ before.walker.offset + length walked) × CanTake after.walker)
+      → Stops next (walk_state before.walker before.follower from) (walk_state after.walker after.follower to) walked more (Ok why)
       → length walked ≡ m → m ≡ min (limit - before.walker.offset) n → before.walker.offset ≤ limit → CanGoOn limit before after result
-  can_go_on_answered n m limit walked stop.UsedUp (Ok Again) is used l fits below =
-      let u = used refl in (omega (arith, is.0, is.1, u.0, l, fits, below), omega (arith, is.0, is.1, u.0, l, fits, below), u.1)
-  can_go_on_answered n m limit walked why (Ok (Ended run)) is used l fits below = tt
-  can_go_on_answered n m limit walked stop.UsedUp (Err InputTooLong) is used l fits below =
-      let u = used refl in (omega (arith, is, u.0, l, fits, below), u.1)
-  can_go_on_answered n m limit walked why (Err WriteFailed) is used l fits below = tt
-  can_go_on_answered n m limit walked stop.UsedUp (Err ReadFailed) is used l fits below = absurd is
-  can_go_on_answered n m limit walked stop.Enough (Ok Again) is used l fits below = absurd is
-  can_go_on_answered n m limit walked stop.Enough (Err ReadFailed) is used l fits below = absurd is
-  can_go_on_answered n m limit walked stop.Enough (Err InputTooLong) is used l fits below = absurd is
-  can_go_on_answered n m limit walked (stop.Fault f) (Ok Again) is used l fits below = absurd is
-  can_go_on_answered n m limit walked (stop.Fault f) (Err ReadFailed) is used l fits below = absurd is
-  can_go_on_answered n m limit walked (stop.Fault f) (Err InputTooLong) is used l fits below = absurd is
+  can_go_on_answered next from to n m limit walked more stop.UsedUp (Ok Again) is used l fits below =
+      (omega (arith, is.0, is.1, used.offset, l, fits, below), omega (arith, is.0, is.1, used.offset, l, fits, below), used.ready)
+  can_go_on_answered next from to n m limit walked more why (Ok (Ended run)) is used l fits below = tt
+  can_go_on_answered next from to n m limit walked more stop.UsedUp (Err InputTooLong) is used l fits below = (omega (arith, is, used.offset, l, fits, below), used.ready)
+  can_go_on_answered next from to n m limit walked more why (Err WriteFailed) is used l fits below = tt
+  can_go_on_answered next from to n m limit walked more stop.UsedUp (Err ReadFailed) is used l fits below = absurd is
+  can_go_on_answered next from to n m limit walked more stop.Enough (Ok Again) is used l fits below = absurd is
+  can_go_on_answered next from to n m limit walked more stop.Enough (Err ReadFailed) is used l fits below = absurd is
+  can_go_on_answered next from to n m limit walked more stop.Enough (Err InputTooLong) is used l fits below = absurd is
+  can_go_on_answered next from to n m limit walked more (stop.Fault f) (Ok Again) is used l fits below = absurd is
+  can_go_on_answered next from to n m limit walked more (stop.Fault f) (Err ReadFailed) is used l fits below = absurd is
+  can_go_on_answered next from to n m limit walked more (stop.Fault f) (Err InputTooLong) is used l fits below = absurd is
+
+-- a walker that used a piece up can take more
+pub used_up_ready : {S D : Type 0} (next : S → EventValue → Effect S) (x y : WalkState S D) (piece : List ℕ) (more : List EventValue) (why : Stop) → Stops next x y piece more (Ok why)
+    → why ≡ stop.UsedUp → CanTake y.walker
+used_up_ready next x y piece more stop.UsedUp k e = k.ready
+used_up_ready next x y piece more (stop.Fault f) k e = absurd (cc (e))
+used_up_ready next x y piece more stop.Enough k e = absurd (cc (e))

@@ -1,5 +1,5 @@
 -- What a follower comes to, event by event.
-use Rattle.std.proofs.Common.{◌≡◌, inl, inr, ℕ, List, [], ◌∷◌, ◌++◌, refl, sym, ap, ap₂, ◌∙◌, subst, append_assoc, append-nil}
+use Rattle.std.proofs.Common.{◌≡◌, inl, inr, ℕ, ◌+◌, List, [], ◌∷◌, ◌++◌, length, refl, sym, ap, ap₂, ◌∙◌, subst, append_assoc, append-nil}
 use Rattle.std.specs.Prelude.{Ok, Err, slice_get}
 use Rattle.tlv_head.specs.declared.fault.Fault.{Fault}
 use Rattle.tlv_io.specs.declared.drain.WriteFault.{WriteFault}
@@ -14,10 +14,10 @@ use Rattle.tlv_io.specs.Device.{DrainState}
 use Rattle.tlv_walk.specs.Events.{AreEqualJoined, EventValue, events, single_octets}
 use Rattle.tlv_walk.specs.Follow.{Effect, and_then, effect_of, followed_events}
 use Rattle.tlv_walk.specs.FollowsEvents.{FollowsEvents}
-use Rattle.tlv_walk.specs.Private.FollowsPiece.{Fails, Follows, FollowsTo, GoesOnIn, Stops, WalksOver, WalksTo}
+use Rattle.tlv_walk.specs.Private.FollowsPiece.{Follows, FollowsPiece, GoesOnIn, WalkState, WalksOver, WalksTo, walk_state}
 use Rattle.tlv_walk.specs.Forest.{Forest}
 use Rattle.tlv_walk.specs.Inside.{CanName}
-use Rattle.tlv_walk.specs.WalkerState.{WalkerState}
+use Rattle.tlv_walk.specs.WalkerState.{IsAfterEvent, WalkerState}
 use Rattle.tlv_walk.specs.Private.WalkerState.{wrappers_after}
 use Rattle.tlv_io.specs.Out.{Puts}
 use Rattle.tlv_walk.specs.Reading.{IsReading}
@@ -125,65 +125,101 @@ module _ {S : Type 0} (next : S → EventValue → Effect S) where
     all = events_one next t e;
   }
 
-  module _ {D : Type 0} (past : D → DrainState) where
-    -- a follower that has followed nothing
-    pub follows_none : (w : WalkerState) (s : S) (a : Out D) (piece : List ℕ) → Follows next w w s s piece piece (HasPut past a a) go.On
-    follows_none w s a piece = record { more = []; made = made_none s; put = puts_nothing past a tt; walked = walked_none w piece }
+  one_put : (s t : S) (es : List EventValue) (e : EventValue) → FollowsEvents next s t es go.On → (effect_of next s es).put ++ (next t e).put ≡ (effect_of next s (es ++ e ∷ [])).put
+  one_put s t es e m = ap (λ (f : Effect S). (effect_of next s es).put ++ f.put) (sym (followed-one next t e)) ∙ made_put s t es (e ∷ []) m
 
-    one_put : (s t : S) (es : List EventValue) (e : EventValue) → FollowsEvents next s t es go.On → (effect_of next s es).put ++ (next t e).put ≡ (effect_of next s (es ++ e ∷ [])).put
-    one_put s t es e m = ap (λ (f : Effect S). (effect_of next s es).put ++ f.put) (sym (followed-one next t e)) ∙ made_put s t es (e ∷ []) m
+  module _ {D : Type 0} (state_of : D → DrainState) where
+    -- the front of a piece was followed, and what was made of it was put
+    pub record HasFollowed (before after : WalkState S D) (piece rest : List ℕ) (goes : Go) : Type 0 where
+      pub more : List EventValue
+      pub follows : Follows next before after piece rest more goes
+      pub puts : HasPut state_of before.out after.out (effect_of next before.follower more).put
+
+    -- a follower that has followed nothing
+    pub follows_none : (x : WalkState S D) (piece : List ℕ) → HasFollowed x x piece piece go.On
+    follows_none x piece = record {
+      more = [];
+      follows = record { made = made_none x.follower; walked = walked_none x.walker piece };
+      puts = puts_nothing state_of x.out tt;
+    }
 
     -- it followed one event more
-    pub follows_event : (w u v : WalkerState) (s t t' : S) (a b c : Out D) (piece mid after : List ℕ) (e : EventValue) (goes : Go) → Follows next w u s t piece mid (HasPut past a b) go.On
-        → WalksOver u v mid after (e ∷ []) → (t' ≡ (next t e).state) × (goes ≡ (next t e).goes) → (g : Go) → Puts {T = Go} {E = WriteFault} past b c (next t e).put (Ok g)
-        → Follows next w v s t' piece after (HasPut past a c) goes
-    follows_event w u v s t t' a b c piece mid after e goes x y z g p = record {
-      more = x.more ++ e ∷ [];
-      made = made_both s t t' x.more (e ∷ []) goes x.made (made_event t t' e goes z.0 z.1);
-      put = puts_then_as past a b c (effect_of next s x.more).put (next t e).put (effect_of next s (x.more ++ e ∷ [])).put tt (Ok tt) x.put (puts_as past b c (next t e).put (next t e).put g tt p refl) (one_put s t x.more e x.made);
-      walked = walked_both w u v piece mid after x.more (e ∷ []) x.walked y;
+    pub follows_event : (x y z : WalkState S D) (piece mid after : List ℕ) (e : EventValue) (goes : Go) → HasFollowed x y piece mid go.On → WalksOver y.walker z.walker mid after (e ∷ [])
+        → (z.follower ≡ (next y.follower e).state) × (goes ≡ (next y.follower e).goes) → (g : Go) → Puts {T = Go} {E = WriteFault} state_of y.out z.out (next y.follower e).put (Ok g)
+        → HasFollowed x z piece after goes
+    follows_event x y z piece mid after e goes h walks has g p = record {
+      more = h.more ++ e ∷ [];
+      follows = record {
+        made = made_both x.follower y.follower z.follower h.more (e ∷ []) goes h.follows.made (made_event y.follower z.follower e goes has.0 has.1);
+        walked = walked_both x.walker y.walker z.walker piece mid after h.more (e ∷ []) h.follows.walked walks;
+      };
+      puts = puts_then_as state_of x.out y.out z.out (effect_of next x.follower h.more).put (next y.follower e).put (effect_of next x.follower (h.more ++ e ∷ [])).put tt (Ok tt) h.puts
+          (puts_as state_of y.out z.out (next y.follower e).put (next y.follower e).put g tt p refl) (one_put x.follower y.follower h.more e h.follows.made);
     }
 
     -- the same was put, with another answer
-    pub follows_as : {T : Type 0} (w v : WalkerState) (s t : S) (a b : Out D) (piece after : List ℕ) (goes : Go) (why : T) → Follows next w v s t piece after (HasPut past a b) goes
-        → Follows next w v s t piece after (λ text. Puts {T = T} {E = WriteFault} past a b text (Ok why)) goes
-    follows_as w v s t a b piece after goes why x =
-        record { more = x.more; made = x.made; put = puts_as past a b (effect_of next s x.more).put (effect_of next s x.more).put tt why x.put refl; walked = x.walked }
+    same_put : (x y : WalkState S D) (more : List EventValue) (why : Stop) → HasPut state_of x.out y.out (effect_of next x.follower more).put
+        → Puts {T = Stop} {E = WriteFault} state_of x.out y.out (effect_of next x.follower more).put (Ok why)
+    same_put x y more why p = puts_as state_of x.out y.out (effect_of next x.follower more).put (effect_of next x.follower more).put tt why p refl
+
+    -- the follower had enough
+    pub stops_enough : (x y : WalkState S D) (piece rest : List ℕ) (goes : Go) → HasFollowed x y piece rest goes → goes ≡ go.Enough → IsAfterEvent y.walker.phase
+        → FollowsPiece next state_of x y piece (Ok stop.Enough)
+    stops_enough x y piece rest goes h enough after = record {
+      more = h.more;
+      stops = record {
+        rest = rest;
+        follows = subst (λ (k : Go). Follows next x y piece rest h.more k) enough h.follows;
+        after_event = after;
+      };
+      puts = same_put x y h.more stop.Enough h.puts;
+    }
 
     -- the drain failed at an event
-    pub fails_event : {T : Type 0} (w u v : WalkerState) (s t : S) (a b c : Out D) (piece mid after : List ℕ) (e : EventValue) → Follows next w u s t piece mid (HasPut past a b) go.On
-        → WalksOver u v mid after (e ∷ []) → (x y : WriteFault) → Puts {T = Go} {E = WriteFault} past b c (next t e).put (Err x)
-        → Fails next w s piece (λ text. Puts {T = T} {E = WriteFault} past a c text (Err y))
-    fails_event w u v s t a b c piece mid after e x y i j p = record {
-      more = x.more ++ e ∷ [];
-      put = puts_failed_last past a c _ i (Err j) (puts_then_as past a b c (effect_of next s x.more).put (next t e).put (effect_of next s (x.more ++ e ∷ [])).put tt (Err i) x.put p (one_put s t x.more e x.made)) refl;
-      yields = walked_goes_on w v piece after (x.more ++ e ∷ []) (walked_both w u v piece mid after x.more (e ∷ []) x.walked y);
+    pub fails_event : (x y z : WalkState S D) (v : WalkerState) (piece mid after : List ℕ) (e : EventValue) → HasFollowed x y piece mid go.On
+        → WalksOver y.walker v mid after (e ∷ []) → (i j : WriteFault) → Puts {T = Go} {E = WriteFault} state_of y.out z.out (next y.follower e).put (Err i)
+        → FollowsPiece next state_of x z piece (Err j)
+    fails_event x y z v piece mid after e h walks i j p = record {
+      more = h.more ++ e ∷ [];
+      stops = record {
+        yields = walked_goes_on x.walker v piece after (h.more ++ e ∷ []) (walked_both x.walker y.walker v piece mid after h.more (e ∷ []) h.follows.walked walks);
+      };
+      puts = puts_failed_last state_of x.out z.out _ i (Err j)
+          (puts_then_as state_of x.out y.out z.out (effect_of next x.follower h.more).put (next y.follower e).put (effect_of next x.follower (h.more ++ e ∷ [])).put tt (Err i) h.puts p (one_put x.follower y.follower h.more e h.follows.made)) refl;
     }
 
     -- the piece is used up
-    pub stops_used_up : (w u v : WalkerState) (s t : S) (a b : Out D) (piece mid after : List ℕ) → Follows next w u s t piece mid (HasPut past a b) go.On
-        → StepsTo u v mid after step.NeedMore → Stops next w v s t piece (λ text. Puts {T = Stop} {E = WriteFault} past a b text (Ok stop.UsedUp)) (Ok stop.UsedUp)
-    stops_used_up w u v s t a b piece mid after x y = (
-      follows_as w v s t a b piece [] go.On stop.UsedUp (record {
-        more = x.more;
-        made = x.made;
-        put = x.put;
-        walked = record {
-          taken = x.walked.taken ++ mid;
-          piece = x.walked.piece ∙ sym (append-nil (x.walked.taken ++ mid));
-          framing = y.framing ∙ x.walked.framing;
-          stands = λ o es st. subst (λ (all : List ℕ). Stands v all (es ++ x.more)) (append_assoc o x.walked.taken mid) (y.stands (o ++ x.walked.taken) (es ++ x.more) (x.walked.stands o es st));
+    pub stops_used_up : (x y : WalkState S D) (v : WalkerState) (piece mid after : List ℕ) → HasFollowed x y piece mid go.On
+        → StepsTo y.walker v mid after step.NeedMore → y.walker.offset + length mid ≡ x.walker.offset + length piece
+        → FollowsPiece next state_of x (walk_state v y.follower y.out) piece (Ok stop.UsedUp)
+    stops_used_up x y v piece mid after h steps walked = record {
+      more = h.more;
+      stops = record {
+        follows = record {
+          made = h.follows.made;
+          walked = record {
+            taken = h.follows.walked.taken ++ mid;
+            piece = h.follows.walked.piece ∙ sym (append-nil (h.follows.walked.taken ++ mid));
+            framing = steps.framing ∙ h.follows.walked.framing;
+            stands = λ o es st.
+                subst (λ (all : List ℕ). Stands v all (es ++ h.more)) (append_assoc o h.follows.walked.taken mid) (steps.stands (o ++ h.follows.walked.taken) (es ++ h.more) (h.follows.walked.stands o es st));
+          };
         };
-      }),
-      λ o es st. y.idle,
-    )
+        idle = λ o es st. steps.idle;
+        offset = steps.offset ∙ walked;
+        ready = steps.ready;
+      };
+      puts = same_put x (walk_state v y.follower y.out) h.more stop.UsedUp h.puts;
+    }
 
     -- an octet is refused
-    pub stops_fault : (w u v : WalkerState) (s t : S) (a b : Out D) (piece mid after : List ℕ) (f : Fault) → Follows next w u s t piece mid (HasPut past a b) go.On
-        → StepsTo u v mid after (step.Fault f) → FollowsTo next w v s t piece (λ text. Puts {T = Stop} {E = WriteFault} past a b text (Ok (stop.Fault f))) f
-    stops_fault w u v s t a b piece mid after f x y = record {
-      more = x.more;
-      made = x.made;
-      put = puts_as past a b (effect_of next s x.more).put (effect_of next s x.more).put tt (stop.Fault f) x.put refl;
-      walked = λ o es st. refused_there w u v piece mid after f x.more x.walked o es (x.walked.stands o es st) y;
+    pub stops_fault : (x y : WalkState S D) (v : WalkerState) (piece mid after : List ℕ) (f : Fault) → HasFollowed x y piece mid go.On
+        → StepsTo y.walker v mid after (step.Fault f) → FollowsPiece next state_of x (walk_state v y.follower y.out) piece (Ok (stop.Fault f))
+    stops_fault x y v piece mid after f h steps = record {
+      more = h.more;
+      stops = record {
+        made = h.follows.made;
+        walked = λ o es st. refused_there x.walker y.walker v piece mid after f h.more h.follows.walked o es (h.follows.walked.stands o es st) steps;
+      };
+      puts = same_put x (walk_state v y.follower y.out) h.more (stop.Fault f) h.puts;
     }

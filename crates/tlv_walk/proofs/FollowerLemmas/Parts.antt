@@ -16,10 +16,10 @@ use Rattle.tlv_walk.specs.Follow.{Effect, effect_of, followed_events, if_more, i
 use Rattle.tlv_walk.specs.FollowsEvents.{FollowsEvents}
 use Rattle.tlv_walk.specs.WalkerState.{WalkerState}
 use Rattle.tlv_io.specs.Out.{Puts}
-use Rattle.tlv_walk.specs.Private.FollowsPiece.{Fails, Follows, FollowsPart, FollowsPartOrNone, GoesOnIn, WalksOver}
+use Rattle.tlv_walk.specs.Private.FollowsPiece.{FollowsPart, FollowsPiece, GoesOnIn, TakesNone, TakesPart, TakesPartOrNone, WalkState, WalksOver}
 use Rattle.tlv_walk.specs.Private.WalkerState.{CanPass, Passes, header_at}
 use Rattle.tlv_walk.specs.Private.Steps.{YieldsEvents}
-use Rattle.tlv_walk.proofs.FollowerLemmas.Following.{made_both, made_put, walked_both, walked_goes_on}
+use Rattle.tlv_walk.proofs.FollowerLemmas.Following.{HasFollowed, made_both, made_put, walked_both, walked_goes_on}
 use Rattle.tlv_walk.proofs.WalkerLemmas.Passing.{passed, yields_primitive}
 use Rattle.tlv_io.proofs.Puts.{HasPut, puts_as, puts_failed_last, puts_then_as}
 use Rattle.tlv_walk.proofs.WalkerLemmas.Standing.{stands_all}
@@ -47,94 +47,98 @@ module _ {S : Type 0} (next : S → EventValue → Effect S) where
   pub made_all : (s t : S) (es : List EventValue) → t ≡ (effect_of next s es).state → (effect_of next s es).goes ≡ go.On → FollowsEvents next s t es go.On
   made_all s t es e g = record { state = e; goes_so = g; all = all_followed s es g }
 
-  module _ {D : Type 0} (past : D → DrainState) where
-    -- one part behind another
-    pub follows_both : {T : Type 0} (w u v : WalkerState) (s t t' : S) (a b c : Out D) (piece mid after : List ℕ) (goes : Go) (x : T) → Follows next w u s t piece mid (HasPut past a b) go.On
-        → Follows next u v t t' mid after (λ text. Puts {T = T} {E = WriteFault} past b c text (Ok x)) goes → Follows next w v s t' piece after (HasPut past a c) goes
-    follows_both w u v s t t' a b c piece mid after goes x f g = record {
-      more = f.more ++ g.more;
-      made = made_both next s t t' f.more g.more goes f.made g.made;
-      put = puts_then_as past a b c (effect_of next s f.more).put (effect_of next t g.more).put (effect_of next s (f.more ++ g.more)).put tt (Ok tt) f.put (puts_as past b c (effect_of next t g.more).put (effect_of next t g.more).put x tt g.put refl) (made_put next s t f.more g.more f.made);
-      walked = walked_both w u v piece mid after f.more g.more f.walked g.walked;
-    }
-
-    -- the drain failed at the second
-    pub fails_both : {T U : Type 0} (w u : WalkerState) (s t : S) (a b c : Out D) (piece mid : List ℕ) (e f : WriteFault) → Follows next w u s t piece mid (HasPut past a b) go.On
-        → Fails next u t mid (λ text. Puts {T = T} {E = WriteFault} past b c text (Err e)) → Fails next w s piece (λ text. Puts {T = U} {E = WriteFault} past a c text (Err f))
-    fails_both w u s t a b c piece mid e f x y = record {
-      more = x.more ++ y.more;
-      put = puts_failed_last past a c _ e (Err f)
-          (puts_then_as past a b c (effect_of next s x.more).put (effect_of next t y.more).put (effect_of next s (x.more ++ y.more)).put tt (Err e) x.put y.put (made_put next s t x.more y.more x.made)) refl;
-      yields = λ o es st.
-          subst (λ (g : Framing). GoesOnIn g (o ++ piece) (es ++ (x.more ++ y.more))) x.walked.framing
-          (subst (λ (l : List ℕ). GoesOnIn u.framing l (es ++ (x.more ++ y.more))) (append_assoc o x.walked.taken mid ∙ ap (λ (l : List ℕ). o ++ l) (sym x.walked.piece))
-          (subst (λ (l : List EventValue). GoesOnIn u.framing ((o ++ x.walked.taken) ++ mid) l) (append_assoc es x.more y.more) (y.yields (o ++ x.walked.taken) (es ++ x.more) (x.walked.stands o es st))));
+  module _ {D : Type 0} (state_of : D → DrainState) where
+    -- the drain failed behind what was followed
+    pub fails_part : (x y z : WalkState S D) (piece mid after : List ℕ) (e f : WriteFault) → HasFollowed next state_of x y piece mid go.On
+        → FollowsPart next state_of y z mid after (Err e) → FollowsPiece next state_of x z piece (Err f)
+    fails_part x y z piece mid after e f h p = record {
+      more = h.more ++ p.more;
+      stops = record {
+        yields = λ o es st.
+            let walked : WalksOver x.walker y.walker piece mid h.more = h.follows.walked in
+            subst (λ (g : Framing). GoesOnIn g (o ++ piece) (es ++ (h.more ++ p.more))) walked.framing
+            (subst (λ (l : List ℕ). GoesOnIn y.walker.framing l (es ++ (h.more ++ p.more))) (append_assoc o walked.taken mid ∙ ap (λ (l : List ℕ). o ++ l) (sym walked.piece))
+            (subst (λ (l : List EventValue). GoesOnIn y.walker.framing ((o ++ walked.taken) ++ mid) l) (append_assoc es h.more p.more) (p.takes.yields (o ++ walked.taken) (es ++ h.more) (walked.stands o es st))));
+      };
+      puts = puts_failed_last state_of x.out z.out _ e (Err f)
+          (puts_then_as state_of x.out y.out z.out (effect_of next x.follower h.more).put (effect_of next y.follower p.more).put (effect_of next x.follower (h.more ++ p.more)).put tt (Err e) h.puts p.puts (made_put next x.follower y.follower h.more p.more h.follows.made)) refl;
     }
 
     -- a primitive that lies whole at the front of a piece was followed
-    pub part_whole : {T U : Type 0} (w v : WalkerState) (s t : S) (a b : Out D) (before after : List ℕ) (p : WholePrimitive) (h : HeaderValue) (x : T) (y : U) → h ≡ header_at p before
-        → t ≡ (effect_of next s (whole_events h (take p.octets before))).state → (effect_of next s (whole_events h (take p.octets before))).goes ≡ go.On
-        → Puts {T = T} {E = WriteFault} past a b (effect_of next s (whole_events h (take p.octets before))).put (Ok x)
-        → YieldsEvents w v before after (whole_events (header_at p before) (take p.octets before)) → Passes w v before after
-        → FollowsPart next w v s t before after (λ text. Puts {T = U} {E = WriteFault} past a b text (Ok y))
-    part_whole w v s t a b before after p h x y same e g put yields passes = let all : List EventValue = whole_events h (take p.octets before) in record {
-      follows = record {
-        more = all;
-        made = made_all s t all e g;
-        put = puts_as past a b (effect_of next s all).put (effect_of next s all).put x y put refl;
-        walked = stands_all w v before after all (subst (λ (g : HeaderValue). YieldsEvents w v before after (whole_events g (take p.octets before))) (sym same) yields);
+    pub part_whole : {T : Type 0} (x y : WalkState S D) (before after : List ℕ) (p : WholePrimitive) (h : HeaderValue) (r : T) → h ≡ header_at p before
+        → y.follower ≡ (effect_of next x.follower (whole_events h (take p.octets before))).state → (effect_of next x.follower (whole_events h (take p.octets before))).goes ≡ go.On
+        → Puts {T = T} {E = WriteFault} state_of x.out y.out (effect_of next x.follower (whole_events h (take p.octets before))).put (Ok r)
+        → YieldsEvents x.walker y.walker before after (whole_events (header_at p before) (take p.octets before)) → Passes x.walker y.walker before after
+        → FollowsPart next state_of x y before after (Ok true)
+    part_whole x y before after p h r same state goes put yields passes = let all : List EventValue = whole_events h (take p.octets before) in record {
+      more = all;
+      takes = record {
+        follows = record {
+          made = made_all x.follower y.follower all state goes;
+          walked = stands_all x.walker y.walker before after all (subst (λ (g : HeaderValue). YieldsEvents x.walker y.walker before after (whole_events g (take p.octets before))) (sym same) yields);
+        };
+        passes = passes;
       };
-      passes = passes;
+      puts = puts_as state_of x.out y.out (effect_of next x.follower all).put (effect_of next x.follower all).put r true put refl;
     }
 
     -- the drain failed at it
-    pub part_fails : {T U : Type 0} (w : WalkerState) (s : S) (a b : Out D) (before : List ℕ) (p : WholePrimitive) (h : HeaderValue) (e f : WriteFault) → CanPass w before p → h ≡ header_at p before
-        → Puts {T = T} {E = WriteFault} past a b (effect_of next s (whole_events h (take p.octets before))).put (Err e)
-        → Fails next w s before (λ text. Puts {T = U} {E = WriteFault} past a b text (Err f))
-    part_fails w s a b before p h e f can same put = record {
+    pub part_fails : {T : Type 0} (x y : WalkState S D) (before after : List ℕ) (p : WholePrimitive) (h : HeaderValue) (e f : WriteFault) → CanPass x.walker before p → h ≡ header_at p before
+        → Puts {T = T} {E = WriteFault} state_of x.out y.out (effect_of next x.follower (whole_events h (take p.octets before))).put (Err e)
+        → FollowsPart next state_of x y before after (Err f)
+    part_fails x y before after p h e f can same put = record {
       more = whole_events h (take p.octets before);
-      put = puts_failed_last past a b _ e (Err f) put refl;
-      yields = walked_goes_on w (passed w p 0) before (drop p.octets before) (whole_events h (take p.octets before))
-          (subst (λ (g : HeaderValue). WalksOver w (passed w p 0) before (drop p.octets before) (whole_events g (take p.octets before))) (sym same) (walked_primitive w before p can));
+      takes = record {
+        yields = walked_goes_on x.walker (passed x.walker p 0) before (drop p.octets before) (whole_events h (take p.octets before))
+            (subst (λ (g : HeaderValue). WalksOver x.walker (passed x.walker p 0) before (drop p.octets before) (whole_events g (take p.octets before))) (sym same) (walked_primitive x.walker before p can));
+      };
+      puts = puts_failed_last state_of x.out y.out _ e (Err f) put refl;
     }
 
     -- ---- a part behind what was followed
 
-    part_some : (u v : WalkerState) (t t' : S) (b c : Out D) (mid after : List ℕ) (k : Bool) → k ≡ true
-        → FollowsPartOrNone next u v t t' mid after (λ text. Puts {T = Bool} {E = WriteFault} past b c text (Ok k)) (Ok k)
-        → FollowsPart next u v t t' mid after (λ text. Puts {T = Bool} {E = WriteFault} past b c text (Ok k))
-    part_some u v t t' b c mid after true e p = p
-    part_some u v t t' b c mid after false e p = absurd (true≢false (sym e))
+    part_some : (y z : WalkState S D) (mid after : List ℕ) (more : List EventValue) (k : Bool) → k ≡ true → TakesPartOrNone next y z mid after more (Ok k) → TakesPart next y z mid after more
+    part_some y z mid after more true e p = p
+    part_some y z mid after more false e p = absurd (true≢false (sym e))
 
-    part_none : (u v : WalkerState) (t t' : S) (b c : Out D) (mid after : List ℕ) (k : Bool) → k ≡ false
-        → FollowsPartOrNone next u v t t' mid after (λ text. Puts {T = Bool} {E = WriteFault} past b c text (Ok k)) (Ok k)
-        → (v ≡ u) × (t' ≡ t) × (after ≡ mid) × Puts {T = Bool} {E = WriteFault} past b c [] (Ok k)
-    part_none u v t t' b c mid after false e p = p
-    part_none u v t t' b c mid after true e p = absurd (true≢false e)
+    part_none : (y z : WalkState S D) (mid after : List ℕ) (more : List EventValue) (k : Bool) → k ≡ false → TakesPartOrNone next y z mid after more (Ok k) → TakesNone next y z mid after more
+    part_none y z mid after more false e p = p
+    part_none y z mid after more true e p = absurd (true≢false e)
 
     -- it was followed
-    pub follows_part : (w u v : WalkerState) (s t t' : S) (a b c : Out D) (piece mid after : List ℕ) (k : Bool) → Follows next w u s t piece mid (HasPut past a b) go.On → k ≡ true
-        → FollowsPartOrNone next u v t t' mid after (λ text. Puts {T = Bool} {E = WriteFault} past b c text (Ok k)) (Ok k) → Follows next w v s t' piece after (HasPut past a c) go.On
-    follows_part w u v s t t' a b c piece mid after k f e p =
-        follows_both w u v s t t' a b c piece mid after go.On k f (part_some u v t t' b c mid after k e p).follows
+    pub follows_part : (x y z : WalkState S D) (piece mid after : List ℕ) (k : Bool) → HasFollowed next state_of x y piece mid go.On → k ≡ true
+        → FollowsPart next state_of y z mid after (Ok k) → HasFollowed next state_of x z piece after go.On
+    follows_part x y z piece mid after k h e p =
+        let t : TakesPart next y z mid after p.more = part_some y z mid after p.more k e p.takes in record {
+          more = h.more ++ p.more;
+          follows = record {
+            made = made_both next x.follower y.follower z.follower h.more p.more go.On h.follows.made t.follows.made;
+            walked = walked_both x.walker y.walker z.walker piece mid after h.more p.more h.follows.walked t.follows.walked;
+          };
+          puts = puts_then_as state_of x.out y.out z.out (effect_of next x.follower h.more).put (effect_of next y.follower p.more).put (effect_of next x.follower (h.more ++ p.more)).put tt (Ok tt) h.puts
+              (puts_as state_of y.out z.out (effect_of next y.follower p.more).put (effect_of next y.follower p.more).put k tt p.puts refl) (made_put next x.follower y.follower h.more p.more h.follows.made);
+        }
 
-    pub part_passes : (u v : WalkerState) (t t' : S) (b c : Out D) (mid after : List ℕ) (k : Bool) → k ≡ true
-        → FollowsPartOrNone next u v t t' mid after (λ text. Puts {T = Bool} {E = WriteFault} past b c text (Ok k)) (Ok k) → Passes u v mid after
-    part_passes u v t t' b c mid after k e p = (part_some u v t t' b c mid after k e p).passes
+    pub part_passes : (y z : WalkState S D) (mid after : List ℕ) (k : Bool) → k ≡ true → FollowsPart next state_of y z mid after (Ok k) → Passes y.walker z.walker mid after
+    part_passes y z mid after k e p = (part_some y z mid after p.more k e p.takes).passes
 
     -- nothing of it was taken
-    pub follows_left : (w u v : WalkerState) (s t t' : S) (a b c : Out D) (piece mid after : List ℕ) (k : Bool) → Follows next w u s t piece mid (HasPut past a b) go.On → k ≡ false
-        → FollowsPartOrNone next u v t t' mid after (λ text. Puts {T = Bool} {E = WriteFault} past b c text (Ok k)) (Ok k)
-        → Follows next w v s t' piece after (HasPut past a c) go.On
-    follows_left w u v s t t' a b c piece mid after k f e p =
-        let n = part_none u v t t' b c mid after k e p in
-        let put : HasPut past a c (effect_of next s f.more).put =
-        puts_then_as past a b c (effect_of next s f.more).put [] (effect_of next s f.more).put tt (Ok tt) f.put (puts_as past b c [] [] k tt n.3 refl) (append-nil (effect_of next s f.more).put) in
-        subst (λ (m : WalkerState). Follows next w m s t' piece after (HasPut past a c) go.On) (sym n.0)
-        (subst (λ (q : S). Follows next w u s q piece after (HasPut past a c) go.On) (sym n.1)
-        (subst (λ (l : List ℕ). Follows next w u s t piece l (HasPut past a c) go.On) (sym n.2) (record { more = f.more; made = f.made; put = put; walked = f.walked })))
+    pub follows_left : (x y z : WalkState S D) (piece mid after : List ℕ) (k : Bool) → HasFollowed next state_of x y piece mid go.On → k ≡ false
+        → FollowsPart next state_of y z mid after (Ok k) → HasFollowed next state_of x z piece after go.On
+    follows_left x y z piece mid after k h e p =
+        let n : TakesNone next y z mid after p.more = part_none y z mid after p.more k e p.takes in record {
+          more = h.more;
+          follows = record {
+            made = subst (λ (q : S). FollowsEvents next x.follower q h.more go.On) (sym n.follower) h.follows.made;
+            walked =
+                subst (λ (m : WalkerState). WalksOver x.walker m piece after h.more) (sym n.walker)
+                (subst (λ (l : List ℕ). WalksOver x.walker y.walker piece l h.more) (sym n.all_left) h.follows.walked);
+          };
+          puts = puts_then_as state_of x.out y.out z.out (effect_of next x.follower h.more).put [] (effect_of next x.follower h.more).put tt (Ok tt) h.puts
+              (puts_as state_of y.out z.out (effect_of next y.follower p.more).put [] k tt p.puts (ap (λ (es : List EventValue). (effect_of next y.follower es).put) n.no_event)) (append-nil (effect_of next x.follower h.more).put);
+        }
 
-    pub left_walked : (u v : WalkerState) (t t' : S) (b c : Out D) (mid after : List ℕ) (k : Bool) → k ≡ false
-        → FollowsPartOrNone next u v t t' mid after (λ text. Puts {T = Bool} {E = WriteFault} past b c text (Ok k)) (Ok k) → v.offset + length after ≡ u.offset + length mid
-    left_walked u v t t' b c mid after k e p =
-        let n = part_none u v t t' b c mid after k e p in ap₂ (λ (m : WalkerState) (o : List ℕ). m.offset + length o) n.0 n.2
+    pub left_walked : (y z : WalkState S D) (mid after : List ℕ) (k : Bool) → k ≡ false → FollowsPart next state_of y z mid after (Ok k)
+        → z.walker.offset + length after ≡ y.walker.offset + length mid
+    left_walked y z mid after k e p =
+        let n : TakesNone next y z mid after p.more = part_none y z mid after p.more k e p.takes in ap₂ (λ (m : WalkerState) (o : List ℕ). m.offset + length o) n.walker n.all_left

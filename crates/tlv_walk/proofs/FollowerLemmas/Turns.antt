@@ -8,8 +8,6 @@ use Rattle.tlv_head.specs.declared.fault.Fault.{Fault}
 use Rattle.tlv_io.specs.declared.drain.WriteFault.{WriteFault}
 use Rattle.tlv_walk.specs.declared.ending.Ending.{Ending}
 use Rattle.tlv_walk.specs.declared.ending.Ending.TheVariants as ending
-use Rattle.tlv_walk.specs.declared.follow.Go.{Go}
-use Rattle.tlv_walk.specs.declared.follow.Go.TheVariants as go
 use Rattle.tlv_walk.specs.declared.framing.Framing.{Framing}
 use Rattle.tlv_io.specs.declared.out.Out.{Out}
 use Rattle.tlv_walk.specs.declared.run.DeviceFault.{DeviceFault}
@@ -25,7 +23,7 @@ use Rattle.tlv_walk.specs.Ending.{IsEnding, IsFinalEnding}
 use Rattle.tlv_walk.specs.Events.{AreEqualJoined, EventValue, events}
 use Rattle.tlv_walk.specs.Follow.{Effect, effect_of}
 use Rattle.tlv_walk.specs.Private.ResultOfStop.{IsResultOfStop, IsRun}
-use Rattle.tlv_walk.specs.Private.FollowsPiece.{Fails, Follows, FollowsTo, GoesOnIn, Stops, WalksTo}
+use Rattle.tlv_walk.specs.Private.FollowsPiece.{Fails, FollowsAndFlushes, FollowsPiece, FollowsToFault, GoesOnIn, FollowsToEnough, Stops, FollowsAll, WalkState, WalksOver, WalksTo, walk_state}
 use Rattle.tlv_walk.specs.Forest.{Forest, spell}
 use Rattle.tlv_walk.specs.Laws.{AreOctets}
 use Rattle.tlv_walk.specs.WalkerState.{WalkerState}
@@ -76,116 +74,135 @@ fault_reading w v b piece past more e f k r =
     reading-unique w.framing (b ++ piece) k.refused.reading f (fault_is_reading w v b piece past more e k) r
 
 module _ {S : Type 0} (next : S → EventValue → Effect S) where
-  -- ---- the same, where octets were put by other words
+  -- ---- what was put is flushed, or cannot be
 
-  follows_by : (w v : WalkerState) (s t : S) (piece after : List ℕ) (P Q : List ℕ → Type 0) (goes : Go) → ((x : List ℕ) → P x → Q x) → Follows next w v s t piece after P goes → Follows next w v s t piece after Q goes
-  follows_by w v s t piece after P Q goes h x = record { more = x.more; made = x.made; put = h (effect_of next s x.more).put x.put; walked = x.walked }
+  module _ {D : Type 0} where
+    fault_goes_on : (x y : WalkState S D) (piece : List ℕ) (more : List EventValue) (e : Fault) → FollowsToFault next x y piece more e → (b : List ℕ) (past : List EventValue) → Stands x.walker b past
+        → GoesOnIn x.walker.framing (b ++ piece) (past ++ more)
+    fault_goes_on x y piece more e to b past st f r =
+        let k : WalksTo x.walker y.walker piece more e b past = to.walked b past st in (
+          [],
+          subst (λ (es : List EventValue). AreEqualJoined es (events f)) (sym (append-nil (past ++ more)))
+              (subst (λ (g : Forest). AreEqualJoined (past ++ more) (events g)) (fault_reading x.walker y.walker b piece past more e f k r) k.refused.all_events),
+        )
 
-  -- the piece is followed no further, and what was put was flushed
-  stops_by : (w v : WalkerState) (s t : S) (piece : List ℕ) (P Q : List ℕ → Type 0) (why : Stop) → ((x : List ℕ) → P x → Q x) → Stops next w v s t piece P (Ok why) → Stops next w v s t piece Q (Ok why)
-  stops_by w v s t piece P Q stop.UsedUp h x = (follows_by w v s t piece [] P Q go.On h x.0, x.1)
-  stops_by w v s t piece P Q (stop.Fault f) h x = record { more = x.more; made = x.made; put = h (effect_of next s x.more).put x.put; walked = x.walked }
-  stops_by w v s t piece P Q stop.Enough h x = (x.0, follows_by w v s t piece x.0 P Q go.Enough h x.1, x.2)
+    stops_failing : (x y : WalkState S D) (piece : List ℕ) (more : List EventValue) (why : Stop) → Stops next x y piece more (Ok why) → Fails next x y piece more
+    stops_failing x y piece more stop.UsedUp k = record { yields = walked_goes_on x.walker y.walker piece [] more k.follows.walked }
+    stops_failing x y piece more (stop.Fault f) k = record { yields = fault_goes_on x y piece more f k }
+    stops_failing x y piece more stop.Enough k = record { yields = walked_goes_on x.walker y.walker piece k.rest more k.follows.walked }
 
-  -- or could not be flushed
-  fault_goes_on : (w v : WalkerState) (s t : S) (piece : List ℕ) (P : List ℕ → Type 0) (e : Fault) → (x : FollowsTo next w v s t piece P e) → (b : List ℕ) (past : List EventValue) → Stands w b past → GoesOnIn w.framing (b ++ piece) (past ++ x.more)
-  fault_goes_on w v s t piece P e x b past st f r =
-      let k : WalksTo w v piece x.more e b past = x.walked b past st in (
-        [],
-        subst (λ (es : List EventValue). AreEqualJoined es (events f)) (sym (append-nil (past ++ x.more)))
-            (subst (λ (g : Forest). AreEqualJoined (past ++ x.more) (events g)) (fault_reading w v b piece past x.more e f k r) k.refused.all_events),
-      )
+    -- the walker and the follower are the same, and so is where the piece is followed no further
+    stops_same : (x y : WalkState S D) (c : Out D) (piece : List ℕ) (more : List EventValue) (why : Stop) → Stops next x y piece more (Ok why) → Stops next x (walk_state y.walker y.follower c) piece more (Ok why)
+    stops_same x y c piece more stop.UsedUp k = record { follows = record { made = k.follows.made; walked = k.follows.walked }; idle = k.idle; offset = k.offset; ready = k.ready }
+    stops_same x y c piece more (stop.Fault f) k = record { made = k.made; walked = k.walked }
+    stops_same x y c piece more stop.Enough k = record { rest = k.rest; follows = record { made = k.follows.made; walked = k.follows.walked }; after_event = k.after_event }
 
-  stops_failing : (w v : WalkerState) (s t : S) (piece : List ℕ) (P Q : List ℕ → Type 0) (why : Stop) → ((x : List ℕ) → P x → Q x) → Stops next w v s t piece P (Ok why) → Fails next w s piece Q
-  stops_failing w v s t piece P Q stop.UsedUp h x =
-      record { more = x.0.more; put = h (effect_of next s x.0.more).put x.0.put; yields = walked_goes_on w v piece [] x.0.more x.0.walked }
-  stops_failing w v s t piece P Q (stop.Fault f) h x =
-      record { more = x.more; put = h (effect_of next s x.more).put x.put; yields = fault_goes_on w v s t piece P f x }
-  stops_failing w v s t piece P Q stop.Enough h x =
-      record { more = x.1.more; put = h (effect_of next s x.1.more).put x.1.put; yields = walked_goes_on w v piece x.0 x.1.more x.1.walked }
+    module _ (state_of : D → DrainState) (x y : WalkState S D) (c : Out D) (piece : List ℕ) (octets : AreOctets piece) (none : buffer_of x.out ≡ []) where
+      -- the piece was followed, and what was put was flushed
+      pub stops_flushed : (why : Stop) → FollowsPiece next state_of x y piece (Ok why) → Puts {T = ⊤} {E = WriteFault} state_of y.out c [] (Ok tt) → buffer_of c ≡ []
+          → FollowsAndFlushes next state_of x (walk_state y.walker y.follower c) piece (Ok why)
+      stops_flushed why k flushed empty = record {
+        octets = octets;
+        more = k.more;
+        stops = stops_same x y c piece k.more why k.stops;
+        sends = sends_flushed state_of x.out y.out c (drain_of x.out).now (drain_of c).now (effect_of next x.follower k.more).put why tt refl none refl k.puts flushed empty;
+        same_reference = flushed.same_reference ∙ k.puts.same_reference;
+        empty = empty;
+      }
 
-  module _ {D : Type 0} (drain : D → DrainState) (w v : WalkerState) (s t : S) (piece : List ℕ) (a b c : Out D) (d d' : D) (from : (drain_of a).now ≡ d) (none : buffer_of a ≡ []) (to : d' ≡ (drain_of c).now) where
-    pub stops_flushed : (why : Stop) → Stops next w v s t piece (λ text. Puts {T = Stop} {E = WriteFault} drain a b text (Ok why)) (Ok why) → Puts {T = ⊤} {E = WriteFault} drain b c [] (Ok tt) → buffer_of c ≡ []
-        → Stops next w v s t piece (λ text. Sends {T = Stop} {E = WriteFault} (drain d) (drain d') text (Ok why)) (Ok why)
-    stops_flushed why x p empty =
-        stops_by w v s t piece _ (λ text. Sends {T = Stop} {E = WriteFault} (drain d) (drain d') text (Ok why)) why (λ xs q. sends_flushed drain a b c d d' xs why tt from none to q p empty) x
+      -- or could not be flushed
+      pub stops_unflushed : (why : Stop) (e f : WriteFault) → FollowsPiece next state_of x y piece (Ok why) → Puts {T = ⊤} {E = WriteFault} state_of y.out c [] (Err e)
+          → FollowsAndFlushes next state_of x (walk_state y.walker y.follower c) piece (Err f)
+      stops_unflushed why e f k unflushed =
+          let text : List ℕ = (effect_of next x.follower k.more).put in record {
+            octets = octets;
+            more = k.more;
+            stops = record { yields = (stops_failing x y piece k.more why k.stops).yields };
+            sends = sends_puts state_of x.out c (drain_of x.out).now (drain_of c).now text (Err f) refl none refl
+                (puts_failed_last state_of x.out c text e (Err f) (puts_then_as state_of x.out y.out c text [] text why (Err e) k.puts unflushed (append-nil text)) refl) tt;
+            same_reference = unflushed.same_reference ∙ k.puts.same_reference;
+            empty = tt;
+          }
 
-    pub stops_unflushed : (why : Stop) (e f : WriteFault) → Stops next w v s t piece (λ text. Puts {T = Stop} {E = WriteFault} drain a b text (Ok why)) (Ok why) → Puts {T = ⊤} {E = WriteFault} drain b c [] (Err e)
-        → Stops next w v s t piece (λ text. Sends {T = Stop} {E = WriteFault} (drain d) (drain d') text (Err f)) (Err f)
-    stops_unflushed why e f x p =
-        stops_failing w v s t piece _ (λ text. Sends {T = Stop} {E = WriteFault} (drain d) (drain d') text (Err f)) why
-        (λ xs q. sends_puts drain a c d d' xs (Err f) from none to (puts_failed_last drain a c xs e (Err f) (puts_then_as drain a b c xs [] xs why (Err e) q p (append-nil xs)) refl) tt) x
-
-  module _ {D : Type 0} (drain : D → DrainState) (w : WalkerState) (s : S) (piece : List ℕ) (a c : Out D) (d d' : D) (from : (drain_of a).now ≡ d) (none : buffer_of a ≡ []) (to : d' ≡ (drain_of c).now) where
-    pub fails_sent : (e f : WriteFault) → Fails next w s piece (λ text. Puts {T = Stop} {E = WriteFault} drain a c text (Err e)) → Fails next w s piece (λ text. Sends {T = Stop} {E = WriteFault} (drain d) (drain d') text (Err f))
-    fails_sent e f x = record {
-      more = x.more;
-      put = sends_puts drain a c d d' (effect_of next s x.more).put (Err f) from none to (puts_failed_last drain a c (effect_of next s x.more).put e (Err f) x.put refl) tt;
-      yields = x.yields;
-    }
+    -- the drain failed before
+    pub fails_sent : (state_of : D → DrainState) (x y : WalkState S D) (piece : List ℕ) → AreOctets piece → buffer_of x.out ≡ [] → (e f : WriteFault) → FollowsPiece next state_of x y piece (Err e)
+        → FollowsAndFlushes next state_of x y piece (Err f)
+    fails_sent state_of x y piece octets none e f k =
+        let text : List ℕ = (effect_of next x.follower k.more).put in record {
+          octets = octets;
+          more = k.more;
+          stops = k.stops;
+          sends = sends_puts state_of x.out y.out (drain_of x.out).now (drain_of y.out).now text (Err f) refl none refl (puts_failed_last state_of x.out y.out text e (Err f) k.puts refl) tt;
+          same_reference = k.puts.same_reference;
+          empty = tt;
+        }
 
 -- ---- what was made of a piece, by why it is not followed any further
 
-module _ {S : Type 0} (next : S → EventValue → Effect S) (before after : TurnState S) (b piece : List ℕ) (past : List EventValue) (P : List ℕ → Type 0)
-    (sends : (x : List ℕ) → P x → Sends {T = ⊤} {E = DeviceFault} before.drain after.drain x (Ok tt)) (st : Stands before.walker b past) where
+module _ {S D : Type 0} (next : S → EventValue → Effect S) (before after : TurnState S) (from to : Out D) (b piece : List ℕ) (past more : List EventValue)
+    (put : Sends {T = ⊤} {E = DeviceFault} before.drain after.drain (effect_of next before.follower more).put (Ok tt)) (st : Stands before.walker b past) where
   abbrev w : WalkerState
   w = before.walker
 
   abbrev v : WalkerState
   v = after.walker
 
-  abbrev Stopped : Stop → Type 0
-  Stopped why = Stops next w v before.follower after.follower piece P (Ok why)
+  -- the walker and the follower, before and after
+  abbrev x : WalkState S D
+  x = walk_state before.walker before.follower from
+
+  abbrev y : WalkState S D
+  y = walk_state after.walker after.follower to
 
   -- the piece is used up
-  pub used_up_on : Stopped stop.UsedUp → StandsOn next before after (b ++ piece) past
-  used_up_on x = record {
-    more = x.0.more;
-    made = x.0.made;
-    put = sends (effect_of next before.follower x.0.more).put x.0.put;
-    framing = x.0.walked.framing;
-    stands = subst (λ (o : List ℕ). Stands v (b ++ o) (past ++ x.0.more)) (sym (append-nil x.0.walked.taken) ∙ sym x.0.walked.piece) (x.0.walked.stands b past st);
-    idle = x.1 b past st;
+  pub used_up_on : FollowsAll next x y piece more → StandsOn next before after (b ++ piece) past
+  used_up_on k = record {
+    more = more;
+    made = k.follows.made;
+    put = put;
+    framing = k.follows.walked.framing;
+    stands = subst (λ (o : List ℕ). Stands v (b ++ o) (past ++ more)) (sym (append-nil k.follows.walked.taken) ∙ sym k.follows.walked.piece) (k.follows.walked.stands b past st);
+    idle = k.idle b past st;
   }
 
   -- the follower had enough
-  pub enough_stops : Stopped stop.Enough → (f : Forest) → IsReading w.framing (b ++ piece) f → (run : Run) → IsRun run ending.Done true v
+  pub enough_stops : FollowsToEnough next x y piece more → (f : Forest) → IsReading w.framing (b ++ piece) f → (run : Run) → IsRun run ending.Done true v
       → StopsIn next before after (b ++ piece) past run
-  enough_stops x f read run is =
-      let k = x.1 in
-      let further = walked_goes_on w v piece x.0 k.more k.walked b past st f read in
-      let there : Stands v (b ++ k.walked.taken) (past ++ k.more) = k.walked.stands b past st in
-      let front : flat_map event_octets (past ++ k.more) ≡ b ++ k.walked.taken = stands-past_octets v (b ++ k.walked.taken) (past ++ k.more) there x.2 in record {
-        more = k.more;
-        made = k.made;
-        put = sends (effect_of next before.follower k.more).put k.put;
+  enough_stops k f read run is =
+      let walked : WalksOver w v piece k.rest more = k.follows.walked in
+      let further = walked_goes_on w v piece k.rest more walked b past st f read in
+      let there : Stands v (b ++ walked.taken) (past ++ more) = walked.stands b past st in
+      let front : flat_map event_octets (past ++ more) ≡ b ++ walked.taken = stands-past_octets v (b ++ walked.taken) (past ++ more) there k.after_event in record {
+        more = more;
+        made = k.follows.made;
+        put = put;
         reading = f;
         is_reading = read;
         others = further.0;
         yields = further.1;
         ending = is.ending;
-        framing = k.walked.framing;
-        is_front = (x.0, ap (λ (o : List ℕ). o ++ x.0) front ∙ append_assoc b k.walked.taken x.0 ∙ ap (λ (o : List ℕ). b ++ o) (sym k.walked.piece));
-        stands = subst (λ (o : List ℕ). Stands v o (past ++ k.more)) (sym front) there;
+        framing = walked.framing;
+        is_front = (k.rest, ap (λ (o : List ℕ). o ++ k.rest) front ∙ append_assoc b walked.taken k.rest ∙ ap (λ (o : List ℕ). b ++ o) (sym walked.piece));
+        stands = subst (λ (o : List ℕ). Stands v o (past ++ more)) (sym front) there;
         spelled = is.octets ∙ there.private_state.has_state.offset ∙ ap length (sym front);
-        unused = is.unused ∙ stands-entered v (b ++ k.walked.taken) (past ++ k.more) there ∙ ap (λ (g : Framing). first_other g.inside (wrapper_offsets (past ++ k.more))) k.walked.framing;
+        unused = is.unused ∙ stands-entered v (b ++ walked.taken) (past ++ more) there ∙ ap (λ (g : Framing). first_other g.inside (wrapper_offsets (past ++ more))) walked.framing;
       }
 
   -- an octet is refused
-  pub fault_ends : (e : Fault) → Stopped (stop.Fault e) → (run : Run) → IsRun run (ending.Fault e) false v → EndsIn next before after (b ++ piece) past run
-  fault_ends e x run is =
-      let k : WalksTo w v piece x.more e b past = x.walked b past st in record {
-        more = x.more;
-        made = x.made;
-        put = sends (effect_of next before.follower x.more).put x.put;
+  pub fault_ends : (e : Fault) → FollowsToFault next x y piece more e → (run : Run) → IsRun run (ending.Fault e) false v → EndsIn next before after (b ++ piece) past run
+  fault_ends e to_fault run is =
+      let k : WalksTo w v piece more e b past = to_fault.walked b past st in record {
+        more = more;
+        made = to_fault.made;
+        put = put;
         reading = k.refused.reading;
-        is_reading = fault_is_reading w v b piece past x.more e k;
+        is_reading = fault_is_reading w v b piece past more e k;
         yields = k.refused.all_events;
-        ending = subst (λ (g : Ending). IsEnding w.framing (b ++ piece) g) (sym is.ending) (subst (λ (o : List ℕ). IsEnding w.framing o (ending.Fault e)) (fault_octets w v b piece past x.more e k) (k.refused.ends k.rest));
+        ending = subst (λ (g : Ending). IsEnding w.framing (b ++ piece) g) (sym is.ending) (subst (λ (o : List ℕ). IsEnding w.framing o (ending.Fault e)) (fault_octets w v b piece past more e k) (k.refused.ends k.rest));
         spelled = is.octets ∙ k.offset ∙ ap length (sym k.refused.spelled);
         unused = is.unused ∙ k.unused;
-        walker = subst (StandsAtEnd v (b ++ piece) (past ++ x.more)) (sym is.ending)
-            (refused_one (record { front = b ++ k.taken; octet = k.octet; rest = k.rest; octets_is = fault_octets w v b piece past x.more e k; stands = k.stands }));
+        walker = subst (StandsAtEnd v (b ++ piece) (past ++ more)) (sym is.ending)
+            (refused_one (record { front = b ++ k.taken; octet = k.octet; rest = k.rest; octets_is = fault_octets w v b piece past more e k; stands = k.stands }));
       }
 
 -- the input has ended
@@ -216,19 +233,19 @@ taken_within limit at n p = elim (cases_lt (limit - at) n) [
   | inr more ↦ ap (λ (k : ℕ). take k p) (omega (arith, more)) ∙ sym (take_all (limit - at) (take n p) (omega (arith, more, length-take n p)))
 ]
 
-module _ {S : Type 0} (next : S → EventValue → Effect S) (before after : TurnState S) (b : List ℕ) (past : List EventValue) (p piece r : List ℕ) (n m limit : ℕ)
+module _ {S D : Type 0} (next : S → EventValue → Effect S) (before after : TurnState S) (from to : Out D) (b : List ℕ) (past : List EventValue) (p piece r : List ℕ) (n m limit : ℕ)
     (st : Stands before.walker b past) (some : n ≤ length p) (below : before.walker.offset ≤ limit) (is_m : m ≡ min (limit - before.walker.offset) n)
     (is_piece : piece ≡ take m p) (is_r : r ≡ take n p) (octets : AreOctets piece) where
   abbrev at : ℕ
   at = before.walker.offset
 
-  -- octets were sent, and a stop was answered
-  abbrev Sent : Result Stop WriteFault → List ℕ → Type 0
-  Sent result text = Sends before.drain after.drain text result
+  -- what is made of these events was handed to the drain
+  abbrev Sent : Result Stop WriteFault → List EventValue → Type 0
+  Sent result more = Sends before.drain after.drain (effect_of next before.follower more).put result
 
   -- the same of a turn
-  sent : (why : Stop) → (x : List ℕ) → Sent (Ok why) x → Sends {T = ⊤} {E = DeviceFault} before.drain after.drain x (Ok tt)
-  sent why x q = sends_ok before.drain after.drain x x why tt q refl
+  sent : (why : Stop) (more : List EventValue) → Sent (Ok why) more → Sends {T = ⊤} {E = DeviceFault} before.drain after.drain (effect_of next before.follower more).put (Ok tt)
+  sent why more q = sends_ok before.drain after.drain (effect_of next before.follower more).put (effect_of next before.follower more).put why tt q refl
 
   many : length r ≡ n
   many = ap length is_r ∙ length-take n p ∙ omega (arith, some)
@@ -250,11 +267,14 @@ module _ {S : Type 0} (next : S → EventValue → Effect S) (before after : Tur
   all_within : (m < n → ⊥) → piece ≡ r
   all_within e = is_piece ∙ ap (λ (k : ℕ). take k p) (omega (arith, e, is_m)) ∙ sym is_r
 
-  abbrev Followed : Stop → Stop → Type 0
-  Followed why stopped = Stops next before.walker after.walker before.follower after.follower piece (Sent (Ok why)) (Ok stopped)
+  -- they were followed so far, and what is made of them handed to the drain
+  record Followed (why stopped : Stop) : Type 0 where
+    more : List EventValue
+    stops : Stops next (walk_state before.walker before.follower from) (walk_state after.walker after.follower to) piece more (Ok stopped)
+    put : Sent (Ok why) more
 
   used : (why : Stop) → Followed why stop.UsedUp → StandsOn next before after (b ++ piece) past
-  used why x = used_up_on next before after b piece past _ (sent why) st x
+  used why x = used_up_on next before after from to b piece past x.more (sent why x.more x.put) st x.stops
 
   turns_again : (why : Stop) → Followed why stop.UsedUp → (m < n → ⊥) → (n ≡ 0 → ⊥) → TurnsTo next before after limit b past r (Ok Again)
   turns_again why x fits some' = record {
@@ -284,8 +304,8 @@ module _ {S : Type 0} (next : S → EventValue → Effect S) (before after : Tur
   turns_fault : (run : Run) (e : Fault) (why : Stop) → Followed why (stop.Fault e) → IsRun run (ending.Fault e) false after.walker
       → TurnsTo next before after limit b past r (Ok (Ended run))
   turns_fault run e why x is =
-      let k : WalksTo before.walker after.walker piece x.more e b past = x.walked b past st in record {
-        ends = ends_by run is.enough (fault_ends next before after b piece past _ (sent why) st e x run is);
+      let k : WalksTo before.walker after.walker piece x.more e b past = x.stops.walked b past st in record {
+        ends = ends_by run is.enough (fault_ends next before after from to b piece past x.more (sent why x.more x.put) st e x.stops run is);
         last = inr (inl (subst IsFinalEnding (sym is.ending) (refused-final before.walker.framing (b ++ k.taken) k.octet [] e k.refused.offset (k.refused.ends []))));
       }
 
@@ -293,34 +313,45 @@ module _ {S : Type 0} (next : S → EventValue → Effect S) (before after : Tur
   turns_enough run why x is = record {
     ends =
         subst (λ (k : Bool). EndsBy next before after k (take limit (b ++ r)) past run) (sym is.enough)
-        (subst (λ (o : List ℕ). StopsIn next before after o past run) reached (enough_stops next before after b piece past _ (sent why) st x read.0 read.1 run is));
+        (subst (λ (o : List ℕ). StopsIn next before after o past run) reached (enough_stops next before after from to b piece past x.more (sent why x.more x.put) st x.stops read.0 read.1 run is));
     last = inl is.enough;
   }
 
   -- by why it stopped
-  pub turns_answered : (why : Stop) (result : Result Turn DeviceFault) → Followed why why → IsResultOfStop n m after.walker why result
-      → TurnsTo next before after limit b past r result
-  turns_answered stop.Enough (Ok (Ended run)) x is = turns_enough run stop.Enough x is
-  turns_answered (stop.Fault f) (Ok (Ended run)) x is = turns_fault run f (stop.Fault f) x is
-  turns_answered stop.UsedUp (Err InputTooLong) x is = turns_long stop.UsedUp x is
-  turns_answered stop.UsedUp (Ok (Ended run)) x is = turns_end run is.2.0 stop.UsedUp x is.1 is.2.1 is.2.2
-  turns_answered stop.UsedUp (Ok Again) x is = turns_again stop.UsedUp x is.0 is.1
-  turns_answered stop.Enough (Ok Again) x is = absurd is
-  turns_answered stop.Enough (Err e) x is = absurd is
-  turns_answered (stop.Fault f) (Ok Again) x is = absurd is
-  turns_answered (stop.Fault f) (Err e) x is = absurd is
-  turns_answered stop.UsedUp (Err ReadFailed) x is = absurd is
-  turns_answered stop.UsedUp (Err WriteFailed) x is = absurd is
+  answered : (why : Stop) (result : Result Turn DeviceFault) → Followed why why → IsResultOfStop n m after.walker why result → TurnsTo next before after limit b past r result
+  answered stop.Enough (Ok (Ended run)) x is = turns_enough run stop.Enough x is
+  answered (stop.Fault f) (Ok (Ended run)) x is = turns_fault run f (stop.Fault f) x is
+  answered stop.UsedUp (Err InputTooLong) x is = turns_long stop.UsedUp x is
+  answered stop.UsedUp (Ok (Ended run)) x is = turns_end run is.2.0 stop.UsedUp x is.1 is.2.1 is.2.2
+  answered stop.UsedUp (Ok Again) x is = turns_again stop.UsedUp x is.0 is.1
+  answered stop.Enough (Ok Again) x is = absurd is
+  answered stop.Enough (Err e) x is = absurd is
+  answered (stop.Fault f) (Ok Again) x is = absurd is
+  answered (stop.Fault f) (Err e) x is = absurd is
+  answered stop.UsedUp (Err ReadFailed) x is = absurd is
+  answered stop.UsedUp (Err WriteFailed) x is = absurd is
 
-  pub turns_failed : (e : WriteFault) → Fails next before.walker before.follower piece (Sent (Err e)) → TurnsTo next before after limit b past r (Err WriteFailed)
-  turns_failed e x =
-      let o = x.yields b past st read.0 read.1 in
-      let front = followed-front next before.follower x.more o.0 in record {
-        more = x.more ++ o.0;
-        put =
-            sends_err before.drain after.drain (effect_of next before.follower x.more).put (effect_of next before.follower (x.more ++ o.0)).put e WriteFailed x.put
-            (record { rest = front.0; is = sym front.1 });
-        reading = read.0;
-        is_reading = subst (λ (o : List ℕ). IsReading before.walker.framing o read.0) reached read.1;
-        yields = subst (λ (es : List EventValue). AreEqualJoined es (events read.0)) (append_assoc past x.more o.0) o.1;
-      }
+  module _ (state_of : D → DrainState) (drain_was : before.drain ≡ state_of (drain_of from).now) (drain_is : after.drain ≡ state_of (drain_of to).now) where
+    abbrev FollowsIn : Result Stop WriteFault → Type 0
+    FollowsIn result = FollowsAndFlushes next state_of (walk_state before.walker before.follower from) (walk_state after.walker after.follower to) piece result
+
+    handed : (result : Result Stop WriteFault) → (x : FollowsIn result) → Sent result x.more
+    handed result x =
+        subst (λ (d : DrainState). Sends d after.drain (effect_of next before.follower x.more).put result) (sym drain_was)
+        (subst (λ (d : DrainState). Sends (state_of (drain_of from).now) d (effect_of next before.follower x.more).put result) (sym drain_is) x.sends)
+
+    pub turns_answered : (why : Stop) (result : Result Turn DeviceFault) → FollowsIn (Ok why) → IsResultOfStop n m after.walker why result → TurnsTo next before after limit b past r result
+    turns_answered why result x is = answered why result (record { more = x.more; stops = x.stops; put = handed (Ok why) x }) is
+
+    pub turns_failed : (e : WriteFault) → FollowsIn (Err e) → TurnsTo next before after limit b past r (Err WriteFailed)
+    turns_failed e x =
+        let o = x.stops.yields b past st read.0 read.1 in
+        let front = followed-front next before.follower x.more o.0 in record {
+          more = x.more ++ o.0;
+          put =
+              sends_err before.drain after.drain (effect_of next before.follower x.more).put (effect_of next before.follower (x.more ++ o.0)).put e WriteFailed (handed (Err e) x)
+              (record { rest = front.0; is = sym front.1 });
+          reading = read.0;
+          is_reading = subst (λ (o : List ℕ). IsReading before.walker.framing o read.0) reached read.1;
+          yields = subst (λ (es : List EventValue). AreEqualJoined es (events read.0)) (append_assoc past x.more o.0) o.1;
+        }

@@ -1,7 +1,10 @@
 -- What a follower comes to that follows a walker over a piece.
-use Rattle.std.specs.Prelude.{◌≡◌, ℕ, Bool, true, false, List, [], ◌∷◌, ◌++◌, Result, Ok, Err, length}
+use Rattle.std.specs.Prelude.{◌≡◌, ℕ, ◌+◌, Bool, true, false, List, [], ◌∷◌, ◌++◌, Result, Ok, Err, OnOk, length}
 use Rattle.tlv_head.specs.declared.fault.Fault.{Fault}
 use Rattle.tlv_io.specs.declared.drain.WriteFault.{WriteFault}
+use Rattle.tlv_io.specs.declared.out.Out.{Out}
+use Rattle.tlv_io.specs.Device.{DrainState}
+use Rattle.tlv_io.specs.Out.{Puts, Sends, buffer_of, drain_of}
 use Rattle.tlv_walk.specs.declared.follow.Go.{Go}
 use Rattle.tlv_walk.specs.declared.follow.Go.TheVariants as go
 use Rattle.tlv_walk.specs.declared.framing.Framing.{Framing}
@@ -10,7 +13,8 @@ use Rattle.tlv_walk.specs.declared.one_turn.Stop.TheVariants as stop
 use Rattle.tlv_walk.specs.Events.{AreEqualJoined, EventValue, events}
 use Rattle.tlv_walk.specs.Follow.{Effect, effect_of}
 use Rattle.tlv_walk.specs.Forest.{Forest}
-use Rattle.tlv_walk.specs.WalkerState.{IsAfterEvent, WalkerState, first_unused_in}
+use Rattle.tlv_walk.specs.Laws.{AreOctets}
+use Rattle.tlv_walk.specs.WalkerState.{CanTake, IsAfterEvent, WalkerState, first_unused_in}
 use Rattle.tlv_walk.specs.Private.WalkerState.{Passes}
 use Rattle.tlv_walk.specs.Reading.{IsReading}
 use Rattle.tlv_walk.specs.Stands.{Stands, waiting_events}
@@ -42,48 +46,96 @@ abbrev pub GoesOnIn : Framing → List ℕ → List EventValue → Type 0
 GoesOnIn framing octets past = (f : Forest) → IsReading framing octets f
     → (others : List EventValue) × AreEqualJoined (past ++ others) (events f)
 
-module _ {S : Type 0} (next : S → EventValue → Effect S) where
-  -- what was made of the front of a piece, where `puts` says that octets were put
-  pub record Follows (w v : WalkerState) (s t : S) (before after : List ℕ) (puts : List ℕ → Type 0) (goes : Go)
-      : Type 0 where
+-- what takes part in following a piece, as it is before that or after it: the walker, the follower's state, and the
+-- `Out` to which it puts
+pub record WalkState (S D : Type 0) : Type 0 where
+  pub walker : WalkerState
+  pub follower : S
+  pub out : Out D
+
+abbrev pub walk_state : {S D : Type 0} → WalkerState → S → Out D → WalkState S D
+walk_state walker follower out = record { walker = walker; follower = follower; out = out }
+
+-- here `more` are the events that the walker yielded of a piece, and the follower followed
+
+module _ {S D : Type 0} (next : S → EventValue → Effect S) (before after : WalkState S D) where
+  -- the front of a piece was walked over, its events were followed, and the rest is left
+  pub record Follows (piece rest : List ℕ) (more : List EventValue) (goes : Go) : Type 0 where
+    pub made : FollowsEvents next before.follower after.follower more goes
+    pub walked : WalksOver before.walker after.walker piece rest more
+
+  -- all of a piece was followed, and no event waits
+  pub record FollowsAll (piece : List ℕ) (more : List EventValue) : Type 0 where
+    pub follows : Follows piece [] more go.On
+    pub idle : (b : List ℕ) (past : List EventValue) → Stands before.walker b past
+        → waiting_events after.walker ≡ []
+    pub offset : after.walker.offset ≡ before.walker.offset + length piece
+    pub ready : CanTake after.walker
+
+  -- a piece was followed up to an octet that is refused
+  pub record FollowsToFault (piece : List ℕ) (more : List EventValue) (f : Fault) : Type 0 where
+    pub made : FollowsEvents next before.follower after.follower more go.On
+    pub walked : (b : List ℕ) (past : List EventValue) → Stands before.walker b past
+        → WalksTo before.walker after.walker piece more f b past
+
+  -- a piece was followed up to an event with which the follower had enough
+  pub record FollowsToEnough (piece : List ℕ) (more : List EventValue) : Type 0 where
+    pub rest : List ℕ
+    pub follows : Follows piece rest more go.Enough
+    pub after_event : IsAfterEvent after.walker.phase
+
+  -- the drain failed at what is put at these events, or before; the piece yields them, and then others
+  pub record Fails (piece : List ℕ) (more : List EventValue) : Type 0 where
+    pub yields : (b : List ℕ) (past : List EventValue) → Stands before.walker b past
+        → GoesOnIn before.walker.framing (b ++ piece) (past ++ more)
+
+  -- how far a piece was followed, by why it is not followed any further
+  abbrev pub Stops : List ℕ → List EventValue → Result Stop WriteFault → Type 0
+  Stops piece more (Ok stop.UsedUp) = FollowsAll piece more
+  Stops piece more (Ok (stop.Fault f)) = FollowsToFault piece more f
+  Stops piece more (Ok stop.Enough) = FollowsToEnough piece more
+  Stops piece more (Err e) = Fails piece more
+
+  -- the front of a piece was followed, which has one event or more, and more is wanted
+  pub record TakesPart (piece rest : List ℕ) (more : List EventValue) : Type 0 where
+    pub follows : Follows piece rest more go.On
+    pub passes : Passes before.walker after.walker piece rest
+
+  -- nothing of a piece was taken
+  pub record TakesNone (piece rest : List ℕ) (more : List EventValue) : Type 0 where
+    pub walker : after.walker ≡ before.walker
+    pub follower : after.follower ≡ before.follower
+    pub all_left : rest ≡ piece
+    pub no_event : more ≡ []
+
+  -- by whether the front of a piece was followed
+  abbrev pub TakesPartOrNone : List ℕ → List ℕ → List EventValue → Result Bool WriteFault → Type 0
+  TakesPartOrNone piece rest more (Ok true) = TakesPart piece rest more
+  TakesPartOrNone piece rest more (Ok false) = TakesNone piece rest more
+  TakesPartOrNone piece rest more (Err e) = Fails piece more
+
+module _ {S D : Type 0} (next : S → EventValue → Effect S) (state_of : D → DrainState)
+    (before after : WalkState S D) where
+  -- a piece was followed, and what is made of its events was put. `Puts` says of the `Out` that it lends the same
+  -- drain, and how many writes failed
+  pub record FollowsPiece (piece : List ℕ) (result : Result Stop WriteFault) : Type 0 where
     pub more : List EventValue
-    pub made : FollowsEvents next s t more goes
-    pub put : puts (effect_of next s more).put
-    pub walked : WalksOver w v before after more
+    pub stops : Stops next before after piece more result
+    pub puts : Puts state_of before.out after.out (effect_of next before.follower more).put result
 
-  -- the same of a piece in which an octet is refused
-  pub record FollowsTo (w v : WalkerState) (s t : S) (piece : List ℕ) (puts : List ℕ → Type 0) (f : Fault)
-      : Type 0 where
+  -- a piece was followed, and what is made of its events was handed to the drain: if all of it was, the `Out` holds
+  -- nothing
+  pub record FollowsAndFlushes (piece : List ℕ) (result : Result Stop WriteFault) : Type 0 where
+    pub octets : AreOctets piece
     pub more : List EventValue
-    pub made : FollowsEvents next s t more go.On
-    pub put : puts (effect_of next s more).put
-    pub walked : (b : List ℕ) (past : List EventValue) → Stands w b past → WalksTo w v piece more f b past
+    pub stops : Stops next before after piece more result
+    pub sends : Sends (state_of (drain_of before.out).now) (state_of (drain_of after.out).now)
+        (effect_of next before.follower more).put result
+    pub same_reference : (drain_of after.out).ghost_name ≡ (drain_of before.out).ghost_name
+    pub empty : OnOk result (buffer_of after.out ≡ [])
 
-  -- the drain failed at what is put at these events, or before
-  pub record Fails (w : WalkerState) (s : S) (piece : List ℕ) (puts : List ℕ → Type 0) : Type 0 where
+  -- the front of a piece was followed, and what is made of its events was put; or nothing of it was taken
+  pub record FollowsPart (piece rest : List ℕ) (result : Result Bool WriteFault) : Type 0 where
     pub more : List EventValue
-    pub put : puts (effect_of next s more).put
-    pub yields : (b : List ℕ) (past : List EventValue) → Stands w b past
-        → GoesOnIn w.framing (b ++ piece) (past ++ more)
-
-  -- what was made of a piece, by why it is not followed any further
-  abbrev pub Stops : WalkerState → WalkerState → S → S → List ℕ → (List ℕ → Type 0) → Result Stop WriteFault → Type 0
-  Stops w v s t piece puts (Ok stop.UsedUp) =
-      Follows w v s t piece [] puts go.On
-      × ((b : List ℕ) (past : List EventValue) → Stands w b past → waiting_events v ≡ [])
-  Stops w v s t piece puts (Ok (stop.Fault f)) = FollowsTo w v s t piece puts f
-  Stops w v s t piece puts (Ok stop.Enough) =
-      (after : List ℕ) × Follows w v s t piece after puts go.Enough × IsAfterEvent v.phase
-  Stops w v s t piece puts (Err e) = Fails w s piece puts
-
-  -- what was made of the front of a piece, if that has one event or more, and more is wanted
-  pub record FollowsPart (w v : WalkerState) (s t : S) (before after : List ℕ) (puts : List ℕ → Type 0) : Type 0 where
-    pub follows : Follows w v s t before after puts go.On
-    pub passes : Passes w v before after
-
-  -- it is followed, or nothing of it is taken
-  abbrev pub FollowsPartOrNone : WalkerState → WalkerState → S → S → List ℕ → List ℕ → (List ℕ → Type 0)
-      → Result Bool WriteFault → Type 0
-  FollowsPartOrNone w v s t before after puts (Ok false) = (v ≡ w) × (t ≡ s) × (after ≡ before) × puts []
-  FollowsPartOrNone w v s t before after puts (Ok true) = FollowsPart w v s t before after puts
-  FollowsPartOrNone w v s t before after puts (Err e) = Fails w s before puts
+    pub takes : TakesPartOrNone next before after piece rest more result
+    pub puts : Puts state_of before.out after.out (effect_of next before.follower more).put result

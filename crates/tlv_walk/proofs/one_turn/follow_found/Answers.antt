@@ -7,12 +7,12 @@ use Rattle.tlv_walk.proofs.one_turn.follow_found.Goals as goal
 pub whole-requires : goal.whole-requires
 whole-requires g c = rw c.new-header.ensures (record { whole = is_whole c.args.walker.now c.args.piece.now.now c.args.primitive.now c.requires.can })
 
-pub returns-in_err-whole-clause-parts : goal.returns-in_err-whole-clause-parts
-returns-in_err-whole-clause-parts g c =
+pub returns-in_err-whole : goal.returns-in_err-whole
+returns-in_err-whole g c =
     let p = err_from_is_err_and c.from_residual.result c.from_residual.ensures.1 in rw p.1
-    (part_fails g.F.Follow.next g.D.Drain.state _ _ _ _ _ c.args.primitive.now c.new-header.result _ _ c.requires.can c.new-header.ensures c.in_err-whole.ensures.puts)
+    (part_fails g.F.Follow.next g.D.Drain.state _ _ _ _ c.args.primitive.now c.new-header.result _ _ c.requires.can c.new-header.ensures c.in_err-whole.ensures.puts)
 
-pub returns-clause-parts : goal.returns-clause-parts
-returns-clause-parts g c =
-    part_whole g.F.Follow.next g.D.Drain.state _ _ c.args.follower.now c.whole.new.self c.args.out.now c.whole.new.out c.args.piece.now.now _ c.args.primitive.now c.new-header.result true true c.new-header.ensures
+pub returns : goal.returns
+returns g c =
+    part_whole g.F.Follow.next g.D.Drain.state _ _ c.args.piece.now.now _ c.args.primitive.now c.new-header.result true c.new-header.ensures
     (search rules) (search rules) (search rules) c.pass.ensures.yields c.pass.ensures.passes

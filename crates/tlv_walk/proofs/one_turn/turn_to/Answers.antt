@@ -2,7 +2,8 @@ use Rattle.std.proofs.Common.{rules, refl, arith}
 use Rattle.std.proofs.lemmas.Grind.{elements}
 use Rattle.tlv_io.specs.Out.{drain_of}
 use Rattle.tlv_walk.specs.OneTurn.{turn_state}
-use Rattle.tlv_walk.proofs.FollowerLemmas.Calls.{calls_answered, calls_given, can_go_on_answered}
+use Rattle.tlv_walk.specs.Private.FollowsPiece.{walk_state}
+use Rattle.tlv_walk.proofs.FollowerLemmas.Calls.{calls_answered, calls_given, can_go_on_answered, used_up_ready}
 use Rattle.tlv_walk.proofs.FollowerLemmas.Turns.{turns_answered, turns_failed}
 use Rattle.tlv_walk.proofs.one_turn.turn_to.Goals as goal
 
@@ -11,10 +12,16 @@ returns-in_default-follow_and_flush-clause-read g c = record {
   calls = calls_given _ _ _ c.in-Ok.count _ (rw c.in-Ok.is at c.read.ensures) (search rules) (search rules) refl (search rules);
   octets = grind (arith, elements);
   turned = λ b past st.
-      turns_failed g.F.Follow.next _ _ b past c.read.new.to _ _ c.in-Ok.count c.min-walked.result c.args.limit st
-      (search rules) c.requires.taken (search rules) refl (search rules) c.in_default-follow_and_flush.ensures.octets _ c.in_default-follow_and_flush.ensures.stops;
+      turns_failed g.F.Follow.next _ _ c.args.out.now c.follow_and_flush.new.out b past c.read.new.to _ _ c.in-Ok.count c.min-walked.result c.args.limit st
+      (search rules) c.requires.taken (search rules) refl (search rules) c.in_default-follow_and_flush.ensures.octets g.D.Drain.state refl refl _ c.in_default-follow_and_flush.ensures;
   goes_on = tt;
 }
+
+pub result_of_stop-requires : goal.result_of_stop-requires
+result_of_stop-requires g c used =
+    used_up_ready g.F.Follow.next
+    (walk_state c.args.walker.now c.args.follower.now c.args.out.now) (walk_state c.follow_and_flush.new.walker c.follow_and_flush.new.follower c.follow_and_flush.new.out)
+    _ _ _ c.in-Ok-follow_and_flush.ensures.stops used
 
 pub returns-clause-read : goal.returns-clause-read
 returns-clause-read g c =
@@ -26,9 +33,9 @@ returns-clause-read g c =
           calls_answered before after c.read.new.to c.in-Ok.count _ _ _ _ (rw c.in-Ok.is at c.read.ensures) (search rules) (search rules) (search rules) c.result_of_stop.ensures;
       octets = grind (arith, elements);
       turned = λ b past st.
-          turns_answered g.F.Follow.next before after b past c.read.new.to _ _ c.in-Ok.count c.min-walked.result c.args.limit st
-          (search rules) c.requires.taken (search rules) refl (search rules) c.in-Ok-follow_and_flush.ensures.octets _ _ c.in-Ok-follow_and_flush.ensures.stops c.result_of_stop.ensures;
+          turns_answered g.F.Follow.next before after c.args.out.now c.follow_and_flush.new.out b past c.read.new.to _ _ c.in-Ok.count c.min-walked.result c.args.limit st
+          (search rules) c.requires.taken (search rules) refl (search rules) c.in-Ok-follow_and_flush.ensures.octets g.D.Drain.state refl refl _ _ c.in-Ok-follow_and_flush.ensures c.result_of_stop.ensures;
       goes_on =
-          can_go_on_answered before after c.read.new.to c.in-Ok.count c.min-walked.result c.args.limit _ _ _ c.result_of_stop.ensures c.in-Ok-follow_and_flush.ensures.used_up
+          can_go_on_answered before after c.read.new.to g.F.Follow.next c.args.out.now c.follow_and_flush.new.out c.in-Ok.count c.min-walked.result c.args.limit _ _ _ _ c.result_of_stop.ensures c.in-Ok-follow_and_flush.ensures.stops
           (search rules) (search rules) c.requires.taken;
     }
