@@ -56,6 +56,8 @@ pub record WalkState (S D : Type 0) : Type 0 where
 abbrev pub walk_state : {S D : Type 0} → WalkerState → S → Out D → WalkState S D
 walk_state walker follower out = record { walker = walker; follower = follower; out = out }
 
+-- here `more` are the events that the walker yielded of a piece, and the follower followed
+
 module _ {S D : Type 0} (next : S → EventValue → Effect S) (before after : WalkState S D) where
   -- the front of a piece was walked over, its events were followed, and the rest is left
   pub record Follows (piece rest : List ℕ) (more : List EventValue) (goes : Go) : Type 0 where
