@@ -1,3 +1,4 @@
 pub mod Puts
 pub mod BufferTexts
 pub mod Pieces
+pub mod CutOf

@@ -2,5 +2,7 @@ pub mod Device
 pub mod MemDrain
 pub mod MemSource
 pub mod LineTexts
+pub mod Cuts
+pub mod RowsSoFar
 pub mod Out
 pub mod Private

@@ -1,9 +1,10 @@
 -- Laws of the lines of a primitive, and of rows.
 use Rattle.std.specs.Prelude.{◌≡◌, ℕ, List, [], ◌++◌, length}
 use Rattle.tlv_head.specs.Header.{HeaderValue, announced_length}
+use Rattle.tlv_io.specs.Cuts.{IsCut}
 use Rattle.tlv_value.specs.declared.kind.Kind.{Kind}
 use Rattle.tlv_value.specs.declared.layout.Layout.{Layout}
-use Rattle.tlv_value.specs.Cuts.{IsCut}
+use Rattle.tlv_value.specs.Cuts.{character_length, row_size}
 use Rattle.tlv_value.specs.Rows.{rows_of}
 use Rattle.tlv_value.specs.TextState.{TextState, begin_lines, contents_lines, end_lines, new_text, open_lines, text_after, whole_lines}
 use Rattle.tlv_value.specs.Value.{NameOf}
@@ -37,10 +38,11 @@ LinesEnd =
 
 -- the rows of contents are a cut
 abbrev pub RowsAreACut : Type 0
-RowsAreACut = (kind : Kind) (octets : List ℕ) → IsCut kind octets (rows_of kind octets)
+RowsAreACut =
+    (kind : Kind) (octets : List ℕ) → IsCut (row_size kind) (character_length kind) octets (rows_of kind octets)
 
 -- and are the only one
 abbrev pub RowsHaveOneCut : Type 0
 RowsHaveOneCut =
     (kind : Kind) (octets : List ℕ) (rows : List (List ℕ))
-    → IsCut kind octets rows → rows ≡ rows_of kind octets
+    → IsCut (row_size kind) (character_length kind) octets rows → rows ≡ rows_of kind octets

@@ -6,7 +6,6 @@ pub mod Arcs
 pub mod Times
 pub mod Cuts
 pub mod RowsSoFar
-pub mod CutOf
 pub mod Rows
 pub mod Units
 pub mod Layout

@@ -10,7 +10,8 @@ use Rattle.tlv_value.specs.declared.kind.Kind.TheVariants.{Utf8}
 use Rattle.tlv_value.specs.CheckState.{all_utf8}
 use Rattle.tlv_value.specs.Private.Room.{HaveRoom, utf8_length}
 use Rattle.tlv_value.specs.Rows.{rows_of}
-use Rattle.tlv_value.specs.RowsSoFar.{full_rows, has_room, last_rows, open_row}
+use Rattle.tlv_io.specs.RowsSoFar.{last_rows}
+use Rattle.tlv_value.specs.RowsSoFar.{full_rows, has_room, open_row}
 use Rattle.tlv_value.proofs.TextLemmas.Arcs.{and_right}
 use Rattle.tlv_value.proofs.RowLemmas.RowSteps.{full-begins, open-begins, shift-room}
 

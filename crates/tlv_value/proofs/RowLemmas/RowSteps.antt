@@ -3,11 +3,12 @@ use Rattle.std.proofs.Common.{◌≡◌, ◌⊎◌, inl, inr, ℕ, zero, suc, �
 use Rattle.std.proofs.lemmas.Bool.Decides.{nat_tests}
 use Rattle.std.proofs.lemmas.List.{take_all}
 use Rattle.std.specs.Prelude.{eqb}
+use Rattle.tlv_io.proofs.CutOf.{room-first}
 use Rattle.tlv_value.specs.declared.kind.Kind.{Kind}
 use Rattle.tlv_value.specs.declared.kind.Kind.TheVariants.{Octets, Boolean, Integer, Bits, Object, Relative, Text, Utf8, Ucs2, Ucs4}
-use Rattle.tlv_value.specs.CutOf.{first-room}
-use Rattle.tlv_value.specs.Cuts.{row_size}
+use Rattle.tlv_value.specs.Cuts.{character_length, row_size}
 use Rattle.tlv_value.specs.Private.Room.{HaveRoom}
+use Rattle.tlv_value.specs.Rows.{character_fits}
 use Rattle.tlv_value.specs.RowsSoFar.{full_rows, has_room, open_row}
 
 -- the first octet of a row is not its last
@@ -22,6 +23,10 @@ first-open Text = refl
 first-open Utf8 = refl
 first-open Ucs2 = refl
 first-open Ucs4 = refl
+
+-- there is room for the first octet of a row
+first-room : (kind : Kind) (x : ℕ) → has_room kind 0 x ≡ true
+first-room kind x = room-first (row_size kind) (character_length kind) (character_fits kind) x
 
 module _ (kind : Kind) where
   pub full-begins : (x : ℕ) (xs : List ℕ) → full_rows kind [] (x ∷ xs) ≡ full_rows kind (x ∷ []) xs

@@ -12,7 +12,8 @@ use Rattle.tlv_value.specs.Layout.{columns, margin, row_line}
 use Rattle.tlv_value.specs.Private.ObjectLines.{object_lines, rest_of_lines}
 use Rattle.tlv_value.specs.Private.PrimitiveLines.{front_of, primitive_line, primitive_lines}
 use Rattle.tlv_value.specs.declared.primitive.Primitive.{Primitive}
-use Rattle.tlv_value.specs.RowsSoFar.{full_rows, last_rows}
+use Rattle.tlv_io.specs.RowsSoFar.{last_rows}
+use Rattle.tlv_value.specs.RowsSoFar.{full_rows}
 use Rattle.tlv_value.specs.TextState.{RowsState, TextState, contents_lines, end_lines, line_in, row_lines}
 use Rattle.tlv_value.specs.KindValues.{bits_value, boolean_value, integer_value, kind_value, long_text, row_octets}
 use Rattle.tlv_value.specs.Private.KindValues.{plain_text}

@@ -10,7 +10,8 @@ use Rattle.tlv_value.specs.Kind.{kind_of}
 use Rattle.tlv_value.specs.Laws.{LinesBegin, LinesEnd, LinesGoOn, PiecesJoin, state_for}
 use Rattle.tlv_value.specs.Cuts.{row_size}
 use Rattle.tlv_value.specs.Rows.{rows_of}
-use Rattle.tlv_value.specs.RowsSoFar.{full_rows, has_room, last_rows, open_row}
+use Rattle.tlv_io.specs.RowsSoFar.{last_rows}
+use Rattle.tlv_value.specs.RowsSoFar.{full_rows, has_room, open_row}
 use Rattle.tlv_value.specs.Private.PrimitiveLines.{lines_in_steps, new_text_of, primitive_line, primitive_lines, primitive_of}
 use Rattle.tlv_value.specs.TextState.{RowsState, TextState, begin_lines, contents_lines, end_lines, first_rows, first_rows_after, full_row_lines, has_line, kind_in, line_in, new_text, open_lines, row_lines, rows_after, rows_state_after, text_after, whole_lines}
 use Rattle.tlv_value.specs.KindValues.{kind_value, long_text, row_octets}

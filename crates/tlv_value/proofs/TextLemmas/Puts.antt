@@ -4,7 +4,8 @@ use Rattle.tlv_value.specs.declared.kind.Kind.{Kind}
 use Rattle.tlv_value.specs.declared.layout.Layout.{Layout}
 use Rattle.tlv_value.specs.Layout.{row_line}
 use Rattle.tlv_value.specs.Rows.{rows_of}
-use Rattle.tlv_value.specs.RowsSoFar.{full_rows, last_rows, open_row}
+use Rattle.tlv_io.specs.RowsSoFar.{last_rows}
+use Rattle.tlv_value.specs.RowsSoFar.{full_rows, open_row}
 use Rattle.tlv_value.specs.TextState.{row_lines}
 use Rattle.tlv_value.specs.Value.{row_text}
 

@@ -1,44 +1,26 @@
--- There is a cut of any octets: the rows that they make one after another. This is a lemma with its proof, which stands
--- here since `rows_of` takes its rows. No reader need know more of them than that they are a cut.
+-- There is a cut of any octets: the rows that they make one after another.
 use Rattle.std.proofs.Common.{◌≡◌, ◌≢◌, ◌⊎◌, inl, inr, ℕ, zero, suc, ◌+◌, ◌<◌, ◌≤◌, Bool, true, false, List, [], ◌∷◌, ◌++◌, length, get_or, refl, ap, ◌∙◌, arith, ⊎_elim, append_assoc, length-append}
 use Rattle.std.specs.Prelude.{eqb, if◌then◌else◌}
 use Rattle.std.proofs.lemmas.Bool.{eqb-true, leb-true}
 use Rattle.std.proofs.lemmas.Bool.Decides.{nat_tests}
-use Rattle.tlv_value.specs.declared.kind.Kind.{Kind}
-use Rattle.tlv_value.specs.declared.kind.Kind.TheVariants.{Octets, Boolean, Integer, Bits, Object, Relative, Text, Utf8, Ucs2, Ucs4}
-use Rattle.tlv_value.specs.Cuts.{AreFull, AreRows, Cut, IsCut, IsFull, IsRow, character_length, octets_of_rows, row_size}
-use Rattle.tlv_value.specs.RowsSoFar.{full_rows, has_room, last_rows, open_row}
+use Rattle.tlv_io.specs.Cuts.{AreFull, AreRows, Cut, IsCut, IsFull, IsRow, octets_of_rows}
+use Rattle.tlv_io.specs.RowsSoFar.{full_rows_by, has_room_by, last_rows, open_row_by}
 
--- the rows that octets make one after another
-abbrev cut_rows : Kind → List ℕ → List (List ℕ)
-cut_rows kind octets = full_rows kind [] octets ++ last_rows (open_row kind [] octets)
+-- ---- premises
 
--- ---- rows have room
+-- one of two numbers is at most what both are
+pub most-if : (test : Bool) (m n most : ℕ) → m ≤ most → n ≤ most → (if test then m else n) ≤ most
+most-if true m n most h g = h
+most-if false m n most h g = g
 
-pub size-some : (kind : Kind) → 16 ≤ row_size kind
-size-some Octets = omega arith
-size-some Boolean = omega arith
-size-some Integer = omega arith
-size-some Bits = omega arith
-size-some Object = omega arith
-size-some Relative = omega arith
-size-some Text = omega arith
-size-some Utf8 = omega arith
-size-some Ucs2 = omega arith
-size-some Ucs4 = omega arith
+-- and at least what both are
+pub least-if : (test : Bool) (least m n : ℕ) → least ≤ m → least ≤ n → least ≤ (if test then m else n)
+least-if true least m n h g = h
+least-if false least m n h g = g
 
 -- there is room for the first octet of a row
-pub first-room : (kind : Kind) (x : ℕ) → has_room kind 0 x ≡ true
-first-room Octets x = refl
-first-room Boolean x = refl
-first-room Integer x = refl
-first-room Bits x = refl
-first-room Object x = refl
-first-room Relative x = refl
-first-room Text x = refl
-first-room Utf8 x = let h : character_length Utf8 x ≤ 4 = grind (arith, nat_tests) in grind (arith, nat_tests)
-first-room Ucs2 x = refl
-first-room Ucs4 x = refl
+pub room-first : (size : ℕ) (wanted : ℕ → ℕ) → ((x : ℕ) → wanted x ≤ size) → (x : ℕ) → has_room_by size wanted 0 x ≡ true
+room-first size wanted fits x = let h = fits x in grind (arith, nat_tests)
 
 -- ---- octets of rows
 
@@ -61,10 +43,13 @@ get-last (y ∷ row) x = get-last row x
 
 -- ---- the cut
 
-module _ (kind : Kind) where
+module _ (size : ℕ) (wanted : ℕ → ℕ) (some : 1 ≤ size) (fits : (x : ℕ) → wanted x ≤ size) where
+  first-room : (x : ℕ) → has_room_by size wanted 0 x ≡ true
+  first-room x = room-first size wanted fits x
+
   -- no octet announces more than what a row has left
   abbrev AllFit : List ℕ → Type 0
-  AllFit row = (i : ℕ) → i < length row → i + character_length kind (get_or row i 0) ≤ row_size kind
+  AllFit row = (i : ℕ) → i < length row → i + wanted (get_or row i 0) ≤ size
 
   split-at : (i n : ℕ) (b : Bool) → eqb i n ≡ b → i < n + 1 → (i < n) ⊎ (i ≡ n)
   split-at i n true e h = inr (eqb-true i n e)
@@ -73,10 +58,10 @@ module _ (kind : Kind) where
   split : (i n : ℕ) → i < n + 1 → (i < n) ⊎ (i ≡ n)
   split i n h = split-at i n (eqb i n) refl h
 
-  fit-more : (row : List ℕ) (x : ℕ) → AllFit row → has_room kind (length row) x ≡ true → AllFit (row ++ x ∷ [])
+  fit-more : (row : List ℕ) (x : ℕ) → AllFit row → has_room_by size wanted (length row) x ≡ true → AllFit (row ++ x ∷ [])
   fit-more row x f r i h =
-      let room : length row + character_length kind x ≤ row_size kind =
-      leb-true (length row + character_length kind x) (row_size kind) r in
+      let room : length row + wanted x ≤ size =
+      leb-true (length row + wanted x) (size) r in
       let before : i < length row + 1 = omega (arith, length-append row (x ∷ [])) in
       ⊎_elim
       (λ (g : i < length row). rw (get-left row x i g) (f i g))
@@ -89,16 +74,16 @@ module _ (kind : Kind) where
 
   record CutOn (row xs : List ℕ) (rows : List (List ℕ)) : Type 0 where
     together : octets_of_rows rows ≡ row ++ xs
-    each : AreRows kind rows
-    full : AreFull kind rows
+    each : AreRows size wanted rows
+    full : AreFull size wanted rows
     head : 1 ≤ length row → HeadIs (get_or row 0 0) rows
 
-  is-row : (row : List ℕ) → AllFit row → length row ≤ row_size kind → 1 ≤ length row → IsRow kind row
+  is-row : (row : List ℕ) → AllFit row → length row ≤ size → 1 ≤ length row → IsRow size wanted row
   is-row row f h s = record { some = some-not row s; short = h; whole = f }
 
-  full-before : (row : List ℕ) (rows : List (List ℕ)) → AreFull kind rows
-      → ((next : List ℕ) (more : List (List ℕ)) → rows ≡ next ∷ more → IsFull kind row next)
-      → AreFull kind (row ∷ rows)
+  full-before : (row : List ℕ) (rows : List (List ℕ)) → AreFull size wanted rows
+      → ((next : List ℕ) (more : List (List ℕ)) → rows ≡ next ∷ more → IsFull size wanted row next)
+      → AreFull size wanted (row ∷ rows)
   full-before row [] f g = tt
   full-before row (next ∷ rows) f g = (g next rows refl, f)
 
@@ -106,7 +91,7 @@ module _ (kind : Kind) where
       → HeadIs x rows → get_or next 0 0 ≡ x
   head-of x rows next more e h = rw e at h
 
-  cut-end : (row : List ℕ) → AllFit row → length row < row_size kind → CutOn row [] (last_rows row)
+  cut-end : (row : List ℕ) → AllFit row → length row < size → CutOn row [] (last_rows row)
   cut-end [] f h = record { together = refl; each = tt; full = tt; head = λ s. absurd (omega arith) }
   cut-end (x ∷ row) f h = record {
     together = refl;
@@ -122,23 +107,23 @@ module _ (kind : Kind) where
 
   -- the rows of octets after a row that has begun
   abbrev rows_after_row : List ℕ → List ℕ → List (List ℕ)
-  rows_after_row row xs = full_rows kind row xs ++ last_rows (open_row kind row xs)
+  rows_after_row row xs = full_rows_by size wanted row xs ++ last_rows (open_row_by size wanted row xs)
 
   cut-at : (row : List ℕ) (x : ℕ) (xs : List ℕ) (room last : Bool)
-      → has_room kind (length row) x ≡ room → eqb (length row + 1) (row_size kind) ≡ last
-      → AllFit row → length row < row_size kind
-      → ((r : List ℕ) → AllFit r → length r < row_size kind → CutOn r xs (rows_after_row r xs))
+      → has_room_by size wanted (length row) x ≡ room → eqb (length row + 1) (size) ≡ last
+      → AllFit row → length row < size
+      → ((r : List ℕ) → AllFit r → length r < size → CutOn r xs (rows_after_row r xs))
       → CutOn row (x ∷ xs)
       ((if room
-      then (if last then (row ++ x ∷ []) ∷ full_rows kind [] xs else full_rows kind (row ++ x ∷ []) xs)
-      else row ∷ full_rows kind (x ∷ []) xs)
+      then (if last then (row ++ x ∷ []) ∷ full_rows_by size wanted [] xs else full_rows_by size wanted (row ++ x ∷ []) xs)
+      else row ∷ full_rows_by size wanted (x ∷ []) xs)
       ++ last_rows (if room
-      then (if last then open_row kind [] xs else open_row kind (row ++ x ∷ []) xs)
-      else open_row kind (x ∷ []) xs))
+      then (if last then open_row_by size wanted [] xs else open_row_by size wanted (row ++ x ∷ []) xs)
+      else open_row_by size wanted (x ∷ []) xs))
   cut-at row x xs true true r l f h more =
-      let z = size-some kind in
-      let n : length (row ++ x ∷ []) ≡ row_size kind =
-      length-append row (x ∷ []) ∙ eqb-true (length row + 1) (row_size kind) l in
+      let z = some in
+      let n : length (row ++ x ∷ []) ≡ size =
+      length-append row (x ∷ []) ∙ eqb-true (length row + 1) (size) l in
       let c = more [] (λ i g. absurd (omega arith)) (omega arith) in
       let rows = rows_after_row [] xs in
       record {
@@ -148,8 +133,8 @@ module _ (kind : Kind) where
         head = λ s. head-more row x ((row ++ x ∷ []) ∷ rows) refl s;
       }
   cut-at row x xs true false r l f h more =
-      let e : length row + 1 < row_size kind = grind (arith, nat_tests) in
-      let n : length (row ++ x ∷ []) < row_size kind = omega (arith, length-append row (x ∷ [])) in
+      let e : length row + 1 < size = grind (arith, nat_tests) in
+      let n : length (row ++ x ∷ []) < size = omega (arith, length-append row (x ∷ [])) in
       let c = more (row ++ x ∷ []) (fit-more row x f r) n in
       let rows = rows_after_row (row ++ x ∷ []) xs in
       record {
@@ -159,13 +144,13 @@ module _ (kind : Kind) where
         head = λ s. head-more row x rows (c.head (omega (arith, length-append row (x ∷ [])))) s;
       }
   cut-at row x xs false last r l f h more =
-      let z = size-some kind in
+      let z = some in
       let s : 1 ≤ length row =
-      nil-or row (λ e. let q = first-room kind x in let p : has_room kind 0 x ≡ false = rw e at r in cc) in
-      let fit : AllFit (x ∷ []) = fit-more [] x (λ i g. absurd (omega arith)) (first-room kind x) in
+      nil-or row (λ e. let q = first-room x in let p : has_room_by size wanted 0 x ≡ false = rw e at r in cc) in
+      let fit : AllFit (x ∷ []) = fit-more [] x (λ i g. absurd (omega arith)) (first-room x) in
       let c = more (x ∷ []) fit (omega arith) in
       let rows = rows_after_row (x ∷ []) xs in
-      let none : row_size kind < length row + character_length kind x = grind (arith, nat_tests) in
+      let none : size < length row + wanted x = grind (arith, nat_tests) in
       record {
         together = ap (λ (t : List ℕ). row ++ t) c.together;
         each = (is-row row f (omega arith) s, c.each);
@@ -175,18 +160,18 @@ module _ (kind : Kind) where
         head = λ t. refl;
       }
 
-  cut-on : (row xs : List ℕ) → AllFit row → length row < row_size kind → CutOn row xs (rows_after_row row xs)
+  cut-on : (row xs : List ℕ) → AllFit row → length row < size → CutOn row xs (rows_after_row row xs)
   cut-on row [] f h = cut-end row f h
   cut-on row (x ∷ xs) f h =
-      cut-at row x xs (has_room kind (length row) x) (eqb (length row + 1) (row_size kind)) refl refl f h
+      cut-at row x xs (has_room_by size wanted (length row) x) (eqb (length row + 1) (size)) refl refl f h
       (λ r g k. cut-on r xs g k)
 
-pub rows-cut : (kind : Kind) (octets : List ℕ) → IsCut kind octets (cut_rows kind octets)
-rows-cut kind octets =
-    let z = size-some kind in
-    let c = cut-on kind [] octets (λ i g. absurd (omega arith)) (omega arith) in
-    record { together = c.together; each = c.each; full = c.full }
+  pub rows-cut : (octets : List ℕ) → IsCut size wanted octets (rows_after_row [] octets)
+  rows-cut octets =
+      let z = some in
+      let c = cut-on [] octets (λ i g. absurd (omega arith)) (omega arith) in
+      record { together = c.together; each = c.each; full = c.full }
 
--- so there is a cut of any octets
-abbrev pub cut_of : (kind : Kind) (octets : List ℕ) → Cut kind octets
-cut_of kind octets = record { rows = cut_rows kind octets; is_cut = rows-cut kind octets }
+  -- so there is a cut of any octets
+  abbrev pub cut_of : (octets : List ℕ) → Cut size wanted octets
+  cut_of octets = record { rows = rows_after_row [] octets; is_cut = rows-cut octets }

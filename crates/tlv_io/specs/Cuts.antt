@@ -1,0 +1,38 @@
+-- How octets are cut into rows, as a condition on rows: by how many octets a full row has, and how many want to stand
+-- in one row, from an octet on.
+use Rattle.std.specs.Prelude.{◌≡◌, ◌≢◌, ◌⊎◌, ℕ, ◌+◌, ◌<◌, ◌≤◌, List, [], ◌∷◌, ◌++◌, length, slice_index}
+
+abbrev pub octets_of_rows : List (List ℕ) → List ℕ
+octets_of_rows [] = []
+octets_of_rows (row ∷ rows) = row ++ octets_of_rows rows
+
+module _ (size : ℕ) (wanted : ℕ → ℕ) where
+  -- a row has octets, no more than it has room for, and none is split from those that want to stand with it: none of
+  -- its octets wants more than the row has left
+  pub record IsRow (row : List ℕ) : Type 0 where
+    pub some : row ≢ []
+    pub short : length row ≤ size
+    pub whole : (i : ℕ) → i < length row → i + wanted (slice_index row i) ≤ size
+
+  abbrev pub AreRows : List (List ℕ) → Type 0
+  AreRows [] = Unit {0}
+  AreRows (row ∷ rows) = IsRow row × AreRows rows
+
+  -- a row before another has no room, or none for the first octet of the other
+  abbrev pub IsFull : List ℕ → List ℕ → Type 0
+  IsFull row next = (length row ≡ size) ⊎ (size < length row + wanted (slice_index next 0))
+
+  abbrev pub AreFull : List (List ℕ) → Type 0
+  AreFull [] = Unit {0}
+  AreFull (row ∷ []) = Unit {0}
+  AreFull (row ∷ next ∷ rows) = IsFull row next × AreFull (next ∷ rows)
+
+  pub record IsCut (octets : List ℕ) (rows : List (List ℕ)) : Type 0 where
+    pub together : octets_of_rows rows ≡ octets
+    pub each : AreRows rows
+    pub full : AreFull rows
+
+  -- rows that are a cut of the octets
+  pub record Cut (octets : List ℕ) : Type 0 where
+    pub rows : List (List ℕ)
+    pub is_cut : IsCut octets rows
