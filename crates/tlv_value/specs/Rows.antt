@@ -1,5 +1,5 @@
 -- The rows of long contents.
-use Rattle.std.specs.Prelude.{◌≡◌, ℕ, ◌≤◌, Bool, eqb, if◌then◌else◌, List, [], ◌∷◌, length, refl}
+use Rattle.std.specs.Prelude.{ℕ, ◌≤◌, Bool, eqb, if◌then◌else◌, List, [], ◌∷◌, length, refl}
 use Rattle.std.specs.Int.{is_in_range}
 use Rattle.std.proofs.lemmas.Bool.{leb-true}
 use Rattle.tlv_io.specs.Cuts.{Cut}

@@ -6,11 +6,11 @@ use lib.Utf8.{scalar, scalar_cases, scalars, encode, encodes}
 use Rattle.std.proofs.lemmas.Bool.{ltb-true, leb-true}
 use Rattle.std.proofs.lemmas.Bool.Decides.{nat_tests}
 use Rattle.std.proofs.lemmas.Str.{IsUtf8-append, IsUtf8-encode, IsUtf8-nil, IsUtf8-from_is_utf8, is_utf8-from_IsUtf8}
+use Rattle.tlv_io.specs.RowsSoFar.{last_rows}
 use Rattle.tlv_value.specs.declared.kind.Kind.TheVariants.{Utf8}
 use Rattle.tlv_value.specs.CheckState.{all_utf8}
 use Rattle.tlv_value.specs.Private.Room.{HaveRoom, utf8_length}
 use Rattle.tlv_value.specs.Rows.{rows_of}
-use Rattle.tlv_io.specs.RowsSoFar.{last_rows}
 use Rattle.tlv_value.specs.RowsSoFar.{full_rows, has_room, open_row}
 use Rattle.tlv_value.proofs.TextLemmas.Arcs.{and_right}
 use Rattle.tlv_value.proofs.RowLemmas.RowSteps.{full-begins, open-begins, shift-room}

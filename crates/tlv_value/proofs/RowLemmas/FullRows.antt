@@ -5,6 +5,7 @@ use Rattle.std.proofs.lemmas.Bool.Decides.{nat_tests}
 use Rattle.std.proofs.lemmas.List.{drop-drop, replicate_more, take_more}
 use Rattle.std.proofs.lemmas.Grind.{flat_map-append}
 use Rattle.std.specs.Simd.{first_chunks}
+use Rattle.tlv_io.specs.RowsSoFar.{last_rows}
 use Rattle.tlv_value.specs.declared.kind.Kind.{Kind}
 use Rattle.tlv_value.specs.declared.kind.Kind.TheVariants.{Octets, Boolean, Integer, Bits, Object, Relative, Text, Utf8, Ucs2, Ucs4}
 use Rattle.tlv_value.specs.declared.layout.Layout.{Layout}
@@ -14,7 +15,6 @@ use Rattle.tlv_value.specs.Layout.{margin, no_columns, row_line, spaces}
 use Rattle.tlv_value.specs.Private.Room.{HaveRoom}
 use Rattle.tlv_value.specs.Private.Rows.{full_line, full_lines}
 use Rattle.tlv_value.specs.Rows.{rows_of}
-use Rattle.tlv_io.specs.RowsSoFar.{last_rows}
 use Rattle.tlv_value.specs.RowsSoFar.{full_rows, open_row}
 use Rattle.tlv_value.specs.TextState.{row_lines}
 use Rattle.tlv_value.specs.Value.{row_text, spaced_pairs}

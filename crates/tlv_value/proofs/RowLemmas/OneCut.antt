@@ -6,13 +6,13 @@ use Rattle.std.proofs.lemmas.Bool.Decides.{nat_tests}
 use Rattle.std.proofs.lemmas.List.{get_or_append_left}
 use Rattle.std.specs.Prelude.{eqb, if◌then◌else◌}
 use Rattle.tlv_io.specs.Cuts.{AreFull, AreRows, IsFull, IsRow, octets_of_rows}
+use Rattle.tlv_io.specs.RowsSoFar.{last_rows}
 use Rattle.tlv_io.proofs.CutOf.{nil-or}
 use Rattle.tlv_value.specs.declared.kind.Kind.{Kind}
 use Rattle.tlv_value.specs.Cuts.{character_length, row_size}
 use Rattle.tlv_value.specs.Laws.{RowsHaveOneCut}
 use Rattle.tlv_value.specs.Private.Room.{HaveRoom}
 use Rattle.tlv_value.specs.Rows.{cut_of_contents, full_rows_in, one_fits, rows_of}
-use Rattle.tlv_io.specs.RowsSoFar.{last_rows}
 use Rattle.tlv_value.specs.RowsSoFar.{full_rows, open_row}
 use Rattle.tlv_value.proofs.RowLemmas.RowSteps.{IsFilled, keep, turn}
 

@@ -2,6 +2,7 @@
 use Rattle.std.proofs.Common.{◌≡◌, ℕ, ◌+◌, ◌-◌, ◌≤◌, Bool, true, false, List, [], ◌∷◌, ◌++◌, length, refl, sym, ap, ◌∙◌, arith, append_assoc, append-nil, length-append}
 use Rattle.std.specs.Prelude.{◌&&◌, eqb, nat_le, if◌then◌else◌}
 use Rattle.tlv_head.specs.Header.{HeaderValue, announced_length as size_of}
+use Rattle.tlv_io.specs.RowsSoFar.{last_rows}
 use Rattle.tlv_value.specs.declared.kind.Kind.{Kind}
 use Rattle.tlv_value.specs.declared.kind.Kind.TheVariants.{Octets, Boolean, Integer, Bits, Object, Relative, Text, Utf8, Ucs2, Ucs4}
 use Rattle.tlv_value.specs.declared.layout.Layout.{Layout}
@@ -10,7 +11,6 @@ use Rattle.tlv_value.specs.Kind.{kind_of}
 use Rattle.tlv_value.specs.Laws.{LinesBegin, LinesEnd, LinesGoOn, PiecesJoin, state_for}
 use Rattle.tlv_value.specs.Cuts.{row_size}
 use Rattle.tlv_value.specs.Rows.{rows_of}
-use Rattle.tlv_io.specs.RowsSoFar.{last_rows}
 use Rattle.tlv_value.specs.RowsSoFar.{full_rows, has_room, open_row}
 use Rattle.tlv_value.specs.Private.PrimitiveLines.{lines_in_steps, new_text_of, primitive_line, primitive_lines, primitive_of}
 use Rattle.tlv_value.specs.TextState.{RowsState, TextState, begin_lines, contents_lines, end_lines, first_rows, first_rows_after, full_row_lines, has_line, kind_in, line_in, new_text, open_lines, row_lines, rows_after, rows_state_after, text_after, whole_lines}

@@ -2,11 +2,11 @@
 ghost use Rattle.std.specs.Prelude.{◌≡◌, ◌+◌, ◌<◌, ◌≤◌, ◌^◌, ◌++◌, [], codes, if◌then◌else◌, length, IsTrue, None, OnOk, ◌↔◌};
 ghost use Rattle.tlv_io.specs.LineTexts.{HasRoomFor};
 ghost use Rattle.tlv_io.specs.Out.{Puts};
+ghost use Rattle.tlv_io.specs.RowsSoFar.{last_rows};
 ghost use Rattle.tlv_value.specs.Cuts.{row_size};
 ghost use Rattle.tlv_value.specs.Layout.{line, no_columns, row_line};
 ghost use Rattle.tlv_value.specs.Private.Rows.{full_line, full_lines};
 ghost use Rattle.tlv_value.specs.Rows.{rows_of};
-ghost use Rattle.tlv_io.specs.RowsSoFar.{last_rows};
 ghost use Rattle.tlv_value.specs.RowsSoFar.{full_rows, open_row};
 ghost use Rattle.tlv_value.specs.TextState.{row_lines};
 ghost use Rattle.tlv_value.specs.Value.{row_text};
