@@ -47,7 +47,7 @@ module _ (size : ℕ) (wanted : ℕ → ℕ) (some : 1 ≤ size) (fits : (x : �
   first-room : (x : ℕ) → has_room_by size wanted 0 x ≡ true
   first-room x = room-first size wanted fits x
 
-  -- no octet announces more than what a row has left
+  -- no octet wants more than what a row has left
   abbrev AllFit : List ℕ → Type 0
   AllFit row = (i : ℕ) → i < length row → i + wanted (get_or row i 0) ≤ size
 
@@ -61,7 +61,7 @@ module _ (size : ℕ) (wanted : ℕ → ℕ) (some : 1 ≤ size) (fits : (x : �
   fit-more : (row : List ℕ) (x : ℕ) → AllFit row → has_room_by size wanted (length row) x ≡ true → AllFit (row ++ x ∷ [])
   fit-more row x f r i h =
       let room : length row + wanted x ≤ size =
-      leb-true (length row + wanted x) (size) r in
+      leb-true (length row + wanted x) size r in
       let before : i < length row + 1 = omega (arith, length-append row (x ∷ [])) in
       ⊎_elim
       (λ (g : i < length row). rw (get-left row x i g) (f i g))
@@ -110,7 +110,7 @@ module _ (size : ℕ) (wanted : ℕ → ℕ) (some : 1 ≤ size) (fits : (x : �
   rows_after_row row xs = full_rows_by size wanted row xs ++ last_rows (open_row_by size wanted row xs)
 
   cut-at : (row : List ℕ) (x : ℕ) (xs : List ℕ) (room last : Bool)
-      → has_room_by size wanted (length row) x ≡ room → eqb (length row + 1) (size) ≡ last
+      → has_room_by size wanted (length row) x ≡ room → eqb (length row + 1) size ≡ last
       → AllFit row → length row < size
       → ((r : List ℕ) → AllFit r → length r < size → CutOn r xs (rows_after_row r xs))
       → CutOn row (x ∷ xs)
@@ -123,7 +123,7 @@ module _ (size : ℕ) (wanted : ℕ → ℕ) (some : 1 ≤ size) (fits : (x : �
   cut-at row x xs true true r l f h more =
       let z = some in
       let n : length (row ++ x ∷ []) ≡ size =
-      length-append row (x ∷ []) ∙ eqb-true (length row + 1) (size) l in
+      length-append row (x ∷ []) ∙ eqb-true (length row + 1) size l in
       let c = more [] (λ i g. absurd (omega arith)) (omega arith) in
       let rows = rows_after_row [] xs in
       record {
@@ -163,7 +163,7 @@ module _ (size : ℕ) (wanted : ℕ → ℕ) (some : 1 ≤ size) (fits : (x : �
   cut-on : (row xs : List ℕ) → AllFit row → length row < size → CutOn row xs (rows_after_row row xs)
   cut-on row [] f h = cut-end row f h
   cut-on row (x ∷ xs) f h =
-      cut-at row x xs (has_room_by size wanted (length row) x) (eqb (length row + 1) (size)) refl refl f h
+      cut-at row x xs (has_room_by size wanted (length row) x) (eqb (length row + 1) size) refl refl f h
       (λ r g k. cut-on r xs g k)
 
   pub rows-cut : (octets : List ℕ) → IsCut size wanted octets (rows_after_row [] octets)
