@@ -1,7 +1,9 @@
-"""The words of specs: each has one definition in the repository, so that no reader meets one with two meanings."""
+"""The words of specs: each has one definition in the repository, so that no reader meets one with two meanings. And no file of
+specs calls a tactic: what a reader has to believe is written out."""
 import os
 import re
 
+TACTIC = re.compile(r"\b(?:omega|grind|search|simp|cc|ground|assumption)\b")
 DEFINITION = re.compile(r"^(\s*)(?:abbrev )?pub (?:(record|data) )?([A-Za-z_][\w'-]*)")
 
 
@@ -20,22 +22,24 @@ def definitions(text):
         yield found.group(3)
 
 
-def homes(root):
-    """Returns for each word the files that define it."""
-    found = {}
+def specs(root):
+    """Yields the path of each file of specs below the root, and its text."""
     for crate in sorted(os.listdir(os.path.join(root, "crates"))):
         for at, _, names in sorted(os.walk(os.path.join(root, "crates", crate, "specs"))):
             for name in sorted(names):
                 path = os.path.join(at, name)
                 with open(path, encoding="utf-8") as file:
-                    for word in definitions(file.read()):
-                        found.setdefault(word, []).append(os.path.relpath(path, root))
-    return found
+                    yield os.path.relpath(path, root), file.read()
 
 
 def test(part):
-    """Counts a test for each word."""
-    found = homes(part.root)
-    for word, files in sorted(found.items()):
+    """Counts a test for each word, and one for each file."""
+    homes = {}
+    for path, text in specs(part.root):
+        for word in definitions(text):
+            homes.setdefault(word, []).append(path)
+        tactics = [line for line in text.split("\n") if TACTIC.search(line.partition("--")[0])]
+        part.expect(f"{path} calls no tactic", not tactics, *tactics)
+    for word, files in sorted(homes.items()):
         part.expect(f"the word {word} of specs has one definition", len(files) == 1, *files)
-    part.expect("specs define words", len(found) > 500)
+    part.expect("specs define words", len(homes) > 500)
