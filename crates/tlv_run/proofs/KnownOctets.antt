@@ -1,14 +1,14 @@
 -- A run over a source that knows its octets, where neither device fails.
-use Rattle.std.proofs.Common.{◌≡◌, ◌⊎◌, inl, inr, ℕ, ◌-◌, ◌^◌, ◌<◌, ◌≤◌, List, [], ◌++◌, length, take, refl, sym, ap, ◌∙◌, subst, arith, append-nil, length-append}
+use Rattle.std.proofs.Common.{◌≡◌, inl, inr, ℕ, ◌-◌, ◌^◌, ◌<◌, ◌≤◌, List, [], ◌++◌, length, take, refl, sym, ap, ◌∙◌, subst, arith, append-nil, length-append}
 use Rattle.std.proofs.lemmas.List.{take_all}
 use Rattle.std.specs.Prelude.{Some, Result, Ok, Err}
-use Rattle.std.specs.Io.KnownBytes.{Appends, IsAtEnd}
+use Rattle.std.specs.Io.KnownBytes.{Appends}
 use Rattle.tlv_walk.proofs.FollowerLemmas.Enough.{Settled, ends_with, returns, settled_by}
 use Rattle.tlv_io.proofs.Puts.{sends_appends}
 use Rattle.tlv_walk.specs.declared.ending.Ending.{Ending}
 use Rattle.tlv_walk.specs.declared.run.DeviceFault.{DeviceFault}
 use Rattle.tlv_walk.specs.declared.run.DeviceFault.TheVariants.{ReadFailed, WriteFailed, InputTooLong}
-use Rattle.tlv_io.specs.Device.{DrainState, SourceState, gave, next_count, octets_given}
+use Rattle.tlv_io.specs.Device.{DrainState, SourceState, next_count, octets_given}
 use Rattle.tlv_walk.specs.Job.{Job, Runs}
 use Rattle.tlv_walk.specs.Laws.{AreOctets}
 use Rattle.tlv_run.proofs.InMemory.{at_end, left_of}

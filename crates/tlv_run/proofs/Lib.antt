@@ -1,5 +1,6 @@
 pub mod CharactersRows
 pub mod DepthRows
+pub mod DeviceRows
 pub mod EachFindingRows
 pub mod ElementsRows
 pub mod ExtractRows
