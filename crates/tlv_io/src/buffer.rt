@@ -16,8 +16,10 @@ pub(crate) const CAPACITY: usize = 4096;
 /// An `ArrayVec` is filled with blanks when it is cleared, which an [`Out`](crate::Out) would pay for at each flush.
 #[derive(Drop)]
 pub struct Held {
-    octets: [u8; CAPACITY],
+    /// How many octets there are. It is in front of them, so that the compiler sees that no octet is written over it,
+    /// and need not read it again after each one.
     len: usize,
+    octets: [u8; CAPACITY],
 }
 
 impl Model for Held {
@@ -36,8 +38,8 @@ impl Held {
         ensures { result ≡ [] }
     {
         Held {
-            octets: [0; CAPACITY],
             len: 0,
+            octets: [0; CAPACITY],
         }
     }
 

@@ -44,7 +44,21 @@ impl<'d, D: Drain> Out<'d, D> {
         ensures puts { Puts D.state self.old self.new [] result }
         ensures room { OnOk result (HasRoomFor (buffer_of self.new) 1024) }
     {
-        if self.held.room() < LINE {
+        self.make_room_for(LINE)
+    }
+
+    /// Makes room for so many octets after those that are held.
+    ///
+    /// # Errors
+    ///
+    /// As for [`Out::flush`].
+    #[inline(always)]
+    pub fn make_room_for(&mut self, count: usize) -> Result<(), WriteFault>
+        requires { count ≤ 4096 }
+        ensures puts { Puts D.state self.old self.new [] result }
+        ensures room { OnOk result (HasRoomFor (buffer_of self.new) count) }
+    {
+        if self.held.room() < count {
             return self.flush();
         }
         Ok(())

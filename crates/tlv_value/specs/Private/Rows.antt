@@ -1,9 +1,13 @@
 -- Words of rows that proofs use.
-use Rattle.std.specs.Prelude.{ℕ, ◌+◌, List, flat_map}
+use Rattle.std.specs.Prelude.{ℕ, ◌+◌, ◌*◌, if◌then◌else◌, List, flat_map}
 use Rattle.tlv_value.specs.declared.kind.Kind.TheVariants.{Octets}
 use Rattle.tlv_value.specs.declared.layout.Layout.{Layout}
 use Rattle.tlv_value.specs.Layout.{line, no_columns}
 use Rattle.tlv_value.specs.Value.{row_text}
+
+-- how many spaces are before a row
+abbrev pub row_indent_of : Layout → ℕ
+row_indent_of layout = (if layout.pure then 0 else 17) + 2 * (layout.level + 1)
 
 -- the lines of rows of pairs of digits, if there is no limit to rows
 abbrev pub full_line : Layout → List ℕ → List ℕ

@@ -5,7 +5,7 @@ ghost use Rattle.tlv_io.specs.Out.{Puts};
 ghost use Rattle.tlv_io.specs.RowsSoFar.{last_rows};
 ghost use Rattle.tlv_value.specs.Cuts.{row_size};
 ghost use Rattle.tlv_value.specs.Layout.{line, no_columns, row_line};
-ghost use Rattle.tlv_value.specs.Private.Rows.{full_line, full_lines};
+ghost use Rattle.tlv_value.specs.Private.Rows.{full_line, full_lines, row_indent_of};
 ghost use Rattle.tlv_value.specs.Rows.{rows_of};
 ghost use Rattle.tlv_value.specs.RowsSoFar.{full_rows, open_row};
 ghost use Rattle.tlv_value.specs.TextState.{row_lines};
@@ -98,8 +98,10 @@ fn put_full_rows<D: Drain>(
 ) -> Result<(), WriteFault>
     ensures { Puts D.state out.old out.new (full_lines layout rows.now) result }
 {
+    // A row is much shorter than the longest line, so the drain takes more with each write.
+    let size = row_indent(layout) + 64;
     for row in rows {
-        out.make_room()?;
+        out.make_room_for(size)?;
         write_full_line(&mut out.held, layout, row);
     }
     Ok(())
@@ -223,7 +225,7 @@ fn write_line(held: &mut Held, layout: Layout, kind: Kind, row: &[u8])
 /// Adds the line of a full row of pairs of digits.
 #[inline(always)]
 fn write_full_line(held: &mut Held, layout: Layout, row: &[u8; 16])
-    requires { HasRoomFor held.old 1024 }
+    requires { HasRoomFor held.old (row_indent_of layout + 64) }
     ensures { held.new ≡ held.old ++ full_line layout row.now }
 {
     // Each pair brings the space before it.
