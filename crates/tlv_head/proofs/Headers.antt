@@ -4,7 +4,7 @@ use Rattle.std.proofs.lemmas.Bool.{cases_lt, cases_eq, cases_Bool, and_parts, no
 use Rattle.tlv_head.specs.declared.header.Class.{Class}
 use Rattle.tlv_head.specs.Header.{HeaderValue, IsHeader, IsIdentifier, octets_of}
 use Rattle.tlv_head.specs.Laws.{AreHeaderOctets, IsRefusable}
-use Rattle.tlv_head.specs.Refusal.{BeginsNoHeader, IsFront, IsRefusedOctet, indefinite_primitive, length_too_large, reserved_length, tag_too_long}
+use Rattle.tlv_head.specs.Refusal.{NoHeaderBeginsWith, IsFront, IsRefusedOctet, indefinite_primitive, length_too_large, reserved_length, tag_too_long}
 use Rattle.tlv_head.specs.declared.fault.FaultCode.{FaultCode}
 use Rattle.tlv_head.specs.declared.fault.FaultCode.TheVariants.{StrayEnd, IndefinitePrimitive}
 use Rattle.tlv_head.proofs.Scan.{Scan, Origin, origin_of, start, Fresh, High, Named, Long, Ready, Stuck, Over, leads, class_of, step, scan, scan_from-append, scan_from-past, scan-moved, moved, is_more, more-from_front, no-front, same-header}
@@ -108,7 +108,7 @@ explains at x (Ready h) o m r = absurd (cc)
 explains at x (Stuck code) o m r = absurd (cc)
 explains at x Over o m r = absurd (cc)
 
-pub stuck-none : (at : Origin) (s : Scan) (o : List ℕ) → scan at o ≡ s → is_more s ≡ false → ((h : HeaderValue) → s ≡ Ready h → ⊥) → BeginsNoHeader o
+pub stuck-none : (at : Origin) (s : Scan) (o : List ℕ) → scan at o ≡ s → is_more s ≡ false → ((h : HeaderValue) → s ≡ Ready h → ⊥) → NoHeaderBeginsWith o
 stuck-none at s o e m n h [] v f =
     let ready : scan at (o ++ []) ≡ Ready (moved at h) = rw f (scan-moved at h v) in
     let ready' : scan at o ≡ Ready (moved at h) = rw append-nil at ready in
@@ -121,7 +121,7 @@ stuck-none at s o e m n h (x ∷ more) v f =
 pub data Next (o : List ℕ) (x : ℕ) : Type 0 where
   continues : IsFront (o ++ x ∷ []) → Next o x
   completes : (h : HeaderValue) → IsHeader h → octets_of h ≡ o ++ x ∷ [] → Next o x
-  refuses : (code : FaultCode) → IsHeadRefusal code o x → BeginsNoHeader (o ++ x ∷ []) → Next o x
+  refuses : (code : FaultCode) → IsHeadRefusal code o x → NoHeaderBeginsWith (o ++ x ∷ []) → Next o x
 
 next-from : (o : List ℕ) (x : ℕ) (s : Scan) → scan start (o ++ x ∷ []) ≡ s → Reads start s (o ++ x ∷ []) → Explains s o x → Next o x
 next-from o x Fresh e r w = absurd (omega (arith, ap length r, length-append o (x ∷ [])))

@@ -1,7 +1,7 @@
 -- The fields of a header, and its octets.
-use Rattle.std.specs.Prelude.{ℕ, ◌<◌, ◌≤◌, List, length, take, drop}
+use Rattle.std.specs.Prelude.{ℕ, ◌<◌, ◌≤◌, Bool, List, length, take, drop}
 use Rattle.tlv_head.specs.declared.header.HeaderFields.{HeaderFields}
-use Rattle.tlv_head.specs.Header.{HeaderValue}
+use Rattle.tlv_head.specs.Header.{HeaderValue, is_wrapper}
 
 -- the header with these fields and octets
 abbrev pub header_with : HeaderFields → List ℕ → HeaderValue
@@ -28,7 +28,12 @@ fields_of h = record {
   id_len = length h.identifier;
 }
 
--- the identifier has at most ten of the octets, which are more, and at most 137
+-- an element with a header of these fields is a string that wraps encodings
+abbrev pub fields_wrap : HeaderFields → Bool
+fields_wrap f = is_wrapper f.named f.class f.constructed f.number f.size
+
+-- by their number the octets may be those of a header with these fields: the identifier has at most ten of them, which
+-- are more, and at most 137. That they say the fields is not asked
 pub record Suits (f : HeaderFields) (octets : List ℕ) : Type 0 where
   pub identifier : f.id_len < length octets
   pub few : f.id_len ≤ 10

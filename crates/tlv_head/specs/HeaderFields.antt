@@ -1,7 +1,9 @@
 -- What the fields of a `Header` say.
-use Rattle.std.specs.Prelude.{◌≡◌, ◌<◌, ◌≤◌, take, drop, length, slice_index}
+use Rattle.std.specs.Prelude.{◌≡◌, take, drop, length, slice_index}
+use Rattle.tlv_head.specs.Fields.{Suits}
 use Rattle.tlv_head.specs.Header.{HeaderValue, octets_of}
 use Rattle.tlv_head.specs.declared.header.Header.TheInside.{Inside}
+use Rattle.tlv_head.specs.declared.header.HeaderFields.{HeaderFields}
 
 abbrev pub header_value_of : Inside → HeaderValue
 header_value_of h = record {
@@ -30,13 +32,22 @@ stored_header h = record {
   length_octet = slice_index h.lengths 1;
 }
 
--- the identifier has at most ten octets, and the header more, at most 137
-abbrev pub IsWithinRoom : Inside → Type 0
-IsWithinRoom h = (h.id_len < length h.raw.items) × (h.id_len ≤ 10) × (length h.raw.items ≤ 137)
+-- what is said beside the octets
+abbrev pub fields_in : Inside → HeaderFields
+fields_in h = record {
+  offset = h.offset;
+  named = h.named;
+  class = h.class;
+  constructed = h.constructed;
+  number = h.number;
+  size = h.size;
+  id_len = h.id_len;
+}
 
--- and the octets that are kept beside them are the second ones of the identifier and of the length
+-- the octets suit what is said, and the two that are kept beside them are the second ones of the identifier and of the
+-- length
 abbrev pub HeaderFieldsAgree : Inside → Type 0
 HeaderFieldsAgree h =
-    IsWithinRoom h
+    Suits (fields_in h) h.raw.items
     × (h.number_octet ≡ slice_index (take h.id_len h.raw.items) 1)
     × (h.length_octet ≡ slice_index (drop h.id_len h.raw.items) 1)

@@ -7,7 +7,7 @@ use Rattle.tlv_head.specs.HeadReaderState.{HeadReaderState}
 use Rattle.tlv_head.specs.Push.{Pushes}
 use Rattle.tlv_head.specs.declared.header.HeaderFields.{HeaderFields}
 use Rattle.tlv_head.specs.ReadHeader.{BeginsWithFields}
-use Rattle.tlv_head.specs.Refusal.{BeginsNoHeader, BeginsWith, BeginsWithNoHeader, IsFront, IsRefusedOctet}
+use Rattle.tlv_head.specs.Refusal.{NoHeaderBeginsWith, BeginsWith, BeginsWithNoHeader, IsFront, IsRefusedOctet}
 
 -- two headers with which an input begins at one offset are the same, and so is what follows them
 abbrev pub OctetsBeginOneHeader : Type 0
@@ -21,7 +21,7 @@ HeadersAreNoFronts = (h : HeaderValue) → IsHeader h → IsFront (octets_of h) 
 -- if an octet is refused with F06 to F09, no header begins with the octets up to it, that one included
 abbrev pub RefusalsAreFinal : Type 0
 RefusalsAreFinal = (code : FaultCode) (octets : List ℕ) (x : ℕ) → IsRefusedOctet octets x code
-    → BeginsNoHeader (octets ++ x ∷ [])
+    → NoHeaderBeginsWith (octets ++ x ∷ [])
 
 -- and no input that goes on after them begins with a header
 abbrev pub RefusedInputsBeginWithNone : Type 0
@@ -43,8 +43,8 @@ OctetsGoOnOrAreRefused = (octets : List ℕ) (x : ℕ) → x < 256 → (octets �
     → IsFront (octets ++ x ∷ []) ⊎ (AreHeaderOctets (octets ++ x ∷ []) ⊎ IsRefusable octets x)
 
 -- what a reader returns is determined by what it stands for, the octet, the room and the depth
-abbrev pub PushesHaveOneAnswer : Type 0
-PushesHaveOneAnswer = (old new other : HeadReaderState) (x : ℕ) (room : Option ℕ) (depth : ℕ) (a b : Head)
+abbrev pub PushesReturnOneHead : Type 0
+PushesReturnOneHead = (old new other : HeadReaderState) (x : ℕ) (room : Option ℕ) (depth : ℕ) (a b : Head)
     → Pushes old x room depth new a → Pushes old x room depth other b → a ≡ b
 
 -- what `read_header` finds is determined by the octets and where they are

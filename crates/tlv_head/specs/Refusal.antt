@@ -14,8 +14,8 @@ pub record IsFront (octets : List ℕ) : Type 0 where
   pub front : octets ++ more ≡ octets_of head
 
 -- octets with which no header begins
-abbrev pub BeginsNoHeader : List ℕ → Type 0
-BeginsNoHeader octets = (h : HeaderValue) (more : List ℕ) → IsHeader h → octets ++ more ≡ octets_of h → ⊥
+abbrev pub NoHeaderBeginsWith : List ℕ → Type 0
+NoHeaderBeginsWith octets = (h : HeaderValue) (more : List ℕ) → IsHeader h → octets ++ more ≡ octets_of h → ⊥
 
 -- the octets begin with this header, which is at that offset
 pub record BeginsWith (input : List ℕ) (at : ℕ) (is_named : Bool) (h : HeaderValue) : Type 0 where

@@ -94,7 +94,7 @@ impl Model for Header {
       number = h.number;
       size = h.size;
       raw = record { items = take-append-drop h.id_len h.raw.items i };
-      id_len = length-take-le h.id_len h.raw.items (le_of_lt k.0.0) i;
+      id_len = length-take-le h.id_len h.raw.items (le_of_lt k.0.identifier) i;
       named = h.named;
       number_octet = sym k.1 i;
       length_octet = sym k.2 i;
@@ -103,13 +103,11 @@ impl Model for Header {
 
 impl HeaderFields {
     ghost use Rattle.std.specs.Prelude.{◌≡◌};
-    ghost use Rattle.tlv_head.specs.Header.{is_wrapper};
+    ghost use Rattle.tlv_head.specs.Fields.{fields_wrap};
 
     /// [`Header::wraps`], of the header with these fields.
     pub fn wraps(&self) -> bool
-        ensures { result
-            ≡ is_wrapper self.now.named self.now.class self.now.constructed
-            self.now.number self.now.size }
+        ensures { result ≡ fields_wrap self.now }
     {
         is_wrapper(
             self.named,
@@ -126,7 +124,8 @@ impl Header {
     ghost use Rattle.tlv_head.specs.Header.{octets_of, wraps};
     ghost use Rattle.tlv_head.specs.Fields.{Suits, fields_of, header_with};
 
-    /// The header with these fields and octets.
+    /// The header with these fields and octets: at most 137, of which at most ten, and not all, are the identifier.
+    /// That the octets say these fields is for the caller to see to, as [`read_header`](crate::read_header) does.
     #[inline]
     pub fn new(fields: &HeaderFields, octets: &[u8]) -> Header
         requires { Suits fields.now octets.now }

@@ -1,5 +1,5 @@
 //! Laws of the definitions: each is the contract of a function that does nothing.
-ghost use Rattle.tlv_head.specs.Laws.{HeadersAreNoFronts, HeadersHaveOneReading, OctetsBeginOneHeader, OctetsGoOnOrAreRefused, PushesHaveOneAnswer, RefusalsAreFinal, RefusedInputsBeginWithNone};
+ghost use Rattle.tlv_head.specs.Laws.{HeadersAreNoFronts, HeadersHaveOneReading, OctetsBeginOneHeader, OctetsGoOnOrAreRefused, PushesReturnOneHead, RefusalsAreFinal, RefusedInputsBeginWithNone};
 ghost use Rattle.tlv_head.specs.Shortest.{HeadersHaveAShortest, ShortestHeadersAreOne, ShortestHeadersAreShortest};
 
 /// Octets begin with one header at most: two headers that are at one offset and are both fronts of
@@ -30,8 +30,8 @@ pub fn octets_go_on_or_are_refused()
 {}
 
 /// What [`HeadReader::push`](crate::HeadReader::push) promises leaves it one result.
-pub fn one_answer()
-    ensures { PushesHaveOneAnswer }
+pub fn one_head()
+    ensures { PushesReturnOneHead }
 {}
 
 /// What [`read_header`](crate::read_header) promises leaves it one header and one number of octets.

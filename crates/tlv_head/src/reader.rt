@@ -71,6 +71,9 @@ impl HeadReader {
     /// element, this octet included (`None`: there is no such element), and `depth` the number of
     /// open elements.
     ///
+    /// The header is not whole yet ([`HeadReader::done`]), its offset at most 2^40, and `depth` at most 128. A first
+    /// octet is not `00`, and its room not 0.
+    ///
     /// [`Head::Whole`] comes exactly with the octet that completes a header whose element may stand
     /// there. [`Head::Refused`] leaves the reader as it was; the refusals are decided in this order:
     /// Overrun if the bound is reached; TagTooLong, ReservedLength, IndefinitePrimitive and

@@ -37,10 +37,10 @@ abbrev pub next_count : ℕ → ℕ
 next_count n = min (n + 1) (2 ^ 64 - 1)
 
 module _ {T E : Type 0} where
-  -- the failures after a call with this result; the count stops at 2^64 - 1
+  -- how many calls have failed after one with this result
   abbrev pub failures_after : Result T E → ℕ → ℕ
   failures_after (Ok x) before = before
-  failures_after (Err e) before = min (before + 1) (2 ^ 64 - 1)
+  failures_after (Err e) before = next_count before
 
 module _ {E : Type 0} where
   -- what a read with this result gave

@@ -15,7 +15,7 @@ module _ {D : Type 0} where
   buffer_of out = out.held
 
 module _ {T E : Type 0} where
-  -- one call that hands octets to a drain: all of them, or, if it fails, a front of them that is not all
+  -- one call that hands octets to a drain: all of them, or, if it fails, a prefix of them that is not all
   pub record Sends (old new : DrainState) (octets : List ℕ) (result : Result T E) : Type 0 where
     pub sent : List ℕ
     pub left : List ℕ
@@ -25,8 +25,8 @@ module _ {T E : Type 0} where
     pub not_all : OnErr result (left ≢ [])
     pub failures : new.failures ≡ failures_after result old.failures
 
-  -- a call that puts octets to an `Out`. The drain takes a front of what was held and then these, and what it had stays
-  -- in front of that; what it does not take is held. If the call fails that is lost, one octet or more
+  -- a call that puts octets to an `Out`. The drain takes a prefix of what was held and then these, after what it
+  -- had; what it does not take is held. If the call fails that is lost, one octet or more
   pub record Puts {D : Type 0} (state_of : D → DrainState)
       (old new : Out D) (octets : List ℕ) (result : Result T E)
       : Type 0 where

@@ -92,10 +92,11 @@ impl Held {
         self.len += count;
     }
 
-    /// Adds octets, if there is room for them.
+    /// Adds octets, if there is room for them, and else nothing.
     #[inline]
-    pub fn push(&mut self, octets: &[u8])
-        ensures { AddsIfRoom self.old self.new octets.now }
+    pub fn add_if_room(&mut self, octets: &[u8])
+        ensures added { AddsIfRoom self.old self.new octets.now }
+        ensures left { (HasRoomFor self.old (length octets.now) → ⊥) → self.new ≡ self.old }
     {
         if octets.len() <= self.room() {
             self.add(octets);

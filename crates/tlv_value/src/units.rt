@@ -61,7 +61,7 @@ fn write_part(held: &mut Held, kind: Kind, octets: &[u8]) -> usize
 {
     let plain = plain_size(kind, octets);
     if plain > 0 {
-        held.push(&octets[..plain]);
+        held.add_if_room(&octets[..plain]);
         return plain;
     }
     let size = unit_size(kind, octets);
@@ -146,9 +146,9 @@ fn write_printable(held: &mut Held, octet: u8)
     ensures { AddsIfRoom held.old held.new (printable_text octet) }
 {
     if octet == b'"' || octet == b'\\' {
-        held.push(&[b'\\', octet]);
+        held.add_if_room(&[b'\\', octet]);
     } else {
-        held.push(&[octet]);
+        held.add_if_room(&[octet]);
     }
 }
 
@@ -158,8 +158,8 @@ fn write_escaped_octet(held: &mut Held, octet: u8)
 {
     let mut pair = [0; 2];
     let _ = hex::encode_to_slice([octet], &mut pair);
-    held.push(b"\\x");
-    held.push(&pair);
+    held.add_if_room(b"\\x");
+    held.add_if_room(&pair);
 }
 
 /// Adds the number that up to four octets make, without leading zeros.
@@ -170,9 +170,9 @@ fn write_escaped_number(held: &mut Held, octets: &[u8])
     let mut digits = [0; 8];
     let digits = &mut digits[..2 * octets.len()];
     let _ = hex::encode_to_slice(octets, digits);
-    held.push(b"\\u{");
-    held.push(significant(digits));
-    held.push(b"}");
+    held.add_if_room(b"\\u{");
+    held.add_if_room(significant(digits));
+    held.add_if_room(b"}");
 }
 
 /// Digits without the zeros in front of them, but for the last.

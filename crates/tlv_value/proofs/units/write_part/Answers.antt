@@ -9,7 +9,7 @@ returns-then-plain-gt0-clause-text c =
     let n : ℕ = c.plain_size-plain.result in
     let plain = c.plain_size-plain.ensures.plain in (
       take n c.args.octets.now,
-      (λ h. c.push.ensures h),
+      (λ h. c.add_if_room.ensures.added h),
       plain-units c.args.kind n c.args.octets.now c.plain_size-plain.ensures.within (plain.0 c.if-plain-gt0.true) plain.1,
     )
 
