@@ -1,10 +1,38 @@
--- There is a cut of any octets: the rows that they make one after another.
+-- There is a cut of any octets: the rows that they make one after another, octet by octet.
 use Rattle.std.proofs.Common.{◌≡◌, ◌≢◌, ◌⊎◌, inl, inr, ℕ, zero, suc, ◌+◌, ◌<◌, ◌≤◌, Bool, true, false, List, [], ◌∷◌, ◌++◌, length, get_or, refl, ap, ◌∙◌, arith, ⊎_elim, append_assoc, length-append}
-use Rattle.std.specs.Prelude.{eqb, if◌then◌else◌}
+use Rattle.std.specs.Prelude.{eqb, nat_le, if◌then◌else◌}
 use Rattle.std.proofs.lemmas.Bool.{eqb-true, leb-true}
 use Rattle.std.proofs.lemmas.Bool.Decides.{nat_tests}
-use Rattle.tlv_io.specs.Cuts.{AreFull, AreRows, Cut, IsCut, IsFull, IsRow, octets_of_rows}
-use Rattle.tlv_io.specs.RowsSoFar.{full_rows_by, has_room_by, last_rows, open_row_by}
+use Rattle.tlv_io.specs.Cuts.{AreFull, AreRows, Cut, IsCut, IsFull, IsRow, last_rows, octets_of_rows}
+
+-- ---- octet by octet
+
+module _ (size : ℕ) (wanted : ℕ → ℕ) where
+  -- the octet has room in a row of so many octets
+  abbrev pub has_room_by : ℕ → ℕ → Bool
+  has_room_by octets x = nat_le (octets + wanted x) size
+
+  -- the row is full with one octet more
+  abbrev lacks_one_octet : List ℕ → Bool
+  lacks_one_octet row = eqb (length row + 1) size
+
+  -- the rows that octets fill after a row that has begun: a row is full with its last octet, or with the octet after it
+  -- that has no room in it
+  abbrev pub rows_filled_by : List ℕ → List ℕ → List (List ℕ)
+  rows_filled_by row [] = []
+  rows_filled_by row (x ∷ xs) =
+      let more = row ++ x ∷ [] in
+      if has_room_by (length row) x
+      then (if lacks_one_octet row then more ∷ rows_filled_by [] xs else rows_filled_by more xs)
+      else row ∷ rows_filled_by (x ∷ []) xs
+
+  -- the row that has then begun
+  abbrev pub row_begun_by : List ℕ → List ℕ → List ℕ
+  row_begun_by row [] = row
+  row_begun_by row (x ∷ xs) =
+      if has_room_by (length row) x
+      then (if lacks_one_octet row then row_begun_by [] xs else row_begun_by (row ++ x ∷ []) xs)
+      else row_begun_by (x ∷ []) xs
 
 -- ---- premises
 
@@ -41,14 +69,11 @@ get-last : (row : List ℕ) (x : ℕ) → get_or (row ++ x ∷ []) (length row) 
 get-last [] x = refl
 get-last (y ∷ row) x = get-last row x
 
--- ---- the cut
+-- ---- a row with room
 
-module _ (size : ℕ) (wanted : ℕ → ℕ) (some : 1 ≤ size) (fits : (x : ℕ) → wanted x ≤ size) where
-  first-room : (x : ℕ) → has_room_by size wanted 0 x ≡ true
-  first-room x = room-first size wanted fits x
-
+module _ (size : ℕ) (wanted : ℕ → ℕ) where
   -- no octet wants more than what a row has left
-  abbrev AllFit : List ℕ → Type 0
+  abbrev pub AllFit : List ℕ → Type 0
   AllFit row = (i : ℕ) → i < length row → i + wanted (get_or row i 0) ≤ size
 
   split-at : (i n : ℕ) (b : Bool) → eqb i n ≡ b → i < n + 1 → (i < n) ⊎ (i ≡ n)
@@ -58,7 +83,7 @@ module _ (size : ℕ) (wanted : ℕ → ℕ) (some : 1 ≤ size) (fits : (x : �
   split : (i n : ℕ) → i < n + 1 → (i < n) ⊎ (i ≡ n)
   split i n h = split-at i n (eqb i n) refl h
 
-  fit-more : (row : List ℕ) (x : ℕ) → AllFit row → has_room_by size wanted (length row) x ≡ true → AllFit (row ++ x ∷ [])
+  pub fit-more : (row : List ℕ) (x : ℕ) → AllFit row → has_room_by size wanted (length row) x ≡ true → AllFit (row ++ x ∷ [])
   fit-more row x f r i h =
       let room : length row + wanted x ≤ size =
       leb-true (length row + wanted x) size r in
@@ -67,6 +92,12 @@ module _ (size : ℕ) (wanted : ℕ → ℕ) (some : 1 ≤ size) (fits : (x : �
       (λ (g : i < length row). rw (get-left row x i g) (f i g))
       (λ (g : i ≡ length row). rw (g, get-last row x) room)
       (split i (length row) before)
+
+-- ---- the cut
+
+module _ (size : ℕ) (wanted : ℕ → ℕ) (some : 1 ≤ size) (fits : (x : ℕ) → wanted x ≤ size) where
+  first-room : (x : ℕ) → has_room_by size wanted 0 x ≡ true
+  first-room x = room-first size wanted fits x
 
   abbrev HeadIs : ℕ → List (List ℕ) → Type 0
   HeadIs x [] = ⊥
@@ -78,7 +109,7 @@ module _ (size : ℕ) (wanted : ℕ → ℕ) (some : 1 ≤ size) (fits : (x : �
     full : AreFull size wanted rows
     head : 1 ≤ length row → HeadIs (get_or row 0 0) rows
 
-  is-row : (row : List ℕ) → AllFit row → length row ≤ size → 1 ≤ length row → IsRow size wanted row
+  is-row : (row : List ℕ) → AllFit size wanted row → length row ≤ size → 1 ≤ length row → IsRow size wanted row
   is-row row f h s = record { some = some-not row s; short = h; whole = f }
 
   full-before : (row : List ℕ) (rows : List (List ℕ)) → AreFull size wanted rows
@@ -91,7 +122,7 @@ module _ (size : ℕ) (wanted : ℕ → ℕ) (some : 1 ≤ size) (fits : (x : �
       → HeadIs x rows → get_or next 0 0 ≡ x
   head-of x rows next more e h = rw e at h
 
-  cut-end : (row : List ℕ) → AllFit row → length row < size → CutOn row [] (last_rows row)
+  cut-end : (row : List ℕ) → AllFit size wanted row → length row < size → CutOn row [] (last_rows row)
   cut-end [] f h = record { together = refl; each = tt; full = tt; head = λ s. absurd (omega arith) }
   cut-end (x ∷ row) f h = record {
     together = refl;
@@ -107,19 +138,19 @@ module _ (size : ℕ) (wanted : ℕ → ℕ) (some : 1 ≤ size) (fits : (x : �
 
   -- the rows of octets after a row that has begun
   abbrev rows_after_row : List ℕ → List ℕ → List (List ℕ)
-  rows_after_row row xs = full_rows_by size wanted row xs ++ last_rows (open_row_by size wanted row xs)
+  rows_after_row row xs = rows_filled_by size wanted row xs ++ last_rows (row_begun_by size wanted row xs)
 
   cut-at : (row : List ℕ) (x : ℕ) (xs : List ℕ) (room last : Bool)
       → has_room_by size wanted (length row) x ≡ room → eqb (length row + 1) size ≡ last
-      → AllFit row → length row < size
-      → ((r : List ℕ) → AllFit r → length r < size → CutOn r xs (rows_after_row r xs))
+      → AllFit size wanted row → length row < size
+      → ((r : List ℕ) → AllFit size wanted r → length r < size → CutOn r xs (rows_after_row r xs))
       → CutOn row (x ∷ xs)
       ((if room
-      then (if last then (row ++ x ∷ []) ∷ full_rows_by size wanted [] xs else full_rows_by size wanted (row ++ x ∷ []) xs)
-      else row ∷ full_rows_by size wanted (x ∷ []) xs)
+      then (if last then (row ++ x ∷ []) ∷ rows_filled_by size wanted [] xs else rows_filled_by size wanted (row ++ x ∷ []) xs)
+      else row ∷ rows_filled_by size wanted (x ∷ []) xs)
       ++ last_rows (if room
-      then (if last then open_row_by size wanted [] xs else open_row_by size wanted (row ++ x ∷ []) xs)
-      else open_row_by size wanted (x ∷ []) xs))
+      then (if last then row_begun_by size wanted [] xs else row_begun_by size wanted (row ++ x ∷ []) xs)
+      else row_begun_by size wanted (x ∷ []) xs))
   cut-at row x xs true true r l f h more =
       let z = some in
       let n : length (row ++ x ∷ []) ≡ size =
@@ -128,14 +159,14 @@ module _ (size : ℕ) (wanted : ℕ → ℕ) (some : 1 ≤ size) (fits : (x : �
       let rows = rows_after_row [] xs in
       record {
         together = ap (λ (t : List ℕ). (row ++ x ∷ []) ++ t) c.together ∙ append_assoc row (x ∷ []) xs;
-        each = (is-row (row ++ x ∷ []) (fit-more row x f r) (omega (arith, n)) (omega (arith, n)), c.each);
+        each = (is-row (row ++ x ∷ []) (fit-more size wanted row x f r) (omega (arith, n)) (omega (arith, n)), c.each);
         full = full-before (row ++ x ∷ []) rows c.full (λ next rest e. inl n);
         head = λ s. head-more row x ((row ++ x ∷ []) ∷ rows) refl s;
       }
   cut-at row x xs true false r l f h more =
       let e : length row + 1 < size = grind (arith, nat_tests) in
       let n : length (row ++ x ∷ []) < size = omega (arith, length-append row (x ∷ [])) in
-      let c = more (row ++ x ∷ []) (fit-more row x f r) n in
+      let c = more (row ++ x ∷ []) (fit-more size wanted row x f r) n in
       let rows = rows_after_row (row ++ x ∷ []) xs in
       record {
         together = c.together ∙ append_assoc row (x ∷ []) xs;
@@ -147,7 +178,7 @@ module _ (size : ℕ) (wanted : ℕ → ℕ) (some : 1 ≤ size) (fits : (x : �
       let z = some in
       let s : 1 ≤ length row =
       nil-or row (λ e. let q = first-room x in let p : has_room_by size wanted 0 x ≡ false = rw e at r in cc) in
-      let fit : AllFit (x ∷ []) = fit-more [] x (λ i g. absurd (omega arith)) (first-room x) in
+      let fit : AllFit size wanted (x ∷ []) = fit-more size wanted [] x (λ i g. absurd (omega arith)) (first-room x) in
       let c = more (x ∷ []) fit (omega arith) in
       let rows = rows_after_row (x ∷ []) xs in
       let none : size < length row + wanted x = grind (arith, nat_tests) in
@@ -160,7 +191,7 @@ module _ (size : ℕ) (wanted : ℕ → ℕ) (some : 1 ≤ size) (fits : (x : �
         head = λ t. refl;
       }
 
-  cut-on : (row xs : List ℕ) → AllFit row → length row < size → CutOn row xs (rows_after_row row xs)
+  cut-on : (row xs : List ℕ) → AllFit size wanted row → length row < size → CutOn row xs (rows_after_row row xs)
   cut-on row [] f h = cut-end row f h
   cut-on row (x ∷ xs) f h =
       cut-at row x xs (has_room_by size wanted (length row) x) (eqb (length row + 1) size) refl refl f h

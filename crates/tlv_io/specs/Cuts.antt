@@ -6,6 +6,11 @@ abbrev pub octets_of_rows : List (List ℕ) → List ℕ
 octets_of_rows [] = []
 octets_of_rows (row ∷ rows) = row ++ octets_of_rows rows
 
+-- a last row, if it has octets
+abbrev pub last_rows : List ℕ → List (List ℕ)
+last_rows [] = []
+last_rows (x ∷ xs) = (x ∷ xs) ∷ []
+
 module _ (size : ℕ) (wanted : ℕ → ℕ) where
   -- a row has octets, no more than it has room for, and none is split from those that want to stand with it: none of
   -- its octets wants more than the row has left

@@ -3,6 +3,5 @@ pub mod MemDrain
 pub mod MemSource
 pub mod LineTexts
 pub mod Cuts
-pub mod RowsSoFar
 pub mod Out
 pub mod Private

@@ -150,6 +150,9 @@ impl<'n> Lines<'n> {
         ensures puts { Puts D.state out.old out.new
             (each_octet lines_octet_step self.old octets.now).put result }
     {
+        if octets.is_empty() {
+            return Ok(());
+        }
         self.offset = self.offset.saturating_add(octets.len() as u64);
         put_bytes(self.is_open, &mut self.value, octets, out)
     }

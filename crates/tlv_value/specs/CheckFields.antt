@@ -1,7 +1,9 @@
 -- What the fields of a `ValueCheck` say.
-use Rattle.std.specs.Prelude.{◌<◌, ◌≤◌, ◌∷◌, [], length, take}
+use Rattle.std.specs.Prelude.{◌<◌, ◌≤◌, ◌∷◌, [], take}
 use Rattle.tlv_value.specs.declared.check.ValueCheck.TheInside.{Inside}
+use Rattle.tlv_value.specs.declared.kind.Kind.TheVariants.{Utf8}
 use Rattle.tlv_value.specs.CheckState.{CheckState}
+use Rattle.tlv_value.specs.OpenRow.{IsOpenRow}
 
 abbrev pub check_state_of : Inside → CheckState
 check_state_of t = record {
@@ -17,8 +19,8 @@ check_state_of t = record {
   time = t.time.items;
 }
 
--- the row that has begun is not full, and two octets at most are kept
+-- the row of a UTF8String that has begun is kept (of any other type none), and two octets at most
 pub record HasOpenRow (t : Inside) : Type 0 where
-  pub begun : length t.row.items < 64
+  pub begun : IsOpenRow Utf8 t.row.items
   pub last : t.last < 256
   pub known : t.known ≤ 2

@@ -6,7 +6,7 @@ use Rattle.tlv_value.specs.declared.kind.Kind.TheVariants.{Utf8}
 use Rattle.tlv_value.specs.declared.finding.Finding.{Finding}
 use Rattle.tlv_value.specs.Checks.{allows_octet, every, is_padded_after, last_octet_of}
 use Rattle.tlv_value.specs.CheckNotes.{Notes, is_object, universal_findings}
-use Rattle.tlv_value.specs.RowsSoFar.{full_rows, open_row}
+use Rattle.tlv_value.specs.Rows.{full_rows, open_row}
 use Rattle.tlv_value.specs.Types.{bit_string, octet_string}
 
 abbrev pub all_utf8 : List (List ℕ) → Bool

@@ -5,8 +5,8 @@ pub mod Number
 pub mod Arcs
 pub mod Times
 pub mod Cuts
-pub mod RowsSoFar
 pub mod Rows
+pub mod OpenRow
 pub mod Units
 pub mod Layout
 pub mod Value

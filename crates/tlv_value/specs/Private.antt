@@ -6,4 +6,5 @@ pub mod ObjectLines
 pub mod Plain
 pub mod Room
 pub mod Rows
+pub mod RowSteps
 pub mod PrimitiveLines

@@ -1,5 +1,5 @@
 -- The rows of long contents.
-use Rattle.std.specs.Prelude.{ℕ, ◌≤◌, Bool, eqb, if◌then◌else◌, List, [], ◌∷◌, length, refl}
+use Rattle.std.specs.Prelude.{ℕ, ◌≤◌, Bool, eqb, if◌then◌else◌, List, [], ◌∷◌, ◌++◌, length, refl}
 use Rattle.std.specs.Int.{is_in_range}
 use Rattle.std.proofs.lemmas.Bool.{leb-true}
 use Rattle.tlv_io.specs.Cuts.{Cut}
@@ -35,6 +35,23 @@ full_rows_in kind [] = []
 full_rows_in kind (row ∷ []) = if eqb (length row) (row_size kind) then row ∷ [] else []
 full_rows_in kind (row ∷ next ∷ rows) = row ∷ full_rows_in kind (next ∷ rows)
 
+-- the octets of the last row, if it is not full
+abbrev pub open_row_in : Kind → List (List ℕ) → List ℕ
+open_row_in kind [] = []
+open_row_in kind (row ∷ []) = if eqb (length row) (row_size kind) then [] else row
+open_row_in kind (row ∷ next ∷ rows) = open_row_in kind (next ∷ rows)
+
 -- the rows that are known: all if the octets are whole, and before that the full ones
 abbrev pub known_rows : Bool → Kind → List ℕ → List (List ℕ)
 known_rows whole kind octets = if whole then rows_of kind octets else full_rows_in kind (rows_of kind octets)
+
+-- ---- Rows as octets come. A `ValueText` and a `ValueCheck` keep the row that has begun from one piece of contents to the
+-- next: with the octets of the next piece behind it, it is cut anew.
+
+-- the rows that are then full
+abbrev pub full_rows : Kind → List ℕ → List ℕ → List (List ℕ)
+full_rows kind row octets = full_rows_in kind (rows_of kind (row ++ octets))
+
+-- the octets of the row that has then begun
+abbrev pub open_row : Kind → List ℕ → List ℕ → List ℕ
+open_row kind row octets = open_row_in kind (rows_of kind (row ++ octets))

@@ -1,9 +1,9 @@
 -- What the fields of a `ValueText` say.
-use Rattle.std.specs.Prelude.{◌≡◌, ◌+◌, ◌<◌, ◌≤◌, true, false, length, []}
+use Rattle.std.specs.Prelude.{◌≡◌, ◌+◌, ◌≤◌, true, false, length, []}
 use Rattle.tlv_value.specs.declared.kind.Kind.TheVariants.{Bits}
 use Rattle.tlv_value.specs.declared.text.ValueText.TheInside.{Inside}
 use Rattle.tlv_value.specs.Kind.{kind_of}
-use Rattle.tlv_value.specs.Cuts.{row_size}
+use Rattle.tlv_value.specs.OpenRow.{IsOpenRow}
 use Rattle.tlv_value.specs.TextState.{TextState}
 use Rattle.tlv_value.specs.Value.{is_long}
 
@@ -21,8 +21,8 @@ text_state_of t = record {
 pub record TextFieldsAgree (t : Inside) : Type 0 where
   pub kind : t.value.kind ≡ kind_of t.value.class t.value.number
   pub counted : t.rows + length t.row.items + t.left ≤ t.value.size
-  -- of a long value the row that has begun is not full
-  pub begun : is_long t.value.kind t.value.size ≡ true → length t.row.items < row_size t.value.kind
+  -- of a long value the row that has begun
+  pub begun : is_long t.value.kind t.value.size ≡ true → IsOpenRow t.value.kind t.row.items
   -- of any other all octets that have come
   pub held : is_long t.value.kind t.value.size ≡ false → length t.row.items + t.left ≡ t.value.size
   -- before the first octet of a long BIT STRING

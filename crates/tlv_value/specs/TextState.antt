@@ -4,13 +4,13 @@ use Rattle.std.specs.List.{enumerate_from}
 use Rattle.tlv_head.specs.declared.header.Class.{Class}
 use Rattle.tlv_head.specs.Header.{HeaderValue, announced_length}
 use Rattle.tlv_head.specs.Tag.{tag_text_of}
-use Rattle.tlv_io.specs.RowsSoFar.{last_rows}
+use Rattle.tlv_io.specs.Cuts.{last_rows}
 use Rattle.tlv_value.specs.declared.kind.Kind.{Kind}
 use Rattle.tlv_value.specs.declared.kind.Kind.TheVariants.{Bits}
 use Rattle.tlv_value.specs.declared.layout.Layout.{Layout}
 use Rattle.tlv_value.specs.Kind.{kind_of}
 use Rattle.tlv_value.specs.Layout.{columns, line, row_line}
-use Rattle.tlv_value.specs.RowsSoFar.{full_rows, open_row}
+use Rattle.tlv_value.specs.Rows.{full_rows, open_row}
 use Rattle.tlv_value.specs.KindValues.{kind_value, long_text, row_octets}
 use Rattle.tlv_value.specs.Value.{NameOf, Value, is_long, long_value, row_text, whole_value}
 

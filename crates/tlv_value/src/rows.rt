@@ -1,8 +1,7 @@
 //! Where a row of long contents ends.
 ghost use Rattle.std.specs.Prelude.{◌≡◌, ◌+◌, ◌<◌, ◌≤◌, false, length, slice_index};
 ghost use Rattle.tlv_value.specs.Cuts.{row_size};
-ghost use Rattle.tlv_value.specs.Private.Room.{HaveRoom, utf8_length};
-ghost use Rattle.tlv_value.specs.RowsSoFar.{has_room};
+ghost use Rattle.tlv_value.specs.Private.Room.{HaveRoom, has_room, utf8_length};
 
 use crate::kind::Kind;
 

@@ -14,7 +14,7 @@ use Rattle.tlv_show.specs.DumpStep.{DumpState, dump_step}
 use Rattle.tlv_show.specs.FinderState.{FinderState, FinderValue, find_begin, find_bytes, find_close, find_end, find_open}
 use Rattle.tlv_show.specs.Laws.{PrimitivesAreShown}
 use Rattle.tlv_show.specs.LinesStep.{offset_after, value_after, value_contents_lines}
-use Rattle.tlv_show.proofs.DumpLemmas.Dumped.{dumped_bytes, of_bytes}
+use Rattle.tlv_show.proofs.DumpLemmas.Dumped.{dumped_bytes, of_bytes, rested-new}
 use Rattle.tlv_show.proofs.DumpLemmas.DumpSteps.{all_on, each-shown}
 use Rattle.tlv_show.proofs.DumpLemmas.DumpTexts.{primitives_shown}
 use Rattle.tlv_show.proofs.FindingLemmas.FinderItems.{primitive-found}
@@ -80,7 +80,7 @@ primitive-by l s h c =
     let parts : Effect LinesState → Effect DumpState =
     λ k. let d = and_then b (λ z. if_on k.goes k (λ w. effect_of lines_step w (End ∷ []))) in shows (pair d.state f.state) (first ++ (d.put ++ texts l.layout f)) in
     let o : Effect LinesState = of_bytes b.state (offset_after b.state.offset (length c)) (value_after b.state.value c) (value_contents_lines b.state.value c) in
-    let is : m ≡ o = dumped_bytes b.state c in
+    let is : m ≡ o = dumped_bytes b.state c (λ e. rested-new h l.layout) in
     ap (λ (k : Effect DumpState). record {
       state = (if_on k.goes k (λ w. effect_of dump_step w (End ∷ []))).state;
       put = (first ++ b.put) ++ (if_on k.goes k (λ w. effect_of dump_step w (End ∷ []))).put;
@@ -111,7 +111,7 @@ part-by l s h c =
     let m = each_octet lines_octet_step b.state c in
     let first = texts l.layout (find_begin s h) in
     let o : Effect LinesState = of_bytes b.state (offset_after b.state.offset (length c)) (value_after b.state.value c) (value_contents_lines b.state.value c) in
-    let is : m ≡ o = dumped_bytes b.state c in
+    let is : m ≡ o = dumped_bytes b.state c (λ e. rested-new h l.layout) in
     ap (λ (k : Effect DumpState). (first ++ b.put) ++ (if_on k.goes k (λ w. effect_of dump_step w [])).put) (each-shown (pair b.state (find_begin s h).state) c)
     ∙ append_assoc first b.put (m.put ++ [])
     ∙ ap (λ (k : Effect LinesState). first ++ (b.put ++ (k.put ++ []))) is

@@ -23,7 +23,7 @@ use Rattle.tlv_show.specs.LinesStep.{LinesState, lines_step, offset_after, past_
 use Rattle.tlv_show.specs.EndPlace.{end_place}
 use Rattle.tlv_show.specs.Lines.{close_line, opening_line, padding_line}
 use Rattle.tlv_show.proofs.DumpLemmas.HolderLine.{holder_line}
-use Rattle.tlv_show.proofs.DumpLemmas.Dumped.{behind_put, dumped_bytes}
+use Rattle.tlv_show.proofs.DumpLemmas.Dumped.{behind_put, dumped_bytes, rested-new}
 use Rattle.tlv_show.proofs.DumpLemmas.Always.{all_on}
 
 -- offsets do not stop below 2^64
@@ -64,7 +64,7 @@ primitives_shown s h c size =
     let place_after : LinesState = record (past_header s h) { offset = offset_after (past_header s h).offset (length c); value = None } in
     let took = take-all (announced_length h.size) c (omega (arith, size)) in
     let none : announced_length h.size - length c ≡ 0 = omega (arith, size) in
-    ap (λ (k : Effect LinesState). behind_put (begin_lines t) (if_on k.goes k (λ w. effect_of lines_step w (End ∷ [])))) (dumped_bytes u c)
+    ap (λ (k : Effect LinesState). behind_put (begin_lines t) (if_on k.goes k (λ w. effect_of lines_step w (End ∷ [])))) (dumped_bytes u c (λ e. rested-new h s.layout))
     ∙ ap (λ (l : List ℕ). put_lines place_after (begin_lines t ++ (contents_lines t l ++ ((if eqb (announced_length h.size - length l) 0 then end_lines (finite.get s.names) (text_after t l) else []) ++ [])))) took
     ∙ ap (λ (n : ℕ). put_lines place_after (begin_lines t ++ (contents_lines t c ++ ((if eqb n 0 then end_lines (finite.get s.names) (text_after t c) else []) ++ [])))) none
     ∙ ap (put_lines place_after) (whole_shown (finite.get s.names) h s.layout c (sym size))
@@ -99,7 +99,7 @@ module _ (style : Layout) (names : Table) where
       → (effect_of lines_step (standing level at padded) (Begin h ∷ Bytes c ∷ [])).put ≡ open_lines h (at_level level) c
   part_shown level at padded h c size =
       let t : TextState = new_text h (at_level level) in
-      ap (λ (k : Effect LinesState). (behind_put (begin_lines t) (if_on k.goes k (λ w. effect_of lines_step w []))).put) (dumped_bytes (begun_in level at padded h) c)
+      ap (λ (k : Effect LinesState). (behind_put (begin_lines t) (if_on k.goes k (λ w. effect_of lines_step w []))).put) (dumped_bytes (begun_in level at padded h) c (λ e. rested-new h (at_level level)))
       ∙ ap (λ (l : List ℕ). begin_lines t ++ (contents_lines t l ++ [])) (take-all (announced_length h.size) c size)
       ∙ ap (λ (l : List ℕ). begin_lines t ++ l) (append-nil (contents_lines t c))
       ∙ sym (open-lines h (at_level level) c)

@@ -1,8 +1,11 @@
 -- What a dump makes of octets that come in pieces.
-use Rattle.std.proofs.Common.{◌≡◌, ◌+◌, ◌-◌, ◌<◌, ℕ, zero, suc, Bool, true, false, List, [], ◌∷◌, ◌++◌, length, take, refl, ap, ap₂, sym, ◌∙◌, arith, append-nil}
+use Rattle.std.proofs.Common.{◌≡◌, ◌+◌, ◌-◌, ◌<◌, ℕ, zero, suc, Bool, true, false, List, [], ◌∷◌, ◌++◌, length, take, refl, ap, ap₂, sym, ◌∙◌, arith, append-nil, length-append}
 use Rattle.std.proofs.lemmas.Grind.{common_steps}
+use Rattle.std.proofs.lemmas.List.{nil_from_length}
 use Rattle.std.specs.Prelude.{Option, Some, None}
-use Rattle.tlv_value.specs.TextState.{TextState, contents_lines, text_after}
+use Rattle.tlv_head.specs.Header.{HeaderValue}
+use Rattle.tlv_value.specs.declared.layout.Layout.{Layout}
+use Rattle.tlv_value.specs.TextState.{TextState, contents_lines, new_text, text_after}
 use Rattle.tlv_value.proofs.TextLemmas.Pieces.{after-nothing, new-nothing, pieces-join}
 use Rattle.tlv_walk.specs.Follow.{Effect, each_octet}
 use Rattle.tlv_show.specs.LinesStep.{LinesState, lines_octet_step, lines_padding_step, offset_after, put_lines, value_after, value_contents_lines}
@@ -35,9 +38,23 @@ value-join (Some t) x y =
     let j = pieces-join t (take t.left x) (take (t.left - length (take t.left x)) y) in
     (ap (λ (u : TextState). Some u) (j.0 ∙ ap (text_after t) (sym e)), ap (contents_lines t) e ∙ j.1)
 
-value-rest : (v : Option TextState) → (value_after v [] ≡ v) × (value_contents_lines v [] ≡ [])
-value-rest None = (refl, refl)
-value-rest (Some t) = (ap (λ (u : TextState). Some u) (ap (text_after t) (take-of-none t.left) ∙ after-nothing t), ap (contents_lines t) (take-of-none t.left) ∙ new-nothing t)
+-- no octets make no lines of it, and change nothing that is kept
+abbrev pub IsRested : Option TextState → Type 0
+IsRested v = (value_after v [] ≡ v) × (value_contents_lines v [] ≡ [])
+
+-- so it is behind an octet,
+rested-after : (v : Option TextState) (x : ℕ) → IsRested (value_after v (x ∷ []))
+rested-after v x =
+    let j = value-join v (x ∷ []) [] in
+    let put : List ℕ = value_contents_lines v (x ∷ []) in
+    let more : List ℕ = value_contents_lines (value_after v (x ∷ [])) [] in
+    (j.0, nil_from_length more (omega (arith, ap length j.1, length-append put more)))
+
+-- and of a primitive that begins
+pub rested-new : (h : HeaderValue) (layout : Layout) → IsRested (Some (new_text h layout))
+rested-new h layout =
+    let t : TextState = new_text h layout in
+    (ap (λ (u : TextState). Some u) (ap (text_after t) (take-of-none t.left) ∙ after-nothing h layout), ap (contents_lines t) (take-of-none t.left) ∙ new-nothing h layout)
   where
     take-of-none : (n : ℕ) → take {A = ℕ} n [] ≡ []
     take-of-none n = grind (arith, common_steps)
@@ -50,15 +67,15 @@ behind_put put u = record { state = u.state; put = put ++ u.put; goes = u.goes }
 abbrev pub of_bytes : LinesState → ℕ → Option TextState → List ℕ → Effect LinesState
 of_bytes s offset value put = put_lines (record s { offset = offset; value = value }) put
 
-pub dumped_bytes : (s : LinesState) (xs : List ℕ)
+pub dumped_bytes : (s : LinesState) (xs : List ℕ) → (xs ≡ [] → IsRested s.value)
     → each_octet lines_octet_step s xs ≡ of_bytes s (offset_after s.offset (length xs)) (value_after s.value xs) (value_contents_lines s.value xs)
-dumped_bytes s [] =
-    let r = value-rest s.value in
+dumped_bytes s [] rested =
+    let r = rested refl in
     ap (λ (n : ℕ). of_bytes s n s.value []) (sym (further-none s.offset))
     ∙ ap₂ (λ (v : Option TextState) (put : List ℕ). of_bytes s (offset_after s.offset 0) v put) (sym r.0) (sym r.1)
-dumped_bytes s (x ∷ xs) =
+dumped_bytes s (x ∷ xs) rested =
     let j = value-join s.value (x ∷ []) xs in
-    ap (behind_put (value_contents_lines s.value (x ∷ []))) (dumped_bytes (lines_octet_step s x).state xs)
+    ap (behind_put (value_contents_lines s.value (x ∷ []))) (dumped_bytes (lines_octet_step s x).state xs (λ e. rested-after s.value x))
     ∙ ap (λ (n : ℕ). of_bytes s n (value_after (value_after s.value (x ∷ [])) xs) (value_contents_lines s.value (x ∷ []) ++ value_contents_lines (value_after s.value (x ∷ [])) xs))
     (further-more s.offset 1 (length xs) ∙ ap (offset_after s.offset) (omega arith))
     ∙ ap₂ (λ (v : Option TextState) (put : List ℕ). of_bytes s (offset_after s.offset (length (x ∷ xs))) v put) j.0 (sym j.1)

@@ -13,7 +13,7 @@ use Rattle.tlv_value.specs.Checks.{allows, allows_octet, contents_conditions, ev
 use Rattle.tlv_value.proofs.CheckLemmas.CheckWords.{allows_both, is_padded_object}
 use Rattle.tlv_value.specs.CheckNotes.{Notes, finding_if, time_findings, universal_findings}
 use Rattle.tlv_value.specs.CheckState.{all_utf8, is_allowed_in, new_check_of, notes_each, notes_in, type_number, with_each, with_notes}
-use Rattle.tlv_value.specs.RowsSoFar.{full_rows, open_row}
+use Rattle.tlv_value.specs.Rows.{full_rows, open_row}
 use Rattle.tlv_value.specs.declared.kind.Kind.TheVariants.{Utf8}
 use Rattle.std.specs.Str.{is_utf8}
 use Rattle.tlv_value.proofs.CheckLemmas.EachNoted.{nothing-noted}

@@ -8,9 +8,9 @@ use Rattle.tlv_value.specs.CheckLaws.{ChecksJoin, FindingsEnd}
 use Rattle.tlv_value.specs.CheckState.{CheckState, all_utf8, check_after, new_check, new_check_of, notes_each, notes_front, notes_in, notes_time, type_number, with_each, with_front, with_notes, with_time}
 use Rattle.tlv_value.specs.Checks.{allows_octet, every, is_padded_after, last_octet_of}
 use Rattle.tlv_value.specs.CheckNotes.{is_object, universal_findings}
-use Rattle.tlv_value.specs.RowsSoFar.{full_rows, open_row}
+use Rattle.tlv_value.specs.Rows.{full_rows, open_row}
 use Rattle.tlv_value.proofs.CheckLemmas.CheckNotes.{noted-same}
-use Rattle.tlv_value.proofs.TextLemmas.Pieces.{rows-join}
+use Rattle.tlv_value.proofs.RowLemmas.OneCut.{rows-join}
 
 last-join : (before : ℕ) (x y : List ℕ) → last_octet_of (last_octet_of before x) y ≡ last_octet_of before (x ++ y)
 last-join before [] y = refl

@@ -6,7 +6,7 @@ use Rattle.tlv_value.specs.CheckNotes.{is_object}
 use Rattle.tlv_value.specs.CheckState.{CheckState, all_utf8, notes_each, with_each}
 use Rattle.tlv_value.specs.Checks.{allows_octet, every, is_padded_after, last_octet_of}
 use Rattle.tlv_value.specs.declared.kind.Kind.TheVariants.{Utf8}
-use Rattle.tlv_value.specs.RowsSoFar.{full_rows, open_row}
+use Rattle.tlv_value.specs.Rows.{full_rows, open_row}
 use Rattle.tlv_value.proofs.CheckLemmas.Noting.{every-other}
 
 and-true : (k : Bool) → (k && true) ≡ k

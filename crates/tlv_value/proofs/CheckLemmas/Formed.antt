@@ -1,19 +1,20 @@
 -- UTF-8, row by row.
-use Rattle.std.proofs.Common.{◌≡◌, ◌↔◌, ℕ, zero, suc, ◌+◌, ◌/◌, ◌%◌, ◌<◌, ◌≤◌, Bool, true, false, List, [], ◌∷◌, ◌++◌, length, get_or, refl, sym, ap, ◌∙◌, arith, ⊎_elim, append_assoc, append-nil, length-append}
+use Rattle.std.proofs.Common.{◌≡◌, ◌↔◌, ℕ, zero, suc, ◌+◌, ◌/◌, ◌%◌, ◌<◌, ◌≤◌, Bool, true, false, List, [], ◌∷◌, ◌++◌, length, get_or, refl, sym, ap, ap₂, ◌∙◌, arith, ⊎_elim, append_assoc, append-nil, length-append}
 use Rattle.std.specs.Prelude.{◌&&◌, IsUtf8, eqb, ltb, nat_le, cond, if◌then◌else◌}
 use Rattle.std.specs.Str.{is_utf8}
 use lib.Utf8.{scalar, scalar_cases, scalars, encode, encodes}
 use Rattle.std.proofs.lemmas.Bool.{ltb-true, leb-true}
 use Rattle.std.proofs.lemmas.Bool.Decides.{nat_tests}
 use Rattle.std.proofs.lemmas.Str.{IsUtf8-append, IsUtf8-encode, IsUtf8-nil, IsUtf8-from_is_utf8, is_utf8-from_IsUtf8}
-use Rattle.tlv_io.specs.RowsSoFar.{last_rows}
+use Rattle.tlv_io.specs.Cuts.{last_rows}
 use Rattle.tlv_value.specs.declared.kind.Kind.TheVariants.{Utf8}
 use Rattle.tlv_value.specs.CheckState.{all_utf8}
-use Rattle.tlv_value.specs.Private.Room.{HaveRoom, utf8_length}
-use Rattle.tlv_value.specs.Rows.{rows_of}
-use Rattle.tlv_value.specs.RowsSoFar.{full_rows, has_room, open_row}
+use Rattle.tlv_value.specs.Private.Room.{HaveRoom, has_room, utf8_length}
+use Rattle.tlv_value.specs.Private.RowSteps.{row_begun, rows_filled}
+use Rattle.tlv_value.specs.Rows.{full_rows, open_row, rows_of}
 use Rattle.tlv_value.proofs.TextLemmas.Arcs.{and_right}
-use Rattle.tlv_value.proofs.RowLemmas.RowSteps.{full-begins, open-begins, shift-room}
+use Rattle.tlv_value.proofs.RowLemmas.OneCut.{cut-parts}
+use Rattle.tlv_value.proofs.RowLemmas.RowSteps.{begun-begins, filled-begins, shift-room}
 
 and_left : (a b : Bool) → (a && b) ≡ true → a ≡ true
 and_left true b e = refl
@@ -33,20 +34,20 @@ gathered : List ℕ → List ℕ → Type 0
 gathered row xs = IsUtf8 (row ++ xs)
 
 joined_at : (row : List ℕ) (x : ℕ) (xs : List ℕ) (room last : Bool)
-    → ((r : List ℕ) → all_utf8 (full_rows Utf8 r xs) ≡ true → IsUtf8 (open_row Utf8 r xs) → IsUtf8 (r ++ xs))
-    → all_utf8 (if room then (if last then (row ++ x ∷ []) ∷ full_rows Utf8 [] xs else full_rows Utf8 (row ++ x ∷ []) xs) else row ∷ full_rows Utf8 (x ∷ []) xs) ≡ true
-    → IsUtf8 (if room then (if last then open_row Utf8 [] xs else open_row Utf8 (row ++ x ∷ []) xs) else open_row Utf8 (x ∷ []) xs)
+    → ((r : List ℕ) → all_utf8 (rows_filled Utf8 r xs) ≡ true → IsUtf8 (row_begun Utf8 r xs) → IsUtf8 (r ++ xs))
+    → all_utf8 (if room then (if last then (row ++ x ∷ []) ∷ rows_filled Utf8 [] xs else rows_filled Utf8 (row ++ x ∷ []) xs) else row ∷ rows_filled Utf8 (x ∷ []) xs) ≡ true
+    → IsUtf8 (if room then (if last then row_begun Utf8 [] xs else row_begun Utf8 (row ++ x ∷ []) xs) else row_begun Utf8 (x ∷ []) xs)
     → IsUtf8 (row ++ x ∷ xs)
 joined_at row x xs true true more e u =
-    let first : IsUtf8 (row ++ x ∷ []) = IsUtf8-from_is_utf8 (row ++ x ∷ []) (and_left (is_utf8 (row ++ x ∷ [])) (all_utf8 (full_rows Utf8 [] xs)) e) in
-    let rest : IsUtf8 xs = more [] (and_right (is_utf8 (row ++ x ∷ [])) (all_utf8 (full_rows Utf8 [] xs)) e) u in
+    let first : IsUtf8 (row ++ x ∷ []) = IsUtf8-from_is_utf8 (row ++ x ∷ []) (and_left (is_utf8 (row ++ x ∷ [])) (all_utf8 (rows_filled Utf8 [] xs)) e) in
+    let rest : IsUtf8 xs = more [] (and_right (is_utf8 (row ++ x ∷ [])) (all_utf8 (rows_filled Utf8 [] xs)) e) u in
     rw (← append_assoc row (x ∷ []) xs) (IsUtf8-append (row ++ x ∷ []) xs first rest)
 joined_at row x xs true false more e u = rw (← append_assoc row (x ∷ []) xs) (more (row ++ x ∷ []) e u)
 joined_at row x xs false last more e u =
-    IsUtf8-append row (x ∷ xs) (IsUtf8-from_is_utf8 row (and_left (is_utf8 row) (all_utf8 (full_rows Utf8 (x ∷ []) xs)) e))
-    (more (x ∷ []) (and_right (is_utf8 row) (all_utf8 (full_rows Utf8 (x ∷ []) xs)) e) u)
+    IsUtf8-append row (x ∷ xs) (IsUtf8-from_is_utf8 row (and_left (is_utf8 row) (all_utf8 (rows_filled Utf8 (x ∷ []) xs)) e))
+    (more (x ∷ []) (and_right (is_utf8 row) (all_utf8 (rows_filled Utf8 (x ∷ []) xs)) e) u)
 
-joined : (row xs : List ℕ) → all_utf8 (full_rows Utf8 row xs) ≡ true → IsUtf8 (open_row Utf8 row xs) → IsUtf8 (row ++ xs)
+joined : (row xs : List ℕ) → all_utf8 (rows_filled Utf8 row xs) ≡ true → IsUtf8 (row_begun Utf8 row xs) → IsUtf8 (row ++ xs)
 joined row [] e u = rw (append-nil row) u
 joined row (x ∷ xs) e u = joined_at row x xs (has_room Utf8 (length row) x) (eqb (length row + 1) 64) (λ r. joined r xs) e u
 
@@ -133,7 +134,7 @@ room-unit n x tail a q h zero g = rw a (grind (arith, nat_tests))
 room-unit n x tail a q h (suc i) g = rw (q i (omega arith)) (grind (arith, nat_tests))
 
 abbrev Filling : List ℕ → List ℕ → List ℕ → Type 0
-Filling row part rest = (full_rows Utf8 row (part ++ rest) ≡ full_rows Utf8 (row ++ part) rest) × (open_row Utf8 row (part ++ rest) ≡ open_row Utf8 (row ++ part) rest)
+Filling row part rest = (rows_filled Utf8 row (part ++ rest) ≡ rows_filled Utf8 (row ++ part) rest) × (row_begun Utf8 row (part ++ rest) ≡ row_begun Utf8 (row ++ part) rest)
 
 fill : (row part rest : List ℕ) → HaveRoom Utf8 (length row) part (length part) → length row + length part < 64 → Filling row part rest
 fill row [] rest room h = rw (append-nil row) (refl, refl)
@@ -143,10 +144,10 @@ fill row (x ∷ xs) rest room h =
     let e : eqb (length row + 1) 64 ≡ false = grind (arith, nat_tests) in
     let t = fill (row ++ x ∷ []) xs rest (shift-room Utf8 row (length xs) x xs room) (omega (arith, length-append row (x ∷ []))) in
     let a = append_assoc row (x ∷ []) xs in
-    rw (r, e) (t.0 ∙ ap (λ (w : List ℕ). full_rows Utf8 w rest) a, t.1 ∙ ap (λ (w : List ℕ). open_row Utf8 w rest) a)
+    rw (r, e) (t.0 ∙ ap (λ (w : List ℕ). rows_filled Utf8 w rest) a, t.1 ∙ ap (λ (w : List ℕ). row_begun Utf8 w rest) a)
 
 abbrev Filled : List ℕ → List ℕ → List ℕ → Type 0
-Filled row part rest = (full_rows Utf8 row (part ++ rest) ≡ (row ++ part) ∷ full_rows Utf8 [] rest) × (open_row Utf8 row (part ++ rest) ≡ open_row Utf8 [] rest)
+Filled row part rest = (rows_filled Utf8 row (part ++ rest) ≡ (row ++ part) ∷ rows_filled Utf8 [] rest) × (row_begun Utf8 row (part ++ rest) ≡ row_begun Utf8 [] rest)
 
 fill-up : (row part rest : List ℕ) → HaveRoom Utf8 (length row) part (length part) → length row + length part ≡ 64 → 1 ≤ length part → Filled row part rest
 fill-up row [] rest room h some = absurd (omega arith)
@@ -161,11 +162,11 @@ fill-up row (x ∷ y ∷ xs) rest room h some =
     let e : eqb (length row + 1) 64 ≡ false = grind (arith, nat_tests) in
     let t = fill-up (row ++ x ∷ []) (y ∷ xs) rest (shift-room Utf8 row (length (y ∷ xs)) x (y ∷ xs) room) (omega (arith, length-append row (x ∷ []))) (omega arith) in
     let a = append_assoc row (x ∷ []) (y ∷ xs) in
-    rw (r, e) (t.0 ∙ ap (λ (w : List ℕ). w ∷ full_rows Utf8 [] rest) a, t.1)
+    rw (r, e) (t.0 ∙ ap (λ (w : List ℕ). w ∷ rows_filled Utf8 [] rest) a, t.1)
 
 -- all rows and the row that has begun are well-formed
 abbrev AreFormed : List ℕ → List ℕ → Type 0
-AreFormed row xs = (all_utf8 (full_rows Utf8 row xs) ≡ true) × IsUtf8 (open_row Utf8 row xs)
+AreFormed row xs = (all_utf8 (rows_filled Utf8 row xs) ≡ true) × IsUtf8 (row_begun Utf8 row xs)
 
 put_row : (row : List ℕ) (rows all : List (List ℕ)) → IsUtf8 row → all_utf8 rows ≡ true → all ≡ row ∷ rows → all_utf8 all ≡ true
 put_row row rows all u e f = rw (f, is_utf8-from_IsUtf8 row u) e
@@ -181,16 +182,16 @@ module _ (row : List ℕ) (x : ℕ) (tail rest : List ℕ) (announced_length : u
   unit-within true e l =
       let f = fill-up row (x ∷ tail) rest (room-unit (length row) x tail announced_length quiet l) (grind (arith, nat_tests)) (omega arith) in
       let g = more [] IsUtf8-nil (omega arith) in
-      (put_row (row ++ x ∷ tail) (full_rows Utf8 [] rest) (full_rows Utf8 row ((x ∷ tail) ++ rest)) (IsUtf8-append row (x ∷ tail) u v) g.0 f.0, rw f.1 g.1)
+      (put_row (row ++ x ∷ tail) (rows_filled Utf8 [] rest) (rows_filled Utf8 row ((x ∷ tail) ++ rest)) (IsUtf8-append row (x ∷ tail) u v) g.0 f.0, rw f.1 g.1)
 
   -- a character that begins a row
   unit-behind : has_room Utf8 (length row) x ≡ false → AreFormed row ((x ∷ tail) ++ rest)
   unit-behind r =
       let f = fill [] (x ∷ tail) rest (room-unit 0 x tail announced_length quiet (omega arith)) (omega arith) in
       let g = more (x ∷ tail) v (omega arith) in
-      let p : full_rows Utf8 row ((x ∷ tail) ++ rest) ≡ row ∷ full_rows Utf8 (x ∷ tail) rest = rw r (ap (λ (t : List (List ℕ)). row ∷ t) (sym (full-begins Utf8 x (tail ++ rest)) ∙ f.0)) in
-      let q : open_row Utf8 row ((x ∷ tail) ++ rest) ≡ open_row Utf8 (x ∷ tail) rest = rw r (sym (open-begins Utf8 x (tail ++ rest)) ∙ f.1) in
-      (put_row row (full_rows Utf8 (x ∷ tail) rest) (full_rows Utf8 row ((x ∷ tail) ++ rest)) u g.0 p, rw q g.1)
+      let p : rows_filled Utf8 row ((x ∷ tail) ++ rest) ≡ row ∷ rows_filled Utf8 (x ∷ tail) rest = rw r (ap (λ (t : List (List ℕ)). row ∷ t) (sym (filled-begins Utf8 x (tail ++ rest)) ∙ f.0)) in
+      let q : row_begun Utf8 row ((x ∷ tail) ++ rest) ≡ row_begun Utf8 (x ∷ tail) rest = rw r (sym (begun-begins Utf8 x (tail ++ rest)) ∙ f.1) in
+      (put_row row (rows_filled Utf8 (x ∷ tail) rest) (rows_filled Utf8 row ((x ∷ tail) ++ rest)) u g.0 p, rw q g.1)
 
   unit-step : (room : Bool) → nat_le (length row + suc (length tail)) 64 ≡ room → AreFormed row ((x ∷ tail) ++ rest)
   unit-step true e = unit-within (eqb (length row + suc (length tail)) 64) refl (leb-true (length row + suc (length tail)) 64 e)
@@ -213,12 +214,18 @@ same-bool false true f g = g refl
 all-formed : (c : List ℕ) → IsUtf8 c → AreFormed [] c
 all-formed c u = rw (← u.1.1) (formed [] u.0 u.1.0 IsUtf8-nil (omega arith))
 
+steps-formed : (c : List ℕ) → ((true && all_utf8 (rows_filled Utf8 [] c)) && is_utf8 (row_begun Utf8 [] c)) ≡ is_utf8 c
+steps-formed c =
+    same-bool (all_utf8 (rows_filled Utf8 [] c) && is_utf8 (row_begun Utf8 [] c)) (is_utf8 c)
+    (λ e. is_utf8-from_IsUtf8 c (joined [] c (and_left (all_utf8 (rows_filled Utf8 [] c)) (is_utf8 (row_begun Utf8 [] c)) e)
+    (IsUtf8-from_is_utf8 (row_begun Utf8 [] c) (and_right (all_utf8 (rows_filled Utf8 [] c)) (is_utf8 (row_begun Utf8 [] c)) e))))
+    (λ e. let a = all-formed c (IsUtf8-from_is_utf8 c e) in rw (a.0, is_utf8-from_IsUtf8 (row_begun Utf8 [] c) a.1) refl)
+
+-- the rows of all octets, and the last one, which need not be full
 pub rows-formed_at : (c : List ℕ) → ((true && all_utf8 (full_rows Utf8 [] c)) && is_utf8 (open_row Utf8 [] c)) ≡ is_utf8 c
 rows-formed_at c =
-    same-bool (all_utf8 (full_rows Utf8 [] c) && is_utf8 (open_row Utf8 [] c)) (is_utf8 c)
-    (λ e. is_utf8-from_IsUtf8 c (joined [] c (and_left (all_utf8 (full_rows Utf8 [] c)) (is_utf8 (open_row Utf8 [] c)) e)
-    (IsUtf8-from_is_utf8 (open_row Utf8 [] c) (and_right (all_utf8 (full_rows Utf8 [] c)) (is_utf8 (open_row Utf8 [] c)) e))))
-    (λ e. let a = all-formed c (IsUtf8-from_is_utf8 c e) in rw (a.0, is_utf8-from_IsUtf8 (open_row Utf8 [] c) a.1) refl)
+    let p = cut-parts Utf8 c in
+    ap₂ (λ (rows : List (List ℕ)) (row : List ℕ). all_utf8 rows && is_utf8 row) (sym p.0) (sym p.1) ∙ steps-formed c
 
 utf8-append : (rows more : List (List ℕ)) → all_utf8 (rows ++ more) ≡ (all_utf8 rows && all_utf8 more)
 utf8-append [] more = refl
@@ -229,7 +236,7 @@ last-formed [] = sym (is_utf8-from_IsUtf8 [] IsUtf8-nil)
 last-formed (x ∷ row) = and-true (is_utf8 (x ∷ row))
 
 rows-all : (c : List ℕ) → all_utf8 (rows_of Utf8 c) ≡ is_utf8 c
-rows-all c = utf8-append (full_rows Utf8 [] c) (last_rows (open_row Utf8 [] c)) ∙ ap (λ (b : Bool). all_utf8 (full_rows Utf8 [] c) && b) (last-formed (open_row Utf8 [] c)) ∙ rows-formed_at c
+rows-all c = utf8-append (rows_filled Utf8 [] c) (last_rows (row_begun Utf8 [] c)) ∙ ap (λ (b : Bool). all_utf8 (rows_filled Utf8 [] c) && b) (last-formed (row_begun Utf8 [] c)) ∙ steps-formed c
 
 pub rows-formed : (octets : List ℕ) → IsUtf8 octets ↔ (all_utf8 (rows_of Utf8 octets) ≡ true)
 rows-formed octets = (λ u. rows-all octets ∙ is_utf8-from_IsUtf8 octets u, λ e. IsUtf8-from_is_utf8 octets (sym (rows-all octets) ∙ e))

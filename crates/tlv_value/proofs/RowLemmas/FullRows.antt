@@ -5,7 +5,7 @@ use Rattle.std.proofs.lemmas.Bool.Decides.{nat_tests}
 use Rattle.std.proofs.lemmas.List.{drop-drop, replicate_more, take_more}
 use Rattle.std.proofs.lemmas.Grind.{flat_map-append}
 use Rattle.std.specs.Simd.{first_chunks}
-use Rattle.tlv_io.specs.RowsSoFar.{last_rows}
+use Rattle.tlv_io.specs.Cuts.{last_rows}
 use Rattle.tlv_value.specs.declared.kind.Kind.{Kind}
 use Rattle.tlv_value.specs.declared.kind.Kind.TheVariants.{Octets, Boolean, Integer, Bits, Object, Relative, Text, Utf8, Ucs2, Ucs4}
 use Rattle.tlv_value.specs.declared.layout.Layout.{Layout}
@@ -15,7 +15,7 @@ use Rattle.tlv_value.specs.Layout.{margin, no_columns, row_line, spaces}
 use Rattle.tlv_value.specs.Private.Room.{HaveRoom}
 use Rattle.tlv_value.specs.Private.Rows.{full_line, full_lines}
 use Rattle.tlv_value.specs.Rows.{rows_of}
-use Rattle.tlv_value.specs.RowsSoFar.{full_rows, open_row}
+use Rattle.tlv_value.specs.Private.RowSteps.{row_begun, rows_filled}
 use Rattle.tlv_value.specs.TextState.{row_lines}
 use Rattle.tlv_value.specs.Value.{row_text, spaced_pairs}
 use Rattle.tlv_value.proofs.TextLemmas.Puts.{row_lines-append}
@@ -51,18 +51,18 @@ module _ (kind : Kind) (short : row_size kind ≡ 16) where
   room : (n : ℕ) (octets : List ℕ) → n ≤ 16 → HaveRoom kind 0 octets n
   room n octets few i h = rw (one_each kind (get_or octets i 0) short, short) (grind (arith, nat_tests))
 
-  first_row : (octets : List ℕ) → 16 ≤ length octets → (full_rows kind [] octets ≡ take 16 octets ∷ full_rows kind [] (drop 16 octets)) × (open_row kind [] octets ≡ open_row kind [] (drop 16 octets))
+  first_row : (octets : List ℕ) → 16 ≤ length octets → (rows_filled kind [] octets ≡ take 16 octets ∷ rows_filled kind [] (drop 16 octets)) × (row_begun kind [] octets ≡ row_begun kind [] (drop 16 octets))
   first_row octets h = turn kind [] 16 octets (room 16 octets (omega arith)) (omega (arith, short)) h (omega (arith, short)) (inl (omega (arith, short)))
 
   -- so many rows
   rows_first : (n : ℕ) (octets : List ℕ) → n * 16 ≤ length octets
-      → (full_rows kind [] octets ≡ first_chunks 16 n octets ++ full_rows kind [] (drop (n * 16) octets)) × (open_row kind [] octets ≡ open_row kind [] (drop (n * 16) octets))
+      → (rows_filled kind [] octets ≡ first_chunks 16 n octets ++ rows_filled kind [] (drop (n * 16) octets)) × (row_begun kind [] octets ≡ row_begun kind [] (drop (n * 16) octets))
   rows_first zero octets h = (refl, refl)
   rows_first (suc n) octets h =
       let t = first_row octets (omega (arith, h)) in
       let more = rows_first n (drop 16 octets) (omega (arith, h, length-drop 16 octets)) in
       let e : drop (n * 16) (drop 16 octets) ≡ drop (suc n * 16) octets = drop-drop (n * 16) 16 octets ∙ ap (λ (k : ℕ). drop k octets) (omega arith) in
-      (t.0 ∙ ap (λ (l : List (List ℕ)). take 16 octets ∷ l) (more.0 ∙ ap (λ (l : List ℕ). first_chunks 16 n (drop 16 octets) ++ full_rows kind [] l) e), t.1 ∙ more.1 ∙ ap (open_row kind []) e)
+      (t.0 ∙ ap (λ (l : List (List ℕ)). take 16 octets ∷ l) (more.0 ∙ ap (λ (l : List ℕ). first_chunks 16 n (drop 16 octets) ++ rows_filled kind [] l) e), t.1 ∙ more.1 ∙ ap (row_begun kind []) e)
 
   -- all rows: the full ones, and the last
   pub rows_cut : (octets : List ℕ) → rows_of kind octets ≡ first_chunks 16 (length octets / 16) octets ++ last_rows (drop (length octets / 16 * 16) octets)
@@ -72,7 +72,7 @@ module _ (kind : Kind) (short : row_size kind ≡ 16) where
       let l : length more < 16 = omega (arith, length-drop (n * 16) octets) in
       let t = rows_first n octets (omega arith) in
       let k = keep kind [] more (room (length more) more (omega (arith, l))) (omega (arith, l, short)) in
-      ap (λ (r : List (List ℕ)). r ++ last_rows (open_row kind [] octets)) (t.0 ∙ ap (λ (r : List (List ℕ)). first_chunks 16 n octets ++ r) k.0 ∙ append-nil (first_chunks 16 n octets))
+      ap (λ (r : List (List ℕ)). r ++ last_rows (row_begun kind [] octets)) (t.0 ∙ ap (λ (r : List (List ℕ)). first_chunks 16 n octets ++ r) k.0 ∙ append-nil (first_chunks 16 n octets))
       ∙ ap (λ (r : List ℕ). first_chunks 16 n octets ++ last_rows r) (t.1 ∙ k.1)
 
   module _ (layout : Layout) (endless : layout.limit ≡ None) where
@@ -85,16 +85,16 @@ module _ (kind : Kind) (short : row_size kind ≡ 16) where
 
     -- the full rows of octets, and what is left of them
     abbrev pub Turned : ℕ → List ℕ → List (List ℕ) → List ℕ → Type 0
-    Turned i octets rows more = (row_lines kind layout i (full_rows kind [] octets) ≡ full_lines layout rows ++ row_lines kind layout (i + length rows) (full_rows kind [] more))
-        × (open_row kind [] octets ≡ open_row kind [] more) × (length (full_rows kind [] octets) ≡ length rows + length (full_rows kind [] more))
+    Turned i octets rows more = (row_lines kind layout i (rows_filled kind [] octets) ≡ full_lines layout rows ++ row_lines kind layout (i + length rows) (rows_filled kind [] more))
+        × (row_begun kind [] octets ≡ row_begun kind [] more) × (length (rows_filled kind [] octets) ≡ length rows + length (rows_filled kind [] more))
 
     pub rows_turned : (i : ℕ) (octets : List ℕ) (rows : List (List ℕ)) (more : List ℕ) → rows ≡ first_chunks 16 (length octets / 16) octets → more ≡ drop (length octets / 16 * 16) octets → Turned i octets rows more
     rows_turned i octets rows more e f =
         let t = rows_first (length octets / 16) octets (omega arith) in
-        let all : full_rows kind [] octets ≡ rows ++ full_rows kind [] more = rw (e, f) t.0 in (
-          ap (row_lines kind layout i) all ∙ row_lines-append kind layout i rows (full_rows kind [] more) ∙ ap (λ (l : List ℕ). l ++ row_lines kind layout (i + length rows) (full_rows kind [] more)) (lines_of i rows),
+        let all : rows_filled kind [] octets ≡ rows ++ rows_filled kind [] more = rw (e, f) t.0 in (
+          ap (row_lines kind layout i) all ∙ row_lines-append kind layout i rows (rows_filled kind [] more) ∙ ap (λ (l : List ℕ). l ++ row_lines kind layout (i + length rows) (rows_filled kind [] more)) (lines_of i rows),
           rw f t.1,
-          ap length all ∙ length-append rows (full_rows kind [] more),
+          ap length all ∙ length-append rows (rows_filled kind [] more),
         )
 
 -- the lines of all rows, where there is no limit to them

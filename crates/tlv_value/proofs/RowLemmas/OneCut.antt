@@ -1,20 +1,21 @@
--- Contents are cut into rows in one way alone.
-use Rattle.std.proofs.Common.{◌≡◌, inl, inr, ℕ, ◌+◌, ◌<◌, ◌≤◌, Bool, true, false, List, [], ◌∷◌, ◌++◌, length, get_or, refl, sym, ap, arith, append-nil, length-append}
+-- Contents are cut into rows in one way alone: the rows of a cut are those that octets fill one after another. So what is
+-- kept of them between pieces can be said of the cut.
+use Rattle.std.proofs.Common.{◌≡◌, inl, inr, ℕ, ◌+◌, ◌<◌, ◌≤◌, Bool, true, false, List, [], ◌∷◌, ◌++◌, length, get_or, refl, sym, ap, ap₂, ◌∙◌, arith, append_assoc, append-nil, length-append}
 use Rattle.std.proofs.Math.Seq.{drop-append_seam, get_or-append_seam, take-append_seam}
 use Rattle.std.proofs.lemmas.Bool.{eqb-true}
 use Rattle.std.proofs.lemmas.Bool.Decides.{nat_tests}
 use Rattle.std.proofs.lemmas.List.{get_or_append_left}
 use Rattle.std.specs.Prelude.{eqb, if◌then◌else◌}
-use Rattle.tlv_io.specs.Cuts.{AreFull, AreRows, IsFull, IsRow, octets_of_rows}
-use Rattle.tlv_io.specs.RowsSoFar.{last_rows}
+use Rattle.tlv_io.specs.Cuts.{AreFull, AreRows, IsFull, IsRow, last_rows, octets_of_rows}
 use Rattle.tlv_io.proofs.CutOf.{nil-or}
 use Rattle.tlv_value.specs.declared.kind.Kind.{Kind}
 use Rattle.tlv_value.specs.Cuts.{character_length, row_size}
 use Rattle.tlv_value.specs.Laws.{RowsHaveOneCut}
+use Rattle.tlv_value.specs.OpenRow.{IsOpenRow}
 use Rattle.tlv_value.specs.Private.Room.{HaveRoom}
-use Rattle.tlv_value.specs.Rows.{cut_of_contents, full_rows_in, one_fits, rows_of}
-use Rattle.tlv_value.specs.RowsSoFar.{full_rows, open_row}
-use Rattle.tlv_value.proofs.RowLemmas.RowSteps.{IsFilled, keep, turn}
+use Rattle.tlv_value.specs.Private.RowSteps.{row_begun, rows_filled}
+use Rattle.tlv_value.specs.Rows.{cut_of_contents, full_rows, full_rows_in, one_fits, open_row, open_row_in, rows_of}
+use Rattle.tlv_value.proofs.RowLemmas.RowSteps.{IsFilled, begun-open, keep, none-open, open-room, steps-join, turn}
 
 last-row : (row : List ℕ) → 1 ≤ length row → last_rows row ≡ row ∷ []
 last-row [] h = absurd (omega arith)
@@ -31,33 +32,6 @@ module _ (kind : Kind) where
       let room = r.whole i h in
       rw same (grind (arith, nat_tests))
 
-  abbrev IsCutAs : List ℕ → List (List ℕ) → Type 0
-  IsCutAs octets rows = full_rows kind [] octets ++ last_rows (open_row kind [] octets) ≡ rows
-
-  -- a row that is full, and the rows of the octets behind it
-  cut-full : (row rest : List ℕ) (rows : List (List ℕ)) → IsRow (row_size kind) (character_length kind) row → IsFilled kind [] (length row) (row ++ rest) → IsCutAs rest rows → IsCutAs (row ++ rest) (row ∷ rows)
-  cut-full row rest rows r f more =
-      let z = one_fits kind in
-      let s = r.short in
-      let t = turn kind [] (length row) (row ++ rest) (row-room row rest r) (omega arith) (omega (arith, length-append row rest)) (omega arith) f in
-      rw (t.0, t.1, take-append_seam row rest, drop-append_seam row rest) (ap (λ (x : List (List ℕ)). row ∷ x) more)
-
-  -- the octets of a last row that is not full
-  cut-short : (row : List ℕ) → IsRow (row_size kind) (character_length kind) row → length row < row_size kind → IsCutAs row (row ∷ [])
-  cut-short row r h =
-      let room : HaveRoom kind 0 row (length row) = rw (append-nil row) at (row-room row [] r) in
-      let t = keep kind [] row room (omega arith) in
-      rw (t.0, t.1) (last-row row (has-octet row r))
-
-  cut-last : (row : List ℕ) (full : Bool) → eqb (length row) (row_size kind) ≡ full → IsRow (row_size kind) (character_length kind) row → IsCutAs (row ++ []) (row ∷ [])
-  cut-last row true e r =
-      let n : length row ≡ row_size kind = eqb-true (length row) (row_size kind) e in
-      cut-full row [] [] r (inl (omega arith)) refl
-  cut-last row false e r =
-      let s = r.short in
-      let c = cut-short row r (grind (arith, nat_tests)) in
-      rw (append-nil row) c
-
   -- a row is full as the condition on rows has it
   as-filled : (row next rest : List ℕ) → 1 ≤ length next → IsFull (row_size kind) (character_length kind) row next → IsFilled kind [] (length row) (row ++ (next ++ rest))
   as-filled row next rest h (inl e) = inl (omega arith)
@@ -67,43 +41,85 @@ module _ (kind : Kind) where
       let place : 0 + length row ≡ length row = omega arith in
       inr (omega (arith, length-append row (x ∷ (next ++ rest))), rw (place, behind) (grind (arith, nat_tests)))
 
-  one-cut : (rows : List (List ℕ)) → AreRows (row_size kind) (character_length kind) rows → AreFull (row_size kind) (character_length kind) rows → IsCutAs (octets_of_rows rows) rows
-  one-cut [] each full = refl
-  one-cut (row ∷ []) each full = cut-last row (eqb (length row) (row_size kind)) refl each.0
-  one-cut (row ∷ next ∷ rows) each full =
-      cut-full row (octets_of_rows (next ∷ rows)) (next ∷ rows) each.0 (as-filled row next (octets_of_rows rows) (has-octet next each.1.0) full.0) (one-cut (next ∷ rows) each.1 full.1)
+  -- the rows that octets fill, and the row that has then begun
+  abbrev AreParts : List ℕ → List (List ℕ) → List ℕ → Type 0
+  AreParts octets rows row = (rows_filled kind [] octets ≡ rows) × (row_begun kind [] octets ≡ row)
 
-  -- ---- the rows that are full
-
-  full-front : (row rest : List ℕ) (rows : List (List ℕ)) → IsRow (row_size kind) (character_length kind) row → IsFilled kind [] (length row) (row ++ rest) → full_rows kind [] rest ≡ rows → full_rows kind [] (row ++ rest) ≡ row ∷ rows
-  full-front row rest rows r f more =
+  -- a row that is full, and the rows of the octets behind it
+  parts-front : (row rest : List ℕ) (rows : List (List ℕ)) (last : List ℕ) → IsRow (row_size kind) (character_length kind) row → IsFilled kind [] (length row) (row ++ rest) → AreParts rest rows last
+      → AreParts (row ++ rest) (row ∷ rows) last
+  parts-front row rest rows last r f more =
       let z = one_fits kind in
       let s = r.short in
       let t = turn kind [] (length row) (row ++ rest) (row-room row rest r) (omega arith) (omega (arith, length-append row rest)) (omega arith) f in
-      rw (t.0, take-append_seam row rest, drop-append_seam row rest) (ap (λ (x : List (List ℕ)). row ∷ x) more)
+      rw (t.0, t.1, take-append_seam row rest, drop-append_seam row rest) (ap (λ (x : List (List ℕ)). row ∷ x) more.0, more.1)
 
-  full-last : (row : List ℕ) (full : Bool) → eqb (length row) (row_size kind) ≡ full → IsRow (row_size kind) (character_length kind) row → full_rows kind [] (row ++ []) ≡ (if full then row ∷ [] else [])
-  full-last row true e r =
+  -- a last row
+  parts-last : (row : List ℕ) (full : Bool) → eqb (length row) (row_size kind) ≡ full → IsRow (row_size kind) (character_length kind) row
+      → AreParts (row ++ []) (if full then row ∷ [] else []) (if full then [] else row)
+  parts-last row true e r =
       let n : length row ≡ row_size kind = eqb-true (length row) (row_size kind) e in
-      full-front row [] [] r (inl (omega arith)) refl
-  full-last row false e r =
+      parts-front row [] [] [] r (inl (omega arith)) (refl, refl)
+  parts-last row false e r =
       let s = r.short in
       let room : HaveRoom kind 0 row (length row) = rw (append-nil row) at (row-room row [] r) in
       let short : length row < row_size kind = grind (arith, nat_tests) in
-      let t = keep kind [] row room (omega arith) in
-      rw (append-nil row) t.0
+      rw (append-nil row) (keep kind [] row room (omega arith))
 
-  full-rows : (rows : List (List ℕ)) → AreRows (row_size kind) (character_length kind) rows → AreFull (row_size kind) (character_length kind) rows → full_rows kind [] (octets_of_rows rows) ≡ full_rows_in kind rows
-  full-rows [] each full = refl
-  full-rows (row ∷ []) each full = full-last row (eqb (length row) (row_size kind)) refl each.0
-  full-rows (row ∷ next ∷ rows) each full =
-      full-front row (octets_of_rows (next ∷ rows)) (full_rows_in kind (next ∷ rows)) each.0 (as-filled row next (octets_of_rows rows) (has-octet next each.1.0) full.0) (full-rows (next ∷ rows) each.1 full.1)
+  -- those of a cut
+  parts : (rows : List (List ℕ)) → AreRows (row_size kind) (character_length kind) rows → AreFull (row_size kind) (character_length kind) rows → AreParts (octets_of_rows rows) (full_rows_in kind rows) (open_row_in kind rows)
+  parts [] each full = (refl, refl)
+  parts (row ∷ []) each full = parts-last row (eqb (length row) (row_size kind)) refl each.0
+  parts (row ∷ next ∷ rows) each full =
+      parts-front row (octets_of_rows (next ∷ rows)) (full_rows_in kind (next ∷ rows)) (open_row_in kind (next ∷ rows)) each.0 (as-filled row next (octets_of_rows rows) (has-octet next each.1.0) full.0) (parts (next ∷ rows) each.1 full.1)
 
--- those of the cut are those that octets make one after another
-pub rows-full : (kind : Kind) (octets : List ℕ) → full_rows_in kind (rows_of kind octets) ≡ full_rows kind [] octets
-rows-full kind octets =
-    let cut = (cut_of_contents kind octets).is_cut in
-    sym (rw cut.together at (full-rows kind (rows_of kind octets) cut.each cut.full))
+  -- its full rows and the octets of the last one are all of it
+  last-part : (row : List ℕ) (full : Bool) → 1 ≤ length row → (if full then row ∷ [] else []) ++ last_rows (if full then [] else row) ≡ row ∷ []
+  last-part row true h = refl
+  last-part row false h = last-row row h
+
+  all-parts : (rows : List (List ℕ)) → AreRows (row_size kind) (character_length kind) rows → full_rows_in kind rows ++ last_rows (open_row_in kind rows) ≡ rows
+  all-parts [] each = refl
+  all-parts (row ∷ []) each = last-part row (eqb (length row) (row_size kind)) (has-octet row each.0)
+  all-parts (row ∷ next ∷ rows) each = ap (λ (x : List (List ℕ)). row ∷ x) (all-parts (next ∷ rows) each.1)
 
 pub rows-one-cut : RowsHaveOneCut
-rows-one-cut kind octets rows cut = rw cut.together at (sym (one-cut kind rows cut.each cut.full))
+rows-one-cut kind octets rows cut =
+    let p = rw cut.together at (parts kind rows cut.each cut.full) in
+    sym (all-parts kind rows cut.each) ∙ ap₂ (λ (full : List (List ℕ)) (last : List ℕ). full ++ last_rows last) (sym p.0) (sym p.1)
+
+-- ---- what is kept between pieces
+
+-- the rows that octets fill, and the row that they then begin, are the full rows of the cut and its last one
+pub cut-parts : (kind : Kind) (octets : List ℕ) → (rows_filled kind [] octets ≡ full_rows_in kind (rows_of kind octets)) × (row_begun kind [] octets ≡ open_row_in kind (rows_of kind octets))
+cut-parts kind octets =
+    let cut = (cut_of_contents kind octets).is_cut in
+    rw cut.together at (parts kind (rows_of kind octets) cut.each cut.full)
+
+-- all rows: the full ones, and the last
+pub rows-parts : (kind : Kind) (octets : List ℕ) → rows_of kind octets ≡ full_rows kind [] octets ++ last_rows (open_row kind [] octets)
+rows-parts kind octets = sym (all-parts kind (rows_of kind octets) (cut_of_contents kind octets).is_cut.each)
+
+-- and so they are behind an open row
+pub open-parts : (kind : Kind) (row octets : List ℕ) → IsOpenRow kind row → (rows_filled kind row octets ≡ full_rows kind row octets) × (row_begun kind row octets ≡ open_row kind row octets)
+open-parts kind row octets begun =
+    let short = begun.short in
+    let k = keep kind [] row (open-room kind row begun) (omega arith) in
+    let j = steps-join kind [] row octets in
+    let p = cut-parts kind (row ++ octets) in
+    let filled = ap₂ (λ (rows : List (List ℕ)) (r : List ℕ). rows ++ rows_filled kind r octets) k.0 k.1 in
+    let last = ap (λ (r : List ℕ). row_begun kind r octets) k.1 in
+    (sym (j.0 ∙ filled) ∙ p.0, sym (j.1 ∙ last) ∙ p.1)
+
+-- two pieces, one after the other, are as one
+pub rows-join : (kind : Kind) (row x y : List ℕ) → (full_rows kind row (x ++ y) ≡ full_rows kind row x ++ full_rows kind (open_row kind row x) y) × (open_row kind row (x ++ y) ≡ open_row kind (open_row kind row x) y)
+rows-join kind row x y =
+    let before = cut-parts kind (row ++ x) in
+    let all = cut-parts kind ((row ++ x) ++ y) in
+    let j = steps-join kind [] (row ++ x) y in
+    let p = open-parts kind (row_begun kind [] (row ++ x)) y (begun-open kind [] (row ++ x) (none-open kind)) in
+    let one : (row ++ x) ++ y ≡ row ++ (x ++ y) = append_assoc row x y in
+    let full = ap₂ (λ (rows : List (List ℕ)) (r : List ℕ). rows ++ full_rows kind r y) before.0 before.1 in
+    let begun = ap (λ (r : List ℕ). open_row kind r y) before.1 in
+    let front = ap (λ (rows : List (List ℕ)). rows_filled kind [] (row ++ x) ++ rows) p.0 in
+    (rw (← one) (sym all.0 ∙ j.0 ∙ front ∙ full), rw (← one) (sym all.1 ∙ j.1 ∙ p.1 ∙ begun))

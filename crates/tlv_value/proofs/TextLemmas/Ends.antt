@@ -4,7 +4,7 @@ use Rattle.std.specs.Prelude.{nat_le, if◌then◌else◌}
 use Rattle.std.proofs.lemmas.Bool.Decides.{nat_tests}
 use Rattle.tlv_head.specs.Tag.{tag_text_of}
 use Rattle.std.specs.Prelude.{decimal}
-use Rattle.tlv_io.specs.RowsSoFar.{last_rows}
+use Rattle.tlv_io.specs.Cuts.{last_rows}
 use Rattle.tlv_value.specs.declared.kind.Kind.{Kind}
 use Rattle.tlv_value.specs.declared.kind.Kind.TheVariants.{Octets, Boolean, Integer, Bits, Object, Relative, Text, Utf8, Ucs2, Ucs4}
 use Rattle.tlv_value.specs.declared.layout.Layout.{Layout}
@@ -13,7 +13,7 @@ use Rattle.tlv_value.specs.Layout.{columns, margin, row_line}
 use Rattle.tlv_value.specs.Private.ObjectLines.{object_lines, rest_of_lines}
 use Rattle.tlv_value.specs.Private.PrimitiveLines.{front_of, primitive_line, primitive_lines}
 use Rattle.tlv_value.specs.declared.primitive.Primitive.{Primitive}
-use Rattle.tlv_value.specs.RowsSoFar.{full_rows}
+use Rattle.tlv_value.specs.Rows.{full_rows}
 use Rattle.tlv_value.specs.TextState.{RowsState, TextState, contents_lines, end_lines, line_in, row_lines}
 use Rattle.tlv_value.specs.KindValues.{bits_value, boolean_value, integer_value, kind_value, long_text, row_octets}
 use Rattle.tlv_value.specs.Private.KindValues.{plain_text}

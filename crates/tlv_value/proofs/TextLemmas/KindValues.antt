@@ -10,11 +10,9 @@ use Rattle.tlv_value.specs.declared.layout.Layout.{Layout}
 use Rattle.tlv_value.specs.Arcs.{dotted_text}
 use Rattle.tlv_value.specs.KindValues.{kind_value, long_text, object_text, row_octets}
 use Rattle.tlv_value.specs.Layout.{row_line}
-use Rattle.tlv_value.specs.Rows.{known_rows, rows_of}
-use Rattle.tlv_value.specs.RowsSoFar.{full_rows}
+use Rattle.tlv_value.specs.Rows.{full_rows, known_rows, rows_of}
 use Rattle.tlv_value.specs.TextState.{has_line, kind_by, line_in, new_text, open_lines, row_lines, value_lines, whole_lines}
 use Rattle.tlv_value.specs.Value.{NameOf, Value, bit_count, is_long, long_value, no_names, octets_value, row_text, short_value, value_on_line, whole_value}
-use Rattle.tlv_value.proofs.RowLemmas.OneCut.{rows-full}
 
 abbrev pub value_with : List ℕ → List (List ℕ) → Value
 value_with text rows = record { text = text; rows = rows }
@@ -92,4 +90,4 @@ open-lines-by h layout octets =
     let n : ℕ = announced_length h.size in
     ap (λ (t : List ℕ). if is_long (kind_by h) n && has_line (kind_by h) octets then t else [])
     (value-lines h layout (long_value false (kind_by h) n octets)
-    ∙ ap (lines_by h layout) (long-same false (kind_by h) n octets ∙ ap (value_with (long_text (kind_by h) n octets)) (rows-full (kind_by h) (row_octets (kind_by h) octets))))
+    ∙ ap (lines_by h layout) (long-same false (kind_by h) n octets))

@@ -1,17 +1,15 @@
 -- Contents in pieces.
 use Rattle.std.proofs.Common.{◌≡◌, ℕ, ◌+◌, ◌-◌, ◌≤◌, Bool, true, false, List, [], ◌∷◌, ◌++◌, length, refl, sym, ap, ◌∙◌, arith, append_assoc, append-nil, length-append}
-use Rattle.std.specs.Prelude.{◌&&◌, eqb, nat_le, if◌then◌else◌}
+use Rattle.std.specs.Prelude.{◌&&◌, nat_le, if◌then◌else◌}
 use Rattle.tlv_head.specs.Header.{HeaderValue, announced_length as size_of}
-use Rattle.tlv_io.specs.RowsSoFar.{last_rows}
+use Rattle.tlv_io.specs.Cuts.{last_rows}
 use Rattle.tlv_value.specs.declared.kind.Kind.{Kind}
 use Rattle.tlv_value.specs.declared.kind.Kind.TheVariants.{Octets, Boolean, Integer, Bits, Object, Relative, Text, Utf8, Ucs2, Ucs4}
 use Rattle.tlv_value.specs.declared.layout.Layout.{Layout}
 use Rattle.tlv_value.specs.declared.primitive.Primitive.{Primitive}
 use Rattle.tlv_value.specs.Kind.{kind_of}
 use Rattle.tlv_value.specs.Laws.{LinesBegin, LinesEnd, LinesGoOn, PiecesJoin, state_for}
-use Rattle.tlv_value.specs.Cuts.{row_size}
-use Rattle.tlv_value.specs.Rows.{rows_of}
-use Rattle.tlv_value.specs.RowsSoFar.{full_rows, has_room, open_row}
+use Rattle.tlv_value.specs.Rows.{full_rows, open_row, rows_of}
 use Rattle.tlv_value.specs.Private.PrimitiveLines.{lines_in_steps, new_text_of, primitive_line, primitive_lines, primitive_of}
 use Rattle.tlv_value.specs.TextState.{RowsState, TextState, begin_lines, contents_lines, end_lines, first_rows, first_rows_after, full_row_lines, has_line, kind_in, line_in, new_text, open_lines, row_lines, rows_after, rows_state_after, text_after, whole_lines}
 use Rattle.tlv_value.specs.KindValues.{kind_value, long_text, row_octets}
@@ -19,7 +17,7 @@ use Rattle.tlv_value.specs.Value.{NameOf, is_long}
 use Rattle.std.proofs.lemmas.Bool.Decides.{nat_tests}
 use Rattle.tlv_value.proofs.TextLemmas.KindValues.{open-lines-by, whole-lines}
 use Rattle.tlv_value.proofs.TextLemmas.Puts.{row_lines-append}
-use Rattle.tlv_value.proofs.RowLemmas.RowSteps.{full-begins, open-begins}
+use Rattle.tlv_value.proofs.RowLemmas.OneCut.{rows-join, rows-parts}
 
 abbrev kept_with : ℕ → List ℕ → RowsState
 kept_with n r = record { lined = true; rows = n; row = r }
@@ -28,35 +26,17 @@ kept-eq : (n m : ℕ) (r q : List ℕ) → n ≡ m → r ≡ q → kept_with n r
 kept-eq n m r q e f = ap (λ (j : ℕ). kept_with j r) e ∙ ap (kept_with m) f
 
 module _ (kind : Kind) where
-  abbrev IsJoined : List ℕ → List ℕ → List ℕ → Type 0
-  IsJoined row x y = (full_rows kind row (x ++ y) ≡ full_rows kind row x ++ full_rows kind (open_row kind row x) y) × (open_row kind row (x ++ y) ≡ open_row kind (open_row kind row x) y)
-
-  -- one octet of the first piece
-  rows-join_at : (row : List ℕ) (z : ℕ) (x y : List ℕ) (room last : Bool) → ((r : List ℕ) → IsJoined r x y)
-      → ((if room then (if last then (row ++ z ∷ []) ∷ full_rows kind [] (x ++ y) else full_rows kind (row ++ z ∷ []) (x ++ y)) else row ∷ full_rows kind (z ∷ []) (x ++ y))
-      ≡ (if room then (if last then (row ++ z ∷ []) ∷ full_rows kind [] x else full_rows kind (row ++ z ∷ []) x) else row ∷ full_rows kind (z ∷ []) x)
-      ++ full_rows kind (if room then (if last then open_row kind [] x else open_row kind (row ++ z ∷ []) x) else open_row kind (z ∷ []) x) y)
-      × ((if room then (if last then open_row kind [] (x ++ y) else open_row kind (row ++ z ∷ []) (x ++ y)) else open_row kind (z ∷ []) (x ++ y))
-      ≡ open_row kind (if room then (if last then open_row kind [] x else open_row kind (row ++ z ∷ []) x) else open_row kind (z ∷ []) x) y)
-  rows-join_at row z x y true true more = (ap (λ (t : List (List ℕ)). (row ++ z ∷ []) ∷ t) (more []).0, (more []).1)
-  rows-join_at row z x y true false more = more (row ++ z ∷ [])
-  rows-join_at row z x y false last more = (ap (λ (t : List (List ℕ)). row ∷ t) (more (z ∷ [])).0, (more (z ∷ [])).1)
-
-  pub rows-join : (row x y : List ℕ) → IsJoined row x y
-  rows-join row [] y = (refl, refl)
-  rows-join row (z ∷ x) y = rows-join_at row z x y (has_room kind (length row) z) (eqb (length row + 1) (row_size kind)) (λ r. rows-join r x y)
-
   -- what is kept, and what is written, of two pieces
   kept-join : (layout : Layout) (k : RowsState) (x y : List ℕ) → rows_after kind layout (rows_after kind layout k x) y ≡ rows_after kind layout k (x ++ y)
   kept-join layout k x y =
-      let j = rows-join k.row x y in
+      let j = rows-join kind k.row x y in
       let n : k.rows + length (full_rows kind k.row x) + length (full_rows kind (open_row kind k.row x) y) ≡ k.rows + length (full_rows kind k.row (x ++ y)) =
       omega (arith, ap length j.0, length-append (full_rows kind k.row x) (full_rows kind (open_row kind k.row x) y)) in
       kept-eq (k.rows + length (full_rows kind k.row x) + length (full_rows kind (open_row kind k.row x) y)) (k.rows + length (full_rows kind k.row (x ++ y))) (open_row kind (open_row kind k.row x) y) (open_row kind k.row (x ++ y)) n (sym j.1)
 
   new-join : (layout : Layout) (k : RowsState) (x y : List ℕ) → full_row_lines kind layout k (x ++ y) ≡ full_row_lines kind layout k x ++ full_row_lines kind layout (rows_after kind layout k x) y
   new-join layout k x y =
-      ap (row_lines kind layout k.rows) (rows-join k.row x y).0 ∙ row_lines-append kind layout k.rows (full_rows kind k.row x) (full_rows kind (open_row kind k.row x) y)
+      ap (row_lines kind layout k.rows) (rows-join kind k.row x y).0 ∙ row_lines-append kind layout k.rows (full_rows kind k.row x) (full_rows kind (open_row kind k.row x) y)
 
 -- the parts of a state that do not change are left out here: the tests, the lines and what is kept
 module _ (kind : Kind) (layout : Layout) (line : List ℕ → List ℕ) (size : ℕ) where
@@ -105,11 +85,11 @@ pieces-join s x y =
 -- the octets in rows, with the first contents octet of a BIT STRING by itself
 first-full : (u : ℕ) (rest : List ℕ) (b : Bool) → full_rows Bits [] (if b then rest else u ∷ rest) ≡ full_rows Bits (if b then [] else u ∷ []) rest
 first-full u rest true = refl
-first-full u rest false = full-begins Bits u rest
+first-full u rest false = refl
 
 first-open_row : (u : ℕ) (rest : List ℕ) (b : Bool) → open_row Bits [] (if b then rest else u ∷ rest) ≡ open_row Bits (if b then [] else u ∷ []) rest
 first-open_row u rest true = refl
-first-open_row u rest false = open-begins Bits u rest
+first-open_row u rest false = refl
 
 abbrev begin_kept : Kind → RowsState
 begin_kept kind = record { lined = has_line kind []; rows = 0; row = [] }
@@ -151,26 +131,31 @@ module _ (layout : Layout) (line : List ℕ → List ℕ) (size : ℕ) where
   abbrev WholeIsEnded : NameOf → Kind → Bool → List ℕ → Type 0
   WholeIsEnded name_of kind long octets = whole_at name_of kind long octets ≡ open_at kind long octets ++ ended_at name_of kind long (kept_by kind layout line size long (has_line kind []) (begin_kept kind) octets)
 
-  last-behind : (kind : Kind) (first : List ℕ) (full last : List (List ℕ)) → first ++ row_lines kind layout 0 (full ++ last) ≡ (first ++ row_lines kind layout 0 full) ++ row_lines kind layout (0 + length full) last
-  last-behind kind first full last =
-      ap (λ (t : List ℕ). first ++ t) (row_lines-append kind layout 0 full last) ∙ sym (append_assoc first (row_lines kind layout 0 full) (row_lines kind layout (0 + length full) last))
+  last-behind : (kind : Kind) (first octets : List ℕ)
+      → first ++ row_lines kind layout 0 (rows_of kind octets) ≡ (first ++ row_lines kind layout 0 (full_rows kind [] octets)) ++ row_lines kind layout (0 + length (full_rows kind [] octets)) (last_rows (open_row kind [] octets))
+  last-behind kind first octets =
+      let full = full_rows kind [] octets in
+      let last = last_rows (open_row kind [] octets) in
+      ap (λ (rows : List (List ℕ)). first ++ row_lines kind layout 0 rows) (rows-parts kind octets)
+      ∙ ap (λ (t : List ℕ). first ++ t) (row_lines-append kind layout 0 full last)
+      ∙ sym (append_assoc first (row_lines kind layout 0 full) (row_lines kind layout (0 + length full) last))
 
   whole-ended : (name_of : NameOf) (kind : Kind) (long : Bool) (octets : List ℕ) → (long ≡ true → 1 ≤ length octets) → WholeIsEnded name_of kind long octets
   whole-ended name_of kind false octets some = refl
-  whole-ended name_of Octets true octets some = last-behind Octets (line []) (full_rows Octets [] octets) (last_rows (open_row Octets [] octets))
-  whole-ended name_of Boolean true octets some = last-behind Boolean (line []) (full_rows Boolean [] octets) (last_rows (open_row Boolean [] octets))
-  whole-ended name_of Integer true octets some = last-behind Integer (line []) (full_rows Integer [] octets) (last_rows (open_row Integer [] octets))
-  whole-ended name_of Object true octets some = last-behind Object (line []) (full_rows Object [] octets) (last_rows (open_row Object [] octets))
-  whole-ended name_of Relative true octets some = last-behind Relative (line []) (full_rows Relative [] octets) (last_rows (open_row Relative [] octets))
-  whole-ended name_of Text true octets some = last-behind Text (line []) (full_rows Text [] octets) (last_rows (open_row Text [] octets))
-  whole-ended name_of Utf8 true octets some = last-behind Utf8 (line []) (full_rows Utf8 [] octets) (last_rows (open_row Utf8 [] octets))
-  whole-ended name_of Ucs2 true octets some = last-behind Ucs2 (line []) (full_rows Ucs2 [] octets) (last_rows (open_row Ucs2 [] octets))
-  whole-ended name_of Ucs4 true octets some = last-behind Ucs4 (line []) (full_rows Ucs4 [] octets) (last_rows (open_row Ucs4 [] octets))
+  whole-ended name_of Octets true octets some = last-behind Octets (line []) octets
+  whole-ended name_of Boolean true octets some = last-behind Boolean (line []) octets
+  whole-ended name_of Integer true octets some = last-behind Integer (line []) octets
+  whole-ended name_of Object true octets some = last-behind Object (line []) octets
+  whole-ended name_of Relative true octets some = last-behind Relative (line []) octets
+  whole-ended name_of Text true octets some = last-behind Text (line []) octets
+  whole-ended name_of Utf8 true octets some = last-behind Utf8 (line []) octets
+  whole-ended name_of Ucs2 true octets some = last-behind Ucs2 (line []) octets
+  whole-ended name_of Ucs4 true octets some = last-behind Ucs4 (line []) octets
   whole-ended name_of Bits true [] some = absurd (let h = some refl in omega arith)
   whole-ended name_of Bits true (u ∷ octets) some =
       let f = first-full u octets (nat_le u 7) in
       let o = first-open_row u octets (nat_le u 7) in
-      last-behind Bits (line (long_text Bits size (u ∷ []))) (full_rows Bits [] (row_octets Bits (u ∷ octets))) (last_rows (open_row Bits [] (row_octets Bits (u ∷ octets))))
+      last-behind Bits (line (long_text Bits size (u ∷ []))) (row_octets Bits (u ∷ octets))
       ∙ ap (λ (t : List (List ℕ)). (line (long_text Bits size (u ∷ [])) ++ row_lines Bits layout 0 (full_rows Bits [] (row_octets Bits (u ∷ octets)))) ++ row_lines Bits layout (0 + length t) (last_rows (open_row Bits [] (row_octets Bits (u ∷ octets))))) f
       ∙ ap (λ (t : List ℕ). (line (long_text Bits size (u ∷ [])) ++ row_lines Bits layout 0 (full_rows Bits [] (row_octets Bits (u ∷ octets)))) ++ row_lines Bits layout (0 + length (full_rows Bits (row_octets Bits (u ∷ [])) octets)) (last_rows t)) o
 
@@ -184,27 +169,31 @@ open-lines h layout octets =
     ∙ open-new layout (line_for h layout) (size_of h.size) (kind_of h.class h.number) (is_long (kind_of h.class h.number) (size_of h.size)) octets
     ∙ ap (λ (t : List ℕ). begin_lines (new_text h layout) ++ t) (new_by-new (new_text h layout) octets)
 
-new-nothing_at : (kind : Kind) (layout : Layout) (line : List ℕ → List ℕ) (size : ℕ) (long lined : Bool) (k : RowsState) → new_by kind layout line size long lined k [] ≡ []
-new-nothing_at kind layout line size false lined k = refl
-new-nothing_at kind layout line size true true k = refl
-new-nothing_at kind layout line size true false k = refl
+-- with no octets a primitive that begins has no lines more, and is kept as it is
 
-pub new-nothing : (s : TextState) → contents_lines s [] ≡ []
-new-nothing s = sym (new_by-new s []) ∙ new-nothing_at (kind_in s) s.layout (line_in s) s.size (is_long (kind_in s) s.size) s.kept.lined s.kept
+new-nothing_at : (kind : Kind) (layout : Layout) (line : List ℕ → List ℕ) (size : ℕ) (long lined : Bool) → new_by kind layout line size long lined (begin_kept kind) [] ≡ []
+new-nothing_at kind layout line size false lined = refl
+new-nothing_at kind layout line size true true = refl
+new-nothing_at kind layout line size true false = refl
 
-after-nothing_at : (kind : Kind) (layout : Layout) (line : List ℕ → List ℕ) (size : ℕ) (long lined : Bool) (k : RowsState) → k.lined ≡ lined → kept_by kind layout line size long lined k [] ≡ k
-after-nothing_at kind layout line size false lined k e = ap (λ (r : List ℕ). record k { row = r }) (append-nil k.row)
-after-nothing_at kind layout line size true true k e = rw (← e) (ap (λ (n : ℕ). record k { rows = n }) (omega arith))
-after-nothing_at kind layout line size true false k e = refl
+pub new-nothing : (h : HeaderValue) (layout : Layout) → contents_lines (new_text h layout) [] ≡ []
+new-nothing h layout =
+    let s : TextState = new_text h layout in
+    sym (new_by-new s []) ∙ new-nothing_at (kind_in s) s.layout (line_in s) s.size (is_long (kind_in s) s.size) s.kept.lined
 
--- no octets change nothing
-pub after-nothing : (s : TextState) → text_after s [] ≡ s
-after-nothing s =
+after-nothing_at : (kind : Kind) (layout : Layout) (line : List ℕ → List ℕ) (size : ℕ) (long lined : Bool) → lined ≡ has_line kind [] → kept_by kind layout line size long lined (begin_kept kind) [] ≡ begin_kept kind
+after-nothing_at kind layout line size false lined e = refl
+after-nothing_at kind layout line size true true e = ap (λ (b : Bool). record { lined = b; rows = 0; row = [] }) e
+after-nothing_at kind layout line size true false e = refl
+
+pub after-nothing : (h : HeaderValue) (layout : Layout) → text_after (new_text h layout) [] ≡ new_text h layout
+after-nothing h layout =
+    let s : TextState = new_text h layout in
     let l : s.left - 0 ≡ s.left = omega arith in
-    ap (λ (n : ℕ). with_kept s n (rows_state_after s [])) l ∙ ap (with_kept s s.left) (after-nothing_at (kind_in s) s.layout (line_in s) s.size (is_long (kind_in s) s.size) s.kept.lined s.kept refl)
+    ap (λ (n : ℕ). with_kept s n (rows_state_after s [])) l ∙ ap (with_kept s s.left) (after-nothing_at (kind_in s) s.layout (line_in s) s.size (is_long (kind_in s) s.size) s.kept.lined refl)
 
 pub lines-begin : LinesBegin
-lines-begin h layout = open-lines h layout [] ∙ ap (λ (t : List ℕ). begin_lines (new_text h layout) ++ t) (new-nothing (new_text h layout)) ∙ append-nil (begin_lines (new_text h layout))
+lines-begin h layout = open-lines h layout [] ∙ ap (λ (t : List ℕ). begin_lines (new_text h layout) ++ t) (new-nothing h layout) ∙ append-nil (begin_lines (new_text h layout))
 
 pub lines-go_on : LinesGoOn
 lines-go_on h layout octets x =

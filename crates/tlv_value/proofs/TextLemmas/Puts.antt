@@ -1,13 +1,13 @@
 -- Puts, one behind another.
 use Rattle.std.proofs.Common.{◌≡◌, ℕ, ◌+◌, ◌++◌, ◌∷◌, [], List, length, arith, refl, sym, ap, ◌∙◌, append_assoc}
-use Rattle.tlv_io.specs.RowsSoFar.{last_rows}
+use Rattle.tlv_io.specs.Cuts.{last_rows}
 use Rattle.tlv_value.specs.declared.kind.Kind.{Kind}
 use Rattle.tlv_value.specs.declared.layout.Layout.{Layout}
 use Rattle.tlv_value.specs.Layout.{row_line}
-use Rattle.tlv_value.specs.Rows.{rows_of}
-use Rattle.tlv_value.specs.RowsSoFar.{full_rows, open_row}
+use Rattle.tlv_value.specs.Rows.{full_rows, open_row, rows_of}
 use Rattle.tlv_value.specs.TextState.{row_lines}
 use Rattle.tlv_value.specs.Value.{row_text}
+use Rattle.tlv_value.proofs.RowLemmas.OneCut.{rows-parts}
 
 -- rows in order, with others behind them
 pub row_lines-append : (kind : Kind) (layout : Layout) (i : ℕ) (xs ys : List (List ℕ)) → row_lines kind layout i (xs ++ ys) ≡ row_lines kind layout i xs ++ row_lines kind layout (i + length xs) ys
@@ -24,3 +24,4 @@ rows-split kind layout octets =
     let e : 0 + length (full_rows kind [] octets) ≡ length (full_rows kind [] octets) = omega arith in
     ap (λ (n : ℕ). row_lines kind layout 0 (full_rows kind [] octets) ++ row_lines kind layout n (last_rows (open_row kind [] octets))) (sym e)
     ∙ sym (row_lines-append kind layout 0 (full_rows kind [] octets) (last_rows (open_row kind [] octets)))
+    ∙ ap (row_lines kind layout 0) (sym (rows-parts kind octets))

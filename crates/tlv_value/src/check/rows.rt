@@ -2,7 +2,8 @@
 ghost use Rattle.std.specs.Prelude.{◌≡◌, ◌+◌, ◌<◌, ◌≤◌, ◌++◌, [], length};
 ghost use Rattle.std.specs.Str.{is_utf8};
 ghost use Rattle.tlv_value.specs.CheckState.{all_utf8};
-ghost use Rattle.tlv_value.specs.RowsSoFar.{full_rows, open_row};
+ghost use Rattle.tlv_value.specs.OpenRow.{IsOpenRow};
+ghost use Rattle.tlv_value.specs.Rows.{full_rows, open_row};
 
 use super::both;
 use crate::kind::Kind;
@@ -11,10 +12,10 @@ use arrayvec::ArrayVec;
 
 /// Takes octets after the row that has begun. Returns whether the rows that are then full are well-formed.
 pub(super) fn take_rows(row: &mut ArrayVec<u8, 64>, octets: &[u8]) -> bool
-    requires { length row.old.items < 64 }
+    requires { IsOpenRow Kind.Utf8 row.old.items }
     ensures formed { result ≡ all_utf8 (full_rows Kind.Utf8 row.old.items octets.now) }
     ensures row { row.new.items ≡ open_row Kind.Utf8 row.old.items octets.now }
-    ensures begun { length row.new.items < 64 }
+    ensures begun { IsOpenRow Kind.Utf8 row.new.items }
 {
     let mut formed = true;
     let mut rest = octets;

@@ -1,13 +1,13 @@
 //! Rows on their way to an [`Out`].
 ghost use Rattle.std.specs.Prelude.{◌≡◌, ◌+◌, ◌<◌, ◌≤◌, ◌^◌, ◌++◌, [], codes, if◌then◌else◌, length, IsTrue, None, OnOk, ◌↔◌};
+ghost use Rattle.tlv_io.specs.Cuts.{last_rows};
 ghost use Rattle.tlv_io.specs.LineTexts.{HasRoomFor};
 ghost use Rattle.tlv_io.specs.Out.{Puts};
-ghost use Rattle.tlv_io.specs.RowsSoFar.{last_rows};
 ghost use Rattle.tlv_value.specs.Cuts.{row_size};
 ghost use Rattle.tlv_value.specs.Layout.{line, no_columns, row_line};
+ghost use Rattle.tlv_value.specs.OpenRow.{IsOpenRow};
 ghost use Rattle.tlv_value.specs.Private.Rows.{full_line, full_lines, row_indent_of};
-ghost use Rattle.tlv_value.specs.Rows.{rows_of};
-ghost use Rattle.tlv_value.specs.RowsSoFar.{full_rows, open_row};
+ghost use Rattle.tlv_value.specs.Rows.{full_rows, open_row, rows_of};
 ghost use Rattle.tlv_value.specs.TextState.{row_lines};
 ghost use Rattle.tlv_value.specs.Value.{row_text};
 
@@ -45,9 +45,9 @@ pub(crate) fn put_rows<D: Drain>(
     octets: &[u8],
     out: &mut Out<'_, D>,
 ) -> Result<(), WriteFault>
-    requires begun { length row.old.items < row_size kind }
+    requires begun { IsOpenRow kind row.old.items }
     requires counted { rows.old + length row.old.items + length octets.now < 2 ^ 64 }
-    ensures begun { length row.new.items < row_size kind }
+    ensures begun { IsOpenRow kind row.new.items }
     ensures counted { rows.new + length row.new.items
         ≤ rows.old + length row.old.items + length octets.now }
     ensures row { OnOk result (row.new.items ≡ open_row kind row.old.items octets.now) }

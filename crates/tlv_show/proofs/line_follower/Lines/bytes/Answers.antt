@@ -1,4 +1,4 @@
-use Rattle.std.proofs.Common.{◌≡◌, ◌-◌, ◌^◌, ◌≤◌, ℕ, length, ap, ap₂, sym, ◌∙◌, arith}
+use Rattle.std.proofs.Common.{◌≡◌, ◌-◌, ◌^◌, ◌<◌, ◌≤◌, ℕ, length, ap, ap₂, sym, ◌∙◌, arith}
 use Rattle.std.proofs.lemmas.Result.{on_ok_weaker}
 use Rattle.std.specs.Prelude.{Option}
 use Rattle.tlv_value.specs.TextState.{TextState}
@@ -12,8 +12,9 @@ pub returns-clause-state : goal.returns-clause-state
 returns-clause-state g c =
     let s = c.self.inside in
     let octets = c.args.octets.now in
+    let some : 0 < length octets = search arith in
     let within : s.offset ≤ 2 ^ 64 - 1 = omega arith in
-    let is = ap (λ (s : LinesState). each_octet lines_octet_step s octets) (sym c.self.view_is) ∙ dumped_bytes _ octets in
+    let is = ap (λ (s : LinesState). each_octet lines_octet_step s octets) (sym c.self.view_is) ∙ dumped_bytes _ octets (λ e. absurd (omega (arith, some, ap length e))) in
     let there : c.saturating_add-self-inside.result ≡ offset_after s.offset (length octets) = omega (arith, c.saturating_add-self-inside.ensures, within) in
     on_ok_weaker c.put_bytes.result
     (λ e. ap₂ (λ (o : ℕ) (v : Option TextState). record { layout = s.layout; names = s.names.now; offset = o; in_padding = s.in_padding; value = v }) there e
@@ -23,5 +24,6 @@ returns-clause-state g c =
 pub returns-clause-puts : goal.returns-clause-puts
 returns-clause-puts g c =
     let octets = c.args.octets.now in
-    let is = ap (λ (s : LinesState). each_octet lines_octet_step s octets) (sym c.self.view_is) ∙ dumped_bytes _ octets in
+    let some : 0 < length octets = search arith in
+    let is = ap (λ (s : LinesState). each_octet lines_octet_step s octets) (sym c.self.view_is) ∙ dumped_bytes _ octets (λ e. absurd (omega (arith, some, ap length e))) in
     puts_text g.D.Drain.state _ _ _ _ _ (sym (ap (λ (t : Effect LinesState). t.put) is)) c.put_bytes.ensures.puts

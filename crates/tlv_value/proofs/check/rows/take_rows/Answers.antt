@@ -7,17 +7,31 @@ use Rattle.std.proofs.lemmas.Grind.{common_steps}
 use Rattle.tlv_value.specs.declared.kind.Kind.TheVariants.{Utf8}
 use Rattle.tlv_value.specs.CheckState.{all_utf8}
 use Rattle.tlv_value.specs.Cuts.{row_size}
-use Rattle.tlv_value.specs.RowsSoFar.{full_rows}
+use Rattle.tlv_value.specs.Private.RowSteps.{rows_filled}
 use Rattle.tlv_value.proofs.CheckLemmas.Noting.{and-nothing, and-row}
-use Rattle.tlv_value.proofs.RowLemmas.RowSteps.{kept, turned}
+use Rattle.tlv_value.proofs.RowLemmas.OneCut.{open-parts}
+use Rattle.tlv_value.proofs.RowLemmas.RowSteps.{kept, kept-open, none-open, turned}
 use Rattle.tlv_value.proofs.check.rows.take_rows.Goals.{else-len-part-lt64-via-then-len-part-lt64+else-is_empty, else-len-part-lt64-via-else-len-part-lt64}
 use Rattle.tlv_value.proofs.check.rows.take_rows.Goals as goal
+
+pub loop-rest-init : goal.loop-rest-init
+loop-rest-init c =
+    let p = open-parts Utf8 c.args.row.now.items c.args.octets.now c.requires in
+    record { begun = c.requires; row = p.1; formed = ap all_utf8 p.0 }
+
+pub returns-then-is_empty-clause-begun : goal.returns-then-is_empty-clause-begun
+returns-then-is_empty-clause-begun c =
+    let z : length c.split_at.result.1.now ≡ 0 = eqb-true (length c.split_at.result.1.now) 0 (sym c.if-is_empty.ensures) in
+    let t : c.try_extend_from_slice.new.self.items ≡ c.loop-rest.row.items ++ c.split_at.result.0.now = grind (arith, common_steps) in
+    rw t
+    (kept-open Utf8 c.len.result c.loop-rest.row.items c.fitting.result c.loop-rest.rest.now c.split_at.result.0.now c.loop-rest.invariant.begun c.len.ensures.value c.split_at.ensures.front c.fitting.ensures.fits
+    (omega arith) c.fitting.ensures.within (omega arith))
 
 pub returns-then-is_empty-clause-formed : goal.returns-then-is_empty-clause-formed
 returns-then-is_empty-clause-formed c =
     let z : length c.split_at.result.1.now ≡ 0 = eqb-true (length c.split_at.result.1.now) 0 (sym c.if-is_empty.ensures) in
     let k = kept Utf8 c.len.result c.loop-rest.row.items c.fitting.result c.loop-rest.rest.now c.split_at.result.0.now c.len.ensures.value c.split_at.ensures.front c.fitting.ensures.fits (omega arith) c.fitting.ensures.within (omega arith) in
-    sym (and-nothing c.loop-rest.formed (full_rows Utf8 c.loop-rest.row.items c.loop-rest.rest.now) k.0) ∙ c.loop-rest.invariant.formed
+    sym (and-nothing c.loop-rest.formed (rows_filled Utf8 c.loop-rest.row.items c.loop-rest.rest.now) k.0) ∙ c.loop-rest.invariant.formed
 
 pub returns-then-is_empty-clause-row : goal.returns-then-is_empty-clause-row
 returns-then-is_empty-clause-row c =
@@ -42,7 +56,7 @@ loop-rest-preserved c =
     let none : c.is_full_formed.new.row.items ≡ [] = c.is_full_formed.ensures.row in
     let both : c.both-formed.result ≡ (c.loop-rest.formed && is_utf8 (row ++ part)) = c.both-formed.ensures ∙ ap (λ (b : Bool). c.loop-rest.formed && b) c.is_full_formed.ensures.formed in
     record {
-      begun = omega (arith, ap length none);
+      begun = rw none (none-open Utf8);
       row = rw none (sym t.1 ∙ i.row);
-      formed = rw none (ap (λ (b : Bool). b && all_utf8 (full_rows Utf8 [] more)) both ∙ and-row c.loop-rest.formed (row ++ part) (full_rows Utf8 [] more) (full_rows Utf8 row c.loop-rest.rest.now) t.0 ∙ i.formed);
+      formed = rw none (ap (λ (b : Bool). b && all_utf8 (rows_filled Utf8 [] more)) both ∙ and-row c.loop-rest.formed (row ++ part) (rows_filled Utf8 [] more) (rows_filled Utf8 row c.loop-rest.rest.now) t.0 ∙ i.formed);
     }

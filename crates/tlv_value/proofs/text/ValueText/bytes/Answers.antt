@@ -5,7 +5,7 @@ use Rattle.tlv_io.proofs.Puts.{puts_failed_in, puts_text, puts_then_as}
 use Rattle.tlv_value.specs.declared.kind.Kind.{Kind}
 use Rattle.tlv_value.specs.declared.kind.Kind.TheVariants.{Bits}
 use Rattle.tlv_value.specs.Kind.{kind_of}
-use Rattle.tlv_value.specs.RowsSoFar.{full_rows}
+use Rattle.tlv_value.specs.Rows.{full_rows}
 use Rattle.tlv_value.specs.TextState.{TextState, contents_lines, line_in, row_lines}
 use Rattle.tlv_value.specs.TextFields.{text_state_of}
 use Rattle.tlv_value.specs.KindValues.{long_text, row_octets}

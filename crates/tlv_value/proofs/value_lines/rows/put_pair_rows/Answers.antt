@@ -1,6 +1,6 @@
 use Rattle.std.proofs.Common.{◌∙◌, ap, append-nil, refl, rules, sym, [], ℕ, List}
 use Rattle.std.specs.Prelude.{◌++◌}
-use Rattle.tlv_io.specs.RowsSoFar.{last_rows}
+use Rattle.tlv_io.specs.Cuts.{last_rows}
 use Rattle.tlv_io.proofs.Puts.{puts_failed_in, puts_line, puts_text, puts_then_as}
 use Rattle.tlv_value.specs.Private.Rows.{full_lines}
 use Rattle.tlv_value.proofs.RowLemmas.FullRows.{last_line, lines_cut, no_last_line}

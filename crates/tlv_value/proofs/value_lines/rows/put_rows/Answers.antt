@@ -6,14 +6,23 @@ use Rattle.std.proofs.lemmas.List.{nil_from_length}
 use Rattle.tlv_io.proofs.Puts.{puts_as, puts_failed_in, puts_nothing, puts_then_as}
 use Rattle.tlv_value.specs.Layout.{row_line}
 use Rattle.tlv_value.specs.Cuts.{row_size}
-use Rattle.tlv_value.specs.RowsSoFar.{full_rows}
+use Rattle.tlv_value.specs.Private.RowSteps.{rows_filled}
 use Rattle.tlv_value.specs.Private.Rows.{full_lines}
 use Rattle.tlv_value.specs.TextState.{row_lines}
 use Rattle.tlv_value.specs.Value.{row_text}
 use Rattle.tlv_value.proofs.RowLemmas.FullRows.{rows_turned}
-use Rattle.tlv_value.proofs.RowLemmas.RowSteps.{kept, progress, turned}
+use Rattle.tlv_value.proofs.RowLemmas.OneCut.{open-parts}
+use Rattle.tlv_value.proofs.RowLemmas.RowSteps.{kept, kept-open, none-open, progress, turned}
 use Rattle.tlv_value.proofs.value_lines.rows.put_rows.Goals.{else-begun-part-via-then-begun-part+else-is_empty, else-begun-part-via-else-begun-part}
 use Rattle.tlv_value.proofs.value_lines.rows.put_rows.Goals as goal
+
+pub returns-then-is_empty-clause-begun : goal.returns-then-is_empty-clause-begun
+returns-then-is_empty-clause-begun g c =
+    let z : length c.split_at.result.1.now ≡ 0 = eqb-true (length c.split_at.result.1.now) 0 (sym c.if-is_empty.ensures) in
+    let t : c.try_extend_from_slice.new.self.items ≡ c.loop-rest.row.items ++ c.split_at.result.0.now = grind (arith, common_steps) in
+    rw t
+    (kept-open c.args.kind c.len-begun.result c.loop-rest.row.items c.fitting.result c.loop-rest.rest.now c.split_at.result.0.now c.loop-rest.invariant.begun c.len-begun.ensures.value c.split_at.ensures.front c.fitting.ensures.fits
+    (omega arith) c.fitting.ensures.within (omega arith))
 
 pub returns-then-is_empty-clause-row : goal.returns-then-is_empty-clause-row
 returns-then-is_empty-clause-row g c =
@@ -54,14 +63,14 @@ loop-rest-preserved g c =
     let none : c.put_full.new.row.items ≡ [] = c.put_full.ensures.row in
     let line : List ℕ = row_line c.args.layout c.loop-rest.rows (row_text kind (row ++ part)) in
     record {
-      begun = omega (arith, ap length none);
+      begun = rw none (none-open kind);
       counted = omega (arith, ap length none);
       row = rw none (sym t.1 ∙ i.row);
       rows = rw none (omega (arith, ap length t.0));
       put = (
         i.put.0 ++ line,
         puts_then_as g.D.Drain.state _ _ _ i.put.0 line (i.put.0 ++ line) tt _ i.put.1 c.in_ok-put_full.ensures.puts refl,
-        rw none (append_assoc i.put.0 line (row_lines kind c.args.layout (c.loop-rest.rows + 1) (full_rows kind [] more))
+        rw none (append_assoc i.put.0 line (row_lines kind c.args.layout (c.loop-rest.rows + 1) (rows_filled kind [] more))
             ∙ ap (λ (x : List ℕ). i.put.0 ++ x) (sym (ap (row_lines kind c.args.layout c.loop-rest.rows) t.0)) ∙ i.put.2),
       );
     }
@@ -81,20 +90,22 @@ returns-in_err-put_full-clause-puts g c =
     let t = turned kind c.len-begun.result row m c.loop-rest.rest.now part more c.len-begun.ensures.value c.split_at.ensures.front c.split_at.ensures.back c.fitting.ensures.fits c.fitting.ensures.bound
     c.fitting.ensures.within (omega arith) c.fitting.ensures.next claim in
     let line : List ℕ = row_line c.args.layout c.loop-rest.rows (row_text kind (row ++ part)) in
-    let rest : List ℕ = row_lines kind c.args.layout (c.loop-rest.rows + 1) (full_rows kind [] more) in
+    let rest : List ℕ = row_lines kind c.args.layout (c.loop-rest.rows + 1) (rows_filled kind [] more) in
     puts_failed_in g.D.Drain.state _ _ (i.put.0 ++ line) _ _ _ (puts_then_as g.D.Drain.state _ _ _ i.put.0 line (i.put.0 ++ line) tt _ i.put.1 c.in_err-put_full.ensures.puts refl) (search rules) (record {
       rest = rest;
       is = append_assoc i.put.0 line rest ∙ ap (λ (x : List ℕ). i.put.0 ++ x) (sym (ap (row_lines kind c.args.layout c.loop-rest.rows) t.0)) ∙ i.put.2;
     })
 
 pub loop-rest-init : goal.loop-rest-init
-loop-rest-init g c = record {
-  begun = search rules;
-  counted = omega arith;
-  row = refl;
-  rows = refl;
-  put = ([], puts_nothing g.D.Drain.state _ tt, refl);
-}
+loop-rest-init g c =
+    let p = open-parts c.args.kind c.args.row.now.items c.args.octets.now c.requires.begun in
+    record {
+      begun = c.requires.begun;
+      counted = omega arith;
+      row = p.1;
+      rows = ap (λ (rows : List (List ℕ)). c.args.rows.now + length rows) p.0;
+      put = ([], puts_nothing g.D.Drain.state _ tt, ap (row_lines c.args.kind c.args.layout c.args.rows.now) p.0);
+    }
 
 pub returns-clause-row : goal.returns-clause-row
 returns-clause-row g c = grind (arith, common_steps)
@@ -116,7 +127,7 @@ loop-rest-preserved-then-has_full_rows g c =
     let put = rw none at i.put.2 in
     let rows = rw none at i.rows in
     let all : List ℕ = full_lines c.args.layout c.as_chunks.result.0.now in
-    let rest : List ℕ = row_lines kind c.args.layout (c.loop-rest.rows + length c.as_chunks.result.0.now) (full_rows kind [] more) in
+    let rest : List ℕ = row_lines kind c.args.layout (c.loop-rest.rows + length c.as_chunks.result.0.now) (rows_filled kind [] more) in
     record {
       begun = i.begun;
       counted = omega (arith, i.counted, c.as_chunks.ensures.front_len, c.as_chunks.ensures.back_len);
@@ -139,7 +150,7 @@ returns-in_err-put_full_rows-clause-puts g c =
     let t = rows_turned kind (sym c.row_size-size.ensures ∙ f.1) c.args.layout f.2 c.loop-rest.rows c.loop-rest.rest.now c.as_chunks.result.0.now more c.as_chunks.ensures.front c.as_chunks.ensures.back in
     let put = rw none at i.put.2 in
     let all : List ℕ = full_lines c.args.layout c.as_chunks.result.0.now in
-    let rest : List ℕ = row_lines kind c.args.layout (c.loop-rest.rows + length c.as_chunks.result.0.now) (full_rows kind [] more) in
+    let rest : List ℕ = row_lines kind c.args.layout (c.loop-rest.rows + length c.as_chunks.result.0.now) (rows_filled kind [] more) in
     puts_failed_in g.D.Drain.state _ _ (i.put.0 ++ all) _ _ _ (puts_then_as g.D.Drain.state _ _ _ i.put.0 all (i.put.0 ++ all) tt _ i.put.1 c.in_err-put_full_rows.ensures refl) (search rules) (record {
       rest = rest;
       is = append_assoc i.put.0 all rest ∙ ap (λ (x : List ℕ). i.put.0 ++ x) (sym t.0) ∙ put;

@@ -1,18 +1,19 @@
-use Rattle.std.proofs.Common.{◌≡◌, ℕ, ◌+◌, ◌<◌, ◌≤◌, ◌++◌, List, length}
+use Rattle.std.proofs.Common.{◌≡◌, ℕ, ◌+◌, ◌≤◌, ◌++◌, List, length}
 use Rattle.tlv_io.proofs.Puts.{HasPut}
-use Rattle.tlv_value.specs.Cuts.{row_size}
-use Rattle.tlv_value.specs.RowsSoFar.{full_rows, open_row}
+use Rattle.tlv_value.specs.OpenRow.{IsOpenRow}
+use Rattle.tlv_value.specs.Private.RowSteps.{row_begun, rows_filled}
+use Rattle.tlv_value.specs.Rows.{full_rows, open_row}
 use Rattle.tlv_value.specs.TextState.{row_lines}
 use Rattle.tlv_value.proofs.value_lines.rows.put_rows.Given as goal
 
 abbrev pub invariant-loop-rest : goal.invariant-loop-rest
 invariant-loop-rest g l = record {
-  begun : length l.row.items < row_size l.kind;
+  begun : IsOpenRow l.kind l.row.items;
   counted : l.rows + length l.row.items + length l.rest ≤ l.initial.rows + length l.initial.row.items + length l.octets;
-  row : open_row l.kind l.row.items l.rest ≡ open_row l.kind l.initial.row.items l.octets;
-  rows : l.rows + length (full_rows l.kind l.row.items l.rest) ≡ l.initial.rows + length (full_rows l.kind l.initial.row.items l.octets);
+  row : row_begun l.kind l.row.items l.rest ≡ open_row l.kind l.initial.row.items l.octets;
+  rows : l.rows + length (rows_filled l.kind l.row.items l.rest) ≡ l.initial.rows + length (full_rows l.kind l.initial.row.items l.octets);
   put : (text : List ℕ) × HasPut g.D.Drain.state l.initial.out l.out text
-      × (text ++ row_lines l.kind l.layout l.rows (full_rows l.kind l.row.items l.rest) ≡ row_lines l.kind l.layout l.initial.rows (full_rows l.kind l.initial.row.items l.octets));
+      × (text ++ row_lines l.kind l.layout l.rows (rows_filled l.kind l.row.items l.rest) ≡ row_lines l.kind l.layout l.initial.rows (full_rows l.kind l.initial.row.items l.octets));
 }
 
 abbrev pub decreases-loop-rest : goal.decreases-loop-rest
