@@ -90,6 +90,7 @@ module _ {S : Type 0} (next : S → EventValue → Effect S) (before after : Tur
     pub ending : IsEnding before.walker.framing octets run.ending
     pub spelled : run.octets ≡ length (spell reading)
     pub unused : run.unused ≡ first_unused before.walker.framing.inside reading
+    pub framing : after.walker.framing ≡ before.walker.framing
     pub walker : StandsAtEnd after.walker octets (past ++ more) run.ending
 
   -- the follower had enough with the last of these events, and the walker stands for the octets that they

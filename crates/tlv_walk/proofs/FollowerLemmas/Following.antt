@@ -66,6 +66,7 @@ refused_there w u v piece mid after f more x o past st (inl r) =
       octet = r.octet;
       rest = r.rest;
       piece = x.piece ∙ ap (λ (l : List ℕ). x.taken ++ l) r.before_is ∙ sym (append_assoc x.taken r.taken (r.octet ∷ r.rest));
+      framing = framing;
       offset = there.offset;
       refused = refused;
       unused =

@@ -201,6 +201,7 @@ module _ {S D : Type 0} (next : S → EventValue → Effect S) (before after : T
         ending = subst (λ (g : Ending). IsEnding w.framing (b ++ piece) g) (sym is.ending) (subst (λ (o : List ℕ). IsEnding w.framing o (ending.Fault e)) (fault_octets w v b piece past more e k) (k.refused.ends k.rest));
         spelled = is.octets ∙ k.offset ∙ ap length (sym k.refused.spelled);
         unused = is.unused ∙ k.unused;
+        framing = k.framing;
         walker = subst (StandsAtEnd v (b ++ piece) (past ++ more)) (sym is.ending)
             (refused_one (record { front = b ++ k.taken; octet = k.octet; rest = k.rest; octets_is = fault_octets w v b piece past more e k; stands = k.stands }));
       }
@@ -221,6 +222,7 @@ used_up_ends next before after o past run e x is ends =
       ending = subst (λ (k : Ending). IsEnding w.framing o k) (sym is.ending) (subst (λ (g : Framing). IsEnding g o e) x.framing ends);
       spelled = is.octets ∙ x.stands.private_state.has_state.offset ∙ ap length (sym (stands_spelled v o (past ++ x.more) x.stands.reading x.stands x.stands.is_reading));
       unused = is.unused ∙ stands_unused v o (past ++ x.more) x.stands ∙ ap (λ (g : Framing). first_unused g.inside x.stands.reading) x.framing;
+      framing = x.framing;
       walker = took_all x.stands x.idle;
     }
 

@@ -36,6 +36,7 @@ pub record WalksTo (old new : WalkerState) (before : List ℕ) (more : List Even
   pub octet : ℕ
   pub rest : List ℕ
   pub piece : before ≡ taken ++ octet ∷ rest
+  pub framing : new.framing ≡ old.framing
   pub offset : new.offset ≡ length (b ++ taken)
   pub refused : IsRefusedAfter old.framing (b ++ taken) octet (past ++ more) f
   pub unused : first_unused_in new ≡ first_unused old.framing.inside refused.reading
