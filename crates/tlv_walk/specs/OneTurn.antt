@@ -17,11 +17,11 @@ use Rattle.tlv_walk.specs.FollowsEvents.{FollowsEvents}
 use Rattle.tlv_walk.specs.Forest.{Forest, spell}
 use Rattle.tlv_walk.specs.Job.{drain_result, source_result}
 use Rattle.tlv_walk.specs.Laws.{AreOctets}
-use Rattle.tlv_walk.specs.WalkerState.{CanTake, WalkerState}
+use Rattle.tlv_walk.specs.WalkerState.{WalkerState}
 use Rattle.tlv_io.specs.Out.{Sends}
 use Rattle.tlv_walk.specs.Reading.{IsPrefixOf, IsReading}
 use Rattle.tlv_walk.specs.HasRead.{StandsAtEnd}
-use Rattle.tlv_walk.specs.Stands.{Stands, waiting_events}
+use Rattle.tlv_walk.specs.Stands.{CanTake, IsIdle, Stands}
 use Rattle.tlv_walk.specs.Wrappers.{first_other, first_unused, wrapper_offsets}
 
 -- the octets that the last read gave, at the front of the piece
@@ -77,7 +77,7 @@ module _ {S : Type 0} (next : S → EventValue → Effect S) (before after : Tur
     pub put : SendsMade more (Ok tt)
     pub framing : after.walker.framing ≡ before.walker.framing
     pub stands : Stands after.walker octets (past ++ more)
-    pub idle : waiting_events after.walker ≡ []
+    pub idle : IsIdle after.walker
 
   -- the walk has ended in these octets, of which all events were followed
   pub record EndsIn (octets : List ℕ) (past : List EventValue) (run : Run) : Type 0 where

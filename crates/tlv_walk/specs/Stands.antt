@@ -5,7 +5,7 @@ use Rattle.tlv_walk.specs.Phase.{Phase}
 use Rattle.tlv_walk.specs.Phase as phase
 use Rattle.tlv_walk.specs.Events.{AreEqualJoined, Close, End, EventValue, Leave, events}
 use Rattle.tlv_walk.specs.Forest.{Forest}
-use Rattle.tlv_walk.specs.WalkerState.{WalkerState}
+use Rattle.tlv_walk.specs.WalkerState.{HasNotFailed, WalkerState}
 use Rattle.tlv_walk.specs.Private.Zipper.{HasPrivateState}
 use Rattle.tlv_walk.specs.Reading.{IsReading}
 
@@ -37,6 +37,10 @@ waiting_events w = waiting_events_in w.phase w.stack w.offset
 -- no event waits: none is to come that needs no further octet
 abbrev pub IsIdle : WalkerState → Type 0
 IsIdle w = waiting_events w ≡ []
+
+-- an octet can be taken: no event waits, and no octet was refused
+abbrev pub CanTake : WalkerState → Type 0
+CanTake w = IsIdle w × HasNotFailed w
 
 -- what a walker stands for that was refused nothing: octets, and the events yielded for them. Yielded and waiting
 -- together they are those of the reading

@@ -1,11 +1,12 @@
 -- What contracts see of a `Walker`, which takes octets and yields events.
 use Rattle.std.specs.Prelude.{◌≡◌, ◌≢◌, ℕ, ◌+◌, ◌^◌, ◌≤◌, Bool, false, slice_get, List, [], length, Option}
+use Rattle.tlv_head.specs.declared.fault.Fault.{Fault}
 use Rattle.tlv_head.specs.HeadReaderState.{HeadReaderState}
 use Rattle.tlv_walk.specs.declared.event.Event.{Event}
 use Rattle.tlv_walk.specs.declared.event.Event.TheVariants as event
 use Rattle.tlv_walk.specs.declared.framing.Framing.{Framing}
 use Rattle.tlv_walk.specs.Phase.{Phase, Between, InHeader, InContents, BeforeUnused, InEnd, Failed}
-use Rattle.tlv_walk.specs.Stack.{Frame, IsFilled, IsInIndefinite, IsInWrapper, IsNested, Within, bound_of}
+use Rattle.tlv_walk.specs.Stack.{Frame, IsInIndefinite, IsInWrapper, IsNested, Within, bound_of}
 
 pub record WalkerState : Type 0 where
   -- the open elements, innermost first
@@ -51,17 +52,9 @@ pub record IsWalkerState (w : WalkerState) : Type 0 where
   pub named : length w.framing.inside ≤ 16
   pub found : w.wrappers ≤ length w.framing.inside
 
--- an octet can be taken: no event waits, and no octet was refused
-abbrev pub CanTakeIn : Phase → List Frame → ℕ → Type 0
-CanTakeIn Between stack offset = IsFilled stack offset → ⊥
-CanTakeIn (InHeader r) stack offset = Unit {0}
-CanTakeIn (InContents left) stack offset = left ≢ 0
-CanTakeIn BeforeUnused stack offset = Unit {0}
-CanTakeIn InEnd stack offset = Unit {0}
-CanTakeIn (Failed fault) stack offset = ⊥
-
-abbrev pub CanTake : WalkerState → Type 0
-CanTake w = CanTakeIn w.phase w.stack w.offset
+-- no octet was refused
+abbrev pub HasNotFailed : WalkerState → Type 0
+HasNotFailed w = (f : Fault) → w.phase ≢ Failed f
 
 -- a phase in which an event was yielded for each octet taken: no header has begun, no end-of-contents octets, and no
 -- octet was refused

@@ -4,7 +4,7 @@ ghost use Rattle.tlv_walk.specs.Follow.{HasEffect};
 ghost use Rattle.tlv_walk.specs.Private.ResultOfStop.{IsResultOfStop, IsRun};
 ghost use Rattle.tlv_walk.specs.Private.FollowsPiece.{FollowsAndFlushes, FollowsPart, FollowsPiece, walk_state};
 ghost use Rattle.tlv_walk.specs.Private.WalkerState.{CanPass};
-ghost use Rattle.tlv_walk.specs.WalkerState.{CanTake};
+ghost use Rattle.tlv_walk.specs.Stands.{CanTake};
 ghost use Rattle.tlv_io.specs.Out.{Puts, buffer_of, drain_of};
 ghost use Rattle.tlv_walk.specs.HasRead.{event_value};
 ghost use Rattle.tlv_walk.specs.OneTurn.{FollowsOneRead, turn_state};

@@ -71,7 +71,7 @@ impl Walker {
     ghost use Rattle.tlv_walk.specs.Events.{EventValue};
     ghost use Rattle.tlv_walk.specs.Forest.{Forest};
     ghost use Rattle.tlv_walk.specs.OpenCount.{open_count};
-    ghost use Rattle.tlv_walk.specs.Stands.{IsIdle, Stands};
+    ghost use Rattle.tlv_walk.specs.Stands.{CanTake, IsIdle, Stands};
     ghost use Rattle.tlv_walk.specs.Wrappers.{first_unused};
     ghost use Rattle.tlv_walk.specs.StepsTo.{RefusesAgain, StepsTo};
     ghost use Rattle.tlv_walk.specs.HasRead.{HasRead, StandsAtEnd};
@@ -81,6 +81,7 @@ impl Walker {
     pub fn new(framing: &Framing) -> Walker
         ensures state { result ≡ new_walker framing.now }
         ensures stands { Stands result [] [] }
+        ensures ready { CanTake result }
     {
         Walker {
             stack: Stack::new(),

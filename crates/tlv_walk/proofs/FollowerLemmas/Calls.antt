@@ -15,7 +15,8 @@ use Rattle.tlv_io.specs.Device.{Last, never, gave, failed, failures_after, Reads
 use Rattle.tlv_walk.specs.Events.{EventValue}
 use Rattle.tlv_walk.specs.Follow.{Effect}
 use Rattle.tlv_walk.specs.Job.{drain_result, source_result}
-use Rattle.tlv_walk.specs.WalkerState.{CanTake, WalkerState}
+use Rattle.tlv_walk.specs.Stands.{CanTake}
+use Rattle.tlv_walk.specs.WalkerState.{WalkerState}
 use Rattle.tlv_walk.specs.Private.FollowsPiece.{Stops, WalkState, walk_state}
 use Rattle.tlv_walk.specs.Private.ResultOfStop.{IsResultOfStop}
 use Rattle.tlv_walk.specs.OneTurn.{CallsDevices, CanGoOn, Gave, TurnState, last_octets}

@@ -206,7 +206,6 @@ module _ {S : Type 0} (next : S → EventValue → Effect S) where
                 subst (λ (all : List ℕ). Stands v all (es ++ h.more)) (append_assoc o h.follows.walked.taken mid) (steps.stands (o ++ h.follows.walked.taken) (es ++ h.more) (h.follows.walked.stands o es st));
           };
         };
-        idle = λ o es st. steps.idle;
         offset = steps.offset ∙ walked;
         ready = steps.ready;
       };

@@ -15,7 +15,7 @@ use Rattle.tlv_walk.specs.FollowsEvents.{FollowsEvents}
 use Rattle.tlv_walk.specs.Laws.{AreOctets}
 use Rattle.tlv_walk.specs.WalkerState.{new_walker}
 use Rattle.tlv_io.specs.Out.{Sends}
-use Rattle.tlv_walk.specs.Stands.{Stands, waiting_events}
+use Rattle.tlv_walk.specs.Stands.{IsIdle, Stands}
 use Rattle.tlv_walk.specs.OneTurn.{GaveUpTo, TurnState, last_octets, turn_state}
 use Rattle.tlv_walk.specs.Wrappers.{wrapper_offsets}
 use Rattle.tlv_walk.proofs.FollowerLemmas.Following.{made_none}
@@ -74,7 +74,7 @@ module _ {S : Type 0} (next : S → EventValue → Effect S) where
     pub sends : Sends {T = ⊤} {E = DeviceFault} from now.drain (effect_of next s past).put (Ok tt)
     pub same : now.walker.framing ≡ framing
     pub stands : Stands now.walker (concat gathered.pieces) past
-    pub idle : waiting_events now.walker ≡ []
+    pub idle : IsIdle now.walker
 
   pub walking_none : (framing : Framing) (s : S) (old : SourceState) (from : DrainState) → Stands (new_walker framing) [] []
       → Walking framing s old from (turn_state (new_walker framing) s old from)

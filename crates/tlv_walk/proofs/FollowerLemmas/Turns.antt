@@ -93,7 +93,7 @@ module _ {S : Type 0} (next : S → EventValue → Effect S) where
 
     -- the walker and the follower are the same, and so is where the piece is followed no further
     stops_same : (x y : WalkState S D) (c : Out D) (piece : List ℕ) (more : List EventValue) (why : Stop) → Stops next x y piece more (Ok why) → Stops next x (walk_state y.walker y.follower c) piece more (Ok why)
-    stops_same x y c piece more stop.UsedUp k = record { follows = record { made = k.follows.made; walked = k.follows.walked }; idle = k.idle; offset = k.offset; ready = k.ready }
+    stops_same x y c piece more stop.UsedUp k = record { follows = record { made = k.follows.made; walked = k.follows.walked }; offset = k.offset; ready = k.ready }
     stops_same x y c piece more (stop.Fault f) k = record { made = k.made; walked = k.walked }
     stops_same x y c piece more stop.Enough k = record { rest = k.rest; follows = record { made = k.follows.made; walked = k.follows.walked }; after_event = k.after_event }
 
@@ -162,7 +162,7 @@ module _ {S D : Type 0} (next : S → EventValue → Effect S) (before after : T
     put = put;
     framing = k.follows.walked.framing;
     stands = subst (λ (o : List ℕ). Stands v (b ++ o) (past ++ more)) (sym (append-nil k.follows.walked.taken) ∙ sym k.follows.walked.piece) (k.follows.walked.stands b past st);
-    idle = k.idle b past st;
+    idle = k.ready.0;
   }
 
   -- the follower had enough

@@ -10,7 +10,7 @@ use Rattle.tlv_walk.specs.Phase as phase
 use Rattle.tlv_walk.specs.Ending.{IsEnding, IsFault, done, empty, fault, short, tip}
 use Rattle.tlv_walk.specs.Events.{EventValue}
 use Rattle.tlv_walk.specs.Forest.{Forest, Stop, Partial, Awaiting, Begun, Zero, has_element, is_whole, spell}
-use Rattle.tlv_walk.specs.WalkerState.{CanTake, CanTakeIn, WalkerState}
+use Rattle.tlv_walk.specs.WalkerState.{WalkerState}
 use Rattle.tlv_walk.specs.Private.WalkerState.{EventWaits, EventWaitsIn}
 use Rattle.tlv_walk.specs.Place.{Place, top_place}
 use Rattle.tlv_walk.specs.Private.Zipper.{BeforeUnused, Between, HasZipper, InContents, InEnd, InHeader, IsPhaseOf, Layer, Tail, Zipper, begins_element, frames_of, place_in, place_of, spell_tail, stack_of}
@@ -51,17 +51,6 @@ pub state-within : (w : WalkerState) (b : List ℕ) (past : List EventValue) (s 
 state-within w b past s h n =
     reading-within w.framing s.layers s.here w.phase s.tail w.offset h.phase (state-offset w b past s h)
     (λ i. n (subst (λ (stack : List Frame). EventWaitsIn w.phase stack w.offset) (sym h.stack) i))
-
--- a walker that is ready has no event waiting
-pub ready-waits : (w : WalkerState) → CanTake w → EventWaits w → ⊥
-ready-waits w = ready-waits-in w.phase w.stack w.offset where
-  ready-waits-in : (f : Phase) (stack : List Frame) (at : ℕ) → CanTakeIn f stack at → EventWaitsIn f stack at → ⊥
-  ready-waits-in phase.Between stack at r i = r i
-  ready-waits-in (phase.InContents left) stack at r i = r i
-  ready-waits-in (phase.InHeader p) stack at r i = i
-  ready-waits-in phase.BeforeUnused stack at r i = i
-  ready-waits-in phase.InEnd stack at r i = i
-  ready-waits-in (phase.Failed f) stack at r i = i
 
 -- ---- the open end
 

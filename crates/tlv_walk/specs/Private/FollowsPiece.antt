@@ -14,10 +14,10 @@ use Rattle.tlv_walk.specs.Events.{AreEqualJoined, EventValue, events}
 use Rattle.tlv_walk.specs.Follow.{Effect, effect_of}
 use Rattle.tlv_walk.specs.Forest.{Forest}
 use Rattle.tlv_walk.specs.Laws.{AreOctets}
-use Rattle.tlv_walk.specs.WalkerState.{CanTake, IsAfterEvent, WalkerState, first_unused_in}
+use Rattle.tlv_walk.specs.WalkerState.{IsAfterEvent, WalkerState, first_unused_in}
 use Rattle.tlv_walk.specs.Private.WalkerState.{Passes}
 use Rattle.tlv_walk.specs.Reading.{IsReading}
-use Rattle.tlv_walk.specs.Stands.{Stands, waiting_events}
+use Rattle.tlv_walk.specs.Stands.{CanTake, Stands}
 use Rattle.tlv_walk.specs.HasRead.{IsRefusedAfter, StandsRefused}
 use Rattle.tlv_walk.specs.Wrappers.{first_unused}
 use Rattle.tlv_walk.specs.FollowsEvents.{FollowsEvents}
@@ -65,11 +65,9 @@ module _ {S D : Type 0} (next : S → EventValue → Effect S) (before after : W
     pub made : FollowsEvents next before.follower after.follower more goes
     pub walked : WalksOver before.walker after.walker piece rest more
 
-  -- all of a piece was followed, and no event waits
+  -- all of a piece was followed, and the next octet can be taken
   pub record FollowsAll (piece : List ℕ) (more : List EventValue) : Type 0 where
     pub follows : Follows piece [] more go.On
-    pub idle : (b : List ℕ) (past : List EventValue) → Stands before.walker b past
-        → waiting_events after.walker ≡ []
     pub offset : after.walker.offset ≡ before.walker.offset + length piece
     pub ready : CanTake after.walker
 
