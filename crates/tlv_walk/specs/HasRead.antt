@@ -1,7 +1,6 @@
 -- What a walker has read, also after it refused an octet.
 use Rattle.std.specs.Prelude.{◌≡◌, ℕ, List, [], ◌∷◌, ◌++◌, length}
 use Rattle.tlv_head.specs.declared.fault.Fault.{Fault}
-use Rattle.tlv_walk.specs.declared.ending.Ending.{Ending}
 use Rattle.tlv_walk.specs.declared.ending.Ending.TheVariants as ending
 use Rattle.tlv_walk.specs.declared.framing.Framing.{Framing}
 use Rattle.tlv_walk.specs.declared.event.Event.{Event}
@@ -66,6 +65,6 @@ pub record StopsAt (w : WalkerState) (octets : List ℕ) (past : List EventValue
 
 -- where a walker stands that walked over these octets to the end, and yielded these events: after all octets, or at the
 -- octet that it refused
-pub data StandsAtEnd (w : WalkerState) (octets : List ℕ) (past : List EventValue) : Ending → Type 0 where
-  took_all : {e : Ending} → Stands w octets past → IsIdle w → StandsAtEnd w octets past e
-  refused_one : {f : Fault} → StopsAt w octets past f → StandsAtEnd w octets past (ending.Fault f)
+pub data StandsAtEnd (w : WalkerState) (octets : List ℕ) (past : List EventValue) : Type 0 where
+  took_all : Stands w octets past → IsIdle w → StandsAtEnd w octets past
+  refused_one : (f : Fault) → StopsAt w octets past f → StandsAtEnd w octets past

@@ -91,7 +91,7 @@ module _ {S : Type 0} (next : S → EventValue → Effect S) (before after : Tur
     pub spelled : run.octets ≡ length (spell reading)
     pub unused : run.unused ≡ first_unused before.walker.framing.inside reading
     pub framing : after.walker.framing ≡ before.walker.framing
-    pub walker : StandsAtEnd after.walker octets (past ++ more) run.ending
+    pub walker : StandsAtEnd after.walker octets (past ++ more)
 
   -- the follower had enough with the last of these events, and the walker stands for the octets that they
   -- yield of

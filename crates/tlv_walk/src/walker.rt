@@ -154,11 +154,9 @@ impl Walker {
     /// the input is a sound list of encodings.
     pub fn finish(&self) -> Ending
         requires { IsIdle self.now }
-        ensures ending { (o : List ℕ) (past : List EventValue) (e : Ending)
-            → StandsAtEnd self.now o past e
+        ensures ending { (o : List ℕ) (past : List EventValue) → StandsAtEnd self.now o past
             → IsEnding self.now.framing o result }
-        ensures soundness { (o : List ℕ) (past : List EventValue) (e : Ending)
-            → StandsAtEnd self.now o past e
+        ensures soundness { (o : List ℕ) (past : List EventValue) → StandsAtEnd self.now o past
             → ShowsSoundness self.now.framing o result }
         ensures failed { (f : FaultOf) → self.now.phase ≡ phases.Failed f
             → result ≡ Ending.Fault f }

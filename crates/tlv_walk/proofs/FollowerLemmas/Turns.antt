@@ -31,7 +31,7 @@ use Rattle.tlv_io.specs.Out.{Puts, Sends, buffer_of, drain_of}
 use Rattle.tlv_walk.specs.Place.{top_place}
 use Rattle.tlv_walk.specs.Reading.{IsReading}
 use Rattle.tlv_walk.specs.Stands.{Stands, waiting_events}
-use Rattle.tlv_walk.specs.HasRead.{StandsAtEnd, refused_one, took_all}
+use Rattle.tlv_walk.specs.HasRead.{refused_one, took_all}
 use Rattle.tlv_walk.specs.OneTurn.{EndsBy, EndsIn, StandsOn, StopsIn, TurnState, TurnsTo}
 use Rattle.tlv_walk.specs.Wrappers.{first_other, first_unused, wrapper_offsets}
 use Rattle.tlv_walk.proofs.GrammarLemmas.Finals.{refused-final}
@@ -202,8 +202,7 @@ module _ {S D : Type 0} (next : S → EventValue → Effect S) (before after : T
         spelled = is.octets ∙ k.offset ∙ ap length (sym k.refused.spelled);
         unused = is.unused ∙ k.unused;
         framing = k.framing;
-        walker = subst (StandsAtEnd v (b ++ piece) (past ++ more)) (sym is.ending)
-            (refused_one (record { front = b ++ k.taken; octet = k.octet; rest = k.rest; octets_is = fault_octets w v b piece past more e k; stands = k.stands }));
+        walker = refused_one e (record { front = b ++ k.taken; octet = k.octet; rest = k.rest; octets_is = fault_octets w v b piece past more e k; stands = k.stands });
       }
 
 -- the input has ended

@@ -43,14 +43,14 @@ never_failed w b past f st e = no_phase st.private_state.state.tail (place_of w.
     no_phase t p h = h
 
 -- at the end of the input, also where an octet was refused
-pub ends_by : (w : WalkerState) (o : List ℕ) (past : List EventValue) (e result : Ending) → ((b : List ℕ) (past : List EventValue) → Stands w b past → IsEnding w.framing b result)
-    → ((f : Fault) → w.phase ≡ Failed f → result ≡ ending.Fault f) → StandsAtEnd w o past e → IsEnding w.framing o result
-ends_by w o past e result stands failed (took_all st none) = stands o past st
-ends_by w o past e result stands failed (refused_one {f = f} at) =
+pub ends_by : (w : WalkerState) (o : List ℕ) (past : List EventValue) (result : Ending) → ((b : List ℕ) (past : List EventValue) → Stands w b past → IsEnding w.framing b result)
+    → ((f : Fault) → w.phase ≡ Failed f → result ≡ ending.Fault f) → StandsAtEnd w o past → IsEnding w.framing o result
+ends_by w o past result stands failed (took_all st none) = stands o past st
+ends_by w o past result stands failed (refused_one f at) =
     subst (λ (l : List ℕ). IsEnding w.framing l result) at.octets_is
     (subst (λ (k : Ending). IsEnding w.framing (at.front ++ at.octet ∷ at.rest) k) (sym (failed f at.stands.phase)) (at.stands.refused.ends at.rest))
 
 -- and it shows whether the input is sound
-pub shows_by : (w : WalkerState) (o : List ℕ) (past : List EventValue) (e result : Ending) → ((b : List ℕ) (past : List EventValue) → Stands w b past → IsEnding w.framing b result)
-    → ((f : Fault) → w.phase ≡ Failed f → result ≡ ending.Fault f) → StandsAtEnd w o past e → ShowsSoundness w.framing o result
-shows_by w o past e result stands failed at = shows-soundness w.framing o result (ends_by w o past e result stands failed at)
+pub shows_by : (w : WalkerState) (o : List ℕ) (past : List EventValue) (result : Ending) → ((b : List ℕ) (past : List EventValue) → Stands w b past → IsEnding w.framing b result)
+    → ((f : Fault) → w.phase ≡ Failed f → result ≡ ending.Fault f) → StandsAtEnd w o past → ShowsSoundness w.framing o result
+shows_by w o past result stands failed at = shows-soundness w.framing o result (ends_by w o past result stands failed at)
