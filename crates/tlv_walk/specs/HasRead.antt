@@ -55,6 +55,10 @@ pub data HasRead (w : WalkerState) (b : List ℕ) (reading : Forest) : Type 0 wh
   stopped : (x : ℕ) (past : List EventValue) (f : Fault) (stands : StandsRefused w b x past f)
       → stands.refused.reading ≡ reading → HasRead w b reading
 
+-- of what a walker has read this holds
+abbrev pub IfRead : WalkerState → (List ℕ → Forest → Type 0) → Type 0
+IfRead w P = (b : List ℕ) (f : Forest) → HasRead w b f → P b f
+
 -- a walker refused an octet of these, and yielded these events of the octets before it
 pub record StopsAt (w : WalkerState) (octets : List ℕ) (past : List EventValue) (f : Fault) : Type 0 where
   pub front : List ℕ

@@ -69,12 +69,11 @@ impl Walker {
     ghost use Rattle.tlv_head.specs.declared.fault.Fault.{Fault as FaultOf};
     ghost use Rattle.tlv_walk.specs.Ending.{IsEnding, ShowsSoundness};
     ghost use Rattle.tlv_walk.specs.Events.{EventValue};
-    ghost use Rattle.tlv_walk.specs.Forest.{Forest};
     ghost use Rattle.tlv_walk.specs.OpenCount.{open_count};
     ghost use Rattle.tlv_walk.specs.Stands.{CanTake, IsIdle, Stands};
     ghost use Rattle.tlv_walk.specs.Wrappers.{first_unused};
     ghost use Rattle.tlv_walk.specs.StepsTo.{RefusesAgain, StepsTo};
-    ghost use Rattle.tlv_walk.specs.HasRead.{HasRead, StandsAtEnd};
+    ghost use Rattle.tlv_walk.specs.HasRead.{IfRead, StandsAtEnd};
     ghost use Rattle.tlv_walk.specs.Private.Steps.{YieldsStep};
 
     /// A walker that has taken nothing.
@@ -100,8 +99,8 @@ impl Walker {
     pub fn depth(&self) -> u8
         ensures value { result ≡ length self.now.stack }
         ensures within { result ≤ 128 }
-        ensures open_elements { (b : List ℕ) (f : Forest) → HasRead self.now b f → IsIdle self.now
-            → result ≡ open_count f }
+        ensures open_elements { IsIdle self.now
+            → IfRead self.now (λ b f. result ≡ open_count f) }
     {
         self.stack.len()
     }
@@ -110,7 +109,7 @@ impl Walker {
     pub fn offset(&self) -> u64
         ensures value { result ≡ self.now.offset }
         ensures within { result ≤ 2 ^ 40 }
-        ensures taken { (b : List ℕ) (f : Forest) → HasRead self.now b f → result ≡ length b }
+        ensures taken { IfRead self.now (λ b f. result ≡ length b) }
     {
         self.offset
     }
@@ -126,8 +125,7 @@ impl Walker {
     /// The first of the named offsets at which no string was found whose contents are encodings.
     pub fn unused(&self) -> Option<u64>
         ensures value { result ≡ first_unused_in self.now }
-        ensures first { (b : List ℕ) (f : Forest) → HasRead self.now b f
-            → result ≡ first_unused self.now.framing.inside f }
+        ensures first { IfRead self.now (λ b f. result ≡ first_unused self.now.framing.inside f) }
     {
         self.framing.inside.get(self.wrappers)
     }
