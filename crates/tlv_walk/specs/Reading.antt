@@ -13,8 +13,8 @@ IsPrefixOf p b = (rest : List ℕ) × (p ++ rest ≡ b)
 -- the reading of an input: the open forest that spells the longest front of it that any open forest spells
 pub record IsReading (framing : Framing) (b : List ℕ) (f : Forest) : Type 0 where
   pub is_open : IsOpen (top_place framing) f
-  pub front : (rest : List ℕ) × (spell f ++ rest ≡ b)
-  pub longest : (g : Forest) → IsOpen (top_place framing) g → (rest : List ℕ) × (spell g ++ rest ≡ b)
+  pub front : IsPrefixOf (spell f) b
+  pub longest : (g : Forest) → IsOpen (top_place framing) g → IsPrefixOf (spell g) b
       → length (spell g) ≤ length (spell f)
 
 -- 8.1.1 to 8.1.5: nothing is open, each definite length is that of the contents, and no element is held by

@@ -7,7 +7,6 @@ use Rattle.tlv_walk.specs.declared.event.Step.TheVariants as step
 use Rattle.tlv_walk.specs.declared.follow.Go.{Go}
 use Rattle.tlv_walk.specs.declared.follow.Go.TheVariants as go
 use Rattle.tlv_walk.specs.declared.framing.Framing.{Framing}
-use Rattle.tlv_io.specs.declared.out.Out.{Out}
 use Rattle.tlv_walk.specs.declared.one_turn.Stop.{Stop}
 use Rattle.tlv_walk.specs.declared.one_turn.Stop.TheVariants as stop
 use Rattle.tlv_io.specs.Device.{DrainState}

@@ -8,7 +8,6 @@ use Rattle.tlv_io.specs.declared.drain.WriteFault.{WriteFault}
 use Rattle.tlv_walk.specs.declared.follow.Go.{Go}
 use Rattle.tlv_walk.specs.declared.follow.Go.TheVariants as go
 use Rattle.tlv_walk.specs.declared.framing.Framing.{Framing}
-use Rattle.tlv_io.specs.declared.out.Out.{Out}
 use Rattle.tlv_walk.specs.declared.walker.quick.WholePrimitive.{WholePrimitive}
 use Rattle.tlv_io.specs.Device.{DrainState}
 use Rattle.tlv_walk.specs.Events.{EventValue}
@@ -21,7 +20,7 @@ use Rattle.tlv_walk.specs.Private.WalkerState.{CanPass, Passes, header_at}
 use Rattle.tlv_walk.specs.Private.Steps.{YieldsEvents}
 use Rattle.tlv_walk.proofs.FollowerLemmas.Following.{HasFollowed, made_both, made_put, walked_both, walked_goes_on}
 use Rattle.tlv_walk.proofs.WalkerLemmas.Passing.{passed, yields_primitive}
-use Rattle.tlv_io.proofs.Puts.{HasPut, puts_as, puts_failed_last, puts_then_as}
+use Rattle.tlv_io.proofs.Puts.{puts_as, puts_failed_last, puts_then_as}
 use Rattle.tlv_walk.proofs.WalkerLemmas.Standing.{stands_all}
 
 -- a primitive that lies whole at the front of a piece

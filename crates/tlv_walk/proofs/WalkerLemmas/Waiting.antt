@@ -4,7 +4,7 @@ use Rattle.tlv_head.specs.declared.fault.Fault.{Fault}
 use Rattle.tlv_walk.specs.Phase.{Phase}
 use Rattle.tlv_walk.specs.Phase as phase
 use Rattle.tlv_walk.specs.Events.{End, EventValue}
-use Rattle.tlv_walk.specs.WalkerState.{HasNotFailed, WalkerState}
+use Rattle.tlv_walk.specs.WalkerState.{WalkerState}
 use Rattle.tlv_walk.specs.Private.WalkerState.{AwaitsOctet, AwaitsOctetIn, EventWaits, EventWaitsIn}
 use Rattle.tlv_walk.specs.Stack.{Frame, IsFilled}
 use Rattle.tlv_walk.specs.Stands.{CanTake, IsIdle, ending_event, ending_events, is_end, waiting_events, waiting_events_in}
