@@ -60,7 +60,7 @@ module _ {S : Type 0} (next : S → EventValue → Effect S) where
     limit = limit;
     text = λ f. (effect_of next s (events f)).put;
     is_enough = λ f. had_enough (effect_of next s (events f)).goes;
-    answer = λ f e. run_over framing f (followed_events next s (events f)) (effect_of next s (events f)).goes e;
+    returned = λ f e. run_over framing f (followed_events next s (events f)) (effect_of next s (events f)).goes e;
   }
 
   -- what it comes to, and the state that it leaves

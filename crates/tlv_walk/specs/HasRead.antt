@@ -52,7 +52,7 @@ pub record StandsRefused (w : WalkerState) (b : List ℕ) (octet : ℕ) (past : 
 -- before that one
 pub data HasRead (w : WalkerState) (b : List ℕ) (reading : Forest) : Type 0 where
   took : (past : List EventValue) (stands : Stands w b past) → stands.reading ≡ reading → HasRead w b reading
-  stopped : (x : ℕ) (past : List EventValue) (f : Fault) (stands : StandsRefused w b x past f)
+  refused : (x : ℕ) (past : List EventValue) (f : Fault) (stands : StandsRefused w b x past f)
       → stands.refused.reading ≡ reading → HasRead w b reading
 
 -- of what a walker has read this holds
@@ -60,7 +60,7 @@ abbrev pub IfRead : WalkerState → (List ℕ → Forest → Type 0) → Type 0
 IfRead w P = (b : List ℕ) (f : Forest) → HasRead w b f → P b f
 
 -- a walker refused an octet of these, and yielded these events of the octets before it
-pub record StopsAt (w : WalkerState) (octets : List ℕ) (past : List EventValue) (f : Fault) : Type 0 where
+pub record RefusesAt (w : WalkerState) (octets : List ℕ) (past : List EventValue) (f : Fault) : Type 0 where
   pub front : List ℕ
   pub octet : ℕ
   pub rest : List ℕ
@@ -71,4 +71,4 @@ pub record StopsAt (w : WalkerState) (octets : List ℕ) (past : List EventValue
 -- octet that it refused
 pub data StandsAtEnd (w : WalkerState) (octets : List ℕ) (past : List EventValue) : Type 0 where
   took_all : Stands w octets past → IsIdle w → StandsAtEnd w octets past
-  refused_one : (f : Fault) → StopsAt w octets past f → StandsAtEnd w octets past
+  refused_one : (f : Fault) → RefusesAt w octets past f → StandsAtEnd w octets past

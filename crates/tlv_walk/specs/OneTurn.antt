@@ -95,7 +95,7 @@ module _ {S : Type 0} (next : S → EventValue → Effect S) (before after : Tur
 
   -- the follower had enough with the last of these events, and the walker stands for the octets that they
   -- yield of
-  pub record StopsIn (octets : List ℕ) (past : List EventValue) (run : Run) : Type 0 where
+  pub record HasEnoughIn (octets : List ℕ) (past : List EventValue) (run : Run) : Type 0 where
     pub more : List EventValue
     pub made : FollowsEvents next before.follower after.follower more go.Enough
     pub put : SendsMade more (Ok tt)
@@ -113,7 +113,7 @@ module _ {S : Type 0} (next : S → EventValue → Effect S) (before after : Tur
   -- by whether the follower had enough
   abbrev pub EndsBy : Bool → List ℕ → List EventValue → Run → Type 0
   EndsBy false octets past run = EndsIn octets past run
-  EndsBy true octets past run = StopsIn octets past run
+  EndsBy true octets past run = HasEnoughIn octets past run
 
   -- the drain failed at a front of what is made of all events of the octets
   pub record FailsIn (octets : List ℕ) (past : List EventValue) : Type 0 where

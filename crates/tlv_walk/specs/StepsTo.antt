@@ -49,7 +49,7 @@ pub record RefusesNext (old new : WalkerState) (before after : List ℕ) (f : Fa
   pub offset : new.offset ≡ old.offset + length taken
   pub events : new.events ≡ old.events
   pub stack : new.stack ≡ old.stack
-  pub wrappers : new.wrappers ≡ old.wrappers
+  pub wrapper_count : new.wrapper_count ≡ old.wrapper_count
 
 -- an octet was refused before: the same fault again, and nothing has changed
 pub record RefusesAgain (old new : WalkerState) (before after : List ℕ) (f : Fault) : Type 0 where

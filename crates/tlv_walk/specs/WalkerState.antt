@@ -20,11 +20,11 @@ pub record WalkerState : Type 0 where
   -- an octet of an element came
   pub has_element : Bool
   -- how many of the named offsets, from the first on, are those of wrappers
-  pub wrappers : ℕ
+  pub wrapper_count : ℕ
 
 abbrev pub new_walker : Framing → WalkerState
 new_walker framing =
-    record { stack = []; phase = Between; offset = 0; events = 0; framing = framing; has_element = false; wrappers = 0 }
+    record { stack = []; phase = Between; offset = 0; events = 0; framing = framing; has_element = false; wrapper_count = 0 }
 
 -- a header's octets so far are before the offset
 pub record IsInHeader (r : HeadReaderState) (at : ℕ) : Type 0 where
@@ -50,7 +50,7 @@ pub record IsWalkerState (w : WalkerState) : Type 0 where
   pub fewer : length w.stack ≤ 128
   pub phased : IsPhase w.phase w.stack w.offset w.events
   pub named : length w.framing.inside ≤ 16
-  pub found : w.wrappers ≤ length w.framing.inside
+  pub found : w.wrapper_count ≤ length w.framing.inside
 
 -- no octet was refused
 abbrev pub HasNotFailed : WalkerState → Type 0
@@ -80,4 +80,4 @@ HasOctets (event.Pad octets) = octets.now ≢ []
 
 -- the first of the named offsets that is not known to be a wrapper's
 abbrev pub first_unused_in : WalkerState → Option ℕ
-first_unused_in w = slice_get w.framing.inside w.wrappers
+first_unused_in w = slice_get w.framing.inside w.wrapper_count

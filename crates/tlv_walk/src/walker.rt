@@ -45,7 +45,7 @@ pub struct Walker {
     /// Whether an octet of an element came, and not padding alone.
     has_element: bool,
     /// How many of the named offsets, from the first on, are those of wrappers.
-    wrappers: usize,
+    wrapper_count: usize,
 }
 
 impl Model for Walker {
@@ -90,7 +90,7 @@ impl Walker {
             events: 0,
             framing: framing.copied(),
             has_element: false,
-            wrappers: 0,
+            wrapper_count: 0,
         }
     }
 
@@ -127,7 +127,7 @@ impl Walker {
         ensures value { result ≡ first_unused_in self.now }
         ensures first { IfRead self.now (λ b f. result ≡ first_unused self.now.framing.inside f) }
     {
-        self.framing.inside.get(self.wrappers)
+        self.framing.inside.get(self.wrapper_count)
     }
 
     /// Whether an event is still to come that needs no further octet.

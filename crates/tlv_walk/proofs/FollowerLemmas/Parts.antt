@@ -52,7 +52,7 @@ module _ {S : Type 0} (next : S → EventValue → Effect S) where
         → FollowsPart next state_of y z mid after (Err e) → FollowsPiece next state_of x z piece (Err f)
     fails_part x y z piece mid after e f h p = record {
       more = h.more ++ p.more;
-      stops = record {
+      pauses = record {
         yields = λ o es st.
             let walked : WalksOver x.walker y.walker piece mid h.more = h.follows.walked in
             subst (λ (g : Framing). GoesOnIn g (o ++ piece) (es ++ (h.more ++ p.more))) walked.framing

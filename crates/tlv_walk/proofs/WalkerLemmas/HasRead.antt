@@ -12,7 +12,7 @@ use Rattle.tlv_walk.specs.Phase.{Phase, Failed}
 use Rattle.tlv_walk.specs.Place.{Place}
 use Rattle.tlv_walk.specs.Private.Zipper.{IsPhaseOf, Tail, place_of}
 use Rattle.tlv_walk.specs.Stands.{IsIdle, Stands}
-use Rattle.tlv_walk.specs.HasRead.{HasRead, StandsAtEnd, refused_one, stopped, took, took_all}
+use Rattle.tlv_walk.specs.HasRead.{HasRead, StandsAtEnd, refused_one, refused, took, took_all}
 use Rattle.tlv_walk.specs.Wrappers.{first_unused}
 use Rattle.tlv_walk.proofs.WalkerLemmas.OpenCounts.{state-depth}
 use Rattle.tlv_walk.proofs.GrammarLemmas.Readings.{reading-unique}
@@ -25,15 +25,15 @@ pub read_depth : (w : WalkerState) (b : List ℕ) (f : Forest) → HasRead w b f
 read_depth w b f (took past st e) none =
     state-depth w b past st.private_state.state st.private_state.has_state (idle w none)
     ∙ ap open_count (reading-unique w.framing b _ st.reading (state-reading w b past st.private_state.state st.private_state.has_state) st.is_reading ∙ e)
-read_depth w b f (stopped x past g st e) none = st.depth ∙ ap open_count e
+read_depth w b f (refused x past g st e) none = st.depth ∙ ap open_count e
 
 pub read_offset : (w : WalkerState) (b : List ℕ) (f : Forest) → HasRead w b f → w.offset ≡ length b
 read_offset w b f (took past st e) = st.private_state.has_state.offset
-read_offset w b f (stopped x past g st e) = st.offset
+read_offset w b f (refused x past g st e) = st.offset
 
 pub read_unused : (w : WalkerState) (b : List ℕ) (f : Forest) → HasRead w b f → first_unused_in w ≡ first_unused w.framing.inside f
 read_unused w b f (took past st e) = stands_unused w b past st ∙ ap (first_unused w.framing.inside) e
-read_unused w b f (stopped x past g st e) = st.unused ∙ ap (first_unused w.framing.inside) e
+read_unused w b f (refused x past g st e) = st.unused ∙ ap (first_unused w.framing.inside) e
 
 -- a walker that stands for octets was refused none
 pub never_failed : (w : WalkerState) (b : List ℕ) (past : List EventValue) (f : Fault) → Stands w b past → w.phase ≡ Failed f → ⊥

@@ -103,9 +103,9 @@ handed_framing : (w u : WalkerState) (r : HeadReaderState) → HandsOver w u r �
 handed_framing w u r (inl h) = ap (λ (m : WalkerState). m.framing) h.1
 handed_framing w u r (inr h) = ap (λ (m : WalkerState). m.framing) h.1
 
-handed_wrappers : (w u : WalkerState) (r : HeadReaderState) → HandsOver w u r → u.wrappers ≡ w.wrappers
-handed_wrappers w u r (inl h) = ap (λ (m : WalkerState). m.wrappers) h.1
-handed_wrappers w u r (inr h) = ap (λ (m : WalkerState). m.wrappers) h.1
+handed_wrappers : (w u : WalkerState) (r : HeadReaderState) → HandsOver w u r → u.wrapper_count ≡ w.wrapper_count
+handed_wrappers w u r (inl h) = ap (λ (m : WalkerState). m.wrapper_count) h.1
+handed_wrappers w u r (inr h) = ap (λ (m : WalkerState). m.wrapper_count) h.1
 
 -- the piece is used up inside a header
 pub yields_unfinished : (w u : WalkerState) (r q : HeadReaderState) (before : List ℕ) (at : ℕ) → HandsOver w u r → HasTaken r q before [] → (q.octets ≡ [] → ⊥) → q.offset + length q.octets ≡ at

@@ -32,12 +32,12 @@ pub found_in-append : (inside : List ℕ) (k : ℕ) (xs ys : List ℕ) → wrapp
 found_in-append inside k [] ys = refl
 found_in-append inside k (x ∷ xs) ys = found_in-append inside (next_wrapper inside k x) xs ys
 
-found_both : (u v w : WalkerState) (d e : List EventValue) → v.framing ≡ u.framing → v.wrappers ≡ wrappers_after u.framing.inside u.wrappers (wrapper_offsets d) → w.wrappers ≡ wrappers_after v.framing.inside v.wrappers (wrapper_offsets e)
-    → w.wrappers ≡ wrappers_after u.framing.inside u.wrappers (wrapper_offsets (d ++ e))
+found_both : (u v w : WalkerState) (d e : List EventValue) → v.framing ≡ u.framing → v.wrapper_count ≡ wrappers_after u.framing.inside u.wrapper_count (wrapper_offsets d) → w.wrapper_count ≡ wrappers_after v.framing.inside v.wrapper_count (wrapper_offsets e)
+    → w.wrapper_count ≡ wrappers_after u.framing.inside u.wrapper_count (wrapper_offsets (d ++ e))
 found_both u v w d e same p q =
     q
     ∙ ap₂ (λ (f : Framing) (k : ℕ). wrappers_after f.inside k (wrapper_offsets e)) same p
-    ∙ sym (ap (wrappers_after u.framing.inside u.wrappers) (enters-append d e) ∙ found_in-append u.framing.inside u.wrappers (wrapper_offsets d) (wrapper_offsets e))
+    ∙ sym (ap (wrappers_after u.framing.inside u.wrapper_count) (enters-append d e) ∙ found_in-append u.framing.inside u.wrapper_count (wrapper_offsets d) (wrapper_offsets e))
 
 pub continues_both : (u v w : WalkerState) (s t : List ℕ) (d e : List EventValue) → Continues u v s d → Continues v w t e → Continues u w (s ++ t) (d ++ e)
 continues_both u v w s t d e f g = record {

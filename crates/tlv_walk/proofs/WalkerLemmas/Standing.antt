@@ -35,8 +35,8 @@ use Rattle.tlv_walk.proofs.WalkerLemmas.ZipperReading.{stands, state-events, sta
 use Rattle.tlv_walk.proofs.WalkerLemmas.Zipper.{reading_of}
 
 -- the wrappers found are those of the events yielded
-found_on : (old new : WalkerState) (past more : List EventValue) → new.framing ≡ old.framing → old.wrappers ≡ wrappers_after old.framing.inside 0 (wrapper_offsets past) → new.wrappers ≡ wrappers_after old.framing.inside old.wrappers (wrapper_offsets more)
-    → new.wrappers ≡ wrappers_after new.framing.inside 0 (wrapper_offsets (past ++ more))
+found_on : (old new : WalkerState) (past more : List EventValue) → new.framing ≡ old.framing → old.wrapper_count ≡ wrappers_after old.framing.inside 0 (wrapper_offsets past) → new.wrapper_count ≡ wrappers_after old.framing.inside old.wrapper_count (wrapper_offsets more)
+    → new.wrapper_count ≡ wrappers_after new.framing.inside 0 (wrapper_offsets (past ++ more))
 found_on old new past more same p q =
     q
     ∙ ap (λ (k : ℕ). wrappers_after old.framing.inside k (wrapper_offsets more)) p
@@ -81,7 +81,7 @@ refused_walker old new before after f k r b past st =
     let framing : new.framing ≡ old.framing = k.framing in
     let named : CanName new.framing.inside = subst (λ (g : Framing). CanName g.inside) (sym framing) st.private_state.named in
     let there : IsRefusedAfter new.framing (b ++ r.taken) r.octet past f = refused_reading old new.framing before after f framing r b past st in
-    let found : new.wrappers ≡ wrappers_after new.framing.inside 0 (wrapper_offsets past) = k.wrappers ∙ st.private_state.found ∙ ap (λ (g : Framing). wrappers_after g.inside 0 (wrapper_offsets past)) (sym framing) in
+    let found : new.wrapper_count ≡ wrappers_after new.framing.inside 0 (wrapper_offsets past) = k.wrapper_count ∙ st.private_state.found ∙ ap (λ (g : Framing). wrappers_after g.inside 0 (wrapper_offsets past)) (sym framing) in
     record {
       refused = there;
       phase = k.phase;
@@ -140,7 +140,7 @@ refuses_now old new before after f n k r = record {
   offset = omega (arith, k.taken, ap length r.before_is, ap length r.after_is, length-append r.taken (r.octet ∷ r.rest));
   events = k.events;
   stack = k.stack;
-  wrappers = k.wrappers;
+  wrapper_count = k.wrapper_count;
 }
 
 -- an octet was refused before, or none was

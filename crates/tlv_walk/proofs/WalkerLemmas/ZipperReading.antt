@@ -212,7 +212,7 @@ pub state-wrappers : (w : WalkerState) (b : List ℕ) (past : List EventValue) (
 state-wrappers w b past s h = reading-wrappers w.framing s.layers s.here s.tail h.layers h.here (phase-tail w.phase s.tail (place_of w.framing s) h.phase)
 
 -- a walker with a state stands for what was yielded and what was taken
-pub stands : (w : WalkerState) (b : List ℕ) (past : List EventValue) (s : Zipper) → HasZipper w b past s → CanName w.framing.inside → w.wrappers ≡ wrappers_after w.framing.inside 0 (wrapper_offsets past) → Stands w b past
+pub stands : (w : WalkerState) (b : List ℕ) (past : List EventValue) (s : Zipper) → HasZipper w b past s → CanName w.framing.inside → w.wrapper_count ≡ wrappers_after w.framing.inside 0 (wrapper_offsets past) → Stands w b past
 stands w b past s h n k =
     record { reading = reading_of s; is_reading = state-reading w b past s h; all_events = state-events w b past s h; private_state = record { state = s; has_state = h; named = n; found = k } }
 

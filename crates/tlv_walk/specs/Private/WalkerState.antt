@@ -102,7 +102,7 @@ pub record Refuses (old new : WalkerState) (before after : List ℕ) (fault : Fa
   pub events : new.events ≡ old.events
   pub phase : new.phase ≡ Failed fault
   pub framing : new.framing ≡ old.framing
-  pub wrappers : new.wrappers ≡ old.wrappers
+  pub wrapper_count : new.wrapper_count ≡ old.wrapper_count
   pub stack : new.stack ≡ old.stack
 
 -- what a step took from the front of a piece
@@ -155,7 +155,7 @@ Enters old new f at kind.Wrapper =
     × (is_wrapper f.named f.class f.constructed f.number f.size ≡ true)
     × (new ≡ record (after_header old (if eqb f.number 3 then BeforeUnused else Between) at) {
       stack = frame_with at (bound_of old.stack) f.size f.constructed ∷ old.stack;
-      wrappers = next_wrapper old.framing.inside old.wrappers f.offset;
+      wrapper_count = next_wrapper old.framing.inside old.wrapper_count f.offset;
     })
 
 -- a primitive that is not named, lies whole at the front of a piece, and may stand there

@@ -1,6 +1,6 @@
 use Rattle.std.proofs.Common.{rules}
 use Rattle.tlv_walk.specs.HasRead.{took_all}
-use Rattle.tlv_walk.proofs.one_turn.result_of_stop.Goals as goal
+use Rattle.tlv_walk.proofs.one_turn.result_of_pause.Goals as goal
 
 pub returns-in-Enough : goal.returns-in-Enough
 returns-in-Enough c = rw c.in-Enough.is c.run_of.ensures
