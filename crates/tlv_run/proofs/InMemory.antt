@@ -24,10 +24,9 @@ use Rattle.tlv_io.specs.Device.{DrainState, Last, SourceState, failed, gave, nev
 use Rattle.tlv_walk.specs.Ending.{IsEnding, IsFinalEnding}
 use Rattle.tlv_walk.specs.Forest.{Forest, spell}
 use Rattle.tlv_walk.specs.Job.{EndsWith, Job, Runs, WantMore}
-use Rattle.tlv_walk.specs.Laws.{AreOctets}
 use Rattle.tlv_io.specs.MemSource.{MemSourceState}
 use Rattle.tlv_io.specs.Out.{Sends}
-use Rattle.tlv_walk.specs.Reading.{IsPrefixOf, IsReading}
+use Rattle.tlv_walk.specs.Reading.{AreOctets, IsPrefixOf, IsReading}
 use Rattle.tlv_run.proofs.Results.{Stays, one_made, settled_stays, stays_for, text_on}
 use Rattle.tlv_run.proofs.JobReports.{report-end}
 use Rattle.tlv_run.specs.declared.command.Command.{Command}

@@ -42,7 +42,7 @@ IsIdle w = waiting_events w ≡ []
 abbrev pub CanTake : WalkerState → Type 0
 CanTake w = IsIdle w × HasNotFailed w
 
--- what a walker stands for that was refused nothing: octets, and the events yielded for them. Yielded and waiting
+-- what a walker stands for that refused no octet: octets, and the events yielded for them. Yielded and waiting
 -- together they are those of the reading
 pub record Stands (w : WalkerState) (b : List ℕ) (past : List EventValue) : Type 0 where
   pub reading : Forest

@@ -35,7 +35,7 @@ pub record UsesUpPiece (old new : WalkerState) (before after : List ℕ) : Type 
   pub offset : new.offset ≡ old.offset + length before
   pub events : new.events ≡ old.events
 
--- octets were taken from the front of a piece, or none, and the next one is refused: no element ends with it
+-- octets were taken from the front of a piece, or none, and the next one is refused; what is open stays open
 pub record RefusesNext (old new : WalkerState) (before after : List ℕ) (f : Fault) : Type 0 where
   pub not_failed : HasNotFailed old
   pub taken : List ℕ

@@ -23,8 +23,15 @@ pub record WalkerState : Type 0 where
   pub wrapper_count : ℕ
 
 abbrev pub new_walker : Framing → WalkerState
-new_walker framing =
-    record { stack = []; phase = Between; offset = 0; events = 0; framing = framing; has_element = false; wrapper_count = 0 }
+new_walker framing = record {
+  stack = [];
+  phase = Between;
+  offset = 0;
+  events = 0;
+  framing = framing;
+  has_element = false;
+  wrapper_count = 0;
+}
 
 -- a header's octets so far are before the offset
 pub record IsInHeader (r : HeadReaderState) (at : ℕ) : Type 0 where

@@ -26,15 +26,21 @@ enum Pause {
 
 /// Makes one read into `piece`, lets the follower follow what it gave, and flushes what that put.
 ///
+/// `piece` has 1 to 4096 octets. The walker is within `limit` and has refused no octet, and no event
+/// waits.
+///
 /// `Again` comes if the octets held neither a fault nor enough for the follower, and were not the
 /// end; else `Ended`. The walker's octets count towards `limit`: of those that go past it none is
 /// walked over.
 ///
 /// # Errors
 ///
-/// `ReadFailed` exactly if the source's failures rose in the call, and `WriteFailed` exactly if
-/// the drain's did. `InputTooLong` if the source gave more octets than `limit`, and those up to
-/// the limit held neither a fault nor enough; they are followed and flushed.
+/// `ReadFailed` exactly if a read failed, and `WriteFailed` exactly if a write failed.
+/// `InputTooLong` if the source gave more octets than `limit`, and those up to the limit held
+/// neither a fault nor enough; they are followed and flushed.
+///
+/// After `ReadFailed` walker and follower are as they were; after `InputTooLong` the walker is at
+/// the limit. Another turn may follow then. After `WriteFailed` nothing is promised of them.
 pub fn turn<F: Follow, S: Source, D: Drain>(
     walker: &mut Walker,
     follower: &mut F,

@@ -31,7 +31,7 @@ enum Phase {
 }
 
 /// Takes the octets of an input in whatever pieces they come, and yields event after event. It
-/// holds a frame for each open element, and no contents.
+/// holds a frame for each open element that holds others, and no contents.
 #[derive(Drop)]
 pub struct Walker {
     stack: Stack,
@@ -149,7 +149,7 @@ impl Walker {
     }
 
     /// What the input comes to, if it ends here. After a fault it is that fault. It is `Done` exactly if
-    /// the input is a sound list of encodings.
+    /// the input is a sound list of encodings. No event may wait ([`Walker::waiting`]).
     pub fn finish(&self) -> Ending
         requires { IsIdle self.now }
         ensures ending { (o : List ℕ) (past : List EventValue) → StandsAtEnd self.now o past
@@ -191,7 +191,8 @@ impl Walker {
         })
     }
 
-    /// Takes octets from the front of `piece`, up to the next event.
+    /// Takes octets from the front of `piece`, up to the next event. The octets taken and those of the
+    /// piece are together at most 2^40.
     ///
     /// `NeedMore` comes only with an empty piece and no event waiting. After a fault each step returns
     /// the same fault and takes nothing. A fault is no false alarm: no input that begins with the octets

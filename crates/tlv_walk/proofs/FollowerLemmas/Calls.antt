@@ -1,4 +1,4 @@
--- One read of a source that gave octets, and the writes behind it.
+-- One read of a source that gave octets, and the writes after it.
 use Rattle.std.proofs.Common.{◌≡◌, ◌<◌, ◌≤◌, ◌-◌, min, ℕ, List, length, refl, sym, ap, ◌∙◌, subst, arith}
 use Rattle.std.specs.Prelude.{Result, Ok, Err, ⊤}
 use Rattle.std.specs.Io.KnownBytes.{Consumes}
@@ -37,7 +37,7 @@ module _ {S : Type 0} (before after : TurnState S) (piece : List ℕ) where
     failed_writes = d;
   }
 
-  -- the same, where all that was made of the octets was written, and a turn answers what comes of it
+  -- the same, if all that was made of the octets was written, and a turn returns what comes of it
   pub calls_answered : (n m : ℕ) (v : WalkerState) (why : Pause) (result : Result Turn DeviceFault)
       → ReadsOnce {E = ReadFault} before.source after.source (Ok n) piece → 0 < length piece → n ≤ length piece
       → after.drain.failures ≡ before.drain.failures → IsResultOfPause n m v why result → CallsDevices before after piece result
@@ -50,7 +50,7 @@ module _ {S : Type 0} (before after : TurnState S) (piece : List ℕ) where
   calls_answered n m v pause.UsedUp (Err ReadFailed) r some fits d is = absurd is
   calls_answered n m v pause.UsedUp (Err WriteFailed) r some fits d is = absurd is
 
-  -- how a walk can go on whose turn answers this, after octets within the limit
+  -- how a walk can go on whose turn returns this, after octets within the limit
   pub can_go_on_answered : {D : Type 0} (next : S → EventValue → Effect S) (from to : Out D) (n m limit : ℕ) (walked : List ℕ) (more : List EventValue) (why : Pause) (result : Result Turn DeviceFault)
       → IsResultOfPause n m after.walker why result
       → Pauses next (walk_state before.walker before.follower from) (walk_state after.walker after.follower to) walked more (Ok why)

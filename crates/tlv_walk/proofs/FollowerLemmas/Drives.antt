@@ -23,9 +23,8 @@ use Rattle.tlv_walk.specs.FollowsEvents.{FollowsEvents}
 use Rattle.tlv_walk.specs.Forest.{Forest, spell}
 use Rattle.tlv_walk.specs.Ending.{IsFinalEnding}
 use Rattle.tlv_walk.specs.Job.{ComesTo, EndsWith, Runs, WantMore, drain_result, read_failed, source_result, too_long, write_failed}
-use Rattle.tlv_walk.specs.Laws.{AreOctets}
 use Rattle.tlv_io.specs.Out.{Sends}
-use Rattle.tlv_walk.specs.Reading.{IsReading}
+use Rattle.tlv_walk.specs.Reading.{AreOctets, IsReading}
 use Rattle.tlv_walk.specs.Stands.{Stands}
 use Rattle.tlv_walk.specs.OneTurn.{EndsBy, EndsIn, FollowsOneRead, Gave, GaveUpTo, HasEnoughIn, TurnState, TurnsTo, last_octets}
 use Rattle.tlv_walk.specs.Wrappers.{first_other, first_unused, wrapper_offsets}
@@ -75,7 +74,7 @@ module _ {S : Type 0} (next : S → EventValue → Effect S)
         text_is = ap (λ (k : Effect S). k.put) same;
       }
 
-  -- where there was enough before the last of them
+  -- if there was enough before the last of them
   made_enough : (s t : S) (es others : List EventValue) (f : Forest) → FollowsEvents next s t es go.Enough → AreEqualJoined (es ++ others) (events f) → MadeAll s t f go.Enough (effect_of next s es).put
   made_enough s t es others f m e =
       let same : effect_of next s es ≡ effect_of next s (events f) = sym (followed-enough next s es others m.goes_so) ∙ alike s (es ++ others) (events f) e in record {

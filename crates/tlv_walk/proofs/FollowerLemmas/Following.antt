@@ -40,7 +40,7 @@ walked_none w piece = record {
   stands = λ b past s. subst (λ (o : List ℕ). Stands w o (past ++ [])) (sym (append-nil b)) (subst (λ (es : List EventValue). Stands w b es) (sym (append-nil past)) s);
 }
 
--- one part behind another
+-- one part after another
 pub walked_both : (w u v : WalkerState) (before mid after : List ℕ) (es fs : List EventValue) → WalksOver w u before mid es → WalksOver u v mid after fs → WalksOver w v before after (es ++ fs)
 walked_both w u v before mid after es fs x y = record {
   taken = x.taken ++ y.taken;
@@ -51,7 +51,7 @@ walked_both w u v before mid after es fs x y = record {
       (subst (λ (all : List EventValue). Stands v ((b ++ x.taken) ++ y.taken) all) (append_assoc past es fs) (y.stands (b ++ x.taken) (past ++ es) (x.stands b past s)));
 }
 
--- an octet is refused behind what was walked over
+-- an octet is refused after what was walked over
 refused_there : (w u v : WalkerState) (piece mid after : List ℕ) (f : Fault) (more : List EventValue) (x : WalksOver w u piece mid more) (o : List ℕ) (past : List EventValue)
     → Stands u (o ++ x.taken) (past ++ more) → StepsTo u v mid after (step.Fault f) → WalksTo w v piece more f o past
 refused_there w u v piece mid after f more x o past st (inl r) =
@@ -157,7 +157,7 @@ module _ {S : Type 0} (next : S → EventValue → Effect S) where
           (puts_as state_of y.out z.out (next y.follower e).put (next y.follower e).put g tt p refl) (one_put x.follower y.follower h.more e h.follows.made);
     }
 
-    -- the same was put, with another answer
+    -- the same was put, and another result is returned
     same_put : (x y : WalkState S D) (more : List EventValue) (why : Pause) → HasPut state_of x.out y.out (effect_of next x.follower more).put
         → Puts {T = Pause} {E = WriteFault} state_of x.out y.out (effect_of next x.follower more).put (Ok why)
     same_put x y more why p = puts_as state_of x.out y.out (effect_of next x.follower more).put (effect_of next x.follower more).put tt why p refl

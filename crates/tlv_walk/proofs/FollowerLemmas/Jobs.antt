@@ -20,7 +20,7 @@ use Rattle.tlv_walk.proofs.FollowerLemmas.Enough.{EndsSo, Returns, Settled, come
 use Rattle.tlv_io.specs.Out.{Sends}
 use Rattle.tlv_walk.specs.Reading.{IsReading}
 
--- a run has the ending that it came to, and where it does not stop the first named offset that is no wrapper's
+-- a run has the ending that it came to, and if it did not end with enough the first named offset that is no wrapper's
 pub run-ending : (framing : Framing) (f : Forest) (es : List EventValue) (g : Go) (e : Ending) → (run_over framing f es g e).ending ≡ e
 run-ending framing f es go.On e = refl
 run-ending framing f es go.Enough e = refl

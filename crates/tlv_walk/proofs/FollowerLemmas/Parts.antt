@@ -1,4 +1,4 @@
--- Parts of a piece, followed: one behind another.
+-- Parts of a piece, followed: one after another.
 use Rattle.std.proofs.Common.{◌≡◌, ℕ, ◌+◌, Bool, true, false, List, [], ◌∷◌, ◌++◌, length, take, drop, refl, sym, ap, ap₂, ◌∙◌, subst, append_assoc, append-nil}
 use Rattle.std.proofs.lemmas.Bool.{true≢false}
 use Rattle.std.proofs.lemmas.List.{take-append-drop}
@@ -33,7 +33,7 @@ walked_primitive w piece p can = stands_all w _ piece (drop p.octets piece) _ (r
 })
 
 module _ {S : Type 0} (next : S → EventValue → Effect S) where
-  -- where more is wanted at the end, more was wanted behind each event
+  -- if more is wanted at the end, more was wanted after each event
   all_rest : (x : Go) (t : Effect S) (es : List EventValue) → ((s : S) → (effect_of next s es).goes ≡ go.On → followed_events next s es ≡ es)
       → (if_on x t (λ u. effect_of next u es)).goes ≡ go.On → t.goes ≡ x → if_more x (followed_events next t.state es) ≡ es
   all_rest go.On t es rest g k = rest t.state g
@@ -47,7 +47,7 @@ module _ {S : Type 0} (next : S → EventValue → Effect S) where
   made_all s t es e g = record { state = e; goes_so = g; all = all_followed s es g }
 
   module _ {D : Type 0} (state_of : D → DrainState) where
-    -- the drain failed behind what was followed
+    -- the drain failed after what was followed
     pub fails_part : (x y z : WalkState S D) (piece mid after : List ℕ) (e f : WriteFault) → HasFollowed next state_of x y piece mid go.On
         → FollowsPart next state_of y z mid after (Err e) → FollowsPiece next state_of x z piece (Err f)
     fails_part x y z piece mid after e f h p = record {
@@ -94,7 +94,7 @@ module _ {S : Type 0} (next : S → EventValue → Effect S) where
       puts = puts_failed_last state_of x.out y.out _ e (Err f) put refl;
     }
 
-    -- ---- a part behind what was followed
+    -- ---- a part after what was followed
 
     part_some : (y z : WalkState S D) (mid after : List ℕ) (more : List EventValue) (k : Bool) → k ≡ true → TakesPartOrNone next y z mid after more (Ok k) → TakesPart next y z mid after more
     part_some y z mid after more true e p = p

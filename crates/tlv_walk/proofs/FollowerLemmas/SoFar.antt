@@ -12,7 +12,7 @@ use Rattle.tlv_io.specs.Device.{DrainState, Last, SourceState, failed, gave, nev
 use Rattle.tlv_walk.specs.Events.{Begin, Bytes, Close, End, Enter, EventValue, Leave, Open, Pad, Unused}
 use Rattle.tlv_walk.specs.Follow.{Effect, effect_of}
 use Rattle.tlv_walk.specs.FollowsEvents.{FollowsEvents}
-use Rattle.tlv_walk.specs.Laws.{AreOctets}
+use Rattle.tlv_walk.specs.Reading.{AreOctets}
 use Rattle.tlv_walk.specs.WalkerState.{new_walker}
 use Rattle.tlv_io.specs.Out.{Sends}
 use Rattle.tlv_walk.specs.Stands.{IsIdle, Stands}
@@ -45,7 +45,7 @@ given_octets never piece a = All-nil (λ x. x < 256)
 given_octets (gave n) piece a = All-take (λ x. x < 256) n piece a
 given_octets failed piece a = All-nil (λ x. x < 256)
 
--- of octets behind others as many as the limit leaves
+-- of octets after others as many as the limit leaves
 pub limit_behind : (limit : ℕ) (b r : List ℕ) → length b ≤ limit → b ++ take (limit - length b) r ≡ take limit (b ++ r)
 limit_behind limit b r h = sym (take-append-add b r (limit - length b)) ∙ ap (λ (k : ℕ). take k (b ++ r)) (omega (arith, h))
 

@@ -25,11 +25,10 @@ use Rattle.tlv_walk.specs.Follow.{Effect, effect_of}
 use Rattle.tlv_walk.specs.Private.ResultOfPause.{IsResultOfPause, IsRun}
 use Rattle.tlv_walk.specs.Private.FollowsPiece.{Fails, FollowsAndFlushes, FollowsPiece, FollowsToFault, GoesOnIn, FollowsToEnough, Pauses, FollowsAll, WalkState, WalksOver, WalksTo, walk_state}
 use Rattle.tlv_walk.specs.Forest.{Forest, spell}
-use Rattle.tlv_walk.specs.Laws.{AreOctets}
 use Rattle.tlv_walk.specs.WalkerState.{WalkerState}
 use Rattle.tlv_io.specs.Out.{Puts, Sends, buffer_of, drain_of}
 use Rattle.tlv_walk.specs.Place.{top_place}
-use Rattle.tlv_walk.specs.Reading.{IsReading}
+use Rattle.tlv_walk.specs.Reading.{AreOctets, IsReading}
 use Rattle.tlv_walk.specs.Stands.{Stands, waiting_events}
 use Rattle.tlv_walk.specs.HasRead.{refused_one, took_all}
 use Rattle.tlv_walk.specs.OneTurn.{EndsBy, EndsIn, HasEnoughIn, StandsOn, TurnState, TurnsTo}
@@ -54,7 +53,7 @@ stands_spelled v b past f st r =
     let spells : Spells (top_place v.framing) b (reading_of st.private_state.state) = state-spells v b past st.private_state.state st.private_state.has_state in
     ap spell (reading-unique v.framing b f (reading_of st.private_state.state) r (state-reading v b past st.private_state.state st.private_state.has_state)) ∙ spells.spelled
 
--- where nothing waits, all events of the reading were yielded
+-- if nothing waits, all events of the reading were yielded
 pub stands_past : (v : WalkerState) (b : List ℕ) (past : List EventValue) (f : Forest) → Stands v b past → waiting_events v ≡ [] → IsReading v.framing b f → AreEqualJoined past (events f)
 stands_past v b past f st idle r =
     let all : AreEqualJoined (past ++ waiting_events v) (events st.reading) = st.all_events in
@@ -225,7 +224,7 @@ used_up_ends next before after o past run e x is ends =
       walker = took_all x.stands x.idle;
     }
 
--- ---- what a turn answers
+-- ---- what a turn returns
 
 -- of n octets at the front of a piece as many as the limit leaves
 taken_within : (limit at n : ℕ) (p : List ℕ) → take (min (limit - at) n) p ≡ take (limit - at) (take n p)
@@ -318,7 +317,7 @@ module _ {S D : Type 0} (next : S → EventValue → Effect S) (before after : T
     last = inl is.enough;
   }
 
-  -- by why it stopped
+  -- by why the piece is not followed any further
   answered : (why : Pause) (result : Result Turn DeviceFault) → Followed why why → IsResultOfPause n m after.walker why result → TurnsTo next before after limit b past r result
   answered pause.Enough (Ok (Ended run)) x is = turns_enough run pause.Enough x is
   answered (pause.Fault f) (Ok (Ended run)) x is = turns_fault run f (pause.Fault f) x is

@@ -1,4 +1,4 @@
--- A walker's state goes on behind a header.
+-- A walker's state goes on after a header.
 use Rattle.std.proofs.Common.{◌≡◌, ℕ, ◌+◌, ◌<◌, Bool, true, false, eqb, if◌then◌else◌, List, [], ◌∷◌, ◌++◌, length, map, Option, refl, sym, ap, ◌∙◌, subst, arith, append-nil, length-append}
 use Rattle.tlv_head.specs.declared.header.Size.TheVariants.{Definite}
 use Rattle.tlv_head.specs.Header.{HeaderValue, IsHeader, announced_length, holds, octets_of}
@@ -17,7 +17,7 @@ use Rattle.tlv_walk.specs.Private.Steps.{Continues}
 use Rattle.tlv_walk.proofs.WalkerLemmas.Moves.{between_tail, phase_at, spelled_behind, tail_state, past_behind, with_tail}
 use Rattle.tlv_walk.proofs.WalkerLemmas.Places.{place-bound, place-depth, place-inside, place-offset}
 
--- a walker that stands at a header, or behind the octets of one that the reader has
+-- a walker that stands at a header, or after the octets of one that the reader has
 pub record AtHeader (w : WalkerState) (b : List ℕ) (past : List EventValue) (s : Zipper) (r : HeadReaderState) : Type 0 where
   pub has : HasZipper w b past s
   pub octets : spell_tail s.tail ≡ r.octets

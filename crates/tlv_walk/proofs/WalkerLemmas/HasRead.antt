@@ -1,4 +1,4 @@
--- What a walker answers of what it has read.
+-- What a walker returns of what it has read.
 use Rattle.std.proofs.Common.{◌≡◌, ℕ, List, ◌++◌, ◌∷◌, length, sym, ap, ◌∙◌, subst}
 use Rattle.tlv_head.specs.declared.fault.Fault.{Fault}
 use Rattle.tlv_walk.specs.declared.ending.Ending.{Ending}
@@ -42,7 +42,7 @@ never_failed w b past f st e = no_phase st.private_state.state.tail (place_of w.
     no_phase : (t : Tail) (p : Place) → IsPhaseOf (Failed f) t p → ⊥
     no_phase t p h = h
 
--- at the end of the input, also where an octet was refused
+-- at the end of the input, also if an octet was refused
 pub ends_by : (w : WalkerState) (o : List ℕ) (past : List EventValue) (result : Ending) → ((b : List ℕ) (past : List EventValue) → Stands w b past → IsEnding w.framing b result)
     → ((f : Fault) → w.phase ≡ Failed f → result ≡ ending.Fault f) → StandsAtEnd w o past → IsEnding w.framing o result
 ends_by w o past result stands failed (took_all st none) = stands o past st

@@ -100,7 +100,7 @@ primitive_enters w b past s r t h at c no_hold =
           (primitive_state w b past s r t h size.0 at c no_hold size.1),
     )
 
--- behind a header a walker stands as it says
+-- after a header a walker stands as it says
 pub enters_state : (w v : WalkerState) (b : List ℕ) (past : List EventValue) (s : Zipper) (r : HeadReaderState) (t : List ℕ) (f : HeaderFields) (o : List ℕ) (k : Kind) → AtHeader w b past s r
     → Completed w r t (header_with f o) → Enters w v f (f.offset + length (octets_of (header_with f o))) k
     → (u : Zipper) × HasZipper v (b ++ t) (past ++ event_of k (header_with f o) ∷ []) u

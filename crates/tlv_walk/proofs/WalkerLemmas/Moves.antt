@@ -52,7 +52,7 @@ continues_both u v w s t d e f g = record {
       );
 }
 
--- the events of a state, where the open end goes on
+-- the events of a state, if the open end goes on
 pub past_behind : (past : List EventValue) (ls : List Layer) (here : Forest) (old new more : List EventValue) → AreEqualJoined past (events_layers ls ++ (events here ++ old))
     → single_octets new ≡ single_octets (old ++ more) → AreEqualJoined (past ++ more) (events_layers ls ++ (events here ++ new))
 past_behind past ls here old new more h e =
@@ -65,7 +65,7 @@ pub spelled_behind : (ls : List Layer) (here : Forest) (old new t b : List ℕ) 
 spelled_behind ls here old new t b e f =
     ap (λ (s : List ℕ). spell_layers ls ++ (spell here ++ s)) e ∙ (sym (append_assoc-3 (spell_layers ls) (spell here) old t) ∙ ap (λ (s : List ℕ). s ++ t) f)
 
--- the same, where the open end is whole now
+-- the same, if the open end is whole now
 pub past_whole : (past : List EventValue) (ls : List Layer) (here new : Forest) (old more : List EventValue) → is_whole here ≡ true → AreEqualJoined past (events_layers ls ++ (events here ++ old))
     → single_octets (events new) ≡ single_octets (old ++ more) → AreEqualJoined (past ++ more) (events_layers ls ++ (events (behind here new) ++ []))
 past_whole past ls here new old more whole h e =

@@ -52,7 +52,7 @@ stands_all old new before after es t = let k = t.continues in record {
       stands new (b ++ t.taken) (past ++ es) u.0 u.1 (subst (λ (f : Framing). CanName f.inside) (sym k.framing) st.private_state.named) (found_on old new past es k.framing st.private_state.found k.found);
 }
 
--- the reading behind which the octet is refused
+-- the reading after which the octet is refused
 abbrev refused_reading : (old : WalkerState) (g : Framing) (before after : List ℕ) (f : Fault) → g ≡ old.framing → (r : RefusesOctet old before after f) → (b : List ℕ) (past : List EventValue) → Stands old b past
     → IsRefusedAfter g (b ++ r.taken) r.octet past f
 refused_reading old g before after f same r b past st =
@@ -73,7 +73,7 @@ refused_reading old g before after f same r b past st =
           (never-sound old.framing ((b ++ r.taken) ++ r.octet ∷ []) (ending.Fault f) (u.ends []) (refused-final old.framing (b ++ r.taken) r.octet [] f there (u.ends [])));
     }
 
--- the walker behind the octet that it refused
+-- the walker after the octet that it refused
 refused_walker : (old new : WalkerState) (before after : List ℕ) (f : Fault) → Refuses old new before after f → (r : RefusesOctet old before after f) → (b : List ℕ) (past : List EventValue) → Stands old b past
     → StandsRefused new (b ++ r.taken) r.octet past f
 refused_walker old new before after f k r b past st =

@@ -9,7 +9,7 @@ use Rattle.tlv_walk.specs.Private.WalkerState.{AwaitsOctet, AwaitsOctetIn, Event
 use Rattle.tlv_walk.specs.Stack.{Frame, IsFilled}
 use Rattle.tlv_walk.specs.Stands.{CanTake, IsIdle, ending_event, ending_events, is_end, waiting_events, waiting_events_in}
 
--- where nothing waits no events do
+-- if nothing waits no events do
 no_endings : (at : ℕ) (fs : List Frame) → (IsFilled fs at → ⊥) → ending_events at fs ≡ []
 no_endings at [] n = refl
 no_endings at (f ∷ fs) n = ap (λ (k : Bool). if k then ending_event f ∷ ending_events at fs else []) (unfilled f.end n)
@@ -29,7 +29,7 @@ quiet_in (phase.Failed fault) stack at n = refl
 pub quiet : (w : WalkerState) → (EventWaits w → ⊥) → waiting_events w ≡ []
 quiet w n = quiet_in w.phase w.stack w.offset n
 
--- where one waits, there is one in the list
+-- if one waits, there is one in the list
 no_more : (e : EventValue) (es : List EventValue) (k : Bool) → k ≡ true → (if k then e ∷ es else []) ≡ [] → ⊥
 no_more e es true t n = cc
 no_more e es false t n = absurd (cc)
@@ -46,7 +46,7 @@ loud_in (phase.Failed fault) stack at i n = i
 pub idle : (w : WalkerState) → IsIdle w → EventWaits w → ⊥
 idle w n i = loud_in w.phase w.stack w.offset i n
 
--- what `waiting` answers
+-- what `waiting` returns
 pub waits : (w : WalkerState) (k : Bool) → IsTrue k ↔ EventWaits w → (k ≡ false) ↔ IsIdle w
 waits w true h = (λ e. absurd (cc (e)), λ n. absurd (idle w n (h.0 refl)))
 waits w false h = (λ e. quiet w (λ i. cc (h.1 i)), λ n. refl)

@@ -13,10 +13,9 @@ use Rattle.tlv_walk.specs.declared.one_turn.Pause.TheVariants as pause
 use Rattle.tlv_walk.specs.Events.{AreEqualJoined, EventValue, events}
 use Rattle.tlv_walk.specs.Follow.{Effect, effect_of}
 use Rattle.tlv_walk.specs.Forest.{Forest}
-use Rattle.tlv_walk.specs.Laws.{AreOctets}
 use Rattle.tlv_walk.specs.WalkerState.{IsAfterEvent, WalkerState, first_unused_in}
 use Rattle.tlv_walk.specs.Private.WalkerState.{Passes}
-use Rattle.tlv_walk.specs.Reading.{IsReading}
+use Rattle.tlv_walk.specs.Reading.{AreOctets, IsReading}
 use Rattle.tlv_walk.specs.Stands.{CanTake, Stands}
 use Rattle.tlv_walk.specs.HasRead.{IsRefusedAfter, StandsRefused}
 use Rattle.tlv_walk.specs.Wrappers.{first_unused}

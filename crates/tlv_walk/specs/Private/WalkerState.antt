@@ -96,7 +96,7 @@ pub record TakesAll (old new : WalkerState) (before after : List ℕ) : Type 0 w
   pub events : new.events ≡ old.events
   pub ready : AwaitsOctet new
 
--- an octet was refused, and no element ended
+-- an octet was refused, and what is open stays open
 pub record Refuses (old new : WalkerState) (before after : List ℕ) (fault : FaultOf) : Type 0 where
   pub taken : new.offset + length after ≡ old.offset + length before
   pub events : new.events ≡ old.events
