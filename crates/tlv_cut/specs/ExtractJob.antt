@@ -12,5 +12,5 @@ extract_job framing n contents_only = record {
   limit = 2 ^ 40;
   text = extract_text n contents_only;
   is_enough = has_whole_element_at n;
-  answer = λ f e. record { ending = e; found = has_element_at n f };
+  returned = λ f e. record { ending = e; found = has_element_at n f };
 }

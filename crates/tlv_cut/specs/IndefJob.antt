@@ -16,5 +16,5 @@ indef_job padding = record {
   limit = 2 ^ 40;
   text = indef_text;
   is_enough = λ f. false;
-  answer = λ f e. e;
+  returned = λ f e. e;
 }

@@ -23,11 +23,10 @@ use Rattle.std.specs.List.{concat}
 use Rattle.tlv_io.specs.Device.{DrainState, Last, SourceState, failed, gave, never, new_source, next_count, octets_given}
 use Rattle.tlv_walk.specs.Ending.{IsEnding, IsFinalEnding}
 use Rattle.tlv_walk.specs.Forest.{Forest, spell}
-use Rattle.tlv_walk.specs.Job.{AreSound, EndsWith, Job, Runs}
-use Rattle.tlv_walk.specs.Laws.{AreOctets}
+use Rattle.tlv_walk.specs.Job.{EndsWith, Job, Runs, WantMore}
 use Rattle.tlv_io.specs.MemSource.{MemSourceState}
 use Rattle.tlv_io.specs.Out.{Sends}
-use Rattle.tlv_walk.specs.Reading.{IsPrefixOf, IsReading}
+use Rattle.tlv_walk.specs.Reading.{AreOctets, IsPrefixOf, IsReading}
 use Rattle.tlv_run.proofs.Results.{Stays, one_made, settled_stays, stays_for, text_on}
 use Rattle.tlv_run.proofs.JobReports.{report-end}
 use Rattle.tlv_run.specs.declared.command.Command.{Command}
@@ -108,7 +107,7 @@ module _ (job : Job ReportValue) (stays : Stays job)
   seen = take job.limit octets
 
   -- octets that hold neither a fault nor enough settle nothing
-  unsettled : (b : List ℕ) (made : CommandResult) → (x : MakesResult job b made) → AreSound job b → IsSettled x → ⊥
+  unsettled : (b : List ℕ) (made : CommandResult) → (x : MakesResult job b made) → WantMore job b → IsSettled x → ⊥
   unsettled b made x s k =
       let same : x.reading ≡ s.0 = reading-unique job.framing b x.reading s.0 x.is_reading s.1 in
       let not_enough : job.is_enough x.reading ≡ false = ap job.is_enough same ∙ s.3 in
@@ -187,7 +186,7 @@ module _ (job : Job ReportValue) (stays : Stays job)
         ]
 
     -- of octets that settle nothing, all of them or too many, all was written
-    unsettled_all : (f : Forest) (report : ReportValue) → IsReading job.framing seen f → AreSound job seen → written ≡ job.text f
+    unsettled_all : (f : Forest) (report : ReportValue) → IsReading job.framing seen f → WantMore job seen → written ≡ job.text f
         → ((made : CommandResult) → (x : MakesResultOf job octets read_fails made) → (IsSettled x → ⊥) → IsReport job octets read_fails x report)
         → RunsOctets job octets read_fails room written report
     unsettled_all f report r s sent says =
@@ -209,7 +208,7 @@ module _ (job : Job ReportValue) (stays : Stays job)
         let seen_is : seen ≡ before = take_all job.limit octets few ∙ is_given ∙ given_before in
         unsettled_all x.reading (report_of_device ReadFailed)
         (subst (λ (o : List ℕ). IsReading job.framing (take job.limit o) x.reading) (sym is_given) x.is_reading)
-        (subst (AreSound job) (sym seen_is) x.sound)
+        (subst (WantMore job) (sym seen_is) x.wants_more)
         (all_sent (job.text x.reading) x.sends)
         (λ (made : CommandResult) y apart. broken apart behind.0 few)
 
@@ -223,7 +222,7 @@ module _ (job : Job ReportValue) (stays : Stays job)
         let more : job.limit < length octets = omega (arith, many, ap length left.2, length-append given left.0) in
         unsettled_all x.reading (report_of_device InputTooLong)
         (subst (λ (o : List ℕ). IsReading job.framing o x.reading) (sym is) x.is_reading)
-        (subst (AreSound job) (sym is) k.1)
+        (subst (WantMore job) (sym is) k.1)
         (all_sent (job.text x.reading) x.sends)
         (λ (made : CommandResult) y apart. too_long apart more)
 

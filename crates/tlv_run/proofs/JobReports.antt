@@ -1,10 +1,10 @@
--- A job with what is reported of its answer runs as the job itself.
+-- A job with the report of what it returns runs as the job itself.
 use Rattle.std.proofs.Common.{◌≡◌, ℕ, List, ap}
 use Rattle.std.specs.Prelude.{Result, Ok, Err, MatchResult}
 use Rattle.tlv_walk.specs.declared.run.DeviceFault.{DeviceFault}
 use Rattle.tlv_walk.specs.declared.run.DeviceFault.TheVariants.{ReadFailed, WriteFailed, InputTooLong}
 use Rattle.tlv_io.specs.Device.{DrainState, SourceState, octets_given}
-use Rattle.tlv_walk.specs.Job.{AreSound, Job, Runs, read_failed, too_long, write_failed}
+use Rattle.tlv_walk.specs.Job.{Job, Runs, WantMore, read_failed, too_long, write_failed}
 use Rattle.tlv_walk.proofs.FollowerLemmas.Enough.{comes_to, returns}
 use Rattle.tlv_run.specs.Report.{ReportValue, report_of, report_of_device}
 use Rattle.tlv_run.specs.Results.{job_with_report}
@@ -12,8 +12,8 @@ use Rattle.tlv_run.specs.Runs.{RunsAndReports}
 use Rattle.tlv_run.proofs.ReportAtEnd.{report_at_end}
 
 module _ {A : Type 0} (say : A → ReportValue) (job : Job A) where
-  sound_too : (b : List ℕ) → AreSound job b → AreSound (job_with_report say job) b
-  sound_too b x = x
+  wants_too : (b : List ℕ) → WantMore job b → WantMore (job_with_report say job) b
+  wants_too b x = x
 
   module _ (old new : SourceState) (from to : DrainState) where
     runs_too : (result : Result A DeviceFault) → Runs job old new from to result
@@ -23,7 +23,7 @@ module _ {A : Type 0} (say : A → ReportValue) (job : Job A) where
       runs = record {
         pieces = x.pieces;
         failures = x.failures;
-        sound = sound_too _ x.sound;
+        wants_more = wants_too _ x.wants_more;
         within = x.within;
         reading = x.reading;
         is_reading = x.is_reading;
@@ -39,7 +39,7 @@ module _ {A : Type 0} (say : A → ReportValue) (job : Job A) where
       runs = record {
         pieces = x.pieces;
         failures = x.failures;
-        sound = sound_too _ x.sound;
+        wants_more = wants_too _ x.wants_more;
         within = x.within;
         reading = x.reading;
         is_reading = x.is_reading;
@@ -53,7 +53,7 @@ module _ {A : Type 0} (say : A → ReportValue) (job : Job A) where
       runs = record {
         pieces = x.pieces;
         failures = x.failures;
-        sound = sound_too _ x.sound;
+        wants_more = wants_too _ x.wants_more;
         within = x.within;
         reading = x.reading;
         is_reading = x.is_reading;
@@ -67,14 +67,14 @@ module _ {A : Type 0} (say : A → ReportValue) (job : Job A) where
       runs = record {
         pieces = x.pieces;
         failures = x.failures;
-        sound = sound_too _ x.sound;
+        wants_more = wants_too _ x.wants_more;
         within = x.within;
         reading = x.reading;
         is_reading = x.is_reading;
         sends = x.sends;
         comes =
             let k = returns job (octets_given x.pieces) x.reading new (Err InputTooLong) x.comes in
-            too_long k.0 (sound_too _ k.1);
+            too_long k.0 (wants_too _ k.1);
       };
       report_is = e;
     }

@@ -10,7 +10,7 @@ use Rattle.tlv_walk.specs.declared.run.DeviceFault.{DeviceFault}
 use Rattle.tlv_walk.specs.declared.run.DeviceFault.TheVariants.{ReadFailed, WriteFailed, InputTooLong}
 use Rattle.tlv_io.specs.Device.{DrainState, SourceState, next_count, octets_given}
 use Rattle.tlv_walk.specs.Job.{Job, Runs}
-use Rattle.tlv_walk.specs.Laws.{AreOctets}
+use Rattle.tlv_walk.specs.Reading.{AreOctets}
 use Rattle.tlv_run.proofs.InMemory.{at_end, left_of}
 use Rattle.tlv_run.proofs.Results.{Stays, limit_is, settled_stays, stays_for}
 use Rattle.tlv_run.proofs.JobReports.{report-end}

@@ -14,14 +14,14 @@ use Rattle.tlv_run.specs.Report.{ReportValue, report_of_cut, report_of_indef, re
 use Rattle.tlv_run.specs.declared.command.Command.{Command}
 use Rattle.tlv_run.specs.declared.command.Command.TheVariants.{Check, Dump, Extract, Indef}
 
--- the same job, with the report of its answer in place of the answer
+-- the same job, with the report of what it returns in place of that
 abbrev pub job_with_report : {A : Type 0} → (A → ReportValue) → Job A → Job ReportValue
 job_with_report say job = record {
   framing = job.framing;
   limit = job.limit;
   text = job.text;
   is_enough = job.is_enough;
-  answer = λ f e. say (job.answer f e);
+  returned = λ f e. say (job.returned f e);
 }
 
 -- what each command wants of an input: what is written of its elements, when nothing more is wanted, and what is
@@ -41,7 +41,7 @@ pub record CommandResult : Type 0 where
 
 -- by the elements of the input and its ending
 abbrev pub command_result : Job ReportValue → Forest → Ending → CommandResult
-command_result job f e = record { output = job.text f; ending = e; report = job.answer f e }
+command_result job f e = record { output = job.text f; ending = e; report = job.returned f e }
 
 -- what a job makes of an input of these octets, and of no others
 pub record MakesResult (job : Job ReportValue) (b : List ℕ) (made : CommandResult) : Type 0 where

@@ -1,6 +1,6 @@
 //! Reads that are followed one by one.
 ghost use Rattle.std.specs.Prelude.{◌<◌, ◌≤◌, ◌^◌, length};
-ghost use Rattle.tlv_walk.specs.WalkerState.{CanTake};
+ghost use Rattle.tlv_walk.specs.Stands.{CanTake};
 
 use crate::expect::expect_eq;
 use std::process::Abort;

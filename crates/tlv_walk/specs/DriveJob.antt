@@ -1,6 +1,5 @@
 -- What a walk over all that a source gives comes to.
-use Rattle.std.specs.List.{find}
-use Rattle.std.specs.Prelude.{◌≡◌, ℕ, Bool, true, false, not, List, [], ◌∷◌, flat_map, length, Some, Result, OnOk}
+use Rattle.std.specs.Prelude.{◌≡◌, ℕ, Bool, true, false, List, [], ◌∷◌, flat_map, length, Some, Result, OnOk}
 use Rattle.tlv_head.specs.Header.{octets_of}
 use Rattle.tlv_walk.specs.declared.ending.Ending.{Ending}
 use Rattle.tlv_walk.specs.declared.follow.Go.{Go}
@@ -13,8 +12,7 @@ use Rattle.tlv_walk.specs.Events.{Begin, Bytes, Close, Enter, EventValue, Open, 
 use Rattle.tlv_walk.specs.Follow.{Effect, effect_of, followed_events}
 use Rattle.tlv_walk.specs.Forest.{Forest, spell}
 use Rattle.tlv_walk.specs.Job.{Job, Runs, drain_result}
-use Rattle.tlv_walk.specs.Inside.{is_among}
-use Rattle.tlv_walk.specs.Wrappers.{first_unused, wrapper_offsets}
+use Rattle.tlv_walk.specs.Wrappers.{first_other, first_unused, wrapper_offsets}
 
 -- whether a follower had enough
 abbrev pub had_enough : Go → Bool
@@ -41,7 +39,7 @@ run_over framing f es go.Enough e =
       ending = e;
       octets = length (flat_map event_octets es);
       enough = true;
-      unused = find (λ n. not (is_among n (wrapper_offsets es))) framing.inside;
+      unused = first_other framing.inside (wrapper_offsets es);
     }
 
 -- what takes part in a walk over all that a source gives, as it is before the walk or after it: the follower's
@@ -62,7 +60,7 @@ module _ {S : Type 0} (next : S → EventValue → Effect S) where
     limit = limit;
     text = λ f. (effect_of next s (events f)).put;
     is_enough = λ f. had_enough (effect_of next s (events f)).goes;
-    answer = λ f e. run_over framing f (followed_events next s (events f)) (effect_of next s (events f)).goes e;
+    returned = λ f e. run_over framing f (followed_events next s (events f)) (effect_of next s (events f)).goes e;
   }
 
   -- what it comes to, and the state that it leaves

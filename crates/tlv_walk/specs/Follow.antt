@@ -5,7 +5,7 @@ use Rattle.tlv_walk.specs.declared.follow.Go.{Go}
 use Rattle.tlv_walk.specs.declared.follow.Go.TheVariants as go
 use Rattle.tlv_walk.specs.Events.{Begin, Bytes, End, EventValue}
 
--- by whether it had enough: whether it wants more
+-- whether a follower wants more, by whether it had enough
 abbrev pub goes_of : Bool → Go
 goes_of true = go.Enough
 goes_of false = go.On
@@ -16,29 +16,30 @@ pub record Effect (S : Type 0) : Type 0 where
   pub put : List ℕ
   pub goes : Go
 
--- of no event
+-- what a follower makes of no event: its state stays the same, it puts nothing, and it wants more
 abbrev pub no_effect : {S : Type 0} → S → Effect S
 no_effect s = record { state = s; put = []; goes = go.On }
 
--- of some events, and then of others
+-- what it makes of some events and then of others, if it follows both
 abbrev pub and_then : {S : Type 0} → Effect S → (S → Effect S) → Effect S
 and_then t f = let u = f t.state in record { state = u.state; put = t.put ++ u.put; goes = u.goes }
 
--- of others only if it wants more
+-- what it makes of some events and, if it wants more after them, of others
 abbrev pub if_on : {S : Type 0} → Go → Effect S → (S → Effect S) → Effect S
 if_on go.On t f = and_then t f
 if_on go.Enough t f = t
 
--- of a list of events, up to the first at which it has enough
+-- what it makes of a list of events, up to the first at which it has enough
 abbrev pub effect_of : {S : Type 0} → (S → EventValue → Effect S) → S → List EventValue → Effect S
 effect_of next s [] = no_effect s
 effect_of next s (e ∷ es) = if_on (next s e).goes (next s e) (λ u. effect_of next u es)
 
--- the events up to the first at which it has enough
+-- these events, if it wants more
 abbrev pub if_more : Go → List EventValue → List EventValue
 if_more go.On es = es
 if_more go.Enough es = []
 
+-- the events of a list that it follows: those up to the first at which it has enough
 abbrev pub followed_events : {S : Type 0} → (S → EventValue → Effect S) → S → List EventValue → List EventValue
 followed_events next s [] = []
 followed_events next s (e ∷ es) = e ∷ if_more (next s e).goes (followed_events next (next s e).state es)

@@ -1,7 +1,6 @@
 -- What a walker has read, also after it refused an octet.
 use Rattle.std.specs.Prelude.{◌≡◌, ℕ, List, [], ◌∷◌, ◌++◌, length}
 use Rattle.tlv_head.specs.declared.fault.Fault.{Fault}
-use Rattle.tlv_walk.specs.declared.ending.Ending.{Ending}
 use Rattle.tlv_walk.specs.declared.ending.Ending.TheVariants as ending
 use Rattle.tlv_walk.specs.declared.framing.Framing.{Framing}
 use Rattle.tlv_walk.specs.declared.event.Event.{Event}
@@ -53,11 +52,15 @@ pub record StandsRefused (w : WalkerState) (b : List ℕ) (octet : ℕ) (past : 
 -- before that one
 pub data HasRead (w : WalkerState) (b : List ℕ) (reading : Forest) : Type 0 where
   took : (past : List EventValue) (stands : Stands w b past) → stands.reading ≡ reading → HasRead w b reading
-  stopped : (x : ℕ) (past : List EventValue) (f : Fault) (stands : StandsRefused w b x past f)
+  refused : (x : ℕ) (past : List EventValue) (f : Fault) (stands : StandsRefused w b x past f)
       → stands.refused.reading ≡ reading → HasRead w b reading
 
+-- of what a walker has read this holds
+abbrev pub IfRead : WalkerState → (List ℕ → Forest → Type 0) → Type 0
+IfRead w P = (b : List ℕ) (f : Forest) → HasRead w b f → P b f
+
 -- a walker refused an octet of these, and yielded these events of the octets before it
-pub record StopsAt (w : WalkerState) (octets : List ℕ) (past : List EventValue) (f : Fault) : Type 0 where
+pub record RefusesAt (w : WalkerState) (octets : List ℕ) (past : List EventValue) (f : Fault) : Type 0 where
   pub front : List ℕ
   pub octet : ℕ
   pub rest : List ℕ
@@ -66,6 +69,6 @@ pub record StopsAt (w : WalkerState) (octets : List ℕ) (past : List EventValue
 
 -- where a walker stands that walked over these octets to the end, and yielded these events: after all octets, or at the
 -- octet that it refused
-pub data StandsAtEnd (w : WalkerState) (octets : List ℕ) (past : List EventValue) : Ending → Type 0 where
-  took_all : {e : Ending} → Stands w octets past → IsIdle w → StandsAtEnd w octets past e
-  refused_one : {f : Fault} → StopsAt w octets past f → StandsAtEnd w octets past (ending.Fault f)
+pub data StandsAtEnd (w : WalkerState) (octets : List ℕ) (past : List EventValue) : Type 0 where
+  took_all : Stands w octets past → IsIdle w → StandsAtEnd w octets past
+  refused_one : (f : Fault) → RefusesAt w octets past f → StandsAtEnd w octets past

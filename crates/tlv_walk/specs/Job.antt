@@ -23,7 +23,7 @@ pub record Job (A : Type 0) : Type 0 where
   -- nothing more is wanted, whatever follows
   pub is_enough : Forest → Bool
   -- what is returned of elements and the ending
-  pub answer : Forest → Ending → A
+  pub returned : Forest → Ending → A
 
 module _ {A : Type 0} where
   -- what a result says of one device alone, the source or the drain: that it failed, or nothing
@@ -44,9 +44,9 @@ EndsWith framing octets true e = e ≡ ending.Done
 EndsWith framing octets false e = IsEnding framing octets e
 
 module _ {A : Type 0} (job : Job A) where
-  -- there is neither a fault in the octets nor enough
-  abbrev pub AreSound : List ℕ → Type 0
-  AreSound octets = (f : Forest) × IsReading job.framing octets f × (spell f ≡ octets) × (job.is_enough f ≡ false)
+  -- the octets hold no fault, and after them more is wanted
+  abbrev pub WantMore : List ℕ → Type 0
+  WantMore octets = (f : Forest) × IsReading job.framing octets f × (spell f ≡ octets) × (job.is_enough f ≡ false)
 
   -- there was not enough, and the octets have this ending, which shows whether they are sound
   pub record HasEnding (octets : List ℕ) (f : Forest) (e : Ending) : Type 0 where
@@ -57,25 +57,25 @@ module _ {A : Type 0} (job : Job A) where
   -- for octets that were given and their reading: what is returned, by why nothing more is read
   pub data ComesTo (given : List ℕ) (f : Forest) (new : SourceState) : Result A DeviceFault → Type 0 where
     -- there was enough
-    was_enough : job.is_enough f ≡ true → ComesTo given f new (Ok (job.answer f ending.Done))
+    was_enough : job.is_enough f ≡ true → ComesTo given f new (Ok (job.returned f ending.Done))
     -- an octet is refused, whatever follows
     refused : (e : Ending) → HasEnding (take job.limit given) f e → IsFinalEnding e
-        → ComesTo given f new (Ok (job.answer f e))
+        → ComesTo given f new (Ok (job.returned f e))
     -- the source has ended
     ended : (e : Ending) → HasEnding (take job.limit given) f e → new.last ≡ gave 0 → IsAtEnd new.left
-        → ComesTo given f new (Ok (job.answer f e))
+        → ComesTo given f new (Ok (job.returned f e))
     -- a device failed
     read_failed : new.last ≡ failed → ComesTo given f new (Err ReadFailed)
     write_failed : ComesTo given f new (Err WriteFailed)
     -- the source gave more octets than the limit, and those up to it were no reason to stop
-    too_long : job.limit < length given → AreSound (take job.limit given) → ComesTo given f new (Err InputTooLong)
+    too_long : job.limit < length given → WantMore (take job.limit given) → ComesTo given f new (Err InputTooLong)
 
   -- a source was read to its end, to a fault or to enough, and what that makes was sent to a drain
   pub record Runs (old new : SourceState) (from to : DrainState) (result : Result A DeviceFault) : Type 0 where
     pub pieces : Pieces old new
     pub failures : new.failures ≡ failures_after (device_result ReadFailed result) old.failures
     -- before the last read there was no reason to stop
-    pub sound : AreSound (concat pieces.pieces)
+    pub wants_more : WantMore (concat pieces.pieces)
     pub within : length (concat pieces.pieces) ≤ job.limit
     -- no more octets are read as encodings than the limit
     pub reading : Forest

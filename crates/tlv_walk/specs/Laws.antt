@@ -1,17 +1,13 @@
 -- Laws of open forests, of the readings and endings of inputs, and of their events.
-use Rattle.std.specs.Prelude.{◌≡◌, ℕ, ◌<◌, List, ◌++◌, All}
+use Rattle.std.specs.Prelude.{◌≡◌, ℕ, List, ◌++◌}
 use Rattle.tlv_head.specs.declared.fault.FaultCode.{FaultCode}
 use Rattle.tlv_walk.specs.declared.ending.Ending.{Ending}
 use Rattle.tlv_walk.specs.declared.framing.Framing.{Framing}
 use Rattle.tlv_walk.specs.Forest.{Forest, spell}
 use Rattle.tlv_walk.specs.Place.{IsOpen, Place}
-use Rattle.tlv_walk.specs.Reading.{CannotBecomeSound, IsPrefixOf, IsReading}
+use Rattle.tlv_walk.specs.Reading.{AreOctets, CannotBecomeSound, IsPrefixOf, IsReading}
 use Rattle.tlv_walk.specs.Events.{AreEqualJoined, EventValue, events}
 use Rattle.tlv_walk.specs.Ending.{IsEnding, IsFinalCode, fault}
-
--- octets, each below 256
-abbrev pub AreOctets : List ℕ → Type 0
-AreOctets b = All (λ x. x < 256) b
 
 -- each front of an open forest's spelling is the spelling of an open forest
 abbrev pub FrontsAreOpen : Type 0

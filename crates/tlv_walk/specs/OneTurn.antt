@@ -16,12 +16,11 @@ use Rattle.tlv_walk.specs.Follow.{Effect, effect_of}
 use Rattle.tlv_walk.specs.FollowsEvents.{FollowsEvents}
 use Rattle.tlv_walk.specs.Forest.{Forest, spell}
 use Rattle.tlv_walk.specs.Job.{drain_result, source_result}
-use Rattle.tlv_walk.specs.Laws.{AreOctets}
-use Rattle.tlv_walk.specs.WalkerState.{CanTake, WalkerState}
+use Rattle.tlv_walk.specs.WalkerState.{WalkerState}
 use Rattle.tlv_io.specs.Out.{Sends}
-use Rattle.tlv_walk.specs.Reading.{IsPrefixOf, IsReading}
+use Rattle.tlv_walk.specs.Reading.{AreOctets, IsPrefixOf, IsReading}
 use Rattle.tlv_walk.specs.HasRead.{StandsAtEnd}
-use Rattle.tlv_walk.specs.Stands.{Stands, waiting_events}
+use Rattle.tlv_walk.specs.Stands.{CanTake, IsIdle, Stands}
 use Rattle.tlv_walk.specs.Wrappers.{first_other, first_unused, wrapper_offsets}
 
 -- the octets that the last read gave, at the front of the piece
@@ -77,7 +76,7 @@ module _ {S : Type 0} (next : S → EventValue → Effect S) (before after : Tur
     pub put : SendsMade more (Ok tt)
     pub framing : after.walker.framing ≡ before.walker.framing
     pub stands : Stands after.walker octets (past ++ more)
-    pub idle : waiting_events after.walker ≡ []
+    pub idle : IsIdle after.walker
 
   -- the walk has ended in these octets, of which all events were followed
   pub record EndsIn (octets : List ℕ) (past : List EventValue) (run : Run) : Type 0 where
@@ -90,11 +89,12 @@ module _ {S : Type 0} (next : S → EventValue → Effect S) (before after : Tur
     pub ending : IsEnding before.walker.framing octets run.ending
     pub spelled : run.octets ≡ length (spell reading)
     pub unused : run.unused ≡ first_unused before.walker.framing.inside reading
-    pub walker : StandsAtEnd after.walker octets (past ++ more) run.ending
+    pub framing : after.walker.framing ≡ before.walker.framing
+    pub walker : StandsAtEnd after.walker octets (past ++ more)
 
   -- the follower had enough with the last of these events, and the walker stands for the octets that they
   -- yield of
-  pub record StopsIn (octets : List ℕ) (past : List EventValue) (run : Run) : Type 0 where
+  pub record HasEnoughIn (octets : List ℕ) (past : List EventValue) (run : Run) : Type 0 where
     pub more : List EventValue
     pub made : FollowsEvents next before.follower after.follower more go.Enough
     pub put : SendsMade more (Ok tt)
@@ -112,7 +112,7 @@ module _ {S : Type 0} (next : S → EventValue → Effect S) (before after : Tur
   -- by whether the follower had enough
   abbrev pub EndsBy : Bool → List ℕ → List EventValue → Run → Type 0
   EndsBy false octets past run = EndsIn octets past run
-  EndsBy true octets past run = StopsIn octets past run
+  EndsBy true octets past run = HasEnoughIn octets past run
 
   -- the drain failed at a front of what is made of all events of the octets
   pub record FailsIn (octets : List ℕ) (past : List EventValue) : Type 0 where

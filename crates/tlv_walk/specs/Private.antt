@@ -1,4 +1,4 @@
-pub mod ResultOfStop
+pub mod ResultOfPause
 pub mod FollowsPiece
 pub mod FrameFields
 pub mod WalkerState

@@ -1,10 +1,14 @@
 -- What an input is read as, and which inputs are sound.
-use Rattle.std.specs.Prelude.{◌≡◌, ℕ, ◌+◌, ◌<◌, ◌≤◌, true, false, List, ◌++◌, length, IfSome}
+use Rattle.std.specs.Prelude.{◌≡◌, ℕ, ◌+◌, ◌<◌, ◌≤◌, true, false, List, ◌++◌, All, length, IfSome}
 use Rattle.tlv_head.specs.declared.header.Size.TheVariants.{Definite}
 use Rattle.tlv_head.specs.Header.{definite_length, octets_of}
 use Rattle.tlv_walk.specs.declared.framing.Framing.{Framing}
 use Rattle.tlv_walk.specs.Forest.{Closed, Fill, Forest, Stop, Whole, contents_length, extent, has_element, spell}
 use Rattle.tlv_walk.specs.Place.{IsHeadAt, IsOpen, Place, place_after, place_inside, top_place}
+
+-- octets, each below 256
+abbrev pub AreOctets : List ℕ → Type 0
+AreOctets b = All (λ x. x < 256) b
 
 -- p is a front of b
 abbrev pub IsPrefixOf : List ℕ → List ℕ → Type 0
@@ -13,8 +17,8 @@ IsPrefixOf p b = (rest : List ℕ) × (p ++ rest ≡ b)
 -- the reading of an input: the open forest that spells the longest front of it that any open forest spells
 pub record IsReading (framing : Framing) (b : List ℕ) (f : Forest) : Type 0 where
   pub is_open : IsOpen (top_place framing) f
-  pub front : (rest : List ℕ) × (spell f ++ rest ≡ b)
-  pub longest : (g : Forest) → IsOpen (top_place framing) g → (rest : List ℕ) × (spell g ++ rest ≡ b)
+  pub front : IsPrefixOf (spell f) b
+  pub longest : (g : Forest) → IsOpen (top_place framing) g → IsPrefixOf (spell g) b
       → length (spell g) ≤ length (spell f)
 
 -- 8.1.1 to 8.1.5: nothing is open, each definite length is that of the contents, and no element is held by

@@ -5,7 +5,7 @@ use Rattle.tlv_walk.specs.Phase.{Phase}
 use Rattle.tlv_walk.specs.Phase as phase
 use Rattle.tlv_walk.specs.Events.{AreEqualJoined, Close, End, EventValue, Leave, events}
 use Rattle.tlv_walk.specs.Forest.{Forest}
-use Rattle.tlv_walk.specs.WalkerState.{WalkerState}
+use Rattle.tlv_walk.specs.WalkerState.{HasNotFailed, WalkerState}
 use Rattle.tlv_walk.specs.Private.Zipper.{HasPrivateState}
 use Rattle.tlv_walk.specs.Reading.{IsReading}
 
@@ -38,7 +38,11 @@ waiting_events w = waiting_events_in w.phase w.stack w.offset
 abbrev pub IsIdle : WalkerState → Type 0
 IsIdle w = waiting_events w ≡ []
 
--- what a walker stands for that was refused nothing: octets, and the events yielded for them. Yielded and waiting
+-- an octet can be taken: no event waits, and no octet was refused
+abbrev pub CanTake : WalkerState → Type 0
+CanTake w = IsIdle w × HasNotFailed w
+
+-- what a walker stands for that refused no octet: octets, and the events yielded for them. Yielded and waiting
 -- together they are those of the reading
 pub record Stands (w : WalkerState) (b : List ℕ) (past : List EventValue) : Type 0 where
   pub reading : Forest

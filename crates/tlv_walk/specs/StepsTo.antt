@@ -1,18 +1,18 @@
 -- What one step of a walker comes to.
-use Rattle.std.specs.Prelude.{◌≡◌, ◌≢◌, ◌⊎◌, ℕ, ◌+◌, ◌≤◌, List, [], ◌∷◌, ◌++◌, length}
+use Rattle.std.specs.Prelude.{◌≡◌, ◌⊎◌, ℕ, ◌+◌, ◌≤◌, List, [], ◌∷◌, ◌++◌, length}
 use Rattle.tlv_head.specs.declared.fault.Fault.{Fault}
 use Rattle.tlv_walk.specs.declared.event.Event.{Event}
 use Rattle.tlv_walk.specs.declared.event.Step.{Step}
 use Rattle.tlv_walk.specs.declared.event.Step.TheVariants as step
 use Rattle.tlv_walk.specs.Phase.{Failed}
 use Rattle.tlv_walk.specs.Events.{EventValue}
-use Rattle.tlv_walk.specs.WalkerState.{CanTake, HasOctets, IsAfterEvent, WalkerState}
-use Rattle.tlv_walk.specs.Stands.{IsIdle, Stands}
+use Rattle.tlv_walk.specs.WalkerState.{HasNotFailed, HasOctets, IsAfterEvent, WalkerState}
+use Rattle.tlv_walk.specs.Stands.{CanTake, Stands}
 use Rattle.tlv_walk.specs.HasRead.{StandsRefused, event_value}
 
 -- octets were taken from the front of a piece, or none, and the walker stands for them and for one event more
 pub record YieldsNext (old new : WalkerState) (before after : List ℕ) (e : Event) : Type 0 where
-  pub not_failed : (g : Fault) → old.phase ≢ Failed g
+  pub not_failed : HasNotFailed old
   pub taken : List ℕ
   pub piece : before ≡ taken ++ after
   pub stands : (b : List ℕ) (past : List EventValue) → Stands old b past
@@ -25,20 +25,19 @@ pub record YieldsNext (old new : WalkerState) (before after : List ℕ) (e : Eve
   pub fewer : new.events ≤ new.offset
   pub phase : IsAfterEvent new.phase
 
--- all octets of a piece were taken, and no event is to come before the next octet
+-- all octets of a piece were taken, and no event is to come before the next octet, which can be taken
 pub record UsesUpPiece (old new : WalkerState) (before after : List ℕ) : Type 0 where
-  pub not_failed : (g : Fault) → old.phase ≢ Failed g
+  pub not_failed : HasNotFailed old
   pub none_left : after ≡ []
   pub stands : (b : List ℕ) (past : List EventValue) → Stands old b past → Stands new (b ++ before) past
-  pub idle : IsIdle new
   pub ready : CanTake new
   pub framing : new.framing ≡ old.framing
   pub offset : new.offset ≡ old.offset + length before
   pub events : new.events ≡ old.events
 
--- octets were taken from the front of a piece, or none, and the next one is refused: no element ends with it
+-- octets were taken from the front of a piece, or none, and the next one is refused; what is open stays open
 pub record RefusesNext (old new : WalkerState) (before after : List ℕ) (f : Fault) : Type 0 where
-  pub not_failed : (g : Fault) → old.phase ≢ Failed g
+  pub not_failed : HasNotFailed old
   pub taken : List ℕ
   pub octet : ℕ
   pub rest : List ℕ
@@ -50,7 +49,7 @@ pub record RefusesNext (old new : WalkerState) (before after : List ℕ) (f : Fa
   pub offset : new.offset ≡ old.offset + length taken
   pub events : new.events ≡ old.events
   pub stack : new.stack ≡ old.stack
-  pub wrappers : new.wrappers ≡ old.wrappers
+  pub wrapper_count : new.wrapper_count ≡ old.wrapper_count
 
 -- an octet was refused before: the same fault again, and nothing has changed
 pub record RefusesAgain (old new : WalkerState) (before after : List ℕ) (f : Fault) : Type 0 where

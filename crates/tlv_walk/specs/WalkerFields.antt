@@ -23,5 +23,5 @@ walker_state_of w = record {
   events = w.events;
   framing = w.framing;
   has_element = w.has_element;
-  wrappers = w.wrappers;
+  wrapper_count = w.wrapper_count;
 }

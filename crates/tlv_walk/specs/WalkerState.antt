@@ -1,11 +1,12 @@
 -- What contracts see of a `Walker`, which takes octets and yields events.
 use Rattle.std.specs.Prelude.{◌≡◌, ◌≢◌, ℕ, ◌+◌, ◌^◌, ◌≤◌, Bool, false, slice_get, List, [], length, Option}
+use Rattle.tlv_head.specs.declared.fault.Fault.{Fault}
 use Rattle.tlv_head.specs.HeadReaderState.{HeadReaderState}
 use Rattle.tlv_walk.specs.declared.event.Event.{Event}
 use Rattle.tlv_walk.specs.declared.event.Event.TheVariants as event
 use Rattle.tlv_walk.specs.declared.framing.Framing.{Framing}
 use Rattle.tlv_walk.specs.Phase.{Phase, Between, InHeader, InContents, BeforeUnused, InEnd, Failed}
-use Rattle.tlv_walk.specs.Stack.{Frame, IsFilled, IsInIndefinite, IsInWrapper, IsNested, Within, bound_of}
+use Rattle.tlv_walk.specs.Stack.{Frame, IsInIndefinite, IsInWrapper, IsNested, Within, bound_of}
 
 pub record WalkerState : Type 0 where
   -- the open elements, innermost first
@@ -19,11 +20,18 @@ pub record WalkerState : Type 0 where
   -- an octet of an element came
   pub has_element : Bool
   -- how many of the named offsets, from the first on, are those of wrappers
-  pub wrappers : ℕ
+  pub wrapper_count : ℕ
 
 abbrev pub new_walker : Framing → WalkerState
-new_walker framing =
-    record { stack = []; phase = Between; offset = 0; events = 0; framing = framing; has_element = false; wrappers = 0 }
+new_walker framing = record {
+  stack = [];
+  phase = Between;
+  offset = 0;
+  events = 0;
+  framing = framing;
+  has_element = false;
+  wrapper_count = 0;
+}
 
 -- a header's octets so far are before the offset
 pub record IsInHeader (r : HeadReaderState) (at : ℕ) : Type 0 where
@@ -49,19 +57,11 @@ pub record IsWalkerState (w : WalkerState) : Type 0 where
   pub fewer : length w.stack ≤ 128
   pub phased : IsPhase w.phase w.stack w.offset w.events
   pub named : length w.framing.inside ≤ 16
-  pub found : w.wrappers ≤ length w.framing.inside
+  pub found : w.wrapper_count ≤ length w.framing.inside
 
--- an octet can be taken: no event waits, and no octet was refused
-abbrev pub CanTakeIn : Phase → List Frame → ℕ → Type 0
-CanTakeIn Between stack offset = IsFilled stack offset → ⊥
-CanTakeIn (InHeader r) stack offset = Unit {0}
-CanTakeIn (InContents left) stack offset = left ≢ 0
-CanTakeIn BeforeUnused stack offset = Unit {0}
-CanTakeIn InEnd stack offset = Unit {0}
-CanTakeIn (Failed fault) stack offset = ⊥
-
-abbrev pub CanTake : WalkerState → Type 0
-CanTake w = CanTakeIn w.phase w.stack w.offset
+-- no octet was refused
+abbrev pub HasNotFailed : WalkerState → Type 0
+HasNotFailed w = (f : Fault) → w.phase ≢ Failed f
 
 -- a phase in which an event was yielded for each octet taken: no header has begun, no end-of-contents octets, and no
 -- octet was refused
@@ -87,4 +87,4 @@ HasOctets (event.Pad octets) = octets.now ≢ []
 
 -- the first of the named offsets that is not known to be a wrapper's
 abbrev pub first_unused_in : WalkerState → Option ℕ
-first_unused_in w = slice_get w.framing.inside w.wrappers
+first_unused_in w = slice_get w.framing.inside w.wrapper_count

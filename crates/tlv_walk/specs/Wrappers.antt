@@ -19,13 +19,13 @@ wrappers (Entered h inside) = wrapper_at h ++ wrappers inside
 wrappers (Awaiting h) = wrapper_at h
 wrappers end = []
 
--- the first named offset that is no wrapper's
-abbrev pub first_unused : List ℕ → Forest → Option ℕ
-first_unused inside f = find (λ n. not (is_among n (wrappers f))) inside
-
 -- the first offset of the list that is not among the others
 abbrev pub first_other : List ℕ → List ℕ → Option ℕ
 first_other ns others = find (λ n. not (is_among n others)) ns
+
+-- the first named offset that is no wrapper's
+abbrev pub first_unused : List ℕ → Forest → Option ℕ
+first_unused inside f = first_other inside (wrappers f)
 
 -- the offsets of the wrappers that events enter
 abbrev pub wrapper_offsets : List EventValue → List ℕ

@@ -34,9 +34,9 @@ pub fn drive<S: Source, F: Follow, D: Drain>(
 ///
 /// # Errors
 ///
-/// `ReadFailed` exactly if the source's failures rose in the call, and `WriteFailed` exactly if
-/// the drain's did. `InputTooLong` if the source gave more octets than `limit`, and those up to
-/// the limit held neither a fault nor enough; they are followed and flushed.
+/// `ReadFailed` exactly if a read failed, and `WriteFailed` exactly if a write failed.
+/// `InputTooLong` if the source gave more octets than `limit`, and those up to the limit held
+/// neither a fault nor enough; they are followed and flushed.
 pub fn drive_up_to<S: Source, F: Follow, D: Drain>(
     source: &mut S,
     follower: &mut F,

@@ -29,8 +29,8 @@ pub trait Follow {
     ///
     /// # Errors
     ///
-    /// `WriteFault` exactly if the drain's failures rose in the call. The drain then has a prefix
-    /// of what was put before and what was to be put now.
+    /// `WriteFault` exactly if a write failed. The drain then has a prefix of what was put before
+    /// and what was to be put now.
     fn on<D: Drain>(&mut self, event: &Event<'_>, out: &mut Out<'_, D>) -> Result<Go, WriteFault>
         ensures puts { Puts D.state out.old out.new
             (next self.old (event_value event.now)).put result }

@@ -1,10 +1,10 @@
 //! One read of a source, followed.
 ghost use Rattle.std.specs.Prelude.{◌≡◌, [], ◌+◌, ◌<◌, ◌≤◌, ◌^◌, IfOk, length};
 ghost use Rattle.tlv_walk.specs.Follow.{HasEffect};
-ghost use Rattle.tlv_walk.specs.Private.ResultOfStop.{IsResultOfStop, IsRun};
+ghost use Rattle.tlv_walk.specs.Private.ResultOfPause.{IsResultOfPause, IsRun};
 ghost use Rattle.tlv_walk.specs.Private.FollowsPiece.{FollowsAndFlushes, FollowsPart, FollowsPiece, walk_state};
 ghost use Rattle.tlv_walk.specs.Private.WalkerState.{CanPass};
-ghost use Rattle.tlv_walk.specs.WalkerState.{CanTake};
+ghost use Rattle.tlv_walk.specs.Stands.{CanTake};
 ghost use Rattle.tlv_io.specs.Out.{Puts, buffer_of, drain_of};
 ghost use Rattle.tlv_walk.specs.HasRead.{event_value};
 ghost use Rattle.tlv_walk.specs.OneTurn.{FollowsOneRead, turn_state};
@@ -17,7 +17,7 @@ use tlv_head::{Fault, Header};
 
 /// Why a piece is not followed any further.
 #[derive(Clone, Copy)]
-enum Stop {
+enum Pause {
     /// It is used up, and no event waits.
     UsedUp,
     Fault(Fault),
@@ -26,15 +26,21 @@ enum Stop {
 
 /// Makes one read into `piece`, lets the follower follow what it gave, and flushes what that put.
 ///
+/// `piece` has 1 to 4096 octets. The walker is within `limit` and has refused no octet, and no event
+/// waits.
+///
 /// `Again` comes if the octets held neither a fault nor enough for the follower, and were not the
 /// end; else `Ended`. The walker's octets count towards `limit`: of those that go past it none is
 /// walked over.
 ///
 /// # Errors
 ///
-/// `ReadFailed` exactly if the source's failures rose in the call, and `WriteFailed` exactly if
-/// the drain's did. `InputTooLong` if the source gave more octets than `limit`, and those up to
-/// the limit held neither a fault nor enough; they are followed and flushed.
+/// `ReadFailed` exactly if a read failed, and `WriteFailed` exactly if a write failed.
+/// `InputTooLong` if the source gave more octets than `limit`, and those up to the limit held
+/// neither a fault nor enough; they are followed and flushed.
+///
+/// After `ReadFailed` walker and follower are as they were; after `InputTooLong` the walker is at
+/// the limit. Another turn may follow then. After `WriteFailed` nothing is promised of them.
 pub fn turn<F: Follow, S: Source, D: Drain>(
     walker: &mut Walker,
     follower: &mut F,
@@ -83,28 +89,28 @@ pub(crate) fn turn_to<F: Follow, S: Source, D: Drain>(
     };
     let left = limit - walker.offset();
     let walked = left.min(count as u64) as usize;
-    let Ok(stop) = follow_and_flush(walker, follower, &piece[..walked], out) else {
+    let Ok(pause) = follow_and_flush(walker, follower, &piece[..walked], out) else {
         return Err(DeviceFault::WriteFailed);
     };
-    result_of_stop(walker, stop, count, walked)
+    result_of_pause(walker, pause, count, walked)
 }
 
-/// What a turn returns for this stop, if of `read` octets so many were followed.
-fn result_of_stop(
+/// What a turn returns after this pause, if of `read` octets so many were followed.
+fn result_of_pause(
     walker: &Walker,
-    stop: Stop,
+    pause: Pause,
     read: usize,
     followed: usize,
 ) -> Result<Turn, DeviceFault>
-    requires { stop ≡ Stop.UsedUp → CanTake walker.now }
-    ensures { IsResultOfStop read followed walker.now stop result }
+    requires { pause ≡ Pause.UsedUp → CanTake walker.now }
+    ensures { IsResultOfPause read followed walker.now pause result }
 {
-    match stop {
-        Stop::Enough => Ok(Turn::Ended(run_of(walker, Ending::Done, true))),
-        Stop::Fault(fault) => Ok(Turn::Ended(run_of(walker, Ending::Fault(fault), false))),
-        Stop::UsedUp if followed < read => Err(DeviceFault::InputTooLong),
-        Stop::UsedUp if read == 0 => Ok(Turn::Ended(run_of(walker, walker.finish(), false))),
-        Stop::UsedUp => Ok(Turn::Again),
+    match pause {
+        Pause::Enough => Ok(Turn::Ended(run_of(walker, Ending::Done, true))),
+        Pause::Fault(fault) => Ok(Turn::Ended(run_of(walker, Ending::Fault(fault), false))),
+        Pause::UsedUp if followed < read => Err(DeviceFault::InputTooLong),
+        Pause::UsedUp if read == 0 => Ok(Turn::Ended(run_of(walker, walker.finish(), false))),
+        Pause::UsedUp => Ok(Turn::Again),
     }
 }
 
@@ -125,7 +131,7 @@ fn follow_and_flush<F: Follow, D: Drain>(
     follower: &mut F,
     piece: &[u8],
     out: &mut Out<'_, D>,
-) -> Result<Stop, WriteFault>
+) -> Result<Pause, WriteFault>
     requires limit { walker.old.offset + length piece.now ≤ 2 ^ 40 }
     requires empty { buffer_of out.old ≡ [] }
     ensures { FollowsAndFlushes F.next D.state
@@ -133,9 +139,9 @@ fn follow_and_flush<F: Follow, D: Drain>(
         (walk_state walker.new follower.new out.new)
         piece.now result }
 {
-    let stop = follow(walker, follower, piece, out)?;
+    let pause = follow(walker, follower, piece, out)?;
     out.flush()?;
-    Ok(stop)
+    Ok(pause)
 }
 
 /// Walks over a piece, and lets the follower follow each event.
@@ -144,7 +150,7 @@ fn follow<F: Follow, D: Drain>(
     follower: &mut F,
     piece: &[u8],
     out: &mut Out<'_, D>,
-) -> Result<Stop, WriteFault>
+) -> Result<Pause, WriteFault>
     requires { walker.old.offset + length piece.now ≤ 2 ^ 40 }
     ensures { FollowsPiece F.next D.state
         (walk_state walker.old follower.old out.old)
@@ -169,15 +175,15 @@ fn follow<F: Follow, D: Drain>(
                         rest = left;
                         match next {
                             Step::Event(event) => follow_event(follower, &event, out)?,
-                            Step::NeedMore => return Ok(Stop::UsedUp),
-                            Step::Fault(fault) => return Ok(Stop::Fault(fault)),
+                            Step::NeedMore => return Ok(Pause::UsedUp),
+                            Step::Fault(fault) => return Ok(Pause::Fault(fault)),
                         }
                     }
                 },
             },
         };
         if go == Go::Enough {
-            return Ok(Stop::Enough);
+            return Ok(Pause::Enough);
         }
     }
 }

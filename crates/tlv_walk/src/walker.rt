@@ -31,7 +31,7 @@ enum Phase {
 }
 
 /// Takes the octets of an input in whatever pieces they come, and yields event after event. It
-/// holds a frame for each open element, and no contents.
+/// holds a frame for each open element that holds others, and no contents.
 #[derive(Drop)]
 pub struct Walker {
     stack: Stack,
@@ -45,7 +45,7 @@ pub struct Walker {
     /// Whether an octet of an element came, and not padding alone.
     has_element: bool,
     /// How many of the named offsets, from the first on, are those of wrappers.
-    wrappers: usize,
+    wrapper_count: usize,
 }
 
 impl Model for Walker {
@@ -69,18 +69,18 @@ impl Walker {
     ghost use Rattle.tlv_head.specs.declared.fault.Fault.{Fault as FaultOf};
     ghost use Rattle.tlv_walk.specs.Ending.{IsEnding, ShowsSoundness};
     ghost use Rattle.tlv_walk.specs.Events.{EventValue};
-    ghost use Rattle.tlv_walk.specs.Forest.{Forest};
     ghost use Rattle.tlv_walk.specs.OpenCount.{open_count};
-    ghost use Rattle.tlv_walk.specs.Stands.{IsIdle, Stands};
+    ghost use Rattle.tlv_walk.specs.Stands.{CanTake, IsIdle, Stands};
     ghost use Rattle.tlv_walk.specs.Wrappers.{first_unused};
     ghost use Rattle.tlv_walk.specs.StepsTo.{RefusesAgain, StepsTo};
-    ghost use Rattle.tlv_walk.specs.HasRead.{HasRead, StandsAtEnd};
+    ghost use Rattle.tlv_walk.specs.HasRead.{IfRead, StandsAtEnd};
     ghost use Rattle.tlv_walk.specs.Private.Steps.{YieldsStep};
 
     /// A walker that has taken nothing.
     pub fn new(framing: &Framing) -> Walker
         ensures state { result ≡ new_walker framing.now }
         ensures stands { Stands result [] [] }
+        ensures ready { CanTake result }
     {
         Walker {
             stack: Stack::new(),
@@ -90,7 +90,7 @@ impl Walker {
             events: 0,
             framing: framing.copied(),
             has_element: false,
-            wrappers: 0,
+            wrapper_count: 0,
         }
     }
 
@@ -99,8 +99,8 @@ impl Walker {
     pub fn depth(&self) -> u8
         ensures value { result ≡ length self.now.stack }
         ensures within { result ≤ 128 }
-        ensures open_elements { (b : List ℕ) (f : Forest) → HasRead self.now b f → IsIdle self.now
-            → result ≡ open_count f }
+        ensures open_elements { IsIdle self.now
+            → IfRead self.now (λ b f. result ≡ open_count f) }
     {
         self.stack.len()
     }
@@ -109,7 +109,7 @@ impl Walker {
     pub fn offset(&self) -> u64
         ensures value { result ≡ self.now.offset }
         ensures within { result ≤ 2 ^ 40 }
-        ensures taken { (b : List ℕ) (f : Forest) → HasRead self.now b f → result ≡ length b }
+        ensures taken { IfRead self.now (λ b f. result ≡ length b) }
     {
         self.offset
     }
@@ -125,10 +125,9 @@ impl Walker {
     /// The first of the named offsets at which no string was found whose contents are encodings.
     pub fn unused(&self) -> Option<u64>
         ensures value { result ≡ first_unused_in self.now }
-        ensures first { (b : List ℕ) (f : Forest) → HasRead self.now b f
-            → result ≡ first_unused self.now.framing.inside f }
+        ensures first { IfRead self.now (λ b f. result ≡ first_unused self.now.framing.inside f) }
     {
-        self.framing.inside.get(self.wrappers)
+        self.framing.inside.get(self.wrapper_count)
     }
 
     /// Whether an event is still to come that needs no further octet.
@@ -150,14 +149,12 @@ impl Walker {
     }
 
     /// What the input comes to, if it ends here. After a fault it is that fault. It is `Done` exactly if
-    /// the input is a sound list of encodings.
+    /// the input is a sound list of encodings. No event may wait ([`Walker::waiting`]).
     pub fn finish(&self) -> Ending
         requires { IsIdle self.now }
-        ensures ending { (o : List ℕ) (past : List EventValue) (e : Ending)
-            → StandsAtEnd self.now o past e
+        ensures ending { (o : List ℕ) (past : List EventValue) → StandsAtEnd self.now o past
             → IsEnding self.now.framing o result }
-        ensures soundness { (o : List ℕ) (past : List EventValue) (e : Ending)
-            → StandsAtEnd self.now o past e
+        ensures soundness { (o : List ℕ) (past : List EventValue) → StandsAtEnd self.now o past
             → ShowsSoundness self.now.framing o result }
         ensures failed { (f : FaultOf) → self.now.phase ≡ phases.Failed f
             → result ≡ Ending.Fault f }
@@ -194,7 +191,8 @@ impl Walker {
         })
     }
 
-    /// Takes octets from the front of `piece`, up to the next event.
+    /// Takes octets from the front of `piece`, up to the next event. The octets taken and those of the
+    /// piece are together at most 2^40.
     ///
     /// `NeedMore` comes only with an empty piece and no event waiting. After a fault each step returns
     /// the same fault and takes nothing. A fault is no false alarm: no input that begins with the octets

@@ -25,7 +25,7 @@ showing framing text count = record {
   limit = 2 ^ 40;
   text = text;
   is_enough = λ f. false;
-  answer = λ f e. record { ending = e; findings = count f; unused = first_unused framing.inside f };
+  returned = λ f e. record { ending = e; findings = count f; unused = first_unused framing.inside f };
 }
 
 -- a follower, and what it makes of readings: a text, and a count in its state

@@ -17,13 +17,13 @@ step_events (Grown g) = events g
 step_events (Ended g) = events g
 step_events (Refused code) = []
 
--- the end of an element that holds others, where a step of what it holds is its last
+-- the end of an element that holds others, if a step of what it holds is its last
 abbrev pub closing : HeaderValue → Step → List EventValue
 closing h (Grown g) = cond (is_filled h g) (closing_event h g ∷ []) []
 closing h (Ended g) = closing_event h g ∷ []
 closing h (Refused code) = []
 
--- what the octet x behind an open forest brings
+-- what the octet x after an open forest brings
 abbrev pub gained : Place → Forest → ℕ → List EventValue
 gained p Stop x = step_events (push p Stop x)
 gained p (Fill rest) x = gained (place_after p 1) rest x
@@ -47,20 +47,20 @@ step-brings (Grown g) = refl
 step-brings (Ended g) = refl
 step-brings (Refused code) = tt
 
--- behind the first of the end-of-contents octets nothing is brought
+-- after the first of the end-of-contents octets nothing is brought
 zero-brings : (a b : Bool) → Brings [] (cond a (cond b (Ended Stop) (Refused BadEnd)) (Refused MissingEnd))
 zero-brings true true = refl
 zero-brings true false = tt
 zero-brings false b = tt
 
--- events that a step brings are brought behind others
+-- events that a step brings are brought after others
 follow-brings : (f : Forest → Forest) (before old new : List EventValue) (s : Step) → ((g : Forest) → events (f g) ≡ before ++ events g) → Brings (old ++ new) s
     → Brings ((before ++ old) ++ new) (follow f s)
 follow-brings f before old new (Grown g) split e = ap single_octets (split g) ∙ apart-more before (events g) old new e
 follow-brings f before old new (Ended g) split e = ap single_octets (split g) ∙ apart-more before (events g) old new e
 follow-brings f before old new (Refused code) split e = tt
 
--- a contents octet of a primitive brings that octet, and the end behind the last
+-- a contents octet of a primitive brings that octet, and the end after the last
 partial-brings : (h : HeaderValue) (c : List ℕ) (x : ℕ) → Brings (events (Partial h c) ++ Bytes (x ∷ []) ∷ cond (eqb (length (c ++ x ∷ [])) (announced_length h.size)) (End ∷ []) []) (Grown (partial h (c ++ x ∷ [])))
 partial-brings h c x = elim (cases_Bool (eqb (length (c ++ x ∷ [])) (announced_length h.size))) [
   | inl full ↦ rw (full, map_push (λ x. Bytes (x ∷ [])) c x, append_assoc (bytes_apart c) (Bytes (x ∷ []) ∷ []) (End ∷ []))
@@ -74,7 +74,7 @@ closed-brings h old new g e =
     apart-more (opening_events h) (events g ++ closing_event h g ∷ []) old (new ++ closing_event h g ∷ [])
     (apart-before (events g) (old ++ new) (closing_event h g ∷ []) e ∙ ap single_octets (append_assoc old new (closing_event h g ∷ [])))
 
--- an element that holds others brings what they bring, and its end behind the last
+-- an element that holds others brings what they bring, and its end after the last
 entered-brings : (h : HeaderValue) (old new : List EventValue) (g : Forest) → single_octets (events g) ≡ single_octets (old ++ new)
     → single_octets (events (entered h g)) ≡ single_octets ((opening_events h ++ old) ++ (new ++ closing h (Grown g)))
 entered-brings h old new g e = elim (cases_Bool (is_filled h g)) [

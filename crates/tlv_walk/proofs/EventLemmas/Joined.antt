@@ -1,4 +1,4 @@
--- Events joined are equal where they are equal with each octet by itself.
+-- Events joined are equal if they are equal with each octet by itself.
 use Rattle.std.proofs.Common.{◌≡◌, ◌↔◌, ℕ, List, [], ◌∷◌, ◌++◌, map, refl, sym, ap, ◌∙◌, append_assoc}
 use Rattle.std.proofs.lemmas.List.{map-append}
 use Rattle.tlv_walk.specs.Events.{AreEqualJoined, Begin, Bytes, Close, End, Enter, EventValue, Leave, Open, Pad, Unused, joined_events, single_octets, with_bytes, with_pad}
@@ -132,7 +132,7 @@ apart-from_joined xs ys e = sym (apart-joined xs) ∙ ap single_octets e ∙ apa
 pub equal-joined : (xs ys : List EventValue) → AreEqualJoined xs ys ↔ (single_octets xs ≡ single_octets ys)
 equal-joined xs ys = (apart-from_joined xs ys, joined-from_apart xs ys)
 
--- events that are equal apart, behind the same events
+-- events that are equal apart, after the same events
 pub apart-behind : (xs ys zs : List EventValue) → single_octets ys ≡ single_octets zs → single_octets (xs ++ ys) ≡ single_octets (xs ++ zs)
 apart-behind xs ys zs e = apart-append xs ys ∙ ap (λ (t : List EventValue). single_octets xs ++ t) e ∙ sym (apart-append xs zs)
 
@@ -140,6 +140,6 @@ apart-behind xs ys zs e = apart-append xs ys ∙ ap (λ (t : List EventValue). s
 pub apart-before : (xs ys zs : List EventValue) → single_octets xs ≡ single_octets ys → single_octets (xs ++ zs) ≡ single_octets (ys ++ zs)
 apart-before xs ys zs e = apart-append xs zs ∙ ap (λ (t : List EventValue). t ++ single_octets zs) e ∙ sym (apart-append ys zs)
 
--- new events behind some, and so behind all
+-- new events after some, and so after all
 pub apart-more : (xs ys zs new : List EventValue) → single_octets ys ≡ single_octets (zs ++ new) → single_octets (xs ++ ys) ≡ single_octets ((xs ++ zs) ++ new)
 apart-more xs ys zs new e = apart-behind xs ys (zs ++ new) e ∙ sym (ap single_octets (append_assoc xs zs new))

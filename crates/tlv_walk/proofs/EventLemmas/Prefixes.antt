@@ -41,7 +41,7 @@ forest-goes_on p (suc n) f g t l w v e = elim (back t) [
       (forest-goes_on p n f q.popped.from ys (omega (arith, ap length z, length-append ys (y ∷ []))) w q.popped.is_open q.spelled) brings
 ]
 
--- of two open forests at one place, where one spelling goes on from the other the events do
+-- of two open forests at one place, if one spelling goes on from the other the events do
 pub events-go_on : (p : Place) (f g : Forest) (t : List ℕ) → IsOpen p f → IsOpen p g → spell g ≡ spell f ++ t → GoesOn (events f) (events g)
 events-go_on p f g t w v e = forest-goes_on p (length t) f g t refl w v e
 

@@ -39,7 +39,7 @@ among_rise least end n (at ∷ ats) r e = elim (cases_eq n at) [
   | inr other ↦ omega (arith, r.0, among_rise (at + 1) end n ats r.1 (sym (not_among n at ats other) ∙ e))
 ]
 
--- counting goes on behind the first of the list
+-- counting goes on after the first of the list
 next-behind : (n : ℕ) (ns : List ℕ) (k at : ℕ) → next_wrapper (n ∷ ns) (suc k) at ≡ suc (next_wrapper ns k at)
 next-behind n ns k at = by (slice_get ns k)
   where

@@ -1,4 +1,4 @@
--- Wrappers by the events that enter them: one more octet adds one at most, behind the others.
+-- Wrappers by the events that enter them: one more octet adds one at most, after the others.
 use Rattle.std.proofs.Common.{◌≡◌, inl, inr, ℕ, ◌+◌, ◌<◌, ◌≤◌, Bool, true, false, cond, ◌||◌, eqb, if◌then◌else◌, List, [], ◌∷◌, ◌++◌, length, map, refl, sym, ap, ◌∙◌, arith, length-append}
 use Rattle.std.proofs.lemmas.Bool.{cases_Bool, true≢false}
 use Rattle.tlv_head.specs.declared.fault.FaultCode.TheVariants.{MissingEnd, Overrun, TooDeep}
@@ -62,7 +62,7 @@ enters-first : (h : HeaderValue) (constructed : Bool) (es : List EventValue) →
 enters-first h true es = refl
 enters-first h false es = refl
 
--- the beginning of an element that holds others enters it, where it is a wrapper
+-- the beginning of an element that holds others enters it, if it is a wrapper
 enters-opens : (h : HeaderValue) (es : List EventValue) → wrapper_offsets (opening_events h ++ es) ≡ wrapper_at h ++ wrapper_offsets es
 enters-opens h es =
     enters-first h h.constructed (map (λ z. Unused) (lead h) ++ es)
@@ -168,7 +168,7 @@ begin-few p o (Ready h) = complete-few p h _ _
 begin-few p o (Stuck code) = omega arith
 begin-few p o Over = omega arith
 
--- behind the front of a header
+-- after the front of a header
 header-few : (p : Place) (o : List ℕ) (s : Scan) (room : Bool) → EntersFew (step_events (cond room (begin p o s) (Refused Overrun)))
 header-few p o s true = begin-few p o s
 header-few p o s false = omega arith
@@ -221,7 +221,7 @@ rise-least a b c (n ∷ ns) h r = (omega (arith, r.0), r.1)
 rise-within : (a b c d : ℕ) (ns : List ℕ) → c ≤ a → b ≤ d → Rise a b ns → Rise c d ns
 rise-within a b c d ns h k r = rise-least a c d ns h (rise-end a b d ns k r)
 
--- numbers that rise, and others that rise behind them
+-- numbers that rise, and others that rise after them
 rise-append : (a b c : ℕ) (xs ys : List ℕ) → Rise a b xs → Rise b c ys → Rise a c (xs ++ ys)
 rise-append a b c [] ys r s = rise-least b a c ys r s
 rise-append a b c (n ∷ xs) ys r s = (r.0, rise-append (n + 1) b c xs ys r.1 s)
@@ -274,7 +274,7 @@ wraps-named true named h c e = absurd (true≢false c)
 wraps-named false true h c e = refl
 wraps-named false false h c e = absurd (cc)
 
--- an element that stands there, where it is a wrapper, is named
+-- an element that stands there, if it is a wrapper, is named
 wrapper-named : (p : Place) (h : HeaderValue) → IsHeadAt p true h → AreNamed p.inside (wrapper_at h)
 wrapper-named p h header = elim (cases_Bool h.constructed) [
   | inl c ↦ rw c tt

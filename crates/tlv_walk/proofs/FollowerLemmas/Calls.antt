@@ -1,23 +1,23 @@
--- One read of a source that gave octets, and the writes behind it.
-use Rattle.std.proofs.Common.{◌≡◌, ◌<◌, ◌≤◌, ◌+◌, ◌-◌, min, ℕ, List, length, refl, sym, ap, ◌∙◌, subst, arith}
+-- One read of a source that gave octets, and the writes after it.
+use Rattle.std.proofs.Common.{◌≡◌, ◌<◌, ◌≤◌, ◌-◌, min, ℕ, List, length, refl, sym, ap, ◌∙◌, subst, arith}
 use Rattle.std.specs.Prelude.{Result, Ok, Err, ⊤}
 use Rattle.std.specs.Io.KnownBytes.{Consumes}
-use Rattle.tlv_io.specs.declared.drain.WriteFault.{WriteFault}
 use Rattle.tlv_walk.specs.declared.run.DeviceFault.{DeviceFault}
 use Rattle.tlv_walk.specs.declared.run.DeviceFault.TheVariants.{ReadFailed, WriteFailed, InputTooLong}
 use Rattle.tlv_walk.specs.declared.run.Turn.{Turn}
 use Rattle.tlv_walk.specs.declared.run.Turn.TheVariants.{Again, Ended}
 use Rattle.tlv_io.specs.declared.source.ReadFault.{ReadFault}
-use Rattle.tlv_walk.specs.declared.one_turn.Stop.{Stop}
-use Rattle.tlv_walk.specs.declared.one_turn.Stop.TheVariants as stop
+use Rattle.tlv_walk.specs.declared.one_turn.Pause.{Pause}
+use Rattle.tlv_walk.specs.declared.one_turn.Pause.TheVariants as pause
 use Rattle.tlv_io.specs.declared.out.Out.{Out}
 use Rattle.tlv_io.specs.Device.{Last, never, gave, failed, failures_after, ReadsOnce}
 use Rattle.tlv_walk.specs.Events.{EventValue}
 use Rattle.tlv_walk.specs.Follow.{Effect}
 use Rattle.tlv_walk.specs.Job.{drain_result, source_result}
-use Rattle.tlv_walk.specs.WalkerState.{CanTake, WalkerState}
-use Rattle.tlv_walk.specs.Private.FollowsPiece.{Stops, WalkState, walk_state}
-use Rattle.tlv_walk.specs.Private.ResultOfStop.{IsResultOfStop}
+use Rattle.tlv_walk.specs.Stands.{CanTake}
+use Rattle.tlv_walk.specs.WalkerState.{WalkerState}
+use Rattle.tlv_walk.specs.Private.FollowsPiece.{Pauses, WalkState, walk_state}
+use Rattle.tlv_walk.specs.Private.ResultOfPause.{IsResultOfPause}
 use Rattle.tlv_walk.specs.OneTurn.{CallsDevices, CanGoOn, Gave, TurnState, last_octets}
 
 gave-same : (m n : ℕ) → gave m ≡ gave n → m ≡ n
@@ -37,40 +37,40 @@ module _ {S : Type 0} (before after : TurnState S) (piece : List ℕ) where
     failed_writes = d;
   }
 
-  -- the same, where all that was made of the octets was written, and a turn answers what comes of it
-  pub calls_answered : (n m : ℕ) (v : WalkerState) (why : Stop) (result : Result Turn DeviceFault)
+  -- the same, if all that was made of the octets was written, and a turn returns what comes of it
+  pub calls_answered : (n m : ℕ) (v : WalkerState) (why : Pause) (result : Result Turn DeviceFault)
       → ReadsOnce {E = ReadFault} before.source after.source (Ok n) piece → 0 < length piece → n ≤ length piece
-      → after.drain.failures ≡ before.drain.failures → IsResultOfStop n m v why result → CallsDevices before after piece result
-  calls_answered n m v stop.Enough (Ok turn) r some fits d is = calls_given n (Ok turn) r some fits refl d
-  calls_answered n m v (stop.Fault f) (Ok turn) r some fits d is = calls_given n (Ok turn) r some fits refl d
-  calls_answered n m v stop.UsedUp (Ok turn) r some fits d is = calls_given n (Ok turn) r some fits refl d
-  calls_answered n m v stop.UsedUp (Err InputTooLong) r some fits d is = calls_given n (Err InputTooLong) r some fits refl d
-  calls_answered n m v stop.Enough (Err e) r some fits d is = absurd is
-  calls_answered n m v (stop.Fault f) (Err e) r some fits d is = absurd is
-  calls_answered n m v stop.UsedUp (Err ReadFailed) r some fits d is = absurd is
-  calls_answered n m v stop.UsedUp (Err WriteFailed) r some fits d is = absurd is
+      → after.drain.failures ≡ before.drain.failures → IsResultOfPause n m v why result → CallsDevices before after piece result
+  calls_answered n m v pause.Enough (Ok turn) r some fits d is = calls_given n (Ok turn) r some fits refl d
+  calls_answered n m v (pause.Fault f) (Ok turn) r some fits d is = calls_given n (Ok turn) r some fits refl d
+  calls_answered n m v pause.UsedUp (Ok turn) r some fits d is = calls_given n (Ok turn) r some fits refl d
+  calls_answered n m v pause.UsedUp (Err InputTooLong) r some fits d is = calls_given n (Err InputTooLong) r some fits refl d
+  calls_answered n m v pause.Enough (Err e) r some fits d is = absurd is
+  calls_answered n m v (pause.Fault f) (Err e) r some fits d is = absurd is
+  calls_answered n m v pause.UsedUp (Err ReadFailed) r some fits d is = absurd is
+  calls_answered n m v pause.UsedUp (Err WriteFailed) r some fits d is = absurd is
 
-  -- how a walk can go on whose turn answers this, after octets within the limit
-  pub can_go_on_answered : {D : Type 0} (next : S → EventValue → Effect S) (from to : Out D) (n m limit : ℕ) (walked : List ℕ) (more : List EventValue) (why : Stop) (result : Result Turn DeviceFault)
-      → IsResultOfStop n m after.walker why result
-      → Stops next (walk_state before.walker before.follower from) (walk_state after.walker after.follower to) walked more (Ok why)
+  -- how a walk can go on whose turn returns this, after octets within the limit
+  pub can_go_on_answered : {D : Type 0} (next : S → EventValue → Effect S) (from to : Out D) (n m limit : ℕ) (walked : List ℕ) (more : List EventValue) (why : Pause) (result : Result Turn DeviceFault)
+      → IsResultOfPause n m after.walker why result
+      → Pauses next (walk_state before.walker before.follower from) (walk_state after.walker after.follower to) walked more (Ok why)
       → length walked ≡ m → m ≡ min (limit - before.walker.offset) n → before.walker.offset ≤ limit → CanGoOn limit before after result
-  can_go_on_answered next from to n m limit walked more stop.UsedUp (Ok Again) is used l fits below =
+  can_go_on_answered next from to n m limit walked more pause.UsedUp (Ok Again) is used l fits below =
       (omega (arith, is.0, is.1, used.offset, l, fits, below), omega (arith, is.0, is.1, used.offset, l, fits, below), used.ready)
   can_go_on_answered next from to n m limit walked more why (Ok (Ended run)) is used l fits below = tt
-  can_go_on_answered next from to n m limit walked more stop.UsedUp (Err InputTooLong) is used l fits below = (omega (arith, is, used.offset, l, fits, below), used.ready)
+  can_go_on_answered next from to n m limit walked more pause.UsedUp (Err InputTooLong) is used l fits below = (omega (arith, is, used.offset, l, fits, below), used.ready)
   can_go_on_answered next from to n m limit walked more why (Err WriteFailed) is used l fits below = tt
-  can_go_on_answered next from to n m limit walked more stop.UsedUp (Err ReadFailed) is used l fits below = absurd is
-  can_go_on_answered next from to n m limit walked more stop.Enough (Ok Again) is used l fits below = absurd is
-  can_go_on_answered next from to n m limit walked more stop.Enough (Err ReadFailed) is used l fits below = absurd is
-  can_go_on_answered next from to n m limit walked more stop.Enough (Err InputTooLong) is used l fits below = absurd is
-  can_go_on_answered next from to n m limit walked more (stop.Fault f) (Ok Again) is used l fits below = absurd is
-  can_go_on_answered next from to n m limit walked more (stop.Fault f) (Err ReadFailed) is used l fits below = absurd is
-  can_go_on_answered next from to n m limit walked more (stop.Fault f) (Err InputTooLong) is used l fits below = absurd is
+  can_go_on_answered next from to n m limit walked more pause.UsedUp (Err ReadFailed) is used l fits below = absurd is
+  can_go_on_answered next from to n m limit walked more pause.Enough (Ok Again) is used l fits below = absurd is
+  can_go_on_answered next from to n m limit walked more pause.Enough (Err ReadFailed) is used l fits below = absurd is
+  can_go_on_answered next from to n m limit walked more pause.Enough (Err InputTooLong) is used l fits below = absurd is
+  can_go_on_answered next from to n m limit walked more (pause.Fault f) (Ok Again) is used l fits below = absurd is
+  can_go_on_answered next from to n m limit walked more (pause.Fault f) (Err ReadFailed) is used l fits below = absurd is
+  can_go_on_answered next from to n m limit walked more (pause.Fault f) (Err InputTooLong) is used l fits below = absurd is
 
 -- a walker that used a piece up can take more
-pub used_up_ready : {S D : Type 0} (next : S → EventValue → Effect S) (x y : WalkState S D) (piece : List ℕ) (more : List EventValue) (why : Stop) → Stops next x y piece more (Ok why)
-    → why ≡ stop.UsedUp → CanTake y.walker
-used_up_ready next x y piece more stop.UsedUp k e = k.ready
-used_up_ready next x y piece more (stop.Fault f) k e = absurd (cc (e))
-used_up_ready next x y piece more stop.Enough k e = absurd (cc (e))
+pub used_up_ready : {S D : Type 0} (next : S → EventValue → Effect S) (x y : WalkState S D) (piece : List ℕ) (more : List EventValue) (why : Pause) → Pauses next x y piece more (Ok why)
+    → why ≡ pause.UsedUp → CanTake y.walker
+used_up_ready next x y piece more pause.UsedUp k e = k.ready
+used_up_ready next x y piece more (pause.Fault f) k e = absurd (cc (e))
+used_up_ready next x y piece more pause.Enough k e = absurd (cc (e))

@@ -22,12 +22,11 @@ use Rattle.tlv_walk.specs.Follow.{Effect, GoesOn, Joins, Rests, effect_of, follo
 use Rattle.tlv_walk.specs.FollowsEvents.{FollowsEvents}
 use Rattle.tlv_walk.specs.Forest.{Forest, spell}
 use Rattle.tlv_walk.specs.Ending.{IsFinalEnding}
-use Rattle.tlv_walk.specs.Job.{AreSound, ComesTo, EndsWith, Runs, drain_result, read_failed, source_result, too_long, write_failed}
-use Rattle.tlv_walk.specs.Laws.{AreOctets}
+use Rattle.tlv_walk.specs.Job.{ComesTo, EndsWith, Runs, WantMore, drain_result, read_failed, source_result, too_long, write_failed}
 use Rattle.tlv_io.specs.Out.{Sends}
-use Rattle.tlv_walk.specs.Reading.{IsReading}
+use Rattle.tlv_walk.specs.Reading.{AreOctets, IsReading}
 use Rattle.tlv_walk.specs.Stands.{Stands}
-use Rattle.tlv_walk.specs.OneTurn.{EndsBy, EndsIn, FollowsOneRead, Gave, GaveUpTo, StopsIn, TurnState, TurnsTo, last_octets}
+use Rattle.tlv_walk.specs.OneTurn.{EndsBy, EndsIn, FollowsOneRead, Gave, GaveUpTo, HasEnoughIn, TurnState, TurnsTo, last_octets}
 use Rattle.tlv_walk.specs.Wrappers.{first_other, first_unused, wrapper_offsets}
 use Rattle.tlv_walk.proofs.FollowerLemmas.Followed.{events_enough, followed-alike, followed-enough, kept-alike}
 use Rattle.tlv_walk.proofs.FollowerLemmas.Following.{made_both, made_put}
@@ -75,7 +74,7 @@ module _ {S : Type 0} (next : S → EventValue → Effect S)
         text_is = ap (λ (k : Effect S). k.put) same;
       }
 
-  -- where there was enough before the last of them
+  -- if there was enough before the last of them
   made_enough : (s t : S) (es others : List EventValue) (f : Forest) → FollowsEvents next s t es go.Enough → AreEqualJoined (es ++ others) (events f) → MadeAll s t f go.Enough (effect_of next s es).put
   made_enough s t es others f m e =
       let same : effect_of next s es ≡ effect_of next s (events f) = sym (followed-enough next s es others m.goes_so) ∙ alike s (es ++ others) (events f) e in record {
@@ -109,8 +108,8 @@ module _ {S : Type 0} (next : S → EventValue → Effect S)
     first_spelled = stands_spelled before.walker b x.past x.stands.reading x.stands x.stands.is_reading
 
     -- the octets so far hold neither a fault nor enough
-    first_sound : AreSound (drive_job next framing limit s) b
-    first_sound = (x.stands.reading, first_reading, first_spelled, ap had_enough first_made.goes_so)
+    first_wants : WantMore (drive_job next framing limit s) b
+    first_wants = (x.stands.reading, first_reading, first_spelled, ap had_enough first_made.goes_so)
 
     module _ (after : TurnState S) (piece : List ℕ) (result : Result Turn DeviceFault) (read : FollowsOneRead next limit before after piece result)
         (room : length piece ≡ 4096) (below : before.walker.offset ≤ limit) where
@@ -180,7 +179,7 @@ module _ {S : Type 0} (next : S → EventValue → Effect S)
         pieces = pieces_all old before.source after.source x.gathered r read.calls.octets read.calls.reads last few;
         failures =
             read.calls.failed_reads ∙ ap (λ (k : Result ⊤ DeviceFault). failures_after k before.source.failures) (sym same) ∙ ap (failures_after (source_result answer)) x.failures;
-        sound = first_sound;
+        wants_more = first_wants;
         within = within;
         reading = f;
         is_reading = is_reading;
@@ -223,7 +222,7 @@ module _ {S : Type 0} (next : S → EventValue → Effect S)
           }
 
       -- with enough
-      ends_with : (run : Run) → result ≡ Ok (Ended run) → run.enough ≡ true → StopsIn next before after walked x.past run → Driven (Ok run)
+      ends_with : (run : Run) → result ≡ Ok (Ended run) → run.enough ≡ true → HasEnoughIn next before after walked x.past run → Driven (Ok run)
       unfolding runs_by
       ends_with run is yes' y =
           let g : GaveUpTo (length piece) after.source.last = gave_so (Ok (Ended run)) is in
@@ -278,7 +277,7 @@ module _ {S : Type 0} (next : S → EventValue → Effect S)
             runs = record {
               pieces = pieces_all old before.source after.source x.gathered r read.calls.octets read.calls.reads (gave_last after.source.last piece g) few;
               failures = failed_so (Err WriteFailed) is;
-              sound = first_sound;
+              wants_more = first_wants;
               within = within;
               reading = f;
               is_reading = subst (λ (k : Framing). IsReading k walked f) x.same y.is_reading;
@@ -299,9 +298,9 @@ module _ {S : Type 0} (next : S → EventValue → Effect S)
           let is_reading : IsReading framing walked f = subst (λ (k : Framing). IsReading k walked f) (z.framing ∙ x.same) z.stands.is_reading in
           let k : MadeAll s after.follower f go.On (effect_of next s es).put =
           made_all s after.follower es f go.On (made_both next s before.follower after.follower x.past z.more go.On x.made z.made) (stands_past after.walker walked es f z.stands z.idle z.stands.is_reading) in
-          let sound : AreSound (drive_job next framing limit s) walked =
+          let wants : WantMore (drive_job next framing limit s) walked =
           (f, is_reading, stands_spelled after.walker walked es f z.stands z.stands.is_reading, is_enough_so f go.On (effect_of next s es).put k) in record {
-            runs = runs_by (Err InputTooLong) f (gave_last after.source.last piece g) is_reading es go.On k (ap source_result (sym is)) (sent z.more (Ok tt) z.put) (too_long y.beyond sound);
+            runs = runs_by (Err InputTooLong) f (gave_last after.source.last piece g) is_reading es go.On k (ap source_result (sym is)) (sent z.more (Ok tt) z.put) (too_long y.beyond wants);
             state = k.state;
           }
 

@@ -10,7 +10,7 @@ use Rattle.tlv_walk.specs.declared.run.DeviceFault.{DeviceFault}
 use Rattle.tlv_walk.specs.declared.run.DeviceFault.TheVariants.{ReadFailed, WriteFailed, InputTooLong}
 use Rattle.tlv_walk.specs.Ending.{IsEnding, IsFinalEnding}
 use Rattle.tlv_walk.specs.Forest.{Forest}
-use Rattle.tlv_walk.specs.Job.{AreSound, ComesTo, EndsWith, HasEnding, Job, was_enough, refused, ended, read_failed, write_failed, too_long}
+use Rattle.tlv_walk.specs.Job.{ComesTo, EndsWith, HasEnding, Job, WantMore, was_enough, refused, ended, read_failed, write_failed, too_long}
 use Rattle.tlv_walk.proofs.GrammarLemmas.Unique.{shows-soundness}
 
 -- there was enough, or the ending is that of the octets, and this holds
@@ -40,10 +40,10 @@ module _ {A : Type 0} (job : Job A) (given : List ℕ) (f : Forest) (new : Sourc
 
   -- what `ComesTo` says of each result
   abbrev pub Returns : Result A DeviceFault → Type 0
-  Returns (Ok a) = (e : Ending) × (a ≡ job.answer f e) × EndsSo job.framing (take job.limit given) (job.is_enough f) e (Settled e)
+  Returns (Ok a) = (e : Ending) × (a ≡ job.returned f e) × EndsSo job.framing (take job.limit given) (job.is_enough f) e (Settled e)
   Returns (Err ReadFailed) = new.last ≡ failed
   Returns (Err WriteFailed) = ⊤
-  Returns (Err InputTooLong) = (job.limit < length given) × AreSound job (take job.limit given)
+  Returns (Err InputTooLong) = (job.limit < length given) × WantMore job (take job.limit given)
 
   pub returns : (result : Result A DeviceFault) → ComesTo job given f new result → Returns result
   returns result (was_enough k) = (Done, refl, inl (k, refl))
@@ -51,13 +51,13 @@ module _ {A : Type 0} (job : Job A) (given : List ℕ) (f : Forest) (new : Sourc
   returns result (ended e k last end) = (e, refl, inr (k.not_enough, k.is_ending, inr (last, end)))
   returns result (read_failed last) = last
   returns result write_failed = tt
-  returns result (too_long many sound) = (many, sound)
+  returns result (too_long many wants) = (many, wants)
 
   has_ending : (e : Ending) → job.is_enough f ≡ false → IsEnding job.framing (take job.limit given) e → HasEnding job (take job.limit given) f e
   has_ending e k x = record { not_enough = k; is_ending = x; soundness = shows-soundness job.framing (take job.limit given) e x }
 
-  comes_ok : (e : Ending) → EndsSo job.framing (take job.limit given) (job.is_enough f) e (Settled e) → ComesTo job given f new (Ok (job.answer f e))
-  comes_ok e (inl x) = subst (λ (d : Ending). ComesTo job given f new (Ok (job.answer f d))) (sym x.1) (was_enough x.0)
+  comes_ok : (e : Ending) → EndsSo job.framing (take job.limit given) (job.is_enough f) e (Settled e) → ComesTo job given f new (Ok (job.returned f e))
+  comes_ok e (inl x) = subst (λ (d : Ending). ComesTo job given f new (Ok (job.returned f d))) (sym x.1) (was_enough x.0)
   comes_ok e (inr (k, x, inl final)) = refused e (has_ending e k x) final
   comes_ok e (inr (k, x, inr end)) = ended e (has_ending e k x) end.0 end.1
 

@@ -17,13 +17,13 @@ module _ {S : Type 0} where
       let last = g mid.state in
       ap (λ (l : List ℕ). record last { put = l }) (append_assoc t.put mid.put last.put)
 
-  -- nothing behind, and nothing before
+  -- nothing after, and nothing before
   pub and_then-stay : (t : Effect S) → t.goes ≡ On → and_then t no_effect ≡ t
   and_then-stay t e =
       ap (λ (g : Go). record { state = t.state; put = t.put ++ []; goes = g }) (sym e)
       ∙ ap (λ (l : List ℕ). record { state = t.state; put = l; goes = t.goes }) (append-nil t.put)
 
-  -- what comes behind may be another that makes the same
+  -- what comes after may be another that makes the same
   pub and_then-alike : (t : Effect S) (f g : S → Effect S) → f t.state ≡ g t.state → and_then t f ≡ and_then t g
   unfolding put_before
   and_then-alike t f g e = ap (put_before t.put) e
@@ -53,11 +53,11 @@ module _ {S : Type 0} (next : S → EventValue → Effect S) where
       if_on-alike t.goes t (λ u. effect_of next u (xs ++ ys)) (λ u. if_on (effect_of next u xs).goes (effect_of next u xs) (λ v. effect_of next v ys)) (followed-append t.state xs ys)
       ∙ if_on-assoc t.goes t (λ u. effect_of next u xs) (λ v. effect_of next v ys) refl
 
-  -- where it wanted more, others come behind
+  -- if it wanted more, others come after
   pub followed-more : (s : S) (xs ys : List EventValue) → (effect_of next s xs).goes ≡ On → effect_of next s (xs ++ ys) ≡ and_then (effect_of next s xs) (λ u. effect_of next u ys)
   followed-more s xs ys e = followed-append s xs ys ∙ ap (λ (go : Go). if_on go (effect_of next s xs) (λ u. effect_of next u ys)) e
 
-  -- where it had enough, others make nothing
+  -- if it had enough, others make nothing
   pub followed-enough : (s : S) (xs ys : List EventValue) → (effect_of next s xs).goes ≡ Enough → effect_of next s (xs ++ ys) ≡ effect_of next s xs
   followed-enough s xs ys e = followed-append s xs ys ∙ ap (λ (go : Go). if_on go (effect_of next s xs) (λ u. effect_of next u ys)) e
 
@@ -82,7 +82,7 @@ module _ {S : Type 0} (next : S → EventValue → Effect S) where
 
   -- ---- the events up to the first at which it has enough
 
-  -- where it wanted more behind some events, they are followed, and others behind them
+  -- if it wanted more after some events, they are followed, and others after them
   pub events_more : (s : S) (xs ys : List EventValue) → (effect_of next s xs).goes ≡ On → followed_events next s (xs ++ ys) ≡ xs ++ followed_events next (effect_of next s xs).state ys
   events_more s [] ys h = refl
   events_more s (e ∷ xs) ys h = by (λ (k : (effect_of next (next s e).state xs).goes ≡ On). events_more (next s e).state xs ys k) (next s e).goes refl h
@@ -101,11 +101,11 @@ module _ {S : Type 0} (next : S → EventValue → Effect S) where
       by On = refl
       by Enough = refl
 
-  -- and so are those behind which it wants more
+  -- and so are those after which it wants more
   pub events_all : (s : S) (xs : List EventValue) → (effect_of next s xs).goes ≡ On → followed_events next s xs ≡ xs
   events_all s xs h = ap (followed_events next s) (sym (append-nil xs)) ∙ events_more s xs [] h ∙ append-nil xs
 
-  -- where it had enough, none behind them
+  -- if it had enough, none after them
   pub events_enough : (s : S) (xs ys : List EventValue) → (effect_of next s xs).goes ≡ Enough → followed_events next s (xs ++ ys) ≡ followed_events next s xs
   events_enough s [] ys h = absurd (cc (h))
   events_enough s (e ∷ xs) ys h = by (λ (k : (effect_of next (next s e).state xs).goes ≡ Enough). events_enough (next s e).state xs ys k) (next s e).goes refl h
@@ -116,7 +116,7 @@ module _ {S : Type 0} (next : S → EventValue → Effect S) where
       by step On k h = ap (λ (l : List EventValue). e ∷ l) (step h)
       by step Enough k h = refl
 
-  -- events behind one event may be others that are followed alike
+  -- events after one event may be others that are followed alike
   behind : (s : S) (e : EventValue) (es fs : List EventValue) → ((u : S) → effect_of next u es ≡ effect_of next u fs) → effect_of next s (e ∷ es) ≡ effect_of next s (e ∷ fs)
   behind s e es fs h = if_on-alike (next s e).goes (next s e) (λ u. effect_of next u es) (λ u. effect_of next u fs) (h (next s e).state)
 

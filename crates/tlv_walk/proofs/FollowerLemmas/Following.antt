@@ -7,9 +7,8 @@ use Rattle.tlv_walk.specs.declared.event.Step.TheVariants as step
 use Rattle.tlv_walk.specs.declared.follow.Go.{Go}
 use Rattle.tlv_walk.specs.declared.follow.Go.TheVariants as go
 use Rattle.tlv_walk.specs.declared.framing.Framing.{Framing}
-use Rattle.tlv_io.specs.declared.out.Out.{Out}
-use Rattle.tlv_walk.specs.declared.one_turn.Stop.{Stop}
-use Rattle.tlv_walk.specs.declared.one_turn.Stop.TheVariants as stop
+use Rattle.tlv_walk.specs.declared.one_turn.Pause.{Pause}
+use Rattle.tlv_walk.specs.declared.one_turn.Pause.TheVariants as pause
 use Rattle.tlv_io.specs.Device.{DrainState}
 use Rattle.tlv_walk.specs.Events.{AreEqualJoined, EventValue, events, single_octets}
 use Rattle.tlv_walk.specs.Follow.{Effect, and_then, effect_of, followed_events}
@@ -41,7 +40,7 @@ walked_none w piece = record {
   stands = λ b past s. subst (λ (o : List ℕ). Stands w o (past ++ [])) (sym (append-nil b)) (subst (λ (es : List EventValue). Stands w b es) (sym (append-nil past)) s);
 }
 
--- one part behind another
+-- one part after another
 pub walked_both : (w u v : WalkerState) (before mid after : List ℕ) (es fs : List EventValue) → WalksOver w u before mid es → WalksOver u v mid after fs → WalksOver w v before after (es ++ fs)
 walked_both w u v before mid after es fs x y = record {
   taken = x.taken ++ y.taken;
@@ -52,7 +51,7 @@ walked_both w u v before mid after es fs x y = record {
       (subst (λ (all : List EventValue). Stands v ((b ++ x.taken) ++ y.taken) all) (append_assoc past es fs) (y.stands (b ++ x.taken) (past ++ es) (x.stands b past s)));
 }
 
--- an octet is refused behind what was walked over
+-- an octet is refused after what was walked over
 refused_there : (w u v : WalkerState) (piece mid after : List ℕ) (f : Fault) (more : List EventValue) (x : WalksOver w u piece mid more) (o : List ℕ) (past : List EventValue)
     → Stands u (o ++ x.taken) (past ++ more) → StepsTo u v mid after (step.Fault f) → WalksTo w v piece more f o past
 refused_there w u v piece mid after f more x o past st (inl r) =
@@ -66,10 +65,11 @@ refused_there w u v piece mid after f more x o past st (inl r) =
       octet = r.octet;
       rest = r.rest;
       piece = x.piece ∙ ap (λ (l : List ℕ). x.taken ++ l) r.before_is ∙ sym (append_assoc x.taken r.taken (r.octet ∷ r.rest));
+      framing = framing;
       offset = there.offset;
       refused = refused;
       unused =
-          ap₂ (λ (g : Framing) (n : ℕ). slice_get g.inside n) framing (r.wrappers ∙ st.private_state.found ∙ ap (λ (g : Framing). wrappers_after g.inside 0 (wrapper_offsets (past ++ more))) x.framing)
+          ap₂ (λ (g : Framing) (n : ℕ). slice_get g.inside n) framing (r.wrapper_count ∙ st.private_state.found ∙ ap (λ (g : Framing). wrappers_after g.inside 0 (wrapper_offsets (past ++ more))) x.framing)
           ∙ past_unused w.framing (past ++ more) [] refused.reading (subst (λ (g : Framing). CanName g.inside) x.framing st.private_state.named) (refused.stays []).is_open refl
           (subst (λ (es : List EventValue). AreEqualJoined es (events refused.reading)) (sym (append-nil (past ++ more))) refused.all_events);
       stands = there;
@@ -157,22 +157,22 @@ module _ {S : Type 0} (next : S → EventValue → Effect S) where
           (puts_as state_of y.out z.out (next y.follower e).put (next y.follower e).put g tt p refl) (one_put x.follower y.follower h.more e h.follows.made);
     }
 
-    -- the same was put, with another answer
-    same_put : (x y : WalkState S D) (more : List EventValue) (why : Stop) → HasPut state_of x.out y.out (effect_of next x.follower more).put
-        → Puts {T = Stop} {E = WriteFault} state_of x.out y.out (effect_of next x.follower more).put (Ok why)
+    -- the same was put, and another result is returned
+    same_put : (x y : WalkState S D) (more : List EventValue) (why : Pause) → HasPut state_of x.out y.out (effect_of next x.follower more).put
+        → Puts {T = Pause} {E = WriteFault} state_of x.out y.out (effect_of next x.follower more).put (Ok why)
     same_put x y more why p = puts_as state_of x.out y.out (effect_of next x.follower more).put (effect_of next x.follower more).put tt why p refl
 
     -- the follower had enough
-    pub stops_enough : (x y : WalkState S D) (piece rest : List ℕ) (goes : Go) → HasFollowed x y piece rest goes → goes ≡ go.Enough → IsAfterEvent y.walker.phase
-        → FollowsPiece next state_of x y piece (Ok stop.Enough)
-    stops_enough x y piece rest goes h enough after = record {
+    pub pauses_enough : (x y : WalkState S D) (piece rest : List ℕ) (goes : Go) → HasFollowed x y piece rest goes → goes ≡ go.Enough → IsAfterEvent y.walker.phase
+        → FollowsPiece next state_of x y piece (Ok pause.Enough)
+    pauses_enough x y piece rest goes h enough after = record {
       more = h.more;
-      stops = record {
+      pauses = record {
         rest = rest;
         follows = subst (λ (k : Go). Follows next x y piece rest h.more k) enough h.follows;
         after_event = after;
       };
-      puts = same_put x y h.more stop.Enough h.puts;
+      puts = same_put x y h.more pause.Enough h.puts;
     }
 
     -- the drain failed at an event
@@ -181,7 +181,7 @@ module _ {S : Type 0} (next : S → EventValue → Effect S) where
         → FollowsPiece next state_of x z piece (Err j)
     fails_event x y z v piece mid after e h walks i j p = record {
       more = h.more ++ e ∷ [];
-      stops = record {
+      pauses = record {
         yields = walked_goes_on x.walker v piece after (h.more ++ e ∷ []) (walked_both x.walker y.walker v piece mid after h.more (e ∷ []) h.follows.walked walks);
       };
       puts = puts_failed_last state_of x.out z.out _ i (Err j)
@@ -189,12 +189,12 @@ module _ {S : Type 0} (next : S → EventValue → Effect S) where
     }
 
     -- the piece is used up
-    pub stops_used_up : (x y : WalkState S D) (v : WalkerState) (piece mid after : List ℕ) → HasFollowed x y piece mid go.On
+    pub pauses_used_up : (x y : WalkState S D) (v : WalkerState) (piece mid after : List ℕ) → HasFollowed x y piece mid go.On
         → StepsTo y.walker v mid after step.NeedMore → y.walker.offset + length mid ≡ x.walker.offset + length piece
-        → FollowsPiece next state_of x (walk_state v y.follower y.out) piece (Ok stop.UsedUp)
-    stops_used_up x y v piece mid after h steps walked = record {
+        → FollowsPiece next state_of x (walk_state v y.follower y.out) piece (Ok pause.UsedUp)
+    pauses_used_up x y v piece mid after h steps walked = record {
       more = h.more;
-      stops = record {
+      pauses = record {
         follows = record {
           made = h.follows.made;
           walked = record {
@@ -205,21 +205,20 @@ module _ {S : Type 0} (next : S → EventValue → Effect S) where
                 subst (λ (all : List ℕ). Stands v all (es ++ h.more)) (append_assoc o h.follows.walked.taken mid) (steps.stands (o ++ h.follows.walked.taken) (es ++ h.more) (h.follows.walked.stands o es st));
           };
         };
-        idle = λ o es st. steps.idle;
         offset = steps.offset ∙ walked;
         ready = steps.ready;
       };
-      puts = same_put x (walk_state v y.follower y.out) h.more stop.UsedUp h.puts;
+      puts = same_put x (walk_state v y.follower y.out) h.more pause.UsedUp h.puts;
     }
 
     -- an octet is refused
-    pub stops_fault : (x y : WalkState S D) (v : WalkerState) (piece mid after : List ℕ) (f : Fault) → HasFollowed x y piece mid go.On
-        → StepsTo y.walker v mid after (step.Fault f) → FollowsPiece next state_of x (walk_state v y.follower y.out) piece (Ok (stop.Fault f))
-    stops_fault x y v piece mid after f h steps = record {
+    pub pauses_fault : (x y : WalkState S D) (v : WalkerState) (piece mid after : List ℕ) (f : Fault) → HasFollowed x y piece mid go.On
+        → StepsTo y.walker v mid after (step.Fault f) → FollowsPiece next state_of x (walk_state v y.follower y.out) piece (Ok (pause.Fault f))
+    pauses_fault x y v piece mid after f h steps = record {
       more = h.more;
-      stops = record {
+      pauses = record {
         made = h.follows.made;
         walked = λ o es st. refused_there x.walker y.walker v piece mid after f h.more h.follows.walked o es (h.follows.walked.stands o es st) steps;
       };
-      puts = same_put x (walk_state v y.follower y.out) h.more (stop.Fault f) h.puts;
+      puts = same_put x (walk_state v y.follower y.out) h.more (pause.Fault f) h.puts;
     }

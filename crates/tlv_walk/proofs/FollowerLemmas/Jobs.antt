@@ -15,12 +15,12 @@ use Rattle.tlv_walk.specs.DriveJob.{Drives, drive_job, drive_state, had_enough, 
 use Rattle.tlv_walk.specs.Events.{EventValue, events}
 use Rattle.tlv_walk.specs.Follow.{Effect, effect_of, goes_of}
 use Rattle.tlv_walk.specs.Forest.{Forest}
-use Rattle.tlv_walk.specs.Job.{AreSound, Job, Runs, read_failed, too_long, write_failed}
+use Rattle.tlv_walk.specs.Job.{Job, Runs, WantMore, read_failed, too_long, write_failed}
 use Rattle.tlv_walk.proofs.FollowerLemmas.Enough.{EndsSo, Returns, Settled, comes_to, returns}
 use Rattle.tlv_io.specs.Out.{Sends}
 use Rattle.tlv_walk.specs.Reading.{IsReading}
 
--- a run has the ending that it came to, and where it does not stop the first named offset that is no wrapper's
+-- a run has the ending that it came to, and if it did not end with enough the first named offset that is no wrapper's
 pub run-ending : (framing : Framing) (f : Forest) (es : List EventValue) (g : Go) (e : Ending) → (run_over framing f es g e).ending ≡ e
 run-ending framing f es go.On e = refl
 run-ending framing f es go.Enough e = refl
@@ -36,15 +36,15 @@ module _ {S A : Type 0} (next : S → EventValue → Effect S) (job : Job A) (s 
   within_limit : (given : List ℕ) → length (take job.limit given) ≤ job.limit
   within_limit given = omega (arith, length-take job.limit given)
 
-  sound_as : (octets : List ℕ) → length octets ≤ job.limit → AreSound (drive_job next job.framing job.limit s) octets → AreSound job octets
-  sound_as octets few x = (x.0, x.1, x.2, sym (enough octets x.0 few x.1) ∙ x.3)
+  wants_as : (octets : List ℕ) → length octets ≤ job.limit → WantMore (drive_job next job.framing job.limit s) octets → WantMore job octets
+  wants_as octets few x = (x.0, x.1, x.2, sym (enough octets x.0 few x.1) ∙ x.3)
 
   -- what the walk sent is the job's text
   sent_as : {E : Type 0} (given : List ℕ) (f : Forest) (result : Result ⊤ E) → IsReading job.framing (take job.limit given) f → Sends from to (effect_of next s (events f)).put result → Sends from to (job.text f) result
   sent_as given f result r x = subst (λ (l : List ℕ). Sends from to l result) (text (take job.limit given) f (within_limit given) r) x
 
   pub runs_ok : (run : Run) (a : A) → Drives next job.framing job.limit (drive_state s old from) (drive_state t new to) (Ok run)
-      → ((octets : List ℕ) (f : Forest) (e : Ending) → length octets ≤ job.limit → IsReading job.framing octets f → t ≡ (effect_of next s (events f)).state → run ≡ (drive_job next job.framing job.limit s).answer f e → a ≡ job.answer f e)
+      → ((octets : List ℕ) (f : Forest) (e : Ending) → length octets ≤ job.limit → IsReading job.framing octets f → t ≡ (effect_of next s (events f)).state → run ≡ (drive_job next job.framing job.limit s).returned f e → a ≡ job.returned f e)
       → Runs job old new from to (Ok a)
   runs_ok run a x answer =
       let w = x.runs in
@@ -53,7 +53,7 @@ module _ {S A : Type 0} (next : S → EventValue → Effect S) (job : Job A) (s 
       let k : Returns (drive_job next job.framing job.limit s) given w.reading new (Ok run) = returns (drive_job next job.framing job.limit s) given w.reading new (Ok run) w.comes in record {
         pieces = w.pieces;
         failures = w.failures;
-        sound = sound_as (concat w.pieces.pieces) w.within w.sound;
+        wants_more = wants_as (concat w.pieces.pieces) w.within w.wants_more;
         within = w.within;
         reading = w.reading;
         is_reading = w.is_reading;
@@ -70,7 +70,7 @@ module _ {S A : Type 0} (next : S → EventValue → Effect S) (job : Job A) (s 
       let w = x.runs in record {
         pieces = w.pieces;
         failures = w.failures;
-        sound = sound_as (concat w.pieces.pieces) w.within w.sound;
+        wants_more = wants_as (concat w.pieces.pieces) w.within w.wants_more;
         within = w.within;
         reading = w.reading;
         is_reading = w.is_reading;
@@ -81,7 +81,7 @@ module _ {S A : Type 0} (next : S → EventValue → Effect S) (job : Job A) (s 
       let w = x.runs in record {
         pieces = w.pieces;
         failures = w.failures;
-        sound = sound_as (concat w.pieces.pieces) w.within w.sound;
+        wants_more = wants_as (concat w.pieces.pieces) w.within w.wants_more;
         within = w.within;
         reading = w.reading;
         is_reading = w.is_reading;
@@ -93,10 +93,10 @@ module _ {S A : Type 0} (next : S → EventValue → Effect S) (job : Job A) (s 
       let k = returns (drive_job next job.framing job.limit s) (octets_given w.pieces) w.reading new (Err InputTooLong) w.comes in record {
         pieces = w.pieces;
         failures = w.failures;
-        sound = sound_as (concat w.pieces.pieces) w.within w.sound;
+        wants_more = wants_as (concat w.pieces.pieces) w.within w.wants_more;
         within = w.within;
         reading = w.reading;
         is_reading = w.is_reading;
         sends = sent_as (octets_given w.pieces) w.reading (Ok tt) w.is_reading w.sends;
-        comes = too_long k.0 (sound_as (take job.limit (octets_given w.pieces)) (within_limit (octets_given w.pieces)) k.1);
+        comes = too_long k.0 (wants_as (take job.limit (octets_given w.pieces)) (within_limit (octets_given w.pieces)) k.1);
       }

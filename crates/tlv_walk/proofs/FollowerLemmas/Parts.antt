@@ -1,4 +1,4 @@
--- Parts of a piece, followed: one behind another.
+-- Parts of a piece, followed: one after another.
 use Rattle.std.proofs.Common.{◌≡◌, ℕ, ◌+◌, Bool, true, false, List, [], ◌∷◌, ◌++◌, length, take, drop, refl, sym, ap, ap₂, ◌∙◌, subst, append_assoc, append-nil}
 use Rattle.std.proofs.lemmas.Bool.{true≢false}
 use Rattle.std.proofs.lemmas.List.{take-append-drop}
@@ -8,7 +8,6 @@ use Rattle.tlv_io.specs.declared.drain.WriteFault.{WriteFault}
 use Rattle.tlv_walk.specs.declared.follow.Go.{Go}
 use Rattle.tlv_walk.specs.declared.follow.Go.TheVariants as go
 use Rattle.tlv_walk.specs.declared.framing.Framing.{Framing}
-use Rattle.tlv_io.specs.declared.out.Out.{Out}
 use Rattle.tlv_walk.specs.declared.walker.quick.WholePrimitive.{WholePrimitive}
 use Rattle.tlv_io.specs.Device.{DrainState}
 use Rattle.tlv_walk.specs.Events.{EventValue}
@@ -21,7 +20,7 @@ use Rattle.tlv_walk.specs.Private.WalkerState.{CanPass, Passes, header_at}
 use Rattle.tlv_walk.specs.Private.Steps.{YieldsEvents}
 use Rattle.tlv_walk.proofs.FollowerLemmas.Following.{HasFollowed, made_both, made_put, walked_both, walked_goes_on}
 use Rattle.tlv_walk.proofs.WalkerLemmas.Passing.{passed, yields_primitive}
-use Rattle.tlv_io.proofs.Puts.{HasPut, puts_as, puts_failed_last, puts_then_as}
+use Rattle.tlv_io.proofs.Puts.{puts_as, puts_failed_last, puts_then_as}
 use Rattle.tlv_walk.proofs.WalkerLemmas.Standing.{stands_all}
 
 -- a primitive that lies whole at the front of a piece
@@ -34,7 +33,7 @@ walked_primitive w piece p can = stands_all w _ piece (drop p.octets piece) _ (r
 })
 
 module _ {S : Type 0} (next : S → EventValue → Effect S) where
-  -- where more is wanted at the end, more was wanted behind each event
+  -- if more is wanted at the end, more was wanted after each event
   all_rest : (x : Go) (t : Effect S) (es : List EventValue) → ((s : S) → (effect_of next s es).goes ≡ go.On → followed_events next s es ≡ es)
       → (if_on x t (λ u. effect_of next u es)).goes ≡ go.On → t.goes ≡ x → if_more x (followed_events next t.state es) ≡ es
   all_rest go.On t es rest g k = rest t.state g
@@ -48,12 +47,12 @@ module _ {S : Type 0} (next : S → EventValue → Effect S) where
   made_all s t es e g = record { state = e; goes_so = g; all = all_followed s es g }
 
   module _ {D : Type 0} (state_of : D → DrainState) where
-    -- the drain failed behind what was followed
+    -- the drain failed after what was followed
     pub fails_part : (x y z : WalkState S D) (piece mid after : List ℕ) (e f : WriteFault) → HasFollowed next state_of x y piece mid go.On
         → FollowsPart next state_of y z mid after (Err e) → FollowsPiece next state_of x z piece (Err f)
     fails_part x y z piece mid after e f h p = record {
       more = h.more ++ p.more;
-      stops = record {
+      pauses = record {
         yields = λ o es st.
             let walked : WalksOver x.walker y.walker piece mid h.more = h.follows.walked in
             subst (λ (g : Framing). GoesOnIn g (o ++ piece) (es ++ (h.more ++ p.more))) walked.framing
@@ -95,7 +94,7 @@ module _ {S : Type 0} (next : S → EventValue → Effect S) where
       puts = puts_failed_last state_of x.out y.out _ e (Err f) put refl;
     }
 
-    -- ---- a part behind what was followed
+    -- ---- a part after what was followed
 
     part_some : (y z : WalkState S D) (mid after : List ℕ) (more : List EventValue) (k : Bool) → k ≡ true → TakesPartOrNone next y z mid after more (Ok k) → TakesPart next y z mid after more
     part_some y z mid after more true e p = p

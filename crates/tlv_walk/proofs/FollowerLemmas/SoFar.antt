@@ -12,10 +12,10 @@ use Rattle.tlv_io.specs.Device.{DrainState, Last, SourceState, failed, gave, nev
 use Rattle.tlv_walk.specs.Events.{Begin, Bytes, Close, End, Enter, EventValue, Leave, Open, Pad, Unused}
 use Rattle.tlv_walk.specs.Follow.{Effect, effect_of}
 use Rattle.tlv_walk.specs.FollowsEvents.{FollowsEvents}
-use Rattle.tlv_walk.specs.Laws.{AreOctets}
+use Rattle.tlv_walk.specs.Reading.{AreOctets}
 use Rattle.tlv_walk.specs.WalkerState.{new_walker}
 use Rattle.tlv_io.specs.Out.{Sends}
-use Rattle.tlv_walk.specs.Stands.{Stands, waiting_events}
+use Rattle.tlv_walk.specs.Stands.{IsIdle, Stands}
 use Rattle.tlv_walk.specs.OneTurn.{GaveUpTo, TurnState, last_octets, turn_state}
 use Rattle.tlv_walk.specs.Wrappers.{wrapper_offsets}
 use Rattle.tlv_walk.proofs.FollowerLemmas.Following.{made_none}
@@ -45,7 +45,7 @@ given_octets never piece a = All-nil (λ x. x < 256)
 given_octets (gave n) piece a = All-take (λ x. x < 256) n piece a
 given_octets failed piece a = All-nil (λ x. x < 256)
 
--- of octets behind others as many as the limit leaves
+-- of octets after others as many as the limit leaves
 pub limit_behind : (limit : ℕ) (b r : List ℕ) → length b ≤ limit → b ++ take (limit - length b) r ≡ take limit (b ++ r)
 limit_behind limit b r h = sym (take-append-add b r (limit - length b)) ∙ ap (λ (k : ℕ). take k (b ++ r)) (omega (arith, h))
 
@@ -74,7 +74,7 @@ module _ {S : Type 0} (next : S → EventValue → Effect S) where
     pub sends : Sends {T = ⊤} {E = DeviceFault} from now.drain (effect_of next s past).put (Ok tt)
     pub same : now.walker.framing ≡ framing
     pub stands : Stands now.walker (concat gathered.pieces) past
-    pub idle : waiting_events now.walker ≡ []
+    pub idle : IsIdle now.walker
 
   pub walking_none : (framing : Framing) (s : S) (old : SourceState) (from : DrainState) → Stands (new_walker framing) [] []
       → Walking framing s old from (turn_state (new_walker framing) s old from)

@@ -15,24 +15,23 @@ use Rattle.tlv_walk.specs.declared.run.DeviceFault.TheVariants.{ReadFailed, Writ
 use Rattle.tlv_walk.specs.declared.run.Run.{Run}
 use Rattle.tlv_walk.specs.declared.run.Turn.{Turn}
 use Rattle.tlv_walk.specs.declared.run.Turn.TheVariants.{Again, Ended}
-use Rattle.tlv_walk.specs.declared.one_turn.Stop.{Stop}
-use Rattle.tlv_walk.specs.declared.one_turn.Stop.TheVariants as stop
+use Rattle.tlv_walk.specs.declared.one_turn.Pause.{Pause}
+use Rattle.tlv_walk.specs.declared.one_turn.Pause.TheVariants as pause
 use Rattle.tlv_io.specs.Device.{DrainState}
 use Rattle.tlv_walk.specs.DriveJob.{event_octets}
 use Rattle.tlv_walk.specs.Ending.{IsEnding, IsFinalEnding}
 use Rattle.tlv_walk.specs.Events.{AreEqualJoined, EventValue, events}
 use Rattle.tlv_walk.specs.Follow.{Effect, effect_of}
-use Rattle.tlv_walk.specs.Private.ResultOfStop.{IsResultOfStop, IsRun}
-use Rattle.tlv_walk.specs.Private.FollowsPiece.{Fails, FollowsAndFlushes, FollowsPiece, FollowsToFault, GoesOnIn, FollowsToEnough, Stops, FollowsAll, WalkState, WalksOver, WalksTo, walk_state}
+use Rattle.tlv_walk.specs.Private.ResultOfPause.{IsResultOfPause, IsRun}
+use Rattle.tlv_walk.specs.Private.FollowsPiece.{Fails, FollowsAndFlushes, FollowsPiece, FollowsToFault, GoesOnIn, FollowsToEnough, Pauses, FollowsAll, WalkState, WalksOver, WalksTo, walk_state}
 use Rattle.tlv_walk.specs.Forest.{Forest, spell}
-use Rattle.tlv_walk.specs.Laws.{AreOctets}
 use Rattle.tlv_walk.specs.WalkerState.{WalkerState}
 use Rattle.tlv_io.specs.Out.{Puts, Sends, buffer_of, drain_of}
 use Rattle.tlv_walk.specs.Place.{top_place}
-use Rattle.tlv_walk.specs.Reading.{IsReading}
+use Rattle.tlv_walk.specs.Reading.{AreOctets, IsReading}
 use Rattle.tlv_walk.specs.Stands.{Stands, waiting_events}
-use Rattle.tlv_walk.specs.HasRead.{StandsAtEnd, refused_one, took_all}
-use Rattle.tlv_walk.specs.OneTurn.{EndsBy, EndsIn, StandsOn, StopsIn, TurnState, TurnsTo}
+use Rattle.tlv_walk.specs.HasRead.{refused_one, took_all}
+use Rattle.tlv_walk.specs.OneTurn.{EndsBy, EndsIn, HasEnoughIn, StandsOn, TurnState, TurnsTo}
 use Rattle.tlv_walk.specs.Wrappers.{first_other, first_unused, wrapper_offsets}
 use Rattle.tlv_walk.proofs.GrammarLemmas.Finals.{refused-final}
 use Rattle.tlv_walk.proofs.FollowerLemmas.Followed.{followed-front}
@@ -54,7 +53,7 @@ stands_spelled v b past f st r =
     let spells : Spells (top_place v.framing) b (reading_of st.private_state.state) = state-spells v b past st.private_state.state st.private_state.has_state in
     ap spell (reading-unique v.framing b f (reading_of st.private_state.state) r (state-reading v b past st.private_state.state st.private_state.has_state)) ∙ spells.spelled
 
--- where nothing waits, all events of the reading were yielded
+-- if nothing waits, all events of the reading were yielded
 pub stands_past : (v : WalkerState) (b : List ℕ) (past : List EventValue) (f : Forest) → Stands v b past → waiting_events v ≡ [] → IsReading v.framing b f → AreEqualJoined past (events f)
 stands_past v b past f st idle r =
     let all : AreEqualJoined (past ++ waiting_events v) (events st.reading) = st.all_events in
@@ -86,38 +85,38 @@ module _ {S : Type 0} (next : S → EventValue → Effect S) where
               (subst (λ (g : Forest). AreEqualJoined (past ++ more) (events g)) (fault_reading x.walker y.walker b piece past more e f k r) k.refused.all_events),
         )
 
-    stops_failing : (x y : WalkState S D) (piece : List ℕ) (more : List EventValue) (why : Stop) → Stops next x y piece more (Ok why) → Fails next x y piece more
-    stops_failing x y piece more stop.UsedUp k = record { yields = walked_goes_on x.walker y.walker piece [] more k.follows.walked }
-    stops_failing x y piece more (stop.Fault f) k = record { yields = fault_goes_on x y piece more f k }
-    stops_failing x y piece more stop.Enough k = record { yields = walked_goes_on x.walker y.walker piece k.rest more k.follows.walked }
+    pauses_failing : (x y : WalkState S D) (piece : List ℕ) (more : List EventValue) (why : Pause) → Pauses next x y piece more (Ok why) → Fails next x y piece more
+    pauses_failing x y piece more pause.UsedUp k = record { yields = walked_goes_on x.walker y.walker piece [] more k.follows.walked }
+    pauses_failing x y piece more (pause.Fault f) k = record { yields = fault_goes_on x y piece more f k }
+    pauses_failing x y piece more pause.Enough k = record { yields = walked_goes_on x.walker y.walker piece k.rest more k.follows.walked }
 
     -- the walker and the follower are the same, and so is where the piece is followed no further
-    stops_same : (x y : WalkState S D) (c : Out D) (piece : List ℕ) (more : List EventValue) (why : Stop) → Stops next x y piece more (Ok why) → Stops next x (walk_state y.walker y.follower c) piece more (Ok why)
-    stops_same x y c piece more stop.UsedUp k = record { follows = record { made = k.follows.made; walked = k.follows.walked }; idle = k.idle; offset = k.offset; ready = k.ready }
-    stops_same x y c piece more (stop.Fault f) k = record { made = k.made; walked = k.walked }
-    stops_same x y c piece more stop.Enough k = record { rest = k.rest; follows = record { made = k.follows.made; walked = k.follows.walked }; after_event = k.after_event }
+    pauses_same : (x y : WalkState S D) (c : Out D) (piece : List ℕ) (more : List EventValue) (why : Pause) → Pauses next x y piece more (Ok why) → Pauses next x (walk_state y.walker y.follower c) piece more (Ok why)
+    pauses_same x y c piece more pause.UsedUp k = record { follows = record { made = k.follows.made; walked = k.follows.walked }; offset = k.offset; ready = k.ready }
+    pauses_same x y c piece more (pause.Fault f) k = record { made = k.made; walked = k.walked }
+    pauses_same x y c piece more pause.Enough k = record { rest = k.rest; follows = record { made = k.follows.made; walked = k.follows.walked }; after_event = k.after_event }
 
     module _ (state_of : D → DrainState) (x y : WalkState S D) (c : Out D) (piece : List ℕ) (octets : AreOctets piece) (none : buffer_of x.out ≡ []) where
       -- the piece was followed, and what was put was flushed
-      pub stops_flushed : (why : Stop) → FollowsPiece next state_of x y piece (Ok why) → Puts {T = ⊤} {E = WriteFault} state_of y.out c [] (Ok tt) → buffer_of c ≡ []
+      pub pauses_flushed : (why : Pause) → FollowsPiece next state_of x y piece (Ok why) → Puts {T = ⊤} {E = WriteFault} state_of y.out c [] (Ok tt) → buffer_of c ≡ []
           → FollowsAndFlushes next state_of x (walk_state y.walker y.follower c) piece (Ok why)
-      stops_flushed why k flushed empty = record {
+      pauses_flushed why k flushed empty = record {
         octets = octets;
         more = k.more;
-        stops = stops_same x y c piece k.more why k.stops;
+        pauses = pauses_same x y c piece k.more why k.pauses;
         sends = sends_flushed state_of x.out y.out c (drain_of x.out).now (drain_of c).now (effect_of next x.follower k.more).put why tt refl none refl k.puts flushed empty;
         same_reference = flushed.same_reference ∙ k.puts.same_reference;
         empty = empty;
       }
 
       -- or could not be flushed
-      pub stops_unflushed : (why : Stop) (e f : WriteFault) → FollowsPiece next state_of x y piece (Ok why) → Puts {T = ⊤} {E = WriteFault} state_of y.out c [] (Err e)
+      pub pauses_unflushed : (why : Pause) (e f : WriteFault) → FollowsPiece next state_of x y piece (Ok why) → Puts {T = ⊤} {E = WriteFault} state_of y.out c [] (Err e)
           → FollowsAndFlushes next state_of x (walk_state y.walker y.follower c) piece (Err f)
-      stops_unflushed why e f k unflushed =
+      pauses_unflushed why e f k unflushed =
           let text : List ℕ = (effect_of next x.follower k.more).put in record {
             octets = octets;
             more = k.more;
-            stops = record { yields = (stops_failing x y piece k.more why k.stops).yields };
+            pauses = record { yields = (pauses_failing x y piece k.more why k.pauses).yields };
             sends = sends_puts state_of x.out c (drain_of x.out).now (drain_of c).now text (Err f) refl none refl
                 (puts_failed_last state_of x.out c text e (Err f) (puts_then_as state_of x.out y.out c text [] text why (Err e) k.puts unflushed (append-nil text)) refl) tt;
             same_reference = unflushed.same_reference ∙ k.puts.same_reference;
@@ -131,7 +130,7 @@ module _ {S : Type 0} (next : S → EventValue → Effect S) where
         let text : List ℕ = (effect_of next x.follower k.more).put in record {
           octets = octets;
           more = k.more;
-          stops = k.stops;
+          pauses = k.pauses;
           sends = sends_puts state_of x.out y.out (drain_of x.out).now (drain_of y.out).now text (Err f) refl none refl (puts_failed_last state_of x.out y.out text e (Err f) k.puts refl) tt;
           same_reference = k.puts.same_reference;
           empty = tt;
@@ -162,13 +161,13 @@ module _ {S D : Type 0} (next : S → EventValue → Effect S) (before after : T
     put = put;
     framing = k.follows.walked.framing;
     stands = subst (λ (o : List ℕ). Stands v (b ++ o) (past ++ more)) (sym (append-nil k.follows.walked.taken) ∙ sym k.follows.walked.piece) (k.follows.walked.stands b past st);
-    idle = k.idle b past st;
+    idle = k.ready.0;
   }
 
   -- the follower had enough
-  pub enough_stops : FollowsToEnough next x y piece more → (f : Forest) → IsReading w.framing (b ++ piece) f → (run : Run) → IsRun run ending.Done true v
-      → StopsIn next before after (b ++ piece) past run
-  enough_stops k f read run is =
+  pub enough_ends : FollowsToEnough next x y piece more → (f : Forest) → IsReading w.framing (b ++ piece) f → (run : Run) → IsRun run ending.Done true v
+      → HasEnoughIn next before after (b ++ piece) past run
+  enough_ends k f read run is =
       let walked : WalksOver w v piece k.rest more = k.follows.walked in
       let further = walked_goes_on w v piece k.rest more walked b past st f read in
       let there : Stands v (b ++ walked.taken) (past ++ more) = walked.stands b past st in
@@ -201,8 +200,8 @@ module _ {S D : Type 0} (next : S → EventValue → Effect S) (before after : T
         ending = subst (λ (g : Ending). IsEnding w.framing (b ++ piece) g) (sym is.ending) (subst (λ (o : List ℕ). IsEnding w.framing o (ending.Fault e)) (fault_octets w v b piece past more e k) (k.refused.ends k.rest));
         spelled = is.octets ∙ k.offset ∙ ap length (sym k.refused.spelled);
         unused = is.unused ∙ k.unused;
-        walker = subst (StandsAtEnd v (b ++ piece) (past ++ more)) (sym is.ending)
-            (refused_one (record { front = b ++ k.taken; octet = k.octet; rest = k.rest; octets_is = fault_octets w v b piece past more e k; stands = k.stands }));
+        framing = k.framing;
+        walker = refused_one e (record { front = b ++ k.taken; octet = k.octet; rest = k.rest; octets_is = fault_octets w v b piece past more e k; stands = k.stands });
       }
 
 -- the input has ended
@@ -221,10 +220,11 @@ used_up_ends next before after o past run e x is ends =
       ending = subst (λ (k : Ending). IsEnding w.framing o k) (sym is.ending) (subst (λ (g : Framing). IsEnding g o e) x.framing ends);
       spelled = is.octets ∙ x.stands.private_state.has_state.offset ∙ ap length (sym (stands_spelled v o (past ++ x.more) x.stands.reading x.stands x.stands.is_reading));
       unused = is.unused ∙ stands_unused v o (past ++ x.more) x.stands ∙ ap (λ (g : Framing). first_unused g.inside x.stands.reading) x.framing;
+      framing = x.framing;
       walker = took_all x.stands x.idle;
     }
 
--- ---- what a turn answers
+-- ---- what a turn returns
 
 -- of n octets at the front of a piece as many as the limit leaves
 taken_within : (limit at n : ℕ) (p : List ℕ) → take (min (limit - at) n) p ≡ take (limit - at) (take n p)
@@ -240,11 +240,11 @@ module _ {S D : Type 0} (next : S → EventValue → Effect S) (before after : T
   at = before.walker.offset
 
   -- what is made of these events was handed to the drain
-  abbrev Sent : Result Stop WriteFault → List EventValue → Type 0
+  abbrev Sent : Result Pause WriteFault → List EventValue → Type 0
   Sent result more = Sends before.drain after.drain (effect_of next before.follower more).put result
 
   -- the same of a turn
-  sent : (why : Stop) (more : List EventValue) → Sent (Ok why) more → Sends {T = ⊤} {E = DeviceFault} before.drain after.drain (effect_of next before.follower more).put (Ok tt)
+  sent : (why : Pause) (more : List EventValue) → Sent (Ok why) more → Sends {T = ⊤} {E = DeviceFault} before.drain after.drain (effect_of next before.follower more).put (Ok tt)
   sent why more q = sends_ok before.drain after.drain (effect_of next before.follower more).put (effect_of next before.follower more).put why tt q refl
 
   many : length r ≡ n
@@ -268,22 +268,22 @@ module _ {S D : Type 0} (next : S → EventValue → Effect S) (before after : T
   all_within e = is_piece ∙ ap (λ (k : ℕ). take k p) (omega (arith, e, is_m)) ∙ sym is_r
 
   -- they were followed so far, and what is made of them handed to the drain
-  record Followed (why stopped : Stop) : Type 0 where
+  record Followed (why paused : Pause) : Type 0 where
     more : List EventValue
-    stops : Stops next (walk_state before.walker before.follower from) (walk_state after.walker after.follower to) piece more (Ok stopped)
+    pauses : Pauses next (walk_state before.walker before.follower from) (walk_state after.walker after.follower to) piece more (Ok paused)
     put : Sent (Ok why) more
 
-  used : (why : Stop) → Followed why stop.UsedUp → StandsOn next before after (b ++ piece) past
-  used why x = used_up_on next before after from to b piece past x.more (sent why x.more x.put) st x.stops
+  used : (why : Pause) → Followed why pause.UsedUp → StandsOn next before after (b ++ piece) past
+  used why x = used_up_on next before after from to b piece past x.more (sent why x.more x.put) st x.pauses
 
-  turns_again : (why : Stop) → Followed why stop.UsedUp → (m < n → ⊥) → (n ≡ 0 → ⊥) → TurnsTo next before after limit b past r (Ok Again)
+  turns_again : (why : Pause) → Followed why pause.UsedUp → (m < n → ⊥) → (n ≡ 0 → ⊥) → TurnsTo next before after limit b past r (Ok Again)
   turns_again why x fits some' = record {
     some = λ e. some' (sym many ∙ ap length e);
     within = omega (arith, length-append b r, many, st.private_state.has_state.offset, fits, below, is_m);
     stands_on = subst (λ (o : List ℕ). StandsOn next before after (b ++ o) past) (all_within fits) (used why x);
   }
 
-  turns_long : (why : Stop) → Followed why stop.UsedUp → m < n → TurnsTo next before after limit b past r (Err InputTooLong)
+  turns_long : (why : Pause) → Followed why pause.UsedUp → m < n → TurnsTo next before after limit b past r (Err InputTooLong)
   turns_long why x more = record {
     beyond = omega (arith, length-append b r, many, st.private_state.has_state.offset, more, below, is_m);
     stands_on = subst (λ (o : List ℕ). StandsOn next before after o past) reached (used why x);
@@ -293,7 +293,7 @@ module _ {S D : Type 0} (next : S → EventValue → Effect S) (before after : T
   ends_by run is x =
       subst (λ (k : Bool). EndsBy next before after k (take limit (b ++ r)) past run) (sym is) (subst (λ (o : List ℕ). EndsIn next before after o past run) reached x)
 
-  turns_end : (run : Run) (e : Ending) (why : Stop) → Followed why stop.UsedUp → (n ≡ 0) → IsRun run e false after.walker
+  turns_end : (run : Run) (e : Ending) (why : Pause) → Followed why pause.UsedUp → (n ≡ 0) → IsRun run e false after.walker
       → ((o : List ℕ) (es : List EventValue) → Stands after.walker o es → IsEnding after.walker.framing o e) → TurnsTo next before after limit b past r (Ok (Ended run))
   turns_end run e why x none is ends =
       let on = used why x in record {
@@ -301,51 +301,51 @@ module _ {S D : Type 0} (next : S → EventValue → Effect S) (before after : T
         last = inr (inr (is_r ∙ ap (λ (k : ℕ). take k p) none));
       }
 
-  turns_fault : (run : Run) (e : Fault) (why : Stop) → Followed why (stop.Fault e) → IsRun run (ending.Fault e) false after.walker
+  turns_fault : (run : Run) (e : Fault) (why : Pause) → Followed why (pause.Fault e) → IsRun run (ending.Fault e) false after.walker
       → TurnsTo next before after limit b past r (Ok (Ended run))
   turns_fault run e why x is =
-      let k : WalksTo before.walker after.walker piece x.more e b past = x.stops.walked b past st in record {
-        ends = ends_by run is.enough (fault_ends next before after from to b piece past x.more (sent why x.more x.put) st e x.stops run is);
+      let k : WalksTo before.walker after.walker piece x.more e b past = x.pauses.walked b past st in record {
+        ends = ends_by run is.enough (fault_ends next before after from to b piece past x.more (sent why x.more x.put) st e x.pauses run is);
         last = inr (inl (subst IsFinalEnding (sym is.ending) (refused-final before.walker.framing (b ++ k.taken) k.octet [] e k.refused.offset (k.refused.ends []))));
       }
 
-  turns_enough : (run : Run) (why : Stop) → Followed why stop.Enough → IsRun run ending.Done true after.walker → TurnsTo next before after limit b past r (Ok (Ended run))
+  turns_enough : (run : Run) (why : Pause) → Followed why pause.Enough → IsRun run ending.Done true after.walker → TurnsTo next before after limit b past r (Ok (Ended run))
   turns_enough run why x is = record {
     ends =
         subst (λ (k : Bool). EndsBy next before after k (take limit (b ++ r)) past run) (sym is.enough)
-        (subst (λ (o : List ℕ). StopsIn next before after o past run) reached (enough_stops next before after from to b piece past x.more (sent why x.more x.put) st x.stops read.0 read.1 run is));
+        (subst (λ (o : List ℕ). HasEnoughIn next before after o past run) reached (enough_ends next before after from to b piece past x.more (sent why x.more x.put) st x.pauses read.0 read.1 run is));
     last = inl is.enough;
   }
 
-  -- by why it stopped
-  answered : (why : Stop) (result : Result Turn DeviceFault) → Followed why why → IsResultOfStop n m after.walker why result → TurnsTo next before after limit b past r result
-  answered stop.Enough (Ok (Ended run)) x is = turns_enough run stop.Enough x is
-  answered (stop.Fault f) (Ok (Ended run)) x is = turns_fault run f (stop.Fault f) x is
-  answered stop.UsedUp (Err InputTooLong) x is = turns_long stop.UsedUp x is
-  answered stop.UsedUp (Ok (Ended run)) x is = turns_end run is.2.0 stop.UsedUp x is.1 is.2.1 is.2.2
-  answered stop.UsedUp (Ok Again) x is = turns_again stop.UsedUp x is.0 is.1
-  answered stop.Enough (Ok Again) x is = absurd is
-  answered stop.Enough (Err e) x is = absurd is
-  answered (stop.Fault f) (Ok Again) x is = absurd is
-  answered (stop.Fault f) (Err e) x is = absurd is
-  answered stop.UsedUp (Err ReadFailed) x is = absurd is
-  answered stop.UsedUp (Err WriteFailed) x is = absurd is
+  -- by why the piece is not followed any further
+  answered : (why : Pause) (result : Result Turn DeviceFault) → Followed why why → IsResultOfPause n m after.walker why result → TurnsTo next before after limit b past r result
+  answered pause.Enough (Ok (Ended run)) x is = turns_enough run pause.Enough x is
+  answered (pause.Fault f) (Ok (Ended run)) x is = turns_fault run f (pause.Fault f) x is
+  answered pause.UsedUp (Err InputTooLong) x is = turns_long pause.UsedUp x is
+  answered pause.UsedUp (Ok (Ended run)) x is = turns_end run is.2.0 pause.UsedUp x is.1 is.2.1 is.2.2
+  answered pause.UsedUp (Ok Again) x is = turns_again pause.UsedUp x is.0 is.1
+  answered pause.Enough (Ok Again) x is = absurd is
+  answered pause.Enough (Err e) x is = absurd is
+  answered (pause.Fault f) (Ok Again) x is = absurd is
+  answered (pause.Fault f) (Err e) x is = absurd is
+  answered pause.UsedUp (Err ReadFailed) x is = absurd is
+  answered pause.UsedUp (Err WriteFailed) x is = absurd is
 
   module _ (state_of : D → DrainState) (drain_was : before.drain ≡ state_of (drain_of from).now) (drain_is : after.drain ≡ state_of (drain_of to).now) where
-    abbrev FollowsIn : Result Stop WriteFault → Type 0
+    abbrev FollowsIn : Result Pause WriteFault → Type 0
     FollowsIn result = FollowsAndFlushes next state_of (walk_state before.walker before.follower from) (walk_state after.walker after.follower to) piece result
 
-    handed : (result : Result Stop WriteFault) → (x : FollowsIn result) → Sent result x.more
+    handed : (result : Result Pause WriteFault) → (x : FollowsIn result) → Sent result x.more
     handed result x =
         subst (λ (d : DrainState). Sends d after.drain (effect_of next before.follower x.more).put result) (sym drain_was)
         (subst (λ (d : DrainState). Sends (state_of (drain_of from).now) d (effect_of next before.follower x.more).put result) (sym drain_is) x.sends)
 
-    pub turns_answered : (why : Stop) (result : Result Turn DeviceFault) → FollowsIn (Ok why) → IsResultOfStop n m after.walker why result → TurnsTo next before after limit b past r result
-    turns_answered why result x is = answered why result (record { more = x.more; stops = x.stops; put = handed (Ok why) x }) is
+    pub turns_answered : (why : Pause) (result : Result Turn DeviceFault) → FollowsIn (Ok why) → IsResultOfPause n m after.walker why result → TurnsTo next before after limit b past r result
+    turns_answered why result x is = answered why result (record { more = x.more; pauses = x.pauses; put = handed (Ok why) x }) is
 
     pub turns_failed : (e : WriteFault) → FollowsIn (Err e) → TurnsTo next before after limit b past r (Err WriteFailed)
     turns_failed e x =
-        let o = x.stops.yields b past st read.0 read.1 in
+        let o = x.pauses.yields b past st read.0 read.1 in
         let front = followed-front next before.follower x.more o.0 in record {
           more = x.more ++ o.0;
           put =

@@ -26,7 +26,7 @@ pub within-fits : (b : Option ℕ) (n : ℕ) → within b n ≡ true → IfSome 
 within-fits None n e = tt
 within-fits (Some b) n e = leb-true n b e
 
--- where the test says so
+-- if the test says so
 pub fits-within : (b : Option ℕ) (n : ℕ) → IfSome b (λ b. n ≤ b) → within b n ≡ true
 fits-within None n e = refl
 fits-within (Some b) n e = le-leb n b e

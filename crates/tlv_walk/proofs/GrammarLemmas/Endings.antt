@@ -1,4 +1,4 @@
--- Each input of octets has an ending: it is `Done` where the input is sound, and no fault is a false alarm.
+-- Each input of octets has an ending: it is `Done` if the input is sound, and no fault is a false alarm.
 use Rattle.std.proofs.Common.{◌≡◌, ◌≢◌, ◌⊎◌, inl, inr, ℕ, ◌<◌, ◌≤◌, true, cond, List, [], ◌∷◌, ◌++◌, length, All, refl, sym, ap, ◌∙◌, subst, arith, append-nil, length-append}
 use Rattle.std.proofs.lemmas.Bool.{cases_Bool}
 use Rattle.std.proofs.lemmas.List.{get_or_at}
@@ -33,7 +33,7 @@ octet-small s x rest b e each =
     let there : length s < length b = omega (arith, ap length e, length-append s (x ∷ rest)) in
     rw (← e, get_or_at s x rest 0 (length s) refl) at (each (length s) 0 there)
 
--- where no octet is refused, the ending says what is open
+-- if no octet is refused, the ending says what is open
 going-ending : (w : Framing) (f : Forest) (b : List ℕ) → Spells (top_place w) b f → IsEnding w b (ending_of (length b) (Going f))
 going-ending w f b r =
     let reading : IsReading w b f = run-reading w (Going f) b r in
@@ -94,7 +94,7 @@ ending-says w b e (refused f x rest code r s k) = inr (record {
   there = refl;
 })
 
--- behind a fault other than F01 and F02 an octet is refused
+-- after a fault other than F01 and F02 an octet is refused
 pub fault-halt : (w : Framing) (b : List ℕ) (code : FaultCode) (offset : ℕ) → code ≢ Empty → code ≢ Short → IsEnding w b (fault code offset) → IsRefused w b code offset
 fault-halt w b code offset a d e = elim (ending-says w b (fault code offset) e) [
   | inl early ↦ elim early [
@@ -110,13 +110,13 @@ halt-unsound w b f code r s =
     let most : length (spell s.forest) ≤ length (spell f) = halt-longest w f code b r s.forest (sound-open_top w s.forest s.sound) ([], append-nil (spell s.forest) ∙ s.octets) in
     omega (arith, ap length s.octets, ap length r.front, length-append (spell f) (r.octet ∷ r.rest))
 
--- no false alarm: behind a fault other than F01 and F02 no input that goes on is sound
+-- no false alarm: after a fault other than F01 and F02 no input that goes on is sound
 pub no-false-alarm : (w : Framing) (b c : List ℕ) (code : FaultCode) (offset : ℕ) → code ≢ Empty → code ≢ Short → IsEnding w b (fault code offset) → IsSoundList w (b ++ c) → ⊥
 no-false-alarm w b c code offset a d e s =
     let r : IsRefused w b code offset = fault-halt w b code offset a d e in
     halt-unsound w (b ++ c) r.forest code (halt-longer w r.forest code b c r.halt) s
 
--- where the ending is `Done` the input is sound
+-- if the ending is `Done` the input is sound
 pub done-sound : (w : Framing) (b : List ℕ) → IsEnding w b Done → IsSoundList w b
 done-sound w b e =
     let d : IsDone w b = ending-says w b Done e in
@@ -142,7 +142,7 @@ fault-place w b e f (short g r s n) i = inl (sym (ap offset_in i))
 fault-place w b e f (done g r s n t) i = absurd (cc (i))
 fault-place w b e f (refused g x rest code r s k) i = inr (g, r, sym (ap offset_in i))
 
--- where the octet behind p is refused and p is the spelling of an open forest, that is the reading
+-- if the octet after p is refused and p is the spelling of an open forest, that is the reading
 pub refused-reading : (w : Framing) (p : List ℕ) (x : ℕ) (c : List ℕ) (f : FaultOf) (g : Forest) → Spells (top_place w) p g → f.offset ≡ length p → IsEnding w (p ++ x ∷ c) (Fault f) → IsReading w (p ++ x ∷ c) g
 refused-reading w p x c f g v there e = elim (fault-place w (p ++ x ∷ c) (Fault f) f e refl) [
   | inl end ↦ absurd (omega (arith, end, there, length-append p (x ∷ c)))

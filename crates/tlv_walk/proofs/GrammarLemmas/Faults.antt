@@ -1,4 +1,4 @@
--- An octet is refused where it has a fault of the list, with that code.
+-- An octet is refused if it has a fault of the list, with that code.
 use Rattle.std.proofs.Common.{◌≡◌, inl, inr, ℕ, ◌+◌, ◌<◌, Bool, true, false, ◌&&◌, ◌||◌, leb, List, [], ◌∷◌, ◌++◌, length, Option, Some, None, refl, sym, ap, ◌∙◌, eq-eqb, ne_eqb, le-leb, leb-true, leb-false}
 use Rattle.std.proofs.lemmas.Bool.{cases_Bool, cases_eq, and_parts, and_cases, and_from, lt-leb, true≢false}
 use Rattle.tlv_head.specs.declared.fault.FaultCode.{FaultCode}
@@ -60,7 +60,7 @@ unused-blames p h x = elim (cases_eq x 0) [
   | inr e ↦ rw (ne_eqb x 0 e) (bad_inside e)
 ]
 
--- behind the first of the end-of-contents octets
+-- after the first of the end-of-contents octets
 end-blames : (p : Place) (x : ℕ) → Blames p Zero x (refusal (push p Zero x))
 end-blames p x = elim (cases_Bool (fits p 2)) [
   | inl f ↦ elim (cases_eq x 0) [
@@ -75,7 +75,7 @@ octet-blames : (p : Place) (o : List ℕ) (x : ℕ) (code : FaultCode) → (o �
 octet-blames p o x StrayEnd some room r = absurd (some r.0)
 octet-blames p o x code some room r = refused_octet room r
 
--- where the test of the depth fails, the element is not too deep
+-- if the test of the depth fails, the element is not too deep
 shallow : (t : Bool) (d : ℕ) → (t && leb 128 d) ≡ false → t ≡ true → d < 128
 shallow t d e k = elim (and_cases t (leb 128 d) e) [
   | inl z ↦ absurd (true≢false (sym k ∙ z))
@@ -138,11 +138,11 @@ read-there : (p : Place) (o : List ℕ) (x : ℕ) (h : HeaderValue) (t : Bool) �
 read-there p o x h t room s octets =
     push-scan p o x (Ready (moved (origin p) h)) room (ap (scan (origin p)) (sym octets) ∙ scan-moved (origin p) h s.valid)
 
--- the header as it is read there holds others where the header does
+-- the header as it is read there holds others if the header does
 holds-there : (p : Place) (h : HeaderValue) (t : Bool) → IsHeadAt p t h → holds (moved (origin p) h) ≡ holds h
 holds-there p h t s = ap (λ (named : Bool). h.constructed || is_wrapper named h.class h.constructed h.number h.size) (sym s.named)
 
--- where the element is not too deep, the test of the depth fails
+-- if the element is not too deep, the test of the depth fails
 pub not-deep : (t : Bool) (d : ℕ) → (t ≡ true → d < 128) → (t && leb 128 d) ≡ false
 not-deep true d f = lt-leb 128 d (f refl)
 not-deep false d f = refl

@@ -43,6 +43,6 @@ early-final w b e f (short g r s n) i k = absurd (k (sym (ap offset_in i)))
 early-final w b e f (done g r s n t) i k = absurd (cc (i))
 early-final w b e f (refused g x rest code r s c) i k = rw (← ap code_in i) (cause-final _ x _ code c)
 
--- the octet behind p is refused
+-- the octet after p is refused
 pub refused-final : (w : Framing) (p : List ℕ) (x : ℕ) (rest : List ℕ) (f : FaultOf) → f.offset ≡ length p → IsEnding w (p ++ x ∷ rest) (Fault f) → IsFinalCode f.code
 refused-final w p x rest f there e = early-final w (p ++ x ∷ rest) (Fault f) f e refl (λ n. omega (arith, n, there, length-append p (x ∷ rest)))

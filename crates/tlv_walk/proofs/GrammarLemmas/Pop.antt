@@ -87,7 +87,7 @@ settled p h inside g entry w (inr q) same spelled = record {
   pushed = ap (settle h) q.pushed ∙ ap Grown same;
 }
 
--- whole elements, and behind them the first of the end-of-contents octets
+-- whole elements, and after them the first of the end-of-contents octets
 abbrev zeroed : Forest → Forest
 zeroed Stop = Zero
 zeroed (Fill rest) = Fill (zeroed rest)

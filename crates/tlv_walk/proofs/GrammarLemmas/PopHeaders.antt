@@ -52,7 +52,7 @@ pub header-length : (h : HeaderValue) → IsHeader h → 2 ≤ length (octets_of
 header-length h valid =
     omega (arith, length-append h.identifier h.lengths, identifier-some h.class h.constructed h.number h.identifier valid.identifier, lengths-some h.size h.lengths valid.lengths)
 
--- an octet behind the front of a header, by what all of them say
+-- an octet after the front of a header, by what all of them say
 pub push-scan : (p : Place) (o : List ℕ) (x : ℕ) (s : Scan) → Fits p (length o + 1) → scan (origin p) (o ++ x ∷ []) ≡ s → push p (Begun o) x ≡ begin p (o ++ x ∷ []) s
 push-scan p o x s f e = rw (fits-within p.bound _ f) (ap (begin p (o ++ x ∷ [])) (sym (scan_from-append (origin p) Fresh o (x ∷ [])) ∙ e))
 

@@ -1,4 +1,4 @@
--- One more octet behind an open forest gives what is right.
+-- One more octet after an open forest gives what is right.
 use Rattle.std.proofs.Common.{◌≡◌, ◌≢◌, inl, inr, ℕ, ◌+◌, ◌<◌, ◌≤◌, Bool, true, false, ◌&&◌, ◌||◌, leb, List, [], ◌∷◌, ◌++◌, length, refl, sym, ap, ◌∙◌, arith, append_assoc, append-nil, length-append, eq-eqb, ne_eqb, leb-false}
 use Rattle.std.proofs.lemmas.Bool.{cases_eq, cases_Bool, and_parts, true≢false}
 use Rattle.tlv_head.specs.declared.header.Size.{Size}
@@ -15,7 +15,7 @@ use Rattle.tlv_walk.proofs.GrammarLemmas.Bounds.{IsEndless, IsFull, fits, fits-i
 use Rattle.tlv_walk.proofs.GrammarLemmas.Spellings.{append_assoc-3, append_assoc-4, length-closed, length-opening, length-whole}
 use Rattle.tlv_walk.proofs.GrammarLemmas.PushSteps.{IsWhole, IsClosed, Step, origin, is_filled, entered, partial, opened, begun, complete, begin, zero_between, follow, settle, push, Spells, IsStep, Grown, Ended, Refused}
 
--- where what an element holds ends within the bound inside, the element so far ends within that outside
+-- if what an element holds ends within the bound inside, the element so far ends within that outside
 reaches-entered : (p : Place) (h : HeaderValue) (inside : Forest) → Fits p (length (octets_of h) + announced_length h.size) → Fits (place_inside p h) (length (spell inside))
     → Fits p (length (opening h ++ spell inside))
 reaches-entered p h inside f g =
@@ -90,7 +90,7 @@ closed-sound p h g entry w whole full =
       spelled = ap (λ (t : List ℕ). opening h ++ (spell g ++ (t ++ []))) full.ends ∙ ap (λ (t : List ℕ). opening h ++ t) (append-nil (spell g));
     }
 
--- an element that is not filled lacks octets, where what it holds is whole
+-- an element that is not filled lacks octets, if what it holds is whole
 pub unfilled-lacks : (p : Place) (h : HeaderValue) (g : Forest) → is_filled h g ≡ false → is_whole g ≡ true → Fits (place_inside p h) (length (spell g)) → LacksOctets h.size (contents_length h g)
 unfilled-lacks p h g e whole there =
     let short : has_length h.size (contents_length h g) ≡ false = rw whole at e in
@@ -154,7 +154,7 @@ begin-sound p o Over r some f = tt
 pub push≢nil : (o : List ℕ) (x : ℕ) → o ++ x ∷ [] ≢ []
 push≢nil o x e = omega (arith, ap length e, length-append o (x ∷ []))
 
--- behind the front of a header
+-- after the front of a header
 front-step : (p : Place) (o : List ℕ) (x : ℕ) → x < 256 → IsFront o → IsStep p (o ++ x ∷ []) (push p (Begun o) x)
 front-step p o x h front = elim (cases_Bool (fits p (length o + 1))) [
   | inl f ↦ rw f
@@ -182,7 +182,7 @@ stop-step p x h = elim (cases_Bool (fits p 1)) [
   | inr f ↦ rw f tt
 ]
 
--- behind the first of the end-of-contents octets
+-- after the first of the end-of-contents octets
 zero-step : (p : Place) (x : ℕ) → p.indefinite ≡ true → IsStep p (0 ∷ x ∷ []) (push p Zero x)
 zero-step p x i = elim (cases_Bool (fits p 2)) [
   | inl f ↦ elim (cases_eq x 0) [

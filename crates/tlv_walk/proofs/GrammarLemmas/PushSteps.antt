@@ -43,7 +43,7 @@ entered h f = cond (is_filled h f) (Closed h f Stop) (Entered h f)
 abbrev pub partial : HeaderValue → List ℕ → Forest
 partial h c = cond (eqb (length c) (announced_length h.size)) (Whole h c Stop) (Partial h c)
 
--- an element that holds none yet, behind its header: the octets are those to come before the first
+-- an element that holds none yet, after its header: the octets are those to come before the first
 abbrev pub opened : HeaderValue → List ℕ → Forest
 opened h [] = entered h Stop
 opened h (x ∷ xs) = Awaiting h
@@ -68,7 +68,7 @@ begin p o (Ready h) = complete p h
 begin p o (Stuck code) = Refused code
 begin p o Over = Refused StrayEnd
 
--- an octet 00 between encodings: inside an element of indefinite length, or where there is padding, or neither
+-- an octet 00 between encodings: inside an element of indefinite length, or if there is padding, or neither
 abbrev pub zero_between : Bool → Bool → Step
 zero_between true padding = Grown Zero
 zero_between false true = Grown (Fill Stop)
@@ -86,7 +86,7 @@ settle h (Grown g) = Grown (entered h g)
 settle h (Ended g) = Grown (Closed h g Stop)
 settle h (Refused code) = Refused code
 
--- the octet x behind an open forest
+-- the octet x after an open forest
 abbrev pub push : Place → Forest → ℕ → Step
 push p Stop x = cond (fits p 1) (cond (eqb x 0) (zero_between p.indefinite p.padding) (Grown (Begun (x ∷ [])))) (Refused MissingEnd)
 push p (Fill rest) x = follow Fill (push (place_after p 1) rest x)

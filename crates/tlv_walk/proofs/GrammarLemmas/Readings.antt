@@ -118,7 +118,7 @@ forest_of (Halted f code) = f
 abbrev pub reading : Framing → List ℕ → Forest
 reading w b = forest_of (run w b)
 
--- the octet behind the forest is refused
+-- the octet after the forest is refused
 pub record IsHalt (w : Framing) (f : Forest) (code : FaultCode) (b : List ℕ) : Type 0 where
   pub is_open : IsOpen (top_place w) f
   pub octet : ℕ
@@ -142,12 +142,12 @@ abbrev pub halt-longer : (w : Framing) (f : Forest) (code : FaultCode) (b c : Li
 halt-longer w f code b c r =
     record { is_open = r.is_open; octet = r.octet; rest = r.rest ++ c; front = rw (← r.front, append_assoc (spell f) (r.octet ∷ r.rest) c); refused = r.refused }
 
--- a run that is right is so behind one more octet
+-- a run that is right is so after one more octet
 turn-run : (w : Framing) (r : Run) (b : List ℕ) (x : ℕ) → x < 256 → IsRun w r b → IsRun w (turn w r x) (b ++ x ∷ [])
 turn-run w (Going f) b x h r = rw (← r.spelled) (took-run w f x (push (top_place w) f x) r.is_open refl (push-sound (top_place w) f x h r.is_open))
 turn-run w (Halted f code) b x h r = halt-longer w f code b (x ∷ []) r
 
--- and behind more octets
+-- and after more octets
 run_from-run : (w : Framing) (r : Run) (b xs : List ℕ) → All (λ x. x < 256) xs → IsRun w r b → IsRun w (run_from w r xs) (b ++ xs)
 run_from-run w r b [] each v = rw (append-nil b) v
 run_from-run w r b (x ∷ xs) each v =
@@ -186,7 +186,7 @@ run-reading w (Halted f code) b r = record { is_open = r.is_open; front = (r.oct
 pub is-reading : (w : Framing) (b : List ℕ) → All (λ x. x < 256) b → IsReading w b (reading w b)
 is-reading w b each = run-reading w (run w b) b (is-run w b each)
 
--- behind octets that are all read others can be read too
+-- after octets that are all read others can be read too
 pub reading-longer : (w : Framing) (f : Forest) (b xs : List ℕ) → All (λ x. x < 256) xs → IsReading w b f → spell f ≡ b → (g : Forest) × IsReading w (b ++ xs) g
 reading-longer w f b xs each r e =
     let k : Run = run_from w (Going f) xs in

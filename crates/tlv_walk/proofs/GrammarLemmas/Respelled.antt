@@ -51,12 +51,12 @@ pub record Spelling (form : Bool → Bool) (p : Place) (f : Forest) : Type 0 whe
   pub names_within : AreWithin names (length octets)
   pub there : (q : Place) → IsLike p q → Agrees q (names q.at) (length octets) → SpelledAt form q f octets (names q.at)
 
--- what is named of an element that holds others and of those behind it, by where it stands: what it holds stands `begins` octets
--- on, and what is behind it `far` octets on
+-- what is named of an element that holds others and of those after it, by where it stands: what it holds stands `begins` octets
+-- on, and what is after it `far` octets on
 abbrev joined : (constructed : Bool) (inner others : ℕ → List ℕ) (begins far : ℕ) → ℕ → List ℕ
 joined constructed inner others begins far at = own constructed at ++ (inner (at + begins) ++ others (at + far))
 
--- where it holds `count` octets, and `rest` octets are behind it
+-- if it holds `count` octets, and `rest` octets are after it
 record Joins (constructed : Bool) (inner others : ℕ → List ℕ) (begins count far rest : ℕ) : Type 0 where
   pub behind : AreBehind (joined constructed inner others begins far)
   pub within : AreWithin (joined constructed inner others begins far) (far + rest)

@@ -68,7 +68,7 @@ settled-spells w (l ∷ ls) f a i = elim (cases_Bool (is_filled l.head f)) [
   | inr e ↦ rw e (record { is_open = unfilled-room w l ls f a i e; spelled = spell-within w (l ∷ ls) f a })
 ]
 
--- their octets, behind those of the layers
+-- their octets, after those of the layers
 pub spell-settled : (w : Framing) (ls : List Layer) (f : Forest) → AreLayers w ls → AreWhole (place_in w ls) f → spell (settled ls f) ≡ spell_layers ls ++ spell f
 spell-settled w ls f a i = let r : Spells (top_place w) (spell_layers ls ++ spell f) (settled ls f) = settled-spells w ls f a i in r.spelled
 
@@ -76,7 +76,7 @@ spell-settled w ls f a i = let r : Spells (top_place w) (spell_layers ls ++ spel
 pub open-settled : (w : Framing) (ls : List Layer) (f : Forest) → AreLayers w ls → AreWhole (place_in w ls) f → IsOpen (top_place w) (settled ls f)
 open-settled w ls f a i = let r : Spells (top_place w) (spell_layers ls ++ spell f) (settled ls f) = settled-spells w ls f a i in r.is_open
 
--- an element ends at an offset by its frame where it has all its contents octets by its length
+-- an element ends at an offset by its frame if it has all its contents octets by its length
 end-length : (s : Size) (start m n : ℕ) → start + m ≡ n → is_end (bound_in s start None) n ≡ has_length s m
 end-length (Definite k) start m n e = elim (cases_Bool (eqb m k)) [
   | inl same ↦ let there : m ≡ k = eqb-true m k same in rw (same, eq-eqb (start + k) n (omega arith))
@@ -96,7 +96,7 @@ end-there : (end : Option ℕ) (at : ℕ) → is_end end at ≡ true → end ≡
 end-there None at e = absurd (cc)
 end-there (Some n) at e = ap Some (eqb-true n at e)
 
--- where the innermost open element is not filled, no element ends
+-- if the innermost open element is not filled, no element ends
 pub settled-within : (w : Framing) (ls : List Layer) (f : Forest) → (IsFilled (frames_of w ls) (end_in w ls f) → ⊥) → settled ls f ≡ within ls f
 settled-within w [] f n = refl
 settled-within w (l ∷ ls) f n = elim (cases_Bool (is_filled l.head f)) [

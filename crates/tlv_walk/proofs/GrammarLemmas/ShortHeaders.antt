@@ -27,7 +27,7 @@ pub record Octets (h : HeaderValue) (constructed : Bool) (size : Size) : Type 0 
   pub few : length identifier.octets ≤ length h.identifier
   pub few_lengths : length lengths.octets + length (end_octets size) ≤ 6
 
--- the header, named where it is to be that of a wrapper
+-- the header, named if it is to be that of a wrapper
 abbrev pub head_of : (h : HeaderValue) (named constructed : Bool) (size : Size) → Octets h constructed size → ℕ → HeaderValue
 head_of h named constructed size o at = record {
   offset = at;
@@ -77,7 +77,7 @@ head-some h constructed size o =
 
 -- ---- lengths of either form
 
--- the length of an element that holds others, where its length is to be indefinite, and where not
+-- the length of an element that holds others, if its length is to be indefinite, and if not
 abbrev pub size-for : Bool → ℕ → Size
 size-for true m = Indefinite
 size-for false m = Definite m

@@ -16,11 +16,11 @@ pub length-closed : (h : HeaderValue) (inside rest : Forest) → length (spell (
 length-closed h inside rest =
     omega (arith, length-append (opening h) (spell inside ++ (end_octets h.size ++ spell rest)), length-append (spell inside) (end_octets h.size ++ spell rest), length-append (end_octets h.size) (spell rest))
 
--- octets behind a list of three pieces are behind the last of them
+-- octets after a list of three pieces are after the last of them
 pub append_assoc-3 : (a b s t : List ℕ) → (a ++ (b ++ s)) ++ t ≡ a ++ (b ++ (s ++ t))
 append_assoc-3 a b s t = append_assoc a (b ++ s) t ∙ ap (λ (u : List ℕ). a ++ u) (append_assoc b s t)
 
--- and behind a list of four
+-- and after a list of four
 pub append_assoc-4 : (a b c s t : List ℕ) → (a ++ (b ++ (c ++ s))) ++ t ≡ a ++ (b ++ (c ++ (s ++ t)))
 append_assoc-4 a b c s t = append_assoc a (b ++ (c ++ s)) t ∙ ap (λ (u : List ℕ). a ++ u) (append_assoc-3 b c s t)
 

@@ -15,19 +15,19 @@ refusal (Grown g) = None
 refusal (Ended g) = None
 refusal (Refused code) = Some code
 
--- a step of what follows an element is refused where that of both is
+-- a step of what follows an element is refused if that of both is
 refusal-follow : (f : Forest → Forest) (s : Step) → refusal (follow f s) ≡ refusal s
 refusal-follow f (Grown g) = refl
 refusal-follow f (Ended g) = refl
 refusal-follow f (Refused code) = refl
 
--- a step of what an element holds is refused where that of the element is
+-- a step of what an element holds is refused if that of the element is
 refusal-settle : (h : HeaderValue) (s : Step) → refusal (settle h s) ≡ refusal s
 refusal-settle h (Grown g) = refl
 refusal-settle h (Ended g) = refl
 refusal-settle h (Refused code) = refl
 
--- a refusal behind a forest is that at its tip
+-- a refusal after a forest is that at its tip
 pub push-tip : (p : Place) (f : Forest) (x : ℕ) → refusal (push p f x) ≡ refusal (push (tip p f).0 (tip p f).1 x)
 push-tip p Stop x = refl
 push-tip p (Fill rest) x = refusal-follow Fill (push (place_after p 1) rest x) ∙ push-tip (place_after p 1) rest x
@@ -56,7 +56,7 @@ IsTip p f = ⊥
 room-after : (p : Place) (n : ℕ) (f g : Forest) → length (spell g) ≡ n + length (spell f) → (is_whole f ≡ true → is_whole g ≡ true) → HasRoom p g → HasRoom (place_after p n) f
 room-after p n f g size whole r i w = within-le p.bound _ _ (omega arith) (r i (whole w))
 
--- what an element holds has room, where octets are lacking
+-- what an element holds has room, if octets are lacking
 room-inside : (p : Place) (h : HeaderValue) (inside : Forest) → IsOpen p (Entered h inside) → HasRoom (place_inside p h) inside
 room-inside p h inside e i w =
     within-le (place_inside p h).bound _ _ (omega (arith, length-opening h))

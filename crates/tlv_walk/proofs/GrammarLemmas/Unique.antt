@@ -27,7 +27,7 @@ none-whole (Awaiting h) e = absurd (cc)
 none-whole (Begun octets) e = absurd (cc)
 none-whole Zero e = absurd (cc)
 
--- a test of the reading has one answer
+-- a test of the reading has one result
 test-apart : (w : Framing) (b : List ℕ) (f g : Forest) (test : Forest → Bool) → IsReading w b f → IsReading w b g → test f ≡ true → test g ≡ false → ⊥
 test-apart w b f g test r s t u = true≢false (sym t ∙ ap test (reading-unique w b f g r s) ∙ u)
 

@@ -1,4 +1,4 @@
--- A step behind the first of the end-of-contents octets is one of both.
+-- A step after the first of the end-of-contents octets is one of both.
 use Rattle.std.proofs.Common.{◌≡◌, inl, inr, ℕ, ◌+◌, ◌-◌, Option, Some, None, arith, List, [], ◌∷◌, ◌++◌, ap, ◌∙◌, subst, append_assoc, append-nil}
 use Rattle.tlv_head.specs.declared.fault.Fault.{Fault}
 use Rattle.tlv_walk.specs.declared.ending.Ending.TheVariants as ending

@@ -169,7 +169,7 @@ pub yields_filled : (w : WalkerState) → w.phase ≡ phase.Between → (f : Fra
     → Continues w (record w { stack = drop 1 w.stack; events = w.events + 1 }) [] (ending_event f ∷ [])
 yields_filled w e f fs is full = record {
   framing = refl;
-  found = ap (wrappers_after w.framing.inside w.wrappers) (sym (ending_enters f));
+  found = ap (wrappers_after w.framing.inside w.wrapper_count) (sym (ending_enters f));
   goes = λ b past s has.
       let t = between_tail s.tail _ (phase_at w b past s _ e has) in
       filled_from w b past s s.layers (tail_state w b past s _ t has) e f fs is full;

@@ -1,4 +1,4 @@
--- A walker's state goes on behind a header.
+-- A walker's state goes on after a header.
 use Rattle.std.proofs.Common.{◌≡◌, ℕ, ◌+◌, ◌<◌, Bool, true, false, eqb, if◌then◌else◌, List, [], ◌∷◌, ◌++◌, length, map, Option, refl, sym, ap, ◌∙◌, subst, arith, append-nil, length-append}
 use Rattle.tlv_head.specs.declared.header.Size.TheVariants.{Definite}
 use Rattle.tlv_head.specs.Header.{HeaderValue, IsHeader, announced_length, holds, octets_of}
@@ -17,7 +17,7 @@ use Rattle.tlv_walk.specs.Private.Steps.{Continues}
 use Rattle.tlv_walk.proofs.WalkerLemmas.Moves.{between_tail, phase_at, spelled_behind, tail_state, past_behind, with_tail}
 use Rattle.tlv_walk.proofs.WalkerLemmas.Places.{place-bound, place-depth, place-inside, place-offset}
 
--- a walker that stands at a header, or behind the octets of one that the reader has
+-- a walker that stands at a header, or after the octets of one that the reader has
 pub record AtHeader (w : WalkerState) (b : List ℕ) (past : List EventValue) (s : Zipper) (r : HeadReaderState) : Type 0 where
   pub has : HasZipper w b past s
   pub octets : spell_tail s.tail ≡ r.octets
@@ -146,7 +146,7 @@ opening_event h = if h.constructed then Open h else Enter h
 -- an element that holds others begins with the next octet
 pub holding_state : (w : WalkerState) (b : List ℕ) (past : List EventValue) (s : Zipper) (r : HeadReaderState) (t : List ℕ) (h : HeaderValue) (k : ℕ) → AtHeader w b past s r → Completed w r t h
     → holds h ≡ true → lead h ≡ []
-    → HasZipper (record (after_header w phase.Between (h.offset + length (octets_of h))) { stack = frame_at (place_of w.framing s) h ∷ w.stack; wrappers = k }) (b ++ t) (past ++ opening_event h ∷ [])
+    → HasZipper (record (after_header w phase.Between (h.offset + length (octets_of h))) { stack = frame_at (place_of w.framing s) h ∷ w.stack; wrapper_count = k }) (b ++ t) (past ++ opening_event h ∷ [])
     (record { layers = record { before = s.here; head = h } ∷ s.layers; here = Stop; tail = Between })
 holding_state w b past s r t h k at c e none = record {
   spelled = layer_spelled s.layers s.here h (spell_tail s.tail) t b
@@ -163,7 +163,7 @@ holding_state w b past s r t h k at c e none = record {
 -- a wrapping BIT STRING begins
 pub lead_state : (w : WalkerState) (b : List ℕ) (past : List EventValue) (s : Zipper) (r : HeadReaderState) (t : List ℕ) (h : HeaderValue) (k : ℕ) → AtHeader w b past s r → Completed w r t h
     → holds h ≡ true → lead h ≡ 0 ∷ []
-    → HasZipper (record (after_header w phase.BeforeUnused (h.offset + length (octets_of h))) { stack = frame_at (place_of w.framing s) h ∷ w.stack; wrappers = k }) (b ++ t) (past ++ Enter h ∷ [])
+    → HasZipper (record (after_header w phase.BeforeUnused (h.offset + length (octets_of h))) { stack = frame_at (place_of w.framing s) h ∷ w.stack; wrapper_count = k }) (b ++ t) (past ++ Enter h ∷ [])
     (with_tail s (BeforeUnused h))
 lead_state w b past s r t h k at c e one = record {
   spelled = spelled_behind s.layers s.here (spell_tail s.tail) (octets_of h) t b (c.octets ∙ ap (λ (o : List ℕ). o ++ t) (sym at.octets)) at.has.spelled;

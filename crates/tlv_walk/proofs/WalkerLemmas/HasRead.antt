@@ -1,4 +1,4 @@
--- What a walker answers of what it has read.
+-- What a walker returns of what it has read.
 use Rattle.std.proofs.Common.{◌≡◌, ℕ, List, ◌++◌, ◌∷◌, length, sym, ap, ◌∙◌, subst}
 use Rattle.tlv_head.specs.declared.fault.Fault.{Fault}
 use Rattle.tlv_walk.specs.declared.ending.Ending.{Ending}
@@ -12,7 +12,7 @@ use Rattle.tlv_walk.specs.Phase.{Phase, Failed}
 use Rattle.tlv_walk.specs.Place.{Place}
 use Rattle.tlv_walk.specs.Private.Zipper.{IsPhaseOf, Tail, place_of}
 use Rattle.tlv_walk.specs.Stands.{IsIdle, Stands}
-use Rattle.tlv_walk.specs.HasRead.{HasRead, StandsAtEnd, refused_one, stopped, took, took_all}
+use Rattle.tlv_walk.specs.HasRead.{HasRead, StandsAtEnd, refused_one, refused, took, took_all}
 use Rattle.tlv_walk.specs.Wrappers.{first_unused}
 use Rattle.tlv_walk.proofs.WalkerLemmas.OpenCounts.{state-depth}
 use Rattle.tlv_walk.proofs.GrammarLemmas.Readings.{reading-unique}
@@ -25,15 +25,15 @@ pub read_depth : (w : WalkerState) (b : List ℕ) (f : Forest) → HasRead w b f
 read_depth w b f (took past st e) none =
     state-depth w b past st.private_state.state st.private_state.has_state (idle w none)
     ∙ ap open_count (reading-unique w.framing b _ st.reading (state-reading w b past st.private_state.state st.private_state.has_state) st.is_reading ∙ e)
-read_depth w b f (stopped x past g st e) none = st.depth ∙ ap open_count e
+read_depth w b f (refused x past g st e) none = st.depth ∙ ap open_count e
 
 pub read_offset : (w : WalkerState) (b : List ℕ) (f : Forest) → HasRead w b f → w.offset ≡ length b
 read_offset w b f (took past st e) = st.private_state.has_state.offset
-read_offset w b f (stopped x past g st e) = st.offset
+read_offset w b f (refused x past g st e) = st.offset
 
 pub read_unused : (w : WalkerState) (b : List ℕ) (f : Forest) → HasRead w b f → first_unused_in w ≡ first_unused w.framing.inside f
 read_unused w b f (took past st e) = stands_unused w b past st ∙ ap (first_unused w.framing.inside) e
-read_unused w b f (stopped x past g st e) = st.unused ∙ ap (first_unused w.framing.inside) e
+read_unused w b f (refused x past g st e) = st.unused ∙ ap (first_unused w.framing.inside) e
 
 -- a walker that stands for octets was refused none
 pub never_failed : (w : WalkerState) (b : List ℕ) (past : List EventValue) (f : Fault) → Stands w b past → w.phase ≡ Failed f → ⊥
@@ -42,15 +42,15 @@ never_failed w b past f st e = no_phase st.private_state.state.tail (place_of w.
     no_phase : (t : Tail) (p : Place) → IsPhaseOf (Failed f) t p → ⊥
     no_phase t p h = h
 
--- at the end of the input, also where an octet was refused
-pub ends_by : (w : WalkerState) (o : List ℕ) (past : List EventValue) (e result : Ending) → ((b : List ℕ) (past : List EventValue) → Stands w b past → IsEnding w.framing b result)
-    → ((f : Fault) → w.phase ≡ Failed f → result ≡ ending.Fault f) → StandsAtEnd w o past e → IsEnding w.framing o result
-ends_by w o past e result stands failed (took_all st none) = stands o past st
-ends_by w o past e result stands failed (refused_one {f = f} at) =
+-- at the end of the input, also if an octet was refused
+pub ends_by : (w : WalkerState) (o : List ℕ) (past : List EventValue) (result : Ending) → ((b : List ℕ) (past : List EventValue) → Stands w b past → IsEnding w.framing b result)
+    → ((f : Fault) → w.phase ≡ Failed f → result ≡ ending.Fault f) → StandsAtEnd w o past → IsEnding w.framing o result
+ends_by w o past result stands failed (took_all st none) = stands o past st
+ends_by w o past result stands failed (refused_one f at) =
     subst (λ (l : List ℕ). IsEnding w.framing l result) at.octets_is
     (subst (λ (k : Ending). IsEnding w.framing (at.front ++ at.octet ∷ at.rest) k) (sym (failed f at.stands.phase)) (at.stands.refused.ends at.rest))
 
 -- and it shows whether the input is sound
-pub shows_by : (w : WalkerState) (o : List ℕ) (past : List EventValue) (e result : Ending) → ((b : List ℕ) (past : List EventValue) → Stands w b past → IsEnding w.framing b result)
-    → ((f : Fault) → w.phase ≡ Failed f → result ≡ ending.Fault f) → StandsAtEnd w o past e → ShowsSoundness w.framing o result
-shows_by w o past e result stands failed at = shows-soundness w.framing o result (ends_by w o past e result stands failed at)
+pub shows_by : (w : WalkerState) (o : List ℕ) (past : List EventValue) (result : Ending) → ((b : List ℕ) (past : List EventValue) → Stands w b past → IsEnding w.framing b result)
+    → ((f : Fault) → w.phase ≡ Failed f → result ≡ ending.Fault f) → StandsAtEnd w o past → ShowsSoundness w.framing o result
+shows_by w o past result stands failed at = shows-soundness w.framing o result (ends_by w o past result stands failed at)

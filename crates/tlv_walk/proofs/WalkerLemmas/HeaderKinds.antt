@@ -44,14 +44,14 @@ frame_there w b past s r t h at c =
 -- an element that holds others, with the frame that the walker pushes
 abbrev entered_machine : WalkerState → HeaderValue → Phase → ℕ → WalkerState
 entered_machine w h f k =
-    record (after_header w f (h.offset + length (octets_of h))) { stack = frame_with (h.offset + length (octets_of h)) (bound_of w.stack) h.size h.constructed ∷ w.stack; wrappers = k }
+    record (after_header w f (h.offset + length (octets_of h))) { stack = frame_with (h.offset + length (octets_of h)) (bound_of w.stack) h.size h.constructed ∷ w.stack; wrapper_count = k }
 
 -- the state is that of a walker which pushed the frame
 pushed : (w : WalkerState) (b : List ℕ) (past : List EventValue) (s : Zipper) (r : HeadReaderState) (t : List ℕ) (h : HeaderValue) (f : Phase) (k : ℕ) (e : EventValue) (u : Zipper) → AtHeader w b past s r → Completed w r t h
-    → HasZipper (record (after_header w f (h.offset + length (octets_of h))) { stack = frame_at (place_of w.framing s) h ∷ w.stack; wrappers = k }) (b ++ t) (past ++ e ∷ []) u
+    → HasZipper (record (after_header w f (h.offset + length (octets_of h))) { stack = frame_at (place_of w.framing s) h ∷ w.stack; wrapper_count = k }) (b ++ t) (past ++ e ∷ []) u
     → HasZipper (entered_machine w h f k) (b ++ t) (past ++ e ∷ []) u
 pushed w b past s r t h f k e u at c has =
-    subst (λ (x : Frame). HasZipper (record (after_header w f (h.offset + length (octets_of h))) { stack = x ∷ w.stack; wrappers = k }) (b ++ t) (past ++ e ∷ []) u) (frame_there w b past s r t h at c) has
+    subst (λ (x : Frame). HasZipper (record (after_header w f (h.offset + length (octets_of h))) { stack = x ∷ w.stack; wrapper_count = k }) (b ++ t) (past ++ e ∷ []) u) (frame_there w b past s r t h at c) has
 
 lead_at : (h : HeaderValue) (k n : Bool) → h.constructed ≡ k → eqb h.number 3 ≡ n → lead h ≡ lead_by k n
 lead_at h k n e f = ap (λ (c : Bool). lead_by c (eqb h.number 3)) e ∙ ap (lead_by k) f
@@ -67,13 +67,13 @@ abbrev inside_state : Zipper → HeaderValue → Zipper
 inside_state s h = record { layers = record { before = s.here; head = h } ∷ s.layers; here = Stop; tail = Between }
 
 constructed_enters : (w : WalkerState) (b : List ℕ) (past : List EventValue) (s : Zipper) (r : HeadReaderState) (t : List ℕ) (h : HeaderValue) → AtHeader w b past s r → Completed w r t h → h.constructed ≡ true
-    → (u : Zipper) × HasZipper (entered_machine w h phase.Between w.wrappers) (b ++ t) (past ++ Open h ∷ []) u
+    → (u : Zipper) × HasZipper (entered_machine w h phase.Between w.wrapper_count) (b ++ t) (past ++ Open h ∷ []) u
 constructed_enters w b past s r t h at c k =
     let none : lead h ≡ [] = lead_at h true (eqb h.number 3) k refl in
-    let has = holding_state w b past s r t h w.wrappers at c (or-left h.constructed _ k) none in (
+    let has = holding_state w b past s r t h w.wrapper_count at c (or-left h.constructed _ k) none in (
       _,
-      pushed w b past s r t h phase.Between w.wrappers (Open h) _ at c
-          (subst (λ (e : EventValue). HasZipper (record (after_header w phase.Between (h.offset + length (octets_of h))) { stack = frame_at (place_of w.framing s) h ∷ w.stack; wrappers = w.wrappers }) (b ++ t) (past ++ e ∷ []) (inside_state s h))
+      pushed w b past s r t h phase.Between w.wrapper_count (Open h) _ at c
+          (subst (λ (e : EventValue). HasZipper (record (after_header w phase.Between (h.offset + length (octets_of h))) { stack = frame_at (place_of w.framing s) h ∷ w.stack; wrapper_count = w.wrapper_count }) (b ++ t) (past ++ e ∷ []) (inside_state s h))
           (ap (λ (x : Bool). if x then Open h else Enter h) k) has),
     )
 
@@ -87,7 +87,7 @@ wrapper_enters w b past s r t h n at c k hold false bits =
     let has = holding_state w b past s r t h n at c hold none in (
       _,
       pushed w b past s r t h phase.Between n (Enter h) _ at c
-          (subst (λ (e : EventValue). HasZipper (record (after_header w phase.Between (h.offset + length (octets_of h))) { stack = frame_at (place_of w.framing s) h ∷ w.stack; wrappers = n }) (b ++ t) (past ++ e ∷ []) (inside_state s h))
+          (subst (λ (e : EventValue). HasZipper (record (after_header w phase.Between (h.offset + length (octets_of h))) { stack = frame_at (place_of w.framing s) h ∷ w.stack; wrapper_count = n }) (b ++ t) (past ++ e ∷ []) (inside_state s h))
           (ap (λ (x : Bool). if x then Open h else Enter h) k) has),
     )
 
@@ -100,7 +100,7 @@ primitive_enters w b past s r t h at c no_hold =
           (primitive_state w b past s r t h size.0 at c no_hold size.1),
     )
 
--- behind a header a walker stands as it says
+-- after a header a walker stands as it says
 pub enters_state : (w v : WalkerState) (b : List ℕ) (past : List EventValue) (s : Zipper) (r : HeadReaderState) (t : List ℕ) (f : HeaderFields) (o : List ℕ) (k : Kind) → AtHeader w b past s r
     → Completed w r t (header_with f o) → Enters w v f (f.offset + length (octets_of (header_with f o))) k
     → (u : Zipper) × HasZipper v (b ++ t) (past ++ event_of k (header_with f o) ∷ []) u
@@ -111,7 +111,7 @@ enters_state w v b past s r t f o kind.Constructed at c e =
     let u = constructed_enters w b past s r t (header_with f o) at c e.0 in
     (u.0, subst (λ (m : WalkerState). HasZipper m (b ++ t) (past ++ Open (header_with f o) ∷ []) u.0) (sym e.1) u.1)
 enters_state w v b past s r t f o kind.Wrapper at c e =
-    let u = wrapper_enters w b past s r t (header_with f o) (next_wrapper w.framing.inside w.wrappers f.offset) at c e.0 (or-right f.constructed _ e.0 e.1) (eqb f.number 3) refl in
+    let u = wrapper_enters w b past s r t (header_with f o) (next_wrapper w.framing.inside w.wrapper_count f.offset) at c e.0 (or-right f.constructed _ e.0 e.1) (eqb f.number 3) refl in
     (u.0, subst (λ (m : WalkerState). HasZipper m (b ++ t) (past ++ Enter (header_with f o) ∷ []) u.0) (sym e.2) u.1)
 
 -- the framing stays
@@ -121,10 +121,10 @@ enters_framing w v f at kind.Constructed e = ap (λ (m : WalkerState). m.framing
 enters_framing w v f at kind.Wrapper e = ap (λ (m : WalkerState). m.framing) e.2
 
 -- a wrapper may be one of the named offsets
-pub enters_found : (w v : WalkerState) (f : HeaderFields) (o : List ℕ) (at : ℕ) (k : Kind) → Enters w v f at k → v.wrappers ≡ wrappers_after w.framing.inside w.wrappers (wrapper_offsets (event_of k (header_with f o) ∷ []))
-enters_found w v f o at kind.Primitive e = ap (λ (m : WalkerState). m.wrappers) e.1
-enters_found w v f o at kind.Constructed e = ap (λ (m : WalkerState). m.wrappers) e.1
-enters_found w v f o at kind.Wrapper e = ap (λ (m : WalkerState). m.wrappers) e.2
+pub enters_found : (w v : WalkerState) (f : HeaderFields) (o : List ℕ) (at : ℕ) (k : Kind) → Enters w v f at k → v.wrapper_count ≡ wrappers_after w.framing.inside w.wrapper_count (wrapper_offsets (event_of k (header_with f o) ∷ []))
+enters_found w v f o at kind.Primitive e = ap (λ (m : WalkerState). m.wrapper_count) e.1
+enters_found w v f o at kind.Constructed e = ap (λ (m : WalkerState). m.wrapper_count) e.1
+enters_found w v f o at kind.Wrapper e = ap (λ (m : WalkerState). m.wrapper_count) e.2
 
 -- octets that begin with a header, at a walker between elements
 pub fast_enters : (w v : WalkerState) (piece : List ℕ) (named : Bool) (f : HeaderFields) (count : ℕ) (o : List ℕ) (k : Kind) → w.phase ≡ phase.Between

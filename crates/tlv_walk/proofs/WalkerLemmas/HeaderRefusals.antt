@@ -1,4 +1,4 @@
--- What is refused behind octets of a header is a fault, whatever follows.
+-- What is refused after octets of a header is a fault, whatever follows.
 use Rattle.std.proofs.Common.{◌≡◌, ◌≢◌, inl, inr, ℕ, ◌+◌, ◌<◌, ◌≤◌, Bool, true, false, List, [], ◌∷◌, ◌++◌, length, Option, Some, None, refl, sym, ap, ◌∙◌, subst, arith, append-nil, length-append}
 use Rattle.tlv_head.specs.declared.fault.Fault.{Fault}
 use Rattle.tlv_head.specs.declared.fault.FaultCode.{FaultCode}
@@ -29,7 +29,7 @@ use Rattle.tlv_walk.proofs.WalkerLemmas.Places.{place-bound, place-depth}
 use Rattle.tlv_walk.proofs.WalkerLemmas.Refusals.{left_none, left_some}
 use Rattle.tlv_walk.proofs.WalkerLemmas.ZipperEndings.{state-fault}
 
--- ---- where there is room, a reader without octets refuses none
+-- ---- if there is room, a reader without octets refuses none
 
 -- an identifier has octets
 identifier-nil : (class : Class) (k : Bool) (n : ℕ) (o : List ℕ) → IsIdentifier class k n o → o ≡ [] → ⊥

@@ -1,4 +1,4 @@
--- A walker goes on behind the octets of a header that its reader takes.
+-- A walker goes on after the octets of a header that its reader takes.
 use Rattle.std.proofs.Common.{◌≡◌, ◌≢◌, ◌⊎◌, inl, inr, ℕ, ◌+◌, ◌-◌, ◌^◌, ◌<◌, ◌≤◌, Bool, true, List, [], ◌∷◌, ◌++◌, length, get_or, take, drop, Option, Some, None, refl, sym, ap, ap₂, ◌∙◌, subst, arith, append_assoc, append-nil, length-append}
 use Rattle.std.proofs.lemmas.Bool.{cases_eq}
 use Rattle.std.proofs.lemmas.List.{take_all}
@@ -77,11 +77,11 @@ taken_more r q p before after rest x k e front same =
       front = inr front;
     })
 
--- the walker behind the octets of a reader that it has
+-- the walker after the octets of a reader that it has
 abbrev pub in_header : WalkerState → HeadReaderState → WalkerState
 in_header w q = record w { phase = phase.InHeader q; offset = q.offset + length q.octets; has_element = true }
 
--- the state behind them, of the walker that the reader was taken from
+-- the state after them, of the walker that the reader was taken from
 pub record TakenState (w u : WalkerState) (q : HeadReaderState) (t b : List ℕ) (past : List EventValue) : Type 0 where
   pub state : Zipper
   pub has : HasZipper (in_header w q) (b ++ t) (past ++ []) (with_tail state (InHeader q.octets))
@@ -103,9 +103,9 @@ handed_framing : (w u : WalkerState) (r : HeadReaderState) → HandsOver w u r �
 handed_framing w u r (inl h) = ap (λ (m : WalkerState). m.framing) h.1
 handed_framing w u r (inr h) = ap (λ (m : WalkerState). m.framing) h.1
 
-handed_wrappers : (w u : WalkerState) (r : HeadReaderState) → HandsOver w u r → u.wrappers ≡ w.wrappers
-handed_wrappers w u r (inl h) = ap (λ (m : WalkerState). m.wrappers) h.1
-handed_wrappers w u r (inr h) = ap (λ (m : WalkerState). m.wrappers) h.1
+handed_wrappers : (w u : WalkerState) (r : HeadReaderState) → HandsOver w u r → u.wrapper_count ≡ w.wrapper_count
+handed_wrappers w u r (inl h) = ap (λ (m : WalkerState). m.wrapper_count) h.1
+handed_wrappers w u r (inr h) = ap (λ (m : WalkerState). m.wrapper_count) h.1
 
 -- the piece is used up inside a header
 pub yields_unfinished : (w u : WalkerState) (r q : HeadReaderState) (before : List ℕ) (at : ℕ) → HandsOver w u r → HasTaken r q before [] → (q.octets ≡ [] → ⊥) → q.offset + length q.octets ≡ at
@@ -178,7 +178,7 @@ within_next (Some m) n h some = elim (cases_eq m n) [
   | inr less ↦ omega arith
 ]
 
--- contents that fit behind it
+-- contents that fit after it
 within_announced : (size : Size) (b : Option ℕ) (n : ℕ) → ContentsFit size (left_to b n) → Within b (n + 1 + announced_length size)
 within_announced (Definite k) None n h = tt
 within_announced (Definite k) (Some m) n h = omega (arith, h)
@@ -217,12 +217,12 @@ whole_yields w u new r q before after rest x h e over k f c yields = record {
 abbrev pub CanGive : List ℕ → List ℕ → Option ℕ → Type 0
 CanGive octets piece room = (octets ≢ []) ⊎ ((x : ℕ) × (rest : List ℕ) × (piece ≡ x ∷ rest) × (x ≢ 0) × (room ≢ Some 0))
 
--- where it has none, there is room
+-- if it has none, there is room
 pub give_room : (octets piece : List ℕ) (room : Option ℕ) → CanGive octets piece room → octets ≡ [] → room ≢ Some 0
 give_room octets piece room (inl some) none = absurd (some none)
 give_room octets piece room (inr k) none = k.4
 
--- where the piece is used up, it has octets
+-- if the piece is used up, it has octets
 pub give_some : (octets piece : List ℕ) (room : Option ℕ) → CanGive octets piece room → piece ≡ [] → octets ≢ []
 give_some octets piece room (inl some) used = some
 give_some octets piece room (inr k) used = let z : [] ≡ k.0 ∷ k.1 = sym used ∙ k.2 in absurd (cc)

@@ -32,12 +32,12 @@ pub found_in-append : (inside : List ℕ) (k : ℕ) (xs ys : List ℕ) → wrapp
 found_in-append inside k [] ys = refl
 found_in-append inside k (x ∷ xs) ys = found_in-append inside (next_wrapper inside k x) xs ys
 
-found_both : (u v w : WalkerState) (d e : List EventValue) → v.framing ≡ u.framing → v.wrappers ≡ wrappers_after u.framing.inside u.wrappers (wrapper_offsets d) → w.wrappers ≡ wrappers_after v.framing.inside v.wrappers (wrapper_offsets e)
-    → w.wrappers ≡ wrappers_after u.framing.inside u.wrappers (wrapper_offsets (d ++ e))
+found_both : (u v w : WalkerState) (d e : List EventValue) → v.framing ≡ u.framing → v.wrapper_count ≡ wrappers_after u.framing.inside u.wrapper_count (wrapper_offsets d) → w.wrapper_count ≡ wrappers_after v.framing.inside v.wrapper_count (wrapper_offsets e)
+    → w.wrapper_count ≡ wrappers_after u.framing.inside u.wrapper_count (wrapper_offsets (d ++ e))
 found_both u v w d e same p q =
     q
     ∙ ap₂ (λ (f : Framing) (k : ℕ). wrappers_after f.inside k (wrapper_offsets e)) same p
-    ∙ sym (ap (wrappers_after u.framing.inside u.wrappers) (enters-append d e) ∙ found_in-append u.framing.inside u.wrappers (wrapper_offsets d) (wrapper_offsets e))
+    ∙ sym (ap (wrappers_after u.framing.inside u.wrapper_count) (enters-append d e) ∙ found_in-append u.framing.inside u.wrapper_count (wrapper_offsets d) (wrapper_offsets e))
 
 pub continues_both : (u v w : WalkerState) (s t : List ℕ) (d e : List EventValue) → Continues u v s d → Continues v w t e → Continues u w (s ++ t) (d ++ e)
 continues_both u v w s t d e f g = record {
@@ -52,7 +52,7 @@ continues_both u v w s t d e f g = record {
       );
 }
 
--- the events of a state, where the open end goes on
+-- the events of a state, if the open end goes on
 pub past_behind : (past : List EventValue) (ls : List Layer) (here : Forest) (old new more : List EventValue) → AreEqualJoined past (events_layers ls ++ (events here ++ old))
     → single_octets new ≡ single_octets (old ++ more) → AreEqualJoined (past ++ more) (events_layers ls ++ (events here ++ new))
 past_behind past ls here old new more h e =
@@ -65,7 +65,7 @@ pub spelled_behind : (ls : List Layer) (here : Forest) (old new t b : List ℕ) 
 spelled_behind ls here old new t b e f =
     ap (λ (s : List ℕ). spell_layers ls ++ (spell here ++ s)) e ∙ (sym (append_assoc-3 (spell_layers ls) (spell here) old t) ∙ ap (λ (s : List ℕ). s ++ t) f)
 
--- the same, where the open end is whole now
+-- the same, if the open end is whole now
 pub past_whole : (past : List EventValue) (ls : List Layer) (here new : Forest) (old more : List EventValue) → is_whole here ≡ true → AreEqualJoined past (events_layers ls ++ (events here ++ old))
     → single_octets (events new) ≡ single_octets (old ++ more) → AreEqualJoined (past ++ more) (events_layers ls ++ (events (behind here new) ++ []))
 past_whole past ls here new old more whole h e =

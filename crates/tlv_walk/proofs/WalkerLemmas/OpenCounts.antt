@@ -1,4 +1,4 @@
--- A walker has a frame for each open element that holds others, where no event is waiting.
+-- A walker has a frame for each open element that holds others, if no event is waiting.
 use Rattle.std.proofs.Common.{◌≡◌, ℕ, ◌+◌, true, List, [], ◌∷◌, suc, length, refl, sym, ap, ◌∙◌, arith}
 use Rattle.std.proofs.lemmas.Bool.{true≢false}
 use Rattle.tlv_walk.specs.Stack.{Frame}
@@ -13,7 +13,7 @@ use Rattle.tlv_walk.specs.Private.Zipper.{AreLayers, BeforeUnused, Between, HasZ
 use Rattle.tlv_walk.proofs.WalkerLemmas.ZipperEndings.{forest_of, state-within}
 use Rattle.tlv_walk.proofs.WalkerLemmas.Zipper.{behind, reading_of, within}
 
--- behind whole elements as many are open as of the others
+-- after whole elements as many are open as of the others
 pub count-behind : (f g : Forest) → is_whole f ≡ true → open_count (behind f g) ≡ open_count g
 count-behind Stop g e = refl
 count-behind (Fill rest) g e = count-behind rest g e

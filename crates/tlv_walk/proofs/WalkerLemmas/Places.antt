@@ -27,7 +27,7 @@ pub place-depth : (w : Framing) (ls : List Layer) → (place_in w ls).depth ≡ 
 place-depth w [] = refl
 place-depth w (l ∷ ls) = omega (arith, place-depth w ls)
 
--- where nothing is open behind the whole elements, the walker stands there
+-- if nothing is open after the whole elements, the walker stands there
 pub place-offset : (w : WalkerState) (b : List ℕ) (past : List EventValue) (s : Zipper) → HasZipper w b past s → w.offset ≡ (place_of w.framing s).at + length (spell_tail s.tail)
 place-offset w b past s has =
     omega (arith, has.offset, ap length has.spelled, place-at w.framing s.layers, length-append (spell_layers s.layers) (spell s.here ++ spell_tail s.tail), length-append (spell s.here) (spell_tail s.tail))

@@ -21,12 +21,12 @@ use Rattle.tlv_walk.proofs.WalkerLemmas.Places.{place-bound, place-offset}
 use Rattle.tlv_walk.proofs.WalkerLemmas.ZipperEndings.{forest_of, state-fault}
 use Rattle.tlv_walk.proofs.WalkerLemmas.Zipper.{place-indefinite}
 
--- where no octet is left to the bound, an octet more passes it
+-- if no octet is left to the bound, an octet more passes it
 pub left_none : (b : Option ℕ) (n m : ℕ) → left_to b n ≡ Some 0 → n < m → Within b m → ⊥
 left_none None n m e h f = absurd (cc)
 left_none (Some k) n m e h f = let z : k - n ≡ 0 = cc in omega arith
 
--- where room is left an octet more does not
+-- if room is left an octet more does not
 pub left_some : (b : Option ℕ) (n m : ℕ) → (left_to b n ≡ Some 0 → ⊥) → m ≤ n + 1 → Within b m
 left_some None n m f h = tt
 left_some (Some k) n m f h = let apart : k - n ≡ 0 → ⊥ = λ z. f (ap Some z) in omega arith

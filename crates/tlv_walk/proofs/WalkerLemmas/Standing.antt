@@ -1,5 +1,5 @@
 -- What a step yields, of what a walker stands for.
-use Rattle.std.proofs.Common.{◌≡◌, ◌≢◌, ◌⊎◌, inl, inr, ℕ, ◌+◌, List, [], ◌∷◌, ◌++◌, length, refl, sym, ap, ◌∙◌, subst, arith, append-nil, length-append}
+use Rattle.std.proofs.Common.{◌≡◌, ◌⊎◌, inl, inr, ℕ, ◌+◌, List, [], ◌∷◌, ◌++◌, length, refl, sym, ap, ◌∙◌, subst, arith, append-nil, length-append}
 use Rattle.tlv_head.specs.declared.fault.Fault.{Fault}
 use Rattle.tlv_walk.specs.Stack.{Frame}
 use Rattle.tlv_walk.specs.declared.event.Event.{Event}
@@ -8,7 +8,7 @@ use Rattle.tlv_walk.specs.declared.event.Step.TheVariants as step
 use Rattle.tlv_walk.specs.declared.framing.Framing.{Framing}
 use Rattle.tlv_walk.specs.Events.{AreEqualJoined, EventValue, events}
 use Rattle.tlv_walk.specs.Inside.{CanName}
-use Rattle.tlv_walk.specs.WalkerState.{HasOctets, WalkerState}
+use Rattle.tlv_walk.specs.WalkerState.{HasNotFailed, HasOctets, WalkerState}
 use Rattle.tlv_walk.specs.Private.WalkerState.{Refuses, Steps, TakesAll, YieldsOne, wrappers_after}
 use Rattle.tlv_walk.specs.Phase.{Phase, Between, InHeader, InContents, BeforeUnused, InEnd, Failed}
 use Rattle.tlv_walk.specs.Wrappers.{wrapper_offsets}
@@ -18,7 +18,7 @@ use Rattle.tlv_walk.specs.declared.ending.Ending.TheVariants as ending
 use Rattle.tlv_walk.specs.Ending.{IsEnding}
 use Rattle.tlv_walk.specs.Reading.{CannotBecomeSound, IsReading}
 use Rattle.tlv_walk.specs.Place.{IsOpen, top_place}
-use Rattle.tlv_walk.specs.Stands.{IsIdle, Stands, waiting_events}
+use Rattle.tlv_walk.specs.Stands.{Stands, waiting_events}
 use Rattle.tlv_walk.specs.StepsTo.{RefusesAgain, RefusesNext, StepsTo, UsesUpPiece, YieldsNext}
 use Rattle.tlv_walk.specs.HasRead.{IsRefusedAfter, StandsRefused, event_value}
 use Rattle.tlv_walk.specs.Private.FollowsPiece.{WalksOver}
@@ -29,15 +29,14 @@ use Rattle.tlv_walk.proofs.GrammarLemmas.Finals.{refused-final}
 use Rattle.tlv_walk.proofs.GrammarLemmas.Unique.{never-sound}
 use Rattle.tlv_walk.proofs.WalkerLemmas.OpenCounts.{state-depth}
 use Rattle.tlv_walk.proofs.EventLemmas.Unused.{past_unused}
-use Rattle.tlv_walk.proofs.WalkerLemmas.ZipperEndings.{ready-waits}
-use Rattle.tlv_walk.proofs.WalkerLemmas.Waiting.{quiet}
+use Rattle.tlv_walk.proofs.WalkerLemmas.Waiting.{awaits-can_take, quiet}
 use Rattle.tlv_walk.proofs.GrammarLemmas.PushSteps.{Spells}
 use Rattle.tlv_walk.proofs.WalkerLemmas.ZipperReading.{stands, state-events, state-spells}
 use Rattle.tlv_walk.proofs.WalkerLemmas.Zipper.{reading_of}
 
 -- the wrappers found are those of the events yielded
-found_on : (old new : WalkerState) (past more : List EventValue) → new.framing ≡ old.framing → old.wrappers ≡ wrappers_after old.framing.inside 0 (wrapper_offsets past) → new.wrappers ≡ wrappers_after old.framing.inside old.wrappers (wrapper_offsets more)
-    → new.wrappers ≡ wrappers_after new.framing.inside 0 (wrapper_offsets (past ++ more))
+found_on : (old new : WalkerState) (past more : List EventValue) → new.framing ≡ old.framing → old.wrapper_count ≡ wrappers_after old.framing.inside 0 (wrapper_offsets past) → new.wrapper_count ≡ wrappers_after old.framing.inside old.wrapper_count (wrapper_offsets more)
+    → new.wrapper_count ≡ wrappers_after new.framing.inside 0 (wrapper_offsets (past ++ more))
 found_on old new past more same p q =
     q
     ∙ ap (λ (k : ℕ). wrappers_after old.framing.inside k (wrapper_offsets more)) p
@@ -53,7 +52,7 @@ stands_all old new before after es t = let k = t.continues in record {
       stands new (b ++ t.taken) (past ++ es) u.0 u.1 (subst (λ (f : Framing). CanName f.inside) (sym k.framing) st.private_state.named) (found_on old new past es k.framing st.private_state.found k.found);
 }
 
--- the reading behind which the octet is refused
+-- the reading after which the octet is refused
 abbrev refused_reading : (old : WalkerState) (g : Framing) (before after : List ℕ) (f : Fault) → g ≡ old.framing → (r : RefusesOctet old before after f) → (b : List ℕ) (past : List EventValue) → Stands old b past
     → IsRefusedAfter g (b ++ r.taken) r.octet past f
 refused_reading old g before after f same r b past st =
@@ -74,7 +73,7 @@ refused_reading old g before after f same r b past st =
           (never-sound old.framing ((b ++ r.taken) ++ r.octet ∷ []) (ending.Fault f) (u.ends []) (refused-final old.framing (b ++ r.taken) r.octet [] f there (u.ends [])));
     }
 
--- the walker behind the octet that it refused
+-- the walker after the octet that it refused
 refused_walker : (old new : WalkerState) (before after : List ℕ) (f : Fault) → Refuses old new before after f → (r : RefusesOctet old before after f) → (b : List ℕ) (past : List EventValue) → Stands old b past
     → StandsRefused new (b ++ r.taken) r.octet past f
 refused_walker old new before after f k r b past st =
@@ -82,7 +81,7 @@ refused_walker old new before after f k r b past st =
     let framing : new.framing ≡ old.framing = k.framing in
     let named : CanName new.framing.inside = subst (λ (g : Framing). CanName g.inside) (sym framing) st.private_state.named in
     let there : IsRefusedAfter new.framing (b ++ r.taken) r.octet past f = refused_reading old new.framing before after f framing r b past st in
-    let found : new.wrappers ≡ wrappers_after new.framing.inside 0 (wrapper_offsets past) = k.wrappers ∙ st.private_state.found ∙ ap (λ (g : Framing). wrappers_after g.inside 0 (wrapper_offsets past)) (sym framing) in
+    let found : new.wrapper_count ≡ wrappers_after new.framing.inside 0 (wrapper_offsets past) = k.wrapper_count ∙ st.private_state.found ∙ ap (λ (g : Framing). wrappers_after g.inside 0 (wrapper_offsets past)) (sym framing) in
     record {
       refused = there;
       phase = k.phase;
@@ -95,7 +94,7 @@ refused_walker old new before after f k r b past st =
 -- ---- what a step comes to
 
 -- an event
-reports : (old new : WalkerState) (before after : List ℕ) (e : Event) → ((g : Fault) → old.phase ≢ Failed g) → YieldsOne old new before after → HasOctets e → YieldsEvent old new before after (event_value e) → YieldsNext old new before after e
+reports : (old new : WalkerState) (before after : List ℕ) (e : Event) → HasNotFailed old → YieldsOne old new before after → HasOctets e → YieldsEvent old new before after (event_value e) → YieldsNext old new before after e
 reports old new before after e n k has t =
     let walked = stands_all old new before after (event_value e ∷ []) t in record {
       not_failed = n;
@@ -111,24 +110,23 @@ reports old new before after e n k has t =
     }
 
 -- more is needed
-uses_up : (old new : WalkerState) (before after : List ℕ) → ((g : Fault) → old.phase ≢ Failed g) → TakesAll old new before after → Continues old new before [] → UsesUpPiece old new before after
+uses_up : (old new : WalkerState) (before after : List ℕ) → HasNotFailed old → TakesAll old new before after → Continues old new before [] → UsesUpPiece old new before after
 uses_up old new before after n k t =
-    let idle : IsIdle new = quiet new (ready-waits new k.ready) in record {
+    record {
       not_failed = n;
       none_left = k.none_left;
       stands = λ b past st.
           let u = t.goes b past st.private_state.state st.private_state.has_state in
           subst (λ (es : List EventValue). Stands new (b ++ before) es) (append-nil past)
           (stands new (b ++ before) (past ++ []) u.0 u.1 (subst (λ (f : Framing). CanName f.inside) (sym t.framing) st.private_state.named) (found_on old new past [] t.framing st.private_state.found t.found));
-      idle = idle;
-      ready = k.ready;
+      ready = awaits-can_take new k.ready;
       framing = t.framing;
       offset = k.taken;
       events = k.events;
     }
 
 -- an octet is refused
-refuses_now : (old new : WalkerState) (before after : List ℕ) (f : Fault) → ((g : Fault) → old.phase ≢ Failed g) → Refuses old new before after f → RefusesOctet old before after f → RefusesNext old new before after f
+refuses_now : (old new : WalkerState) (before after : List ℕ) (f : Fault) → HasNotFailed old → Refuses old new before after f → RefusesOctet old before after f → RefusesNext old new before after f
 refuses_now old new before after f n k r = record {
   not_failed = n;
   taken = r.taken;
@@ -142,11 +140,11 @@ refuses_now old new before after f n k r = record {
   offset = omega (arith, k.taken, ap length r.before_is, ap length r.after_is, length-append r.taken (r.octet ∷ r.rest));
   events = k.events;
   stack = k.stack;
-  wrappers = k.wrappers;
+  wrapper_count = k.wrapper_count;
 }
 
 -- an octet was refused before, or none was
-failed_before : (p : Phase) → ((f : Fault) × (p ≡ Failed f)) ⊎ ((f : Fault) → p ≢ Failed f)
+failed_before : (p : Phase) → ((f : Fault) × (p ≡ Failed f)) ⊎ ((f : Fault) → p ≡ Failed f → ⊥)
 failed_before Between = inr (λ f e. cc)
 failed_before (InHeader r) = inr (λ f e. cc)
 failed_before (InContents left) = inr (λ f e. cc)
@@ -154,18 +152,18 @@ failed_before BeforeUnused = inr (λ f e. cc)
 failed_before InEnd = inr (λ f e. cc)
 failed_before (Failed f) = inl (f, refl)
 
-fault_now : (old new : WalkerState) (before after : List ℕ) (f : Fault) → ((g : Fault) → old.phase ≢ Failed g) → Refuses old new before after f → YieldsFault old new before after f
+fault_now : (old new : WalkerState) (before after : List ℕ) (f : Fault) → HasNotFailed old → Refuses old new before after f → YieldsFault old new before after f
     → StepsTo old new before after (step.Fault f)
 fault_now old new before after f n k (inl r) = inl (refuses_now old new before after f n k r)
 fault_now old new before after f n k (inr r) = absurd (n f r.failed)
 
-steps_now : (old new : WalkerState) (before after : List ℕ) (s : Step) → ((g : Fault) → old.phase ≢ Failed g) → Steps old new before after s → YieldsStep old new before after s → StepsTo old new before after s
+steps_now : (old new : WalkerState) (before after : List ℕ) (s : Step) → HasNotFailed old → Steps old new before after s → YieldsStep old new before after s → StepsTo old new before after s
 steps_now old new before after (step.Event e) n k t = reports old new before after e n k.0 k.1 t
 steps_now old new before after step.NeedMore n k t = uses_up old new before after n k t
 steps_now old new before after (step.Fault f) n k t = fault_now old new before after f n k t
 
 steps_by : (old new : WalkerState) (before after : List ℕ) (s : Step) → Steps old new before after s → YieldsStep old new before after s
-    → ((f : Fault) → old.phase ≡ Failed f → (s ≡ step.Fault f) × RefusesAgain old new before after f) → ((f : Fault) × (old.phase ≡ Failed f)) ⊎ ((f : Fault) → old.phase ≢ Failed f)
+    → ((f : Fault) → old.phase ≡ Failed f → (s ≡ step.Fault f) × RefusesAgain old new before after f) → ((f : Fault) × (old.phase ≡ Failed f)) ⊎ HasNotFailed old
     → StepsTo old new before after s
 steps_by old new before after s k t again (inl x) =
     let a = again x.0 x.1 in subst (λ (r : Step). StepsTo old new before after r) (sym a.0) (inr a.1)

@@ -1,15 +1,15 @@
 -- Whether an event waits, by the code's tests and by the list of those that do.
 use Rattle.std.proofs.Common.{◌≡◌, ℕ, Bool, true, false, eqb, if◌then◌else◌, List, [], ◌∷◌, Option, Some, None, refl, ap, ◌∙◌, ne_eqb, eq-eqb, IsTrue, ◌↔◌}
+use Rattle.tlv_head.specs.declared.fault.Fault.{Fault}
 use Rattle.tlv_walk.specs.Phase.{Phase}
 use Rattle.tlv_walk.specs.Phase as phase
 use Rattle.tlv_walk.specs.Events.{End, EventValue}
-use Rattle.tlv_walk.specs.WalkerState.{CanTake, WalkerState}
-use Rattle.tlv_walk.specs.Private.WalkerState.{EventWaits, EventWaitsIn}
+use Rattle.tlv_walk.specs.WalkerState.{WalkerState}
+use Rattle.tlv_walk.specs.Private.WalkerState.{AwaitsOctet, AwaitsOctetIn, EventWaits, EventWaitsIn}
 use Rattle.tlv_walk.specs.Stack.{Frame, IsFilled}
-use Rattle.tlv_walk.specs.Stands.{IsIdle, ending_event, ending_events, is_end, waiting_events, waiting_events_in}
-use Rattle.tlv_walk.proofs.WalkerLemmas.ZipperEndings.{ready-waits}
+use Rattle.tlv_walk.specs.Stands.{CanTake, IsIdle, ending_event, ending_events, is_end, waiting_events, waiting_events_in}
 
--- where nothing waits no events do
+-- if nothing waits no events do
 no_endings : (at : ℕ) (fs : List Frame) → (IsFilled fs at → ⊥) → ending_events at fs ≡ []
 no_endings at [] n = refl
 no_endings at (f ∷ fs) n = ap (λ (k : Bool). if k then ending_event f ∷ ending_events at fs else []) (unfilled f.end n)
@@ -29,7 +29,7 @@ quiet_in (phase.Failed fault) stack at n = refl
 pub quiet : (w : WalkerState) → (EventWaits w → ⊥) → waiting_events w ≡ []
 quiet w n = quiet_in w.phase w.stack w.offset n
 
--- where one waits, there is one in the list
+-- if one waits, there is one in the list
 no_more : (e : EventValue) (es : List EventValue) (k : Bool) → k ≡ true → (if k then e ∷ es else []) ≡ [] → ⊥
 no_more e es true t n = cc
 no_more e es false t n = absurd (cc)
@@ -46,11 +46,40 @@ loud_in (phase.Failed fault) stack at i n = i
 pub idle : (w : WalkerState) → IsIdle w → EventWaits w → ⊥
 idle w n i = loud_in w.phase w.stack w.offset i n
 
--- what `waiting` answers
+-- what `waiting` returns
 pub waits : (w : WalkerState) (k : Bool) → IsTrue k ↔ EventWaits w → (k ≡ false) ↔ IsIdle w
 waits w true h = (λ e. absurd (cc (e)), λ n. absurd (idle w n (h.0 refl)))
 waits w false h = (λ e. quiet w (λ i. cc (h.1 i)), λ n. refl)
 
--- a walker that is ready has none waiting
-pub ready-quiet : (w : WalkerState) → CanTake w → IsIdle w
-ready-quiet w r = quiet w (ready-waits w r)
+-- ---- whether an octet can be taken
+
+awaits_none : (f : Phase) (stack : List Frame) (at : ℕ) → AwaitsOctetIn f stack at → EventWaitsIn f stack at → ⊥
+awaits_none phase.Between stack at r i = r i
+awaits_none (phase.InContents left) stack at r i = r i
+awaits_none (phase.InHeader p) stack at r i = i
+awaits_none phase.BeforeUnused stack at r i = i
+awaits_none phase.InEnd stack at r i = i
+awaits_none (phase.Failed f) stack at r i = i
+
+awaits_unfailed : (p : Phase) (stack : List Frame) (at : ℕ) → AwaitsOctetIn p stack at → (f : Fault) → p ≡ phase.Failed f → ⊥
+awaits_unfailed phase.Between stack at r f e = cc
+awaits_unfailed (phase.InContents left) stack at r f e = cc
+awaits_unfailed (phase.InHeader p) stack at r f e = cc
+awaits_unfailed phase.BeforeUnused stack at r f e = cc
+awaits_unfailed phase.InEnd stack at r f e = cc
+awaits_unfailed (phase.Failed g) stack at r f e = r
+
+takes_in : (p : Phase) (stack : List Frame) (at : ℕ) → waiting_events_in p stack at ≡ [] → ((f : Fault) → p ≡ phase.Failed f → ⊥) → AwaitsOctetIn p stack at
+takes_in phase.Between stack at n u = λ i. loud_in phase.Between stack at i n
+takes_in (phase.InContents left) stack at n u = λ i. loud_in (phase.InContents left) stack at i n
+takes_in (phase.InHeader p) stack at n u = tt
+takes_in phase.BeforeUnused stack at n u = tt
+takes_in phase.InEnd stack at n u = tt
+takes_in (phase.Failed f) stack at n u = u f refl
+
+-- what the phase says, and what it means
+pub awaits-can_take : (w : WalkerState) → AwaitsOctet w → CanTake w
+awaits-can_take w r = (quiet w (awaits_none w.phase w.stack w.offset r), awaits_unfailed w.phase w.stack w.offset r)
+
+pub can_take-awaits : (w : WalkerState) → CanTake w → AwaitsOctet w
+can_take-awaits w k = takes_in w.phase w.stack w.offset k.0 k.1

@@ -55,7 +55,7 @@ reading_of s = reading_in s.layers s.here s.tail
 
 -- ---- places
 
--- a place behind one that is behind another
+-- a place after one that is after another
 after-after : (p : Place) (m n k : ℕ) → m + n ≡ k → place_after (place_after p m) n ≡ place_after p k
 after-after p m n k e = let same : (p.at + m) + n ≡ p.at + k = omega arith in ap (λ (i : ℕ). record p { at = i }) same
 
@@ -84,7 +84,7 @@ spell-behind (Awaiting h) g e = absurd (true≢false (sym e))
 spell-behind (Begun octets) g e = absurd (true≢false (sym e))
 spell-behind Zero g e = absurd (true≢false (sym e))
 
--- nothing is open where nothing of the others is
+-- nothing is open if nothing of the others is
 pub whole-behind : (f g : Forest) → is_whole f ≡ true → is_whole (behind f g) ≡ is_whole g
 whole-behind Stop g e = refl
 whole-behind (Fill rest) g e = whole-behind rest g e
@@ -96,7 +96,7 @@ whole-behind (Awaiting h) g e = absurd (true≢false (sym e))
 whole-behind (Begun octets) g e = absurd (true≢false (sym e))
 whole-behind Zero g e = absurd (true≢false (sym e))
 
--- an octet of an element is there where one of theirs or of the others' is
+-- an octet of an element is there if one of theirs or of the others' is
 pub element-behind : (f g : Forest) → has_element (behind f g) ≡ (has_element f || has_element g)
 element-behind Stop g = refl
 element-behind (Fill rest) g = element-behind rest g
@@ -108,7 +108,7 @@ element-behind (Awaiting h) g = refl
 element-behind (Begun octets) g = refl
 element-behind Zero g = refl
 
--- they are open where the others are behind them
+-- they are open if the others are, after them
 pub open-behind : (p : Place) (f g : Forest) → AreWhole p f → IsOpen (place_after p (length (spell f))) g → IsOpen p (behind f g)
 open-behind p Stop g a w = subst (λ (q : Place). IsOpen q g) (after-none p) w
 open-behind p (Fill rest) g a w =
@@ -160,13 +160,13 @@ behind-none (Awaiting h) = refl
 behind-none (Begun octets) = refl
 behind-none Zero = refl
 
--- behind whole elements the open end is between them and the next
+-- after whole elements the open end is between them and the next
 pub tip-whole : (p : Place) (f : Forest) → is_whole f ≡ true → tip p f ≡ (place_after p (length (spell f)), Stop)
 tip-whole p f e = ap (λ (g : Forest). tip p g) (sym (behind-none f)) ∙ tip-behind p f Stop e
 
 -- ---- where the elements in the innermost open element begin
 
--- behind the octets of the layers
+-- after the octets of the layers
 pub place-at : (w : Framing) (ls : List Layer) → (place_in w ls).at ≡ length (spell_layers ls)
 place-at w [] = refl
 place-at w (l ∷ ls) =
@@ -187,12 +187,12 @@ indefinite-endless : (s : Size) (start : ℕ) → (is_indefinite s ≡ true) ↔
 indefinite-endless (Definite n) start = (λ e. absurd (cc), λ e. absurd (cc))
 indefinite-endless Indefinite start = (λ e. refl, λ e. refl)
 
--- in an element of indefinite length where the innermost frame's is
+-- in an element of indefinite length if the innermost frame's is
 pub place-indefinite : (w : Framing) (ls : List Layer) → ((place_in w ls).indefinite ≡ true) ↔ IsInIndefinite (frames_of w ls)
 place-indefinite w [] = (λ e. absurd (true≢false (sym e)), λ e. absurd e)
 place-indefinite w (l ∷ ls) = indefinite-endless l.head.size _
 
--- with padding where there is some at the top, and there alone
+-- with padding if there is some at the top, and there alone
 pub place-padding-top : (w : Framing) → (place_in w []).padding ≡ w.padding
 place-padding-top w = refl
 
@@ -211,7 +211,7 @@ layers-fit w (l ∷ ls) a = fits-inside (place_after (place_in w ls) (length (sp
 
 -- ---- elements in the innermost open one
 
--- their octets, behind those of the layers
+-- their octets, after those of the layers
 pub spell-within : (w : Framing) (ls : List Layer) (f : Forest) → AreLayers w ls → spell (within ls f) ≡ spell_layers ls ++ spell f
 spell-within w [] f a = refl
 spell-within w (l ∷ ls) f a =
@@ -219,12 +219,12 @@ spell-within w (l ∷ ls) f a =
     ∙ ap (λ (t : List ℕ). spell_layers ls ++ t) (spell-behind l.before (Entered l.head f) a.1.whole ∙ sym (append_assoc (spell l.before) (opening l.head) (spell f)))
     ∙ sym (append_assoc (spell_layers ls) (spell l.before ++ opening l.head) (spell f))
 
--- where they are whole, contents octets of the innermost open element are lacking
+-- if they are whole, contents octets of the innermost open element are lacking
 abbrev pub HasRoomIn : List Layer → Forest → Type 0
 HasRoomIn [] f = Unit {0}
 HasRoomIn (l ∷ ls) f = is_whole f ≡ true → LacksOctets l.head.size (contents_length l.head f)
 
--- where something is open, none need be lacking
+-- if something is open, none need be lacking
 pub room-if_open : (ls : List Layer) (f : Forest) → is_whole f ≡ false → HasRoomIn ls f
 room-if_open [] f e = tt
 room-if_open (l ∷ ls) f e = λ whole. absurd (true≢false (sym whole ∙ e))

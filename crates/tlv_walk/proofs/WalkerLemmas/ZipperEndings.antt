@@ -1,4 +1,4 @@
--- The end of the input, or an octet that is refused, behind what a walker has taken, where no event is waiting.
+-- The end of the input, or an octet that is refused, after what a walker has taken, if no event is waiting.
 use Rattle.std.proofs.Common.{◌≡◌, ℕ, true, false, List, [], ◌∷◌, ◌++◌, ◌+◌, length, refl, sym, ap, ◌∙◌, subst, arith}
 use Rattle.tlv_head.specs.declared.fault.FaultCode.{FaultCode}
 use Rattle.tlv_head.specs.declared.fault.FaultCode.TheVariants.{Empty, Short}
@@ -10,7 +10,7 @@ use Rattle.tlv_walk.specs.Phase as phase
 use Rattle.tlv_walk.specs.Ending.{IsEnding, IsFault, done, empty, fault, short, tip}
 use Rattle.tlv_walk.specs.Events.{EventValue}
 use Rattle.tlv_walk.specs.Forest.{Forest, Stop, Partial, Awaiting, Begun, Zero, has_element, is_whole, spell}
-use Rattle.tlv_walk.specs.WalkerState.{CanTake, CanTakeIn, WalkerState}
+use Rattle.tlv_walk.specs.WalkerState.{WalkerState}
 use Rattle.tlv_walk.specs.Private.WalkerState.{EventWaits, EventWaitsIn}
 use Rattle.tlv_walk.specs.Place.{Place, top_place}
 use Rattle.tlv_walk.specs.Private.Zipper.{BeforeUnused, Between, HasZipper, InContents, InEnd, InHeader, IsPhaseOf, Layer, Tail, Zipper, begins_element, frames_of, place_in, place_of, spell_tail, stack_of}
@@ -22,7 +22,7 @@ use Rattle.tlv_walk.proofs.GrammarLemmas.Settled.{end_in, settled-within}
 use Rattle.tlv_walk.proofs.WalkerLemmas.ZipperReading.{contents-less, place_behind, state-offset, state-reading, state-spells}
 use Rattle.tlv_walk.proofs.WalkerLemmas.Zipper.{behind, behind-none, reading_in, reading_of, tip-behind, tip-within, whole-behind, whole-within, within}
 
--- what is open behind the whole elements, as a forest: of a primitive, one that lacks contents octets
+-- what is open after the whole elements, as a forest: of a primitive, one that lacks contents octets
 abbrev pub forest_of : Tail → Forest
 forest_of Between = Stop
 forest_of (InContents h c) = Partial h c
@@ -34,7 +34,7 @@ forest_of InEnd = Zero
 filled-at : (w : Framing) (ls : List Layer) (here : Forest) (at : ℕ) → at ≡ end_in w ls here + 0 → (EventWaitsIn phase.Between (frames_of w ls) at → ⊥) → EventWaitsIn phase.Between (frames_of w ls) (end_in w ls here) → ⊥
 filled-at w ls here at e n f = let there : end_in w ls here ≡ at = omega arith in n (subst (λ (k : ℕ). EventWaitsIn phase.Between (frames_of w ls) k) there f)
 
--- where nothing is waiting, no element has ended
+-- if nothing is waiting, no element has ended
 reading-within : (w : Framing) (ls : List Layer) (here : Forest) (f : Phase) (t : Tail) (at : ℕ) → IsPhaseOf f t (place_behind w ls here)
     → at ≡ (place_behind w ls here).at + length (spell_tail t) → (EventWaitsIn f (stack_of w ls (place_behind w ls here) t) at → ⊥)
     → reading_in ls here t ≡ within ls (behind here (forest_of t))
@@ -52,20 +52,9 @@ state-within w b past s h n =
     reading-within w.framing s.layers s.here w.phase s.tail w.offset h.phase (state-offset w b past s h)
     (λ i. n (subst (λ (stack : List Frame). EventWaitsIn w.phase stack w.offset) (sym h.stack) i))
 
--- a walker that is ready has no event waiting
-pub ready-waits : (w : WalkerState) → CanTake w → EventWaits w → ⊥
-ready-waits w = ready-waits-in w.phase w.stack w.offset where
-  ready-waits-in : (f : Phase) (stack : List Frame) (at : ℕ) → CanTakeIn f stack at → EventWaitsIn f stack at → ⊥
-  ready-waits-in phase.Between stack at r i = r i
-  ready-waits-in (phase.InContents left) stack at r i = r i
-  ready-waits-in (phase.InHeader p) stack at r i = i
-  ready-waits-in phase.BeforeUnused stack at r i = i
-  ready-waits-in phase.InEnd stack at r i = i
-  ready-waits-in (phase.Failed f) stack at r i = i
-
 -- ---- the open end
 
--- what is open behind the whole elements is the open end
+-- what is open after the whole elements is the open end
 tip-tail : (p : Place) (t : Tail) → tip p (forest_of t) ≡ (p, forest_of t)
 tip-tail p Between = refl
 tip-tail p (InContents h c) = refl
@@ -101,7 +90,7 @@ outermost-reading w [] here Between j e = refl
 outermost-reading w (l ∷ ls) here Between j e = absurd (cc)
 outermost-reading w ls here t j e = absurd j
 
--- there an octet of an element came where one is in the reading
+-- there an octet of an element came if one is in the reading
 outermost-element : (w : Framing) (ls : List Layer) (here : Forest) (t : Tail) → IsPhaseOf phase.Between t (place_behind w ls here) → stack_of w ls (place_behind w ls here) t ≡ []
     → begins_element ls here t ≡ has_element here
 outermost-element w [] here Between j e = refl
@@ -126,21 +115,21 @@ state-outermost w b past s h e none =
       spelled = r.spelled;
     }
 
--- there, behind an octet of an element, the input is done
+-- there, after an octet of an element, the input is done
 pub state-done : (w : WalkerState) (b : List ℕ) (past : List EventValue) (s : Zipper) → HasZipper w b past s → w.phase ≡ phase.Between → w.stack ≡ [] → w.has_element ≡ true
     → IsEnding w.framing b Done
 state-done w b past s h e none some =
     let o : IsOutermost w b s = state-outermost w b past s h e none in
     done (reading_of s) (state-reading w b past s h) o.spelled (ap has_element o.reading ∙ o.element ∙ some) (ap is_whole o.reading ∙ h.here.whole)
 
--- and where no octet of an element came, there is none
+-- and if no octet of an element came, there is none
 pub state-empty : (w : WalkerState) (b : List ℕ) (past : List EventValue) (s : Zipper) → HasZipper w b past s → w.phase ≡ phase.Between → w.stack ≡ [] → w.has_element ≡ false
     → IsEnding w.framing b (fault Empty (length b))
 state-empty w b past s h e none no_element =
     let o : IsOutermost w b s = state-outermost w b past s h e none in
     empty (reading_of s) (state-reading w b past s h) o.spelled (ap has_element o.reading ∙ o.element ∙ no_element)
 
--- elsewhere something is open: an element that holds others, or what is behind the whole elements
+-- elsewhere something is open: an element that holds others, or what is after the whole elements
 open-elsewhere : (w : Framing) (ls : List Layer) (here : Forest) (f : Phase) (t : Tail) → IsPhaseOf f t (place_behind w ls here)
     → (f ≡ phase.Between → stack_of w ls (place_behind w ls here) t ≡ [] → ⊥) → ls ≡ [] → is_whole (forest_of t) ≡ false
 open-elsewhere w ls here phase.Between Between j n e = absurd (n refl (ap (frames_of w) e))

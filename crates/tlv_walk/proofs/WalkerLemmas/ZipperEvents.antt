@@ -51,7 +51,7 @@ wrappers-behind Zero g e = absurd (true≢false (sym e))
 
 -- ---- elements in the innermost open one
 
--- their events, behind those of the layers
+-- their events, after those of the layers
 pub events-within : (w : Framing) (ls : List Layer) (f : Forest) → AreLayers w ls → events (within ls f) ≡ events_layers ls ++ events f
 events-within w [] f a = refl
 events-within w (l ∷ ls) f a =
@@ -59,7 +59,7 @@ events-within w (l ∷ ls) f a =
     ∙ ap (λ (t : List EventValue). events_layers ls ++ t) (events-behind l.before (Entered l.head f) a.1.whole ∙ sym (append_assoc (events l.before) (opening_events l.head) (events f)))
     ∙ sym (append_assoc (events_layers ls) (events l.before ++ opening_events l.head) (events f))
 
--- their wrappers, behind those of the layers
+-- their wrappers, after those of the layers
 pub wrappers-within : (w : Framing) (ls : List Layer) (f : Forest) → AreLayers w ls → wrappers (within ls f) ≡ wrappers_layers ls ++ wrappers f
 wrappers-within w [] f a = refl
 wrappers-within w (l ∷ ls) f a =
@@ -85,7 +85,7 @@ regroup-end : (around before start inside ends : List EventValue) (c d : EventVa
     → (around ++ (before ++ (start ++ (inside ++ c ∷ [])))) ++ ends ≡ ((around ++ (before ++ start)) ++ inside) ++ (d ∷ ends)
 regroup-end around before start inside ends c d e = rw e (simp append_assoc)
 
--- their events, behind those of the layers, and then the ends of the elements that are filled
+-- their events, after those of the layers, and then the ends of the elements that are filled
 pub events-settled : (w : Framing) (ls : List Layer) (f : Forest) → AreLayers w ls → AreWhole (place_in w ls) f
     → events (settled ls f) ≡ (events_layers ls ++ events f) ++ ending_events (end_in w ls f) (frames_of w ls)
 events-settled w [] f a i = sym (append-nil (events f))
@@ -103,7 +103,7 @@ events-settled w (l ∷ ls) f a i = elim (cases_Bool (is_filled l.head f)) [
   | inr e ↦ rw (e, end-filled w l ls f i.whole ∙ e) (events-within w (l ∷ ls) f a ∙ sym (append-nil _))
 ]
 
--- their wrappers, behind those of the layers
+-- their wrappers, after those of the layers
 pub wrappers-settled : (w : Framing) (ls : List Layer) (f : Forest) → AreLayers w ls → AreWhole (place_in w ls) f → wrappers (settled ls f) ≡ wrappers_layers ls ++ wrappers f
 wrappers-settled w [] f a i = refl
 wrappers-settled w (l ∷ ls) f a i = elim (cases_Bool (is_filled l.head f)) [

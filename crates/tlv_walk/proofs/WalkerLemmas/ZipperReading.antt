@@ -26,11 +26,11 @@ use Rattle.tlv_walk.proofs.GrammarLemmas.Settled.{end_in, settled-spells}
 use Rattle.tlv_walk.proofs.WalkerLemmas.Zipper.{behind, open-behind, open-within, place-at, reading_in, reading_of, room-if_open, settled, spell-behind, spell-within, whole-behind, within}
 use Rattle.tlv_walk.proofs.WalkerLemmas.ZipperEvents.{events-behind, events-settled, events-within, wrappers-behind, wrappers-settled, wrappers-within}
 
--- behind the whole elements of the innermost open one
+-- after the whole elements of the innermost open one
 abbrev pub place_behind : Framing → List Layer → Forest → Place
 place_behind w ls here = place_after (place_in w ls) (length (spell here))
 
--- the place behind whole elements is where they end
+-- the place after whole elements is where they end
 pub behind-end : (w : Framing) (ls : List Layer) (here g : Forest) → is_whole here ≡ true → end_in w ls (behind here g) ≡ (place_behind w ls here).at + length (spell g)
 behind-end w ls here g e = omega (arith, ap length (spell-behind here g e), length-append (spell here) (spell g))
 
@@ -109,7 +109,7 @@ contents-less p h c left i n =
 
 -- ---- by what is open
 
--- what holds of what is open behind the whole elements, whatever the phase
+-- what holds of what is open after the whole elements, whatever the phase
 abbrev pub IsTailAt : Place → Tail → Type 0
 IsTailAt p Between = Unit {0}
 IsTailAt p (InContents h c) = (left : ℕ) × IsContents p h c left
@@ -156,7 +156,7 @@ reading-wrappers w ls here (BeforeUnused h) a i j = open-wrappers w ls here (Awa
 reading-wrappers w ls here (InHeader octets) a i j = open-wrappers w ls here (Begun octets) a i
 reading-wrappers w ls here InEnd a i j = open-wrappers w ls here Zero a i
 
--- a primitive's end, yielded behind what has been yielded of it
+-- a primitive's end, yielded after what has been yielded of it
 contents-end : (around before ends : List EventValue) (h : HeaderValue) (c : List ℕ)
     → (around ++ (before ++ (Begin h ∷ Bytes c ∷ []))) ++ (End ∷ ends) ≡ (around ++ (before ++ (Begin h ∷ Bytes c ∷ End ∷ []))) ++ ends
 contents-end around before ends h c = simp append_assoc
@@ -212,7 +212,7 @@ pub state-wrappers : (w : WalkerState) (b : List ℕ) (past : List EventValue) (
 state-wrappers w b past s h = reading-wrappers w.framing s.layers s.here s.tail h.layers h.here (phase-tail w.phase s.tail (place_of w.framing s) h.phase)
 
 -- a walker with a state stands for what was yielded and what was taken
-pub stands : (w : WalkerState) (b : List ℕ) (past : List EventValue) (s : Zipper) → HasZipper w b past s → CanName w.framing.inside → w.wrappers ≡ wrappers_after w.framing.inside 0 (wrapper_offsets past) → Stands w b past
+pub stands : (w : WalkerState) (b : List ℕ) (past : List EventValue) (s : Zipper) → HasZipper w b past s → CanName w.framing.inside → w.wrapper_count ≡ wrappers_after w.framing.inside 0 (wrapper_offsets past) → Stands w b past
 stands w b past s h n k =
     record { reading = reading_of s; is_reading = state-reading w b past s h; all_events = state-events w b past s h; private_state = record { state = s; has_state = h; named = n; found = k } }
 

@@ -8,16 +8,15 @@ use Rattle.tlv_io.specs.Out.{Puts, Sends, buffer_of, drain_of}
 use Rattle.tlv_walk.specs.declared.follow.Go.{Go}
 use Rattle.tlv_walk.specs.declared.follow.Go.TheVariants as go
 use Rattle.tlv_walk.specs.declared.framing.Framing.{Framing}
-use Rattle.tlv_walk.specs.declared.one_turn.Stop.{Stop}
-use Rattle.tlv_walk.specs.declared.one_turn.Stop.TheVariants as stop
+use Rattle.tlv_walk.specs.declared.one_turn.Pause.{Pause}
+use Rattle.tlv_walk.specs.declared.one_turn.Pause.TheVariants as pause
 use Rattle.tlv_walk.specs.Events.{AreEqualJoined, EventValue, events}
 use Rattle.tlv_walk.specs.Follow.{Effect, effect_of}
 use Rattle.tlv_walk.specs.Forest.{Forest}
-use Rattle.tlv_walk.specs.Laws.{AreOctets}
-use Rattle.tlv_walk.specs.WalkerState.{CanTake, IsAfterEvent, WalkerState, first_unused_in}
+use Rattle.tlv_walk.specs.WalkerState.{IsAfterEvent, WalkerState, first_unused_in}
 use Rattle.tlv_walk.specs.Private.WalkerState.{Passes}
-use Rattle.tlv_walk.specs.Reading.{IsReading}
-use Rattle.tlv_walk.specs.Stands.{Stands, waiting_events}
+use Rattle.tlv_walk.specs.Reading.{AreOctets, IsReading}
+use Rattle.tlv_walk.specs.Stands.{CanTake, Stands}
 use Rattle.tlv_walk.specs.HasRead.{IsRefusedAfter, StandsRefused}
 use Rattle.tlv_walk.specs.Wrappers.{first_unused}
 use Rattle.tlv_walk.specs.FollowsEvents.{FollowsEvents}
@@ -36,6 +35,7 @@ pub record WalksTo (old new : WalkerState) (before : List ℕ) (more : List Even
   pub octet : ℕ
   pub rest : List ℕ
   pub piece : before ≡ taken ++ octet ∷ rest
+  pub framing : new.framing ≡ old.framing
   pub offset : new.offset ≡ length (b ++ taken)
   pub refused : IsRefusedAfter old.framing (b ++ taken) octet (past ++ more) f
   pub unused : first_unused_in new ≡ first_unused old.framing.inside refused.reading
@@ -64,11 +64,9 @@ module _ {S D : Type 0} (next : S → EventValue → Effect S) (before after : W
     pub made : FollowsEvents next before.follower after.follower more goes
     pub walked : WalksOver before.walker after.walker piece rest more
 
-  -- all of a piece was followed, and no event waits
+  -- all of a piece was followed, and the next octet can be taken
   pub record FollowsAll (piece : List ℕ) (more : List EventValue) : Type 0 where
     pub follows : Follows piece [] more go.On
-    pub idle : (b : List ℕ) (past : List EventValue) → Stands before.walker b past
-        → waiting_events after.walker ≡ []
     pub offset : after.walker.offset ≡ before.walker.offset + length piece
     pub ready : CanTake after.walker
 
@@ -90,11 +88,11 @@ module _ {S D : Type 0} (next : S → EventValue → Effect S) (before after : W
         → GoesOnIn before.walker.framing (b ++ piece) (past ++ more)
 
   -- how far a piece was followed, by why it is not followed any further
-  abbrev pub Stops : List ℕ → List EventValue → Result Stop WriteFault → Type 0
-  Stops piece more (Ok stop.UsedUp) = FollowsAll piece more
-  Stops piece more (Ok (stop.Fault f)) = FollowsToFault piece more f
-  Stops piece more (Ok stop.Enough) = FollowsToEnough piece more
-  Stops piece more (Err e) = Fails piece more
+  abbrev pub Pauses : List ℕ → List EventValue → Result Pause WriteFault → Type 0
+  Pauses piece more (Ok pause.UsedUp) = FollowsAll piece more
+  Pauses piece more (Ok (pause.Fault f)) = FollowsToFault piece more f
+  Pauses piece more (Ok pause.Enough) = FollowsToEnough piece more
+  Pauses piece more (Err e) = Fails piece more
 
   -- the front of a piece was followed, which has one event or more, and more is wanted
   pub record TakesPart (piece rest : List ℕ) (more : List EventValue) : Type 0 where
@@ -118,17 +116,17 @@ module _ {S D : Type 0} (next : S → EventValue → Effect S) (state_of : D →
     (before after : WalkState S D) where
   -- a piece was followed, and what is made of its events was put. `Puts` says of the `Out` that it lends the same
   -- drain, and how many writes failed
-  pub record FollowsPiece (piece : List ℕ) (result : Result Stop WriteFault) : Type 0 where
+  pub record FollowsPiece (piece : List ℕ) (result : Result Pause WriteFault) : Type 0 where
     pub more : List EventValue
-    pub stops : Stops next before after piece more result
+    pub pauses : Pauses next before after piece more result
     pub puts : Puts state_of before.out after.out (effect_of next before.follower more).put result
 
   -- a piece was followed, and what is made of its events was handed to the drain: if all of it was, the `Out` holds
   -- nothing
-  pub record FollowsAndFlushes (piece : List ℕ) (result : Result Stop WriteFault) : Type 0 where
+  pub record FollowsAndFlushes (piece : List ℕ) (result : Result Pause WriteFault) : Type 0 where
     pub octets : AreOctets piece
     pub more : List EventValue
-    pub stops : Stops next before after piece more result
+    pub pauses : Pauses next before after piece more result
     pub sends : Sends (state_of (drain_of before.out).now) (state_of (drain_of after.out).now)
         (effect_of next before.follower more).put result
     pub same_reference : (drain_of after.out).ghost_name ≡ (drain_of before.out).ghost_name

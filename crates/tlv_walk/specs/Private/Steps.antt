@@ -17,7 +17,7 @@ use Rattle.tlv_walk.specs.HasRead.{event_value}
 -- from whatever state the walker had, it came to one with these octets and events more
 pub record Continues (old new : WalkerState) (taken : List ℕ) (more : List EventValue) : Type 0 where
   pub framing : new.framing ≡ old.framing
-  pub found : new.wrappers ≡ wrappers_after old.framing.inside old.wrappers (wrapper_offsets more)
+  pub found : new.wrapper_count ≡ wrappers_after old.framing.inside old.wrapper_count (wrapper_offsets more)
   pub goes : (b : List ℕ) (past : List EventValue) (s : Zipper) → HasZipper old b past s
       → (t : Zipper) × HasZipper new (b ++ taken) (past ++ more) t
 

@@ -20,7 +20,7 @@ use Rattle.tlv_walk.specs.Inside.{is_among}
 use Rattle.tlv_walk.specs.Phase.{Phase, Between, InHeader, InContents, BeforeUnused, InEnd, Failed}
 use Rattle.tlv_walk.specs.Stack.{Frame, IsFilled, Within, bound_of}
 use Rattle.tlv_walk.specs.Private.Stack.{frame_with, room_in}
-use Rattle.tlv_walk.specs.WalkerState.{CanTake, HasOctets, IsAfterEvent, WalkerState}
+use Rattle.tlv_walk.specs.WalkerState.{HasOctets, IsAfterEvent, WalkerState}
 
 -- an event is to come that needs no further octet
 abbrev pub EventWaitsIn : Phase → List Frame → ℕ → Type 0
@@ -33,6 +33,18 @@ EventWaitsIn (Failed fault) stack offset = ⊥
 
 abbrev pub EventWaits : WalkerState → Type 0
 EventWaits w = EventWaitsIn w.phase w.stack w.offset
+
+-- the same as `CanTake`, by phase: an octet can be taken, for no event waits, and no octet was refused
+abbrev pub AwaitsOctetIn : Phase → List Frame → ℕ → Type 0
+AwaitsOctetIn Between stack offset = IsFilled stack offset → ⊥
+AwaitsOctetIn (InHeader r) stack offset = Unit {0}
+AwaitsOctetIn (InContents left) stack offset = left ≢ 0
+AwaitsOctetIn BeforeUnused stack offset = Unit {0}
+AwaitsOctetIn InEnd stack offset = Unit {0}
+AwaitsOctetIn (Failed fault) stack offset = ⊥
+
+abbrev pub AwaitsOctet : WalkerState → Type 0
+AwaitsOctet w = AwaitsOctetIn w.phase w.stack w.offset
 
 -- an event was yielded, and the walker stands at this offset
 pub record YieldsAt (old new : WalkerState) (at : ℕ) : Type 0 where
@@ -82,15 +94,15 @@ pub record TakesAll (old new : WalkerState) (before after : List ℕ) : Type 0 w
   pub taken : new.offset ≡ old.offset + length before
   pub none_left : after ≡ []
   pub events : new.events ≡ old.events
-  pub ready : CanTake new
+  pub ready : AwaitsOctet new
 
--- an octet was refused, and no element ended
+-- an octet was refused, and what is open stays open
 pub record Refuses (old new : WalkerState) (before after : List ℕ) (fault : FaultOf) : Type 0 where
   pub taken : new.offset + length after ≡ old.offset + length before
   pub events : new.events ≡ old.events
   pub phase : new.phase ≡ Failed fault
   pub framing : new.framing ≡ old.framing
-  pub wrappers : new.wrappers ≡ old.wrappers
+  pub wrapper_count : new.wrapper_count ≡ old.wrapper_count
   pub stack : new.stack ≡ old.stack
 
 -- what a step took from the front of a piece
@@ -143,7 +155,7 @@ Enters old new f at kind.Wrapper =
     × (is_wrapper f.named f.class f.constructed f.number f.size ≡ true)
     × (new ≡ record (after_header old (if eqb f.number 3 then BeforeUnused else Between) at) {
       stack = frame_with at (bound_of old.stack) f.size f.constructed ∷ old.stack;
-      wrappers = next_wrapper old.framing.inside old.wrappers f.offset;
+      wrapper_count = next_wrapper old.framing.inside old.wrapper_count f.offset;
     })
 
 -- a primitive that is not named, lies whole at the front of a piece, and may stand there

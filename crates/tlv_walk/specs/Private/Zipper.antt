@@ -151,4 +151,4 @@ pub record HasPrivateState (w : WalkerState) (b : List ℕ) (past : List EventVa
   pub state : Zipper
   pub has_state : HasZipper w b past state
   pub named : CanName w.framing.inside
-  pub found : w.wrappers ≡ wrappers_after w.framing.inside 0 (wrapper_offsets past)
+  pub found : w.wrapper_count ≡ wrappers_after w.framing.inside 0 (wrapper_offsets past)

@@ -172,13 +172,13 @@ impl Walker {
     fn found_wrapper(&mut self, offset: u64)
         ensures { self.new
             ≡ record self.old {
-              wrappers = next_wrapper self.old.framing.inside self.old.wrappers offset;
+              wrapper_count = next_wrapper self.old.framing.inside self.old.wrapper_count offset;
             } }
     {
-        if let Some(named) = self.framing.inside.get(self.wrappers)
+        if let Some(named) = self.framing.inside.get(self.wrapper_count)
             && named == offset
         {
-            self.wrappers += 1;
+            self.wrapper_count += 1;
         }
     }
 

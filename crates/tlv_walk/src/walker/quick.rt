@@ -1,4 +1,4 @@
-//! How a walker finds the next event where few instructions do.
+//! How a walker finds the next event in few instructions.
 ghost use Rattle.std.specs.Prelude.{◌≡◌, ◌+◌, ◌^◌, ◌≤◌, IfSome, length, take, true};
 ghost use Rattle.tlv_head.specs.Fields.{Suits};
 ghost use Rattle.tlv_walk.specs.Follow.{whole_events};

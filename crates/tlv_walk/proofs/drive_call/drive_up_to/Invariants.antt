@@ -1,5 +1,5 @@
 use Rattle.std.proofs.Common.{◌≡◌, ◌-◌, ◌≤◌, [], length}
-use Rattle.tlv_walk.specs.WalkerState.{CanTake}
+use Rattle.tlv_walk.specs.Stands.{CanTake}
 use Rattle.tlv_io.specs.Out.{buffer_of, drain_of}
 use Rattle.tlv_walk.specs.OneTurn.{turn_state}
 use Rattle.tlv_walk.proofs.FollowerLemmas.SoFar.{Walking}

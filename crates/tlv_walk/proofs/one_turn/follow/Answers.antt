@@ -8,7 +8,7 @@ use Rattle.tlv_walk.specs.Events.{EventValue}
 use Rattle.tlv_walk.specs.WalkerState.{WalkerState}
 use Rattle.tlv_walk.specs.StepsTo.{StepsTo}
 use Rattle.tlv_walk.specs.Private.FollowsPiece.{WalksOver}
-use Rattle.tlv_walk.proofs.FollowerLemmas.Following.{fails_event, follows_event, follows_none, stops_enough, stops_fault, stops_used_up}
+use Rattle.tlv_walk.proofs.FollowerLemmas.Following.{fails_event, follows_event, follows_none, pauses_enough, pauses_fault, pauses_used_up}
 use Rattle.tlv_walk.proofs.FollowerLemmas.Parts.{fails_part, follows_left, follows_part, left_walked, part_passes}
 use Rattle.tlv_walk.proofs.WalkerLemmas.Standing.{event_offset, stands_all, walked_event}
 use Rattle.tlv_walk.proofs.one_turn.follow.Goals.{in-Some+in_ok-go-in-Some, in-None+in-Some-constructed+in_ok-go-in-Some-constructed, in-None+in-None-constructed+in-Some-contents_event+in_ok-go-in-Some-contents_event, in-None+in-None-constructed+in-None-contents_event+in-Event+in_ok-go-in-Event}
@@ -100,13 +100,13 @@ returns-in_err-go-in-Event g c =
 
 pub returns-in-NeedMore : goal.returns-in-NeedMore
 returns-in-NeedMore g c =
-    stops_used_up g.F.Follow.next g.D.Drain.state _ _ _ _ _ _ (follows_left g.F.Follow.next g.D.Drain.state _ _ _ _ _ _ _ c.events.invariant.follows c.if-branch.false c.in_ok-follow_primitive.ensures)
+    pauses_used_up g.F.Follow.next g.D.Drain.state _ _ _ _ _ _ (follows_left g.F.Follow.next g.D.Drain.state _ _ _ _ _ _ _ c.events.invariant.follows c.if-branch.false c.in_ok-follow_primitive.ensures)
     (unmoved_step c.contents_event.new.self _ c.step-next.new.self c.contents_event.new.piece.now _ c.step-next.new.piece.now step.NeedMore (c.in-None-contents_event.ensures.steps.0 ∙ c.in-None-constructed.ensures.steps.0 ∙ c.in-None.ensures.steps.0) (c.in-None-contents_event.ensures.steps.1 ∙ c.in-None-constructed.ensures.steps.1 ∙ c.in-None.ensures.steps.1) c.in-NeedMore.ensures)
     (left_walked g.F.Follow.next g.D.Drain.state _ _ _ _ _ c.if-branch.false c.in_ok-follow_primitive.ensures ∙ c.events.invariant.walked)
 
 pub returns-in-Fault : goal.returns-in-Fault
 returns-in-Fault g c =
-    stops_fault g.F.Follow.next g.D.Drain.state _ _ _ _ _ _ _ (follows_left g.F.Follow.next g.D.Drain.state _ _ _ _ _ _ _ c.events.invariant.follows c.if-branch.false c.in_ok-follow_primitive.ensures)
+    pauses_fault g.F.Follow.next g.D.Drain.state _ _ _ _ _ _ _ (follows_left g.F.Follow.next g.D.Drain.state _ _ _ _ _ _ _ c.events.invariant.follows c.if-branch.false c.in_ok-follow_primitive.ensures)
     (unmoved_step c.contents_event.new.self _ c.step-next.new.self c.contents_event.new.piece.now _ c.step-next.new.piece.now (step.Fault c.in-Fault.fault) (c.in-None-contents_event.ensures.steps.0 ∙ c.in-None-constructed.ensures.steps.0 ∙ c.in-None.ensures.steps.0) (c.in-None-contents_event.ensures.steps.1 ∙ c.in-None-constructed.ensures.steps.1 ∙ c.in-None.ensures.steps.1) c.in-Fault.ensures)
 
 pub returns-then-eq : goal.returns-then-eq
@@ -115,11 +115,11 @@ returns-then-eq g c =
     let left = follows_left g.F.Follow.next g.D.Drain.state _ _ _ _ _ _ _ c.events.invariant.follows c.if-branch.false c.in_ok-follow_primitive.ensures in
     elim c.match-close.branch [
       | in-Some+in_ok-go-in-Some w ↦ rw (w.out-is, w.follower-is, w.walker-is)
-          (stops_enough g.F.Follow.next g.D.Drain.state _ _ _ _ _ (follows_event g.F.Follow.next g.D.Drain.state _ _ _ _ _ _ _ _ left (stands_all _ _ _ _ _ w.in-Some.ensures.yields) w.in_ok-go-in-Some.ensures.state _ w.in_ok-go-in-Some.ensures.puts) (sym w.go-is ∙ enough) w.in-Some.ensures.steps.0.after_event)
+          (pauses_enough g.F.Follow.next g.D.Drain.state _ _ _ _ _ (follows_event g.F.Follow.next g.D.Drain.state _ _ _ _ _ _ _ _ left (stands_all _ _ _ _ _ w.in-Some.ensures.yields) w.in_ok-go-in-Some.ensures.state _ w.in_ok-go-in-Some.ensures.puts) (sym w.go-is ∙ enough) w.in-Some.ensures.steps.0.after_event)
       | in-None+in-Some-constructed+in_ok-go-in-Some-constructed w ↦ rw (w.out-is, w.follower-is, w.walker-is)
-          (stops_enough g.F.Follow.next g.D.Drain.state _ _ _ _ _ (follows_event g.F.Follow.next g.D.Drain.state _ _ _ _ _ _ _ _ left (unmoved_event _ _ _ _ _ _ _ (w.in-None.ensures.steps.0) (w.in-None.ensures.steps.1) (stands_all _ _ _ _ _ w.in-Some-constructed.ensures.yields)) w.in_ok-go-in-Some-constructed.ensures.state _ w.in_ok-go-in-Some-constructed.ensures.puts) (sym w.go-is ∙ enough) w.in-Some-constructed.ensures.steps.0.after_event)
+          (pauses_enough g.F.Follow.next g.D.Drain.state _ _ _ _ _ (follows_event g.F.Follow.next g.D.Drain.state _ _ _ _ _ _ _ _ left (unmoved_event _ _ _ _ _ _ _ (w.in-None.ensures.steps.0) (w.in-None.ensures.steps.1) (stands_all _ _ _ _ _ w.in-Some-constructed.ensures.yields)) w.in_ok-go-in-Some-constructed.ensures.state _ w.in_ok-go-in-Some-constructed.ensures.puts) (sym w.go-is ∙ enough) w.in-Some-constructed.ensures.steps.0.after_event)
       | in-None+in-None-constructed+in-Some-contents_event+in_ok-go-in-Some-contents_event w ↦ rw (w.out-is, w.follower-is, w.walker-is)
-          (stops_enough g.F.Follow.next g.D.Drain.state _ _ _ _ _ (follows_event g.F.Follow.next g.D.Drain.state _ _ _ _ _ _ _ _ left (unmoved_event _ _ _ _ _ _ _ (w.in-None-constructed.ensures.steps.0 ∙ w.in-None.ensures.steps.0) (w.in-None-constructed.ensures.steps.1 ∙ w.in-None.ensures.steps.1) (stands_all _ _ _ _ _ w.in-Some-contents_event.ensures.yields)) w.in_ok-go-in-Some-contents_event.ensures.state _ w.in_ok-go-in-Some-contents_event.ensures.puts) (sym w.go-is ∙ enough) w.in-Some-contents_event.ensures.steps.0.after_event)
+          (pauses_enough g.F.Follow.next g.D.Drain.state _ _ _ _ _ (follows_event g.F.Follow.next g.D.Drain.state _ _ _ _ _ _ _ _ left (unmoved_event _ _ _ _ _ _ _ (w.in-None-constructed.ensures.steps.0 ∙ w.in-None.ensures.steps.0) (w.in-None-constructed.ensures.steps.1 ∙ w.in-None.ensures.steps.1) (stands_all _ _ _ _ _ w.in-Some-contents_event.ensures.yields)) w.in_ok-go-in-Some-contents_event.ensures.state _ w.in_ok-go-in-Some-contents_event.ensures.puts) (sym w.go-is ∙ enough) w.in-Some-contents_event.ensures.steps.0.after_event)
       | in-None+in-None-constructed+in-None-contents_event+in-Event+in_ok-go-in-Event w ↦ rw (w.out-is, w.follower-is, w.walker-is)
-          (stops_enough g.F.Follow.next g.D.Drain.state _ _ _ _ _ (follows_event g.F.Follow.next g.D.Drain.state _ _ _ _ _ _ _ _ left (unmoved_event _ _ _ _ _ _ _ (w.in-None-contents_event.ensures.steps.0 ∙ w.in-None-constructed.ensures.steps.0 ∙ w.in-None.ensures.steps.0) (w.in-None-contents_event.ensures.steps.1 ∙ w.in-None-constructed.ensures.steps.1 ∙ w.in-None.ensures.steps.1) (walked_event _ _ _ _ _ w.in-Event.ensures)) w.in_ok-go-in-Event.ensures.state _ w.in_ok-go-in-Event.ensures.puts) (sym w.go-is ∙ enough) w.in-Event.ensures.phase)
+          (pauses_enough g.F.Follow.next g.D.Drain.state _ _ _ _ _ (follows_event g.F.Follow.next g.D.Drain.state _ _ _ _ _ _ _ _ left (unmoved_event _ _ _ _ _ _ _ (w.in-None-contents_event.ensures.steps.0 ∙ w.in-None-constructed.ensures.steps.0 ∙ w.in-None.ensures.steps.0) (w.in-None-contents_event.ensures.steps.1 ∙ w.in-None-constructed.ensures.steps.1 ∙ w.in-None.ensures.steps.1) (walked_event _ _ _ _ _ w.in-Event.ensures)) w.in_ok-go-in-Event.ensures.state _ w.in_ok-go-in-Event.ensures.puts) (sym w.go-is ∙ enough) w.in-Event.ensures.phase)
     ]

@@ -17,11 +17,11 @@ returns-in_default-follow_and_flush-clause-read g c = record {
   goes_on = tt;
 }
 
-pub result_of_stop-requires : goal.result_of_stop-requires
-result_of_stop-requires g c used =
+pub result_of_pause-requires : goal.result_of_pause-requires
+result_of_pause-requires g c used =
     used_up_ready g.F.Follow.next
     (walk_state c.args.walker.now c.args.follower.now c.args.out.now) (walk_state c.follow_and_flush.new.walker c.follow_and_flush.new.follower c.follow_and_flush.new.out)
-    _ _ _ c.in-Ok-follow_and_flush.ensures.stops used
+    _ _ _ c.in-Ok-follow_and_flush.ensures.pauses used
 
 pub returns-clause-read : goal.returns-clause-read
 returns-clause-read g c =
@@ -30,12 +30,12 @@ returns-clause-read g c =
     turn_state c.follow_and_flush.new.walker c.follow_and_flush.new.follower (g.S.Source.state c.read.new.self) (g.D.Drain.state (drain_of c.follow_and_flush.new.out).now) in
     record {
       calls =
-          calls_answered before after c.read.new.to c.in-Ok.count _ _ _ _ (rw c.in-Ok.is at c.read.ensures) (search rules) (search rules) (search rules) c.result_of_stop.ensures;
+          calls_answered before after c.read.new.to c.in-Ok.count _ _ _ _ (rw c.in-Ok.is at c.read.ensures) (search rules) (search rules) (search rules) c.result_of_pause.ensures;
       octets = grind (arith, elements);
       turned = λ b past st.
           turns_answered g.F.Follow.next before after c.args.out.now c.follow_and_flush.new.out b past c.read.new.to _ _ c.in-Ok.count c.min-walked.result c.args.limit st
-          (search rules) c.requires.taken (search rules) refl (search rules) c.in-Ok-follow_and_flush.ensures.octets g.D.Drain.state refl refl _ _ c.in-Ok-follow_and_flush.ensures c.result_of_stop.ensures;
+          (search rules) c.requires.taken (search rules) refl (search rules) c.in-Ok-follow_and_flush.ensures.octets g.D.Drain.state refl refl _ _ c.in-Ok-follow_and_flush.ensures c.result_of_pause.ensures;
       goes_on =
-          can_go_on_answered before after c.read.new.to g.F.Follow.next c.args.out.now c.follow_and_flush.new.out c.in-Ok.count c.min-walked.result c.args.limit _ _ _ _ c.result_of_stop.ensures c.in-Ok-follow_and_flush.ensures.stops
+          can_go_on_answered before after c.read.new.to g.F.Follow.next c.args.out.now c.follow_and_flush.new.out c.in-Ok.count c.min-walked.result c.args.limit _ _ _ _ c.result_of_pause.ensures c.in-Ok-follow_and_flush.ensures.pauses
           (search rules) (search rules) c.requires.taken;
     }

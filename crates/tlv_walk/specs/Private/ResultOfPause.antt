@@ -7,17 +7,17 @@ use Rattle.tlv_walk.specs.declared.run.DeviceFault.TheVariants.{InputTooLong}
 use Rattle.tlv_walk.specs.declared.run.Run.{Run}
 use Rattle.tlv_walk.specs.declared.run.Turn.{Turn}
 use Rattle.tlv_walk.specs.declared.run.Turn.TheVariants.{Again, Ended}
-use Rattle.tlv_walk.specs.declared.one_turn.Stop.{Stop}
-use Rattle.tlv_walk.specs.declared.one_turn.Stop.TheVariants as stop
+use Rattle.tlv_walk.specs.declared.one_turn.Pause.{Pause}
+use Rattle.tlv_walk.specs.declared.one_turn.Pause.TheVariants as pause
 use Rattle.tlv_walk.specs.Ending.{IsEnding}
 use Rattle.tlv_walk.specs.Events.{EventValue}
 use Rattle.tlv_walk.specs.WalkerState.{WalkerState, first_unused_in}
 use Rattle.tlv_walk.specs.Stands.{Stands}
 
 -- a run that goes by these values
-pub record IsRun (run : Run) (e : Ending) (stopped : Bool) (v : WalkerState) : Type 0 where
+pub record IsRun (run : Run) (e : Ending) (is_enough : Bool) (v : WalkerState) : Type 0 where
   pub ending : run.ending ≡ e
-  pub enough : run.enough ≡ stopped
+  pub enough : run.enough ≡ is_enough
   pub octets : run.octets ≡ v.offset
   pub unused : run.unused ≡ first_unused_in v
 
@@ -26,11 +26,11 @@ abbrev pub IsLastRun : Run → WalkerState → Type 0
 IsLastRun run v = (e : Ending) × IsRun run e false v
     × ((o : List ℕ) (past : List EventValue) → Stands v o past → IsEnding v.framing o e)
 
--- what comes of a walker that stopped, if of so many octets that were read so many were followed
-abbrev pub IsResultOfStop : ℕ → ℕ → WalkerState → Stop → Result Turn DeviceFault → Type 0
-IsResultOfStop read followed v stop.Enough (Ok (Ended run)) = IsRun run ending.Done true v
-IsResultOfStop read followed v (stop.Fault f) (Ok (Ended run)) = IsRun run (ending.Fault f) false v
-IsResultOfStop read followed v stop.UsedUp (Err InputTooLong) = followed < read
-IsResultOfStop read followed v stop.UsedUp (Ok (Ended run)) = (followed < read → ⊥) × (read ≡ 0) × IsLastRun run v
-IsResultOfStop read followed v stop.UsedUp (Ok Again) = (followed < read → ⊥) × (read ≡ 0 → ⊥)
-IsResultOfStop read followed v why result = ⊥
+-- what a turn returns after this pause of a walker, if of so many octets that were read so many were followed
+abbrev pub IsResultOfPause : ℕ → ℕ → WalkerState → Pause → Result Turn DeviceFault → Type 0
+IsResultOfPause read followed v pause.Enough (Ok (Ended run)) = IsRun run ending.Done true v
+IsResultOfPause read followed v (pause.Fault f) (Ok (Ended run)) = IsRun run (ending.Fault f) false v
+IsResultOfPause read followed v pause.UsedUp (Err InputTooLong) = followed < read
+IsResultOfPause read followed v pause.UsedUp (Ok (Ended run)) = (followed < read → ⊥) × (read ≡ 0) × IsLastRun run v
+IsResultOfPause read followed v pause.UsedUp (Ok Again) = (followed < read → ⊥) × (read ≡ 0 → ⊥)
+IsResultOfPause read followed v why result = ⊥

@@ -1,8 +1,6 @@
 use Rattle.std.proofs.Common.{rules}
-use Rattle.tlv_walk.specs.declared.ending.Ending.TheVariants as ending
 use Rattle.tlv_walk.specs.HasRead.{took_all}
-use Rattle.tlv_walk.proofs.WalkerLemmas.Waiting.{ready-quiet}
-use Rattle.tlv_walk.proofs.one_turn.result_of_stop.Goals as goal
+use Rattle.tlv_walk.proofs.one_turn.result_of_pause.Goals as goal
 
 pub returns-in-Enough : goal.returns-in-Enough
 returns-in-Enough c = rw c.in-Enough.is c.run_of.ensures
@@ -17,7 +15,7 @@ returns-in-UsedUp-2 c = rw c.in-UsedUp-2.is (
   (
     _,
     c.run_of-in-UsedUp-2.ensures,
-    λ o past st. c.finish.ensures.ending o past ending.Done (took_all st (ready-quiet c.args.walker.now (c.requires (search rules)))),
+    λ o past st. c.finish.ensures.ending o past (took_all st (c.requires (search rules)).0),
   ),
 )
 
