@@ -1,4 +1,4 @@
-"""./tlvdump: that it builds the program where that is missing or old, and what it prints meanwhile.
+"""./tlvdump: that it builds the program if that is missing or old, and what it prints meanwhile.
 
 In the place of the kit's rt stands a script that writes the lines of a build, slowly, and then puts the program of the tests.
 """
@@ -142,7 +142,7 @@ def on_a_terminal(part):
 
 
 def failing(part):
-    """Status 70, with the end of the log, or where there is no rt; an interrupt ends all."""
+    """Status 70, with the end of the log, or if there is no rt; an interrupt ends all."""
     script = cloned(part, "failing")
     got = run(part, script, ["dump"], RT_FAILS="yes")
     end = "two\nfn tlv_low::f: not proved\nrt: the library tlv_low did not build\ntlvdump: not built\n"

@@ -68,7 +68,7 @@ def inputs_that_break(part):
     far.close()
     part.gives(["dump"], None, 3, JONES_LINES[0], READ, stdin=near)
     near.close()
-    # A pipe that does not wait fails where it is empty, and its writer still stands.
+    # A pipe that does not wait fails if it is empty, and its writer still stands.
     reading, writing = os.pipe()
     os.set_blocking(reading, False)
     os.write(writing, JONES[:7])

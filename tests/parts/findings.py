@@ -1,4 +1,4 @@
-"""Findings in long and deep inputs, in pieces, and where a device fails. The lines are computed here."""
+"""Findings in long and deep inputs, in pieces, and if a device fails. The lines are computed here."""
 import os
 import re
 

@@ -1,4 +1,4 @@
-"""Each request for memory refused in turn: the program answers U3 or N6 and does nothing else.
+"""Each request for memory refused in turn: the program reports U3 or N6 and does nothing else.
 
 tests/parts/refuse.c stands in front of the C library. It numbers the requests that the program makes,
 refuses some, and reports after how many of them each file is opened. So the tests know which requests are
@@ -50,10 +50,10 @@ TAKEN = [
     ("indef missing", 3, b"", OPEN, "missing"),
     ("dump --limit x --names missing missing", 4, b"", VALUE, ""),
 ]
-# Lines of words that `clap` answers itself: with help, or with what it says on standard error.
-ANSWERED = ["--help", "extract --help", "--version", "", "dump a b", "dump --limit", "extract a.der"]
-ANSWERED += ["dump --pure --pure", "indef --padding=1"]
-# Lines where it looks for words that are alike. If one request alone is refused there, it may say what it
+# Lines of words after which `clap` prints: help, or what it says on standard error.
+PRINTED = ["--help", "extract --help", "--version", "", "dump a b", "dump --limit", "extract a.der"]
+PRINTED += ["dump --pure --pure", "indef --padding=1"]
+# Lines for which it looks for words that are alike. If one request alone is refused there, it may say what it
 # says otherwise.
 ALIKE = ["dump --lim 1", "nonsense", "extrac --offset 0", "check --limit 1"]
 
@@ -71,7 +71,7 @@ class Program:
 
     def run(self, words, first=0, last=0):
         """Runs it with requests `first` to `last` refused. Returns what it did, and what was reported."""
-        env = dict(os.environ, LD_PRELOAD="./refuse.so", REFUSE_TOLD=self.log)
+        env = dict(os.environ, LD_PRELOAD="./refuse.so", REFUSE_LOG=self.log)
         env |= {"REFUSE_FIRST": str(first), "REFUSE_LAST": str(last)}
         if os.path.exists(self.log):
             os.remove(self.log)
@@ -108,7 +108,7 @@ class Line:
         self.words = text.split()
         self.own, log = program.run(self.words)
         self.files, self.requests = log.files(), log.requests or 0
-        # Those of the words end where the first file is opened.
+        # Those of the words end when the first file is opened.
         self.of_words = log.opened[0][1] if log.opened else self.requests
 
     def wanted(self, number, is_alone):
@@ -151,7 +151,7 @@ def taken(part, program):
         line = Line(program, text)
         part.same(f"{text}: no request refused", line.own, Done(status, out, message(err)))
         part.expect(f"{text}: the files", line.files == files.split(), str(line.files))
-        # The names file takes memory where it is read. A run takes none.
+        # The names file takes memory when it is read. A run takes none.
         after = line.requests - line.of_words
         reads_names = not {"names", "many", "wrong"}.isdisjoint(line.files)
         fine = after > 0 if reads_names else after == 0
@@ -159,8 +159,8 @@ def taken(part, program):
         line.refuse_each()
 
 
-def answered(part, program):
-    for text in ANSWERED + ALIKE:
+def printed(part, program):
+    for text in PRINTED + ALIKE:
         line = Line(program, text, text in ALIKE)
         fine = line.own == part.run(line.words) and line.own.status in (0, 4) and not line.files
         part.expect(f"{text or 'no words'}: no request refused", fine, *line.own.lines())
@@ -179,5 +179,5 @@ def test(part):
     part.write("many", b"2.5.4.3 commonName\n" + b"".join(entries))
     part.write("wrong", b"2.5.4.3 commonName\n1.40 x\n")
     taken(part, program)
-    answered(part, program)
-    part.note(f"{len(TAKEN) + len(ANSWERED + ALIKE)} lines of words, {program.runs} runs")
+    printed(part, program)
+    part.note(f"{len(TAKEN) + len(PRINTED + ALIKE)} lines of words, {program.runs} runs")

@@ -137,5 +137,5 @@ class Part:
         self.same(" ".join(words) or "no words", got, Done(status, out, message(err)))
 
     def note(self, text):
-        """Tells a figure. It is no test."""
+        """Prints a figure. It is no test."""
         print(f"{self.name}: {text}")

@@ -106,7 +106,7 @@ def clone(part, name, built):
 
 
 def builds(part):
-    """Without TLVDUMP the program of the clone is taken; where it cannot be built nothing is put."""
+    """Without TLVDUMP the program of the clone is taken; if it cannot be built nothing is put."""
     # The kit of this machine stands after one that builds nothing.
     part.write("rt", b"#!/bin/sh\nexit 1\n")
     os.chmod(part.path("rt"), 0o755)

@@ -1,6 +1,6 @@
 """Readers of the lists of object identifiers that Debian's packages carry.
 
-Each takes the folder that the packages are unpacked in, `/` where they are installed, and returns
+Each takes the folder that the packages are unpacked in, `/` if they are installed, and returns
 pairs of dotted arcs and a name. A list that is not there has no pairs.
 """
 import ast
@@ -43,7 +43,7 @@ def output_of(*words):
 
 
 def openssl(folder):
-    """The objects of the command `openssl`, which is run where the folder is that of the machine."""
+    """The objects of the command `openssl`, which is run if the folder is that of the machine."""
     if folder != "/" or not shutil.which("openssl"):
         return
     shown = output_of("openssl", "list", "-objects")
@@ -160,7 +160,7 @@ def assigned(all_texts):
 
 
 def resolved(right, known):
-    """Returns the arcs of `{ id-pkix 3 }` or `{ iso(1) org(3) }`, or nothing where a name is not known."""
+    """Returns the arcs of `{ id-pkix 3 }` or `{ iso(1) org(3) }`, or nothing if a name is not known."""
     arcs = []
     for word in re.findall(r"[\w-]+\s*\(\s*\d+\s*\)|[\w-]+", right):
         number = re.search(r"\((\s*\d+\s*)\)|^(\d+)$", word)

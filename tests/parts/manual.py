@@ -274,7 +274,7 @@ def made(part):
 
 
 def coming(part, text):
-    """For each task the commands of other programs, where they are installed, and the one here, on each kind of input."""
+    """For each task the commands of other programs, if they are installed, and the one here, on each kind of input."""
     section = re.split(r"\n\.S[hs] ", text.split("\n.Ss Coming from dumpasn1, openssl asn1parse, unber\n")[1])[0]
     blocks = [block.splitlines() for block in re.findall(r"^\.Bd -literal.*?\n(.*?)^\.Ed", section, re.M | re.S)]
     there = [tool for tool in ("openssl", "dumpasn1", "unber") if part.has(tool)]

@@ -1,8 +1,8 @@
-"""Want of memory: with less and less of it the program answers U3 or N6, and nothing else.
+"""Want of memory: with less and less of it the program reports U3 or N6, and does nothing else.
 
-If there is too little even to load the program, it answers nothing, and that is no fault of its own. A copy
-of the program tells where that is: its first instructions, to which the loader hands over, end it with a
-status of their own. Where the copy ends so, the program has been loaded as well, and must answer.
+If there is too little even to load the program, it reports nothing, and that is no fault of its own. A copy
+of the program shows with how much that is: its first instructions, to which the loader hands over, end it
+with a status of their own. If the copy ends so, the program has been loaded as well, and must report.
 """
 import os
 import resource
@@ -61,17 +61,17 @@ def test(part):
     part.expect("with all memory", run_with(part, resource.RLIM_INFINITY) == RIGHT)
     loaded = (LOADED, b"", b"")
     part.expect("the copy, with all memory", run_with(part, resource.RLIM_INFINITY, copy) == loaded)
-    answers, unloaded = [], 0
+    results, unloaded = [], 0
     for kilobytes in STEPS:
         if run_with(part, kilobytes * 1024, copy) != loaded:
-            part.expect(f"{kilobytes} kB load no less than fewer do", not answers)
+            part.expect(f"{kilobytes} kB load no less than fewer do", not results)
             unloaded += 1
             continue
-        answers.append(run_with(part, kilobytes * 1024))
-        fine = answers[-1] in (NO_WORDS, NO_NAMES, RIGHT)
-        part.expect(f"with {kilobytes} kB", fine, str(answers[-1]))
-        if answers[-1] == RIGHT:
+        results.append(run_with(part, kilobytes * 1024))
+        fine = results[-1] in (NO_WORDS, NO_NAMES, RIGHT)
+        part.expect(f"with {kilobytes} kB", fine, str(results[-1]))
+        if results[-1] == RIGHT:
             break
-    part.note(f"the program was not loaded at {unloaded} limits, and answered at {len(answers)}")
+    part.note(f"the program was not loaded at {unloaded} limits, and reported at {len(results)}")
     for wanted in (NO_WORDS, NO_NAMES, RIGHT):
-        part.expect(f"with less memory: {wanted}", wanted in answers, f"{len(answers)} answers, not this")
+        part.expect(f"with less memory: {wanted}", wanted in results, f"{len(results)} results, not this")

@@ -123,7 +123,7 @@ def unread(part):
     part.gives(["dump", "--names", "names", "missing"], b"", 3, err="E5 cannot open the file")
     part.gives(["dump", "--names", "names", "input"], b"", 0, line_for("us"))
     part.gives(["dump", "--names=names", "input"], b"", 0, line_for("us"))
-    # The names may come by a pipe, where FILE is named.
+    # The names may come by a pipe, if FILE is named.
     by_pipe = ["dump", "--names", "/dev/stdin", "input"]
     part.gives(by_pipe, b"1.2.840 by a pipe\n", 0, line_for("by a pipe"))
     part.gives(by_pipe, b"1.40 x\n", 4, err="N1 line 1: not an object identifier")

@@ -6,7 +6,7 @@
  * take for themselves is not counted and not refused. The environment says what to do:
  *
  *   REFUSE_FIRST, REFUSE_LAST   the requests with these numbers and those between are refused, from 1 on
- *   REFUSE_TOLD                 a file to which lines are added: "open N NAME" when the program opens a
+ *   REFUSE_LOG                  a file to which lines are added: "open N NAME" when the program opens a
  *                               file after N requests, and "end N M" when it ends after N requests, of
  *                               which M were refused
  */
@@ -75,8 +75,8 @@ static int is_refused(const void *caller) {
     return 1;
 }
 
-static void tell(const char *line) {
-    const char *name = getenv("REFUSE_TOLD");
+static void note(const char *line) {
+    const char *name = getenv("REFUSE_LOG");
     int before = errno, how = O_WRONLY | O_APPEND | O_CREAT | O_CLOEXEC;
     int file = name ? (int)syscall(SYS_openat, AT_FDCWD, name, how, 0600) : -1;
     if (file >= 0) {
@@ -89,7 +89,7 @@ static void tell(const char *line) {
 __attribute__((destructor)) static void stop(void) {
     char line[64];
     snprintf(line, sizeof line, "end %lu %lu\n", count, refused);
-    tell(line);
+    note(line);
 }
 
 #define CALLER __builtin_return_address(0)
@@ -134,7 +134,7 @@ int open(const char *name, int flags, ...) {
     if (is_own(CALLER)) {
         char line[512];
         snprintf(line, sizeof line, "open %lu %.400s\n", count, name);
-        tell(line);
+        note(line);
     }
     return (int)syscall(SYS_openat, AT_FDCWD, name, flags, mode);
 }

@@ -1,6 +1,6 @@
 """Reads the rows of tests/rows: words, octets, and what is written and reported.
 
-A row is some lines, and ends before an empty line. The first character of a line tells what it is:
+A row is some lines, and ends before an empty line. The first character of a line says what it is:
 
     # text             a comment; the last one before the words is the title of the row
     $ dump --limit 1   the words, as a shell reads them (names: the row's names file)
@@ -9,8 +9,8 @@ A row is some lines, and ends before an empty line. The first character of a lin
     | text             a line that is written
     > 30 80            octets that are written
     ! text             the message on standard error
-    % 1                the number of findings, where neither the lines nor the message have it
-    = 2                the status (0 where the row has no such line)
+    % 1                the number of findings, if neither the lines nor the message have it
+    = 2                the status (0 if the row has no such line)
 
 A number in front of `|` or `>`, as in `7| text`, is the number of octets of the input with which the line,
 or the octets, have come: before the last of these octets nothing of it is written. Either all such lines of a

@@ -69,7 +69,7 @@ def octets(parts):
 
 
 def joined(first, second):
-    """Both texts, in one line where there is room."""
+    """Both texts, in one line if there is room."""
     is_short = len(first) + len(second.partition("\n")[0]) < WIDTH and "\n" not in first
     return f"{first} {second}" if is_short else f"{first}\n    {second}"
 

@@ -334,7 +334,7 @@ def hints(script):
         status, out = script.why(octets)
         # Each second octet of a text in UTF-16 may be 00, which is a length.
         part.expect(f"hint: {what}", status == (0 if what == "UTF-16" else 2) and wanted in out, str(status), out)
-    # What it tells to do works.
+    # What it says to do works.
     out = script.run([], (b"\0\0\0" + body)[3:])
     part.expect("after the wrong start", out.status == 0)
     got = script.run(["--why"], pem(b"CMS", SOUND) + pem(b"A", SOUND[:-1]))

@@ -11,7 +11,7 @@ PIPES = {"stdin": subprocess.PIPE, "stdout": subprocess.PIPE, "stderr": subproce
 
 
 def read_so_far(pipe, count):
-    """Reads so many octets, or fewer where no more come in time."""
+    """Reads so many octets, or fewer if no more come in time."""
     got, until = b"", time.monotonic() + SECONDS
     while len(got) < count and time.monotonic() < until:
         if select.select([pipe], [], [], 1)[0]:
@@ -63,7 +63,7 @@ def ends_early(part):
 
 
 def closed_early(part):
-    """The reader of the output goes away: E2 where SIGPIPE is ignored, else a quiet end by it."""
+    """The reader of the output goes away: E2 if SIGPIPE is ignored, else a quiet end by it."""
     nulls = b"\x05\x00" * 100_000
     for ignored in (True, False):
         action = signal.SIG_IGN if ignored else signal.SIG_DFL

@@ -58,7 +58,7 @@ def run_of(rng, command, octets, padding):
 
 
 def inside(rng, octets, padding):
-    """Returns a list of offsets, mostly of strings that hold encodings; None where there is none."""
+    """Returns a list of offsets, mostly of strings that hold encodings; None if there is none."""
     named = set()
     for _ in range(rng.choice([1, 2, 3, 9])):
         elements = [it for it in Reading(octets, named, padding).elements() if it.offset not in named]
@@ -102,7 +102,7 @@ def out_of_range(rng, options):
 
 
 def words(rng, options, by_pipe):
-    """Returns the words: the command, the options in any order, and FILE where the input is no pipe."""
+    """Returns the words: the command, the options in any order, and FILE if the input is no pipe."""
     given = []
     for name in ("rules", "limit", "offset", "inside"):
         value = getattr(options, name)

@@ -28,7 +28,7 @@ class Refused(Exception):
 
 @dataclass
 class Options:
-    """The options of a command. A value is the text that stands in the words; None where there is none."""
+    """The options of a command. A value is the text that stands in the words; None if there is none."""
 
     command: str
     rules: str | None = None

@@ -24,7 +24,7 @@ def identifier(rng, number, tag_class=0, constructed=False, odd=0.03):
 
 
 def length_octets(rng, length, odd=0.04):
-    """Returns the shortest form, or a longer one: rarely, but oftener where forms change."""
+    """Returns the shortest form, or a longer one: rarely, but oftener if forms change."""
     fewest = shortest(length)
     if rng.random() >= (0.3 if odd and length in (127, 128, 255, 256) else odd):
         return fewest

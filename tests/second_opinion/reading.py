@@ -52,7 +52,7 @@ class Element:
 class Reading:
     """The one reading of an input.
 
-    items: elements and padding at the top. fault: None where the ending is Done. kept: how many octets
+    items: elements and padding at the top. fault: None if the ending is Done. kept: how many octets
     stand in whole headers, in contents, and in whole pairs 00 00; not in an unfinished header or a lone 00.
     """
 
@@ -67,7 +67,7 @@ class Reading:
             self.fault = fault
 
     def read_top(self):
-        """Case 5 at the top: 00 is padding, with that option, else F03. F01 where there is no element."""
+        """Case 5 at the top: 00 is padding, with that option, else F03. F01 if there is no element."""
         while self.at < len(self.octets):
             if self.octets[self.at] != 0:
                 self.read_element(self.items, None, 0)
@@ -95,7 +95,7 @@ class Reading:
         return self.octets[self.at]
 
     def header_octet(self, bound):
-        """Takes an octet of a header (case 4: F11 where the bound is reached)."""
+        """Takes an octet of a header (case 4: F11 if the bound is reached)."""
         octet = self.next_octet(bound, "F11")
         self.at += 1
         return octet
@@ -192,7 +192,7 @@ class Reading:
             self.read_element(element.children, end, opened)
 
     def read_to_the_end_octets(self, element, bound, opened):
-        """Reads elements until 00 00; cases 3 and 5: F05 at the bound, F04 where no second 00 comes."""
+        """Reads elements until 00 00; cases 3 and 5: F05 at the bound, F04 if no second 00 comes."""
         while self.next_octet(bound, "F05") != 0:
             self.read_element(element.children, bound, opened)
         self.at += 1

@@ -26,7 +26,7 @@ class Runner:
             file.write(octets)
 
     def run(self, words, octets):
-        """Returns the program's status, output and message; `octets` is None where FILE is named."""
+        """Returns the program's status, output and message; `octets` is None if FILE is named."""
         how = {"cwd": self.folder, "stdin": subprocess.DEVNULL if octets is None else subprocess.PIPE}
         with open(self.path("out"), "w+b") as out, open(self.path("err"), "w+b") as err:
             child = subprocess.Popen([self.program, *words], stdout=out, stderr=err, close_fds=False, **how)

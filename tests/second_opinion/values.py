@@ -95,7 +95,7 @@ def pair_rows(octets, whole):
 
 
 def has_bits(contents):
-    """Returns whether the first octet is 0 to 7, and 0 where no octet follows it (BIT STRING)."""
+    """Returns whether the first octet is 0 to 7, and 0 if no octet follows it (BIT STRING)."""
     return len(contents) > 0 and contents[0] <= (7 if len(contents) > 1 else 0)
 
 
@@ -107,7 +107,7 @@ def bits(contents):
 
 
 def subidentifiers(contents):
-    """Returns the subidentifiers, or None where the last is unfinished (8.19.2)."""
+    """Returns the subidentifiers, or None if the last is unfinished (8.19.2)."""
     if contents and contents[-1] & 0x80:
         return None
     found, number = [], 0
@@ -120,7 +120,7 @@ def subidentifiers(contents):
 
 
 def object_identifier(element, names):
-    """Returns arcs, and a name after them; else pairs, in rows where there are more than 16."""
+    """Returns arcs, and a name after them; else pairs, in rows if there are more than 16."""
     numbers = subidentifiers(element.contents)
     if numbers is None or any(number >= 1 << 128 for number in numbers):
         if element.length > PAIRS_IN_A_ROW:

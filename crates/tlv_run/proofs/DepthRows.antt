@@ -16,7 +16,7 @@ begun (suc n) = 0x30 ∷ 0x80 ∷ begun n
 abbrev right : ℕ → List ℕ
 right n = replicate (8 - length (decimal n)) 32 ++ decimal n
 
--- the lines of so many more elements, behind those of so many
+-- the lines of so many more elements, after those of so many
 abbrev openings : ℕ → ℕ → List ℕ
 openings zero level = []
 openings (suc n) level = right (2 * level) ++ codes "  indef: " ++ replicate (2 * level) 32 ++ codes "SEQUENCE {" ++ 10 ∷ openings n (level + 1)
@@ -41,7 +41,7 @@ string-too_deep : result (dump Ber None false (framed (256 ∷ []) false)) (begu
 unfolding digits
 string-too_deep = refl
 
--- 128 times 30 80, and 04 00: where it is not named it is a primitive
+-- 128 times 30 80, and 04 00: if it is not named it is a primitive
 string-not-named : result (dump Ber None false plain) (begun 128 ++ 0x04 ∷ 0x00 ∷ [])
     ≡ faulty 0 Short 258 "fault at 258: F02 input ends inside an encoding" (openings 128 0 ++ right 256 ++ codes "      0: " ++ replicate 256 32 ++ codes "OCTET STRING" ++ 10 ∷ [])
 unfolding digits

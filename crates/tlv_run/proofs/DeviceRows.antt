@@ -20,7 +20,7 @@ use Rattle.tlv_run.proofs.Results.{is_result, makes_unique}
 use Rattle.tlv_run.proofs.RowWords.{check, clean_with, dump, extract, faulty, lines, octets, plain, result}
 use Rattle.tlv_run.specs.declared.command.Command.{Command}
 use Rattle.tlv_run.specs.Octets.{IsReport, RunsOctets, broken, ended, settled, too_long}
-use Rattle.tlv_run.specs.Report.{ReportValue, report_of_device, report_with}
+use Rattle.tlv_run.specs.Report.{ReportValue, device_report, report_with}
 use Rattle.tlv_run.specs.Results.{CommandResult, IsSettled, MakesResult, command_job}
 
 -- ---- octets
@@ -64,7 +64,7 @@ module _ (command : Command) (b : List ℕ) where
   settled-at fails made y r s (broken n f l) = absurd (n s)
   settled-at fails made y r s (too_long n less) = absurd (n s)
 
-  broken-at : (made : CommandResult) (y : Makes made) (r : ReportValue) → length b ≤ job.limit → (IsSettled y → ⊥) → IsReport job b true y r → r ≡ report_of_device ReadFailed
+  broken-at : (made : CommandResult) (y : Makes made) (r : ReportValue) → length b ≤ job.limit → (IsSettled y → ⊥) → IsReport job b true y r → r ≡ device_report ReadFailed
   broken-at made y r few n (settled s) = absurd (n s)
   broken-at made y r few n (ended f l) = absurd (cc (f))
   broken-at made y r few n (broken m f l) = refl
@@ -84,7 +84,7 @@ module _ (command : Command) (b : List ℕ) where
     output-is fails room w r x = x.output ∙ ap (λ (n : CommandResult). take room n.output) (is-made x.made x.is_made)
 
     -- there is less room than the output needs
-    little-room : (fails : Bool) (room : ℕ) → ltb room (length m.output) ≡ true → Writes command b fails room (take room m.output) (report_of_device WriteFailed)
+    little-room : (fails : Bool) (room : ℕ) → ltb room (length m.output) ≡ true → Writes command b fails room (take room m.output) (device_report WriteFailed)
     little-room fails room less w r x = (
       output-is fails room w r x,
       x.without_room (subst (λ (n : CommandResult). room < length n.output) (sym (is-made x.made x.is_made)) (ltb-true room (length m.output) less)),
@@ -104,7 +104,7 @@ module _ (command : Command) (b : List ℕ) where
 
       -- a read fails, and more octets could count
       to-failure : ((made : CommandResult) (y : Makes made) → made ≡ m → IsSettled y → ⊥)
-          → Writes command b true room (take room m.output) (report_of_device ReadFailed)
+          → Writes command b true room (take room m.output) (device_report ReadFailed)
       to-failure open_ w r x = (
         output-is true room w r x,
         broken-at x.made x.is_made r (leb-true (length b) job.limit few) (open_ x.made x.is_made (is-made x.made x.is_made)) (report-of true w r x),

@@ -114,7 +114,7 @@ row-19 : result (extract 0 false plain) []
 unfolding digits encode_with is_utf8 chars encode
 row-19 = refl
 
--- there is none where the string is not named
+-- there is none if the string is not named
 row-20 : result (extract 4 false plain) (octets "04 05 30 03 02 01 07")
     ≡ noted 0 "E4 no element at offset 4" []
 unfolding digits encode_with is_utf8 chars encode

@@ -32,7 +32,7 @@ use Rattle.tlv_run.proofs.JobReports.{report-end}
 use Rattle.tlv_run.specs.declared.command.Command.{Command}
 use Rattle.tlv_run.specs.Private.MemoryDevices.{ending_source_state, failing_source_state, or_failed, room_state}
 use Rattle.tlv_run.specs.Octets.{IsReport, MakesResultOf, RunsOctets, broken, ended, settled, too_long}
-use Rattle.tlv_run.specs.Report.{ReportValue, report_of_device}
+use Rattle.tlv_run.specs.Report.{ReportValue, device_report}
 use Rattle.tlv_run.specs.Results.{CommandResult, IsSettled, MakesResult, command_job, command_result}
 use Rattle.tlv_run.specs.Runs.{RunsAndReports}
 use Rattle.tlv_run.proofs.ReportAtEnd.{report_at_end}
@@ -68,7 +68,7 @@ take_front n xs ys = elim (cases_lt (length xs) n) [
   | inr more ↦ ([], take-append-le n xs ys (omega (arith, more)) ∙ sym (append-nil (take n xs)))
 ]
 
--- where the octets are spelled whole no octet of them is refused
+-- if the octets are spelled whole, no octet of them is refused
 spelled_on : (framing : Framing) (b : List ℕ) (f : Forest) (e : Ending)
     → IsReading framing b f → spell f ≡ b → IsEnding framing b e → IsFinalEnding e → ⊥
 spelled_on framing b f ending.Done r s x final = absurd final
@@ -77,7 +77,7 @@ spelled_on framing b f (ending.Fault k) r s x final =
     let most : length (spell f) ≤ length (spell y.forest) = halt-longest framing y.forest k.code b y.halt f r.is_open ([], append-nil (spell f) ∙ s) in
     omega (arith, most, ap length s, ap length y.halt.front, length-append (spell y.forest) (y.halt.octet ∷ y.halt.rest))
 
--- what was sent of a text, and what is behind it in a longer one
+-- what was sent of a text, and what is after it in a longer one
 front_and_rest : (written sent left text rest longer : List ℕ)
     → written ≡ sent → sent ++ left ≡ text → text ++ rest ≡ longer → longer ≡ written ++ (left ++ rest)
 front_and_rest written sent left text rest longer w t l =
@@ -137,7 +137,7 @@ module _ (job : Job ReportValue) (stays : Stays job)
 
     -- a front was written, which fills the room, and there is more
     short : (made : CommandResult) (rest : List ℕ) → (x : MakesResultOf job octets read_fails made)
-        → made.output ≡ written ++ rest → rest ≢ [] → length written ≡ room → RunsOctets job octets read_fails room written (report_of_device WriteFailed)
+        → made.output ≡ written ++ rest → rest ≢ [] → length written ≡ room → RunsOctets job octets read_fails room written (device_report WriteFailed)
     short made rest x e more n = record {
       made = made;
       is_made = x;
@@ -194,7 +194,7 @@ module _ (job : Job ReportValue) (stays : Stays job)
         let same : f ≡ one.1.reading = reading-unique job.framing seen f one.1.reading r one.1.is_reading in
         whole one.0 report one.1 (sent ∙ ap job.text same ∙ sym (ap (λ (m : CommandResult). m.output) one.1.is_made)) (says one.0 one.1 (unsettled seen one.0 one.1 s))
 
-    run_broken : Runs job old new from to (Err ReadFailed) → RunsOctets job octets read_fails room written (report_of_device ReadFailed)
+    run_broken : Runs job old new from to (Err ReadFailed) → RunsOctets job octets read_fails room written (device_report ReadFailed)
     run_broken x =
         let given : List ℕ = octets_given x.pieces in
         let before : List ℕ = concat x.pieces.pieces in
@@ -206,13 +206,13 @@ module _ (job : Job ReportValue) (stays : Stays job)
         let is_given : octets ≡ given = left.2 ∙ ap (λ (l : List ℕ). given ++ l) none ∙ append-nil given in
         let few : length octets ≤ job.limit = omega (arith, x.within, ap length is_given, ap length given_before) in
         let seen_is : seen ≡ before = take_all job.limit octets few ∙ is_given ∙ given_before in
-        unsettled_all x.reading (report_of_device ReadFailed)
+        unsettled_all x.reading (device_report ReadFailed)
         (subst (λ (o : List ℕ). IsReading job.framing (take job.limit o) x.reading) (sym is_given) x.is_reading)
         (subst (WantMore job) (sym seen_is) x.wants_more)
         (all_sent (job.text x.reading) x.sends)
         (λ (made : CommandResult) y apart. broken apart behind.0 few)
 
-    run_long : Runs job old new from to (Err InputTooLong) → RunsOctets job octets read_fails room written (report_of_device InputTooLong)
+    run_long : Runs job old new from to (Err InputTooLong) → RunsOctets job octets read_fails room written (device_report InputTooLong)
     run_long x =
         let given : List ℕ = octets_given x.pieces in
         let left = left_of old.left new.left octets given known x.pieces.consumed in
@@ -220,13 +220,13 @@ module _ (job : Job ReportValue) (stays : Stays job)
         let many : job.limit < length given = k.0 in
         let is : seen ≡ take job.limit given = ap (take job.limit) left.2 ∙ take-append-le job.limit given left.0 (omega (arith, many)) in
         let more : job.limit < length octets = omega (arith, many, ap length left.2, length-append given left.0) in
-        unsettled_all x.reading (report_of_device InputTooLong)
+        unsettled_all x.reading (device_report InputTooLong)
         (subst (λ (o : List ℕ). IsReading job.framing o x.reading) (sym is) x.is_reading)
         (subst (WantMore job) (sym is) k.1)
         (all_sent (job.text x.reading) x.sends)
         (λ (made : CommandResult) y apart. too_long apart more)
 
-    run_short : Runs job old new from to (Err WriteFailed) → RunsOctets job octets read_fails room written (report_of_device WriteFailed)
+    run_short : Runs job old new from to (Err WriteFailed) → RunsOctets job octets read_fails room written (device_report WriteFailed)
     run_short x =
         let given : List ℕ = octets_given x.pieces in
         let left = left_of old.left new.left octets given known x.pieces.consumed in
@@ -261,7 +261,7 @@ full_room room xs failures e few = elim (cases_lt (length xs) room) [
   apart : (n : ℕ) → n ≡ 0 → n ≡ 1 → ⊥
   apart n e d = cc (e, d)
 
--- what a source shows that has failed behind its octets: it has nothing left
+-- what a source shows that has failed after its octets: it has nothing left
 spent : (s : MemSourceState) (failures : ℕ) → failures ≡ 1 → IsAtEnd (failing_source_state s failures).left
 spent s zero e = absurd (cc (e))
 spent s (suc n) e = refl

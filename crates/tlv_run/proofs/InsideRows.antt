@@ -173,7 +173,7 @@ row-20 : result (extract 0 true (framed (0 ∷ []) false)) (octets "03 04 00 02 
 unfolding digits encode_with is_utf8 chars encode
 row-20 = refl
 
--- A damaged wrapper ends where what it holds does
+-- A damaged wrapper ends where what it holds ends
 row-21 : result (extract 0 false (framed (0 ∷ []) false)) (octets "04 05 30")
     ≡ faulty 0 Short 3 "fault at 3: F02 input ends inside an encoding" (octets "04 05")
 unfolding digits encode_with is_utf8 chars encode

@@ -1,4 +1,4 @@
--- A job with the report of what it returns runs as the job itself.
+-- A job with what is reported of its result runs as the job itself.
 use Rattle.std.proofs.Common.{◌≡◌, ℕ, List, ap}
 use Rattle.std.specs.Prelude.{Result, Ok, Err, MatchResult}
 use Rattle.tlv_walk.specs.declared.run.DeviceFault.{DeviceFault}
@@ -6,7 +6,7 @@ use Rattle.tlv_walk.specs.declared.run.DeviceFault.TheVariants.{ReadFailed, Writ
 use Rattle.tlv_io.specs.Device.{DrainState, SourceState, octets_given}
 use Rattle.tlv_walk.specs.Job.{Job, Runs, WantMore, read_failed, too_long, write_failed}
 use Rattle.tlv_walk.proofs.FollowerLemmas.Enough.{comes_to, returns}
-use Rattle.tlv_run.specs.Report.{ReportValue, report_of, report_of_device}
+use Rattle.tlv_run.specs.Report.{ReportValue, device_report, report_of}
 use Rattle.tlv_run.specs.Results.{job_with_report}
 use Rattle.tlv_run.specs.Runs.{RunsAndReports}
 use Rattle.tlv_run.proofs.ReportAtEnd.{report_at_end}
@@ -88,6 +88,6 @@ module _ {A : Type 0} (say : A → ReportValue) (job : Job A) where
 pub report-end : {job : Job ReportValue} {old new : SourceState} {from to : DrainState} {report : ReportValue} → (x : RunsAndReports job old new from to report) → report ≡ report_at_end x.result
 report-end {report = report} x = by-result x.result x.report_is
   where
-    by-result : (result : Result ReportValue DeviceFault) → MatchResult result (λ of_input. report ≡ of_input) (λ fault. report ≡ report_of_device fault) → report ≡ report_at_end result
+    by-result : (result : Result ReportValue DeviceFault) → MatchResult result (λ of_input. report ≡ of_input) (λ fault. report ≡ device_report fault) → report ≡ report_at_end result
     by-result (Ok of_input) e = e
     by-result (Err fault) e = e

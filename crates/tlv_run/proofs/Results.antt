@@ -73,7 +73,7 @@ module _ (job : Job ReportValue) where
       let x = is_result b octets in
       (result_of b, x, λ (other : CommandResult) y. makes_unique b other (result_of b) y x)
 
-  -- where nothing more is wanted, the same is made of every longer input
+  -- if nothing more is wanted, the same is made of every longer input
   abbrev pub Stays : Type 0
   Stays = (b c : List ℕ) (f g : Forest) → IsReading job.framing b f → IsReading job.framing (b ++ c) g → job.is_enough f ≡ true
       → (job.is_enough g ≡ true) × ((e : Ending) → command_result job g e ≡ command_result job f e)

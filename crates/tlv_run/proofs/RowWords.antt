@@ -8,7 +8,8 @@ use Rattle.std.specs.Ordering.{nat_cmp}
 use Prim.Native.String.{String}
 use Rattle.tlv_head.specs.declared.fault.FaultCode.{FaultCode}
 use Rattle.tlv_show.specs.DumpJob.{top_layout}
-use Rattle.tlv_show.specs.Texts.{dump_text}
+use Rattle.tlv_show.specs.ShowJob.{show_job}
+use Rattle.tlv_show.specs.Texts.{item_text}
 use Rattle.tlv_show.specs.declared.options.Options.{Options}
 use Rattle.tlv_show.specs.declared.rules.Rules.{Rules}
 use Rattle.tlv_value.specs.Names.{Table}
@@ -92,7 +93,8 @@ faulty findings code offset message output =
 -- a dump, by the names themselves in place of the table of names
 abbrev dumped_by : Rules → Option ℕ → Bool → Framing → NameOf → List ℕ → CommandResult
 dumped_by rules limit pure framing name_of octets =
-    record (result (dump rules limit pure framing) octets) { output = dump_text name_of (top_layout (options_of rules limit pure framing)) rules (reading framing octets) }
+    let show = show_job framing rules (item_text name_of (top_layout (options_of rules limit pure framing))) in
+    record (result (dump rules limit pure framing) octets) { output = show.text (reading framing octets) }
 
 by_names : (rules : Rules) (limit : Option ℕ) (pure : Bool) (framing : Framing) (names : Table) (name_of : NameOf) →
     finite.get names ≡ name_of → (octets : List ℕ) → result_with names (dump rules limit pure framing) octets ≡ dumped_by rules limit pure framing name_of octets

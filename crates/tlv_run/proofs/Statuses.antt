@@ -14,13 +14,13 @@ use Rattle.tlv_walk.specs.Ending.{IsEnding}
 use Rattle.tlv_walk.specs.Forest.{Forest}
 use Rattle.tlv_walk.specs.Job.{EndsWith}
 use Rattle.tlv_run.specs.Laws.{StatusesShowSoundness}
-use Rattle.tlv_run.specs.Report.{report_of_findings, report_of_found, report_of_unused, report_with}
+use Rattle.tlv_run.specs.Report.{findings_report, found_report, unused_report, report_with}
 use Rattle.tlv_run.specs.Results.{CommandResult, command_job}
 use Rattle.tlv_run.specs.declared.command.Command.{Command}
 use Rattle.tlv_run.specs.declared.command.Command.TheVariants.{Check, Dump, Extract, Indef}
 
--- what is reported where there is no fault
-quiet : (unused : Option ℕ) (findings : ℕ) → (report_of_unused unused (report_of_findings findings)).status ≡ 2 → ⊥
+-- what is reported if there is no fault
+quiet : (unused : Option ℕ) (findings : ℕ) → (unused_report unused (findings_report findings)).status ≡ 2 → ⊥
 quiet None findings e = by-test (findings == 0) e
   where
     by-test : (none : Bool) → (if none then report_with 0 [] else report_with 1 (codes "findings: " ++ decimal findings)).status ≡ 2 → ⊥
@@ -28,7 +28,7 @@ quiet None findings e = by-test (findings == 0) e
     by-test false e = absurd (cc (e))
 quiet (Some offset) findings e = absurd (cc (e))
 
-found_quiet : (offset : ℕ) (found : Bool) → (report_of_found offset found).status ≡ 2 → ⊥
+found_quiet : (offset : ℕ) (found : Bool) → (found_report offset found).status ≡ 2 → ⊥
 found_quiet offset true e = absurd (cc (e))
 found_quiet offset false e = absurd (cc (e))
 

@@ -2,7 +2,7 @@
 use Rattle.std.specs.Prelude.{◌≡◌, ℕ, ◌<◌, ◌≤◌, Bool, true, false, List, length, take}
 use Rattle.tlv_walk.specs.declared.run.DeviceFault.TheVariants.{ReadFailed, WriteFailed, InputTooLong}
 use Rattle.tlv_walk.specs.Job.{Job}
-use Rattle.tlv_run.specs.Report.{ReportValue, report_of_device}
+use Rattle.tlv_run.specs.Report.{ReportValue, device_report}
 use Rattle.tlv_run.specs.Results.{CommandResult, IsSettled, MakesResult}
 
 -- the job, all octets, and whether after them a read fails
@@ -11,7 +11,7 @@ module _ (job : Job ReportValue) (octets : List ℕ) (read_fails : Bool) where
   abbrev pub MakesResultOf : CommandResult → Type 0
   MakesResultOf = MakesResult job (take job.limit octets)
 
-  -- what is reported where all of that was written: a line for each cause
+  -- what is reported if all of that was written: a line for each cause
   pub data IsReport {made : CommandResult} (x : MakesResultOf made) : ReportValue → Type 0 where
     -- nothing counts that could follow
     settled : IsSettled x → IsReport x made.report
@@ -19,9 +19,9 @@ module _ (job : Job ReportValue) (octets : List ℕ) (read_fails : Bool) where
     ended : read_fails ≡ false → length octets ≤ job.limit → IsReport x made.report
     -- after the octets a read failed
     broken : (IsSettled x → ⊥) → read_fails ≡ true → length octets ≤ job.limit
-        → IsReport x (report_of_device ReadFailed)
+        → IsReport x (device_report ReadFailed)
     -- the octets are too many
-    too_long : (IsSettled x → ⊥) → job.limit < length octets → IsReport x (report_of_device InputTooLong)
+    too_long : (IsSettled x → ⊥) → job.limit < length octets → IsReport x (device_report InputTooLong)
 
   -- what was written, into so much room, and what is reported
   pub record RunsOctets (room : ℕ) (written : List ℕ) (report : ReportValue) : Type 0 where
@@ -29,4 +29,4 @@ module _ (job : Job ReportValue) (octets : List ℕ) (read_fails : Bool) where
     pub is_made : MakesResultOf made
     pub output : written ≡ take room made.output
     pub with_room : length made.output ≤ room → IsReport is_made report
-    pub without_room : room < length made.output → report ≡ report_of_device WriteFailed
+    pub without_room : room < length made.output → report ≡ device_report WriteFailed

@@ -36,65 +36,65 @@ fault_line fault =
     ++ fault_code fault.code ++ codes " " ++ fault_text fault.code
 
 -- a fault takes precedence over what else there is to say
-abbrev pub report_of_ending : Ending → ReportValue → ReportValue
-report_of_ending (ending.Fault f) other = report_with 2 (fault_line f)
-report_of_ending ending.Done other = other
+abbrev pub ending_report : Ending → ReportValue → ReportValue
+ending_report (ending.Fault f) other = report_with 2 (fault_line f)
+ending_report ending.Done other = other
 
 -- the first of the named offsets at which there is no string to read takes precedence over findings
-abbrev pub report_of_unused : Option ℕ → ReportValue → ReportValue
-report_of_unused None other = other
-report_of_unused (Some offset) other = report_with 1 (codes "E7 no string to read at offset " ++ decimal offset)
+abbrev pub unused_report : Option ℕ → ReportValue → ReportValue
+unused_report None other = other
+unused_report (Some offset) other = report_with 1 (codes "E7 no string to read at offset " ++ decimal offset)
 
-abbrev pub report_of_findings : ℕ → ReportValue
-report_of_findings n = if n == 0 then report_with 0 [] else report_with 1 (codes "findings: " ++ decimal n)
+abbrev pub findings_report : ℕ → ReportValue
+findings_report n = if n == 0 then report_with 0 [] else report_with 1 (codes "findings: " ++ decimal n)
 
 -- a dump or a check: the count stays, whatever is reported
 abbrev pub report_of_outcome : Outcome → ReportValue
 report_of_outcome outcome =
-    let other = report_of_unused outcome.unused (report_of_findings outcome.findings) in
-    record (report_of_ending outcome.ending other) { findings = outcome.findings }
+    let other = unused_report outcome.unused (findings_report outcome.findings) in
+    record (ending_report outcome.ending other) { findings = outcome.findings }
 
 -- whether an element was found at this offset
-abbrev pub report_of_found : ℕ → Bool → ReportValue
-report_of_found offset found =
+abbrev pub found_report : ℕ → Bool → ReportValue
+found_report offset found =
     if found then report_with 0 []
     else report_with 1 (codes "E4 no element at offset " ++ decimal offset)
 
 -- an extract of the element at this offset
 abbrev pub report_of_cut : ℕ → Cut → ReportValue
-report_of_cut offset cut = report_of_ending cut.ending (report_of_found offset cut.found)
+report_of_cut offset cut = ending_report cut.ending (found_report offset cut.found)
 
 -- a copy that `indef` makes
 abbrev pub report_of_indef : Ending → ReportValue
-report_of_indef e = report_of_ending e (report_with 0 [])
+report_of_indef e = ending_report e (report_with 0 [])
 
 -- ---- devices
 
-abbrev pub report_of_device : DeviceFault → ReportValue
-report_of_device ReadFailed = report_with 3 (codes "E1 read failed")
-report_of_device WriteFailed = report_with 3 (codes "E2 write failed")
-report_of_device InputTooLong = report_with 3 (codes "E3 input too long")
+abbrev pub device_report : DeviceFault → ReportValue
+device_report ReadFailed = report_with 3 (codes "E1 read failed")
+device_report WriteFailed = report_with 3 (codes "E2 write failed")
+device_report InputTooLong = report_with 3 (codes "E3 input too long")
 
 -- the file to read does not open
-abbrev pub report_of_closed : ReportValue
-report_of_closed = report_with 3 (codes "E5 cannot open the file")
+abbrev pub closed_report : ReportValue
+closed_report = report_with 3 (codes "E5 cannot open the file")
 
 abbrev pub report_of : {A : Type 0} → (A → ReportValue) → Result A DeviceFault → ReportValue
 report_of say (Ok a) = say a
-report_of say (Err fault) = report_of_device fault
+report_of say (Err fault) = device_report fault
 
 -- ---- the names file
 
 abbrev pub line_with : List ℕ → ℕ → List ℕ → List ℕ
 line_with code line text = code ++ codes " line " ++ decimal line ++ text
 
-abbrev pub report_of_names : NamesFault → ReportValue
-report_of_names (names.BadOid line) = report_with 4 (line_with (codes "N1") line (codes ": not an object identifier"))
-report_of_names (names.BadName line) = report_with 4 (line_with (codes "N2") line (codes ": no usable name"))
-report_of_names (names.Repeated line) = report_with 4 (line_with (codes "N3") line (codes ": repeated"))
-report_of_names names.TooLarge = report_with 4 (codes "N4 names file too large")
-report_of_names names.ReadFailed = report_with 4 (codes "N5 names file not read")
-report_of_names names.Memory = report_with 5 (codes "N6 out of memory")
+abbrev pub names_report : NamesFault → ReportValue
+names_report (names.BadOid line) = report_with 4 (line_with (codes "N1") line (codes ": not an object identifier"))
+names_report (names.BadName line) = report_with 4 (line_with (codes "N2") line (codes ": no usable name"))
+names_report (names.Repeated line) = report_with 4 (line_with (codes "N3") line (codes ": repeated"))
+names_report names.TooLarge = report_with 4 (codes "N4 names file too large")
+names_report names.ReadFailed = report_with 4 (codes "N5 names file not read")
+names_report names.Memory = report_with 5 (codes "N6 out of memory")
 
 -- ---- how it is written
 

@@ -14,7 +14,7 @@ use Rattle.tlv_run.specs.Report.{ReportValue, report_of_cut, report_of_indef, re
 use Rattle.tlv_run.specs.declared.command.Command.{Command}
 use Rattle.tlv_run.specs.declared.command.Command.TheVariants.{Check, Dump, Extract, Indef}
 
--- the same job, with the report of what it returns in place of that
+-- the same job, with the report of its result in place of the result
 abbrev pub job_with_report : {A : Type 0} → (A → ReportValue) → Job A → Job ReportValue
 job_with_report say job = record {
   framing = job.framing;

@@ -32,6 +32,6 @@ pub fn second_indef_is_the_first()
 
 /// The status is 2 exactly if the input is no sound list of encodings, read as the command says. Of `extract` that
 /// holds if its element is not whole; if it is, the status is 0, whatever follows.
-pub fn statuses_tell_of_soundness()
+pub fn statuses_show_soundness()
     ensures { StatusesShowSoundness }
 {}

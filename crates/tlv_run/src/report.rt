@@ -1,8 +1,8 @@
 //! What is reported of a run: the exit status and the message.
 ghost use Rattle.std.specs.Prelude.{◌≡◌, ◌+◌, ◌++◌, ◌≤◌, [], decimal, length};
-ghost use Rattle.tlv_run.specs.Report.{fault_line, line_with, report_of, report_of_found, report_of_indef, report_value, report_with};
-ghost use Rattle.tlv_run.specs.Report.{report_of_cut, report_of_ending, report_of_findings, report_of_outcome, report_of_unused};
-ghost use Rattle.tlv_run.specs.Report.{report_of_closed, report_of_device, report_of_names};
+ghost use Rattle.tlv_run.specs.Report.{closed_report, device_report, ending_report, fault_line, findings_report, found_report};
+ghost use Rattle.tlv_run.specs.Report.{line_with, names_report, report_of, report_of_cut, report_of_indef, report_of_outcome};
+ghost use Rattle.tlv_run.specs.Report.{report_value, report_with, unused_report};
 
 use arrayvec::ArrayVec;
 use itoa::Buffer;
@@ -79,7 +79,7 @@ pub(crate) fn indef_report(came: Result<Ending, DeviceFault>) -> Report
 
 /// A fault, or else what there is to say of an input without one.
 fn ending_report(ending: Ending, other: Report) -> Report
-    ensures { report_value result ≡ report_of_ending ending (report_value other) }
+    ensures { report_value result ≡ ending_report ending (report_value other) }
 {
     match ending {
         Ending::Fault(fault) => reporting(2, fault_message(fault)),
@@ -88,7 +88,7 @@ fn ending_report(ending: Ending, other: Report) -> Report
 }
 
 fn unused_report(unused: Option<u64>, other: Report) -> Report
-    ensures { report_value result ≡ report_of_unused unused (report_value other) }
+    ensures { report_value result ≡ unused_report unused (report_value other) }
 {
     match unused {
         Some(offset) => reporting(1, numbered(b"E7 no string to read at offset ", offset)),
@@ -97,7 +97,7 @@ fn unused_report(unused: Option<u64>, other: Report) -> Report
 }
 
 fn findings_report(findings: u64) -> Report
-    ensures { report_value result ≡ report_of_findings findings }
+    ensures { report_value result ≡ findings_report findings }
 {
     if findings == 0 {
         Report::silent(0)
@@ -107,7 +107,7 @@ fn findings_report(findings: u64) -> Report
 }
 
 fn found_report(offset: u64, found: bool) -> Report
-    ensures { report_value result ≡ report_of_found offset found }
+    ensures { report_value result ≡ found_report offset found }
 {
     if found {
         Report::silent(0)
@@ -118,7 +118,7 @@ fn found_report(offset: u64, found: bool) -> Report
 
 /// The report if a device failed, or the input is too long.
 pub fn device_report(fault: DeviceFault) -> Report
-    ensures { report_value result ≡ report_of_device fault }
+    ensures { report_value result ≡ device_report fault }
 {
     match fault {
         DeviceFault::ReadFailed => Report::saying(3, b"E1 read failed"),
@@ -129,14 +129,14 @@ pub fn device_report(fault: DeviceFault) -> Report
 
 /// The report if the file to read does not open.
 pub fn closed_report() -> Report
-    ensures { report_value result ≡ report_of_closed }
+    ensures { report_value result ≡ closed_report }
 {
     Report::saying(3, b"E5 cannot open the file")
 }
 
 /// The report if the names file is refused.
 pub fn names_report(fault: NamesFault) -> Report
-    ensures { report_value result ≡ report_of_names fault }
+    ensures { report_value result ≡ names_report fault }
 {
     match fault {
         NamesFault::BadOid(line) => reporting(

@@ -5,8 +5,10 @@ use Rattle.tlv_value.specs.declared.layout.Layout.{Layout}
 use Rattle.tlv_value.specs.Value.{no_names}
 use Rattle.tlv_walk.specs.declared.framing.Framing.{Framing}
 use Rattle.tlv_walk.proofs.GrammarLemmas.Readings.{reading}
+use Rattle.tlv_show.specs.CheckJob.{check_job}
+use Rattle.tlv_show.specs.ShowJob.{show_job}
 use Rattle.tlv_show.specs.declared.rules.Rules.{Rules}
-use Rattle.tlv_show.specs.Texts.{check_text, dump_text, finding_count}
+use Rattle.tlv_show.specs.Texts.{finding_count, item_text}
 
 abbrev pub plain : Framing
 plain = record { inside = []; padding = false }
@@ -32,10 +34,10 @@ pub record Answer : Type 0 where
   pub count : ℕ
 
 abbrev pub dumped : Framing → Layout → Rules → List ℕ → Answer
-dumped framing layout rules b = let f = reading framing b in record { text = dump_text no_names layout rules f; count = finding_count rules f }
+dumped framing layout rules b = let f = reading framing b in record { text = (show_job framing rules (item_text no_names layout)).text f; count = finding_count rules f }
 
 abbrev pub checked : Framing → Rules → List ℕ → Answer
-checked framing rules b = let f = reading framing b in record { text = check_text rules f; count = finding_count rules f }
+checked framing rules b = let f = reading framing b in record { text = (check_job rules framing).text f; count = finding_count rules f }
 
 -- so many findings, and these lines
 abbrev pub says : ℕ → List (List ℕ) → Answer

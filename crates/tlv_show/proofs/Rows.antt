@@ -74,7 +74,7 @@ rows : dump_of
 unfolding universal ended dump_of encode_with digits
 rows = refl
 
--- 00 00 04 02 05 00 00, where the string wraps its contents
+-- 00 00 04 02 05 00 00, if the string wraps its contents
 padding-and-a-wrapper : dump_of
     (Pad (0 ∷ [])
     ∷ Pad (0 ∷ [])

@@ -1,14 +1,12 @@
 -- What a dump over all that a source gives comes to.
-use Rattle.std.specs.Prelude.{ℕ, List}
 use Rattle.std.specs.FinMap as finite
 use Rattle.tlv_value.specs.declared.layout.Layout.{Layout}
 use Rattle.tlv_value.specs.Names.{Table}
-use Rattle.tlv_walk.specs.Forest.{Forest}
 use Rattle.tlv_walk.specs.Job.{Job}
 use Rattle.tlv_show.specs.declared.options.Options.{Options}
 use Rattle.tlv_show.specs.declared.outcome.Outcome.{Outcome}
 use Rattle.tlv_show.specs.ShowJob.{show_job}
-use Rattle.tlv_show.specs.Texts.{dump_text, item_text}
+use Rattle.tlv_show.specs.Texts.{item_text}
 
 -- how the lines of the first elements are laid out
 abbrev pub top_layout : Options → Layout
@@ -18,9 +16,3 @@ top_layout options = record { level = 0; limit = options.limit; pure = options.p
 abbrev pub dump_job : Options → Table → Job Outcome
 dump_job options names =
     show_job options.framing options.rules (item_text (finite.get names) (top_layout options))
-
--- ---- A word of laws and proofs alone
-
--- the text of a dump with these options
-abbrev pub dump_job_text : Options → Table → Forest → List ℕ
-dump_job_text options names f = dump_text (finite.get names) (top_layout options) options.rules f

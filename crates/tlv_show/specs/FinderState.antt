@@ -1,5 +1,6 @@
 -- What is kept of elements so that what is found in them can be reported event by event, and what is reported.
--- Nothing here is to be believed: `Items` has what is reported, and a law has that it is the same.
+-- No contract of `dump` or `check` names this: `Items` says what they report. It is here for the contracts of the
+-- followers `Dump` and `Check`, which see one event at a time. Laws say that these put just what `Items` says.
 use Rattle.std.specs.Prelude.{ℕ, ◌+◌, ◌-◌, ◌^◌, Bool, true, false, ◌&&◌, ◌||◌, not, ◌==◌, nat_le, nat_lt, if◌then◌else◌, List, [], ◌∷◌, ◌++◌, length, max, min, take, Option, Some, None}
 use Rattle.std.specs.List.{filter}
 use Rattle.tlv_head.specs.Header.{HeaderValue, announced_length}
@@ -104,7 +105,7 @@ end_notes Cer w =
     finding_if (w.has_segments && w.all_primitive && nat_le ((if w.has_bits then 1 else 0) + w.octets) 1000) C05
     ++ finding_if (w.has_segments && w.is_empty) C06
 
--- ---- What contracts see of a `Finder`
+-- ---- What contracts see of a `Finder`, and of a `Check`
 
 -- the primitive that is open: where it begins, and what is noted of its contents
 pub record OpenValue : Type 0 where

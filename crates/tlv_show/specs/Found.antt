@@ -19,9 +19,7 @@ letters Cer = codes "BSC"
 abbrev pub shows : Rules → Finding → Bool
 shows rules finding = list_any (eqb (slice_index (finding_wording finding).0 0)) (letters rules)
 
--- ---- Words of laws, proofs and private functions alone
-
--- with the header, and with the last octet of a primitive
+-- what is found in an element by its header, and in a primitive by its contents
 abbrev pub header_findings : Rules → Site → HeaderValue → List Finding
 header_findings rules s h = filter (shows rules) (findings_by (header_conditions s h))
 

@@ -5,9 +5,10 @@ use Rattle.std.specs.List.{filter}
 use Rattle.tlv_show.specs.Items.{Item, FindingAt, OpeningLine, ClosingLine, WholePrimitive, OpenPrimitive, PaddingLine, items}
 use Rattle.tlv_show.specs.Site.{top_site}
 use Rattle.tlv_show.specs.declared.rules.Rules.TheVariants.{Ber}
-use Rattle.tlv_show.specs.DumpJob.{top_layout}
+use Rattle.tlv_show.specs.CheckJob.{check_job}
+use Rattle.tlv_show.specs.DumpJob.{dump_job, top_layout}
 use Rattle.tlv_show.specs.FinderState.{new_finder}
-use Rattle.tlv_show.specs.Texts.{check_line, check_text, finding_count}
+use Rattle.tlv_show.specs.Texts.{check_line, finding_count}
 use Rattle.tlv_show.specs.CheckStep.{check_step}
 use Rattle.tlv_show.specs.DumpStep.{new_dump}
 use Rattle.tlv_head.specs.Header.{HeaderValue, announced_length}
@@ -26,21 +27,20 @@ use Rattle.tlv_show.specs.CheckStep.{styled_lines}
 use Rattle.tlv_show.specs.DumpStep.{DumpState, dump_step, finding_lines}
 use Rattle.tlv_show.specs.FinderState.{find_begin}
 use Rattle.tlv_show.specs.Found.{contents_findings, shows}
-use Rattle.tlv_show.specs.DumpJob.{dump_job_text}
 
 -- the text of a longer input, of no more octets than are dumped, begins with that of the shorter
 abbrev pub DumpsGoOn : Type 0
 DumpsGoOn =
     (options : Options) (names : Table) (b c : List ℕ) (f g : Forest) → length (b ++ c) ≤ 2 ^ 40
     → IsReading options.framing b f → IsReading options.framing (b ++ c) g
-    → IsPrefixOf (dump_job_text options names f) (dump_job_text options names g)
+    → IsPrefixOf ((dump_job options names).text f) ((dump_job options names).text g)
 
 -- likewise what a check lists
 abbrev pub ChecksGoOn : Type 0
 ChecksGoOn =
     (rules : Rules) (framing : Framing) (b c : List ℕ) (f g : Forest) → length (b ++ c) ≤ 2 ^ 40
     → IsReading framing b f → IsReading framing (b ++ c) g
-    → IsPrefixOf (check_text rules f) (check_text rules g)
+    → IsPrefixOf ((check_job rules framing).text f) ((check_job rules framing).text g)
 
 -- the lines of what is found on the contents of a primitive
 abbrev pub contents_finding_lines : DumpState → HeaderValue → List ℕ → List ℕ
@@ -71,7 +71,7 @@ DumpsMakeTexts =
     (options : Options) (names : Table) (b : List ℕ) (f : Forest)
     → length b ≤ 2 ^ 40 → IsReading options.framing b f
     → let made = effect_of dump_step (new_dump options.rules (top_layout options) names) (events f) in
-    (made.put ≡ dump_job_text options names f)
+    (made.put ≡ (dump_job options names).text f)
     × (made.state.finder.count ≡ finding_count options.rules f)
     × (made.goes ≡ On)
 
@@ -80,7 +80,9 @@ abbrev pub ChecksMakeTexts : Type 0
 ChecksMakeTexts =
     (rules : Rules) (framing : Framing) (b : List ℕ) (f : Forest) → length b ≤ 2 ^ 40 → IsReading framing b f
     → let made = effect_of check_step (new_finder rules) (events f) in
-    (made.put ≡ check_text rules f) × (made.state.count ≡ finding_count rules f) × (made.goes ≡ On)
+    (made.put ≡ (check_job rules framing).text f)
+    × (made.state.count ≡ finding_count rules f)
+    × (made.goes ≡ On)
 
 -- a finding of BER
 abbrev pub is_basic : Item → Bool
@@ -94,5 +96,5 @@ is_basic (PaddingLine level offset) = false
 -- what a check lists under BER is what it lists under other rules, but for the findings that these rules add
 abbrev pub BasicFindingsStay : Type 0
 BasicFindingsStay =
-    (rules : Rules) (f : Forest)
-    → check_text Ber f ≡ flat_map check_line (filter is_basic (items rules top_site f))
+    (rules : Rules) (framing : Framing) (f : Forest)
+    → (check_job Ber framing).text f ≡ flat_map check_line (filter is_basic (items rules top_site f))

@@ -10,7 +10,7 @@ use Rattle.tlv_walk.specs.Events.{Begin, Bytes, Close, End, Enter, EventValue, L
 use Rattle.tlv_walk.specs.Follow.{Effect, each_octet}
 use Rattle.tlv_show.specs.Lines.{close_line, opening_line, padding_line}
 
--- what contracts see of a `Dump`
+-- what contracts see of the `Lines` of a dump
 pub record LinesState : Type 0 where
   -- how lines are laid out: the level is how many elements are open that hold others
   pub layout : Layout
@@ -23,7 +23,7 @@ pub record LinesState : Type 0 where
   -- what is kept of the primitive that is open
   pub value : Option TextState
 
--- a dump of which nothing is written
+-- the lines of a dump before its first event
 abbrev pub new_lines : Layout → Table → LinesState
 new_lines layout names = record { layout = layout; names = names; offset = 0; in_padding = false; value = None }
 

@@ -1,5 +1,5 @@
 -- What a command does that shows what a source gives, in one pass.
-use Rattle.std.specs.Prelude.{ℕ, ◌^◌, false, List, count_by, flat_map}
+use Rattle.std.specs.Prelude.{ℕ, ◌^◌, false, List, flat_map}
 use Rattle.tlv_walk.specs.declared.framing.Framing.{Framing}
 use Rattle.tlv_walk.specs.Job.{Job}
 use Rattle.tlv_walk.specs.Wrappers.{first_unused}
@@ -7,7 +7,7 @@ use Rattle.tlv_show.specs.declared.outcome.Outcome.{Outcome}
 use Rattle.tlv_show.specs.declared.rules.Rules.{Rules}
 use Rattle.tlv_show.specs.Items.{Item, items}
 use Rattle.tlv_show.specs.Site.{top_site}
-use Rattle.tlv_show.specs.Texts.{is_finding}
+use Rattle.tlv_show.specs.Texts.{finding_count}
 
 -- the items of all elements are written, each with this text, and the findings are counted, whether they are written
 -- or not
@@ -19,7 +19,7 @@ show_job framing rules text_of = record {
   is_enough = λ f. false;
   returned = λ f e. record {
     ending = e;
-    findings = count_by is_finding (items rules top_site f);
+    findings = finding_count rules f;
     unused = first_unused framing.inside f;
   };
 }

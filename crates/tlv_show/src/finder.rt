@@ -157,7 +157,7 @@ impl Finder {
     {
         let frame = self.holders.frame();
         // The type is asked for once: that it has primitives shows in `is_clear`. The form need not be known to the
-        // caller, and costs nothing where the compiler knows it.
+        // caller, and costs nothing if the compiler knows it.
         if header.constructed
             || !is_plain_if_usual(self.rules, frame, header)
             || !is_clear(header, contents)

@@ -29,7 +29,7 @@ place n = 32 ∷ digit (n / 1000 % 10) ∷ digit (n / 100 % 10) ∷ digit (n / 1
 abbrev pub header_line : List ℕ → HeaderValue → List ℕ
 header_line word h = word ++ place h.offset ++ pairs (octets_of h) ++ 10 ∷ []
 
--- the line of the end of a constructed element, with the offset of its end-of-contents octets, where it has them
+-- the line of the end of a constructed element, with the offset of its end-of-contents octets, if it has them
 abbrev pub test_close_line : Option ℕ → List ℕ
 test_close_line None = codes "close\n"
 test_close_line (Some at) = codes "close" ++ place at ++ 10 ∷ []
@@ -38,7 +38,7 @@ test_close_line (Some at) = codes "close" ++ place at ++ 10 ∷ []
 abbrev pub test_effect : ℕ → List ℕ → Effect ℕ
 test_effect n octets = record { state = n; put = octets; goes = On }
 
--- an element ends: n is how many ends are to come up to the one that is enough, or 0 where none is
+-- an element ends: n is how many ends are to come up to the one that is enough, or 0 if none is
 abbrev pub ends : ℕ → List ℕ → Effect ℕ
 ends n octets = record { state = n - 1; put = octets; goes = if n == 1 then Enough else On }
 

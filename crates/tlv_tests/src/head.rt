@@ -171,7 +171,7 @@ fn octets_are_refused(rt: HostRuntime) {
     }
 }
 
-/// The header with which the octets begin is there even where it has no place.
+/// The header with which the octets begin is there even if it has no place.
 #[test]
 fn headers_begin_octets(rt: HostRuntime) {
     for refusal in &REFUSALS {

@@ -1,5 +1,5 @@
 //! Walks over memory: what a follower writes of them and what they come to, in whatever pieces the
-//! octets come, and where a device fails.
+//! octets come, and if a device fails.
 mod deep;
 mod devices;
 mod enough;

@@ -98,7 +98,7 @@ pub record AreRefusedBy (words : List Text) (error : Error) : Type 0 where
 
 -- why the words are refused: a line for each cause
 abbrev pub IsUsageFaultOf : List Text → UsageFault → Type 0
--- U1: `clap` refuses them, or they ask for help or for the version
+-- `clap` does not take the words, or they ask for help or for the version
 IsUsageFaultOf words (Parser error) = AreRefusedBy words error
 -- U2: the text of this option, the first such, is no value
 IsUsageFaultOf words (Value option) = AreReadAs words (Err option.now)

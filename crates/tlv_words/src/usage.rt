@@ -10,7 +10,7 @@ use tlv_walk::DeviceFault;
 /// Why the words of a command line are refused.
 #[derive(Debug, Drop)]
 pub enum UsageFault {
-    /// U1: `clap` refuses the words, or they ask for help or for the version.
+    /// `clap` does not take the words, or they ask for help or for the version.
     Parser(clap::Error),
     /// U2: the value of this option is not in its range. It is written as on the command line.
     Value(&'static str),

@@ -27,7 +27,7 @@ fn expect<const N: usize>(
     expect_eq(rt, "status", shown.report.status, status);
 }
 
-/// Expects what the case says of its input in these pieces, or a failed write where its output is longer than the room.
+/// Expects what the case says of its input in these pieces, or a failed write if its output is longer than the room.
 fn expect_shown(rt: &impl Abort, case: &Case<'_>, cuts: &[u64]) {
     let shown = run_octets::<256>(
         &case.command,

@@ -1,4 +1,4 @@
-//! Runs of a case over memory: in whatever pieces its octets come, over each front of them, and where a device fails.
+//! Runs of a case over memory: in whatever pieces its octets come, over each front of them, and if a device fails.
 use crate::expect::expect_eq;
 use crate::row::{Case, number};
 use crate::{ONES, READ_FAILED, WRITE_FAILED};
@@ -121,7 +121,7 @@ pub(crate) fn expect_whole(rt: &impl Abort, case: &Case<'_>, room: &mut [u8]) {
     expect_in_pieces(rt, case, input, room, outcome);
 }
 
-/// How many octets of the output have come with so many octets of the input, where the case says so.
+/// How many octets of the output have come with so many octets of the input, if the case says so.
 fn count_with(case: &Case<'_>, octets: u64) -> Result<Option<u64>, Fail> {
     let mut count = 0;
     for pair in case.come.split(',') {
@@ -211,7 +211,7 @@ pub(crate) fn expect_failed_reads(
     }
 }
 
-/// Expects a failed write where the room is too small by one octet or more, and what fits of the output there.
+/// Expects a failed write if the room is too small by one octet or more, and in it what fits of the output.
 fn expect_too_little_room(rt: &impl Abort, case: &Case<'_>, devices: Devices<'_>, room: &mut [u8]) {
     for size in 0..case.output.len() {
         let (Some(place), Some(written)) = (room.get_mut(..size), case.output.get(..size)) else {
@@ -274,7 +274,7 @@ fn takes_padding(command: &Command) -> bool {
     }
 }
 
-/// Expects `indef` of what `indef` wrote of the input to be the same, where the input has no fault.
+/// Expects `indef` of what `indef` wrote of the input to be the same, if the input has no fault.
 pub(crate) fn expect_same_again(
     rt: &impl Abort,
     case: &Case<'_>,

@@ -81,7 +81,7 @@ module _ (n : ℕ) (only : Bool) where
   first_there (Some e) b t f g = f e refl
   first_there None b t f g = g refl
 
-  -- ---- where an element begins
+  -- ---- an element begins
 
   -- by whether it is the one wanted
   abbrev begins : HeaderValue → Bool → Effect ExtractState

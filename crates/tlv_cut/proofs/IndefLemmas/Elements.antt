@@ -36,7 +36,7 @@ opening_by constructed h = if constructed then indefinite_octets h else opening 
 abbrev end_by : Bool → List ℕ
 end_by constructed = if constructed then 0 ∷ 0 ∷ [] else []
 
--- what is put where an element begins that holds others
+-- what is put as an element begins that holds others
 opens_by : (constructed three : Bool) (h : HeaderValue) → constructed ≡ h.constructed
     → events_text ((if constructed then Open h else Enter h) ∷ map (λ z. Unused) (lead_by constructed three))
     ≡ (if constructed then indefinite_octets h else octets_of h ++ lead_by constructed three)
@@ -48,7 +48,7 @@ opens_by false false h e = refl
 opens_put : (h : HeaderValue) → events_text (opening_events h) ≡ opening_by h.constructed h
 opens_put h = opens_by h.constructed (eqb h.number 3) h refl
 
--- and where it ends
+-- and as it ends
 closes_by : (constructed : Bool) (at : Option ℕ)
     → indef_event_text (if constructed then Close at else Leave) ≡ end_by constructed
 closes_by true at = refl

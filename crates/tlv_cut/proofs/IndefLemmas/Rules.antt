@@ -51,7 +51,7 @@ pub whole : (at : ℕ) (f : Forest) → is_whole f ≡ true
     → is_whole (with_offsets_from at (with_indefinite_lengths f)) ≡ true
 whole at f e = is_whole-with_offsets_from at (with_indefinite_lengths f) ∙ is_whole-with_indefinite_lengths f e
 
--- where there is an element, there is one with indefinite lengths too
+-- if there is an element, there is one with indefinite lengths too
 closed_some : (constructed : Bool) (at : ℕ) (h : HeaderValue) (c : List ℕ) (inside rest : Forest)
     → has_element (with_offsets_from at
     (if constructed then Closed (indefinite_header h) inside rest else Whole h c rest)) ≡ true
@@ -71,7 +71,7 @@ some at (Awaiting h) w e = absurd (cc)
 some at (Begun octets) w e = absurd (cc)
 some at Zero w e = absurd (cc)
 
--- the place `q` is as `p`, where no string is read as encodings, but for a bound: at `q` there is none
+-- the place `q` is as `p`, if no string is read as encodings, but for a bound: at `q` there is none
 pub record IsFree (p q : Place) : Type 0 where
   pub names : p.inside ≡ []
   pub same_names : q.inside ≡ []

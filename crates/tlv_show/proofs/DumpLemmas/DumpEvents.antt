@@ -19,7 +19,7 @@ use Rattle.tlv_show.proofs.DumpLemmas.DumpSteps.{all_on, each-shown}
 use Rattle.tlv_show.proofs.DumpLemmas.DumpTexts.{primitives_shown}
 use Rattle.tlv_show.proofs.FindingLemmas.FinderItems.{primitive-found}
 
--- ---- events one behind another
+-- ---- events one after another
 
 abbrev pub pair : LinesState → FinderState → DumpState
 pair l f = record { lines = l; finder = f }

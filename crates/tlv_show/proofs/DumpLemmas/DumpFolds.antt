@@ -9,7 +9,7 @@ use Rattle.tlv_walk.specs.Forest.{Forest, spell}
 use Rattle.tlv_walk.specs.Place.{top_place}
 use Rattle.tlv_walk.specs.Reading.{IsReading}
 use Rattle.tlv_show.specs.declared.options.Options.{Options}
-use Rattle.tlv_show.specs.DumpJob.{dump_job_text, top_layout}
+use Rattle.tlv_show.specs.DumpJob.{dump_job, top_layout}
 use Rattle.tlv_show.specs.DumpStep.{DumpState, dump_step, new_dump}
 use Rattle.tlv_show.specs.FinderState.{FinderState, top_frame}
 use Rattle.tlv_show.specs.Private.FinderState.{find_step}
@@ -41,7 +41,7 @@ finder-run s (e ∷ es) =
     ∙ ap (λ (u : FinderState). (run u es).state) (finder-by s e)
 
 module _ (options : Options) (names : Table) (octets : List ℕ) (f : Forest) (short : length octets ≤ 2 ^ 40) (r : IsReading options.framing octets f) where
-  pub text-made : (effect_of dump_step (new_dump options.rules (top_layout options) names) (events f)).put ≡ dump_job_text options names f
+  pub text-made : (effect_of dump_step (new_dump options.rules (top_layout options) names) (events f)).put ≡ (dump_job options names).text f
   text-made =
       (shows_forest (top_layout options) names options.rules (top_place options.framing) None Start top_frame [] f r.is_open (omega (arith, short, ap length r.front.1, length-append (spell f) r.front.0))
       (record { segments = refl; bits = refl; unused = refl; not_full = refl }, refl, λ e. refl)).text 0
@@ -51,5 +51,5 @@ module _ (options : Options) (names : Table) (octets : List ℕ) (f : Forest) (s
       ap (λ (u : FinderState). u.count) (finder-run (new_dump options.rules (top_layout options) names) (events f)) ∙ count-run options.rules options.framing octets f short r
 
 pub dumps : (options : Options) (names : Table)
-    → Shower dump_step (new_dump options.rules (top_layout options) names) options.framing (dump_job_text options names) (finding_count options.rules) (λ (s : DumpState). s.finder.count)
+    → Shower dump_step (new_dump options.rules (top_layout options) names) options.framing (dump_job options names).text (finding_count options.rules) (λ (s : DumpState). s.finder.count)
 dumps options names = record { goes_on = all_on; put = λ octets f few r. text-made options names octets f few r; counts = λ octets f few r. count-made options names octets f few r }

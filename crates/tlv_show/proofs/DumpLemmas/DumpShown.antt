@@ -76,7 +76,7 @@ module _ (style : Layout) (names : Table) (rules : Rules) where
         × ((effect_of dump_step (start p (is_padding before) w outer n) (events f)).state
         ≡ pair (lines_at style names p.depth (p.at + length (spell f)) (padded_behind style names (is_padding before) f)) (standing rules (noted_all w f) outer m))
 
-  -- elements behind what was shown
+  -- elements after what was shown
   behind-shown : (p q : Place) (padded : Bool) (w : Frame) (outer : List Frame) (n m : ℕ) (v : Frame) (holder : Option HeaderValue) (before : Before) (es : List EventValue) (put : List ℕ) (rest : Forest)
       → q.depth ≡ p.depth
       → effect_of dump_step (start p padded w outer n) es ≡ shows (start q (is_padding before) v outer m) put → IsShown q holder before v outer rest

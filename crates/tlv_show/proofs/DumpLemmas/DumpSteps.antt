@@ -62,7 +62,7 @@ pub all_on : (s : DumpState) (es : List EventValue) → (effect_of dump_step s e
 all_on s [] = refl
 all_on s (e ∷ es) = ap (λ (g : Go). (if_on g (dump_step s e) (λ u. effect_of dump_step u es)).goes) (one_on s e) ∙ all_on (dump_step s e).state es
 
--- ---- findings are put before the lines, or behind them
+-- ---- findings are put before the lines, or after them
 
 module _ {D : Type 0} (taken : D → DrainState) (s : DumpState) (f last : FinderValue) (has_findings : Bool) (style : Style) where
   lines-last : style ≡ Dump s.lines.layout.pure → ReportsFindings f last has_findings → last_finding_lines style (finds_if has_findings last) ≡ finding_lines s f

@@ -24,7 +24,7 @@ further-none o = omega arith
 take-none : (xs : List ℕ) → take 0 xs ≡ []
 take-none xs = grind (arith, common_steps)
 
--- the front of two pieces, where no more than n octets count
+-- the front of two pieces, if no more than n octets count
 pub take-both : (n : ℕ) (x y : List ℕ) → take n (x ++ y) ≡ take n x ++ take (n - length (take n x)) y
 take-both zero x y = take-none (x ++ y) ∙ sym (ap₂ (λ (a b : List ℕ). a ++ b) (take-none x) (take-none y))
 take-both (suc n) [] y = let e : suc n ≡ suc n - 0 = omega arith in ap (λ (k : ℕ). take k y) e
@@ -59,11 +59,11 @@ rested-new h layout =
     take-of-none : (n : ℕ) → take {A = ℕ} n [] ≡ []
     take-of-none n = grind (arith, common_steps)
 
--- what more octets come to, where what went before put this
+-- what more octets come to, if what went before put this
 abbrev pub behind_put : List ℕ → Effect LinesState → Effect LinesState
 behind_put put u = record { state = u.state; put = put ++ u.put; goes = u.goes }
 
--- a dump of contents: the offset behind them, what is reported of the primitive, and what is put
+-- a dump of contents: the offset after them, what is reported of the primitive, and what is put
 abbrev pub of_bytes : LinesState → ℕ → Option TextState → List ℕ → Effect LinesState
 of_bytes s offset value put = put_lines (record s { offset = offset; value = value }) put
 

@@ -8,7 +8,7 @@ use Rattle.tlv_walk.specs.Reading.{IsPrefixOf, IsReading}
 use Rattle.tlv_walk.proofs.FollowerLemmas.Followed.{each_octet-goes_on, each_octet-joins, followed-alike, followed-more}
 use Rattle.tlv_walk.proofs.EventLemmas.Prefixes.{events-prefix}
 use Rattle.tlv_show.specs.CheckStep.{check_octet_step, check_step}
-use Rattle.tlv_show.specs.DumpJob.{dump_job_text, top_layout}
+use Rattle.tlv_show.specs.DumpJob.{dump_job, top_layout}
 use Rattle.tlv_show.specs.DumpStep.{DumpState, dump_octet_step, dump_padding_step, dump_step, new_dump}
 use Rattle.tlv_show.specs.FinderState.{FinderState, new_finder}
 use Rattle.tlv_show.specs.Laws.{ChecksGoOn, DumpsGoOn}
@@ -33,7 +33,7 @@ module _ {S : Type 0} (next : S → EventValue → Effect S) (first : S) (framin
 
 pub dumps_on : DumpsGoOn
 dumps_on options names b c f g few r s =
-    goes_on dump_step (new_dump options.rules (top_layout options) names) options.framing (dump_job_text options names) _ (λ (t : DumpState). t.finder.count) (dumps options names)
+    goes_on dump_step (new_dump options.rules (top_layout options) names) options.framing (dump_job options names).text _ (λ (t : DumpState). t.finder.count) (dumps options names)
     (followed-alike dump_step (each_octet-joins dump_octet_step) (λ s. refl) (each_octet-goes_on dump_octet_step) (each_octet-joins dump_padding_step) (λ s. refl) (each_octet-goes_on dump_padding_step)) b c f g few r s
 
 pub checks_on : ChecksGoOn

@@ -42,7 +42,7 @@ none-counted n = omega arith
 outside : (w : Frame) (size : ℕ) (unused : Bool) → w.has_segments ≡ false → frame_after w true size unused ≡ w
 outside w size unused e = ap (λ (b : Bool). if b then frame_after_segment w true size unused else w) e
 
--- behind a primitive with which nothing is found, outside of strings
+-- after a primitive with which nothing is found, outside of strings
 abbrev behind : FinderState → FinderState
 behind s = record s { value = None }
 

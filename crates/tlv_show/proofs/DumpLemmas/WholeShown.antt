@@ -46,7 +46,7 @@ pub octets_are : (s : DumpState) (h : HeaderValue) (o c : List ℕ) → c ≡ co
 octets_are s h o c same size begins ends =
     ap (λ (l : List ℕ). effect_of dump_step s (Begin h ∷ Bytes l ∷ End ∷ [])) (sym same) ∙ whole_is s h c size begins ends
 
--- where a finder took the primitive
+-- if a finder took the primitive
 took : (old new : FinderValue) (h : HeaderValue) (c : List ℕ) (x : Bool) → x ≡ true → PassesOrStays old new h c x → PassesPrimitive old new h c
 took old new h c true e p = p
 took old new h c false e p = absurd (true≢false (sym e))

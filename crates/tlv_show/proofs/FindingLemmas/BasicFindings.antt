@@ -78,4 +78,4 @@ module _ (rules : Rules) where
   same s Zero = refl
 
 pub basic_stay : BasicFindingsStay
-basic_stay rules f = sym (only-written (items Ber top_site f)) ∙ ap (flat_map check_line) (same rules top_site f)
+basic_stay rules framing f = sym (only-written (items Ber top_site f)) ∙ ap (flat_map check_line) (same rules top_site f)

@@ -21,6 +21,7 @@ use Rattle.tlv_walk.proofs.GrammarLemmas.Spellings.{length-closed, length-openin
 use Rattle.tlv_show.specs.declared.frames.Frame.{Frame}
 use Rattle.tlv_show.specs.declared.rules.Rules.{Rules}
 use Rattle.tlv_show.specs.declared.finding_lines.Style.TheVariants.{Check}
+use Rattle.tlv_show.specs.CheckJob.{check_job}
 use Rattle.tlv_show.specs.CheckStep.{check_step, styled_lines}
 use Rattle.tlv_show.specs.Conditions.{end_conditions, header_conditions}
 use Rattle.tlv_show.specs.EndPlace.{end_place}
@@ -32,7 +33,7 @@ use Rattle.tlv_show.specs.Items.{Item, FindingAt, OpeningLine, ClosingLine, Whol
 use Rattle.tlv_show.proofs.FindingLemmas.ElementItems.{findings_at}
 use Rattle.tlv_show.specs.Site.{Site, is_padding, site_inside, top_site}
 use Rattle.tlv_show.proofs.FindingLemmas.SitesAfter.{site_after, site_after_holder, site_after_padding}
-use Rattle.tlv_show.specs.Texts.{check_line, check_text, finding_count, is_finding}
+use Rattle.tlv_show.specs.Texts.{check_line, finding_count, is_finding}
 use Rattle.tlv_show.proofs.FindingLemmas.CheckLaws.{step-is}
 use Rattle.tlv_show.proofs.FindingLemmas.FinderItems.{Step, finds_forest, found_items, only, run}
 use Rattle.tlv_show.proofs.DumpLemmas.Shows.{Shower}
@@ -191,7 +192,7 @@ module _ (rules : Rules) where
     put-is : (run start (events f)).put ≡ only (items rules top_site f)
     put-is = (finds_forest rules (top_place framing) top_site top_frame [] f r.is_open (record { segments = refl; bits = refl; unused = refl; not_full = refl }) refl refl (λ e. refl)).put 0
 
-    pub text-made : (effect_of check_step start (events f)).put ≡ check_text rules f
+    pub text-made : (effect_of check_step start (events f)).put ≡ (check_job rules framing).text f
     text-made = ap (λ (t : Effect FinderState). t.put) (followed-run start (events f)) ∙ ap (flat_map check_line) put-is ∙ only-written (items rules top_site f)
 
     pub count-run : (run start (events f)).state.count ≡ finding_count rules f
@@ -208,5 +209,5 @@ module _ (rules : Rules) where
 pub all_on : (s : FinderState) (es : List EventValue) → (effect_of check_step s es).goes ≡ go.On
 all_on s es = ap (λ (t : Effect FinderState). t.goes) (followed-run s es)
 
-pub checks : (rules : Rules) (framing : Framing) → Shower check_step (new_finder rules) framing (check_text rules) (finding_count rules) (λ (s : FinderState). s.count)
+pub checks : (rules : Rules) (framing : Framing) → Shower check_step (new_finder rules) framing (check_job rules framing).text (finding_count rules) (λ (s : FinderState). s.count)
 checks rules framing = record { goes_on = all_on; put = λ octets f few r. text-made rules framing octets f few r; counts = λ octets f few r. count-made rules framing octets f few r }

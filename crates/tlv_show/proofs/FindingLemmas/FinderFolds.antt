@@ -45,7 +45,7 @@ knows-inside w s h = by w.has_segments (has_segments h) refl
       not_full = never (has_segments h);
     }
 
--- behind an element
+-- after an element
 full-or-not : (k e : Bool) → not (not k && e) ≡ (k || not e)
 full-or-not true e = refl
 full-or-not false e = refl
@@ -105,7 +105,7 @@ knows-padding w s k e =
       not_full = k.not_full ∙ ap (λ (b : Bool). b && is_not_full s.before) none ∙ ap (λ (b : Bool). b && false) (sym none);
     }
 
--- a frame behind elements of which none is open
+-- a frame after elements of which none is open
 abbrev pub noted_all : Frame → Forest → Frame
 noted_all w Stop = w
 noted_all w (Fill rest) = noted_all w rest
@@ -276,7 +276,7 @@ summed rules p h inside v e = by-segments (has_segments h) refl
         ap (end_notes rules) (all-outside (frame_of h) inside c) ∙ no-ends rules (frame_of h) c
         ∙ sym (no-ends rules (segments_noted (frame_of h) inside) (r.segments ∙ c)) ∙ segments-summed rules p h inside v e
 
--- ---- the same where nothing is to be known of what was held
+-- ---- the same if nothing is to be known of what was held
 
 module _ (rules : Rules) (p : Place) (w : Frame) (h : HeaderValue) (inside : Forest) (v : IsOpen p inside) (whole : is_whole inside ≡ true) where
   -- an element that is no string: nothing is found with its end
@@ -291,7 +291,7 @@ module _ (rules : Rules) (p : Place) (w : Frame) (h : HeaderValue) (inside : For
       by false true e = summed rules p h inside v whole
       by false false e = ap (end_notes rules) (all-outside top_frame inside refl) ∙ no-ends rules top_frame refl ∙ sym (nothing-ends e)
 
-  -- where it begins does not matter where nothing is found
+  -- where it begins does not matter if nothing is found
   pub at-under : {T : Type 0} (put : ℕ → List Finding → List T) → ((at : ℕ) → put at [] ≡ [])
       → put (noted_all (frame_under w h) inside).at (end_findings rules h (heads inside)) ≡ put h.offset (end_findings rules h (heads inside))
   at-under put none = by w.has_segments (has_segments h) refl

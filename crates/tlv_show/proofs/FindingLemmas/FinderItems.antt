@@ -182,7 +182,7 @@ module _ (rules : Rules) where
 
   -- ---- elements
 
-  -- what was reported of elements: the findings of their items; and where they are whole, the frame behind them
+  -- what was reported of elements: the findings of their items; and if they are whole, the frame after them
   pub record IsFoundAs (s : Site) (w : Frame) (outer : List Frame) (f : Forest) : Type 0 where
     pub put : (n : ℕ) → (run (standing w outer n) (events f)).put ≡ only (items rules s f)
     pub stands : (n : ℕ) → is_whole f ≡ true → (m : ℕ) × ((run (standing w outer n) (events f)).state ≡ standing (noted_all w f) outer m)

@@ -1,4 +1,4 @@
--- Lines of findings, one behind another.
+-- Lines of findings, one after another.
 use Rattle.std.proofs.Common.{◌≡◌, ◌+◌, ◌<◌, ◌++◌, ◌∷◌, ℕ, List, drop, get_or, length, ap, sym, ◌∙◌, add-one}
 use Rattle.std.proofs.Math.Seq.{drop-cons}
 use Rattle.tlv_value.specs.declared.finding.Finding.{Finding}

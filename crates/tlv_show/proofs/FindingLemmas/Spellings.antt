@@ -75,7 +75,7 @@ shortest : (h : HeaderValue) → IsHeader h → (has_high_form h && nat_lt h.num
     → (has_long_form h && (nat_lt (announced_length h.size) 128 || first_length h == 0)) ≡ false → IsShortest h
 shortest h valid a b c = record { identifier = identifier-from h valid (high-form h a b); lengths = lengths-from h valid (long-form h c) }
 
--- whether the length of an element of that form is indefinite: by DER never, by CER where it is constructed
+-- whether the length of an element of that form is indefinite: by DER never, by CER if it is constructed
 abbrev pub form_by : Rules → Bool → Bool
 form_by Ber constructed = false
 form_by Der constructed = false

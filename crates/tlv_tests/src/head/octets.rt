@@ -34,7 +34,7 @@ pub(crate) static SHAPES: [Shape<'static>; 14] = [
         size: Size::Definite(1),
         id_len: 2,
     },
-    // The number 0 is that of an element where the first octet is not 00.
+    // The number 0 is that of an element if the first octet is not 00.
     Shape {
         octets: b"\x1f\x00\x00",
         class: Class::Universal,

@@ -112,7 +112,7 @@ static FAULTS: [(FaultCode, &str, &str); 12] = [
     ),
 ];
 
-/// Expects the text of a universal tag, which is its name where the number has one.
+/// Expects the text of a universal tag, which is its name if the number has one.
 fn expect_universal(rt: &impl Abort, number: u64, text: &str) {
     expect_eq(
         rt,

@@ -14,7 +14,7 @@ enum Call {
     Flush,
 }
 
-/// Writes so many letters, and after them the lines of an element. `None` where no write failed.
+/// Writes so many letters, and after them the lines of an element. `None` if no write failed.
 fn failing_call(element: &[u8], letters: usize, drain: &mut MemDrain<'_>) -> Option<Call> {
     let (fields, count) = read_header(0, false, element)?;
     let header = Header::new(&fields, &element[..count]);

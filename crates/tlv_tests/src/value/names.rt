@@ -19,7 +19,7 @@ fn refusal_of(
     Names::read(alloc, &mut source).err()
 }
 
-/// The same where no read fails.
+/// The same if no read fails.
 fn refusal(alloc: Global, octets: &[u8]) -> Option<NamesFault> {
     refusal_of(alloc, octets, &[1, 5], None)
 }

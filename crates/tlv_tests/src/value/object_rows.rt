@@ -86,7 +86,7 @@ pub(super) static RELATIVE: [Row<'static>; 4] = [
         element: b"\x0d\x02\x03\x04",
         lines: &["       0      2: RELATIVE-OID 3.4"],
     },
-    // The dotted text that has a name where it is no relative one.
+    // The dotted text that has a name if it is no relative one.
     Row {
         element: b"\x0d\x04\x01\x02\x86\x48",
         lines: &["       0      4: RELATIVE-OID 1.2.840"],

@@ -1,6 +1,6 @@
 //! What is shown of each type of X.680.
 
-/// A type, and what is shown of its contents where they are the octet `41`, and where they are empty.
+/// A type, and what is shown of its contents if they are the octet `41`, and if they are empty.
 pub(super) struct Type<'a> {
     pub identifier: &'a [u8],
     pub name: &'a str,

@@ -27,7 +27,7 @@ impl Model for Lines {
 }
 
 impl Lines {
-    /// A follower that has enough with the end of so many elements, or never where that is 0.
+    /// A follower that has enough with the end of so many elements, or never if that is 0.
     pub fn up_to(ends: u64) -> Lines
         ensures { result ≡ ends }
     {

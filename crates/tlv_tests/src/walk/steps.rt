@@ -138,7 +138,7 @@ fn what_is_open_stays_so_after_a_fault(rt: HostRuntime) {
 
 /// After a fault each step returns the same and takes nothing.
 #[test]
-fn a_fault_is_answered_again(rt: HostRuntime) {
+fn a_fault_is_returned_again(rt: HostRuntime) {
     let mut walker = Walker::new(&Framing::plain());
     let mut piece: &[u8] = b"\x05\x00\x00";
     expect_event(&rt, &mut walker, &mut piece, begin(&rt, 0, b"\x05\x00"));
