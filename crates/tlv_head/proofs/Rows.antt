@@ -11,7 +11,7 @@ use Rattle.tlv_head.specs.declared.header.Size.{Size}
 use Rattle.tlv_head.specs.declared.header.Size.TheVariants.{Definite, Indefinite}
 use Rattle.tlv_head.specs.Header.{HeaderValue, IsHeader, IsIdentifier, IsLength, indefinite_octets, is_wrapper, octets_of, with_bit_8}
 use Rattle.tlv_head.specs.Refusal.{BeginsWith, IsFront, IsRefusedOctet, tag_too_long, reserved_length, indefinite_primitive, length_too_large}
-use Rattle.tlv_head.specs.Tag.{tag_text_of}
+use Rattle.tlv_head.specs.Tag.{tag_text}
 
 -- digits below a base, by a test
 below : (base : ℕ) (digits : List ℕ) → list_all (λ d. ltb d base) digits ≡ true → All (λ d. d < base) digits
@@ -227,21 +227,21 @@ constructed-no_wrapper = refl
 context-no_wrapper : is_wrapper true Context false 4 (Definite 5) ≡ false
 context-no_wrapper = refl
 
-universal-2 : tag_text_of Universal 2 ≡ codes "INTEGER"
+universal-2 : tag_text Universal 2 ≡ codes "INTEGER"
 universal-2 = refl
 
-universal-15 : tag_text_of Universal 15 ≡ codes "[UNIVERSAL 15]"
+universal-15 : tag_text Universal 15 ≡ codes "[UNIVERSAL 15]"
 unfolding digits
 universal-15 = refl
 
-application-text : tag_text_of Application 31 ≡ codes "[APPLICATION 31]"
+application-text : tag_text Application 31 ≡ codes "[APPLICATION 31]"
 unfolding digits
 application-text = refl
 
-context-text : tag_text_of Context 0 ≡ codes "[0]"
+context-text : tag_text Context 0 ≡ codes "[0]"
 unfolding digits
 context-text = refl
 
-private-text : tag_text_of Private 7 ≡ codes "[PRIVATE 7]"
+private-text : tag_text Private 7 ≡ codes "[PRIVATE 7]"
 unfolding digits
 private-text = refl

@@ -49,9 +49,9 @@ universal_names =
 abbrev pub bracketed_tag : List ℕ → ℕ → List ℕ
 bracketed_tag class number = 91 ∷ class ++ decimal number ++ 93 ∷ []
 
-abbrev pub tag_text_of : Class → ℕ → List ℕ
-tag_text_of Universal number =
+abbrev pub tag_text : Class → ℕ → List ℕ
+tag_text Universal number =
     unwrap_or (lookup (eqb number) universal_names) (bracketed_tag (codes "UNIVERSAL ") number)
-tag_text_of Application number = bracketed_tag (codes "APPLICATION ") number
-tag_text_of Context number = bracketed_tag [] number
-tag_text_of Private number = bracketed_tag (codes "PRIVATE ") number
+tag_text Application number = bracketed_tag (codes "APPLICATION ") number
+tag_text Context number = bracketed_tag [] number
+tag_text Private number = bracketed_tag (codes "PRIVATE ") number

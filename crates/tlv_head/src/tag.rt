@@ -2,7 +2,7 @@
 ghost use Rattle.std.specs.Prelude.{◌≡◌, ◌≤◌, IfSome, eqb, length, take};
 ghost use Rattle.std.specs.Map.{lookup};
 ghost use Rattle.std.specs.Option.{option_copied, option_map};
-ghost use Rattle.tlv_head.specs.Tag.{tag_text_of, universal_names};
+ghost use Rattle.tlv_head.specs.Tag.{tag_text, universal_names};
 
 use crate::{Class, universal};
 use arrayvec::ArrayVec;
@@ -69,7 +69,7 @@ pub fn padded_name(number: u64) -> Option<(&'static [u8; 32], usize)>
 /// The text of a tag, in ASCII: the name of a universal type, as `INTEGER`; otherwise the class and
 /// the number, as `[UNIVERSAL 15]`, `[APPLICATION 31]`, `[0]` or `[PRIVATE 7]`.
 pub fn tag_text(class: Class, number: u64) -> ArrayVec<u8, 40>
-    ensures { result.items ≡ tag_text_of class number }
+    ensures { result.items ≡ tag_text class number }
 {
     let mut text = ArrayVec::new();
     let prefix: &[u8] = match class {

@@ -3,7 +3,7 @@ use Rattle.std.proofs.Common.{◌≡◌, ◌≢◌, ◌⊎◌, inl, inr, ℕ, ze
 use Rattle.std.specs.Prelude.{eqb, nat_le, if◌then◌else◌}
 use Rattle.std.proofs.lemmas.Bool.{eqb-true, leb-true}
 use Rattle.std.proofs.lemmas.Bool.Decides.{nat_tests}
-use Rattle.tlv_io.specs.Cuts.{AreFull, AreRows, Cut, IsCut, IsFull, IsRow, last_rows, octets_of_rows}
+use Rattle.tlv_io.specs.Cuts.{AreFull, AreRows, RowsOf, IsCut, IsFull, IsRow, last_rows, octets_of_rows}
 
 -- ---- octet by octet
 
@@ -204,5 +204,5 @@ module _ (size : ℕ) (wanted : ℕ → ℕ) (some : 1 ≤ size) (fits : (x : �
       record { together = c.together; each = c.each; full = c.full }
 
   -- so there is a cut of any octets
-  abbrev pub cut_of : (octets : List ℕ) → Cut size wanted octets
+  abbrev pub cut_of : (octets : List ℕ) → RowsOf size wanted octets
   cut_of octets = record { rows = rows_after_row [] octets; is_cut = rows-cut octets }

@@ -12,7 +12,7 @@ use Rattle.std.specs.Borrow.{MutBor}
 use Rattle.tlv_io.specs.declared.out.Out.{Out}
 use Rattle.tlv_io.specs.declared.drain.WriteFault.{WriteFault}
 use Rattle.tlv_io.specs.Device.{DrainState, failures_after}
-use Rattle.tlv_io.specs.Out.{Puts, Sends, buffer_of, drain_of}
+use Rattle.tlv_io.specs.Out.{Puts, Sends, held_octets, drain_of}
 
 -- ---- octets that a drain took
 
@@ -93,8 +93,8 @@ module _ {D : Type 0} (state_of : D → DrainState) where
           ∙ ap (λ (l : List ℕ). p.sent ++ l) (q.front ∙ ap (λ (l : List ℕ). l ++ ys) p.held)
           ∙ sym (append_assoc p.sent p.left ys)
           ∙ ap (λ (l : List ℕ). l ++ ys) p.front
-          ∙ append_assoc (buffer_of a) xs ys
-          ∙ ap (λ (l : List ℕ). buffer_of a ++ l) e;
+          ∙ append_assoc (held_octets a) xs ys
+          ∙ ap (λ (l : List ℕ). held_octets a ++ l) e;
       took = Appends-trans (state_of (drain_of a).now).octets (state_of (drain_of b).now).octets (state_of (drain_of c).now).octets p.sent q.sent p.took q.took;
       held = q.held;
       lost = q.lost;
@@ -111,7 +111,7 @@ module _ {D : Type 0} (state_of : D → DrainState) where
       same_reference = p.same_reference;
       sent = p.sent;
       left = p.left ++ z.rest;
-      front = sym (append_assoc p.sent p.left z.rest) ∙ ap (λ (l : List ℕ). l ++ z.rest) p.front ∙ append_assoc (buffer_of a) xs z.rest ∙ ap (λ (l : List ℕ). buffer_of a ++ l) z.is;
+      front = sym (append_assoc p.sent p.left z.rest) ∙ ap (λ (l : List ℕ). l ++ z.rest) p.front ∙ append_assoc (held_octets a) xs z.rest ∙ ap (λ (l : List ℕ). held_octets a ++ l) z.is;
       took = p.took;
       held = tt;
       lost = more_left p.left z.rest p.lost;
@@ -134,7 +134,7 @@ module _ {D : Type 0} (state_of : D → DrainState) where
       same_reference = p.same_reference;
       sent = p.sent;
       left = p.left;
-      front = p.front ∙ ap (λ (l : List ℕ). buffer_of a ++ l) z;
+      front = p.front ∙ ap (λ (l : List ℕ). held_octets a ++ l) z;
       took = p.took;
       held = p.held;
       lost = tt;
@@ -151,8 +151,8 @@ module _ {D : Type 0} (state_of : D → DrainState) where
     puts_nothing a x = record {
       same_reference = refl;
       sent = [];
-      left = buffer_of a;
-      front = sym (append-nil (buffer_of a));
+      left = held_octets a;
+      front = sym (append-nil (held_octets a));
       took = Appends-nil (state_of (drain_of a).now).octets;
       held = refl;
       lost = tt;
@@ -160,11 +160,11 @@ module _ {D : Type 0} (state_of : D → DrainState) where
     }
 
     -- octets were added to those that are held
-    pub puts_held : (a b : Out D) (xs : List ℕ) (x : T) → drain_of b ≡ drain_of a → buffer_of b ≡ buffer_of a ++ xs → Puts {T = T} {E = E} state_of a b xs (Ok x)
+    pub puts_held : (a b : Out D) (xs : List ℕ) (x : T) → drain_of b ≡ drain_of a → held_octets b ≡ held_octets a ++ xs → Puts {T = T} {E = E} state_of a b xs (Ok x)
     puts_held a b xs x same more = record {
       same_reference = ap (λ (l : MutBor D). l.ghost_name) same;
       sent = [];
-      left = buffer_of b;
+      left = held_octets b;
       front = more;
       took = subst (λ (l : MutBor D). Appends (state_of (drain_of a).now).octets (state_of l.now).octets []) (sym same) (Appends-nil (state_of (drain_of a).now).octets);
       held = refl;
@@ -173,7 +173,7 @@ module _ {D : Type 0} (state_of : D → DrainState) where
     }
 
     -- nothing was held, and octets are handed to the drain
-    pub puts_sent : (a b : Out D) (xs : List ℕ) (r : Result T E) → buffer_of a ≡ [] → buffer_of b ≡ [] → (drain_of b).ghost_name ≡ (drain_of a).ghost_name
+    pub puts_sent : (a b : Out D) (xs : List ℕ) (r : Result T E) → held_octets a ≡ [] → held_octets b ≡ [] → (drain_of b).ghost_name ≡ (drain_of a).ghost_name
         → Sends (state_of (drain_of a).now) (state_of (drain_of b).now) xs r → Puts state_of a b xs r
     puts_sent a b xs r e f same q = record {
       same_reference = same;
@@ -188,7 +188,7 @@ module _ {D : Type 0} (state_of : D → DrainState) where
 
   module _ {T U E : Type 0} where
     -- room was made, and then octets were added
-    pub puts_line : (a b c : Out D) (xs : List ℕ) (x : T) (y : U) → Puts {T = T} {E = E} state_of a b [] (Ok x) → drain_of c ≡ drain_of b → buffer_of c ≡ buffer_of b ++ xs → Puts {T = U} {E = E} state_of a c xs (Ok y)
+    pub puts_line : (a b c : Out D) (xs : List ℕ) (x : T) (y : U) → Puts {T = T} {E = E} state_of a b [] (Ok x) → drain_of c ≡ drain_of b → held_octets c ≡ held_octets b ++ xs → Puts {T = U} {E = E} state_of a c xs (Ok y)
     puts_line a b c xs x y p same more = puts_then_as {T = T} {U = U} {E = E} a b c [] xs xs x (Ok y) p (puts_held {T = U} {E = E} b c xs y same more) refl
 
 -- what a function that makes a line where an `Out` holds it needs
@@ -270,8 +270,8 @@ module _ {D : Type 0} (state_of : D → DrainState) (text : ℕ → List ℕ) wh
 module _ {D : Type 0} (state_of : D → DrainState) where
   module _ {T E : Type 0} where
     -- the drain that was lent, before and behind
-    pub sends_puts : (a c : Out D) (d d' : D) (xs : List ℕ) (r : Result T E) → (drain_of a).now ≡ d → buffer_of a ≡ [] → d' ≡ (drain_of c).now
-        → Puts state_of a c xs r → OnOk r (buffer_of c ≡ []) → Sends (state_of d) (state_of d') xs r
+    pub sends_puts : (a c : Out D) (d d' : D) (xs : List ℕ) (r : Result T E) → (drain_of a).now ≡ d → held_octets a ≡ [] → d' ≡ (drain_of c).now
+        → Puts state_of a c xs r → OnOk r (held_octets c ≡ []) → Sends (state_of d) (state_of d') xs r
     sends_puts a c d d' xs r from none to p empty =
         subst (λ (x : D). Sends (state_of x) (state_of d') xs r) from (subst (λ (x : D). Sends (state_of (drain_of a).now) (state_of x) xs r) (sym to) record {
           sent = p.sent;
@@ -283,24 +283,24 @@ module _ {D : Type 0} (state_of : D → DrainState) where
           failures = p.failures;
         })
       where
-        both : (r : Result T E) → OnOk r (buffer_of c ≡ p.left) → OnOk r (buffer_of c ≡ []) → OnOk r (p.left ≡ [])
+        both : (r : Result T E) → OnOk r (held_octets c ≡ p.left) → OnOk r (held_octets c ≡ []) → OnOk r (p.left ≡ [])
         both (Ok x) h e = sym h ∙ e
         both (Err x) h e = tt
 
   module _ {T U E : Type 0} where
     -- octets were put, and then it was flushed
-    pub sends_flushed : (a b c : Out D) (d d' : D) (xs : List ℕ) (x : T) (y : U) → (drain_of a).now ≡ d → buffer_of a ≡ [] → d' ≡ (drain_of c).now
-        → Puts {T = T} {E = E} state_of a b xs (Ok x) → Puts {T = U} {E = E} state_of b c [] (Ok y) → buffer_of c ≡ [] → Sends {T = T} {E = E} (state_of d) (state_of d') xs (Ok x)
+    pub sends_flushed : (a b c : Out D) (d d' : D) (xs : List ℕ) (x : T) (y : U) → (drain_of a).now ≡ d → held_octets a ≡ [] → d' ≡ (drain_of c).now
+        → Puts {T = T} {E = E} state_of a b xs (Ok x) → Puts {T = U} {E = E} state_of b c [] (Ok y) → held_octets c ≡ [] → Sends {T = T} {E = E} (state_of d) (state_of d') xs (Ok x)
     sends_flushed a b c d d' xs x y from none to p f empty =
         sends_puts a c d d' xs (Ok x) from none to (puts_as state_of a c xs xs y x (puts_then_as state_of a b c xs [] xs x (Ok y) p f (append-nil xs)) refl) empty
 
     -- it could not be flushed
-    pub sends_failed : (a b c : Out D) (d d' : D) (xs : List ℕ) (x : T) (e : E) (r : Result T E) → (drain_of a).now ≡ d → buffer_of a ≡ [] → d' ≡ (drain_of c).now
+    pub sends_failed : (a b c : Out D) (d d' : D) (xs : List ℕ) (x : T) (e : E) (r : Result T E) → (drain_of a).now ≡ d → held_octets a ≡ [] → d' ≡ (drain_of c).now
         → Puts {T = T} {E = E} state_of a b xs (Ok x) → Puts {T = U} {E = E} state_of b c [] (Err e) → IsErr r → Sends (state_of d) (state_of d') xs r
     sends_failed a b c d d' xs x e r from none to p f err =
         sends_puts a c d d' xs r from none to (puts_failed_last state_of a c xs e r (puts_then_as state_of a b c xs [] xs x (Err e) p f (append-nil xs)) err) (no_ok r err)
       where
-        no_ok : (r : Result T E) → IsErr r → OnOk r (buffer_of c ≡ [])
+        no_ok : (r : Result T E) → IsErr r → OnOk r (held_octets c ≡ [])
         no_ok (Ok x) h = absurd (true≢false (sym h))
         no_ok (Err e) h = tt
 

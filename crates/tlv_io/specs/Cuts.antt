@@ -38,6 +38,6 @@ module _ (size : ℕ) (wanted : ℕ → ℕ) where
     pub full : AreFull rows
 
   -- rows that are a cut of the octets
-  pub record Cut (octets : List ℕ) : Type 0 where
+  pub record RowsOf (octets : List ℕ) : Type 0 where
     pub rows : List (List ℕ)
     pub is_cut : IsCut octets rows

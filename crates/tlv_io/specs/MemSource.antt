@@ -20,4 +20,4 @@ cut_to cuts i count = option_map_or (λ cut. min count (max 1 cut)) (slice_get c
 
 -- how many octets the next read gives into room for this many
 abbrev pub read_count : MemSourceState → ℕ → ℕ
-read_count supply room = min (cut_to supply.cuts supply.log.reads room) (length supply.left)
+read_count source room = min (cut_to source.cuts source.log.reads room) (length source.left)

@@ -11,8 +11,8 @@ module _ {D : Type 0} where
   drain_of out = out.drain
 
   -- the octets held, which the drain has still to take
-  abbrev pub buffer_of : Out D → List ℕ
-  buffer_of out = out.held
+  abbrev pub held_octets : Out D → List ℕ
+  held_octets out = out.held
 
 module _ {T E : Type 0} where
   -- one call that hands octets to a drain: all of them, or, if it fails, a prefix of them that is not all
@@ -33,8 +33,8 @@ module _ {T E : Type 0} where
     pub same_reference : (drain_of new).ghost_name ≡ (drain_of old).ghost_name
     pub sent : List ℕ
     pub left : List ℕ
-    pub front : sent ++ left ≡ buffer_of old ++ octets
+    pub front : sent ++ left ≡ held_octets old ++ octets
     pub took : Appends (state_of (drain_of old).now).octets (state_of (drain_of new).now).octets sent
-    pub held : OnOk result (buffer_of new ≡ left)
+    pub held : OnOk result (held_octets new ≡ left)
     pub lost : OnErr result (left ≢ [])
     pub failures : (state_of (drain_of new).now).failures ≡ failures_after result (state_of (drain_of old).now).failures

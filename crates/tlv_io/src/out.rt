@@ -2,7 +2,7 @@
 
 ghost use Rattle.std.specs.Prelude.{◌≡◌, ◌≤◌, ◌++◌, [], length, OnOk};
 ghost use Rattle.tlv_io.specs.LineTexts.{HasRoomFor};
-ghost use Rattle.tlv_io.specs.Out.{Puts, Sends, buffer_of, drain_of};
+ghost use Rattle.tlv_io.specs.Out.{Puts, Sends, held_octets, drain_of};
 
 use crate::buffer::{CAPACITY, Held};
 use crate::drain::{Drain, WriteFault};
@@ -26,7 +26,7 @@ impl<'d, D: Drain> Out<'d, D> {
     pub fn new(drain: &'d mut D) -> Out<'d, D>
         ensures same_reference { (drain_of result).ghost_name ≡ drain.entry.ghost_name }
         ensures taken { (drain_of result).now ≡ drain.old }
-        ensures empty { buffer_of result ≡ [] }
+        ensures empty { held_octets result ≡ [] }
     {
         Out {
             drain,
@@ -42,7 +42,7 @@ impl<'d, D: Drain> Out<'d, D> {
     #[inline(always)]
     pub fn make_room(&mut self) -> Result<(), WriteFault>
         ensures puts { Puts D.state self.old self.new [] result }
-        ensures room { OnOk result (HasRoomFor (buffer_of self.new) 1024) }
+        ensures room { OnOk result (HasRoomFor (held_octets self.new) 1024) }
     {
         self.make_room_for(LINE)
     }
@@ -56,7 +56,7 @@ impl<'d, D: Drain> Out<'d, D> {
     pub fn make_room_for(&mut self, count: usize) -> Result<(), WriteFault>
         requires { count ≤ 4096 }
         ensures puts { Puts D.state self.old self.new [] result }
-        ensures room { OnOk result (HasRoomFor (buffer_of self.new) count) }
+        ensures room { OnOk result (HasRoomFor (held_octets self.new) count) }
     {
         if self.held.room() < count {
             return self.flush();
@@ -72,7 +72,7 @@ impl<'d, D: Drain> Out<'d, D> {
     #[inline]
     pub fn put(&mut self, octets: &[u8]) -> Result<(), WriteFault>
         ensures puts { Puts D.state self.old self.new octets.now result }
-        ensures bound { length (buffer_of self.new) ≤ 4096 }
+        ensures bound { length (held_octets self.new) ≤ 4096 }
     {
         if octets.len() < self.held.room() {
             self.held.add(octets);
@@ -86,7 +86,7 @@ impl<'d, D: Drain> Out<'d, D> {
     #[inline(never)]
     fn put_past_room(&mut self, octets: &[u8]) -> Result<(), WriteFault>
         ensures puts { Puts D.state self.old self.new octets.now result }
-        ensures bound { length (buffer_of self.new) ≤ 4096 }
+        ensures bound { length (held_octets self.new) ≤ 4096 }
     {
         if octets.len() > self.held.room() {
             self.flush()?;
@@ -107,8 +107,8 @@ impl<'d, D: Drain> Out<'d, D> {
     #[inline(never)]
     pub fn flush(&mut self) -> Result<(), WriteFault>
         ensures puts { Puts D.state self.old self.new [] result }
-        ensures empty { OnOk result (buffer_of self.new ≡ []) }
-        ensures bound { length (buffer_of self.new) ≤ 4096 }
+        ensures empty { OnOk result (held_octets self.new ≡ []) }
+        ensures bound { length (held_octets self.new) ≤ 4096 }
     {
         send(self.drain, self.held.as_slice())?;
         self.held.clear();

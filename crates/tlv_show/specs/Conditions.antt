@@ -27,9 +27,9 @@ abbrev pub first_length : HeaderValue → ℕ
 first_length h = slice_index h.lengths 1
 
 -- 8.6.2.2: a primitive BIT STRING with unused bits
-abbrev pub has_unused_bits : Before → Bool
-has_unused_bits (Sibling h (Some x)) = is_primitive h && is_a bit_string h && not (x == 0)
-has_unused_bits _ = false
+abbrev pub follows_unused_bits : Before → Bool
+follows_unused_bits (Sibling h (Some x)) = is_primitive h && is_a bit_string h && not (x == 0)
+follows_unused_bits _ = false
 
 -- 9.2: an element, but no primitive of 1000 contents octets
 abbrev pub is_not_full : Before → Bool
@@ -49,7 +49,7 @@ header_conditions s h =
     -- 8.9.1, 8.11.1, 8.17, 8.18, 8.24: the encodings of these types are constructed
     ∷ (is_primitive h && is_one_of constructed_types h, B05)
     -- 8.6.4: each segment of a BIT STRING but the last has a multiple of eight bits
-    ∷ (in_bit_string s && has_unused_bits s.before, B16)
+    ∷ (in_bit_string s && follows_unused_bits s.before, B16)
     -- 8.6.4, 8.7.3: a segment has the tag of BIT STRING in a BIT STRING, and of OCTET STRING in any other string
     ∷ (in_string s && not (is_a (if in_bit_string s then bit_string else octet_string) h), B17)
     -- 9.1, 10.1: a definite length has the fewest octets: those of the long form are for 128 and more, and do not

@@ -7,7 +7,7 @@ use Rattle.tlv_head.specs.Header.{HeaderValue, announced_length}
 use Rattle.tlv_value.specs.declared.finding.Finding.{Finding}
 use Rattle.tlv_value.specs.declared.finding.Finding.TheVariants.{B01, B02, B03, B04, B05, B16, B17, S01, D01, D02, C01, C02, C03, C04, C05, C06}
 use Rattle.tlv_value.specs.CheckNotes.{finding_if}
-use Rattle.tlv_value.specs.CheckState.{CheckState, check_after, findings_in, has_unused, new_check}
+use Rattle.tlv_value.specs.CheckState.{CheckState, check_after, findings_in, has_unused_bits, new_check}
 use Rattle.tlv_value.specs.Types.{bit_string, constructed_types, has_segments, is_a, is_one_of, is_primitive, is_string, is_unassigned, octet_string, primitive_types}
 use Rattle.tlv_walk.specs.Place.{is_indefinite}
 use Rattle.tlv_show.specs.declared.frames.Frame.{Frame}
@@ -179,7 +179,7 @@ contents_notes rules t = if t.left == 0 then filter (shows rules) (findings_in t
 
 abbrev pub finder_after_value : FinderState → OpenValue → FinderState
 finder_after_value s v = record s {
-  frame = frame_after s.frame true v.check.size (has_unused v.check);
+  frame = frame_after s.frame true v.check.size (has_unused_bits v.check);
   value = None;
 }
 

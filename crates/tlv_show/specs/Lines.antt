@@ -3,7 +3,7 @@ use Rattle.std.specs.Prelude.{ℕ, List, ◌++◌, Option, codes, decimal}
 use Rattle.std.specs.Option.{option_map_or}
 use Rattle.tlv_head.specs.declared.header.Size.{Size}
 use Rattle.tlv_head.specs.Header.{HeaderValue, definite_length}
-use Rattle.tlv_head.specs.Tag.{tag_text_of}
+use Rattle.tlv_head.specs.Tag.{tag_text}
 use Rattle.tlv_value.specs.declared.layout.Layout.{Layout}
 use Rattle.tlv_value.specs.Layout.{columns, line, no_columns}
 
@@ -18,7 +18,7 @@ text_line layout first text = line layout.pure first layout.level text
 -- an element that holds others, with a word after its tag
 abbrev pub opening_line : Layout → HeaderValue → List ℕ → List ℕ
 opening_line layout h word =
-    text_line layout (columns h.offset (size_text h.size)) (tag_text_of h.class h.number ++ word)
+    text_line layout (columns h.offset (size_text h.size)) (tag_text h.class h.number ++ word)
 
 -- its end, with the offset of its end-of-contents octets, if it has them
 abbrev pub close_line : Layout → Option ℕ → List ℕ

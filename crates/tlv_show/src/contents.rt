@@ -1,13 +1,13 @@
 //! The contents of a primitive of which all octets are at hand.
 ghost use Rattle.std.specs.Prelude.{◌≡◌};
-ghost use Rattle.tlv_walk.specs.Follow.{IsWhole, contents_in};
+ghost use Rattle.tlv_walk.specs.Follow.{IsWholeElement, contents_in};
 
 use tlv_head::Header;
 
 /// Of the octets of a primitive, those after its header.
 #[inline(always)]
 pub(crate) fn contents_in<'a>(header: &Header, octets: &'a [u8]) -> &'a [u8]
-    requires { IsWhole header.now octets.now }
+    requires { IsWholeElement header.now octets.now }
     ensures { result.now ≡ contents_in header.now octets.now }
 {
     let (_, contents) = octets.split_at(header.raw().len());

@@ -35,5 +35,3 @@ dotted_text relative octets =
     if is_finished octets && nat_le (length octets) 64 && list_all (λ v. nat_lt v (2 ^ 128)) (subidentifiers octets)
     then Some (join_by decimal (codes ".") (arcs_of relative (subidentifiers octets)))
     else None
-
--- ---- A word of private functions and of proofs

@@ -95,13 +95,14 @@ with_notes s octets =
 abbrev pub check_after : CheckState → List ℕ → CheckState
 check_after s octets = record (with_notes s octets) { number = s.number; size = s.size; left = s.left - length octets }
 
--- 8.6.2.2: it is a BIT STRING whose first contents octet is not 0
-abbrev pub is_not_zero : List ℕ → Bool
-is_not_zero [] = false
-is_not_zero (x ∷ octets) = not (eqb x 0)
+-- there is a first octet, and it is not 0
+abbrev pub begins_nonzero : List ℕ → Bool
+begins_nonzero [] = false
+begins_nonzero (x ∷ octets) = not (eqb x 0)
 
-abbrev pub has_unused : CheckState → Bool
-has_unused s = eqb s.number bit_string && is_not_zero s.front
+-- 8.6.2.2: it is a BIT STRING whose first contents octet is not 0
+abbrev pub has_unused_bits : CheckState → Bool
+has_unused_bits s = eqb s.number bit_string && begins_nonzero s.front
 
 -- the characters are those of the type
 abbrev pub is_allowed_in : CheckState → Bool

@@ -109,7 +109,7 @@ contents_conditions h c =
 abbrev pub findings_on_contents : HeaderValue → List ℕ → List Finding
 findings_on_contents h c = findings_by (contents_conditions h c)
 
--- ---- Words of the checker and of proofs: what each octet may be, and what all of them
+-- ---- What each octet may be, for contents that come in pieces
 
 abbrev pub every : (ℕ → Bool) → List ℕ → Bool
 every test octets = list_all test octets

@@ -2,7 +2,7 @@
 use Rattle.std.specs.Prelude.{ℕ, ◌≤◌, Bool, eqb, if◌then◌else◌, List, [], ◌∷◌, ◌++◌, length, refl}
 use Rattle.std.specs.Int.{is_in_range}
 use Rattle.std.proofs.lemmas.Bool.{leb-true}
-use Rattle.tlv_io.specs.Cuts.{Cut}
+use Rattle.tlv_io.specs.Cuts.{RowsOf}
 use Rattle.tlv_io.proofs.CutOf.{cut_of, least-if, most-if}
 use Rattle.tlv_value.specs.declared.kind.Kind.{Kind}
 use Rattle.tlv_value.specs.declared.kind.Kind.TheVariants.{Utf8}
@@ -21,7 +21,7 @@ character_fits Utf8 x =
     (most-if (is_in_range 0xf0 0xf4 x) 4 1 64 (leb-true 4 64 refl) (leb-true 1 64 refl)))
 character_fits kind x = one_fits kind
 
-abbrev pub cut_of_contents : (kind : Kind) (octets : List ℕ) → Cut (row_size kind) (character_length kind) octets
+abbrev pub cut_of_contents : (kind : Kind) (octets : List ℕ) → RowsOf (row_size kind) (character_length kind) octets
 cut_of_contents kind octets =
     cut_of (row_size kind) (character_length kind) (one_fits kind) (character_fits kind) octets
 
@@ -46,7 +46,7 @@ abbrev pub known_rows : Bool → Kind → List ℕ → List (List ℕ)
 known_rows whole kind octets = if whole then rows_of kind octets else full_rows_in kind (rows_of kind octets)
 
 -- ---- Rows as octets come. A `ValueText` and a `ValueCheck` keep the row that has begun from one piece of contents to the
--- next: with the octets of the next piece behind it, it is cut anew.
+-- next: with the octets of the next piece after it, it is cut anew.
 
 -- the rows that are then full
 abbrev pub full_rows : Kind → List ℕ → List ℕ → List (List ℕ)

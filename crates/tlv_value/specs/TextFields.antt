@@ -15,7 +15,7 @@ text_state_of t = record {
   size = t.value.size;
   layout = t.value.layout;
   left = t.left;
-  kept = record { lined = t.has_line; rows = t.rows; row = t.row.items };
+  kept = record { wrote_line = t.has_line; rows = t.rows; row = t.row.items };
 }
 
 pub record TextFieldsAgree (t : Inside) : Type 0 where

@@ -3,7 +3,7 @@ use Rattle.std.specs.Prelude.{ℕ, ◌+◌, ◌-◌, ◌&&◌, Bool, true, false
 use Rattle.std.specs.List.{enumerate_from}
 use Rattle.tlv_head.specs.declared.header.Class.{Class}
 use Rattle.tlv_head.specs.Header.{HeaderValue, announced_length}
-use Rattle.tlv_head.specs.Tag.{tag_text_of}
+use Rattle.tlv_head.specs.Tag.{tag_text}
 use Rattle.tlv_io.specs.Cuts.{last_rows}
 use Rattle.tlv_value.specs.declared.kind.Kind.{Kind}
 use Rattle.tlv_value.specs.declared.kind.Kind.TheVariants.{Bits}
@@ -21,7 +21,7 @@ kind_by h = kind_of h.class h.number
 -- the line of an element of this class, number and length, with this text after its tag
 abbrev pub element_line : Layout → ℕ → Class → ℕ → ℕ → List ℕ → List ℕ
 element_line layout offset class number n text =
-    line layout.pure (columns offset (decimal n)) layout.level (tag_text_of class number ++ text)
+    line layout.pure (columns offset (decimal n)) layout.level (tag_text class number ++ text)
 
 -- the element's line, and those of its rows
 abbrev pub value_lines : HeaderValue → Layout → Value → List ℕ
@@ -56,7 +56,7 @@ row_lines kind layout i (row ∷ rows) = row_line layout i (row_text kind row) +
 -- what is kept: of a long value whether its line was written, how many rows were full, and the octets of the row that
 -- has begun; of any other all octets
 pub record RowsState : Type 0 where
-  pub lined : Bool
+  pub wrote_line : Bool
   pub rows : ℕ
   pub row : List ℕ
 
@@ -80,14 +80,14 @@ new_text h layout = record {
   size = announced_length h.size;
   layout = layout;
   left = announced_length h.size;
-  kept = record { lined = has_line (kind_of h.class h.number) []; rows = 0; row = [] };
+  kept = record { wrote_line = has_line (kind_of h.class h.number) []; rows = 0; row = [] };
 }
 
 module _ (kind : Kind) (layout : Layout) where
   -- of a long value with a line
   abbrev pub rows_after : RowsState → List ℕ → RowsState
   rows_after k octets = record {
-    lined = true;
+    wrote_line = true;
     rows = k.rows + length (full_rows kind k.row octets);
     row = open_row kind k.row octets;
   }
@@ -97,7 +97,7 @@ module _ (kind : Kind) (layout : Layout) where
 
   -- after its line
   abbrev pub first_rows : ℕ → RowsState
-  first_rows x = record { lined = true; rows = 0; row = row_octets kind (x ∷ []) }
+  first_rows x = record { wrote_line = true; rows = 0; row = row_octets kind (x ∷ []) }
 
 abbrev pub kind_in : TextState → Kind
 kind_in s = kind_of s.class s.number
@@ -118,7 +118,7 @@ first_row_lines s (x ∷ octets) =
 -- of a long value
 abbrev pub long_rows_after : TextState → List ℕ → RowsState
 long_rows_after s octets =
-    if s.kept.lined
+    if s.kept.wrote_line
     then rows_after (kind_in s) s.layout s.kept octets
     else first_rows_after (kind_in s) s.layout s.kept octets
 
@@ -126,7 +126,7 @@ abbrev pub rows_state_after : TextState → List ℕ → RowsState
 rows_state_after s octets =
     if is_long (kind_in s) s.size
     then long_rows_after s octets
-    else record { lined = s.kept.lined; rows = s.kept.rows; row = s.kept.row ++ octets }
+    else record { wrote_line = s.kept.wrote_line; rows = s.kept.rows; row = s.kept.row ++ octets }
 
 -- the state after more octets
 abbrev pub text_after : TextState → List ℕ → TextState
@@ -142,13 +142,13 @@ text_after s octets = record {
 
 -- the lines that are known with the header
 abbrev pub begin_lines : TextState → List ℕ
-begin_lines s = if is_long (kind_in s) s.size then (if s.kept.lined then line_in s [] else []) else []
+begin_lines s = if is_long (kind_in s) s.size then (if s.kept.wrote_line then line_in s [] else []) else []
 
 -- the lines that are known with more octets
 abbrev pub contents_lines : TextState → List ℕ → List ℕ
 contents_lines s octets =
     if is_long (kind_in s) s.size
-    then (if s.kept.lined then full_row_lines (kind_in s) s.layout s.kept octets else first_row_lines s octets)
+    then (if s.kept.wrote_line then full_row_lines (kind_in s) s.layout s.kept octets else first_row_lines s octets)
     else []
 
 -- the value of a primitive of which all contents are kept

@@ -97,7 +97,6 @@ whole_value name_of kind octets =
 abbrev pub row_text : Kind → List ℕ → List ℕ
 row_text kind row = if is_text kind then quoted_text kind row else join_by (λ x. encode_lower (x ∷ [])) (codes " ") row
 
--- ---- A word of proofs
-
+-- no text has a name
 abbrev pub no_names : NameOf
 no_names text = None

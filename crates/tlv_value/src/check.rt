@@ -1,7 +1,7 @@
 //! What is found on the contents of a primitive.
 ghost use Rattle.std.specs.Prelude.{◌≡◌, ◌+◌, ◌≤◌, ◌&&◌, ℕ, List, length, slice_index};
 ghost use Rattle.tlv_head.specs.Header.{HeaderValue, announced_length};
-ghost use Rattle.tlv_value.specs.CheckState.{check_after, findings_in, has_unused, is_allowed_in, new_check, new_check_of, type_number, with_each, with_front};
+ghost use Rattle.tlv_value.specs.CheckState.{check_after, findings_in, has_unused_bits, is_allowed_in, new_check, new_check_of, type_number, with_each, with_front};
 ghost use Rattle.tlv_value.specs.Checks.{findings_on_contents, is_padded_integer};
 
 mod characters;
@@ -126,7 +126,7 @@ impl ValueCheck {
 
     /// Whether it is a BIT STRING whose first contents octet has come and is not `00` (8.6.2.2).
     pub fn has_unused_bits(&self) -> bool
-        ensures { result ≡ has_unused self.now }
+        ensures { result ≡ has_unused_bits self.now }
     {
         self.number == universal::BIT_STRING && self.known != 0 && self.first != 0
     }

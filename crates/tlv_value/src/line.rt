@@ -1,7 +1,7 @@
 //! How lines begin.
 ghost use Rattle.std.specs.Prelude.{◌≡◌, ◌+◌, ◌≤◌, ◌++◌, ◌∷◌, [], decimal, if◌then◌else◌, take};
 ghost use Rattle.tlv_io.specs.LineTexts.{GrowsBy, HasRoomFor};
-ghost use Rattle.tlv_head.specs.Tag.{tag_text_of};
+ghost use Rattle.tlv_head.specs.Tag.{tag_text};
 ghost use Rattle.tlv_value.specs.Layout.{columns, margin, no_columns, spaces};
 ghost use Rattle.tlv_value.specs.Private.Rows.{row_indent_of};
 
@@ -90,7 +90,7 @@ fn blank_columns(pure: bool) -> usize
 #[inline(always)]
 pub fn write_tag(held: &mut Held, class: Class, number: u64)
     requires { HasRoomFor held.old 40 }
-    ensures text { held.new ≡ held.old ++ tag_text_of class number }
+    ensures text { held.new ≡ held.old ++ tag_text class number }
     ensures bound { GrowsBy 40 held.old held.new }
 {
     match class {
@@ -110,7 +110,7 @@ pub fn write_tag(held: &mut Held, class: Class, number: u64)
 #[inline(always)]
 fn write_universal(held: &mut Held, number: u64)
     requires { HasRoomFor held.old 40 }
-    ensures text { held.new ≡ held.old ++ tag_text_of Class.Universal number }
+    ensures text { held.new ≡ held.old ++ tag_text Class.Universal number }
     ensures bound { GrowsBy 40 held.old held.new }
 {
     match padded_name(number) {
@@ -147,7 +147,7 @@ pub fn write_element(
     ensures text { held.new
         ≡ held.old
         ++ (margin layout.pure (columns offset (decimal size)) layout.level
-        ++ tag_text_of class number) }
+        ++ tag_text class number) }
     ensures bound { GrowsBy 593 held.old held.new }
 {
     begin_sized(held, layout, offset, size);

@@ -1,7 +1,7 @@
 //! A primitive by what its header says.
 ghost use Rattle.std.specs.Prelude.{◌≡◌, ◌<◌, ◌≤◌, ◌++◌, ◌∷◌, [], IsTrue, None, OnOk, length, true, ◌↔◌};
 ghost use Rattle.tlv_io.specs.LineTexts.{GrowsBy, HasRoomFor};
-ghost use Rattle.tlv_io.specs.Out.{Puts, buffer_of};
+ghost use Rattle.tlv_io.specs.Out.{Puts, held_octets};
 ghost use Rattle.tlv_value.specs.Cuts.{row_size};
 ghost use Rattle.tlv_value.specs.KindValues.{long_text};
 ghost use Rattle.tlv_value.specs.Private.KindValues.{plain_text};
@@ -162,7 +162,7 @@ impl Primitive {
     #[inline(always)]
     fn put_front<D: Drain>(&self, out: &mut Out<'_, D>) -> Result<(), WriteFault>
         ensures puts { Puts D.state out.old out.new (front_of self.now) result }
-        ensures room { OnOk result (HasRoomFor (buffer_of out.new) 400) }
+        ensures room { OnOk result (HasRoomFor (held_octets out.new) 400) }
     {
         out.make_room()?;
         self.write(&mut out.held);

@@ -88,7 +88,7 @@ impl ValueText {
           size = 0;
           layout = record { level = 0; limit = None; pure = false };
           left = 0;
-          kept = record { lined = true; rows = 0; row = [] };
+          kept = record { wrote_line = true; rows = 0; row = [] };
         } }
     {
         let value = Primitive {

@@ -1,7 +1,7 @@
 //! The rest of lines on their way to an [`Out`], after the tag texts.
 ghost use Rattle.std.specs.Prelude.{◌+◌, ◌≤◌, ◌++◌, [], codes, false, length, true};
 ghost use Rattle.tlv_io.specs.LineTexts.{HasRoomFor};
-ghost use Rattle.tlv_io.specs.Out.{Puts, buffer_of};
+ghost use Rattle.tlv_io.specs.Out.{Puts, held_octets};
 ghost use Rattle.tlv_value.specs.Private.ObjectLines.{object_lines, octets_lines};
 ghost use Rattle.tlv_value.specs.Value.{no_names};
 
@@ -20,7 +20,7 @@ pub(crate) fn put_object<N: NameTable, D: Drain>(
     names: &N,
     out: &mut Out<'_, D>,
 ) -> Result<(), WriteFault>
-    requires room { HasRoomFor (buffer_of out.old) 400 }
+    requires room { HasRoomFor (held_octets out.old) 400 }
     requires short { length contents.now ≤ 64 }
     ensures { Puts D.state out.old out.new
         (object_lines (N.name_of names.now) layout [] false contents.now) result }
@@ -40,7 +40,7 @@ pub(crate) fn put_object<N: NameTable, D: Drain>(
 
 /// Puts a name, which may be of any length, and ends the line.
 fn put_name<D: Drain>(name: &[u8], out: &mut Out<'_, D>) -> Result<(), WriteFault>
-    requires { HasRoomFor (buffer_of out.old) 2 }
+    requires { HasRoomFor (held_octets out.old) 2 }
     ensures { Puts D.state out.old out.new ((codes " (" ++ name.now) ++ codes ")\n") result }
 {
     out.held.add(b" (");
@@ -54,7 +54,7 @@ pub(crate) fn put_relative<D: Drain>(
     contents: &[u8],
     out: &mut Out<'_, D>,
 ) -> Result<(), WriteFault>
-    requires room { HasRoomFor (buffer_of out.old) 400 }
+    requires room { HasRoomFor (held_octets out.old) 400 }
     requires short { length contents.now ≤ 64 }
     ensures { Puts D.state out.old out.new
         (object_lines no_names layout [] true contents.now) result }
@@ -73,7 +73,7 @@ fn put_octets<D: Drain>(
     contents: &[u8],
     out: &mut Out<'_, D>,
 ) -> Result<(), WriteFault>
-    requires room { HasRoomFor (buffer_of out.old) 400 }
+    requires room { HasRoomFor (held_octets out.old) 400 }
     requires short { length contents.now ≤ 64 }
     ensures { Puts D.state out.old out.new (octets_lines layout [] contents.now) result }
 {

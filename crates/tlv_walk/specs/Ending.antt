@@ -7,7 +7,7 @@ use Rattle.tlv_head.specs.Refusal.{IsRefusedOctet}
 use Rattle.tlv_walk.specs.declared.framing.Framing.{Framing}
 use Rattle.tlv_walk.specs.declared.ending.Ending.{Ending}
 use Rattle.tlv_walk.specs.declared.ending.Ending.TheVariants.{Done, Fault}
-use Rattle.tlv_walk.specs.Forest.{Forest, Stop, Fill, Whole, Closed, Entered, Awaiting, Begun, Zero, extent, has_element, is_whole, spell}
+use Rattle.tlv_walk.specs.Forest.{Forest, Stop, Fill, Whole, Closed, Entered, Awaiting, Begun, Zero, extent, has_element, is_complete, spell}
 use Rattle.tlv_walk.specs.Place.{Fits, IsHeadAt, Place, place_after, place_inside, top_place}
 use Rattle.tlv_walk.specs.Reading.{CannotBecomeSound, IsReading, IsSoundList}
 
@@ -54,10 +54,10 @@ pub data IsEnding (framing : Framing) (b : List ℕ) : Ending → Type 0 where
   empty : (f : Forest) → IsReading framing b f → spell f ≡ b → has_element f ≡ false
       → IsEnding framing b (fault Empty (length b))
   -- F02: something is open
-  short : (f : Forest) → IsReading framing b f → spell f ≡ b → is_whole f ≡ false
+  short : (f : Forest) → IsReading framing b f → spell f ≡ b → is_complete f ≡ false
       → IsEnding framing b (fault Short (length b))
   -- one or more elements, and nothing is open
-  done : (f : Forest) → IsReading framing b f → spell f ≡ b → has_element f ≡ true → is_whole f ≡ true
+  done : (f : Forest) → IsReading framing b f → spell f ≡ b → has_element f ≡ true → is_complete f ≡ true
       → IsEnding framing b Done
   -- the octet after the reading is refused
   refused : (f : Forest) (x : ℕ) (rest : List ℕ) (code : FaultCode) → IsReading framing b f → spell f ++ x ∷ rest ≡ b

@@ -53,7 +53,7 @@ abbrev pub contents_in : HeaderValue → List ℕ → List ℕ
 contents_in h octets = drop (length (octets_of h)) octets
 
 -- the octets are a header and all contents that it announces (8.1.3.3)
-pub record IsWhole (h : HeaderValue) (octets : List ℕ) : Type 0 where
+pub record IsWholeElement (h : HeaderValue) (octets : List ℕ) : Type 0 where
   pub header : octets_of h ++ contents_in h octets ≡ octets
   pub contents : announced_length h.size ≡ length (contents_in h octets)
 

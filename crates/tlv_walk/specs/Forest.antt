@@ -58,12 +58,12 @@ abbrev pub extent : HeaderValue → Forest → ℕ
 extent h inside = length (opening h) + (length (spell inside) + length (end_octets h.size))
 
 -- nothing is open
-abbrev pub is_whole : Forest → Bool
-is_whole Stop = true
-is_whole (Fill rest) = is_whole rest
-is_whole (Whole h c rest) = is_whole rest
-is_whole (Closed h inside rest) = is_whole rest
-is_whole end = false
+abbrev pub is_complete : Forest → Bool
+is_complete Stop = true
+is_complete (Fill rest) = is_complete rest
+is_complete (Whole h c rest) = is_complete rest
+is_complete (Closed h inside rest) = is_complete rest
+is_complete end = false
 
 -- an octet of an element is there
 abbrev pub has_element : Forest → Bool

@@ -30,17 +30,17 @@ last_octets (gave n) piece = take n piece
 last_octets failed piece = []
 
 -- it gave octets, or the end, and no more octets than there was room for
-abbrev pub GaveUpTo : ℕ → Last → Type 0
-GaveUpTo room never = ⊥
-GaveUpTo room (gave n) = n ≤ room
-GaveUpTo room failed = ⊥
+abbrev pub LastReadGaveUpTo : ℕ → Last → Type 0
+LastReadGaveUpTo room never = ⊥
+LastReadGaveUpTo room (gave n) = n ≤ room
+LastReadGaveUpTo room failed = ⊥
 
 -- what the read of a turn gave that came to this
-abbrev pub Gave : ℕ → Result Turn DeviceFault → Last → Type 0
-Gave room (Ok turn) last = GaveUpTo room last
-Gave room (Err ReadFailed) last = last ≡ failed
-Gave room (Err WriteFailed) last = GaveUpTo room last
-Gave room (Err InputTooLong) last = GaveUpTo room last
+abbrev pub LastReadWas : ℕ → Result Turn DeviceFault → Last → Type 0
+LastReadWas room (Ok turn) last = LastReadGaveUpTo room last
+LastReadWas room (Err ReadFailed) last = last ≡ failed
+LastReadWas room (Err WriteFailed) last = LastReadGaveUpTo room last
+LastReadWas room (Err InputTooLong) last = LastReadGaveUpTo room last
 
 -- what takes part in a turn, as it is before the turn or after it: the walker, the follower's state, and what the
 -- source and the drain show of themselves
@@ -59,7 +59,7 @@ pub record CallsDevices {S : Type 0} (before after : TurnState S) (piece : List 
     : Type 0 where
   pub octets : Consumes before.source.left after.source.left (last_octets after.source.last piece)
   pub reads : after.source.reads ≡ next_count before.source.reads
-  pub last : Gave (length piece) result after.source.last
+  pub last : LastReadWas (length piece) result after.source.last
   pub at_end : after.source.last ≡ gave 0 → IsAtEnd after.source.left
   pub failed_reads : after.source.failures ≡ failures_after (source_result result) before.source.failures
   pub failed_writes : after.drain.failures ≡ failures_after (drain_result result) before.drain.failures

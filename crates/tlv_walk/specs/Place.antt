@@ -7,7 +7,7 @@ use Rattle.tlv_head.specs.Header.{HeaderValue, IsHeader, announced_length, defin
 use Rattle.tlv_head.specs.Refusal.{IsFront}
 use Rattle.tlv_walk.specs.declared.framing.Framing.{Framing}
 use Rattle.tlv_walk.specs.Inside.{is_among}
-use Rattle.tlv_walk.specs.Forest.{Awaiting, Begun, Closed, Entered, Fill, Forest, Partial, Stop, Whole, Zero, contents_length, extent, is_whole, lead, opening}
+use Rattle.tlv_walk.specs.Forest.{Awaiting, Begun, Closed, Entered, Fill, Forest, Partial, Stop, Whole, Zero, contents_length, extent, is_complete, lead, opening}
 
 -- where a forest is
 pub record Place : Type 0 where
@@ -86,7 +86,7 @@ IsOpen p (Whole h c rest) =
     × IsOpen (place_after p (length (octets_of h) + length c)) rest
 -- 8.1.4, 8.1.5: an element that holds others and has ended. 8.1.3.3: a definite length is that of the contents
 IsOpen p (Closed h inside rest) =
-    (IsElementAt p true h (extent h inside) × (is_whole inside ≡ true)
+    (IsElementAt p true h (extent h inside) × (is_complete inside ≡ true)
     × IfSome (definite_length h.size) (λ n. contents_length h inside ≡ n))
     × IsOpen (place_inside p h) inside × IsOpen (place_after p (extent h inside)) rest
 -- 8.1.4: a primitive that lacks contents octets
@@ -94,7 +94,7 @@ IsOpen p (Partial h c) = IsEntry p false h × (length c < announced_length h.siz
 -- 8.1.4: an element that holds others and has not ended: if what it holds is whole, and the length is
 -- definite, contents octets are lacking
 IsOpen p (Entered h inside) =
-    (IsEntry p true h × (is_whole inside ≡ true → IfSome (definite_length h.size) (λ n. contents_length h inside < n)))
+    (IsEntry p true h × (is_complete inside ≡ true → IfSome (definite_length h.size) (λ n. contents_length h inside < n)))
     × IsOpen (place_inside p h) inside
 -- 8.6.2.2: a wrapping BIT STRING of which the header alone is there
 IsOpen p (Awaiting h) = IsEntry p true h × (lead h ≡ 0 ∷ [])

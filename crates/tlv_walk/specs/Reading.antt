@@ -10,7 +10,7 @@ use Rattle.tlv_walk.specs.Place.{IsHeadAt, IsOpen, Place, place_after, place_ins
 abbrev pub AreOctets : List ℕ → Type 0
 AreOctets b = All (λ x. x < 256) b
 
--- p is a front of b
+-- p is a prefix of b
 abbrev pub IsPrefixOf : List ℕ → List ℕ → Type 0
 IsPrefixOf p b = (rest : List ℕ) × (p ++ rest ≡ b)
 

@@ -37,7 +37,7 @@ pub enum Step<'a> {
 
 /// What a header begins.
 #[derive(Clone, Copy)]
-pub(crate) enum Kind {
+pub(crate) enum HeaderKind {
     /// A constructed element.
     Constructed,
     /// A string whose contents are read as encodings.

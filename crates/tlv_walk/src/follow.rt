@@ -2,7 +2,7 @@
 ghost use Rattle.std.specs.Prelude.{◌≡◌, true};
 ghost use Rattle.tlv_head.specs.Fields.{Suits, header_with};
 ghost use Rattle.tlv_walk.specs.Events.{Bytes, EventValue, Open, Pad};
-ghost use Rattle.tlv_walk.specs.Follow.{Effect, GoesOn, HasEffect, HasEffectOrNone, IsWhole, Joins, Rests, effect_of, put_if_followed, whole_events};
+ghost use Rattle.tlv_walk.specs.Follow.{Effect, GoesOn, HasEffect, HasEffectOrNone, IsWholeElement, Joins, Rests, effect_of, put_if_followed, whole_events};
 ghost use Rattle.tlv_io.specs.Out.{Puts};
 ghost use Rattle.tlv_walk.specs.HasRead.{event_value};
 
@@ -50,7 +50,7 @@ pub trait Follow {
         octets: &[u8],
         out: &mut Out<'_, D>,
     ) -> Result<bool, WriteFault>
-        requires whole { IsWhole header.now octets.now }
+        requires whole { IsWholeElement header.now octets.now }
         ensures puts { Puts D.state out.old out.new
             (put_if_followed result
             (effect_of next self.old (whole_events header.now octets.now)).put) result }

@@ -6,7 +6,7 @@ ghost use Rattle.tlv_walk.specs.declared.framing.Framing.{Framing};
 ghost use Rattle.tlv_walk.specs.Ending.{IsEnding};
 ghost use Rattle.tlv_walk.specs.Events.{AreEqualJoined, EventValue, single_octets};
 ghost use Rattle.tlv_walk.specs.Follow.{effect_of};
-ghost use Rattle.tlv_walk.specs.Forest.{Forest, is_whole};
+ghost use Rattle.tlv_walk.specs.Forest.{Forest, is_complete};
 ghost use Rattle.tlv_walk.specs.Laws.{EventsGoOn, FaultsAreFinal, FaultsAreRight, FrontsAreOpen, OctetsHaveOneEnding, OctetsHaveOneReading, SpellingsAreExact};
 ghost use Rattle.tlv_walk.specs.Place.{IsOpen, top_place};
 ghost use Rattle.tlv_walk.specs.Reading.{IsSound, IsSoundList};
@@ -66,7 +66,7 @@ pub fn joined_is_apart()
 /// A sound list is an open forest in which nothing is open.
 pub fn sound_is_whole()
     ensures { (framing : Framing) (f : Forest)
-        → IsSound (top_place framing) f ↔ (IsOpen (top_place framing) f × (is_whole f ≡ true)) }
+        → IsSound (top_place framing) f ↔ (IsOpen (top_place framing) f × (is_complete f ≡ true)) }
 {}
 
 /// Nothing that a follower does shows how contents and padding were cut into pieces: of events that

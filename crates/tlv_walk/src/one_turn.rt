@@ -5,7 +5,7 @@ ghost use Rattle.tlv_walk.specs.Private.ResultOfPause.{IsResultOfPause, IsRun};
 ghost use Rattle.tlv_walk.specs.Private.FollowsPiece.{FollowsAndFlushes, FollowsPart, FollowsPiece, walk_state};
 ghost use Rattle.tlv_walk.specs.Private.WalkerState.{CanPass};
 ghost use Rattle.tlv_walk.specs.Stands.{CanTake};
-ghost use Rattle.tlv_io.specs.Out.{Puts, buffer_of, drain_of};
+ghost use Rattle.tlv_io.specs.Out.{Puts, held_octets, drain_of};
 ghost use Rattle.tlv_walk.specs.HasRead.{event_value};
 ghost use Rattle.tlv_walk.specs.OneTurn.{FollowsOneRead, turn_state};
 
@@ -76,13 +76,13 @@ pub(crate) fn turn_to<F: Follow, S: Source, D: Drain>(
     requires limit { limit ≤ 2 ^ 40 }
     requires taken { walker.old.offset ≤ limit }
     requires ready { CanTake walker.old }
-    requires empty { buffer_of out.old ≡ [] }
+    requires empty { held_octets out.old ≡ [] }
     ensures read { FollowsOneRead F.next limit
         (turn_state walker.old follower.old (S.state source.old) (D.state (drain_of out.old).now))
         (turn_state walker.new follower.new (S.state source.new) (D.state (drain_of out.new).now))
         piece.new result }
     ensures same_reference { (drain_of out.new).ghost_name ≡ (drain_of out.old).ghost_name }
-    ensures empty { IfOk result (λ t. t ≡ Turn.Again → buffer_of out.new ≡ []) }
+    ensures empty { IfOk result (λ t. t ≡ Turn.Again → held_octets out.new ≡ []) }
 {
     let Ok(count) = source.read(piece) else {
         return Err(DeviceFault::ReadFailed);
@@ -133,7 +133,7 @@ fn follow_and_flush<F: Follow, D: Drain>(
     out: &mut Out<'_, D>,
 ) -> Result<Pause, WriteFault>
     requires limit { walker.old.offset + length piece.now ≤ 2 ^ 40 }
-    requires empty { buffer_of out.old ≡ [] }
+    requires empty { held_octets out.old ≡ [] }
     ensures { FollowsAndFlushes F.next D.state
         (walk_state walker.old follower.old out.old)
         (walk_state walker.new follower.new out.new)

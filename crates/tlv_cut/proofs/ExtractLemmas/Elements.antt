@@ -9,7 +9,7 @@ use Rattle.tlv_walk.specs.declared.follow.Go.TheVariants as go
 use Rattle.tlv_walk.specs.Events.{Begin, Bytes, End, Enter, EventValue, closing_event, events, opening_events}
 use Rattle.tlv_walk.specs.Follow.{Effect, goes_of, no_effect}
 use Rattle.tlv_walk.specs.Forest.{Forest, Stop, Fill, Whole, Closed, Partial, Entered, Awaiting, Begun, Zero}
-use Rattle.tlv_walk.specs.Forest.{end_octets, extent, is_whole, lead, opening}
+use Rattle.tlv_walk.specs.Forest.{end_octets, extent, is_complete, lead, opening}
 use Rattle.tlv_walk.specs.Place.{IsOpen, Place, place_after, place_inside}
 use Rattle.tlv_walk.proofs.FollowerLemmas.Followed.{followed-enough, followed-one}
 use Rattle.tlv_cut.specs.declared.extract_follower.Position.TheVariants as position
@@ -36,7 +36,7 @@ module _ (n : ℕ) (only : Bool) where
   -- what was made is the text of this element, if there is one
   pub record IsTextOf (e : Option Forest) (t : Effect ExtractState) : Type 0 where
     pub put : t.put ≡ option_map_or (element_text only) e []
-    pub goes : t.goes ≡ goes_of (option_map_or is_whole e false)
+    pub goes : t.goes ≡ goes_of (option_map_or is_complete e false)
     pub found : has_found t.state ≡ is_some e
     pub misses : e ≡ None → t ≡ no_effect before
 
@@ -50,14 +50,14 @@ module _ (n : ℕ) (only : Bool) where
   }
 
   -- it has not ended
-  open_text : (e : Forest) (t : Effect ExtractState) → is_whole e ≡ false → t.put ≡ element_text only e
+  open_text : (e : Forest) (t : Effect ExtractState) → is_complete e ≡ false → t.put ≡ element_text only e
       → t.goes ≡ go.On
       → has_found t.state ≡ true → IsTextOf (Some e) t
   open_text e t part octets on found =
       record { put = octets; goes = on ∙ sym (ap goes_of part); found = found; misses = λ none. absurd (cc (none)) }
 
   -- it has ended
-  whole_text : (e : Forest) (t : Effect ExtractState) (octets : List ℕ) → is_whole e ≡ true
+  whole_text : (e : Forest) (t : Effect ExtractState) (octets : List ℕ) → is_complete e ≡ true
       → octets ≡ element_text only e → t ≡ finish_step octets
       → IsTextOf (Some e) t
   whole_text e t octets whole is made = record {
@@ -114,7 +114,7 @@ module _ (n : ℕ) (only : Bool) where
   opens_other h es e = then_more before before [] (opening_events h) es (made_from-opens before before [] h (other_begins h e))
 
   made_from-closed : (h : HeaderValue) (inside : Forest) → (h.offset == n) ≡ true → AllowsSize h.constructed h.size
-      → is_whole inside ≡ true → IsPassedOn n only 0 inside
+      → is_complete inside ≡ true → IsPassedOn n only 0 inside
       → made_from before (opening_events h ++ (events inside ++ closing_event h inside ∷ []))
       ≡ finish_step ((outer_octets only (octets_of h) ++ lead h) ++
       (octets_so_far inside ++ outer_octets only (end_octets h.size)))
@@ -175,7 +175,7 @@ module _ (n : ℕ) (only : Bool) where
 
   -- the element has ended, if there is one
   abbrev AllWhole : Option Forest → Type 0
-  AllWhole e = option_map_or is_whole e true ≡ true
+  AllWhole e = option_map_or is_complete e true ≡ true
 
   either : (k : Bool) (a b : Option Forest) → AllWhole a → AllWhole b → AllWhole (if k then a else b)
   either true a b v w = v
@@ -186,7 +186,7 @@ module _ (n : ℕ) (only : Bool) where
   either_there None b v w = w
 
   -- if all elements have ended, the one at the offset has
-  whole_at : (p : Place) (f : Forest) → IsOpen p f → is_whole f ≡ true → AllWhole (element_at n f)
+  whole_at : (p : Place) (f : Forest) → IsOpen p f → is_complete f ≡ true → AllWhole (element_at n f)
   whole_at p Stop v w = refl
   whole_at p (Fill rest) v w = whole_at (place_after p 1) rest v.1 w
   whole_at p (Whole h c rest) v w =
@@ -203,7 +203,7 @@ module _ (n : ℕ) (only : Bool) where
   whole_at p Zero v w = absurd (cc (w))
 
   -- the element that is there has ended
-  there_whole : (a : Option Forest) (e : Forest) → a ≡ Some e → AllWhole a → option_map_or is_whole a false ≡ true
+  there_whole : (a : Option Forest) (e : Forest) → a ≡ Some e → AllWhole a → option_map_or is_complete a false ≡ true
   there_whole (Some d) e is w = w
   there_whole None e is w = absurd (cc (is))
 

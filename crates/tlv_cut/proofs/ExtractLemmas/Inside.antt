@@ -11,7 +11,7 @@ use Rattle.tlv_walk.specs.Events.{Begin, Bytes, Close, End, Enter, EventValue, L
 use Rattle.tlv_walk.specs.Events.{end_offset, events, opening_events}
 use Rattle.tlv_walk.specs.Follow.{Effect, and_then, effect_of, if_on}
 use Rattle.tlv_walk.specs.Forest.{Forest, Stop, Fill, Whole, Closed, Partial, Entered, Awaiting, Begun, Zero}
-use Rattle.tlv_walk.specs.Forest.{end_octets, extent, is_whole, lead, opening}
+use Rattle.tlv_walk.specs.Forest.{end_octets, extent, is_complete, lead, opening}
 use Rattle.tlv_walk.specs.Place.{IsOpen, Place, place_after, place_inside}
 use Rattle.tlv_walk.proofs.FollowerLemmas.Followed.{followed-more, followed-one}
 use Rattle.tlv_cut.specs.declared.extract_follower.Position.TheVariants as position
@@ -91,9 +91,9 @@ module _ (n : ℕ) (only : Bool) where
     pub put : (made_from (state_inside level) (events f)).put ≡ octets_so_far f
     pub goes : (made_from (state_inside level) (events f)).goes ≡ go.On
     pub found : has_found (made_from (state_inside level) (events f)).state ≡ true
-    pub stays : is_whole f ≡ true → (made_from (state_inside level) (events f)).state ≡ state_inside level
+    pub stays : is_complete f ≡ true → (made_from (state_inside level) (events f)).state ≡ state_inside level
 
-  pub whole_inside_passed_on : (level : ℕ) (f : Forest) → is_whole f ≡ true → IsPassedOn level f
+  pub whole_inside_passed_on : (level : ℕ) (f : Forest) → is_complete f ≡ true → IsPassedOn level f
       → made_from (state_inside level) (events f) ≡ put_step (state_inside level) (octets_so_far f)
   whole_inside_passed_on level f whole k =
       let goes = (made_from (state_inside level) (events f)).goes in
@@ -103,7 +103,7 @@ module _ (n : ℕ) (only : Bool) where
   -- elements after those whose octets are put
   passed_on_after : (level : ℕ) (es : List EventValue) (put : List ℕ) (f rest : Forest)
       → made_from (state_inside level) es ≡ put_step (state_inside level) put
-      → events f ≡ es ++ events rest → put ++ octets_so_far rest ≡ octets_so_far f → is_whole f ≡ is_whole rest
+      → events f ≡ es ++ events rest → put ++ octets_so_far rest ≡ octets_so_far f → is_complete f ≡ is_complete rest
       → IsPassedOn level rest → IsPassedOn level f
   passed_on_after level es put f rest e again octets whole k =
       let all =
@@ -130,7 +130,7 @@ module _ (n : ℕ) (only : Bool) where
       ∙ ap (put_step (state_inside level)) (append-nil (octets_of h ++ c))
 
   closed_passed_on : (level : ℕ) (h : HeaderValue) (inside : Forest) → level ≤ 128 → AllowsSize h.constructed h.size
-      → is_whole inside ≡ true → IsPassedOn (suc level) inside
+      → is_complete inside ≡ true → IsPassedOn (suc level) inside
       → made_from (state_inside level) (opening_events h ++ (events inside ++ closing_event h inside ∷ []))
       ≡ put_step (state_inside level) (opening h ++ (octets_so_far inside ++ end_octets h.size))
   closed_passed_on level h inside low allowed whole k =

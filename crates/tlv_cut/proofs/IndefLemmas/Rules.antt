@@ -8,7 +8,7 @@ use Rattle.tlv_head.specs.declared.header.Size.TheVariants.{Indefinite}
 use Rattle.tlv_head.specs.Header.{HeaderValue, announced_length, definite_length, is_wrapper, octets_of}
 use Rattle.tlv_head.specs.Private.Header.{AllowsSize}
 use Rattle.tlv_walk.specs.Forest.{Forest, Stop, Fill, Whole, Closed, Partial, Entered, Awaiting, Begun, Zero}
-use Rattle.tlv_walk.specs.Forest.{extent, has_element, is_whole, lead, opening, spell}
+use Rattle.tlv_walk.specs.Forest.{extent, has_element, is_complete, lead, opening, spell}
 use Rattle.tlv_walk.specs.Place.{Fits, IsHeadAt, IsOpen, Place, place_after, place_inside}
 use Rattle.tlv_cut.specs.IndefText.{with_indefinite_lengths, indefinite_header}
 use Rattle.tlv_cut.specs.IndefReading.{with_offsets_from}
@@ -16,7 +16,7 @@ use Rattle.tlv_cut.proofs.Lead.{lead_by}
 use Rattle.tlv_cut.proofs.IndefLemmas.Offsets.{constructed_at, is_named, spell-with_offsets_from}
 
 -- elements that have all ended have ended at any offset
-is_whole-with_offsets_from : (at : ℕ) (f : Forest) → is_whole (with_offsets_from at f) ≡ is_whole f
+is_whole-with_offsets_from : (at : ℕ) (f : Forest) → is_complete (with_offsets_from at f) ≡ is_complete f
 is_whole-with_offsets_from at Stop = refl
 is_whole-with_offsets_from at (Fill rest) = is_whole-with_offsets_from (at + 1) rest
 is_whole-with_offsets_from at (Whole h c rest) =
@@ -29,12 +29,12 @@ is_whole-with_offsets_from at (Begun octets) = refl
 is_whole-with_offsets_from at Zero = refl
 
 -- and with indefinite lengths
-closed_whole : (constructed : Bool) (h : HeaderValue) (c : List ℕ) (inside rest : Forest) → is_whole rest ≡ true
-    → is_whole (if constructed then Closed (indefinite_header h) inside rest else Whole h c rest) ≡ true
+closed_whole : (constructed : Bool) (h : HeaderValue) (c : List ℕ) (inside rest : Forest) → is_complete rest ≡ true
+    → is_complete (if constructed then Closed (indefinite_header h) inside rest else Whole h c rest) ≡ true
 closed_whole true h c inside rest e = e
 closed_whole false h c inside rest e = e
 
-is_whole-with_indefinite_lengths : (f : Forest) → is_whole f ≡ true → is_whole (with_indefinite_lengths f) ≡ true
+is_whole-with_indefinite_lengths : (f : Forest) → is_complete f ≡ true → is_complete (with_indefinite_lengths f) ≡ true
 is_whole-with_indefinite_lengths Stop e = refl
 is_whole-with_indefinite_lengths (Fill rest) e = is_whole-with_indefinite_lengths rest e
 is_whole-with_indefinite_lengths (Whole h c rest) e = is_whole-with_indefinite_lengths rest e
@@ -47,8 +47,8 @@ is_whole-with_indefinite_lengths (Awaiting h) e = absurd (cc)
 is_whole-with_indefinite_lengths (Begun octets) e = refl
 is_whole-with_indefinite_lengths Zero e = refl
 
-pub whole : (at : ℕ) (f : Forest) → is_whole f ≡ true
-    → is_whole (with_offsets_from at (with_indefinite_lengths f)) ≡ true
+pub whole : (at : ℕ) (f : Forest) → is_complete f ≡ true
+    → is_complete (with_offsets_from at (with_indefinite_lengths f)) ≡ true
 whole at f e = is_whole-with_offsets_from at (with_indefinite_lengths f) ∙ is_whole-with_indefinite_lengths f e
 
 -- if there is an element, there is one with indefinite lengths too
@@ -58,7 +58,7 @@ closed_some : (constructed : Bool) (at : ℕ) (h : HeaderValue) (c : List ℕ) (
 closed_some true at h c inside rest = refl
 closed_some false at h c inside rest = refl
 
-pub some : (at : ℕ) (f : Forest) → is_whole f ≡ true → has_element f ≡ true
+pub some : (at : ℕ) (f : Forest) → is_complete f ≡ true → has_element f ≡ true
     → has_element (with_offsets_from at (with_indefinite_lengths f)) ≡ true
 some at Stop w e = e
 some at (Fill rest) w e = some (at + 1) rest w e

@@ -6,14 +6,14 @@ use Rattle.std.specs.Prelude.{flat_map, Option, Some, None, codes}
 use Rattle.tlv_head.specs.Header.{HeaderValue, announced_length, octets_of, wraps}
 use Rattle.tlv_value.specs.declared.finding.Finding.{Finding}
 use Rattle.tlv_value.specs.declared.layout.Layout.{Layout}
-use Rattle.tlv_value.specs.CheckState.{check_after, has_unused, new_check}
+use Rattle.tlv_value.specs.CheckState.{check_after, has_unused_bits, new_check}
 use Rattle.tlv_value.specs.Names.{Table}
 use Rattle.tlv_value.specs.TextState.{open_lines, whole_lines}
 use Rattle.tlv_value.specs.Types.{is_primitive}
 use Rattle.tlv_walk.specs.declared.follow.Go.{Go}
 use Rattle.tlv_walk.specs.Events.{Begin, Bytes, End, EventValue, Pad, closing_event, end_offset, events, opening_events}
 use Rattle.tlv_walk.specs.Follow.{Effect, effect_of}
-use Rattle.tlv_walk.specs.Forest.{Forest, Stop, Fill, Whole, Closed, Partial, Entered, Awaiting, Begun, Zero, end_octets, extent, is_whole, lead, opening, spell}
+use Rattle.tlv_walk.specs.Forest.{Forest, Stop, Fill, Whole, Closed, Partial, Entered, Awaiting, Begun, Zero, end_octets, extent, is_complete, lead, opening, spell}
 use Rattle.tlv_walk.specs.Place.{IsOpen, Place, place_after, place_inside}
 use Rattle.tlv_walk.proofs.GrammarLemmas.Spellings.{length-closed, length-whole}
 use Rattle.tlv_show.specs.declared.frames.Frame.{Frame}
@@ -72,7 +72,7 @@ module _ (style : Layout) (names : Table) (rules : Rules) where
 
   pub record IsShown (p : Place) (holder : Option HeaderValue) (before : Before) (w : Frame) (outer : List Frame) (f : Forest) : Type 0 where
     pub text : (n : ℕ) → (effect_of dump_step (start p (is_padding before) w outer n) (events f)).put ≡ texts_of (items rules (site p holder before) f)
-    pub stands : (n : ℕ) → is_whole f ≡ true → (m : ℕ)
+    pub stands : (n : ℕ) → is_complete f ≡ true → (m : ℕ)
         × ((effect_of dump_step (start p (is_padding before) w outer n) (events f)).state
         ≡ pair (lines_at style names p.depth (p.at + length (spell f)) (padded_behind style names (is_padding before) f)) (standing rules (noted_all w f) outer m))
 
@@ -140,7 +140,7 @@ module _ (style : Layout) (names : Table) (rules : Rules) where
       let q : Place = place_after p (length (octets_of h) + length c) in
       let size : announced_length h.size ≡ length c = ap announced_length v.0.1 in
       let form : h.constructed ≡ false = not-constructed h.constructed (wraps h) v.0.0.header.form in
-      let u : Bool = has_unused (check_after (new_check h) c) in
+      let u : Bool = has_unused_bits (check_after (new_check h) c) in
       let known : Knows (behind_primitive rules w h c) (site_after s h c) =
       subst (λ (x : Bool). Knows (frame_after w x (announced_length h.size) u) (site_after s h c)) (ap not form) (knows-behind w s (site_after s h c) h (first_octet c) u k.0 refl refl (unused-of h c form)) in
       let t = shows_forest q holder (Sibling h (first_octet c)) (behind_primitive rules w h c) outer rest v.1 (omega (arith, b, length-whole h c rest)) (known, k.1, k.2) in

@@ -10,7 +10,7 @@ use Rattle.tlv_io.specs.declared.drain.WriteFault.{WriteFault}
 use Rattle.tlv_io.specs.declared.out.Out.{Out}
 use Rattle.tlv_io.specs.Device.{DrainState}
 use Rattle.tlv_walk.specs.Events.{Begin, Bytes, End}
-use Rattle.tlv_walk.specs.Follow.{Effect, HasEffectOrNone, IsWhole, contents_in, effect_of, put_if_followed, whole_events}
+use Rattle.tlv_walk.specs.Follow.{Effect, HasEffectOrNone, IsWholeElement, contents_in, effect_of, put_if_followed, whole_events}
 use Rattle.tlv_io.specs.Out.{Puts}
 use Rattle.tlv_io.proofs.Puts.{HasPut, puts_as, puts_failed_last, puts_text}
 use Rattle.tlv_show.specs.declared.finding_lines.Style.TheVariants.{Dump}
@@ -51,7 +51,7 @@ took : (old new : FinderValue) (h : HeaderValue) (c : List ℕ) (x : Bool) → x
 took old new h c true e p = p
 took old new h c false e p = absurd (true≢false (sym e))
 
-module _ (s u : DumpState) (old new : FinderValue) (h : HeaderValue) (o c : List ℕ) (x : Bool) (is : u ≡ s) (finder : u.finder ≡ old.state) (same : c ≡ contents_in h o) (whole : IsWhole h o)
+module _ (s u : DumpState) (old new : FinderValue) (h : HeaderValue) (o c : List ℕ) (x : Bool) (is : u ≡ s) (finder : u.finder ≡ old.state) (same : c ≡ contents_in h o) (whole : IsWholeElement h o)
     (on : x ≡ true) (passes : PassesOrStays old new h c x) where
   pub made_is : effect_of dump_step s (whole_events h o) ≡ shows (after_whole u h c) (lines_of u h c)
   made_is =

@@ -6,15 +6,15 @@ use Rattle.std.specs.List.{fold, list_all}
 use Rattle.std.specs.Prelude.{Option, None, eqb}
 use Rattle.tlv_head.specs.Header.{HeaderValue, announced_length, is_universal, octets_of, wraps}
 use Rattle.tlv_value.specs.declared.finding.Finding.{Finding}
-use Rattle.tlv_value.specs.CheckState.{check_after, has_unused, is_not_zero, new_check, new_check_of, type_number}
+use Rattle.tlv_value.specs.CheckState.{check_after, has_unused_bits, begins_nonzero, new_check, new_check_of, type_number}
 use Rattle.tlv_value.specs.Types.{bit_string, has_segments, is_a, is_primitive, octet_string}
 use Rattle.tlv_value.proofs.CheckLemmas.CheckPieces.{checked-none}
-use Rattle.tlv_walk.specs.Forest.{Forest, Stop, Fill, Whole, Closed, Partial, Entered, Awaiting, Begun, Zero, extent, is_whole}
+use Rattle.tlv_walk.specs.Forest.{Forest, Stop, Fill, Whole, Closed, Partial, Entered, Awaiting, Begun, Zero, extent, is_complete}
 use Rattle.tlv_walk.specs.Place.{IsOpen, Place, place_after}
 use Rattle.tlv_show.specs.declared.frames.Frame.{Frame}
 use Rattle.tlv_show.specs.declared.rules.Rules.{Rules}
 use Rattle.tlv_show.specs.declared.rules.Rules.TheVariants.{Ber, Der, Cer}
-use Rattle.tlv_show.specs.Conditions.{end_conditions, ends_empty, has_unused_bits, is_not_full}
+use Rattle.tlv_show.specs.Conditions.{end_conditions, ends_empty, follows_unused_bits, is_not_full}
 use Rattle.tlv_show.specs.FinderState.{end_notes, frame_after, frame_after_segment, frame_of, frame_under, top_frame}
 use Rattle.tlv_show.proofs.FindingLemmas.EndFindings.{end_findings}
 use Rattle.tlv_show.specs.Items.{heads}
@@ -50,16 +50,16 @@ full-or-not : (k e : Bool) → not (not k && e) ≡ (k || not e)
 full-or-not true e = refl
 full-or-not false e = refl
 
-unused-at : (k : Bool) (n size x : ℕ) (c : List ℕ) → eqb n bit_string ≡ k → has_unused (check_after (new_check_of n size) (x ∷ c)) ≡ (k && not (x == 0))
-unused-at true n size x c e = subst (λ (m : ℕ). has_unused (check_after (new_check_of m size) (x ∷ c)) ≡ not (x == 0)) (sym (eqb-true n bit_string e)) refl
-unused-at false n size x c e = ap (λ (k : Bool). k && is_not_zero (check_after (new_check_of n size) (x ∷ c)).front) e
+unused-at : (k : Bool) (n size x : ℕ) (c : List ℕ) → eqb n bit_string ≡ k → has_unused_bits (check_after (new_check_of n size) (x ∷ c)) ≡ (k && not (x == 0))
+unused-at true n size x c e = subst (λ (m : ℕ). has_unused_bits (check_after (new_check_of m size) (x ∷ c)) ≡ not (x == 0)) (sym (eqb-true n bit_string e)) refl
+unused-at false n size x c e = ap (λ (k : Bool). k && begins_nonzero (check_after (new_check_of n size) (x ∷ c)).front) e
 
 type-is : (universal : Bool) (n : ℕ) → eqb (if universal then n else octet_string) bit_string ≡ (universal && n == bit_string)
 type-is true n = refl
 type-is false n = refl
 
-pub unused-of : (h : HeaderValue) (c : List ℕ) → h.constructed ≡ false → has_unused (check_after (new_check h) c) ≡ has_unused_bits (Sibling h (first_octet c))
-unused-of h [] e = ap has_unused (checked-none h) ∙ by-none (eqb (type_number h) bit_string)
+pub unused-of : (h : HeaderValue) (c : List ℕ) → h.constructed ≡ false → has_unused_bits (check_after (new_check h) c) ≡ follows_unused_bits (Sibling h (first_octet c))
+unused-of h [] e = ap has_unused_bits (checked-none h) ∙ by-none (eqb (type_number h) bit_string)
   where
     by-none : (a : Bool) → (a && false) ≡ false
     by-none true = refl
@@ -69,7 +69,7 @@ unused-of h (x ∷ c) e =
     unused-at (is_a bit_string h) (type_number h) (announced_length h.size) x c t ∙ ap (λ (k : Bool). not k && is_a bit_string h && not (x == 0)) (sym e)
 
 pub knows-behind : (w : Frame) (s t : Site) (h : HeaderValue) (first : Option ℕ) (unused : Bool) → Knows w s → t.holder ≡ s.holder → t.before ≡ Sibling h first
-    → unused ≡ has_unused_bits (Sibling h first) → Knows (frame_after w (is_primitive h) (announced_length h.size) unused) t
+    → unused ≡ follows_unused_bits (Sibling h first) → Knows (frame_after w (is_primitive h) (announced_length h.size) unused) t
 knows-behind w s t h first unused k e b u =
     let same : in_string s ≡ in_string t = ap (is_held_by has_segments) (sym e) in
     let bits : w.has_bits ≡ in_bit_string t = k.bits ∙ ap (is_held_by (λ h. has_segments h && is_a bit_string h)) (sym e) in
@@ -82,7 +82,7 @@ knows-behind w s t h first unused k e b u =
         record {
           segments = k.segments ∙ same;
           bits = bits;
-          unused = u ∙ ap has_unused_bits (sym b) ∙ ap (λ (x : Bool). x && has_unused_bits t.before) inside;
+          unused = u ∙ ap follows_unused_bits (sym b) ∙ ap (λ (x : Bool). x && follows_unused_bits t.before) inside;
           not_full = full-or-not h.constructed (announced_length h.size == 1000) ∙ ap is_not_full (sym b) ∙ ap (λ (x : Bool). x && is_not_full t.before) inside;
         }
     by-segments same bits false c =
@@ -91,7 +91,7 @@ knows-behind w s t h first unused k e b u =
         record {
           segments = k.segments ∙ same;
           bits = bits;
-          unused = k.unused ∙ ap (λ (x : Bool). x && has_unused_bits s.before) outside ∙ ap (λ (x : Bool). x && has_unused_bits t.before) still;
+          unused = k.unused ∙ ap (λ (x : Bool). x && follows_unused_bits s.before) outside ∙ ap (λ (x : Bool). x && follows_unused_bits t.before) still;
           not_full = k.not_full ∙ ap (λ (x : Bool). x && is_not_full s.before) outside ∙ ap (λ (x : Bool). x && is_not_full t.before) still;
         }
 
@@ -101,7 +101,7 @@ knows-padding w s k e =
     record {
       segments = k.segments;
       bits = k.bits;
-      unused = k.unused ∙ ap (λ (b : Bool). b && has_unused_bits s.before) none ∙ ap (λ (b : Bool). b && false) (sym none);
+      unused = k.unused ∙ ap (λ (b : Bool). b && follows_unused_bits s.before) none ∙ ap (λ (b : Bool). b && false) (sym none);
       not_full = k.not_full ∙ ap (λ (b : Bool). b && is_not_full s.before) none ∙ ap (λ (b : Bool). b && false) (sym none);
     }
 
@@ -109,7 +109,7 @@ knows-padding w s k e =
 abbrev pub noted_all : Frame → Forest → Frame
 noted_all w Stop = w
 noted_all w (Fill rest) = noted_all w rest
-noted_all w (Whole h c rest) = noted_all (frame_after w true (announced_length h.size) (has_unused (check_after (new_check h) c))) rest
+noted_all w (Whole h c rest) = noted_all (frame_after w true (announced_length h.size) (has_unused_bits (check_after (new_check h) c))) rest
 noted_all w (Closed h inside rest) = noted_all (frame_after w (is_primitive h) (announced_length h.size) false) rest
 noted_all w (Partial h c) = w
 noted_all w (Entered h inside) = w
@@ -121,7 +121,7 @@ noted_all w Zero = w
 abbrev segments_noted : Frame → Forest → Frame
 segments_noted w Stop = w
 segments_noted w (Fill rest) = segments_noted w rest
-segments_noted w (Whole h c rest) = segments_noted (frame_after_segment w true (announced_length h.size) (has_unused (check_after (new_check h) c))) rest
+segments_noted w (Whole h c rest) = segments_noted (frame_after_segment w true (announced_length h.size) (has_unused_bits (check_after (new_check h) c))) rest
 segments_noted w (Closed h inside rest) = segments_noted (frame_after_segment w (is_primitive h) (announced_length h.size) false) rest
 segments_noted w (Partial h c) = w
 segments_noted w (Entered h inside) = w
@@ -139,7 +139,7 @@ all-in-string : (w : Frame) (f : Forest) → w.has_segments ≡ true → noted_a
 all-in-string w Stop e = refl
 all-in-string w (Fill rest) e = all-in-string w rest e
 all-in-string w (Whole h c rest) e =
-    let u : Bool = has_unused (check_after (new_check h) c) in
+    let u : Bool = has_unused_bits (check_after (new_check h) c) in
     ap (λ (t : Frame). noted_all t rest) (in-string w true (announced_length h.size) u e) ∙ all-in-string (frame_after_segment w true (announced_length h.size) u) rest e
 all-in-string w (Closed h inside rest) e =
     ap (λ (t : Frame). noted_all t rest) (in-string w (is_primitive h) (announced_length h.size) false e) ∙ all-in-string (frame_after_segment w (is_primitive h) (announced_length h.size) false) rest e
@@ -152,7 +152,7 @@ all-in-string w Zero e = refl
 all-outside : (w : Frame) (f : Forest) → w.has_segments ≡ false → noted_all w f ≡ w
 all-outside w Stop e = refl
 all-outside w (Fill rest) e = all-outside w rest e
-all-outside w (Whole h c rest) e = ap (λ (t : Frame). noted_all t rest) (outside w true (announced_length h.size) (has_unused (check_after (new_check h) c)) e) ∙ all-outside w rest e
+all-outside w (Whole h c rest) e = ap (λ (t : Frame). noted_all t rest) (outside w true (announced_length h.size) (has_unused_bits (check_after (new_check h) c)) e) ∙ all-outside w rest e
 all-outside w (Closed h inside rest) e = ap (λ (t : Frame). noted_all t rest) (outside w (is_primitive h) (announced_length h.size) false e) ∙ all-outside w rest e
 all-outside w (Partial h c) e = refl
 all-outside w (Entered h inside) e = refl
@@ -179,7 +179,7 @@ stays-then a b = record { at = b.at ∙ a.at; size = b.size ∙ a.size; primitiv
 stays : (w : Frame) (f : Forest) → Stays w (noted_all w f)
 stays w Stop = record { at = refl; size = refl; primitive = refl }
 stays w (Fill rest) = stays w rest
-stays w (Whole h c rest) = stays-then (stays-noted w true (announced_length h.size) (has_unused (check_after (new_check h) c))) (stays (frame_after w true (announced_length h.size) (has_unused (check_after (new_check h) c))) rest)
+stays w (Whole h c rest) = stays-then (stays-noted w true (announced_length h.size) (has_unused_bits (check_after (new_check h) c))) (stays (frame_after w true (announced_length h.size) (has_unused_bits (check_after (new_check h) c))) rest)
 stays w (Closed h inside rest) = stays-then (stays-noted w (is_primitive h) (announced_length h.size) false) (stays (frame_after w (is_primitive h) (announced_length h.size) false) rest)
 stays w (Partial h c) = record { at = refl; size = refl; primitive = refl }
 stays w (Entered h inside) = record { at = refl; size = refl; primitive = refl }
@@ -212,7 +212,7 @@ and-true false = refl
 more-octets : (w n d : ℕ) → w ≡ min n 1001 → min (w + d) 1001 ≡ min (n + d) 1001
 more-octets w n d e = omega (arith, e)
 
-sums-up : (p : Place) (w : Frame) (n : ℕ) (f : Forest) → IsOpen p f → is_whole f ≡ true → w.octets ≡ min n 1001 → SumsUp w n f
+sums-up : (p : Place) (w : Frame) (n : ℕ) (f : Forest) → IsOpen p f → is_complete f ≡ true → w.octets ≡ min n 1001 → SumsUp w n f
 sums-up p w n Stop v e o =
     record { segments = refl; bits = refl; all = and-true w.all_primitive; octets = o; empty = refl }
 sums-up p w n (Fill rest) v e o =
@@ -221,7 +221,7 @@ sums-up p w n (Fill rest) v e o =
 sums-up p w n (Whole h c rest) v e o =
     let d : ℕ = announced_length h.size - bit_of w.has_bits in
     let k : is_primitive h ≡ true = ap not (not-constructed h.constructed (wraps h) v.0.0.header.form) in
-    let u : Bool = has_unused (check_after (new_check h) c) in
+    let u : Bool = has_unused_bits (check_after (new_check h) c) in
     let r = sums-up (place_after p (length (octets_of h) + length c)) (frame_after_segment w true (announced_length h.size) u) (n + d) rest v.1 e (more-octets w.octets n d o) in
     record {
       segments = r.segments;
@@ -246,7 +246,7 @@ sums-up p w n (Awaiting h) v e o = absurd (cc (e))
 sums-up p w n (Begun octets) v e o = absurd (cc (e))
 sums-up p w n Zero v e o = absurd (cc (e))
 
-segments-summed : (rules : Rules) (p : Place) (h : HeaderValue) (inside : Forest) → IsOpen p inside → is_whole inside ≡ true → end_notes rules (segments_noted (frame_of h) inside) ≡ end_findings rules h (heads inside)
+segments-summed : (rules : Rules) (p : Place) (h : HeaderValue) (inside : Forest) → IsOpen p inside → is_complete inside ≡ true → end_notes rules (segments_noted (frame_of h) inside) ≡ end_findings rules h (heads inside)
 segments-summed rules p h inside v e =
     let r = sums-up p (frame_of h) 0 inside v e refl in
     let w : Frame = segments_noted (frame_of h) inside in
@@ -266,7 +266,7 @@ no-ends Der w e = refl
 no-ends Cer w e = rw e refl
 
 -- what is found with an end, by the frame of what was held
-summed : (rules : Rules) (p : Place) (h : HeaderValue) (inside : Forest) → IsOpen p inside → is_whole inside ≡ true → end_notes rules (noted_all (frame_of h) inside) ≡ end_findings rules h (heads inside)
+summed : (rules : Rules) (p : Place) (h : HeaderValue) (inside : Forest) → IsOpen p inside → is_complete inside ≡ true → end_notes rules (noted_all (frame_of h) inside) ≡ end_findings rules h (heads inside)
 summed rules p h inside v e = by-segments (has_segments h) refl
   where
     by-segments : (k : Bool) → has_segments h ≡ k → end_notes rules (noted_all (frame_of h) inside) ≡ end_findings rules h (heads inside)
@@ -278,7 +278,7 @@ summed rules p h inside v e = by-segments (has_segments h) refl
 
 -- ---- the same if nothing is to be known of what was held
 
-module _ (rules : Rules) (p : Place) (w : Frame) (h : HeaderValue) (inside : Forest) (v : IsOpen p inside) (whole : is_whole inside ≡ true) where
+module _ (rules : Rules) (p : Place) (w : Frame) (h : HeaderValue) (inside : Forest) (v : IsOpen p inside) (whole : is_complete inside ≡ true) where
   -- an element that is no string: nothing is found with its end
   nothing-ends : has_segments h ≡ false → end_findings rules h (heads inside) ≡ []
   nothing-ends e = sym (summed rules p h inside v whole) ∙ ap (end_notes rules) (all-outside (frame_of h) inside e) ∙ no-ends rules (frame_of h) e

@@ -7,11 +7,11 @@ use Rattle.std.specs.List.{filter}
 use Rattle.std.specs.Prelude.{Option, Some, None}
 use Rattle.tlv_head.specs.Header.{HeaderValue, announced_length, octets_of, wraps}
 use Rattle.tlv_value.specs.declared.finding.Finding.{Finding}
-use Rattle.tlv_value.specs.CheckState.{CheckState, check_after, findings_in, has_unused, new_check}
+use Rattle.tlv_value.specs.CheckState.{CheckState, check_after, findings_in, has_unused_bits, new_check}
 use Rattle.tlv_value.specs.Types.{is_primitive}
 use Rattle.tlv_value.proofs.CheckLemmas.CheckPieces.{checked-none, findings-end}
 use Rattle.tlv_walk.specs.Events.{Begin, Bytes, Close, End, Enter, EventValue, Leave, Open, Unused, closing_event, end_offset, events, opening_events}
-use Rattle.tlv_walk.specs.Forest.{Forest, Stop, Fill, Whole, Closed, Partial, Entered, Awaiting, Begun, Zero, extent, is_whole, opening, spell}
+use Rattle.tlv_walk.specs.Forest.{Forest, Stop, Fill, Whole, Closed, Partial, Entered, Awaiting, Begun, Zero, extent, is_complete, opening, spell}
 use Rattle.tlv_walk.specs.Place.{IsOpen, Place, place_after, place_inside}
 use Rattle.tlv_show.specs.declared.frames.Frame.{Frame}
 use Rattle.tlv_show.specs.declared.rules.Rules.{Rules}
@@ -91,7 +91,7 @@ pub primitive-found : (s : FinderState) (h : HeaderValue) (c : List ℕ) → len
 primitive-found s h c e =
     let n = count_up s.count (length (header_notes s.rules s.frame h)) in
     let t : CheckState = check_after (new_check h) c in
-    let site_after : List Finding → FinderState = λ fs. record { rules = s.rules; frame = frame_after s.frame true (announced_length h.size) (has_unused t); outer = s.outer; value = None; count = count_up n (length fs) } in (
+    let site_after : List Finding → FinderState = λ fs. record { rules = s.rules; frame = frame_after s.frame true (announced_length h.size) (has_unused_bits t); outer = s.outer; value = None; count = count_up n (length fs) } in (
       site_after (contents_findings s.rules h c),
       refl,
       ap find_end (took (record s { count = n }) h.offset h c (omega (arith, e)))
@@ -136,7 +136,7 @@ module _ (rules : Rules) where
   abbrev pub behind_end : HeaderValue → Forest → ℕ → ℕ
   behind_end h inside n = count_up n (length (end_findings rules h (heads inside)))
 
-  pub closed : (p : Place) (w : Frame) (outer : List Frame) (n : ℕ) (h : HeaderValue) (inside : Forest) (es : List EventValue) → IsOpen p inside → is_whole inside ≡ true
+  pub closed : (p : Place) (w : Frame) (outer : List Frame) (n : ℕ) (h : HeaderValue) (inside : Forest) (es : List EventValue) → IsOpen p inside → is_complete inside ≡ true
       → run (standing (noted_all (frame_under w h) inside) (w ∷ outer) n) (closing_event h inside ∷ es)
       ≡ then_found (findings_at (length outer) h.offset (end_findings rules h (heads inside))) (run (standing (frame_after w (is_primitive h) (announced_length h.size) false) outer (behind_end h inside n)) es)
   closed p w outer n h inside es v whole =
@@ -148,7 +148,7 @@ module _ (rules : Rules) where
   -- ---- a primitive
 
   abbrev pub behind_primitive : Frame → HeaderValue → List ℕ → Frame
-  behind_primitive w h c = frame_after w true (announced_length h.size) (has_unused (check_after (new_check h) c))
+  behind_primitive w h c = frame_after w true (announced_length h.size) (has_unused_bits (check_after (new_check h) c))
 
   abbrev pub behind_contents : Frame → HeaderValue → List ℕ → ℕ → ℕ
   behind_contents w h c n = count_up (behind_header w h n) (length (contents_findings rules h c))
@@ -165,7 +165,7 @@ module _ (rules : Rules) where
 
   -- ---- what a finder makes of each end by itself
 
-  pub closed-find : (p : Place) (w : Frame) (outer : List Frame) (n : ℕ) (h : HeaderValue) (inside : Forest) → IsOpen p inside → is_whole inside ≡ true
+  pub closed-find : (p : Place) (w : Frame) (outer : List Frame) (n : ℕ) (h : HeaderValue) (inside : Forest) → IsOpen p inside → is_complete inside ≡ true
       → find_close (standing (noted_all (frame_under w h) inside) (w ∷ outer) n)
       ≡ record { state = standing (frame_after w (is_primitive h) (announced_length h.size) false) outer (behind_end h inside n); level = length outer; at = (noted_all (frame_under w h) inside).at; found = end_findings rules h (heads inside) }
   closed-find p w outer n h inside v whole =
@@ -185,7 +185,7 @@ module _ (rules : Rules) where
   -- what was reported of elements: the findings of their items; and if they are whole, the frame after them
   pub record IsFoundAs (s : Site) (w : Frame) (outer : List Frame) (f : Forest) : Type 0 where
     pub put : (n : ℕ) → (run (standing w outer n) (events f)).put ≡ only (items rules s f)
-    pub stands : (n : ℕ) → is_whole f ≡ true → (m : ℕ) × ((run (standing w outer n) (events f)).state ≡ standing (noted_all w f) outer m)
+    pub stands : (n : ℕ) → is_complete f ≡ true → (m : ℕ) × ((run (standing w outer n) (events f)).state ≡ standing (noted_all w f) outer m)
 
   -- findings with a header, and then other items
   header-items : (s : Site) (w : Frame) (outer : List Frame) (h : HeaderValue) (found rest : List Item) → Knows w s → length outer ≡ s.level → found ≡ only rest
@@ -210,7 +210,7 @@ module _ (rules : Rules) where
   finds_forest p s w outer (Whole h c rest) v k l d free =
       let size : length c ≡ announced_length h.size = sym (ap announced_length v.0.1) in
       let form : h.constructed ≡ false = not-constructed h.constructed (wraps h) v.0.0.header.form in
-      let u : Bool = has_unused (check_after (new_check h) c) in
+      let u : Bool = has_unused_bits (check_after (new_check h) c) in
       let known : Knows (behind_primitive w h c) (site_after s h c) =
       subst (λ (b : Bool). Knows (frame_after w b (announced_length h.size) u) (site_after s h c)) (ap not form) (knows-behind w s (site_after s h c) h (first_octet c) u k refl refl (unused-of h c form)) in
       let r = finds_forest (place_after p (length (octets_of h) + length c)) (site_after s h c) (behind_primitive w h c) outer rest v.1 known l d free in

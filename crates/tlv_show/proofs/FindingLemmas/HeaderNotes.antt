@@ -13,7 +13,7 @@ use Rattle.tlv_value.specs.Types.{bit_string, constructed_types, has_segments, i
 use Rattle.tlv_show.specs.declared.frames.Frame.{Frame}
 use Rattle.tlv_show.specs.declared.rules.Rules.{Rules}
 use Rattle.tlv_show.specs.declared.rules.Rules.TheVariants.{Ber, Der, Cer}
-use Rattle.tlv_show.specs.Conditions.{first_length, has_high_form, has_long_form, has_unused_bits, header_conditions, is_not_full, leading_bits}
+use Rattle.tlv_show.specs.Conditions.{first_length, has_high_form, has_long_form, follows_unused_bits, header_conditions, is_not_full, leading_bits}
 use Rattle.tlv_show.proofs.FindingLemmas.SegmentType.{segment_type}
 use Rattle.tlv_show.specs.FinderState.{end_notes, header_notes}
 use Rattle.tlv_show.specs.Found.{header_findings, shows}
@@ -24,7 +24,7 @@ use Rattle.tlv_show.proofs.FindingLemmas.SiteWords.{is_held_by}
 pub record Knows (w : Frame) (s : Site) : Type 0 where
   pub segments : w.has_segments ≡ in_string s
   pub bits : w.has_bits ≡ in_bit_string s
-  pub unused : w.is_unused ≡ (in_string s && has_unused_bits s.before)
+  pub unused : w.is_unused ≡ (in_string s && follows_unused_bits s.before)
   pub not_full : w.is_not_full ≡ (in_string s && is_not_full s.before)
 
 -- ---- findings that rules show, one after another
@@ -138,15 +138,15 @@ both-once false b = refl
 
 pub header-same : (rules : Rules) (w : Frame) (s : Site) (h : HeaderValue) → Knows w s → header_notes rules w h ≡ header_findings rules s h
 header-same rules w s h k =
-    let unused : ((w.has_segments && w.has_bits) && w.is_unused) ≡ (in_bit_string s && has_unused_bits s.before) =
-    ap₂ (λ (a b : Bool). (a && b) && w.is_unused) k.segments k.bits ∙ ap (λ (a : Bool). (in_string s && in_bit_string s) && a) k.unused ∙ in-bits s.holder (has_unused_bits s.before) in
+    let unused : ((w.has_segments && w.has_bits) && w.is_unused) ≡ (in_bit_string s && follows_unused_bits s.before) =
+    ap₂ (λ (a b : Bool). (a && b) && w.is_unused) k.segments k.bits ∙ ap (λ (a : Bool). (in_string s && in_bit_string s) && a) k.unused ∙ in-bits s.holder (follows_unused_bits s.before) in
     let short : (w.has_segments && w.is_not_full) ≡ (in_string s && is_not_full s.before) =
     ap₂ (λ (a b : Bool). a && b) k.segments k.not_full ∙ both-once (in_string s) (is_not_full s.before) in
     let other : (w.has_segments && not (is_a (if w.has_bits then bit_string else octet_string) h)) ≡ (in_string s && not (is_a (segment_type s) h)) =
     ap₂ (λ (a b : Bool). a && not (is_a (if b then bit_string else octet_string) h)) k.segments k.bits in
     sym (noted-by rules w h)
     ∙ ap₂ (λ (a b : Bool). shown rules (rows_by a b (h.constructed && w.has_segments) (w.has_segments && w.is_not_full) h)) unused other
-    ∙ ap₂ (λ (a b : Bool). shown rules (rows_by (in_bit_string s && has_unused_bits s.before) (in_string s && not (is_a (segment_type s) h)) (h.constructed && a) b h)) k.segments short
+    ∙ ap₂ (λ (a b : Bool). shown rules (rows_by (in_bit_string s && follows_unused_bits s.before) (in_string s && not (is_a (segment_type s) h)) (h.constructed && a) b h)) k.segments short
     ∙ sym (filter-held rules (header_conditions s h))
 
 -- ---- with an end

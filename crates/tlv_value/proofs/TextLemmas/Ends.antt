@@ -2,7 +2,7 @@
 use Rattle.std.proofs.Common.{◌≡◌, ℕ, ◌+◌, ◌≤◌, Bool, true, false, List, [], ◌∷◌, ◌++◌, length, refl, sym, ap, ◌∙◌, arith, append_assoc, append-nil}
 use Rattle.std.specs.Prelude.{nat_le, if◌then◌else◌}
 use Rattle.std.proofs.lemmas.Bool.Decides.{nat_tests}
-use Rattle.tlv_head.specs.Tag.{tag_text_of}
+use Rattle.tlv_head.specs.Tag.{tag_text}
 use Rattle.std.specs.Prelude.{decimal}
 use Rattle.tlv_io.specs.Cuts.{last_rows}
 use Rattle.tlv_value.specs.declared.kind.Kind.{Kind}
@@ -34,14 +34,14 @@ line-front margin tag text rows =
     sym (append_assoc (margin ++ tag) (text ++ 10 ∷ []) rows) ∙ ap (λ (t : List ℕ). t ++ rows) (sym (append_assoc (margin ++ tag) text (10 ∷ [])) ∙ ap (λ (t : List ℕ). t ++ 10 ∷ []) (append_assoc margin tag text))
 
 front-line : (p : Primitive) (v : Value) → front_of p ++ rest_of_lines p.layout [] v ≡ primitive_line p v.text ++ row_lines Octets p.layout 0 v.rows
-front-line p v = line-front (margin p.layout.pure (columns p.offset (decimal p.size)) p.layout.level) (tag_text_of p.class p.number) v.text (row_lines Octets p.layout 0 v.rows)
+front-line p v = line-front (margin p.layout.pure (columns p.offset (decimal p.size)) p.layout.level) (tag_text p.class p.number) v.text (row_lines Octets p.layout 0 v.rows)
 
 -- what its line begins with, and the rest of its lines
 pub shown-front : (name_of : NameOf) (p : Primitive) (octets : List ℕ)
     → front_of p ++ (((kind_value name_of p.kind octets).text ++ 10 ∷ []) ++ row_lines p.kind p.layout 0 (kind_value name_of p.kind octets).rows) ≡ primitive_lines name_of p octets
 shown-front name_of p octets =
     let v : Value = kind_value name_of p.kind octets in
-    line-front (margin p.layout.pure (columns p.offset (decimal p.size)) p.layout.level) (tag_text_of p.class p.number) v.text (row_lines p.kind p.layout 0 v.rows)
+    line-front (margin p.layout.pure (columns p.offset (decimal p.size)) p.layout.level) (tag_text p.class p.number) v.text (row_lines p.kind p.layout 0 v.rows)
 
 module _ (name_of : NameOf) (layout : Layout) (line : List ℕ → List ℕ) (octets : List ℕ) where
   abbrev shown_by : Kind → List ℕ
@@ -124,15 +124,15 @@ ended-shown name_of p left kept e l =
 
 -- the first contents octet of a long BIT STRING
 
-new-first_at : (kind : Kind) (lined : Bool) (size : ℕ) (layout : Layout) (line : List ℕ → List ℕ) (x : ℕ) (rest rows_part : List ℕ) → kind ≡ Bits → lined ≡ false → is_long kind size ≡ true
-    → (if is_long kind size then (if lined then rows_part else (line (long_text kind size (x ∷ [])) ++ row_lines kind layout 0 (full_rows kind (row_octets kind (x ∷ [])) rest))) else [])
+new-first_at : (kind : Kind) (wrote_line : Bool) (size : ℕ) (layout : Layout) (line : List ℕ → List ℕ) (x : ℕ) (rest rows_part : List ℕ) → kind ≡ Bits → wrote_line ≡ false → is_long kind size ≡ true
+    → (if is_long kind size then (if wrote_line then rows_part else (line (long_text kind size (x ∷ [])) ++ row_lines kind layout 0 (full_rows kind (row_octets kind (x ∷ [])) rest))) else [])
     ≡ line (long_text Bits size (x ∷ [])) ++ row_lines Bits layout 0 (full_rows Bits (row_octets Bits (x ∷ [])) rest)
-new-first_at kind lined size layout line x rest rows_part e u l = rw (l, u, e) refl
+new-first_at kind wrote_line size layout line x rest rows_part e u l = rw (l, u, e) refl
 
-pub new-first : (s : TextState) (x : ℕ) (rest : List ℕ) → kind_of s.class s.number ≡ Bits → s.kept.lined ≡ false → is_long (kind_of s.class s.number) s.size ≡ true
+pub new-first : (s : TextState) (x : ℕ) (rest : List ℕ) → kind_of s.class s.number ≡ Bits → s.kept.wrote_line ≡ false → is_long (kind_of s.class s.number) s.size ≡ true
     → contents_lines s (x ∷ rest) ≡ line_in s (long_text Bits s.size (x ∷ [])) ++ row_lines Bits s.layout 0 (full_rows Bits (row_octets Bits (x ∷ [])) rest)
 new-first s x rest e u l =
-    new-first_at (kind_of s.class s.number) s.kept.lined s.size s.layout (line_in s) x rest (row_lines (kind_of s.class s.number) s.layout s.kept.rows (full_rows (kind_of s.class s.number) s.kept.row (x ∷ rest))) e u l
+    new-first_at (kind_of s.class s.number) s.kept.wrote_line s.size s.layout (line_in s) x rest (row_lines (kind_of s.class s.number) s.layout s.kept.rows (full_rows (kind_of s.class s.number) s.kept.row (x ∷ rest))) e u l
 
 -- the rows behind it
 pub rows-first : (kind : Kind) (layout : Layout) (n : ℕ) (row begun rest : List ℕ) → kind ≡ Bits → n ≡ 0 → row ≡ begun → row_lines kind layout n (full_rows kind row rest) ≡ row_lines Bits layout 0 (full_rows Bits begun rest)

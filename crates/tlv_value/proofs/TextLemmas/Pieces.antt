@@ -20,7 +20,7 @@ use Rattle.tlv_value.proofs.TextLemmas.Puts.{row_lines-append}
 use Rattle.tlv_value.proofs.RowLemmas.OneCut.{rows-join, rows-parts}
 
 abbrev kept_with : ℕ → List ℕ → RowsState
-kept_with n r = record { lined = true; rows = n; row = r }
+kept_with n r = record { wrote_line = true; rows = n; row = r }
 
 kept-eq : (n m : ℕ) (r q : List ℕ) → n ≡ m → r ≡ q → kept_with n r ≡ kept_with m q
 kept-eq n m r q e f = ap (λ (j : ℕ). kept_with j r) e ∙ ap (kept_with m) f
@@ -41,24 +41,24 @@ module _ (kind : Kind) where
 -- the parts of a state that do not change are left out here: the tests, the lines and what is kept
 module _ (kind : Kind) (layout : Layout) (line : List ℕ → List ℕ) (size : ℕ) where
   abbrev kept_by : Bool → Bool → RowsState → List ℕ → RowsState
-  kept_by long lined k x =
-      if long then (if lined then rows_after kind layout k x else first_rows_after kind layout k x) else record { lined = k.lined; rows = k.rows; row = k.row ++ x }
+  kept_by long wrote_line k x =
+      if long then (if wrote_line then rows_after kind layout k x else first_rows_after kind layout k x) else record { wrote_line = k.wrote_line; rows = k.rows; row = k.row ++ x }
 
   abbrev first_new : List ℕ → List ℕ
   first_new [] = []
   first_new (u ∷ x) = line (long_text kind size (u ∷ [])) ++ full_row_lines kind layout (first_rows kind layout u) x
 
   abbrev new_by : Bool → Bool → RowsState → List ℕ → List ℕ
-  new_by long lined k x = if long then (if lined then full_row_lines kind layout k x else first_new x) else []
+  new_by long wrote_line k x = if long then (if wrote_line then full_row_lines kind layout k x else first_new x) else []
 
-  join-kept : (long lined : Bool) (k : RowsState) (x y : List ℕ) → k.lined ≡ lined → kept_by long (kept_by long lined k x).lined (kept_by long lined k x) y ≡ kept_by long lined k (x ++ y)
-  join-kept false lined k x y e = ap (λ (r : List ℕ). record { lined = k.lined; rows = k.rows; row = r }) (append_assoc k.row x y)
+  join-kept : (long wrote_line : Bool) (k : RowsState) (x y : List ℕ) → k.wrote_line ≡ wrote_line → kept_by long (kept_by long wrote_line k x).wrote_line (kept_by long wrote_line k x) y ≡ kept_by long wrote_line k (x ++ y)
+  join-kept false wrote_line k x y e = ap (λ (r : List ℕ). record { wrote_line = k.wrote_line; rows = k.rows; row = r }) (append_assoc k.row x y)
   join-kept true true k x y e = kept-join kind layout k x y
   join-kept true false k [] y e = rw e refl
   join-kept true false k (u ∷ x) y e = kept-join kind layout (first_rows kind layout u) x y
 
-  join-new : (long lined : Bool) (k : RowsState) (x y : List ℕ) → k.lined ≡ lined → new_by long lined k (x ++ y) ≡ new_by long lined k x ++ new_by long (kept_by long lined k x).lined (kept_by long lined k x) y
-  join-new false lined k x y e = refl
+  join-new : (long wrote_line : Bool) (k : RowsState) (x y : List ℕ) → k.wrote_line ≡ wrote_line → new_by long wrote_line k (x ++ y) ≡ new_by long wrote_line k x ++ new_by long (kept_by long wrote_line k x).wrote_line (kept_by long wrote_line k x) y
+  join-new false wrote_line k x y e = refl
   join-new true true k x y e = new-join kind layout k x y
   join-new true false k [] y e = rw e refl
   join-new true false k (u ∷ x) y e =
@@ -68,17 +68,17 @@ module _ (kind : Kind) (layout : Layout) (line : List ℕ → List ℕ) (size : 
 abbrev with_kept : TextState → ℕ → RowsState → TextState
 with_kept s left k = record { offset = s.offset; class = s.class; number = s.number; size = s.size; layout = s.layout; left = left; kept = k }
 
-new_by-new : (s : TextState) (x : List ℕ) → new_by (kind_in s) s.layout (line_in s) s.size (is_long (kind_in s) s.size) s.kept.lined s.kept x ≡ contents_lines s x
+new_by-new : (s : TextState) (x : List ℕ) → new_by (kind_in s) s.layout (line_in s) s.size (is_long (kind_in s) s.size) s.kept.wrote_line s.kept x ≡ contents_lines s x
 new_by-new s [] = refl
 new_by-new s (u ∷ x) = refl
 
 pub pieces-join : PiecesJoin
 pieces-join s x y =
     let l : s.left - length x - length y ≡ s.left - length (x ++ y) = omega (arith, length-append x y) in
-    let k = join-kept (kind_in s) s.layout (line_in s) s.size (is_long (kind_in s) s.size) s.kept.lined s.kept x y refl in
-    let t = join-new (kind_in s) s.layout (line_in s) s.size (is_long (kind_in s) s.size) s.kept.lined s.kept x y refl in (
+    let k = join-kept (kind_in s) s.layout (line_in s) s.size (is_long (kind_in s) s.size) s.kept.wrote_line s.kept x y refl in
+    let t = join-new (kind_in s) s.layout (line_in s) s.size (is_long (kind_in s) s.size) s.kept.wrote_line s.kept x y refl in (
       ap (λ (n : ℕ). with_kept s n (rows_state_after (text_after s x) y)) l ∙ ap (with_kept s (s.left - length (x ++ y))) k,
-      sym (new_by-new s (x ++ y)) ∙ t ∙ ap (λ (r : List ℕ). r ++ new_by (kind_in s) s.layout (line_in s) s.size (is_long (kind_in s) s.size) (rows_state_after s x).lined (rows_state_after s x) y) (new_by-new s x)
+      sym (new_by-new s (x ++ y)) ∙ t ∙ ap (λ (r : List ℕ). r ++ new_by (kind_in s) s.layout (line_in s) s.size (is_long (kind_in s) s.size) (rows_state_after s x).wrote_line (rows_state_after s x) y) (new_by-new s x)
           ∙ ap (λ (r : List ℕ). contents_lines s x ++ r) (new_by-new (text_after s x) y),
     )
 
@@ -92,7 +92,7 @@ first-open_row u rest true = refl
 first-open_row u rest false = refl
 
 abbrev begin_kept : Kind → RowsState
-begin_kept kind = record { lined = has_line kind []; rows = 0; row = [] }
+begin_kept kind = record { wrote_line = has_line kind []; rows = 0; row = [] }
 
 module _ (layout : Layout) (line : List ℕ → List ℕ) (size : ℕ) where
   abbrev begun_at : Kind → Bool → List ℕ
@@ -171,26 +171,26 @@ open-lines h layout octets =
 
 -- with no octets a primitive that begins has no lines more, and is kept as it is
 
-new-nothing_at : (kind : Kind) (layout : Layout) (line : List ℕ → List ℕ) (size : ℕ) (long lined : Bool) → new_by kind layout line size long lined (begin_kept kind) [] ≡ []
-new-nothing_at kind layout line size false lined = refl
+new-nothing_at : (kind : Kind) (layout : Layout) (line : List ℕ → List ℕ) (size : ℕ) (long wrote_line : Bool) → new_by kind layout line size long wrote_line (begin_kept kind) [] ≡ []
+new-nothing_at kind layout line size false wrote_line = refl
 new-nothing_at kind layout line size true true = refl
 new-nothing_at kind layout line size true false = refl
 
 pub new-nothing : (h : HeaderValue) (layout : Layout) → contents_lines (new_text h layout) [] ≡ []
 new-nothing h layout =
     let s : TextState = new_text h layout in
-    sym (new_by-new s []) ∙ new-nothing_at (kind_in s) s.layout (line_in s) s.size (is_long (kind_in s) s.size) s.kept.lined
+    sym (new_by-new s []) ∙ new-nothing_at (kind_in s) s.layout (line_in s) s.size (is_long (kind_in s) s.size) s.kept.wrote_line
 
-after-nothing_at : (kind : Kind) (layout : Layout) (line : List ℕ → List ℕ) (size : ℕ) (long lined : Bool) → lined ≡ has_line kind [] → kept_by kind layout line size long lined (begin_kept kind) [] ≡ begin_kept kind
-after-nothing_at kind layout line size false lined e = refl
-after-nothing_at kind layout line size true true e = ap (λ (b : Bool). record { lined = b; rows = 0; row = [] }) e
+after-nothing_at : (kind : Kind) (layout : Layout) (line : List ℕ → List ℕ) (size : ℕ) (long wrote_line : Bool) → wrote_line ≡ has_line kind [] → kept_by kind layout line size long wrote_line (begin_kept kind) [] ≡ begin_kept kind
+after-nothing_at kind layout line size false wrote_line e = refl
+after-nothing_at kind layout line size true true e = ap (λ (b : Bool). record { wrote_line = b; rows = 0; row = [] }) e
 after-nothing_at kind layout line size true false e = refl
 
 pub after-nothing : (h : HeaderValue) (layout : Layout) → text_after (new_text h layout) [] ≡ new_text h layout
 after-nothing h layout =
     let s : TextState = new_text h layout in
     let l : s.left - 0 ≡ s.left = omega arith in
-    ap (λ (n : ℕ). with_kept s n (rows_state_after s [])) l ∙ ap (with_kept s s.left) (after-nothing_at (kind_in s) s.layout (line_in s) s.size (is_long (kind_in s) s.size) s.kept.lined refl)
+    ap (λ (n : ℕ). with_kept s n (rows_state_after s [])) l ∙ ap (with_kept s s.left) (after-nothing_at (kind_in s) s.layout (line_in s) s.size (is_long (kind_in s) s.size) s.kept.wrote_line refl)
 
 pub lines-begin : LinesBegin
 lines-begin h layout = open-lines h layout [] ∙ ap (λ (t : List ℕ). begin_lines (new_text h layout) ++ t) (new-nothing h layout) ∙ append-nil (begin_lines (new_text h layout))

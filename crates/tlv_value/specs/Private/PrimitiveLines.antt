@@ -1,7 +1,7 @@
 -- The lines of a primitive, by what its header says of it.
 use Rattle.std.specs.Prelude.{ℕ, List, [], ◌++◌, decimal}
 use Rattle.tlv_head.specs.Header.{HeaderValue, announced_length}
-use Rattle.tlv_head.specs.Tag.{tag_text_of}
+use Rattle.tlv_head.specs.Tag.{tag_text}
 use Rattle.tlv_value.specs.declared.layout.Layout.{Layout}
 use Rattle.tlv_value.specs.declared.primitive.Primitive.{Primitive}
 use Rattle.tlv_value.specs.Kind.{kind_of}
@@ -22,7 +22,7 @@ primitive_of h layout = record {
 
 -- what its line begins with
 abbrev pub front_of : Primitive → List ℕ
-front_of p = margin p.layout.pure (columns p.offset (decimal p.size)) p.layout.level ++ tag_text_of p.class p.number
+front_of p = margin p.layout.pure (columns p.offset (decimal p.size)) p.layout.level ++ tag_text p.class p.number
 
 -- its line, with this text after its tag
 abbrev pub primitive_line : Primitive → List ℕ → List ℕ
@@ -43,7 +43,7 @@ new_text_of p = record {
   size = p.size;
   layout = p.layout;
   left = p.size;
-  kept = record { lined = has_line p.kind []; rows = 0; row = [] };
+  kept = record { wrote_line = has_line p.kind []; rows = 0; row = [] };
 }
 
 -- the lines that are known with the header, with all contents, and with the end

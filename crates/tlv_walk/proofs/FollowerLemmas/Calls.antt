@@ -18,7 +18,7 @@ use Rattle.tlv_walk.specs.Stands.{CanTake}
 use Rattle.tlv_walk.specs.WalkerState.{WalkerState}
 use Rattle.tlv_walk.specs.Private.FollowsPiece.{Pauses, WalkState, walk_state}
 use Rattle.tlv_walk.specs.Private.ResultOfPause.{IsResultOfPause}
-use Rattle.tlv_walk.specs.OneTurn.{CallsDevices, CanGoOn, Gave, TurnState, last_octets}
+use Rattle.tlv_walk.specs.OneTurn.{CallsDevices, CanGoOn, LastReadWas, TurnState, last_octets}
 
 gave-same : (m n : ℕ) → gave m ≡ gave n → m ≡ n
 gave-same m n e = ap (λ (l : Last). elim l [ never ↦ 0 | gave k ↦ k | failed ↦ 0 ]) e
@@ -26,12 +26,12 @@ gave-same m n e = ap (λ (l : Last). elim l [ never ↦ 0 | gave k ↦ k | faile
 module _ {S : Type 0} (before after : TurnState S) (piece : List ℕ) where
   -- a read that gave octets, and a result that blames no source for it
   pub calls_given : (n : ℕ) (result : Result Turn DeviceFault) → ReadsOnce {E = ReadFault} before.source after.source (Ok n) piece
-      → 0 < length piece → Gave (length piece) result (gave n) → source_result result ≡ Ok tt
+      → 0 < length piece → LastReadWas (length piece) result (gave n) → source_result result ≡ Ok tt
       → after.drain.failures ≡ failures_after (drain_result result) before.drain.failures → CallsDevices before after piece result
   calls_given n result r some g s d = record {
     octets = subst (λ (l : Last). Consumes before.source.left after.source.left (last_octets l piece)) (sym r.last) r.octets.0;
     reads = r.reads;
-    last = subst (λ (l : Last). Gave (length piece) result l) (sym r.last) g;
+    last = subst (λ (l : Last). LastReadWas (length piece) result l) (sym r.last) g;
     at_end = λ e. r.octets.1 (gave-same n 0 (sym r.last ∙ e)) some;
     failed_reads = r.failures ∙ ap (λ (x : Result ⊤ DeviceFault). failures_after x before.source.failures) (sym s);
     failed_writes = d;

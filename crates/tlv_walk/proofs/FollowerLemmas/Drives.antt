@@ -26,7 +26,7 @@ use Rattle.tlv_walk.specs.Job.{ComesTo, EndsWith, Runs, WantMore, drain_result, 
 use Rattle.tlv_io.specs.Out.{Sends}
 use Rattle.tlv_walk.specs.Reading.{AreOctets, IsReading}
 use Rattle.tlv_walk.specs.Stands.{Stands}
-use Rattle.tlv_walk.specs.OneTurn.{EndsBy, EndsIn, FollowsOneRead, Gave, GaveUpTo, HasEnoughIn, TurnState, TurnsTo, last_octets}
+use Rattle.tlv_walk.specs.OneTurn.{EndsBy, EndsIn, FollowsOneRead, LastReadWas, LastReadGaveUpTo, HasEnoughIn, TurnState, TurnsTo, last_octets}
 use Rattle.tlv_walk.specs.Wrappers.{first_other, first_unused, wrapper_offsets}
 use Rattle.tlv_walk.proofs.FollowerLemmas.Followed.{events_enough, followed-alike, followed-enough, kept-alike}
 use Rattle.tlv_walk.proofs.FollowerLemmas.Following.{made_both, made_put}
@@ -132,8 +132,8 @@ module _ {S : Type 0} (next : S → EventValue → Effect S)
       turned : (answer : Result Turn DeviceFault) → result ≡ answer → TurnsTo next before after limit b x.past r answer
       turned answer is = subst (λ (k : Result Turn DeviceFault). TurnsTo next before after limit b x.past r k) is (read.turned b x.past x.stands)
 
-      gave_so : (answer : Result Turn DeviceFault) → result ≡ answer → Gave (length piece) answer after.source.last
-      gave_so answer is = subst (λ (k : Result Turn DeviceFault). Gave (length piece) k after.source.last) is read.calls.last
+      gave_so : (answer : Result Turn DeviceFault) → result ≡ answer → LastReadWas (length piece) answer after.source.last
+      gave_so answer is = subst (λ (k : Result Turn DeviceFault). LastReadWas (length piece) k after.source.last) is read.calls.last
 
       failed_so : (answer : Result Turn DeviceFault) → result ≡ answer → after.source.failures ≡ failures_after (source_result answer) old.failures
       failed_so answer is =
@@ -190,7 +190,7 @@ module _ {S : Type 0} (next : S → EventValue → Effect S)
       is_enough_so : (f : Forest) (goes : Go) (text : List ℕ) → MadeAll s after.follower f goes text → had_enough (effect_of next s (events f)).goes ≡ had_enough goes
       is_enough_so f goes text k = ap had_enough k.goes_so
 
-      ended_by : (run : Run) (f : Forest) → (run.enough ≡ true → had_enough (effect_of next s (events f)).goes ≡ true) → GaveUpTo (length piece) after.source.last → (run.enough ≡ true) ⊎ IsFinalEnding run.ending ⊎ (r ≡ [])
+      ended_by : (run : Run) (f : Forest) → (run.enough ≡ true → had_enough (effect_of next s (events f)).goes ≡ true) → LastReadGaveUpTo (length piece) after.source.last → (run.enough ≡ true) ⊎ IsFinalEnding run.ending ⊎ (r ≡ [])
           → (had_enough (effect_of next s (events f)).goes ≡ true) ⊎ IsFinalEnding run.ending ⊎ ((after.source.last ≡ gave 0) × IsAtEnd after.source.left)
       ended_by run f e g (inl k) = inl (e k)
       ended_by run f e g (inr (inl k)) = inr (inl k)
@@ -201,7 +201,7 @@ module _ {S : Type 0} (next : S → EventValue → Effect S)
           → (run.enough ≡ true) ⊎ IsFinalEnding run.ending ⊎ (r ≡ []) → Driven (Ok run)
       unfolding runs_by
       ends_without run is none y ended =
-          let g : GaveUpTo (length piece) after.source.last = gave_so (Ok (Ended run)) is in
+          let g : LastReadGaveUpTo (length piece) after.source.last = gave_so (Ok (Ended run)) is in
           let es : List EventValue = x.past ++ y.more in
           let f : Forest = y.reading in
           let is_reading : IsReading framing walked f = subst (λ (k : Framing). IsReading k walked f) x.same y.is_reading in
@@ -225,7 +225,7 @@ module _ {S : Type 0} (next : S → EventValue → Effect S)
       ends_with : (run : Run) → result ≡ Ok (Ended run) → run.enough ≡ true → HasEnoughIn next before after walked x.past run → Driven (Ok run)
       unfolding runs_by
       ends_with run is yes' y =
-          let g : GaveUpTo (length piece) after.source.last = gave_so (Ok (Ended run)) is in
+          let g : LastReadGaveUpTo (length piece) after.source.last = gave_so (Ok (Ended run)) is in
           let es : List EventValue = x.past ++ y.more in
           let f : Forest = y.reading in
           let is_reading : IsReading framing walked f = subst (λ (k : Framing). IsReading k walked f) x.same y.is_reading in
@@ -270,7 +270,7 @@ module _ {S : Type 0} (next : S → EventValue → Effect S)
       drives_write_failed : result ≡ Err WriteFailed → Driven (Err WriteFailed)
       drives_write_failed is =
           let y = turned (Err WriteFailed) is in
-          let g : GaveUpTo (length piece) after.source.last = gave_so (Err WriteFailed) is in
+          let g : LastReadGaveUpTo (length piece) after.source.last = gave_so (Err WriteFailed) is in
           let f : Forest = y.reading in
           let es : List EventValue = x.past ++ y.more in
           let same : effect_of next s es ≡ effect_of next s (events f) = alike s es (events f) y.yields in record {
@@ -291,7 +291,7 @@ module _ {S : Type 0} (next : S → EventValue → Effect S)
       unfolding runs_by
       drives_long is =
           let y = turned (Err InputTooLong) is in
-          let g : GaveUpTo (length piece) after.source.last = gave_so (Err InputTooLong) is in
+          let g : LastReadGaveUpTo (length piece) after.source.last = gave_so (Err InputTooLong) is in
           let z = y.stands_on in
           let es : List EventValue = x.past ++ z.more in
           let f : Forest = z.stands.reading in

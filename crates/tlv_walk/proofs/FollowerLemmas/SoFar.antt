@@ -16,7 +16,7 @@ use Rattle.tlv_walk.specs.Reading.{AreOctets}
 use Rattle.tlv_walk.specs.WalkerState.{new_walker}
 use Rattle.tlv_io.specs.Out.{Sends}
 use Rattle.tlv_walk.specs.Stands.{IsIdle, Stands}
-use Rattle.tlv_walk.specs.OneTurn.{GaveUpTo, TurnState, last_octets, turn_state}
+use Rattle.tlv_walk.specs.OneTurn.{LastReadGaveUpTo, TurnState, last_octets, turn_state}
 use Rattle.tlv_walk.specs.Wrappers.{wrapper_offsets}
 use Rattle.tlv_walk.proofs.FollowerLemmas.Following.{made_none}
 use Rattle.tlv_io.proofs.Pieces.{GaveLast, Gathered, gathered_none}
@@ -25,12 +25,12 @@ use Rattle.tlv_io.proofs.Puts.{sends_nothing}
 -- ---- reads
 
 -- what the last read gave
-pub gave_last : (last : Last) (piece : List ℕ) → GaveUpTo (length piece) last → GaveLast last (last_octets last piece)
+pub gave_last : (last : Last) (piece : List ℕ) → LastReadGaveUpTo (length piece) last → GaveLast last (last_octets last piece)
 gave_last never piece g = absurd g
 gave_last (gave n) piece g = inl (ap gave (sym (length-take n piece ∙ omega (arith, g))))
 gave_last failed piece g = absurd g
 
-pub gave_none : (last : Last) (piece : List ℕ) → GaveUpTo (length piece) last → last_octets last piece ≡ [] → last ≡ gave 0
+pub gave_none : (last : Last) (piece : List ℕ) → LastReadGaveUpTo (length piece) last → last_octets last piece ≡ [] → last ≡ gave 0
 gave_none never piece g e = absurd g
 gave_none (gave n) piece g e = ap gave (omega (arith, g, length-take n piece, ap length e))
 gave_none failed piece g e = absurd g

@@ -26,7 +26,7 @@ use Rattle.tlv_walk.specs.Private.ResultOfPause.{IsResultOfPause, IsRun}
 use Rattle.tlv_walk.specs.Private.FollowsPiece.{Fails, FollowsAndFlushes, FollowsPiece, FollowsToFault, GoesOnIn, FollowsToEnough, Pauses, FollowsAll, WalkState, WalksOver, WalksTo, walk_state}
 use Rattle.tlv_walk.specs.Forest.{Forest, spell}
 use Rattle.tlv_walk.specs.WalkerState.{WalkerState}
-use Rattle.tlv_io.specs.Out.{Puts, Sends, buffer_of, drain_of}
+use Rattle.tlv_io.specs.Out.{Puts, Sends, held_octets, drain_of}
 use Rattle.tlv_walk.specs.Place.{top_place}
 use Rattle.tlv_walk.specs.Reading.{AreOctets, IsReading}
 use Rattle.tlv_walk.specs.Stands.{Stands, waiting_events}
@@ -96,9 +96,9 @@ module _ {S : Type 0} (next : S → EventValue → Effect S) where
     pauses_same x y c piece more (pause.Fault f) k = record { made = k.made; walked = k.walked }
     pauses_same x y c piece more pause.Enough k = record { rest = k.rest; follows = record { made = k.follows.made; walked = k.follows.walked }; after_event = k.after_event }
 
-    module _ (state_of : D → DrainState) (x y : WalkState S D) (c : Out D) (piece : List ℕ) (octets : AreOctets piece) (none : buffer_of x.out ≡ []) where
+    module _ (state_of : D → DrainState) (x y : WalkState S D) (c : Out D) (piece : List ℕ) (octets : AreOctets piece) (none : held_octets x.out ≡ []) where
       -- the piece was followed, and what was put was flushed
-      pub pauses_flushed : (why : Pause) → FollowsPiece next state_of x y piece (Ok why) → Puts {T = ⊤} {E = WriteFault} state_of y.out c [] (Ok tt) → buffer_of c ≡ []
+      pub pauses_flushed : (why : Pause) → FollowsPiece next state_of x y piece (Ok why) → Puts {T = ⊤} {E = WriteFault} state_of y.out c [] (Ok tt) → held_octets c ≡ []
           → FollowsAndFlushes next state_of x (walk_state y.walker y.follower c) piece (Ok why)
       pauses_flushed why k flushed empty = record {
         octets = octets;
@@ -124,7 +124,7 @@ module _ {S : Type 0} (next : S → EventValue → Effect S) where
           }
 
     -- the drain failed before
-    pub fails_sent : (state_of : D → DrainState) (x y : WalkState S D) (piece : List ℕ) → AreOctets piece → buffer_of x.out ≡ [] → (e f : WriteFault) → FollowsPiece next state_of x y piece (Err e)
+    pub fails_sent : (state_of : D → DrainState) (x y : WalkState S D) (piece : List ℕ) → AreOctets piece → held_octets x.out ≡ [] → (e f : WriteFault) → FollowsPiece next state_of x y piece (Err e)
         → FollowsAndFlushes next state_of x y piece (Err f)
     fails_sent state_of x y piece octets none e f k =
         let text : List ℕ = (effect_of next x.follower k.more).put in record {

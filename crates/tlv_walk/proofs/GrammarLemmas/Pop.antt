@@ -3,12 +3,12 @@ use Rattle.std.proofs.Common.{◌≡◌, ◌⊎◌, inl, inr, ℕ, ◌+◌, ◌<
 use Rattle.std.proofs.lemmas.Bool.{cases_Bool, and_from, true≢false}
 use Rattle.tlv_head.specs.declared.header.Size.TheVariants.{Definite}
 use Rattle.tlv_head.specs.Header.{HeaderValue, announced_length, octets_of}
-use Rattle.tlv_walk.specs.Forest.{Awaiting, Begun, Closed, Entered, Fill, Forest, Partial, Stop, Whole, Zero, contents_length, end_octets, extent, is_whole, lead, opening, spell}
+use Rattle.tlv_walk.specs.Forest.{Awaiting, Begun, Closed, Entered, Fill, Forest, Partial, Stop, Whole, Zero, contents_length, end_octets, extent, is_complete, lead, opening, spell}
 use Rattle.tlv_walk.specs.Place.{Fits, IsEntry, IsHeadAt, IsOpen, Place, is_indefinite, place_after, place_inside}
 use Rattle.tlv_walk.proofs.GrammarLemmas.Lengths.{LacksOctets}
 use Rattle.tlv_walk.proofs.GrammarLemmas.Bounds.{IsEndless, IsFull, definite-length, fits-inside, fits-within, has_length, indefinite-endless, lacks-length, length-full, within-lacks, within-le}
 use Rattle.tlv_walk.proofs.GrammarLemmas.Spellings.{append_assoc-3, append_assoc-4, length-closed, length-opening, length-whole}
-use Rattle.tlv_walk.proofs.GrammarLemmas.PushSteps.{IsClosed, IsWhole, Grown, Ended, entered, follow, is_filled, partial, push, settle}
+use Rattle.tlv_walk.proofs.GrammarLemmas.PushSteps.{IsClosed, IsWholeElement, Grown, Ended, entered, follow, is_filled, partial, push, settle}
 use Rattle.tlv_walk.proofs.GrammarLemmas.Push.{reaches, size-definite}
 use Rattle.tlv_walk.proofs.GrammarLemmas.PopHeaders.{back, Popped, header-popped, opened-popped, lead-popped, front-popped, is_nil, is_push}
 
@@ -48,7 +48,7 @@ primitive-popped p h c n g header e most f same spelled = elim (back c) [
 ]
 
 -- a whole primitive is popped
-whole-popped : (p : Place) (h : HeaderValue) (c : List ℕ) → IsWhole p h c → Popped p (Whole h c Stop)
+whole-popped : (p : Place) (h : HeaderValue) (c : List ℕ) → IsWholeElement p h c → Popped p (Whole h c Stop)
 whole-popped p h c w =
     primitive-popped p h c (length c) (Whole h c Stop) w.0.header w.1 (omega arith) w.0.fits (partial-whole h c w.1) (ap (λ (t : List ℕ). octets_of h ++ t) (append-nil c))
 
@@ -60,8 +60,8 @@ partial-popped p h c w =
     primitive-popped p h c n.0 (Partial h c) w.0.header n.1 (omega (arith, w.1)) (within-le p.bound _ _ (omega arith) w.0.fits) (partial-partial h c n.0 n.1 (omega (arith, w.1))) refl
 
 -- an element that lacks contents octets is entered
-lacking-entered : (h : HeaderValue) (f : Forest) → (is_whole f ≡ true → LacksOctets h.size (contents_length h f)) → entered h f ≡ Entered h f
-lacking-entered h f lacks = elim (cases_Bool (is_whole f)) [
+lacking-entered : (h : HeaderValue) (f : Forest) → (is_complete f ≡ true → LacksOctets h.size (contents_length h f)) → entered h f ≡ Entered h f
+lacking-entered h f lacks = elim (cases_Bool (is_complete f)) [
   | inl e ↦ rw (e, lacks-length h.size (contents_length h f) (lacks e))
   | inr e ↦ rw e
 ]
@@ -106,7 +106,7 @@ record IsZeroed (p : Place) (f g : Forest) : Type 0 where
   pushed : push p g 0 ≡ Ended f
 
 -- whole elements in an element of indefinite length are so
-is-zeroed : (p : Place) (f : Forest) → IsOpen p f → is_whole f ≡ true → p.indefinite ≡ true → Fits p (length (spell f) + 2) → IsZeroed p f (zeroed f)
+is-zeroed : (p : Place) (f : Forest) → IsOpen p f → is_complete f ≡ true → p.indefinite ≡ true → Fits p (length (spell f) + 2) → IsZeroed p f (zeroed f)
 is-zeroed p Stop w whole i f =
     record { is_open = (i, within-le p.bound _ _ (omega arith) f); spelled = refl; pushed = rw (fits-within p.bound (p.at + 2) f) }
 is-zeroed p (Fill rest) w whole i f = absurd (true≢false (sym i ∙ w.0.1))

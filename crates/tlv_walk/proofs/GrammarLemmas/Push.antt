@@ -8,12 +8,12 @@ use Rattle.tlv_head.specs.Private.Header.{AllowsSize}
 use Rattle.tlv_head.specs.Refusal.{IsFront}
 use Rattle.tlv_head.proofs.Scan.{Origin, Scan, Fresh, High, Named, Long, Ready, Stuck, Over, origin_of, step, scan, first-more}
 use Rattle.tlv_head.proofs.Meaning.{Reads, reads-step, reads-scan, front-from_more, front-bytes}
-use Rattle.tlv_walk.specs.Forest.{Awaiting, Begun, Closed, Entered, Fill, Forest, Partial, Stop, Whole, Zero, contents_length, end_octets, extent, is_whole, lead, opening, spell}
+use Rattle.tlv_walk.specs.Forest.{Awaiting, Begun, Closed, Entered, Fill, Forest, Partial, Stop, Whole, Zero, contents_length, end_octets, extent, is_complete, lead, opening, spell}
 use Rattle.tlv_walk.specs.Place.{Fits, IsEntry, IsHeadAt, IsOpen, Place, place_after, place_inside}
 use Rattle.tlv_walk.proofs.GrammarLemmas.Lengths.{LacksOctets}
 use Rattle.tlv_walk.proofs.GrammarLemmas.Bounds.{IsEndless, IsFull, fits, fits-inside, has_length, indefinite-endless, lead-zero, length-full, length-lacks, within-fits, within-le, within-outside}
 use Rattle.tlv_walk.proofs.GrammarLemmas.Spellings.{append_assoc-3, append_assoc-4, length-closed, length-opening, length-whole}
-use Rattle.tlv_walk.proofs.GrammarLemmas.PushSteps.{IsWhole, IsClosed, Step, origin, is_filled, entered, partial, opened, begun, complete, begin, zero_between, follow, settle, push, Spells, IsStep, Grown, Ended, Refused}
+use Rattle.tlv_walk.proofs.GrammarLemmas.PushSteps.{IsWholeElement, IsClosed, Step, origin, is_filled, entered, partial, opened, begun, complete, begin, zero_between, follow, settle, push, Spells, IsStep, Grown, Ended, Refused}
 
 -- if what an element holds ends within the bound inside, the element so far ends within that outside
 reaches-entered : (p : Place) (h : HeaderValue) (inside : Forest) → Fits p (length (octets_of h) + announced_length h.size) → Fits (place_inside p h) (length (spell inside))
@@ -73,7 +73,7 @@ partial-sound p h c n header e most f =
     ]
 
 -- an element that holds others, with all its contents octets by its definite length
-pub closed-sound : (p : Place) (h : HeaderValue) (g : Forest) → IsEntry p true h → IsOpen (place_inside p h) g → is_whole g ≡ true → IsFull h.size (contents_length h g)
+pub closed-sound : (p : Place) (h : HeaderValue) (g : Forest) → IsEntry p true h → IsOpen (place_inside p h) g → is_complete g ≡ true → IsFull h.size (contents_length h g)
     → Spells p (opening h ++ spell g) (Closed h g Stop)
 closed-sound p h g entry w whole full =
     let none : length (end_octets h.size) ≡ 0 = ap length full.ends in
@@ -91,7 +91,7 @@ closed-sound p h g entry w whole full =
     }
 
 -- an element that is not filled lacks octets, if what it holds is whole
-pub unfilled-lacks : (p : Place) (h : HeaderValue) (g : Forest) → is_filled h g ≡ false → is_whole g ≡ true → Fits (place_inside p h) (length (spell g)) → LacksOctets h.size (contents_length h g)
+pub unfilled-lacks : (p : Place) (h : HeaderValue) (g : Forest) → is_filled h g ≡ false → is_complete g ≡ true → Fits (place_inside p h) (length (spell g)) → LacksOctets h.size (contents_length h g)
 unfilled-lacks p h g e whole there =
     let short : has_length h.size (contents_length h g) ≡ false = rw whole at e in
     length-lacks h.size (p.at + length (octets_of h)) p.bound _ (within-le (place_inside p h).bound _ _ (omega (arith, length-opening h)) there) short
@@ -100,7 +100,7 @@ unfilled-lacks p h g e whole there =
 pub entered-sound : (p : Place) (h : HeaderValue) (g : Forest) → IsEntry p true h → IsOpen (place_inside p h) g → Spells p (opening h ++ spell g) (entered h g)
 entered-sound p h g entry w = elim (cases_Bool (is_filled h g)) [
   | inl e ↦
-      let parts : (is_whole g ≡ true) × (has_length h.size (contents_length h g) ≡ true) = and_parts _ _ e in
+      let parts : (is_complete g ≡ true) × (has_length h.size (contents_length h g) ≡ true) = and_parts _ _ e in
       rw e (closed-sound p h g entry w parts.0 (length-full h.size _ parts.1))
   | inr e ↦
       let there : Fits (place_inside p h) (length (spell g)) = reaches (place_inside p h) g (fits-inside p h entry.header.form entry.fits) w in
@@ -216,7 +216,7 @@ fill-step p o (Ended g) w r = absurd (true≢false (sym r.indefinite ∙ w.1))
 fill-step p o (Refused code) w r = tt
 
 -- a step of what follows a primitive
-whole-step : (p : Place) (h : HeaderValue) (c o : List ℕ) (s : Step) → IsWhole p h c → IsStep (place_after p (length (octets_of h) + length c)) o s
+whole-step : (p : Place) (h : HeaderValue) (c o : List ℕ) (s : Step) → IsWholeElement p h c → IsStep (place_after p (length (octets_of h) + length c)) o s
     → IsStep p (octets_of h ++ (c ++ o)) (follow (Whole h c) s)
 whole-step p h c o (Grown g) w r = record { is_open = (w, r.is_open); spelled = ap (λ (t : List ℕ). octets_of h ++ (c ++ t)) r.spelled }
 whole-step p h c o (Ended g) w r = record {

@@ -5,19 +5,19 @@ use Rattle.tlv_head.specs.declared.fault.FaultCode.TheVariants.{StrayEnd, BadEnd
 use Rattle.tlv_head.specs.declared.header.Size.TheVariants.{Definite}
 use Rattle.tlv_head.specs.Header.{HeaderValue, announced_length, holds, octets_of}
 use Rattle.tlv_head.proofs.Scan.{Origin, Scan, Fresh, High, Named, Long, Ready, Stuck, Over, step, scan}
-use Rattle.tlv_walk.specs.Forest.{Awaiting, Begun, Closed, Entered, Fill, Forest, Partial, Stop, Whole, Zero, contents_length, extent, is_whole, lead, spell}
+use Rattle.tlv_walk.specs.Forest.{Awaiting, Begun, Closed, Entered, Fill, Forest, Partial, Stop, Whole, Zero, contents_length, extent, is_complete, lead, spell}
 use Rattle.tlv_walk.specs.Inside.{is_among}
 use Rattle.tlv_walk.specs.Place.{Fits, IsElementAt, IsOpen, Place, place_after, place_inside}
 use Rattle.tlv_walk.proofs.GrammarLemmas.Lengths.{HasLength}
 use Rattle.tlv_walk.proofs.GrammarLemmas.Bounds.{fits, has_length}
 
 -- a primitive with all its contents octets
-abbrev pub IsWhole : Place → HeaderValue → List ℕ → Type 0
-IsWhole p h c = IsElementAt p false h (length (octets_of h) + length c) × (h.size ≡ Definite (length c))
+abbrev pub IsWholeElement : Place → HeaderValue → List ℕ → Type 0
+IsWholeElement p h c = IsElementAt p false h (length (octets_of h) + length c) × (h.size ≡ Definite (length c))
 
 -- an element that holds others and has ended
 abbrev pub IsClosed : Place → HeaderValue → Forest → Type 0
-IsClosed p h inside = IsElementAt p true h (extent h inside) × (is_whole inside ≡ true) × HasLength h.size (contents_length h inside)
+IsClosed p h inside = IsElementAt p true h (extent h inside) × (is_complete inside ≡ true) × HasLength h.size (contents_length h inside)
 
 -- what an octet makes of an open forest
 pub data Step : Type 0 where
@@ -33,7 +33,7 @@ origin p = record { offset = p.at; named = is_among p.at p.inside }
 
 -- what an element holds is whole, and as long as was announced
 abbrev pub is_filled : HeaderValue → Forest → Bool
-is_filled h f = is_whole f && has_length h.size (contents_length h f)
+is_filled h f = is_complete f && has_length h.size (contents_length h f)
 
 -- an element that holds these others so far
 abbrev pub entered : HeaderValue → Forest → Forest
@@ -106,7 +106,7 @@ pub record Spells (p : Place) (o : List ℕ) (g : Forest) : Type 0 where
 -- the octets are whole elements and the end-of-contents octets
 pub record Ends (p : Place) (o : List ℕ) (g : Forest) : Type 0 where
   pub is_open : IsOpen p g
-  pub whole : is_whole g ≡ true
+  pub whole : is_complete g ≡ true
   pub indefinite : p.indefinite ≡ true
   pub spelled : spell g ++ 0 ∷ 0 ∷ [] ≡ o
   pub fits : Fits p (length (spell g) + 2)

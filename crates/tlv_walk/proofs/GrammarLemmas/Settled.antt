@@ -5,7 +5,7 @@ use Rattle.tlv_head.specs.declared.header.Size.{Size}
 use Rattle.tlv_head.specs.declared.header.Size.TheVariants.{Definite, Indefinite}
 use Rattle.tlv_head.specs.Header.{HeaderValue, octets_of}
 use Rattle.tlv_walk.specs.declared.framing.Framing.{Framing}
-use Rattle.tlv_walk.specs.Forest.{Closed, Forest, Stop, contents_length, is_whole, opening, spell}
+use Rattle.tlv_walk.specs.Forest.{Closed, Forest, Stop, contents_length, is_complete, opening, spell}
 use Rattle.tlv_walk.specs.Place.{Fits, IsOpen, Place, place_after, place_inside, top_place}
 use Rattle.tlv_walk.specs.Private.Stack.{bound_in}
 use Rattle.tlv_walk.specs.Stack.{IsFilled}
@@ -30,7 +30,7 @@ pub record IsEnded (w : Framing) (l : Layer) (ls : List Layer) (f : Forest) : Ty
 -- what is filled has all its contents octets
 pub filled-full : (h : HeaderValue) (f : Forest) → is_filled h f ≡ true → IsFull h.size (contents_length h f)
 filled-full h f e =
-    let parts : (is_whole f ≡ true) × (has_length h.size (contents_length h f) ≡ true) = and_parts _ _ e in
+    let parts : (is_complete f ≡ true) × (has_length h.size (contents_length h f) ≡ true) = and_parts _ _ e in
     length-full h.size _ parts.1
 
 -- an element that is filled ends so
@@ -85,7 +85,7 @@ end-length (Definite k) start m n e = elim (cases_Bool (eqb m k)) [
 end-length Indefinite start m n e = refl
 
 -- so the frame of the innermost open element says whether that is filled
-pub end-filled : (w : Framing) (l : Layer) (ls : List Layer) (f : Forest) → is_whole f ≡ true
+pub end-filled : (w : Framing) (l : Layer) (ls : List Layer) (f : Forest) → is_complete f ≡ true
     → is_end (bound_in l.head.size (((place_in w ls).at + length (spell l.before)) + length (octets_of l.head)) None) (end_in w (l ∷ ls) f) ≡ is_filled l.head f
 end-filled w l ls f whole =
     end-length l.head.size (((place_in w ls).at + length (spell l.before)) + length (octets_of l.head)) (contents_length l.head f) (end_in w (l ∷ ls) f) (omega (arith, length-opening l.head))
@@ -101,7 +101,7 @@ pub settled-within : (w : Framing) (ls : List Layer) (f : Forest) → (IsFilled 
 settled-within w [] f n = refl
 settled-within w (l ∷ ls) f n = elim (cases_Bool (is_filled l.head f)) [
   | inl e ↦
-      let parts : (is_whole f ≡ true) × (has_length l.head.size (contents_length l.head f) ≡ true) = and_parts _ _ e in
+      let parts : (is_complete f ≡ true) × (has_length l.head.size (contents_length l.head f) ≡ true) = and_parts _ _ e in
       absurd (n (end-there _ (end_in w (l ∷ ls) f) (end-filled w l ls f parts.0 ∙ e)))
   | inr e ↦ rw e refl
 ]

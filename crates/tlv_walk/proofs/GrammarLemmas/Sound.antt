@@ -2,7 +2,7 @@
 use Rattle.std.proofs.Common.{◌≡◌, ◌+◌, true, false, length, refl, arith}
 use Rattle.tlv_head.specs.Header.{HeaderValue, octets_of}
 use Rattle.tlv_walk.specs.declared.framing.Framing.{Framing}
-use Rattle.tlv_walk.specs.Forest.{Awaiting, Begun, Closed, Entered, Fill, Forest, Partial, Stop, Whole, Zero, contents_length, extent, is_whole, spell}
+use Rattle.tlv_walk.specs.Forest.{Awaiting, Begun, Closed, Entered, Fill, Forest, Partial, Stop, Whole, Zero, contents_length, extent, is_complete, spell}
 use Rattle.tlv_walk.specs.Place.{Fits, IsOpen, Place, place_after, place_inside, top_place}
 use Rattle.tlv_walk.proofs.GrammarLemmas.Lengths.{HasLength}
 use Rattle.tlv_walk.specs.Reading.{IsSound}
@@ -10,7 +10,7 @@ use Rattle.tlv_walk.proofs.GrammarLemmas.Bounds.{filled-within, within-le}
 use Rattle.tlv_walk.proofs.GrammarLemmas.Spellings.{length-closed, length-opening, length-whole}
 
 -- nothing is open in sound elements
-pub sound-whole : (p : Place) (f : Forest) → IsSound p f → is_whole f ≡ true
+pub sound-whole : (p : Place) (f : Forest) → IsSound p f → is_complete f ≡ true
 sound-whole p Stop s = refl
 sound-whole p (Fill rest) s = sound-whole (place_after p 1) rest s.1
 sound-whole p (Whole h c rest) s = sound-whole (place_after p (length (octets_of h) + length c)) rest s.2
@@ -52,7 +52,7 @@ sound-open p (Begun octets) d z s = absurd s
 sound-open p Zero d z s = absurd s
 
 -- an open forest in which nothing is open is sound
-pub open-sound : (p : Place) (f : Forest) → IsOpen p f → is_whole f ≡ true → IsSound p f
+pub open-sound : (p : Place) (f : Forest) → IsOpen p f → is_complete f ≡ true → IsSound p f
 open-sound p Stop w t = tt
 open-sound p (Fill rest) w t = (w.0.0, open-sound (place_after p 1) rest w.1 t)
 open-sound p (Whole h c rest) w t = (w.0.0.header, w.0.1, open-sound (place_after p (length (octets_of h) + length c)) rest w.1 t)

@@ -7,7 +7,7 @@ use Rattle.tlv_head.specs.Header.{HeaderValue, announced_length, octets_of}
 use Rattle.tlv_head.specs.Private.Header.{AllowsSize}
 use Rattle.tlv_walk.specs.Phase as phase
 use Rattle.tlv_walk.specs.Events.{AreEqualJoined, Close, EventValue, Leave, closing_event, end_offset, events, opening_events, single_octets}
-use Rattle.tlv_walk.specs.Forest.{Closed, Forest, Stop, Zero, contents_length, end_octets, extent, is_whole, opening, spell}
+use Rattle.tlv_walk.specs.Forest.{Closed, Forest, Stop, Zero, contents_length, end_octets, extent, is_complete, opening, spell}
 use Rattle.tlv_walk.specs.Wrappers.{wrapper_offsets}
 use Rattle.std.proofs.lemmas.Bool.{cases_Bool}
 use Rattle.tlv_walk.specs.WalkerState.{WalkerState}
@@ -28,7 +28,7 @@ use Rattle.tlv_walk.proofs.WalkerLemmas.ZipperEvents.{events-behind}
 regroup : (a b c d e t : List ℕ) → a ++ ((b ++ (c ++ (d ++ ((e ++ t) ++ [])))) ++ []) ≡ ((a ++ (b ++ c)) ++ (d ++ e)) ++ t
 regroup a b c d e t = simp (append_assoc, append-nil) refl
 
-spelled_closed : (ls : List Layer) (l : Layer) (here : Forest) (old t b : List ℕ) → is_whole l.before ≡ true → old ++ t ≡ end_octets l.head.size
+spelled_closed : (ls : List Layer) (l : Layer) (here : Forest) (old t b : List ℕ) → is_complete l.before ≡ true → old ++ t ≡ end_octets l.head.size
     → spell_layers (l ∷ ls) ++ (spell here ++ old) ≡ b → spell_layers ls ++ (spell (closed_here l here) ++ []) ≡ b ++ t
 spelled_closed ls l here old t b whole e f =
     ap (λ (s : List ℕ). spell_layers ls ++ (s ++ [])) (spell-behind l.before (Closed l.head here Stop) whole)
@@ -39,7 +39,7 @@ spelled_closed ls l here old t b whole e f =
 regroup_past : (a b c d : List EventValue) (e : EventValue) → a ++ ((b ++ (c ++ (d ++ e ∷ []))) ++ []) ≡ ((a ++ (b ++ c)) ++ (d ++ [])) ++ e ∷ []
 regroup_past a b c d e = simp (append_assoc, append-nil) refl
 
-past_closed : (past : List EventValue) (ls : List Layer) (l : Layer) (here : Forest) → is_whole l.before ≡ true → AreEqualJoined past (events_layers (l ∷ ls) ++ (events here ++ []))
+past_closed : (past : List EventValue) (ls : List Layer) (l : Layer) (here : Forest) → is_complete l.before ≡ true → AreEqualJoined past (events_layers (l ∷ ls) ++ (events here ++ []))
     → AreEqualJoined (past ++ closing_event l.head here ∷ []) (events_layers ls ++ (events (closed_here l here) ++ []))
 past_closed past ls l here whole h =
     past_more past (events_layers (l ∷ ls) ++ (events here ++ [])) (closing_event l.head here ∷ []) (events_layers ls ++ (events (closed_here l here) ++ [])) h

@@ -11,7 +11,7 @@ use Rattle.tlv_walk.specs.Phase.{Phase}
 use Rattle.tlv_walk.specs.Phase as phase
 use Rattle.tlv_walk.specs.DriveJob.{event_octets}
 use Rattle.tlv_walk.specs.Events.{AreEqualJoined, Begin, Bytes, Close, End, Enter, EventValue, Leave, Open, Pad, Unused, closing_event, end_offset, events, opening_events, single_octets}
-use Rattle.tlv_walk.specs.Forest.{Forest, Stop, Fill, Whole, Closed, Partial, Entered, Awaiting, Begun, Zero, end_octets, extent, is_whole, lead, opening, spell}
+use Rattle.tlv_walk.specs.Forest.{Forest, Stop, Fill, Whole, Closed, Partial, Entered, Awaiting, Begun, Zero, end_octets, extent, is_complete, lead, opening, spell}
 use Rattle.tlv_walk.specs.WalkerState.{IsAfterEvent, WalkerState}
 use Rattle.tlv_walk.specs.Place.{IsHeadAt, IsOpen, Place, place_after, place_inside}
 use Rattle.tlv_walk.specs.Private.Zipper.{AreLayers, BeforeUnused, Between, HasZipper, InContents, InEnd, InHeader, IsPhaseOf, Layer, Tail, Zipper, events_layers, events_tail, events_zipper, place_in, place_of, spell_layers, spell_tail}
@@ -86,7 +86,7 @@ octets_append : (xs ys : List EventValue) → flat_map event_octets (xs ++ ys) �
 octets_append xs ys = flat_map-append event_octets xs ys
 
 -- of whole elements
-octets_whole : (p : Place) (f : Forest) → IsOpen p f → is_whole f ≡ true → flat_map event_octets (events f) ≡ spell f
+octets_whole : (p : Place) (f : Forest) → IsOpen p f → is_complete f ≡ true → flat_map event_octets (events f) ≡ spell f
 octets_whole p Stop o e = refl
 octets_whole p (Fill rest) o e = ap (λ (l : List ℕ). 0 ∷ l) (octets_whole (place_after p 1) rest o.1 e)
 octets_whole p (Whole h c rest) o e = ap (λ (l : List ℕ). octets_of h ++ (c ++ l)) (octets_whole (place_after p (length (octets_of h) + length c)) rest o.1 e)

@@ -7,8 +7,8 @@ use Rattle.tlv_head.specs.declared.header.Size.TheVariants.{Definite}
 use Rattle.tlv_head.specs.Fields.{header_with}
 use Rattle.tlv_head.specs.Header.{HeaderValue, announced_length, holds, is_wrapper, octets_of}
 use Rattle.tlv_head.specs.HeadReaderState.{HeadReaderState}
-use Rattle.tlv_walk.specs.declared.event.Kind.{Kind}
-use Rattle.tlv_walk.specs.declared.event.Kind.TheVariants as kind
+use Rattle.tlv_walk.specs.declared.event.HeaderKind.{HeaderKind}
+use Rattle.tlv_walk.specs.declared.event.HeaderKind.TheVariants as kind
 use Rattle.tlv_walk.specs.Phase.{Phase}
 use Rattle.tlv_walk.specs.Phase as phase
 use Rattle.tlv_walk.specs.Events.{Begin, Enter, EventValue, Open}
@@ -29,7 +29,7 @@ use Rattle.tlv_walk.proofs.WalkerLemmas.Places.{place-bound}
 use Rattle.tlv_walk.proofs.GrammarLemmas.Push.{size-definite}
 
 -- the event that a header is yielded with
-abbrev pub event_of : Kind → HeaderValue → EventValue
+abbrev pub event_of : HeaderKind → HeaderValue → EventValue
 event_of kind.Constructed h = Open h
 event_of kind.Wrapper h = Enter h
 event_of kind.Primitive h = Begin h
@@ -101,7 +101,7 @@ primitive_enters w b past s r t h at c no_hold =
     )
 
 -- after a header a walker stands as it says
-pub enters_state : (w v : WalkerState) (b : List ℕ) (past : List EventValue) (s : Zipper) (r : HeadReaderState) (t : List ℕ) (f : HeaderFields) (o : List ℕ) (k : Kind) → AtHeader w b past s r
+pub enters_state : (w v : WalkerState) (b : List ℕ) (past : List EventValue) (s : Zipper) (r : HeadReaderState) (t : List ℕ) (f : HeaderFields) (o : List ℕ) (k : HeaderKind) → AtHeader w b past s r
     → Completed w r t (header_with f o) → Enters w v f (f.offset + length (octets_of (header_with f o))) k
     → (u : Zipper) × HasZipper v (b ++ t) (past ++ event_of k (header_with f o) ∷ []) u
 enters_state w v b past s r t f o kind.Primitive at c e =
@@ -115,19 +115,19 @@ enters_state w v b past s r t f o kind.Wrapper at c e =
     (u.0, subst (λ (m : WalkerState). HasZipper m (b ++ t) (past ++ Enter (header_with f o) ∷ []) u.0) (sym e.2) u.1)
 
 -- the framing stays
-pub enters_framing : (w v : WalkerState) (f : HeaderFields) (at : ℕ) (k : Kind) → Enters w v f at k → v.framing ≡ w.framing
+pub enters_framing : (w v : WalkerState) (f : HeaderFields) (at : ℕ) (k : HeaderKind) → Enters w v f at k → v.framing ≡ w.framing
 enters_framing w v f at kind.Primitive e = ap (λ (m : WalkerState). m.framing) e.1
 enters_framing w v f at kind.Constructed e = ap (λ (m : WalkerState). m.framing) e.1
 enters_framing w v f at kind.Wrapper e = ap (λ (m : WalkerState). m.framing) e.2
 
 -- a wrapper may be one of the named offsets
-pub enters_found : (w v : WalkerState) (f : HeaderFields) (o : List ℕ) (at : ℕ) (k : Kind) → Enters w v f at k → v.wrapper_count ≡ wrappers_after w.framing.inside w.wrapper_count (wrapper_offsets (event_of k (header_with f o) ∷ []))
+pub enters_found : (w v : WalkerState) (f : HeaderFields) (o : List ℕ) (at : ℕ) (k : HeaderKind) → Enters w v f at k → v.wrapper_count ≡ wrappers_after w.framing.inside w.wrapper_count (wrapper_offsets (event_of k (header_with f o) ∷ []))
 enters_found w v f o at kind.Primitive e = ap (λ (m : WalkerState). m.wrapper_count) e.1
 enters_found w v f o at kind.Constructed e = ap (λ (m : WalkerState). m.wrapper_count) e.1
 enters_found w v f o at kind.Wrapper e = ap (λ (m : WalkerState). m.wrapper_count) e.2
 
 -- octets that begin with a header, at a walker between elements
-pub fast_enters : (w v : WalkerState) (piece : List ℕ) (named : Bool) (f : HeaderFields) (count : ℕ) (o : List ℕ) (k : Kind) → w.phase ≡ phase.Between
+pub fast_enters : (w v : WalkerState) (piece : List ℕ) (named : Bool) (f : HeaderFields) (count : ℕ) (o : List ℕ) (k : HeaderKind) → w.phase ≡ phase.Between
     → BeginsWithFields piece w.offset named f count → o ≡ take count piece → named ≡ is_among w.offset w.framing.inside
     → (holds (header_with f o) ≡ true → length w.stack < 128) → Within (bound_of w.stack) (f.offset + length o + announced_length f.size)
     → Enters w v f (f.offset + length o) k → Continues w v o (event_of k (header_with f o) ∷ [])
@@ -170,7 +170,7 @@ fast_may_enter w piece named f count o begins front fewer limit shallow fits =
     }
 
 -- a constructed header begins a constructed element
-pub constructed_kind : (w v : WalkerState) (f : HeaderFields) (at : ℕ) (k : Kind) → f.constructed ≡ true → Enters w v f at k → k ≡ kind.Constructed
+pub constructed_kind : (w v : WalkerState) (f : HeaderFields) (at : ℕ) (k : HeaderKind) → f.constructed ≡ true → Enters w v f at k → k ≡ kind.Constructed
 constructed_kind w v f at kind.Constructed c e = refl
 constructed_kind w v f at kind.Primitive c e =
     absurd (true≢false (sym (ap (λ (k : Bool). k || is_wrapper f.named f.class f.constructed f.number f.size) c) ∙ e.0))

@@ -10,8 +10,8 @@ use Rattle.tlv_head.specs.Header.{HeaderValue, announced_length, octets_of}
 use Rattle.tlv_head.specs.HeadReaderState.{ContentsFit, HeadReaderState, with_octet}
 use Rattle.tlv_head.specs.Push.{Completes, FitsThere}
 use Rattle.tlv_head.specs.Refusal.{IsFront}
-use Rattle.tlv_walk.specs.declared.event.Kind.{Kind}
-use Rattle.tlv_walk.specs.declared.event.Kind.TheVariants as kind
+use Rattle.tlv_walk.specs.declared.event.HeaderKind.{HeaderKind}
+use Rattle.tlv_walk.specs.declared.event.HeaderKind.TheVariants as kind
 use Rattle.tlv_walk.specs.Phase.{Phase}
 use Rattle.tlv_walk.specs.Phase as phase
 use Rattle.tlv_walk.specs.Events.{EventValue}
@@ -127,7 +127,7 @@ yields_unfinished w u r q before at over k some e fits = record {
 -- ---- a whole header
 
 -- the walker that the reader was taken from enters it too
-enters_without : (w u new : WalkerState) (f : HeaderFields) (at : ℕ) (k : Kind) → u ≡ record w { phase = phase.Between; has_element = true } → Enters u new f at k → Enters w new f at k
+enters_without : (w u new : WalkerState) (f : HeaderFields) (at : ℕ) (k : HeaderKind) → u ≡ record w { phase = phase.Between; has_element = true } → Enters u new f at k → Enters w new f at k
 enters_without w u new f at kind.Primitive e enter = subst (λ (m : WalkerState). Enters m new f at kind.Primitive) e enter
 enters_without w u new f at kind.Constructed e enter = subst (λ (m : WalkerState). Enters m new f at kind.Constructed) e enter
 enters_without w u new f at kind.Wrapper e enter = subst (λ (m : WalkerState). Enters m new f at kind.Wrapper) e enter
@@ -139,7 +139,7 @@ completed_without w u r t h e can makes =
     record { valid = can'.valid; octets = makes.octets; offset = makes.offset; named = makes.named; shallow = can'.shallow; fits = can'.fits }
 
 -- so it yields a header with the fields that were entered
-yields_behind : (u new : WalkerState) (f : HeaderFields) (o : List ℕ) (at : ℕ) (k : Kind) → CanEnter u (header_with f o) → at ≡ f.offset + length (octets_of (header_with f o)) → Enters u new f at k
+yields_behind : (u new : WalkerState) (f : HeaderFields) (o : List ℕ) (at : ℕ) (k : HeaderKind) → CanEnter u (header_with f o) → at ≡ f.offset + length (octets_of (header_with f o)) → Enters u new f at k
     → YieldsHeader u new (header_with f o) (event_of k (header_with f o))
 yields_behind u new f o at k can e does w r t over makes = record {
   framing = enters_framing u new f at k does ∙ handed_framing w u r over;
@@ -152,7 +152,7 @@ yields_behind u new f o at k can e does w r t over makes = record {
 }
 
 -- the same of a header that has these fields
-pub yields_header : (u new : WalkerState) (f : HeaderFields) (h : HeaderValue) (at : ℕ) (k : Kind) → CanEnter u h → header_with f (octets_of h) ≡ h → at ≡ f.offset + length (octets_of h) → Enters u new f at k
+pub yields_header : (u new : WalkerState) (f : HeaderFields) (h : HeaderValue) (at : ℕ) (k : HeaderKind) → CanEnter u h → header_with f (octets_of h) ≡ h → at ≡ f.offset + length (octets_of h) → Enters u new f at k
     → YieldsHeader u new h (event_of k h)
 yields_header u new f h at k can same e enter =
     subst (λ (g : HeaderValue). YieldsHeader u new g (event_of k g)) same

@@ -7,7 +7,7 @@ use Rattle.tlv_head.specs.Header.{HeaderValue, octets_of}
 use Rattle.tlv_walk.specs.Phase.{Phase}
 use Rattle.tlv_walk.specs.Phase as phase
 use Rattle.tlv_walk.specs.Events.{AreEqualJoined, Begin, Bytes, End, EventValue, events, single_octets}
-use Rattle.tlv_walk.specs.Forest.{Forest, Stop, Fill, Whole, Closed, Partial, Entered, Awaiting, Begun, Zero, has_element, is_whole, spell}
+use Rattle.tlv_walk.specs.Forest.{Forest, Stop, Fill, Whole, Closed, Partial, Entered, Awaiting, Begun, Zero, has_element, is_complete, spell}
 use Rattle.tlv_walk.specs.declared.framing.Framing.{Framing}
 use Rattle.tlv_walk.specs.WalkerState.{WalkerState}
 use Rattle.tlv_walk.specs.Private.WalkerState.{next_wrapper, wrappers_after}
@@ -66,23 +66,23 @@ spelled_behind ls here old new t b e f =
     ap (λ (s : List ℕ). spell_layers ls ++ (spell here ++ s)) e ∙ (sym (append_assoc-3 (spell_layers ls) (spell here) old t) ∙ ap (λ (s : List ℕ). s ++ t) f)
 
 -- the same, if the open end is whole now
-pub past_whole : (past : List EventValue) (ls : List Layer) (here new : Forest) (old more : List EventValue) → is_whole here ≡ true → AreEqualJoined past (events_layers ls ++ (events here ++ old))
+pub past_whole : (past : List EventValue) (ls : List Layer) (here new : Forest) (old more : List EventValue) → is_complete here ≡ true → AreEqualJoined past (events_layers ls ++ (events here ++ old))
     → single_octets (events new) ≡ single_octets (old ++ more) → AreEqualJoined (past ++ more) (events_layers ls ++ (events (behind here new) ++ []))
 past_whole past ls here new old more whole h e =
     subst (λ (es : List EventValue). AreEqualJoined (past ++ more) (events_layers ls ++ es)) (sym (append-nil (events (behind here new)) ∙ events-behind here new whole))
     (past_behind past ls here old (events new) more h e)
 
-pub spelled_whole : (ls : List Layer) (here more : Forest) (old t b : List ℕ) → is_whole here ≡ true → spell more ≡ old ++ t → spell_layers ls ++ (spell here ++ old) ≡ b
+pub spelled_whole : (ls : List Layer) (here more : Forest) (old t b : List ℕ) → is_complete here ≡ true → spell more ≡ old ++ t → spell_layers ls ++ (spell here ++ old) ≡ b
     → spell_layers ls ++ (spell (behind here more) ++ []) ≡ b ++ t
 spelled_whole ls here more old t b whole e f =
     ap (λ (s : List ℕ). spell_layers ls ++ s) (append-nil (spell (behind here more)) ∙ spell-behind here more whole) ∙ spelled_behind ls here old (spell more) t b e f
 
 -- whole elements, and then one more
-pub are_whole : (p : Place) (here more : Forest) → AreWhole p here → IsOpen (place_after p (length (spell here))) more → is_whole more ≡ true → AreWhole p (behind here more)
+pub are_whole : (p : Place) (here more : Forest) → AreWhole p here → IsOpen (place_after p (length (spell here))) more → is_complete more ≡ true → AreWhole p (behind here more)
 are_whole p here more h o w = record { is_open = open-behind p here more h o; whole = whole-behind here more h.whole ∙ w }
 
 -- an element came
-pub element-either : (f g : Forest) → is_whole f ≡ true → has_element (behind f g) ≡ (has_element f || has_element g)
+pub element-either : (f g : Forest) → is_complete f ≡ true → has_element (behind f g) ≡ (has_element f || has_element g)
 element-either Stop g e = refl
 element-either (Fill rest) g e = element-either rest g e
 element-either (Whole h c rest) g e = refl
@@ -93,7 +93,7 @@ element-either (Awaiting h) g e = absurd (cc)
 element-either (Begun octets) g e = absurd (cc)
 element-either Zero g e = absurd (cc)
 
-pub began : (ls : List Layer) (here more : Forest) → is_whole here ≡ true → has_element more ≡ true → begins_among ls (behind here more) ≡ true
+pub began : (ls : List Layer) (here more : Forest) → is_complete here ≡ true → has_element more ≡ true → begins_among ls (behind here more) ≡ true
 began [] here more w e = element-either here more w ∙ (ap (λ (k : Bool). has_element here || k) e ∙ or-true (has_element here))
 began (l ∷ ls) here more w e = refl
 

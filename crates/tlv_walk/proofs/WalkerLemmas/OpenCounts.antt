@@ -4,7 +4,7 @@ use Rattle.std.proofs.lemmas.Bool.{true≢false}
 use Rattle.tlv_walk.specs.Stack.{Frame}
 use Rattle.tlv_walk.specs.declared.framing.Framing.{Framing}
 use Rattle.tlv_walk.specs.Events.{EventValue}
-use Rattle.tlv_walk.specs.Forest.{Forest, Stop, Fill, Whole, Closed, Partial, Entered, Awaiting, Begun, Zero, is_whole}
+use Rattle.tlv_walk.specs.Forest.{Forest, Stop, Fill, Whole, Closed, Partial, Entered, Awaiting, Begun, Zero, is_complete}
 use Rattle.tlv_walk.specs.WalkerState.{WalkerState}
 use Rattle.tlv_walk.specs.Private.WalkerState.{EventWaits}
 use Rattle.tlv_walk.specs.OpenCount.{open_count}
@@ -14,7 +14,7 @@ use Rattle.tlv_walk.proofs.WalkerLemmas.ZipperEndings.{forest_of, state-within}
 use Rattle.tlv_walk.proofs.WalkerLemmas.Zipper.{behind, reading_of, within}
 
 -- after whole elements as many are open as of the others
-pub count-behind : (f g : Forest) → is_whole f ≡ true → open_count (behind f g) ≡ open_count g
+pub count-behind : (f g : Forest) → is_complete f ≡ true → open_count (behind f g) ≡ open_count g
 count-behind Stop g e = refl
 count-behind (Fill rest) g e = count-behind rest g e
 count-behind (Whole h c rest) g e = count-behind rest g e

@@ -4,7 +4,7 @@ use Rattle.std.proofs.lemmas.List.Elements.{All-head, All-tail}
 use Rattle.tlv_walk.specs.Phase.{Phase}
 use Rattle.tlv_walk.specs.Phase as phase
 use Rattle.tlv_walk.specs.Events.{EventValue, Pad, events, single_octets}
-use Rattle.tlv_walk.specs.Forest.{Forest, Stop, Fill, has_element, is_whole, spell}
+use Rattle.tlv_walk.specs.Forest.{Forest, Stop, Fill, has_element, is_complete, spell}
 use Rattle.tlv_walk.specs.WalkerState.{WalkerState}
 use Rattle.tlv_walk.specs.Place.{IsOpen, Place, place_after}
 use Rattle.tlv_walk.specs.Private.Zipper.{Between, HasZipper, IsPhaseOf, Layer, Zipper, place_in, place_of}
@@ -28,7 +28,7 @@ events-fills (x ∷ t) z =
     ap (λ (es : List EventValue). Pad (0 ∷ []) ∷ es) (events-fills t (All-tail (λ x. x ≡ 0) x t z))
     ∙ ap (λ (y : ℕ). Pad (y ∷ []) ∷ map (λ x. Pad (x ∷ [])) t) (sym (All-head (λ x. x ≡ 0) x t z))
 
-whole-fills : (t : List ℕ) → is_whole (fills t) ≡ true
+whole-fills : (t : List ℕ) → is_complete (fills t) ≡ true
 whole-fills [] = refl
 whole-fills (x ∷ t) = whole-fills t
 

@@ -6,10 +6,10 @@ use Rattle.std.proofs.Math.Seq.{drop-append_seam, take-add}
 use Rattle.tlv_head.specs.declared.header.HeaderFields.{HeaderFields}
 use Rattle.tlv_head.specs.Fields.{header_with}
 use Rattle.tlv_head.specs.Header.{announced_length, is_wrapper}
-use Rattle.tlv_walk.specs.declared.event.Kind.TheVariants as kind
+use Rattle.tlv_walk.specs.declared.event.HeaderKind.TheVariants as kind
 use Rattle.tlv_walk.specs.declared.walker.quick.WholePrimitive.{WholePrimitive}
 use Rattle.tlv_walk.specs.Events.{Begin, Bytes, End}
-use Rattle.tlv_walk.specs.Follow.{IsWhole, contents_in, whole_events}
+use Rattle.tlv_walk.specs.Follow.{IsWholeElement, contents_in, whole_events}
 use Rattle.tlv_walk.specs.WalkerState.{WalkerState}
 use Rattle.tlv_walk.specs.Phase.{Phase}
 use Rattle.tlv_walk.specs.Phase as phase
@@ -39,8 +39,8 @@ contents_whole w piece p can =
     ap (contents_in (header_at p piece)) (whole_octets w piece p can) ∙ contents_behind p.fields (take p.header piece) (contents_at p piece)
 
 -- all of its octets are there
-pub is_whole : (w : WalkerState) (piece : List ℕ) (p : WholePrimitive) → CanPass w piece p → IsWhole (header_at p piece) (take p.octets piece)
-is_whole w piece p can = record {
+pub is_complete : (w : WalkerState) (piece : List ℕ) (p : WholePrimitive) → CanPass w piece p → IsWholeElement (header_at p piece) (take p.octets piece)
+is_complete w piece p can = record {
   header =
       ap₂ (λ (l r : List ℕ). l ++ r) (take-append-drop p.fields.id_len (take p.header piece)) (contents_whole w piece p can)
       ∙ sym (whole_octets w piece p can);

@@ -6,7 +6,7 @@ use Rattle.tlv_head.specs.declared.header.Size.TheVariants.{Definite, Indefinite
 use Rattle.tlv_head.specs.Header.{HeaderValue, announced_length, octets_of}
 use Rattle.tlv_walk.specs.declared.framing.Framing.{Framing}
 use Rattle.tlv_walk.specs.Ending.{tip}
-use Rattle.tlv_walk.specs.Forest.{Awaiting, Begun, Closed, Entered, Fill, Forest, Partial, Stop, Whole, Zero, contents_length, end_octets, extent, has_element, is_whole, opening, spell}
+use Rattle.tlv_walk.specs.Forest.{Awaiting, Begun, Closed, Entered, Fill, Forest, Partial, Stop, Whole, Zero, contents_length, end_octets, extent, has_element, is_complete, opening, spell}
 use Rattle.tlv_walk.specs.Place.{Fits, IsOpen, Place, is_indefinite, place_after, top_place}
 use Rattle.tlv_walk.proofs.GrammarLemmas.Lengths.{LacksOctets}
 use Rattle.tlv_walk.specs.Private.Stack.{bound_in}
@@ -70,7 +70,7 @@ open-after p m n k g e w = subst (λ (q : Place). IsOpen q g) (sym (after-after 
 -- ---- whole elements, and then others
 
 -- their octets
-pub spell-behind : (f g : Forest) → is_whole f ≡ true → spell (behind f g) ≡ spell f ++ spell g
+pub spell-behind : (f g : Forest) → is_complete f ≡ true → spell (behind f g) ≡ spell f ++ spell g
 spell-behind Stop g e = refl
 spell-behind (Fill rest) g e = ap (λ (t : List ℕ). 0 ∷ t) (spell-behind rest g e)
 spell-behind (Whole h c rest) g e =
@@ -85,7 +85,7 @@ spell-behind (Begun octets) g e = absurd (true≢false (sym e))
 spell-behind Zero g e = absurd (true≢false (sym e))
 
 -- nothing is open if nothing of the others is
-pub whole-behind : (f g : Forest) → is_whole f ≡ true → is_whole (behind f g) ≡ is_whole g
+pub whole-behind : (f g : Forest) → is_complete f ≡ true → is_complete (behind f g) ≡ is_complete g
 whole-behind Stop g e = refl
 whole-behind (Fill rest) g e = whole-behind rest g e
 whole-behind (Whole h c rest) g e = whole-behind rest g e
@@ -135,7 +135,7 @@ tip-after : (p : Place) (m n k : ℕ) (g : Forest) → m + n ≡ k → tip (plac
 tip-after p m n k g e = ap (λ (q : Place). tip q g) (after-after p m n k e)
 
 -- the open end is that of the others
-pub tip-behind : (p : Place) (f g : Forest) → is_whole f ≡ true → tip p (behind f g) ≡ tip (place_after p (length (spell f))) g
+pub tip-behind : (p : Place) (f g : Forest) → is_complete f ≡ true → tip p (behind f g) ≡ tip (place_after p (length (spell f))) g
 tip-behind p Stop g e = ap (λ (q : Place). tip q g) (sym (after-none p))
 tip-behind p (Fill rest) g e = tip-behind (place_after p 1) rest g e ∙ tip-after p 1 (length (spell rest)) _ g (omega arith)
 tip-behind p (Whole h c rest) g e =
@@ -161,7 +161,7 @@ behind-none (Begun octets) = refl
 behind-none Zero = refl
 
 -- after whole elements the open end is between them and the next
-pub tip-whole : (p : Place) (f : Forest) → is_whole f ≡ true → tip p f ≡ (place_after p (length (spell f)), Stop)
+pub tip-whole : (p : Place) (f : Forest) → is_complete f ≡ true → tip p f ≡ (place_after p (length (spell f)), Stop)
 tip-whole p f e = ap (λ (g : Forest). tip p g) (sym (behind-none f)) ∙ tip-behind p f Stop e
 
 -- ---- where the elements in the innermost open element begin
@@ -222,10 +222,10 @@ spell-within w (l ∷ ls) f a =
 -- if they are whole, contents octets of the innermost open element are lacking
 abbrev pub HasRoomIn : List Layer → Forest → Type 0
 HasRoomIn [] f = Unit {0}
-HasRoomIn (l ∷ ls) f = is_whole f ≡ true → LacksOctets l.head.size (contents_length l.head f)
+HasRoomIn (l ∷ ls) f = is_complete f ≡ true → LacksOctets l.head.size (contents_length l.head f)
 
 -- if something is open, none need be lacking
-pub room-if_open : (ls : List Layer) (f : Forest) → is_whole f ≡ false → HasRoomIn ls f
+pub room-if_open : (ls : List Layer) (f : Forest) → is_complete f ≡ false → HasRoomIn ls f
 room-if_open [] f e = tt
 room-if_open (l ∷ ls) f e = λ whole. absurd (true≢false (sym whole ∙ e))
 
@@ -243,6 +243,6 @@ tip-within w [] f a = refl
 tip-within w (l ∷ ls) f a = tip-within w ls (behind l.before (Entered l.head f)) a.0 ∙ tip-behind (place_in w ls) l.before (Entered l.head f) a.1.whole
 
 -- inside a layer something is open
-pub whole-within : (w : Framing) (ls : List Layer) (f : Forest) → AreLayers w ls → (ls ≡ [] → is_whole f ≡ false) → is_whole (within ls f) ≡ false
+pub whole-within : (w : Framing) (ls : List Layer) (f : Forest) → AreLayers w ls → (ls ≡ [] → is_complete f ≡ false) → is_complete (within ls f) ≡ false
 whole-within w [] f a e = e refl
 whole-within w (l ∷ ls) f a e = whole-within w ls (behind l.before (Entered l.head f)) a.0 (λ _. whole-behind l.before (Entered l.head f) a.1.whole)

@@ -9,7 +9,7 @@ use Rattle.tlv_walk.specs.Phase.{Phase}
 use Rattle.tlv_walk.specs.Phase as phase
 use Rattle.tlv_walk.specs.Ending.{IsEnding, IsFault, done, empty, fault, short, tip}
 use Rattle.tlv_walk.specs.Events.{EventValue}
-use Rattle.tlv_walk.specs.Forest.{Forest, Stop, Partial, Awaiting, Begun, Zero, has_element, is_whole, spell}
+use Rattle.tlv_walk.specs.Forest.{Forest, Stop, Partial, Awaiting, Begun, Zero, has_element, is_complete, spell}
 use Rattle.tlv_walk.specs.WalkerState.{WalkerState}
 use Rattle.tlv_walk.specs.Private.WalkerState.{EventWaits, EventWaitsIn}
 use Rattle.tlv_walk.specs.Place.{Place, top_place}
@@ -120,7 +120,7 @@ pub state-done : (w : WalkerState) (b : List ℕ) (past : List EventValue) (s : 
     → IsEnding w.framing b Done
 state-done w b past s h e none some =
     let o : IsOutermost w b s = state-outermost w b past s h e none in
-    done (reading_of s) (state-reading w b past s h) o.spelled (ap has_element o.reading ∙ o.element ∙ some) (ap is_whole o.reading ∙ h.here.whole)
+    done (reading_of s) (state-reading w b past s h) o.spelled (ap has_element o.reading ∙ o.element ∙ some) (ap is_complete o.reading ∙ h.here.whole)
 
 -- and if no octet of an element came, there is none
 pub state-empty : (w : WalkerState) (b : List ℕ) (past : List EventValue) (s : Zipper) → HasZipper w b past s → w.phase ≡ phase.Between → w.stack ≡ [] → w.has_element ≡ false
@@ -131,7 +131,7 @@ state-empty w b past s h e none no_element =
 
 -- elsewhere something is open: an element that holds others, or what is after the whole elements
 open-elsewhere : (w : Framing) (ls : List Layer) (here : Forest) (f : Phase) (t : Tail) → IsPhaseOf f t (place_behind w ls here)
-    → (f ≡ phase.Between → stack_of w ls (place_behind w ls here) t ≡ [] → ⊥) → ls ≡ [] → is_whole (forest_of t) ≡ false
+    → (f ≡ phase.Between → stack_of w ls (place_behind w ls here) t ≡ [] → ⊥) → ls ≡ [] → is_complete (forest_of t) ≡ false
 open-elsewhere w ls here phase.Between Between j n e = absurd (n refl (ap (frames_of w) e))
 open-elsewhere w ls here (phase.InHeader r) (InHeader octets) j n e = refl
 open-elsewhere w ls here (phase.InContents left) (InContents h c) j n e = refl
@@ -144,7 +144,7 @@ pub state-short : (w : WalkerState) (b : List ℕ) (past : List EventValue) (s :
     → IsEnding w.framing b (fault Short (length b))
 state-short w b past s h n outside =
     let r : Spells (top_place w.framing) b (reading_of s) = state-spells w b past s h in
-    let part : is_whole (within s.layers (behind s.here (forest_of s.tail))) ≡ false =
+    let part : is_complete (within s.layers (behind s.here (forest_of s.tail))) ≡ false =
     whole-within w.framing s.layers (behind s.here (forest_of s.tail)) h.layers
     (λ e. whole-behind s.here (forest_of s.tail) h.here.whole ∙ open-elsewhere w.framing s.layers s.here w.phase s.tail h.phase (λ p q. outside p (h.stack ∙ q)) e) in
-    short (reading_of s) (state-reading w b past s h) r.spelled (ap is_whole (state-within w b past s h n) ∙ part)
+    short (reading_of s) (state-reading w b past s h) r.spelled (ap is_complete (state-within w b past s h n) ∙ part)

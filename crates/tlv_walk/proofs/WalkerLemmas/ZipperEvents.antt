@@ -6,7 +6,7 @@ use Rattle.tlv_head.specs.declared.header.Size.TheVariants.{Definite, Indefinite
 use Rattle.tlv_head.specs.Header.{HeaderValue}
 use Rattle.tlv_walk.specs.declared.framing.Framing.{Framing}
 use Rattle.tlv_walk.specs.Events.{Begin, Bytes, Close, End, EventValue, Leave, Pad, closing_event, end_offset, events, opening_events}
-use Rattle.tlv_walk.specs.Forest.{Awaiting, Begun, Closed, Entered, Fill, Forest, Partial, Stop, Whole, Zero, contents_length, end_octets, is_whole, spell}
+use Rattle.tlv_walk.specs.Forest.{Awaiting, Begun, Closed, Entered, Fill, Forest, Partial, Stop, Whole, Zero, contents_length, end_octets, is_complete, spell}
 use Rattle.tlv_walk.specs.Stands.{ending_event, ending_events}
 use Rattle.tlv_walk.specs.Private.Zipper.{AreLayers, AreWhole, Layer, events_layers, frame_at, frames_of, place_in}
 use Rattle.tlv_walk.proofs.WalkerLemmas.ZipperWrappers.{wrappers_layers}
@@ -20,7 +20,7 @@ use Rattle.tlv_walk.proofs.WalkerLemmas.Zipper.{behind, settled, within}
 -- ---- whole elements, and then others
 
 -- their events
-pub events-behind : (f g : Forest) → is_whole f ≡ true → events (behind f g) ≡ events f ++ events g
+pub events-behind : (f g : Forest) → is_complete f ≡ true → events (behind f g) ≡ events f ++ events g
 events-behind Stop g e = refl
 events-behind (Fill rest) g e = ap (λ (t : List EventValue). Pad (0 ∷ []) ∷ t) (events-behind rest g e)
 events-behind (Whole h c rest) g e = ap (λ (t : List EventValue). Begin h ∷ Bytes c ∷ End ∷ t) (events-behind rest g e)
@@ -35,7 +35,7 @@ events-behind (Begun octets) g e = absurd (true≢false (sym e))
 events-behind Zero g e = absurd (true≢false (sym e))
 
 -- their wrappers
-pub wrappers-behind : (f g : Forest) → is_whole f ≡ true → wrappers (behind f g) ≡ wrappers f ++ wrappers g
+pub wrappers-behind : (f g : Forest) → is_complete f ≡ true → wrappers (behind f g) ≡ wrappers f ++ wrappers g
 wrappers-behind Stop g e = refl
 wrappers-behind (Fill rest) g e = wrappers-behind rest g e
 wrappers-behind (Whole h c rest) g e = wrappers-behind rest g e

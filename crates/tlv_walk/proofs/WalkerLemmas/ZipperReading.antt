@@ -8,7 +8,7 @@ use Rattle.tlv_walk.specs.declared.framing.Framing.{Framing}
 use Rattle.tlv_walk.specs.Phase.{Phase}
 use Rattle.tlv_walk.specs.Phase as phase
 use Rattle.tlv_walk.specs.Events.{AreEqualJoined, Begin, Bytes, End, EventValue, events, single_octets}
-use Rattle.tlv_walk.specs.Forest.{Forest, Stop, Whole, Partial, Awaiting, Begun, Zero, is_whole, spell}
+use Rattle.tlv_walk.specs.Forest.{Forest, Stop, Whole, Partial, Awaiting, Begun, Zero, is_complete, spell}
 use Rattle.tlv_walk.specs.WalkerState.{WalkerState, new_walker}
 use Rattle.tlv_walk.specs.Private.WalkerState.{wrappers_after}
 use Rattle.tlv_walk.specs.Place.{IsOpen, Place, place_after, top_place}
@@ -31,13 +31,13 @@ abbrev pub place_behind : Framing → List Layer → Forest → Place
 place_behind w ls here = place_after (place_in w ls) (length (spell here))
 
 -- the place after whole elements is where they end
-pub behind-end : (w : Framing) (ls : List Layer) (here g : Forest) → is_whole here ≡ true → end_in w ls (behind here g) ≡ (place_behind w ls here).at + length (spell g)
+pub behind-end : (w : Framing) (ls : List Layer) (here g : Forest) → is_complete here ≡ true → end_in w ls (behind here g) ≡ (place_behind w ls here).at + length (spell g)
 behind-end w ls here g e = omega (arith, ap length (spell-behind here g e), length-append (spell here) (spell g))
 
 -- ---- whole elements, and then an open end
 
 -- they are open, with these octets
-open-spells : (w : Framing) (ls : List Layer) (here g : Forest) → AreLayers w ls → AreWhole (place_in w ls) here → IsOpen (place_behind w ls here) g → is_whole g ≡ false
+open-spells : (w : Framing) (ls : List Layer) (here g : Forest) → AreLayers w ls → AreWhole (place_in w ls) here → IsOpen (place_behind w ls here) g → is_complete g ≡ false
     → Spells (top_place w) (spell_layers ls ++ (spell here ++ spell g)) (within ls (behind here g))
 open-spells w ls here g a i v e = record {
   is_open = open-within w ls (behind here g) a (open-behind (place_in w ls) here g i v) (room-if_open ls (behind here g) (whole-behind here g i.whole ∙ e));

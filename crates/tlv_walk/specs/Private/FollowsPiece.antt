@@ -4,7 +4,7 @@ use Rattle.tlv_head.specs.declared.fault.Fault.{Fault}
 use Rattle.tlv_io.specs.declared.drain.WriteFault.{WriteFault}
 use Rattle.tlv_io.specs.declared.out.Out.{Out}
 use Rattle.tlv_io.specs.Device.{DrainState}
-use Rattle.tlv_io.specs.Out.{Puts, Sends, buffer_of, drain_of}
+use Rattle.tlv_io.specs.Out.{Puts, Sends, held_octets, drain_of}
 use Rattle.tlv_walk.specs.declared.follow.Go.{Go}
 use Rattle.tlv_walk.specs.declared.follow.Go.TheVariants as go
 use Rattle.tlv_walk.specs.declared.framing.Framing.{Framing}
@@ -130,7 +130,7 @@ module _ {S D : Type 0} (next : S → EventValue → Effect S) (state_of : D →
     pub sends : Sends (state_of (drain_of before.out).now) (state_of (drain_of after.out).now)
         (effect_of next before.follower more).put result
     pub same_reference : (drain_of after.out).ghost_name ≡ (drain_of before.out).ghost_name
-    pub empty : OnOk result (buffer_of after.out ≡ [])
+    pub empty : OnOk result (held_octets after.out ≡ [])
 
   -- the front of a piece was followed, and what is made of its events was put; or nothing of it was taken
   pub record FollowsPart (piece rest : List ℕ) (result : Result Bool WriteFault) : Type 0 where

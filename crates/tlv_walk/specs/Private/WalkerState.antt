@@ -12,8 +12,8 @@ use Rattle.tlv_walk.specs.declared.event.Event.{Event}
 use Rattle.tlv_walk.specs.declared.event.Event.TheVariants as event
 use Rattle.tlv_walk.specs.declared.event.Step.{Step}
 use Rattle.tlv_walk.specs.declared.event.Step.TheVariants as step
-use Rattle.tlv_walk.specs.declared.event.Kind.{Kind}
-use Rattle.tlv_walk.specs.declared.event.Kind.TheVariants as kind
+use Rattle.tlv_walk.specs.declared.event.HeaderKind.{HeaderKind}
+use Rattle.tlv_walk.specs.declared.event.HeaderKind.TheVariants as kind
 use Rattle.tlv_head.specs.declared.header.HeaderFields.{HeaderFields}
 use Rattle.tlv_walk.specs.declared.walker.quick.WholePrimitive.{WholePrimitive}
 use Rattle.tlv_walk.specs.Inside.{is_among}
@@ -141,7 +141,7 @@ abbrev pub after_header : WalkerState → Phase → ℕ → WalkerState
 after_header w phase at = record w { phase = phase; offset = at; events = w.events + 1; has_element = true }
 
 -- where a walker stands after a header
-abbrev pub Enters : WalkerState → WalkerState → HeaderFields → ℕ → Kind → Type 0
+abbrev pub Enters : WalkerState → WalkerState → HeaderFields → ℕ → HeaderKind → Type 0
 Enters old new f at kind.Primitive =
     ((f.constructed || is_wrapper f.named f.class f.constructed f.number f.size) ≡ false)
     × (new ≡ after_header old (InContents (announced_length f.size)) at)

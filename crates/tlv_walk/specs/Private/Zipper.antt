@@ -7,7 +7,7 @@ use Rattle.tlv_walk.specs.declared.framing.Framing.{Framing}
 use Rattle.tlv_walk.specs.Phase.{Phase}
 use Rattle.tlv_walk.specs.Phase as phase
 use Rattle.tlv_walk.specs.Events.{AreEqualJoined, Begin, Bytes, Enter, EventValue, events, opening_events}
-use Rattle.tlv_walk.specs.Forest.{Forest, Awaiting, Begun, Zero, has_element, is_whole, opening, spell}
+use Rattle.tlv_walk.specs.Forest.{Forest, Awaiting, Begun, Zero, has_element, is_complete, opening, spell}
 use Rattle.tlv_walk.specs.Inside.{CanName, is_among}
 use Rattle.tlv_walk.specs.WalkerState.{WalkerState}
 use Rattle.tlv_walk.specs.Private.WalkerState.{wrappers_after}
@@ -51,7 +51,7 @@ place_of w s = place_after (place_in w s.layers) (length (spell s.here))
 -- whole elements are there, and nothing is open
 pub record AreWhole (p : Place) (f : Forest) : Type 0 where
   pub is_open : IsOpen p f
-  pub whole : is_whole f ≡ true
+  pub whole : is_complete f ≡ true
 
 -- each layer's elements are whole, and its header may stand after them
 abbrev pub AreLayers : Framing → List Layer → Type 0

@@ -13,7 +13,7 @@ ghost use Rattle.tlv_walk.specs.HasRead.{event_value};
 ghost use Rattle.tlv_walk.specs.Private.Steps.{YieldsAtOnce, YieldsStep};
 
 use super::{Phase, Walker};
-use crate::event::Kind;
+use crate::event::HeaderKind;
 use crate::stack::room_to;
 use crate::{Event, Step};
 use std::mem::replace;
@@ -59,9 +59,9 @@ impl Walker {
         }
         *piece = rest;
         match self.enter(fields, front) {
-            Kind::Constructed => Some(Event::Open(Header::new(fields, front))),
-            Kind::Wrapper => Some(Event::Enter(Header::new(fields, front))),
-            Kind::Primitive => Some(Event::Begin(Header::new(fields, front))),
+            HeaderKind::Constructed => Some(Event::Open(Header::new(fields, front))),
+            HeaderKind::Wrapper => Some(Event::Enter(Header::new(fields, front))),
+            HeaderKind::Primitive => Some(Event::Begin(Header::new(fields, front))),
         }
     }
 
@@ -127,15 +127,15 @@ impl Walker {
     {
         let fields = header.fields();
         match self.enter(&fields, header.raw()) {
-            Kind::Constructed => Event::Open(header),
-            Kind::Wrapper => Event::Enter(header),
-            Kind::Primitive => Event::Begin(header),
+            HeaderKind::Constructed => Event::Open(header),
+            HeaderKind::Wrapper => Event::Enter(header),
+            HeaderKind::Primitive => Event::Begin(header),
         }
     }
 
     /// Stands after a header, whose octets have left the piece.
     #[inline(always)]
-    pub(super) fn enter(&mut self, fields: &HeaderFields, octets: &[u8]) -> Kind
+    pub(super) fn enter(&mut self, fields: &HeaderFields, octets: &[u8]) -> HeaderKind
         requires phase { self.old.phase ≡ phases.Between }
         requires suits { Suits fields.now octets.now }
         requires enter { CanEnter self.old (header_with fields.now octets.now) }
@@ -152,17 +152,17 @@ impl Walker {
         };
         if !fields.constructed && !fields.wraps() {
             self.phase = Phase::InContents(length);
-            return Kind::Primitive;
+            return HeaderKind::Primitive;
         }
         self.stack.push(end, !fields.constructed);
         if fields.constructed {
-            return Kind::Constructed;
+            return HeaderKind::Constructed;
         }
         self.found_wrapper(fields.offset);
         if fields.number == universal::BIT_STRING {
             self.phase = Phase::BeforeUnused;
         }
-        Kind::Wrapper
+        HeaderKind::Wrapper
     }
 
     /// Counts a string that wraps encodings, if its offset is the first of those named that was

@@ -1,6 +1,6 @@
 use Rattle.std.proofs.Common.{◌≡◌, ◌-◌, ◌≤◌, [], length}
 use Rattle.tlv_walk.specs.Stands.{CanTake}
-use Rattle.tlv_io.specs.Out.{buffer_of, drain_of}
+use Rattle.tlv_io.specs.Out.{held_octets, drain_of}
 use Rattle.tlv_walk.specs.OneTurn.{turn_state}
 use Rattle.tlv_walk.proofs.FollowerLemmas.SoFar.{Walking}
 use Rattle.tlv_walk.proofs.drive_call.drive_up_to.Given as goal
@@ -13,7 +13,7 @@ invariant-turns g l = record {
       (turn_state l.walker l.follower (g.S.Source.state l.source) (g.D.Drain.state (drain_of l.out).now));
   ready : CanTake l.walker;
   piece : length l.piece ≡ 4096;
-  empty : buffer_of l.out ≡ [];
+  empty : held_octets l.out ≡ [];
   same_reference : (drain_of l.out).ghost_name ≡ (drain_of l.initial.out).ghost_name;
 }
 

@@ -14,7 +14,7 @@ use Rattle.tlv_value.proofs.TextLemmas.Ends.{new-first, rows-first}
 use Rattle.tlv_value.proofs.text.ValueText.bytes.Goals as goal
 
 -- the line, and then the rows
-new-both : (s v : TextState) (kind : Kind) (x : ℕ) (rest octets : List ℕ) → s ≡ v → kind ≡ kind_of s.class s.number → kind ≡ Bits → s.kept.lined ≡ false → is_long kind s.size ≡ true → octets ≡ x ∷ rest
+new-both : (s v : TextState) (kind : Kind) (x : ℕ) (rest octets : List ℕ) → s ≡ v → kind ≡ kind_of s.class s.number → kind ≡ Bits → s.kept.wrote_line ≡ false → is_long kind s.size ≡ true → octets ≡ x ∷ rest
     → line_in s (long_text Bits s.size (x ∷ [])) ++ row_lines Bits s.layout 0 (full_rows Bits (row_octets Bits (x ∷ [])) rest) ≡ contents_lines v octets
 new-both s v kind x rest octets same k b u l e =
     let long : is_long (kind_of s.class s.number) s.size ≡ true = ap (λ (j : Kind). is_long j s.size) (sym k) ∙ l in

@@ -1,6 +1,6 @@
 use Rattle.std.proofs.Common.{ℕ, ◌+◌, List, length, ap}
 use Rattle.tlv_head.proofs.FieldsOf.{made_again}
-use Rattle.tlv_walk.specs.declared.event.Kind.TheVariants as kind
+use Rattle.tlv_walk.specs.declared.event.HeaderKind.TheVariants as kind
 use Rattle.tlv_walk.proofs.WalkerLemmas.HeaderSteps.{yields_header}
 use Rattle.tlv_walk.proofs.walker.Walker.enter_slowly.Goals as goal
 
