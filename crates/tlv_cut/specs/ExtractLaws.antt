@@ -4,7 +4,7 @@ use Rattle.tlv_head.specs.Header.{HeaderValue, IsHeader, octets_of}
 use Rattle.tlv_walk.specs.declared.follow.Go.TheVariants.{Enough}
 use Rattle.tlv_walk.specs.declared.framing.Framing.{Framing}
 use Rattle.tlv_walk.specs.Events.{Close, End, EventValue, Leave, events}
-use Rattle.tlv_walk.specs.Follow.{Effect, effect_of, goes_of}
+use Rattle.tlv_walk.specs.Follow.{Effect, effect_of, go_of}
 use Rattle.tlv_walk.specs.Forest.{Forest, end_octets}
 use Rattle.tlv_walk.specs.Reading.{IsPrefixOf, IsReading}
 use Rattle.tlv_cut.specs.LongerInputs.{ForLongerInputs}
@@ -58,7 +58,7 @@ WholeElementsStay = ForLongerInputs (λ f g. (n : ℕ)
 pub record MakesExtract (n : ℕ) (contents_only : Bool) (f : Forest) (x : Effect ExtractState)
     : Type 0 where
   pub put : x.put ≡ extract_text n contents_only f
-  pub goes : x.goes ≡ goes_of (has_whole_element_at n f)
+  pub goes : x.goes ≡ go_of (has_whole_element_at n f)
   pub found : has_found x.state ≡ has_element_at n f
 
 -- an `Extract` makes that of the events of a reading

@@ -12,12 +12,12 @@ abbrev pub element_at : ℕ → Forest → Option Forest
 element_at n (Fill rest) = element_at n rest
 element_at n (Whole h c rest) =
     if h.offset == n then Some (Whole h c Stop) else element_at n rest
-element_at n (Closed h inside rest) =
-    if h.offset == n then Some (Closed h inside Stop)
-    else option_or (element_at n inside) (element_at n rest)
+element_at n (Closed h children rest) =
+    if h.offset == n then Some (Closed h children Stop)
+    else option_or (element_at n children) (element_at n rest)
 element_at n (Partial h c) = if h.offset == n then Some (Partial h c) else None
-element_at n (Entered h inside) =
-    if h.offset == n then Some (Entered h inside) else element_at n inside
+element_at n (Entered h children) =
+    if h.offset == n then Some (Entered h children) else element_at n children
 element_at n (Awaiting h) = if h.offset == n then Some (Awaiting h) else None
 element_at n _ = None
 
@@ -34,10 +34,10 @@ has_whole_element_at n f = option_map_or is_complete (element_at n f) false
 abbrev pub octets_so_far : Forest → List ℕ
 octets_so_far (Fill rest) = octets_so_far rest
 octets_so_far (Whole h c rest) = octets_of h ++ (c ++ octets_so_far rest)
-octets_so_far (Closed h inside rest) =
-    opening h ++ (octets_so_far inside ++ (end_octets h.size ++ octets_so_far rest))
+octets_so_far (Closed h children rest) =
+    opening h ++ (octets_so_far children ++ (end_octets h.size ++ octets_so_far rest))
 octets_so_far (Partial h c) = octets_of h ++ c
-octets_so_far (Entered h inside) = opening h ++ octets_so_far inside
+octets_so_far (Entered h children) = opening h ++ octets_so_far children
 octets_so_far (Awaiting h) = octets_of h
 octets_so_far _ = []
 
@@ -46,9 +46,9 @@ octets_so_far _ = []
 -- of them
 abbrev pub contents_so_far : Forest → List ℕ
 contents_so_far (Whole h c _) = c
-contents_so_far (Closed h inside _) = lead h ++ octets_so_far inside
+contents_so_far (Closed h children _) = lead h ++ octets_so_far children
 contents_so_far (Partial h c) = c
-contents_so_far (Entered h inside) = lead h ++ octets_so_far inside
+contents_so_far (Entered h children) = lead h ++ octets_so_far children
 contents_so_far _ = []
 
 -- what is written of an element

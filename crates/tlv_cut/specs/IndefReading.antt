@@ -12,12 +12,12 @@ with_offsets_from n (Fill rest) = Fill (with_offsets_from (n + 1) rest)
 with_offsets_from n (Whole h c rest) =
     Whole (record h { offset = n }) c
     (with_offsets_from (n + (length (octets_of h) + length c)) rest)
-with_offsets_from n (Closed h inside rest) =
-    Closed (record h { offset = n }) (with_offsets_from (n + length (opening h)) inside)
-    (with_offsets_from (n + extent h inside) rest)
+with_offsets_from n (Closed h children rest) =
+    Closed (record h { offset = n }) (with_offsets_from (n + length (opening h)) children)
+    (with_offsets_from (n + extent h children) rest)
 with_offsets_from n (Partial h c) = Partial (record h { offset = n }) c
-with_offsets_from n (Entered h inside) =
-    Entered (record h { offset = n }) (with_offsets_from (n + length (opening h)) inside)
+with_offsets_from n (Entered h children) =
+    Entered (record h { offset = n }) (with_offsets_from (n + length (opening h)) children)
 with_offsets_from n (Awaiting h) = Awaiting (record h { offset = n })
 with_offsets_from n (Begun octets) = Begun octets
 with_offsets_from n Zero = Zero

@@ -16,14 +16,14 @@ indefinite_header h = record h { size = Indefinite; lengths = 128 ∷ [] }
 abbrev pub with_indefinite_lengths : Forest → Forest
 with_indefinite_lengths (Fill rest) = Fill (with_indefinite_lengths rest)
 with_indefinite_lengths (Whole h c rest) = Whole h c (with_indefinite_lengths rest)
-with_indefinite_lengths (Closed h inside rest) =
-    let inner = with_indefinite_lengths inside in
+with_indefinite_lengths (Closed h children rest) =
+    let inner = with_indefinite_lengths children in
     let others = with_indefinite_lengths rest in
     if h.constructed then Closed (indefinite_header h) inner others
     else Whole h (lead h ++ spell inner) others
 with_indefinite_lengths (Partial h c) = Partial h c
-with_indefinite_lengths (Entered h inside) =
-    let inner = with_indefinite_lengths inside in
+with_indefinite_lengths (Entered h children) =
+    let inner = with_indefinite_lengths children in
     if h.constructed then Entered (indefinite_header h) inner
     else Partial h (lead h ++ spell inner)
 with_indefinite_lengths (Awaiting h) = Awaiting h

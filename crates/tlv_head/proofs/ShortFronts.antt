@@ -15,7 +15,7 @@ use Rattle.tlv_head.specs.Header.{IsIdentifier, IsLength, leading_octet, with_bi
 use Rattle.tlv_head.specs.Private.Header.{AllowsSize}
 use Rattle.tlv_head.specs.HeaderSoFar.{Carries, CarriesIdentifier, CarriesNumber}
 use Rattle.tlv_head.specs.Private.NextOctet.{BeginsWithIdentifier, BeginsWithNoIdentifier, BeginsWithNoLength, MakesNext}
-use Rattle.tlv_head.specs.ReadHeader.{BeginsWithNoShort}
+use Rattle.tlv_head.specs.ReadHeader.{BeginsWithNoShortHeader}
 use Rattle.tlv_head.specs.Refusal.{IsRefusedOctet, indefinite_primitive, length_too_large, reserved_length, tag_too_long}
 use Rattle.tlv_head.proofs.Scan.{Named, scan, scan-identifier, start}
 use Rattle.tlv_head.proofs.Steps.{ends_number}
@@ -181,7 +181,7 @@ no-third (x ∷ y ∷ []) id h some = absurd (omega arith)
 no-third (x ∷ y ∷ z ∷ xs) id h some = λ c k n i rest p few more e. none-behind id (x ∷ y ∷ z ∷ []) xs c k n i rest h p few e
 
 -- a header is an identifier, which has an octet behind it
-pub no-short_identifier : (os : List ℕ) → BeginsWithNoIdentifier os → BeginsWithNoShort os
+pub no-short_identifier : (os : List ℕ) → BeginsWithNoIdentifier os → BeginsWithNoShortHeader os
 no-short_identifier os none = λ h rest v e few less.
     none h.class h.constructed h.number h.identifier (h.lengths ++ rest) v.identifier few
     (λ z. some-length h.size h.lengths v.lengths (front-nil h.lengths rest z)) (e ∙ append_assoc h.identifier h.lengths rest)
@@ -192,7 +192,7 @@ no-short_identifier os none = λ h rest v e few less.
 
 -- and a length that its form may have
 pub no-short_length : (os : List ℕ) (id : Identifier) (before : ℕ) → BeginsWithIdentifier os id → before ≡ id.octets
-    → BeginsWithNoLength (take (length os - before) (drop before os)) id.constructed → BeginsWithNoShort os
+    → BeginsWithNoLength (take (length os - before) (drop before os)) id.constructed → BeginsWithNoShortHeader os
 no-short_length os id before b at none = λ h rest v e few less.
     let cut : os ≡ h.identifier ++ (h.lengths ++ rest) = e ∙ append_assoc h.identifier h.lengths rest in
     let front : take id.octets os ≡ h.identifier =

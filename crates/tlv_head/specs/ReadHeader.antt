@@ -12,12 +12,12 @@ pub record BeginsWithFields (octets : List ℕ) (at : ℕ) (is_named : Bool) (f 
   pub begins : BeginsWith octets at is_named (header_with f (take count octets))
 
 -- the header with these fields and so many octets has at most three identifier octets and three length octets
-pub record IsShort (f : HeaderFields) (count : ℕ) : Type 0 where
+pub record IsShortHeader (f : HeaderFields) (count : ℕ) : Type 0 where
   pub identifier : f.id_len ≤ 3
   pub lengths : count ≤ f.id_len + 3
 
 -- no header with at most three identifier octets and three length octets is a front of the octets
-abbrev pub BeginsWithNoShort : List ℕ → Type 0
-BeginsWithNoShort octets =
+abbrev pub BeginsWithNoShortHeader : List ℕ → Type 0
+BeginsWithNoShortHeader octets =
     (h : HeaderValue) (rest : List ℕ) → IsHeader h → octets ≡ octets_of h ++ rest
     → length h.identifier ≤ 3 → length h.lengths ≤ 3 → ⊥

@@ -1,7 +1,7 @@
 //! Reads a header at once, from a slice that begins with it.
 ghost use Rattle.std.specs.Prelude.{◌≤◌, IfSome, MatchOption};
 ghost use Rattle.tlv_head.specs.Refusal.{BeginsWithNoHeader};
-ghost use Rattle.tlv_head.specs.ReadHeader.{BeginsWithFields, BeginsWithNoShort, IsShort};
+ghost use Rattle.tlv_head.specs.ReadHeader.{BeginsWithFields, BeginsWithNoShortHeader, IsShortHeader};
 ghost use Rattle.tlv_head.specs.Private.NextOctet.{BeginsWithIdentifier, BeginsWithLength, BeginsWithNoIdentifier, BeginsWithNoLength};
 
 use crate::next_octet::{Identifier, Next, Part, fields_of, leading, next_number, read_octet};
@@ -37,9 +37,9 @@ pub fn read_header(offset: u64, named: bool, octets: &[u8]) -> Option<(HeaderFie
 /// stands apart because most headers are so short, and few instructions read them.
 #[inline(always)]
 pub fn read_short(offset: u64, named: bool, octets: &[u8]) -> Option<(HeaderFields, usize)>
-    ensures begins { MatchOption result (BeginsWithNoShort octets.now)
+    ensures begins { MatchOption result (BeginsWithNoShortHeader octets.now)
         (λ found. BeginsWithFields octets.now offset named found.0 found.1) }
-    ensures short { IfSome result (λ found. IsShort found.0 found.1) }
+    ensures short { IfSome result (λ found. IsShortHeader found.0 found.1) }
 {
     let identifier = short_identifier(octets)?;
     let before = usize::from(identifier.octets);

@@ -86,9 +86,9 @@ ends_empty empty [] = empty
 ends_empty empty (h ∷ hs) = ends_empty (is_primitive h && announced_length h.size == 0) hs
 
 abbrev pub end_conditions : HeaderValue → List HeaderValue → List (Bool × Finding)
-end_conditions h inside =
+end_conditions h children =
     -- 9.2: a string of at most 1000 contents octets is primitive
-    (has_segments h && list_all is_primitive inside && nat_le (total h inside) 1000, C05)
+    (has_segments h && list_all is_primitive children && nat_le (total h children) 1000, C05)
     -- 9.2: the last segment has one contents octet or more
-    ∷ (has_segments h && ends_empty false inside, C06)
+    ∷ (has_segments h && ends_empty false children, C06)
     ∷ []

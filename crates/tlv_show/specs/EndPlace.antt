@@ -6,7 +6,7 @@ use Rattle.tlv_walk.specs.Place.{is_indefinite}
 
 -- 8.1.5: where its end-of-contents octets are, if it has them
 abbrev pub end_place : HeaderValue → Forest → Option ℕ
-end_place h inside =
+end_place h children =
     if h.constructed && is_indefinite h.size
-    then Some (h.offset + length (opening h) + length (spell inside))
+    then Some (h.offset + length (opening h) + length (spell children))
     else None

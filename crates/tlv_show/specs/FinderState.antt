@@ -10,7 +10,7 @@ use Rattle.tlv_value.specs.CheckNotes.{finding_if}
 use Rattle.tlv_value.specs.CheckState.{CheckState, check_after, findings_in, has_unused_bits, new_check}
 use Rattle.tlv_value.specs.Types.{bit_string, constructed_types, has_segments, is_a, is_one_of, is_primitive, is_string, is_unassigned, octet_string, primitive_types}
 use Rattle.tlv_walk.specs.Place.{is_indefinite}
-use Rattle.tlv_show.specs.declared.frames.Frame.{Frame}
+use Rattle.tlv_show.specs.declared.frames.SiblingFrame.{SiblingFrame}
 use Rattle.tlv_show.specs.declared.rules.Rules.{Rules}
 use Rattle.tlv_show.specs.declared.rules.Rules.TheVariants.{Ber, Der, Cer}
 use Rattle.tlv_show.specs.Conditions.{first_length, has_high_form, has_long_form, leading_bits}
@@ -19,7 +19,7 @@ use Rattle.tlv_show.specs.Found.{shows}
 -- ---- Frames
 
 -- at the top, where no element holds others
-abbrev pub top_frame : Frame
+abbrev pub top_frame : SiblingFrame
 top_frame = record {
   at = 0;
   size = 0;
@@ -34,7 +34,7 @@ top_frame = record {
 }
 
 -- inside an element that holds others
-abbrev pub frame_of : HeaderValue → Frame
+abbrev pub frame_of : HeaderValue → SiblingFrame
 frame_of h = record {
   at = h.offset;
   size = announced_length h.size;
@@ -49,12 +49,12 @@ frame_of h = record {
 }
 
 -- inside an element that others hold. Of one that is no string and is in none nothing is to be known
-abbrev pub frame_under : Frame → HeaderValue → Frame
+abbrev pub frame_under : SiblingFrame → HeaderValue → SiblingFrame
 frame_under w h = if w.has_segments || has_segments h then frame_of h else top_frame
 
 -- after a segment more: whether it is primitive, how many contents octets it announces, and whether bits of it are
 -- unused
-abbrev pub frame_after_segment : Frame → Bool → ℕ → Bool → Frame
+abbrev pub frame_after_segment : SiblingFrame → Bool → ℕ → Bool → SiblingFrame
 frame_after_segment w primitive size unused = record w {
   is_unused = unused;
   is_not_full = not (primitive && size == 1000);
@@ -64,12 +64,12 @@ frame_after_segment w primitive size unused = record w {
 }
 
 -- after an element more: outside of strings nothing is asked of it
-abbrev pub frame_after : Frame → Bool → ℕ → Bool → Frame
+abbrev pub frame_after : SiblingFrame → Bool → ℕ → Bool → SiblingFrame
 frame_after w primitive size unused = if w.has_segments then frame_after_segment w primitive size unused else w
 
 -- ---- Findings, by a frame
 
-abbrev pub basic_notes : Frame → HeaderValue → List Finding
+abbrev pub basic_notes : SiblingFrame → HeaderValue → List Finding
 basic_notes w h =
     finding_if (has_high_form h && nat_lt h.number 31) B01
     ++ finding_if (has_high_form h && leading_bits h == 0) B02
@@ -85,20 +85,20 @@ length_notes h = finding_if (has_long_form h && (nat_lt (announced_length h.size
 abbrev pub der_notes : HeaderValue → List Finding
 der_notes h = finding_if (is_indefinite h.size) D01 ++ finding_if (has_segments h) D02
 
-abbrev pub cer_notes : Frame → HeaderValue → List Finding
+abbrev pub cer_notes : SiblingFrame → HeaderValue → List Finding
 cer_notes w h =
     finding_if (h.constructed && not (is_indefinite h.size)) C01
     ++ finding_if (is_primitive h && is_string h && nat_lt 1000 (announced_length h.size)) C02
     ++ finding_if (h.constructed && w.has_segments) C03
     ++ finding_if (w.has_segments && w.is_not_full) C04
 
-abbrev pub header_notes : Rules → Frame → HeaderValue → List Finding
+abbrev pub header_notes : Rules → SiblingFrame → HeaderValue → List Finding
 header_notes Ber w h = basic_notes w h
 header_notes Der w h = basic_notes w h ++ length_notes h ++ der_notes h
 header_notes Cer w h = basic_notes w h ++ length_notes h ++ cer_notes w h
 
 -- with the end of an element that holds others
-abbrev pub end_notes : Rules → Frame → List Finding
+abbrev pub end_notes : Rules → SiblingFrame → List Finding
 end_notes Ber w = []
 end_notes Der w = []
 end_notes Cer w =
@@ -115,8 +115,8 @@ pub record OpenValue : Type 0 where
 pub record FinderState : Type 0 where
   pub rules : Rules
   -- the frame of the innermost element that is open, or of the top, and those outside, innermost first
-  pub frame : Frame
-  pub outer : List Frame
+  pub frame : SiblingFrame
+  pub outer : List SiblingFrame
   pub value : Option OpenValue
   -- how many findings were reported; it stops at 2^64 - 1
   pub count : ℕ
@@ -191,13 +191,13 @@ abbrev pub find_end : FinderState → FinderValue
 find_end s = find_value_end s s.value
 
 -- an element that holds others ends, inside this frame and those around it
-abbrev pub finder_outside : FinderState → Frame → List Frame → FinderState
+abbrev pub finder_outside : FinderState → SiblingFrame → List SiblingFrame → FinderState
 finder_outside s w outer = record s {
   frame = frame_after w s.frame.is_primitive s.frame.size false;
   outer = outer;
 }
 
-abbrev pub find_frame_end : FinderState → List Frame → FinderValue
+abbrev pub find_frame_end : FinderState → List SiblingFrame → FinderValue
 find_frame_end s [] = finds_nothing s
 find_frame_end s (w ∷ outer) = finds (finder_outside s w outer) (length outer) s.frame.at (end_notes s.rules s.frame)
 

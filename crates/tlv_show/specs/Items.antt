@@ -9,7 +9,7 @@ use Rattle.tlv_show.specs.declared.rules.Rules.{Rules}
 use Rattle.tlv_show.specs.Conditions.{end_conditions, header_conditions}
 use Rattle.tlv_show.specs.EndPlace.{end_place}
 use Rattle.tlv_show.specs.Found.{shows}
-use Rattle.tlv_show.specs.Site.{Padding, Sibling, Site, is_padding, onward, site_inside}
+use Rattle.tlv_show.specs.Site.{Padding, Sibling, Site, is_padding, onward, site_of_children}
 
 -- an item, with its level: how many elements hold what it is about
 pub data Item : Type 0 where
@@ -28,7 +28,7 @@ pub data Item : Type 0 where
 abbrev pub heads : Forest → List HeaderValue
 heads (Fill rest) = heads rest
 heads (Whole h c rest) = h ∷ heads rest
-heads (Closed h inside rest) = h ∷ heads rest
+heads (Closed h children rest) = h ∷ heads rest
 heads _ = []
 
 module _ (rules : Rules) where
@@ -47,14 +47,14 @@ module _ (rules : Rules) where
       finding_items s h (header_conditions s h)
       ++ (WholePrimitive s.level h c ∷ finding_items s h (contents_conditions h c)
       ++ items (onward s (length (octets_of h) + length c) (Sibling h (slice_get c 0))) rest)
-  items s (Closed h inside rest) =
+  items s (Closed h children rest) =
       finding_items s h (header_conditions s h)
-      ++ (OpeningLine s.level h ∷ items (site_inside s h) inside
-      ++ (ClosingLine s.level (end_place h inside) ∷ finding_items s h (end_conditions h (heads inside))
-      ++ items (onward s (extent h inside) (Sibling h None)) rest))
+      ++ (OpeningLine s.level h ∷ items (site_of_children s h) children
+      ++ (ClosingLine s.level (end_place h children) ∷ finding_items s h (end_conditions h (heads children))
+      ++ items (onward s (extent h children) (Sibling h None)) rest))
   items s (Partial h c) = finding_items s h (header_conditions s h) ++ OpenPrimitive s.level h c ∷ []
-  items s (Entered h inside) =
+  items s (Entered h children) =
       finding_items s h (header_conditions s h)
-      ++ OpeningLine s.level h ∷ items (site_inside s h) inside
+      ++ OpeningLine s.level h ∷ items (site_of_children s h) children
   items s (Awaiting h) = finding_items s h (header_conditions s h) ++ OpeningLine s.level h ∷ []
   items s _ = []

@@ -32,8 +32,8 @@ abbrev pub onward : Site → ℕ → Before → Site
 onward s octets before = record s { at = s.at + octets; before = before }
 
 -- inside an element that holds others
-abbrev pub site_inside : Site → HeaderValue → Site
-site_inside s h = record { at = s.at + length (opening h); level = s.level + 1; holder = Some h; before = Start }
+abbrev pub site_of_children : Site → HeaderValue → Site
+site_of_children s h = record { at = s.at + length (opening h); level = s.level + 1; holder = Some h; before = Start }
 
 abbrev pub is_padding : Before → Bool
 is_padding Padding = true

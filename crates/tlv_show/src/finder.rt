@@ -7,7 +7,7 @@ ghost use Rattle.tlv_show.specs.Private.FinderState.{PassesOrStays, ReportsFindi
 
 use crate::Rules;
 use crate::contents_findings::note_contents;
-use crate::frames::Frame;
+use crate::frames::SiblingFrame;
 use crate::header_findings::{is_plain, is_plain_if_usual, note_end, note_header};
 use crate::nesting::Nesting;
 use arrayvec::ArrayVec;
@@ -288,7 +288,7 @@ impl Finder {
 
     /// Finds what is to be found with the end of an element that held segments.
     #[inline(never)]
-    fn look_at_end(&mut self, closed: &Frame) -> bool
+    fn look_at_end(&mut self, closed: &SiblingFrame) -> bool
         ensures { ReportsFindings (finds self.old.state (length self.old.state.outer) closed.now.at
             (end_notes self.old.state.rules closed.now)) self.new result }
     {

@@ -10,7 +10,7 @@ use tlv_head::Header;
 
 /// What is kept of an element that holds others, and of those that it holds so far.
 #[derive(Clone, Copy, Default)]
-pub(crate) struct Frame {
+pub(crate) struct SiblingFrame {
     /// Where the holder begins.
     pub at: u64,
     /// How many contents octets its header announces.
@@ -34,36 +34,36 @@ pub(crate) struct Frame {
 }
 
 /// The frame of the top.
-pub(crate) fn top() -> Frame
+pub(crate) fn top() -> SiblingFrame
     ensures { result ≡ top_frame }
 {
-    Frame {
+    SiblingFrame {
         all_primitive: true,
-        ..Frame::default()
+        ..SiblingFrame::default()
     }
 }
 
 /// The frame of an element of which nothing inside has come.
 #[inline(always)]
-pub(crate) fn frame_of(header: &Header) -> Frame
+pub(crate) fn frame_of(header: &Header) -> SiblingFrame
     ensures { result ≡ frame_of header.now }
 {
     let has_segments = header.constructed && is_string(header);
-    Frame {
+    SiblingFrame {
         at: header.offset,
         size: size_of(header),
         is_primitive: !header.constructed,
         has_segments,
         has_bits: has_segments && is_bit_string(header),
         all_primitive: true,
-        ..Frame::default()
+        ..SiblingFrame::default()
     }
 }
 
 /// Keeps what must be known of an element in a string: whether it is primitive, how many contents octets it announces,
 /// and whether bits of it are unused. Nothing is asked of the others.
 #[inline(always)]
-pub(crate) fn note_element(frame: &mut Frame, is_primitive: bool, size: u64, is_unused: bool)
+pub(crate) fn note_element(frame: &mut SiblingFrame, is_primitive: bool, size: u64, is_unused: bool)
     ensures { frame.new ≡ frame_after frame.old is_primitive size is_unused }
 {
     if !frame.has_segments {
@@ -80,7 +80,7 @@ pub(crate) fn note_element(frame: &mut Frame, is_primitive: bool, size: u64, is_
 /// A frame, and its floor: how many elements hold what stands directly in its element.
 #[derive(Clone, Copy, Default)]
 pub(crate) struct Kept {
-    pub frame: Frame,
+    pub frame: SiblingFrame,
     pub floor: u8,
 }
 

@@ -7,7 +7,7 @@ ghost use Rattle.tlv_show.specs.Private.UsualTypes.{IsUsual};
 ghost use Rattle.tlv_show.specs.FinderState.{basic_notes, cer_notes, der_notes, end_notes, header_notes, length_notes};
 
 use crate::Rules;
-use crate::frames::Frame;
+use crate::frames::SiblingFrame;
 use crate::headers::{
     has_high_form, is_always_constructed, is_always_primitive, is_indefinite, is_length_padded,
     is_segment, is_string, is_unassigned, is_universal, size_of,
@@ -20,7 +20,7 @@ use tlv_value::Finding;
 #[inline(always)]
 pub(crate) fn note_header(
     rules: Rules,
-    frame: &Frame,
+    frame: &SiblingFrame,
     header: &Header,
     found: &mut ArrayVec<Finding, 16>,
 )
@@ -43,7 +43,7 @@ pub(crate) fn note_header(
 
 /// Whether nothing is found with a header, as far as a short look shows.
 #[inline(always)]
-pub(crate) fn is_plain(rules: Rules, frame: &Frame, header: &Header) -> bool
+pub(crate) fn is_plain(rules: Rules, frame: &SiblingFrame, header: &Header) -> bool
     ensures notes { IsTrue result → header_notes rules frame.now header.now ≡ [] }
     ensures segments { IsTrue result → (frame.now.has_segments || has_segments header.now) ≡ false }
 {
@@ -53,7 +53,7 @@ pub(crate) fn is_plain(rules: Rules, frame: &Frame, header: &Header) -> bool
 /// Whether nothing is found with the header of a usual element, as far as a short look shows. The type is not asked
 /// for: callers look at it first, or with the contents.
 #[inline(always)]
-pub(crate) fn is_plain_if_usual(rules: Rules, frame: &Frame, header: &Header) -> bool
+pub(crate) fn is_plain_if_usual(rules: Rules, frame: &SiblingFrame, header: &Header) -> bool
     ensures notes { IsTrue result → IsUsual header.now
         → header_notes rules frame.now header.now ≡ [] }
     ensures segments { IsTrue result → frame.now.has_segments ≡ false }
@@ -115,7 +115,7 @@ fn is_usual(header: &Header) -> bool
 
 /// Notes what is found with the end of the element whose frame this is.
 #[inline(always)]
-pub(crate) fn note_end(rules: Rules, frame: &Frame, found: &mut ArrayVec<Finding, 16>)
+pub(crate) fn note_end(rules: Rules, frame: &SiblingFrame, found: &mut ArrayVec<Finding, 16>)
     requires { found.old.items ≡ [] }
     ensures { found.new.items ≡ end_notes rules frame.now }
 {
@@ -131,7 +131,7 @@ pub(crate) fn note_end(rules: Rules, frame: &Frame, found: &mut ArrayVec<Finding
 
 /// Whether a string with the segments of this frame has at most 1000 contents octets as a primitive.
 #[inline(always)]
-fn fits(frame: &Frame) -> bool
+fn fits(frame: &SiblingFrame) -> bool
     ensures { result ≡ nat_le ((if frame.now.has_bits then 1 else 0) + frame.now.octets) 1000 }
 {
     frame.octets <= if frame.has_bits { 999 } else { 1000 }
@@ -151,7 +151,7 @@ fn note(there: bool, finding: Finding, found: &mut ArrayVec<Finding, 16>)
 
 /// Notes what violates the rules of all encodings.
 #[inline(always)]
-fn note_basic(frame: &Frame, header: &Header, found: &mut ArrayVec<Finding, 16>)
+fn note_basic(frame: &SiblingFrame, header: &Header, found: &mut ArrayVec<Finding, 16>)
     requires { found.old.items ≡ [] }
     ensures items { found.new.items ≡ basic_notes frame.now header.now }
     ensures few { length found.new.items ≤ 7 }
@@ -208,7 +208,7 @@ fn note_der(header: &Header, found: &mut ArrayVec<Finding, 16>)
 
 /// Adds what violates the rules of CER alone.
 #[inline(always)]
-fn note_cer(frame: &Frame, header: &Header, found: &mut ArrayVec<Finding, 16>)
+fn note_cer(frame: &SiblingFrame, header: &Header, found: &mut ArrayVec<Finding, 16>)
     requires { length found.old.items ≤ 8 }
     ensures { found.new.items ≡ found.old.items ++ cer_notes frame.now header.now }
 {

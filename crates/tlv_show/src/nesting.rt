@@ -6,7 +6,7 @@ ghost use Rattle.tlv_show.specs.FinderState.{frame_after, header_notes};
 ghost use Rattle.tlv_show.specs.Private.Nesting.{TakesBack, nesting_inside, nesting_outside, new_nesting, segments_left};
 ghost use Rattle.tlv_show.specs.declared.rules.Rules.{Rules};
 
-use crate::frames::{Frame, Frames, Kept, frame_of, note_element, top};
+use crate::frames::{Frames, Kept, SiblingFrame, frame_of, note_element, top};
 use crate::headers::is_string;
 use std::marker::Model;
 use tlv_head::Header;
@@ -18,7 +18,7 @@ pub(crate) struct Nesting {
     /// How many elements are open that hold others.
     level: u8,
     /// The innermost frame that is kept, or that of the top.
-    frame: Frame,
+    frame: SiblingFrame,
     /// Its floor: how many elements hold what stands directly in its element. The `level - floor` elements that are
     /// open inside of it have no frame.
     floor: u8,
@@ -68,7 +68,7 @@ impl Nesting {
 
     /// A frame that says of headers what the innermost one says.
     #[inline(always)]
-    pub fn frame(&self) -> &Frame
+    pub fn frame(&self) -> &SiblingFrame
         ensures segments { result.now.has_segments ≡ self.now.frame.has_segments }
         ensures notes { (rules : Rules) (h : HeaderValue)
             → header_notes rules result.now h ≡ header_notes rules self.now.frame h }
@@ -120,7 +120,7 @@ impl Nesting {
 
     /// An element that holds others ends. Returns its frame, if what it held were segments.
     #[inline(always)]
-    pub fn leave(&mut self) -> Option<Frame>
+    pub fn leave(&mut self) -> Option<SiblingFrame>
         ensures nest { self.new ≡ nesting_outside self.old }
         ensures segments { result ≡ segments_left self.old }
     {
@@ -145,7 +145,7 @@ impl Nesting {
 
 /// Whether an element is to have a frame of its own, inside the one with this frame.
 #[inline(always)]
-fn has_frame(frame: &Frame, header: &Header) -> bool
+fn has_frame(frame: &SiblingFrame, header: &Header) -> bool
     ensures { result ≡ (frame.now.has_segments || has_segments header.now) }
 {
     frame.has_segments || (header.constructed && is_string(header))
@@ -154,7 +154,7 @@ fn has_frame(frame: &Frame, header: &Header) -> bool
 /// An element that has a frame ends: the frame outside is the innermost one again, and says of the element what has
 /// to be known of it.
 #[inline(never)]
-fn take_back(frame: &mut Frame, floor: &mut u8, outer: &mut Frames)
+fn take_back(frame: &mut SiblingFrame, floor: &mut u8, outer: &mut Frames)
     ensures { TakesBack frame.old outer.old frame.new floor.new outer.new }
 {
     if let Some(kept) = outer.pop() {

@@ -12,17 +12,17 @@ pub data AreAlike : Forest → Forest → Type 0 where
   padding : (f g : Forest) → AreAlike f g → AreAlike (Fill f) (Fill g)
   primitives : (h k : HeaderValue) (contents : List ℕ) (f g : Forest) → HaveOneTag h k → AreAlike f g
       → AreAlike (Whole h contents f) (Whole k contents g)
-  holders : (h k : HeaderValue) (inside within f g : Forest) → HaveOneTag h k → AreAlike inside within → AreAlike f g
-      → AreAlike (Closed h inside f) (Closed k within g)
+  holders : (h k : HeaderValue) (children within f g : Forest) → HaveOneTag h k → AreAlike children within → AreAlike f g
+      → AreAlike (Closed h children f) (Closed k within g)
 
 -- no primitive of the elements is the universal 0, whose low form would be the octet 00 of end-of-contents octets
 abbrev pub HaveLowForms : Forest → Type 0
 HaveLowForms Stop = Unit {0}
 HaveLowForms (Fill rest) = HaveLowForms rest
 HaveLowForms (Whole h c rest) = (leading_octet h.class h.constructed h.number ≢ 0) × HaveLowForms rest
-HaveLowForms (Closed h inside rest) = HaveLowForms inside × HaveLowForms rest
+HaveLowForms (Closed h children rest) = HaveLowForms children × HaveLowForms rest
 HaveLowForms (Partial h c) = leading_octet h.class h.constructed h.number ≢ 0
-HaveLowForms (Entered h inside) = HaveLowForms inside
+HaveLowForms (Entered h children) = HaveLowForms children
 HaveLowForms (Awaiting h) = Unit {0}
 HaveLowForms (Begun octets) = Unit {0}
 HaveLowForms Zero = Unit {0}

@@ -8,7 +8,7 @@ use Rattle.tlv_walk.specs.declared.framing.Framing.{Framing}
 use Rattle.tlv_walk.specs.declared.ending.Ending.{Ending}
 use Rattle.tlv_walk.specs.declared.ending.Ending.TheVariants.{Done, Fault}
 use Rattle.tlv_walk.specs.Forest.{Forest, Stop, Fill, Whole, Closed, Entered, Awaiting, Begun, Zero, extent, has_element, is_complete, spell}
-use Rattle.tlv_walk.specs.Place.{Fits, IsHeadAt, Place, place_after, place_inside, top_place}
+use Rattle.tlv_walk.specs.Place.{Fits, IsHeadAt, Place, place_after, place_of_children, top_place}
 use Rattle.tlv_walk.specs.Reading.{CannotBecomeSound, IsReading, IsSoundList}
 
 -- where the innermost open end of a forest that begins there begins, and what is there: nothing between encodings
@@ -16,8 +16,8 @@ use Rattle.tlv_walk.specs.Reading.{CannotBecomeSound, IsReading, IsSoundList}
 abbrev pub tip : Place → Forest → Place × Forest
 tip p (Fill rest) = tip (place_after p 1) rest
 tip p (Whole h c rest) = tip (place_after p (length (octets_of h) + length c)) rest
-tip p (Closed h inside rest) = tip (place_after p (extent h inside)) rest
-tip p (Entered h inside) = tip (place_inside p h) inside
+tip p (Closed h children rest) = tip (place_after p (extent h children)) rest
+tip p (Entered h children) = tip (place_of_children p h) children
 tip p end = (p, end)
 
 -- why the octet x is refused at an open end that begins at p: a line for each cause. The bound is looked at before

@@ -33,17 +33,17 @@ opening_events h = (if h.constructed then Open h else Enter h) ∷ map (λ z. Un
 
 -- an element that holds others ends
 abbrev pub closing_event : HeaderValue → Forest → EventValue
-closing_event h inside =
-    if h.constructed then Close (end_offset h.size (h.offset + length (opening h) + length (spell inside))) else Leave
+closing_event h children =
+    if h.constructed then Close (end_offset h.size (h.offset + length (opening h) + length (spell children))) else Leave
 
 -- an open forest read off in order
 abbrev pub events : Forest → List EventValue
 events Stop = []
 events (Fill rest) = Pad (0 ∷ []) ∷ events rest
 events (Whole h c rest) = Begin h ∷ Bytes c ∷ End ∷ events rest
-events (Closed h inside rest) = opening_events h ++ (events inside ++ closing_event h inside ∷ events rest)
+events (Closed h children rest) = opening_events h ++ (events children ++ closing_event h children ∷ events rest)
 events (Partial h c) = Begin h ∷ Bytes c ∷ []
-events (Entered h inside) = opening_events h ++ events inside
+events (Entered h children) = opening_events h ++ events children
 events (Awaiting h) = Enter h ∷ []
 events (Begun octets) = []
 events Zero = []

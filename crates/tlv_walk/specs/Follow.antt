@@ -6,9 +6,9 @@ use Rattle.tlv_walk.specs.declared.follow.Go.TheVariants as go
 use Rattle.tlv_walk.specs.Events.{Begin, Bytes, End, EventValue}
 
 -- whether a follower wants more, by whether it had enough
-abbrev pub goes_of : Bool → Go
-goes_of true = go.Enough
-goes_of false = go.On
+abbrev pub go_of : Bool → Go
+go_of true = go.Enough
+go_of false = go.On
 
 -- what a follower makes of events: its new state, the octets that it puts, and whether it wants more
 pub record Effect (S : Type 0) : Type 0 where

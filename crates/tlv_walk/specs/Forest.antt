@@ -13,11 +13,11 @@ pub data Forest : Type 0 where
   -- a primitive with all its contents octets
   Whole : (head : HeaderValue) (contents : List ℕ) (rest : Forest) → Forest
   -- an element that holds others and has ended: constructed, or a wrapper
-  Closed : (head : HeaderValue) (inside rest : Forest) → Forest
+  Closed : (head : HeaderValue) (children rest : Forest) → Forest
   -- a primitive with fewer contents octets than its length
   Partial : (head : HeaderValue) (contents : List ℕ) → Forest
   -- an element that holds others and has not ended, with what it holds so far
-  Entered : (head : HeaderValue) (inside : Forest) → Forest
+  Entered : (head : HeaderValue) (children : Forest) → Forest
   -- a wrapping BIT STRING without its first contents octet
   Awaiting : (head : HeaderValue) → Forest
   -- the front of a header
@@ -42,27 +42,27 @@ abbrev pub spell : Forest → List ℕ
 spell Stop = []
 spell (Fill rest) = 0 ∷ spell rest
 spell (Whole h c rest) = octets_of h ++ (c ++ spell rest)
-spell (Closed h inside rest) = opening h ++ (spell inside ++ (end_octets h.size ++ spell rest))
+spell (Closed h children rest) = opening h ++ (spell children ++ (end_octets h.size ++ spell rest))
 spell (Partial h c) = octets_of h ++ c
-spell (Entered h inside) = opening h ++ spell inside
+spell (Entered h children) = opening h ++ spell children
 spell (Awaiting h) = octets_of h
 spell (Begun octets) = octets
 spell Zero = 0 ∷ []
 
 -- 8.1.4: the number of contents octets so far of an element that holds others
 abbrev pub contents_length : HeaderValue → Forest → ℕ
-contents_length h inside = length (lead h) + length (spell inside)
+contents_length h children = length (lead h) + length (spell children)
 
 -- 8.1.1.1: the number of octets of an element that holds others and has ended
 abbrev pub extent : HeaderValue → Forest → ℕ
-extent h inside = length (opening h) + (length (spell inside) + length (end_octets h.size))
+extent h children = length (opening h) + (length (spell children) + length (end_octets h.size))
 
 -- nothing is open
 abbrev pub is_complete : Forest → Bool
 is_complete Stop = true
 is_complete (Fill rest) = is_complete rest
 is_complete (Whole h c rest) = is_complete rest
-is_complete (Closed h inside rest) = is_complete rest
+is_complete (Closed h children rest) = is_complete rest
 is_complete end = false
 
 -- an octet of an element is there

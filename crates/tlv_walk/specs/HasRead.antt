@@ -8,12 +8,12 @@ use Rattle.tlv_walk.specs.declared.event.Event.TheVariants as event
 use Rattle.tlv_walk.specs.Phase.{Failed}
 use Rattle.tlv_walk.specs.Ending.{IsEnding}
 use Rattle.tlv_walk.specs.Events.{AreEqualJoined, Begin, Bytes, Close, End, Enter, EventValue, Leave, Open, Pad, Unused, events}
-use Rattle.tlv_walk.specs.WalkerState.{WalkerState, first_unused_in}
+use Rattle.tlv_walk.specs.WalkerState.{WalkerState, first_without_string_in}
 use Rattle.tlv_walk.specs.OpenCount.{open_count}
 use Rattle.tlv_walk.specs.Stands.{IsIdle, Stands}
 use Rattle.tlv_walk.specs.Forest.{Forest, spell}
 use Rattle.tlv_walk.specs.Reading.{CannotBecomeSound, IsReading}
-use Rattle.tlv_walk.specs.Wrappers.{first_unused}
+use Rattle.tlv_walk.specs.Wrappers.{first_without_string}
 
 -- an event, apart from where its octets lie in memory
 abbrev pub event_value : Event → EventValue
@@ -46,7 +46,7 @@ pub record StandsRefused (w : WalkerState) (b : List ℕ) (octet : ℕ) (past : 
   pub phase : w.phase ≡ Failed f
   pub offset : w.offset ≡ length b
   pub depth : length w.stack ≡ open_count refused.reading
-  pub unused : first_unused_in w ≡ first_unused w.framing.inside refused.reading
+  pub unused : first_without_string_in w ≡ first_without_string w.framing.inside refused.reading
 
 -- what a walker has read: the octets that it took, and their reading. Once it refused an octet, these are the octets
 -- before that one

@@ -21,7 +21,7 @@ use Rattle.tlv_io.specs.Out.{Sends}
 use Rattle.tlv_walk.specs.Reading.{AreOctets, IsPrefixOf, IsReading}
 use Rattle.tlv_walk.specs.HasRead.{StandsAtEnd}
 use Rattle.tlv_walk.specs.Stands.{CanTake, IsIdle, Stands}
-use Rattle.tlv_walk.specs.Wrappers.{first_other, first_unused, wrapper_offsets}
+use Rattle.tlv_walk.specs.Wrappers.{first_other, first_without_string, wrapper_offsets}
 
 -- the octets that the last read gave, at the front of the piece
 abbrev pub last_octets : Last → List ℕ → List ℕ
@@ -88,7 +88,7 @@ module _ {S : Type 0} (next : S → EventValue → Effect S) (before after : Tur
     pub yields : AreEqualJoined (past ++ more) (events reading)
     pub ending : IsEnding before.walker.framing octets run.ending
     pub spelled : run.octets ≡ length (spell reading)
-    pub unused : run.unused ≡ first_unused before.walker.framing.inside reading
+    pub unused : run.unused ≡ first_without_string before.walker.framing.inside reading
     pub framing : after.walker.framing ≡ before.walker.framing
     pub walker : StandsAtEnd after.walker octets (past ++ more)
 

@@ -7,9 +7,9 @@ abbrev pub open_count : Forest → ℕ
 open_count Stop = 0
 open_count (Fill rest) = open_count rest
 open_count (Whole h c rest) = open_count rest
-open_count (Closed h inside rest) = open_count rest
+open_count (Closed h children rest) = open_count rest
 open_count (Partial h c) = 0
-open_count (Entered h inside) = open_count inside + 1
+open_count (Entered h children) = open_count children + 1
 open_count (Awaiting h) = 1
 open_count (Begun octets) = 0
 open_count Zero = 0

@@ -45,8 +45,8 @@ is_indefinite size = is_none (definite_length size)
 
 -- 8.1.4: where the elements stand that an element with this header holds: if its length is definite, the end of its
 -- contents is the bound
-abbrev pub place_inside : Place → HeaderValue → Place
-place_inside p h = record p {
+abbrev pub place_of_children : Place → HeaderValue → Place
+place_of_children p h = record p {
   at = p.at + length (opening h);
   depth = p.depth + 1;
   indefinite = is_indefinite h.size;
@@ -85,17 +85,17 @@ IsOpen p (Whole h c rest) =
     (IsElementAt p false h (length (octets_of h) + length c) × (h.size ≡ Definite (length c)))
     × IsOpen (place_after p (length (octets_of h) + length c)) rest
 -- 8.1.4, 8.1.5: an element that holds others and has ended. 8.1.3.3: a definite length is that of the contents
-IsOpen p (Closed h inside rest) =
-    (IsElementAt p true h (extent h inside) × (is_complete inside ≡ true)
-    × IfSome (definite_length h.size) (λ n. contents_length h inside ≡ n))
-    × IsOpen (place_inside p h) inside × IsOpen (place_after p (extent h inside)) rest
+IsOpen p (Closed h children rest) =
+    (IsElementAt p true h (extent h children) × (is_complete children ≡ true)
+    × IfSome (definite_length h.size) (λ n. contents_length h children ≡ n))
+    × IsOpen (place_of_children p h) children × IsOpen (place_after p (extent h children)) rest
 -- 8.1.4: a primitive that lacks contents octets
 IsOpen p (Partial h c) = IsEntry p false h × (length c < announced_length h.size)
 -- 8.1.4: an element that holds others and has not ended: if what it holds is whole, and the length is
 -- definite, contents octets are lacking
-IsOpen p (Entered h inside) =
-    (IsEntry p true h × (is_complete inside ≡ true → IfSome (definite_length h.size) (λ n. contents_length h inside < n)))
-    × IsOpen (place_inside p h) inside
+IsOpen p (Entered h children) =
+    (IsEntry p true h × (is_complete children ≡ true → IfSome (definite_length h.size) (λ n. contents_length h children < n)))
+    × IsOpen (place_of_children p h) children
 -- 8.6.2.2: a wrapping BIT STRING of which the header alone is there
 IsOpen p (Awaiting h) = IsEntry p true h × (lead h ≡ 0 ∷ [])
 -- the front of a header, or the first of the end-of-contents octets, inside the bound

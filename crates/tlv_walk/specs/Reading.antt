@@ -4,7 +4,7 @@ use Rattle.tlv_head.specs.declared.header.Size.TheVariants.{Definite}
 use Rattle.tlv_head.specs.Header.{definite_length, octets_of}
 use Rattle.tlv_walk.specs.declared.framing.Framing.{Framing}
 use Rattle.tlv_walk.specs.Forest.{Closed, Fill, Forest, Stop, Whole, contents_length, extent, has_element, spell}
-use Rattle.tlv_walk.specs.Place.{IsHeadAt, IsOpen, Place, place_after, place_inside, top_place}
+use Rattle.tlv_walk.specs.Place.{IsHeadAt, IsOpen, Place, place_after, place_of_children, top_place}
 
 -- octets, each below 256
 abbrev pub AreOctets : List ℕ → Type 0
@@ -28,9 +28,9 @@ IsSound p Stop = Unit {0}
 IsSound p (Fill rest) = (p.padding ≡ true) × IsSound (place_after p 1) rest
 IsSound p (Whole h c rest) =
     IsHeadAt p false h × (h.size ≡ Definite (length c)) × IsSound (place_after p (length (octets_of h) + length c)) rest
-IsSound p (Closed h inside rest) =
-    IsHeadAt p true h × IfSome (definite_length h.size) (λ n. contents_length h inside ≡ n) × (p.depth < 128)
-    × IsSound (place_inside p h) inside × IsSound (place_after p (extent h inside)) rest
+IsSound p (Closed h children rest) =
+    IsHeadAt p true h × IfSome (definite_length h.size) (λ n. contents_length h children ≡ n) × (p.depth < 128)
+    × IsSound (place_of_children p h) children × IsSound (place_after p (extent h children)) rest
 IsSound p end = ⊥
 
 -- the octets of one or more sound elements, with padding if the framing has it

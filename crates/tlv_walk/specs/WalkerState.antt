@@ -86,5 +86,5 @@ HasOctets event.Leave = Unit {0}
 HasOctets (event.Pad octets) = octets.now ≢ []
 
 -- the first of the named offsets that is not known to be a wrapper's
-abbrev pub first_unused_in : WalkerState → Option ℕ
-first_unused_in w = slice_get w.framing.inside w.wrapper_count
+abbrev pub first_without_string_in : WalkerState → Option ℕ
+first_without_string_in w = slice_get w.framing.inside w.wrapper_count

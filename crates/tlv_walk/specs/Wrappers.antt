@@ -14,8 +14,8 @@ wrapper_at h = if h.constructed then [] else h.offset ∷ []
 abbrev pub wrappers : Forest → List ℕ
 wrappers (Fill rest) = wrappers rest
 wrappers (Whole h c rest) = wrappers rest
-wrappers (Closed h inside rest) = wrapper_at h ++ (wrappers inside ++ wrappers rest)
-wrappers (Entered h inside) = wrapper_at h ++ wrappers inside
+wrappers (Closed h children rest) = wrapper_at h ++ (wrappers children ++ wrappers rest)
+wrappers (Entered h children) = wrapper_at h ++ wrappers children
 wrappers (Awaiting h) = wrapper_at h
 wrappers end = []
 
@@ -24,8 +24,8 @@ abbrev pub first_other : List ℕ → List ℕ → Option ℕ
 first_other ns others = find (λ n. not (is_among n others)) ns
 
 -- the first named offset that is no wrapper's
-abbrev pub first_unused : List ℕ → Forest → Option ℕ
-first_unused inside f = first_other inside (wrappers f)
+abbrev pub first_without_string : List ℕ → Forest → Option ℕ
+first_without_string inside f = first_other inside (wrappers f)
 
 -- the offsets of the wrappers that events enter
 abbrev pub wrapper_offsets : List EventValue → List ℕ

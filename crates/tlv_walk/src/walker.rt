@@ -64,14 +64,14 @@ impl Model for Walker {
 impl Walker {
     ghost use Rattle.std.specs.Prelude.{List, [], false};
     ghost use Rattle.tlv_walk.specs.Phase as phases;
-    ghost use Rattle.tlv_walk.specs.WalkerState.{first_unused_in, new_walker};
+    ghost use Rattle.tlv_walk.specs.WalkerState.{first_without_string_in, new_walker};
     ghost use Rattle.tlv_walk.specs.Private.WalkerState.{EventWaits, Steps, fault_at};
     ghost use Rattle.tlv_head.specs.declared.fault.Fault.{Fault as FaultOf};
     ghost use Rattle.tlv_walk.specs.Ending.{IsEnding, ShowsSoundness};
     ghost use Rattle.tlv_walk.specs.Events.{EventValue};
     ghost use Rattle.tlv_walk.specs.OpenCount.{open_count};
     ghost use Rattle.tlv_walk.specs.Stands.{CanTake, IsIdle, Stands};
-    ghost use Rattle.tlv_walk.specs.Wrappers.{first_unused};
+    ghost use Rattle.tlv_walk.specs.Wrappers.{first_without_string};
     ghost use Rattle.tlv_walk.specs.StepsTo.{RefusesAgain, StepsTo};
     ghost use Rattle.tlv_walk.specs.HasRead.{IfRead, StandsAtEnd};
     ghost use Rattle.tlv_walk.specs.Private.Steps.{YieldsStep};
@@ -124,8 +124,8 @@ impl Walker {
 
     /// The first of the named offsets at which no string was found whose contents are encodings.
     pub fn unused(&self) -> Option<u64>
-        ensures value { result ≡ first_unused_in self.now }
-        ensures first { IfRead self.now (λ b f. result ≡ first_unused self.now.framing.inside f) }
+        ensures value { result ≡ first_without_string_in self.now }
+        ensures first { IfRead self.now (λ b f. result ≡ first_without_string self.now.framing.inside f) }
     {
         self.framing.inside.get(self.wrapper_count)
     }

@@ -7,10 +7,10 @@ use Rattle.tlv_head.specs.Header.{HeaderValue, octets_of}
 use Rattle.tlv_head.specs.Private.Header.{AllowsSize}
 use Rattle.tlv_walk.specs.declared.follow.Go.TheVariants as go
 use Rattle.tlv_walk.specs.Events.{Begin, Bytes, End, Enter, EventValue, closing_event, events, opening_events}
-use Rattle.tlv_walk.specs.Follow.{Effect, goes_of, no_effect}
+use Rattle.tlv_walk.specs.Follow.{Effect, go_of, no_effect}
 use Rattle.tlv_walk.specs.Forest.{Forest, Stop, Fill, Whole, Closed, Partial, Entered, Awaiting, Begun, Zero}
 use Rattle.tlv_walk.specs.Forest.{end_octets, extent, is_complete, lead, opening}
-use Rattle.tlv_walk.specs.Place.{IsOpen, Place, place_after, place_inside}
+use Rattle.tlv_walk.specs.Place.{IsOpen, Place, place_after, place_of_children}
 use Rattle.tlv_walk.proofs.FollowerLemmas.Followed.{followed-enough, followed-one}
 use Rattle.tlv_cut.specs.declared.extract_follower.Position.TheVariants as position
 use Rattle.tlv_cut.specs.ExtractText.{element_at, element_text, octets_so_far}
@@ -36,7 +36,7 @@ module _ (n : ℕ) (only : Bool) where
   -- what was made is the text of this element, if there is one
   pub record IsTextOf (e : Option Forest) (t : Effect ExtractState) : Type 0 where
     pub put : t.put ≡ option_map_or (element_text only) e []
-    pub goes : t.goes ≡ goes_of (option_map_or is_complete e false)
+    pub goes : t.goes ≡ go_of (option_map_or is_complete e false)
     pub found : has_found t.state ≡ is_some e
     pub misses : e ≡ None → t ≡ no_effect before
 
@@ -54,7 +54,7 @@ module _ (n : ℕ) (only : Bool) where
       → t.goes ≡ go.On
       → has_found t.state ≡ true → IsTextOf (Some e) t
   open_text e t part octets on found =
-      record { put = octets; goes = on ∙ sym (ap goes_of part); found = found; misses = λ none. absurd (cc (none)) }
+      record { put = octets; goes = on ∙ sym (ap go_of part); found = found; misses = λ none. absurd (cc (none)) }
 
   -- it has ended
   whole_text : (e : Forest) (t : Effect ExtractState) (octets : List ℕ) → is_complete e ≡ true
@@ -62,7 +62,7 @@ module _ (n : ℕ) (only : Bool) where
       → IsTextOf (Some e) t
   whole_text e t octets whole is made = record {
     put = ap (λ (t : Effect ExtractState). t.put) made ∙ is;
-    goes = ap (λ (t : Effect ExtractState). t.goes) made ∙ sym (ap goes_of whole);
+    goes = ap (λ (t : Effect ExtractState). t.goes) made ∙ sym (ap go_of whole);
     found = ap (λ (t : Effect ExtractState). has_found t.state) made;
     misses = λ none. absurd (cc (none));
   }
@@ -195,7 +195,7 @@ module _ (n : ℕ) (only : Bool) where
       let a = element_at n inside in
       let b = element_at n rest in
       either (h.offset == n) (Some (Closed h inside Stop)) (option_or a b) refl
-      (either_there a b (whole_at (place_inside p h) inside v.1 v.0.1) (whole_at (place_after p (extent h inside)) rest v.2 w))
+      (either_there a b (whole_at (place_of_children p h) inside v.1 v.0.1) (whole_at (place_after p (extent h inside)) rest v.2 w))
   whole_at p (Partial h c) v w = absurd (cc (w))
   whole_at p (Entered h inside) v w = absurd (cc (w))
   whole_at p (Awaiting h) v w = absurd (cc (w))
@@ -224,8 +224,8 @@ module _ (n : ℕ) (only : Bool) where
       let opened = opens_other h (events inside ++ closing_event h inside ∷ events rest) e in
       first_there (element_at n inside) (element_at n rest) t
       (λ e is.
-      let whole = there_whole (element_at n inside) e is (whole_at (place_inside p h) inside v.1 v.0.1) in
-      let on = i.goes ∙ ap goes_of whole in
+      let whole = there_whole (element_at n inside) e is (whole_at (place_of_children p h) inside v.1 v.0.1) in
+      let on = i.goes ∙ ap go_of whole in
       let same = opened ∙ followed-enough extract_step before (events inside) (closing_event h inside ∷ events rest) on in
       subst (IsTextOf (element_at n inside)) (sym same) i)
       (λ none.
@@ -252,11 +252,11 @@ module _ (n : ℕ) (only : Bool) where
       choose (h.offset == n) (Some (Closed h inside Stop)) (option_or (element_at n inside) (element_at n rest))
       (made_from before (events (Closed h inside rest)))
       (λ e.
-      let k = passed_on n only (place_inside p h) 0 inside v.1 (omega arith) (omega (arith, (v.0.0.depth refl))) in
+      let k = passed_on n only (place_of_children p h) 0 inside v.1 (omega arith) (omega (arith, (v.0.0.depth refl))) in
       let all = enough es (events rest) _ (made_from-closed h inside e v.0.0.header.valid.allowed v.0.1 k) in
       whole_text (Closed h inside Stop) _ _ refl (closed_octets h inside)
       (ap (made_from before) (events-closed h inside rest) ∙ all))
-      (λ e. passed_by p h inside rest v e (makes_text (place_inside p h) inside v.1 (omega (arith, (v.0.0.depth refl))))
+      (λ e. passed_by p h inside rest v e (makes_text (place_of_children p h) inside v.1 (omega (arith, (v.0.0.depth refl))))
       (makes_text (place_after p (extent h inside)) rest v.2 deep))
   makes_text p (Partial h c) v deep =
       let es = Begin h ∷ Bytes c ∷ [] in
@@ -272,7 +272,7 @@ module _ (n : ℕ) (only : Bool) where
       choose (h.offset == n) (Some (Entered h inside)) (element_at n inside)
       (made_from before (opening_events h ++ events inside))
       (λ e.
-      let k = passed_on n only (place_inside p h) 0 inside v.1 (omega arith) (omega (arith, (v.0.0.depth refl))) in
+      let k = passed_on n only (place_of_children p h) 0 inside v.1 (omega arith) (omega (arith, (v.0.0.depth refl))) in
       let all =
       then_more before (state_inside n only 0) (outer_octets only (octets_of h) ++ lead h) (opening_events h)
       (events inside) (opens_wanted h e) in
@@ -282,7 +282,7 @@ module _ (n : ℕ) (only : Bool) where
       (ap (λ (t : Effect ExtractState). t.goes) all ∙ k.goes)
       (ap (λ (t : Effect ExtractState). has_found t.state) all ∙ k.found))
       (λ e. subst (IsTextOf (element_at n inside)) (sym (opens_other h (events inside) e))
-      (makes_text (place_inside p h) inside v.1 (omega (arith, (v.0.0.depth refl)))))
+      (makes_text (place_of_children p h) inside v.1 (omega (arith, (v.0.0.depth refl)))))
   makes_text p (Awaiting h) v deep =
       choose (h.offset == n) (Some (Awaiting h)) None (made_from before (Enter h ∷ []))
       (λ e.

@@ -7,7 +7,7 @@ use Rattle.std.proofs.lemmas.Bool.{eqb-true, true≢false}
 use Rattle.tlv_head.specs.Header.{HeaderValue, IsHeader, octets_of}
 use Rattle.tlv_walk.specs.Forest.{Forest, Stop, Fill, Whole, Closed, Partial, Entered, Awaiting, Begun, Zero}
 use Rattle.tlv_walk.specs.Forest.{end_octets, extent, is_complete, lead, opening, spell}
-use Rattle.tlv_walk.specs.Place.{IsHeadAt, IsOpen, Place, place_after, place_inside}
+use Rattle.tlv_walk.specs.Place.{IsHeadAt, IsOpen, Place, place_after, place_of_children}
 use Rattle.tlv_walk.proofs.GrammarLemmas.Spellings.{append_assoc-3, append_assoc-4}
 use Rattle.tlv_cut.specs.ExtractText.{contents_so_far, element_at, octets_so_far}
 
@@ -37,7 +37,7 @@ octets_so_far-front p (Whole h c rest) plain v =
     (sym (append_assoc (octets_of h) c (octets_so_far rest))) refl
     (octets_so_far-front (place_after p _) rest plain v.1)
 octets_so_far-front p (Closed h inside rest) plain v =
-    let i = octets_so_far-front (place_inside p h) inside refl v.1 in
+    let i = octets_so_far-front (place_of_children p h) inside refl v.1 in
     let e = end_octets h.size in
     front_of_rest (Closed h inside rest) rest (opening h ++ (spell inside ++ e))
     (sym (append_assoc-3 (opening h) (spell inside) e (spell rest)))
@@ -47,7 +47,7 @@ octets_so_far-front p (Closed h inside rest) plain v =
 octets_so_far-front p (Partial h c) plain v =
     record { rest = []; octets = sym (append-nil (octets_of h ++ c)); all = λ w. refl }
 octets_so_far-front p (Entered h inside) plain v =
-    let i = octets_so_far-front (place_inside p h) inside refl v.1 in
+    let i = octets_so_far-front (place_of_children p h) inside refl v.1 in
     record {
       rest = i.rest;
       octets = ap (λ (l : List ℕ). opening h ++ l) i.octets
@@ -158,7 +158,7 @@ module _ (n : ℕ) where
   find p (Closed h inside rest) v d some =
       let f = Closed h inside rest in
       let e = end_octets h.size in
-      let i = octets_so_far-front (place_inside p h) inside refl v.1 in
+      let i = octets_so_far-front (place_of_children p h) inside refl v.1 in
       choose p f (h.offset == n) (Closed h inside Stop) (option_or (element_at n inside) (element_at n rest)) d
       (λ is.
       first p true h f (Closed h inside Stop) (spell rest) v.0.0.header is
@@ -167,8 +167,8 @@ module _ (n : ℕ) where
       (closed_parts h inside))
       (λ _ some.
       first_there p f (element_at n inside) (element_at n rest) d
-      (λ some. further p (place_inside p h) f inside d (opening h) (e ++ spell rest) refl refl
-      (find (place_inside p h) inside v.1 d some))
+      (λ some. further p (place_of_children p h) f inside d (opening h) (e ++ spell rest) refl refl
+      (find (place_of_children p h) inside v.1 d some))
       (λ some.
       in_rest p (place_after p (extent h inside)) f rest d (opening h ++ (spell inside ++ e))
       (sym (append_assoc-3 (opening h) (spell inside) e (spell rest)))
@@ -185,14 +185,14 @@ module _ (n : ℕ) where
       some
   find p (Entered h inside) v d some =
       let f = Entered h inside in
-      let i = octets_so_far-front (place_inside p h) inside refl v.1 in
+      let i = octets_so_far-front (place_of_children p h) inside refl v.1 in
       choose p f (h.offset == n) f (element_at n inside) d
       (λ is.
       first p true h f f i.rest v.0.0.header is
       (ap (λ (l : List ℕ). opening h ++ l) i.octets ∙ sym (append_assoc (opening h) (octets_so_far inside) i.rest))
       (append_assoc (octets_of h) (lead h) (octets_so_far inside)
       ∙ ap (λ (l : List ℕ). octets_of h ++ l) (sym (append-nil (lead h ++ octets_so_far inside)))))
-      (λ _ some. in_rest p (place_inside p h) f inside d (opening h) refl refl (find (place_inside p h) inside v.1 d some))
+      (λ _ some. in_rest p (place_of_children p h) f inside d (opening h) refl refl (find (place_of_children p h) inside v.1 d some))
       some
   find p (Awaiting h) v d some =
       choose p (Awaiting h) (h.offset == n) (Awaiting h) None d

@@ -12,7 +12,7 @@ use Rattle.tlv_walk.specs.Events.{end_offset, events, opening_events}
 use Rattle.tlv_walk.specs.Follow.{Effect, and_then, effect_of, if_on}
 use Rattle.tlv_walk.specs.Forest.{Forest, Stop, Fill, Whole, Closed, Partial, Entered, Awaiting, Begun, Zero}
 use Rattle.tlv_walk.specs.Forest.{end_octets, extent, is_complete, lead, opening}
-use Rattle.tlv_walk.specs.Place.{IsOpen, Place, place_after, place_inside}
+use Rattle.tlv_walk.specs.Place.{IsOpen, Place, place_after, place_of_children}
 use Rattle.tlv_walk.proofs.FollowerLemmas.Followed.{followed-more, followed-one}
 use Rattle.tlv_cut.specs.declared.extract_follower.Position.TheVariants as position
 use Rattle.tlv_cut.specs.ExtractText.{octets_so_far}
@@ -157,7 +157,7 @@ module _ (n : ℕ) (only : Bool) where
       (append_assoc (octets_of h) c (octets_so_far rest)) refl (passed_on (place_after p _) level rest v.1 low deep)
   passed_on p level (Closed h inside rest) v low deep =
       let i : IsPassedOn (suc level) inside =
-      passed_on (place_inside p h) (suc level) inside v.1 (omega (arith, low)) (omega (arith, (v.0.0.depth refl))) in
+      passed_on (place_of_children p h) (suc level) inside v.1 (omega (arith, low)) (omega (arith, (v.0.0.depth refl))) in
       passed_on_after level (opening_events h ++ (events inside ++ closing_event h inside ∷ []))
       (opening h ++ (octets_so_far inside ++ end_octets h.size)) (Closed h inside rest) rest
       (closed_passed_on level h inside (omega (arith, low, deep)) v.0.0.header.valid.allowed v.0.1 i)
@@ -178,7 +178,7 @@ module _ (n : ℕ) (only : Bool) where
       }
   passed_on p level (Entered h inside) v low deep =
       let i : IsPassedOn (suc level) inside =
-      passed_on (place_inside p h) (suc level) inside v.1 (omega (arith, low)) (omega (arith, (v.0.0.depth refl))) in
+      passed_on (place_of_children p h) (suc level) inside v.1 (omega (arith, low)) (omega (arith, (v.0.0.depth refl))) in
       let all = then_more (state_inside level) (state_inside (suc level)) (opening h) (opening_events h) (events inside)
       (made_from-opens (state_inside level) (state_inside (suc level)) (octets_of h) h
       (one_more level h (omega (arith, low, deep)))) in

@@ -8,7 +8,7 @@ use Rattle.tlv_walk.specs.declared.run.Run.{Run}
 use Rattle.tlv_io.specs.Device.{DrainState, SourceState}
 use Rattle.tlv_walk.specs.DriveJob.{Drives, drive_state, had_enough}
 use Rattle.tlv_walk.specs.Events.{events}
-use Rattle.tlv_walk.specs.Follow.{followed_events, goes_of}
+use Rattle.tlv_walk.specs.Follow.{followed_events, go_of}
 use Rattle.tlv_walk.specs.Forest.{Forest}
 use Rattle.tlv_walk.specs.Job.{Runs}
 use Rattle.tlv_walk.specs.Place.{top_place}
@@ -21,7 +21,7 @@ use Rattle.tlv_cut.specs.ExtractJob.{extract_job}
 use Rattle.tlv_cut.proofs.ExtractLemmas.Inside.{made_from}
 use Rattle.tlv_cut.proofs.ExtractLemmas.Elements.{IsTextOf, makes_text}
 
-pub goes_alike : (j k : Bool) → goes_of j ≡ goes_of k → j ≡ k
+pub goes_alike : (j k : Bool) → go_of j ≡ go_of k → j ≡ k
 goes_alike true true e = refl
 goes_alike true false e = absurd (cc (e))
 goes_alike false true e = absurd (cc (e))

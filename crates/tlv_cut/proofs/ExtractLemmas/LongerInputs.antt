@@ -7,7 +7,7 @@ use Rattle.tlv_walk.specs.declared.follow.Go.TheVariants as go
 use Rattle.tlv_walk.specs.declared.framing.Framing.{Framing}
 use Rattle.tlv_walk.specs.Events.{AreEqualJoined, Begin, Bytes, Close, End, Enter, EventValue, Leave, Open, Unused}
 use Rattle.tlv_walk.specs.Events.{Pad, events}
-use Rattle.tlv_walk.specs.Follow.{Effect, goes_of, if_on}
+use Rattle.tlv_walk.specs.Follow.{Effect, go_of, if_on}
 use Rattle.tlv_walk.specs.Forest.{Forest}
 use Rattle.tlv_walk.specs.Place.{top_place}
 use Rattle.tlv_walk.specs.Reading.{IsPrefixOf, IsReading}
@@ -119,7 +119,7 @@ module _ (framing : Framing) (b c : List ℕ) (f g : Forest) (r : IsReading fram
   same : has_whole_element_at n f ≡ true
       → made_from (new_extract n only) (events g) ≡ made_from (new_extract n only) (events f)
   same e = longer
-      ∙ followed-enough extract_step (new_extract n only) (events f) others.0 (short_text.goes ∙ ap goes_of e)
+      ∙ followed-enough extract_step (new_extract n only) (events f) others.0 (short_text.goes ∙ ap go_of e)
 
   pub same_extract_text : has_whole_element_at n f ≡ true → extract_text n only g ≡ extract_text n only f
   same_extract_text e = sym long_text.put ∙ ap (λ (t : Effect ExtractState). t.put) (same e) ∙ short_text.put

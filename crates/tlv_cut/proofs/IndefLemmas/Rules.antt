@@ -9,7 +9,7 @@ use Rattle.tlv_head.specs.Header.{HeaderValue, announced_length, definite_length
 use Rattle.tlv_head.specs.Private.Header.{AllowsSize}
 use Rattle.tlv_walk.specs.Forest.{Forest, Stop, Fill, Whole, Closed, Partial, Entered, Awaiting, Begun, Zero}
 use Rattle.tlv_walk.specs.Forest.{extent, has_element, is_complete, lead, opening, spell}
-use Rattle.tlv_walk.specs.Place.{Fits, IsHeadAt, IsOpen, Place, place_after, place_inside}
+use Rattle.tlv_walk.specs.Place.{Fits, IsHeadAt, IsOpen, Place, place_after, place_of_children}
 use Rattle.tlv_cut.specs.IndefText.{with_indefinite_lengths, indefinite_header}
 use Rattle.tlv_cut.specs.IndefReading.{with_offsets_from}
 use Rattle.tlv_cut.proofs.Lead.{lead_by}
@@ -94,7 +94,7 @@ free_after p q m n k =
       definite = k.definite;
     }
 
-free_inside : (p q : Place) (h g : HeaderValue) → g.size ≡ Indefinite → IsFree p q → IsFree (place_inside p h) (place_inside q g)
+free_inside : (p q : Place) (h g : HeaderValue) → g.size ≡ Indefinite → IsFree p q → IsFree (place_of_children p h) (place_of_children q g)
 free_inside p q h g e k = record {
   names = k.names;
   same_names = k.same_names;
@@ -194,7 +194,7 @@ is_open p q (Closed h inside rest) k v =
         whole at inside v.0.1,
         tt,
       ),
-      is_open (place_inside p h) (place_inside q head) inside (free_inside p q h head refl k) v.1,
+      is_open (place_of_children p h) (place_of_children q head) inside (free_inside p q h head refl k) v.1,
       follows q h at (with_indefinite_lengths inside) (with_offsets_from (q.at + n) (with_indefinite_lengths rest))
           (is_open (place_after p (extent h inside)) (place_after q n) rest (free_after p q (extent h inside) n k) v.2),
     )
@@ -218,7 +218,7 @@ is_open p q (Entered h inside) k v =
         },
         λ w. tt,
       ),
-      is_open (place_inside p h) (place_inside q head) inside (free_inside p q h head refl k) v.1,
+      is_open (place_of_children p h) (place_of_children q head) inside (free_inside p q h head refl k) v.1,
     )
 is_open p q (Awaiting h) k v = absurd (awaits h (constructed_at p h k.names v.0.header) v.1)
   where

@@ -14,9 +14,9 @@ use Rattle.tlv_walk.specs.declared.follow.Go.{Go}
 use Rattle.tlv_walk.specs.Events.{Begin, Bytes, End, EventValue, Pad, closing_event, end_offset, events, opening_events}
 use Rattle.tlv_walk.specs.Follow.{Effect, effect_of}
 use Rattle.tlv_walk.specs.Forest.{Forest, Stop, Fill, Whole, Closed, Partial, Entered, Awaiting, Begun, Zero, end_octets, extent, is_complete, lead, opening, spell}
-use Rattle.tlv_walk.specs.Place.{IsOpen, Place, place_after, place_inside}
+use Rattle.tlv_walk.specs.Place.{IsOpen, Place, place_after, place_of_children}
 use Rattle.tlv_walk.proofs.GrammarLemmas.Spellings.{length-closed, length-whole}
-use Rattle.tlv_show.specs.declared.frames.Frame.{Frame}
+use Rattle.tlv_show.specs.declared.frames.SiblingFrame.{SiblingFrame}
 use Rattle.tlv_show.specs.declared.rules.Rules.{Rules}
 use Rattle.tlv_show.specs.declared.finding_lines.Style.TheVariants.{Dump}
 use Rattle.tlv_show.specs.CheckStep.{styled_lines}
@@ -30,7 +30,7 @@ use Rattle.tlv_show.specs.Items.{Item, FindingAt, OpeningLine, ClosingLine, Whol
 use Rattle.tlv_show.proofs.FindingLemmas.ElementItems.{findings_at}
 use Rattle.tlv_show.specs.Lines.{close_line, opening_line, padding_line}
 use Rattle.tlv_show.proofs.DumpLemmas.HolderLine.{holder_line}
-use Rattle.tlv_show.specs.Site.{Before, Padding, Sibling, Site, Start, is_padding, site_inside}
+use Rattle.tlv_show.specs.Site.{Before, Padding, Sibling, Site, Start, is_padding, site_of_children}
 use Rattle.tlv_show.proofs.FindingLemmas.SitesAfter.{site_after, site_after_holder, site_after_padding}
 use Rattle.tlv_show.proofs.FindingLemmas.SiteWords.{first_octet}
 use Rattle.tlv_show.specs.Texts.{item_text}
@@ -67,17 +67,17 @@ module _ (style : Layout) (names : Table) (rules : Rules) where
       ∙ ap₂ (λ (a b : List ℕ). a ++ b) (lines_of level at fs) g
       ∙ sym (split (findings_at level at fs) rest)
 
-  abbrev start : Place → Bool → Frame → List Frame → ℕ → DumpState
+  abbrev start : Place → Bool → SiblingFrame → List SiblingFrame → ℕ → DumpState
   start p padded w outer n = pair (lines_at style names p.depth p.at padded) (standing rules w outer n)
 
-  pub record IsShown (p : Place) (holder : Option HeaderValue) (before : Before) (w : Frame) (outer : List Frame) (f : Forest) : Type 0 where
+  pub record IsShown (p : Place) (holder : Option HeaderValue) (before : Before) (w : SiblingFrame) (outer : List SiblingFrame) (f : Forest) : Type 0 where
     pub text : (n : ℕ) → (effect_of dump_step (start p (is_padding before) w outer n) (events f)).put ≡ texts_of (items rules (site p holder before) f)
     pub stands : (n : ℕ) → is_complete f ≡ true → (m : ℕ)
         × ((effect_of dump_step (start p (is_padding before) w outer n) (events f)).state
         ≡ pair (lines_at style names p.depth (p.at + length (spell f)) (padded_behind style names (is_padding before) f)) (standing rules (noted_all w f) outer m))
 
   -- elements after what was shown
-  behind-shown : (p q : Place) (padded : Bool) (w : Frame) (outer : List Frame) (n m : ℕ) (v : Frame) (holder : Option HeaderValue) (before : Before) (es : List EventValue) (put : List ℕ) (rest : Forest)
+  behind-shown : (p q : Place) (padded : Bool) (w : SiblingFrame) (outer : List SiblingFrame) (n m : ℕ) (v : SiblingFrame) (holder : Option HeaderValue) (before : Before) (es : List EventValue) (put : List ℕ) (rest : Forest)
       → q.depth ≡ p.depth
       → effect_of dump_step (start p padded w outer n) es ≡ shows (start q (is_padding before) v outer m) put → IsShown q holder before v outer rest
       → effect_of dump_step (start p padded w outer n) (es ++ events rest)
@@ -86,14 +86,14 @@ module _ (style : Layout) (names : Table) (rules : Rules) where
       then_shown (start p padded w outer n) (start q (is_padding before) v outer m) put es (events rest) e
       ∙ ap (λ (l : List ℕ). record (effect_of dump_step (start q (is_padding before) v outer m) (events rest)) { put = put ++ l }) (t.text m)
 
-  abbrev Known : Place → Option HeaderValue → Before → Frame → List Frame → Type 0
+  abbrev Known : Place → Option HeaderValue → Before → SiblingFrame → List SiblingFrame → Type 0
   Known p holder before w outer = Knows w (site p holder before) × (length outer ≡ p.depth) × (p.padding ≡ true → holder ≡ None)
 
   -- an element that holds others begins
-  opened-shown : (p : Place) (holder : Option HeaderValue) (before : Before) (w : Frame) (outer : List Frame) (n : ℕ) (h : HeaderValue) → Known p holder before w outer
+  opened-shown : (p : Place) (holder : Option HeaderValue) (before : Before) (w : SiblingFrame) (outer : List SiblingFrame) (n : ℕ) (h : HeaderValue) → Known p holder before w outer
       → h.offset ≡ p.at → p.depth < 128 → p.at + length (opening h) ≤ 2 ^ 64 - 1
       → effect_of dump_step (start p (is_padding before) w outer n) (opening_events h)
-      ≡ shows (start (place_inside p h) false (frame_under w h) (w ∷ outer) (behind_header rules w h n)) (styled_lines (Dump style.pure) (length outer) h.offset (header_notes rules w h) ++ holder_line (at_level style names p.depth) h)
+      ≡ shows (start (place_of_children p h) false (frame_under w h) (w ∷ outer) (behind_header rules w h n)) (styled_lines (Dump style.pure) (length outer) h.offset (header_notes rules w h) ++ holder_line (at_level style names p.depth) h)
   opened-shown p holder before w outer n h k there low far =
       opens-by (lines_at style names p.depth p.at (is_padding before)) (standing rules w outer n) h h.constructed (h.number == 3)
       ∙ ap₂ (λ (d : Effect LinesState) (f : FinderValue). shows (pair d.state f.state) (texts style f ++ d.put))
@@ -101,7 +101,7 @@ module _ (style : Layout) (names : Table) (rules : Rules) where
       (opened-find rules w outer n h (omega (arith, k.1, low)))
 
   -- a primitive
-  primitive-shown : (p : Place) (padded : Bool) (w : Frame) (outer : List Frame) (n : ℕ) (h : HeaderValue) (c : List ℕ) → h.offset ≡ p.at → announced_length h.size ≡ length c
+  primitive-shown : (p : Place) (padded : Bool) (w : SiblingFrame) (outer : List SiblingFrame) (n : ℕ) (h : HeaderValue) (c : List ℕ) → h.offset ≡ p.at → announced_length h.size ≡ length c
       → p.at + (length (octets_of h) + length c) ≤ 2 ^ 64 - 1
       → effect_of dump_step (start p padded w outer n) (Begin h ∷ Bytes c ∷ End ∷ [])
       ≡ shows (start (place_after p (length (octets_of h) + length c)) false (behind_primitive rules w h c) outer (behind_contents rules w h c n))
@@ -112,7 +112,7 @@ module _ (style : Layout) (names : Table) (rules : Rules) where
       (primitive_shown style names p.depth p.at padded h c there size far)
       (primitive-find rules w outer n h c (sym size))
 
-  pub shows_forest : (p : Place) (holder : Option HeaderValue) (before : Before) (w : Frame) (outer : List Frame) (f : Forest) → IsOpen p f → p.at + length (spell f) ≤ 2 ^ 64 - 1 → Known p holder before w outer
+  pub shows_forest : (p : Place) (holder : Option HeaderValue) (before : Before) (w : SiblingFrame) (outer : List SiblingFrame) (f : Forest) → IsOpen p f → p.at + length (spell f) ≤ 2 ^ 64 - 1 → Known p holder before w outer
       → IsShown p holder before w outer f
   shows_forest p holder before w outer Stop v b k = record {
     text = λ n. refl;
@@ -166,7 +166,7 @@ module _ (style : Layout) (names : Table) (rules : Rules) where
   shows_forest p holder before w outer (Closed h inside rest) v b k =
       let s : Site = site p holder before in
       let q : Place = place_after p (extent h inside) in
-      let i_place : Place = place_inside p h in
+      let i_place : Place = place_of_children p h in
       let size = length-closed h inside rest in
       let i = shows_forest i_place (Some h) Start (frame_under w h) (w ∷ outer) inside v.1 (omega (arith, b, size)) (knows-inside w s h, omega (arith, k.1), λ e. absurd (cc (e))) in
       let t = shows_forest q holder (Sibling h None) (frame_after w (is_primitive h) (announced_length h.size) false) outer rest v.2 (omega (arith, b, size))
@@ -176,7 +176,7 @@ module _ (style : Layout) (names : Table) (rules : Rules) where
       let close : List ℕ = close_line (at_level style names p.depth) (end_place h inside) in
       let first : List ℕ = styled_lines (Dump style.pure) (length outer) h.offset (header_notes rules w h) in
       let last : List ℕ = styled_lines (Dump style.pure) (length outer) h.offset (end_findings rules h (heads inside)) in
-      let held : List ℕ = texts_of (items rules (site_inside s h) inside) in
+      let held : List ℕ = texts_of (items rules (site_of_children s h) inside) in
       let closes-shown : (m : ℕ) → effect_of dump_step (pair (lines_at style names (p.depth + 1) end false) (standing rules (noted_all (frame_under w h) inside) (w ∷ outer) m)) (closing_event h inside ∷ [])
       ≡ shows (start q false (frame_after w (is_primitive h) (announced_length h.size) false) outer (behind_end rules h inside m)) (close ++ last) =
       λ m.
@@ -219,10 +219,10 @@ module _ (style : Layout) (names : Table) (rules : Rules) where
         text = λ n.
             ap (λ (x : Effect DumpState). x.put) (all n)
             ∙ six first line held close last (texts_of others)
-            ∙ found-first (length outer) p.depth h.offset (header_notes rules w h) (header_findings rules s h) _ (OpeningLine p.depth h ∷ (items rules (site_inside s h) inside ++ closing)) k.1 (header-same rules w s h k.0)
+            ∙ found-first (length outer) p.depth h.offset (header_notes rules w h) (header_findings rules s h) _ (OpeningLine p.depth h ∷ (items rules (site_of_children s h) inside ++ closing)) k.1 (header-same rules w s h k.0)
             (ap (λ (l : List ℕ). line ++ l)
             (ap (λ (l : List ℕ). held ++ (close ++ l)) (found-first (length outer) p.depth h.offset (end_findings rules h (heads inside)) (end_findings rules h (heads inside)) (texts_of others) others k.1 refl refl)
-            ∙ sym (split (items rules (site_inside s h) inside) closing)));
+            ∙ sym (split (items rules (site_of_children s h) inside) closing)));
         stands = λ n e.
             let r = t.stands (element n).0 e in (
               r.0,
@@ -247,17 +247,17 @@ module _ (style : Layout) (names : Table) (rules : Rules) where
   shows_forest p holder before w outer (Entered h inside) v b k =
       let s : Site = site p holder before in
       let size = length-append (opening h) (spell inside) in
-      let i = shows_forest (place_inside p h) (Some h) Start (frame_under w h) (w ∷ outer) inside v.1 (omega (arith, b, size)) (knows-inside w s h, omega (arith, k.1), λ e. absurd (cc (e))) in
+      let i = shows_forest (place_of_children p h) (Some h) Start (frame_under w h) (w ∷ outer) inside v.1 (omega (arith, b, size)) (knows-inside w s h, omega (arith, k.1), λ e. absurd (cc (e))) in
       let first : List ℕ = styled_lines (Dump style.pure) (length outer) h.offset (header_notes rules w h) in
       let line : List ℕ = holder_line (at_level style names p.depth) h in
       record {
         text = λ n.
             ap (λ (x : Effect DumpState). x.put)
-            (then_shown (start p (is_padding before) w outer n) (start (place_inside p h) false (frame_under w h) (w ∷ outer) (behind_header rules w h n)) (first ++ line) (opening_events h) (events inside)
+            (then_shown (start p (is_padding before) w outer n) (start (place_of_children p h) false (frame_under w h) (w ∷ outer) (behind_header rules w h n)) (first ++ line) (opening_events h) (events inside)
             (opened-shown p holder before w outer n h k v.0.0.header.offset (v.0.0.depth refl) (omega (arith, b, size))))
             ∙ ap (λ (l : List ℕ). (first ++ line) ++ l) (i.text (behind_header rules w h n))
-            ∙ append_assoc first line (texts_of (items rules (site_inside s h) inside))
-            ∙ found-first (length outer) p.depth h.offset (header_notes rules w h) (header_findings rules s h) _ (OpeningLine p.depth h ∷ items rules (site_inside s h) inside) k.1 (header-same rules w s h k.0) refl;
+            ∙ append_assoc first line (texts_of (items rules (site_of_children s h) inside))
+            ∙ found-first (length outer) p.depth h.offset (header_notes rules w h) (header_findings rules s h) _ (OpeningLine p.depth h ∷ items rules (site_of_children s h) inside) k.1 (header-same rules w s h k.0) refl;
         stands = λ n e. absurd (cc (e));
       }
   shows_forest p holder before w outer (Awaiting h) v b k = record {

@@ -15,7 +15,7 @@ use Rattle.tlv_walk.specs.Follow.{Effect, HasEffectOrNone, contents_in, effect_o
 use Rattle.tlv_io.specs.Out.{Puts}
 use Rattle.tlv_walk.proofs.FollowerLemmas.Followed.{followed-one}
 use Rattle.tlv_io.proofs.Puts.{puts_nothing, puts_text}
-use Rattle.tlv_show.specs.declared.frames.Frame.{Frame}
+use Rattle.tlv_show.specs.declared.frames.SiblingFrame.{SiblingFrame}
 use Rattle.tlv_show.specs.declared.finding_lines.Style.TheVariants.{Check}
 use Rattle.tlv_show.specs.CheckStep.{check_step, findings_effect, styled_lines}
 use Rattle.tlv_show.specs.FinderState.{FinderState, FinderValue, count_up, find_begin, find_bytes, frame_after, frame_after_segment, header_notes}
@@ -39,7 +39,7 @@ usual_primitive h primitive form = record {
 none-counted : (n : ℕ) → count_up n 0 ≡ n
 none-counted n = omega arith
 
-outside : (w : Frame) (size : ℕ) (unused : Bool) → w.has_segments ≡ false → frame_after w true size unused ≡ w
+outside : (w : SiblingFrame) (size : ℕ) (unused : Bool) → w.has_segments ≡ false → frame_after w true size unused ≡ w
 outside w size unused e = ap (λ (b : Bool). if b then frame_after_segment w true size unused else w) e
 
 -- after a primitive with which nothing is found, outside of strings
@@ -50,11 +50,11 @@ pub passed : (s : FinderState) (h : HeaderValue) (c : List ℕ) → announced_le
     → header_notes s.rules s.frame h ≡ [] → findings_on_contents h c ≡ []
     → find_whole s h c ≡ record { state = behind s; level = length s.outer; at = h.offset; found = [] }
 passed s h c size w header contents =
-    let at : Frame → ℕ → List Finding → FinderValue = λ (f : Frame) (n : ℕ) (fs : List Finding). record { state = standing s.rules f s.outer (count_up n (length fs)); level = length s.outer; at = h.offset; found = fs } in
+    let at : SiblingFrame → ℕ → List Finding → FinderValue = λ (f : SiblingFrame) (n : ℕ) (fs : List Finding). record { state = standing s.rules f s.outer (count_up n (length fs)); level = length s.outer; at = h.offset; found = fs } in
     primitive-find s.rules s.frame s.outer s.count h c (sym size)
     ∙ ap (λ (fs : List Finding). at (behind_primitive s.rules s.frame h c) (count_up s.count (length (header_notes s.rules s.frame h))) (filter (shows s.rules) fs)) contents
     ∙ ap (λ (fs : List Finding). at (behind_primitive s.rules s.frame h c) (count_up s.count (length fs)) []) header
-    ∙ ap (λ (f : Frame). at f (count_up s.count 0) []) (outside s.frame _ _ w)
+    ∙ ap (λ (f : SiblingFrame). at f (count_up s.count 0) []) (outside s.frame _ _ w)
     ∙ ap (λ (n : ℕ). record { state = standing s.rules s.frame s.outer n; level = length s.outer; at = h.offset; found = [] }) (none-counted (count_up s.count 0) ∙ none-counted s.count)
 
 pub passes : (old new : FinderValue) (h : HeaderValue) (c : List ℕ) → announced_length h.size ≡ length c → old.state.frame.has_segments ≡ false

@@ -15,7 +15,7 @@ use Rattle.tlv_show.proofs.FindingLemmas.EndFindings.{end_findings}
 use Rattle.tlv_show.specs.Items.{Item, FindingAt, OpeningLine, ClosingLine, WholePrimitive, OpenPrimitive, PaddingLine, heads, items}
 use Rattle.tlv_show.proofs.FindingLemmas.ElementItems.{findings_at}
 use Rattle.tlv_show.specs.Laws.{BasicFindingsStay, is_basic}
-use Rattle.tlv_show.specs.Site.{Site, is_padding, site_inside, top_site}
+use Rattle.tlv_show.specs.Site.{Site, is_padding, site_of_children, top_site}
 use Rattle.tlv_show.proofs.FindingLemmas.SitesAfter.{site_after, site_after_holder, site_after_padding}
 use Rattle.tlv_show.specs.Texts.{check_line}
 use Rattle.tlv_show.proofs.FindingLemmas.CheckFolds.{only-written}
@@ -66,13 +66,13 @@ module _ (rules : Rules) where
       (same-found s.level h.offset (findings_on_contents h c) _ _ (same (site_after s h c) rest))
   same s (Closed h inside rest) =
       let last : Rules → List Item = λ r. ClosingLine s.level (end_place h inside) ∷ (findings_at s.level h.offset (end_findings r h (heads inside)) ++ items r (site_after_holder s h inside) rest) in
-      same-found s.level h.offset (findings_by (header_conditions s h)) (OpeningLine s.level h ∷ (items Ber (site_inside s h) inside ++ last Ber)) (OpeningLine s.level h ∷ (items rules (site_inside s h) inside ++ last rules))
-      (filter-append _ (items Ber (site_inside s h) inside) (last Ber)
-      ∙ ap₂ (λ (a b : List Item). a ++ b) (same (site_inside s h) inside) (same-found s.level h.offset (findings_by (end_conditions h (heads inside))) _ _ (same (site_after_holder s h inside) rest))
-      ∙ sym (filter-append is_basic (items rules (site_inside s h) inside) (last rules)))
+      same-found s.level h.offset (findings_by (header_conditions s h)) (OpeningLine s.level h ∷ (items Ber (site_of_children s h) inside ++ last Ber)) (OpeningLine s.level h ∷ (items rules (site_of_children s h) inside ++ last rules))
+      (filter-append _ (items Ber (site_of_children s h) inside) (last Ber)
+      ∙ ap₂ (λ (a b : List Item). a ++ b) (same (site_of_children s h) inside) (same-found s.level h.offset (findings_by (end_conditions h (heads inside))) _ _ (same (site_after_holder s h inside) rest))
+      ∙ sym (filter-append is_basic (items rules (site_of_children s h) inside) (last rules)))
   same s (Partial h c) = same-found s.level h.offset (findings_by (header_conditions s h)) (OpenPrimitive s.level h c ∷ []) (OpenPrimitive s.level h c ∷ []) refl
   same s (Entered h inside) =
-      same-found s.level h.offset (findings_by (header_conditions s h)) (OpeningLine s.level h ∷ items Ber (site_inside s h) inside) (OpeningLine s.level h ∷ items rules (site_inside s h) inside) (same (site_inside s h) inside)
+      same-found s.level h.offset (findings_by (header_conditions s h)) (OpeningLine s.level h ∷ items Ber (site_of_children s h) inside) (OpeningLine s.level h ∷ items rules (site_of_children s h) inside) (same (site_of_children s h) inside)
   same s (Awaiting h) = same-found s.level h.offset (findings_by (header_conditions s h)) (OpeningLine s.level h ∷ []) (OpeningLine s.level h ∷ []) refl
   same s (Begun octets) = refl
   same s Zero = refl

@@ -14,11 +14,11 @@ use Rattle.tlv_walk.specs.declared.framing.Framing.{Framing}
 use Rattle.tlv_walk.specs.Events.{Begin, Bytes, Close, End, Enter, EventValue, Leave, Open, Pad, Unused, events}
 use Rattle.tlv_walk.specs.Follow.{Effect, effect_of, if_on}
 use Rattle.tlv_walk.specs.Forest.{Forest, Stop, Fill, Whole, Closed, Partial, Entered, Awaiting, Begun, Zero, extent, opening, spell}
-use Rattle.tlv_walk.specs.Place.{IsOpen, Place, place_after, place_inside, top_place}
+use Rattle.tlv_walk.specs.Place.{IsOpen, Place, place_after, place_of_children, top_place}
 use Rattle.tlv_walk.specs.Reading.{IsReading}
 use Rattle.tlv_walk.proofs.GrammarLemmas.PopHeaders.{header-length}
 use Rattle.tlv_walk.proofs.GrammarLemmas.Spellings.{length-closed, length-opening, length-whole}
-use Rattle.tlv_show.specs.declared.frames.Frame.{Frame}
+use Rattle.tlv_show.specs.declared.frames.SiblingFrame.{SiblingFrame}
 use Rattle.tlv_show.specs.declared.rules.Rules.{Rules}
 use Rattle.tlv_show.specs.declared.finding_lines.Style.TheVariants.{Check}
 use Rattle.tlv_show.specs.CheckJob.{check_job}
@@ -31,7 +31,7 @@ use Rattle.tlv_show.specs.Found.{contents_findings, header_findings, shows}
 use Rattle.tlv_show.proofs.FindingLemmas.EndFindings.{end_findings}
 use Rattle.tlv_show.specs.Items.{Item, FindingAt, OpeningLine, ClosingLine, WholePrimitive, OpenPrimitive, PaddingLine, heads, items}
 use Rattle.tlv_show.proofs.FindingLemmas.ElementItems.{findings_at}
-use Rattle.tlv_show.specs.Site.{Site, is_padding, site_inside, top_site}
+use Rattle.tlv_show.specs.Site.{Site, is_padding, site_of_children, top_site}
 use Rattle.tlv_show.proofs.FindingLemmas.SitesAfter.{site_after, site_after_holder, site_after_padding}
 use Rattle.tlv_show.specs.Texts.{check_line, finding_count, is_finding}
 use Rattle.tlv_show.proofs.FindingLemmas.CheckLaws.{step-is}
@@ -83,7 +83,7 @@ by-value : (s : FinderState) (v : Option OpenValue) → (find_value_end s v).sta
 by-value s None = count-none s.count
 by-value s (Some v) = refl
 
-by-frames : (s : FinderState) (outer : List Frame) → (find_frame_end s outer).state.count ≡ count_up s.count (length (find_frame_end s outer).found)
+by-frames : (s : FinderState) (outer : List SiblingFrame) → (find_frame_end s outer).state.count ≡ count_up s.count (length (find_frame_end s outer).found)
 by-frames s [] = count-none s.count
 by-frames s (w ∷ outer) = refl
 
@@ -160,12 +160,12 @@ module _ (rules : Rules) where
       let a = few-at s.level h.offset (header_findings rules s h) (WholePrimitive s.level h c ∷ inner) 14 _ (few-header s h) b in
       omega (arith, a, header-length h v.0.0.header.valid, length-whole h c rest)
   few p s (Closed h inside rest) v =
-      let i = few (place_inside p h) (site_inside s h) inside v.1 in
+      let i = few (place_of_children p h) (site_of_children s h) inside v.1 in
       let r = few (place_after p (extent h inside)) (site_after_holder s h inside) rest v.2 in
       let last : List Item = findings_at s.level h.offset (end_findings rules h (heads inside)) ++ items rules (site_after_holder s h inside) rest in
       let b = few-at s.level h.offset (end_findings rules h (heads inside)) (items rules (site_after_holder s h inside) rest) 2 _ (few-end h inside) r in
-      let m = few-both (items rules (site_inside s h) inside) (ClosingLine s.level (end_place h inside) ∷ last) _ _ i b in
-      let a = few-at s.level h.offset (header_findings rules s h) (OpeningLine s.level h ∷ (items rules (site_inside s h) inside ++ ClosingLine s.level (end_place h inside) ∷ last)) 14 _ (few-header s h) m in
+      let m = few-both (items rules (site_of_children s h) inside) (ClosingLine s.level (end_place h inside) ∷ last) _ _ i b in
+      let a = few-at s.level h.offset (header_findings rules s h) (OpeningLine s.level h ∷ (items rules (site_of_children s h) inside ++ ClosingLine s.level (end_place h inside) ∷ last)) 14 _ (few-header s h) m in
       omega (arith, a, header-length h v.0.0.header.valid, length-closed h inside rest, length-opening h)
     where
       few-both : (xs ys : List Item) (n m : ℕ) → length (only xs) ≤ n → length (only ys) ≤ m → length (only (xs ++ ys)) ≤ n + m
@@ -174,8 +174,8 @@ module _ (rules : Rules) where
       let a = few-at s.level h.offset (header_findings rules s h) (OpenPrimitive s.level h c ∷ []) 14 0 (few-header s h) (omega arith) in
       omega (arith, a, header-length h v.0.header.valid, length-append (octets_of h) c)
   few p s (Entered h inside) v =
-      let i = few (place_inside p h) (site_inside s h) inside v.1 in
-      let a = few-at s.level h.offset (header_findings rules s h) (OpeningLine s.level h ∷ items rules (site_inside s h) inside) 14 _ (few-header s h) i in
+      let i = few (place_of_children p h) (site_of_children s h) inside v.1 in
+      let a = few-at s.level h.offset (header_findings rules s h) (OpeningLine s.level h ∷ items rules (site_of_children s h) inside) 14 _ (few-header s h) i in
       omega (arith, a, header-length h v.0.0.header.valid, length-append (opening h) (spell inside), length-opening h)
   few p s (Awaiting h) v =
       let a = few-at s.level h.offset (header_findings rules s h) (OpeningLine s.level h ∷ []) 14 0 (few-header s h) (omega arith) in

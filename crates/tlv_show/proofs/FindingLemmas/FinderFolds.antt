@@ -11,14 +11,14 @@ use Rattle.tlv_value.specs.Types.{bit_string, has_segments, is_a, is_primitive, 
 use Rattle.tlv_value.proofs.CheckLemmas.CheckPieces.{checked-none}
 use Rattle.tlv_walk.specs.Forest.{Forest, Stop, Fill, Whole, Closed, Partial, Entered, Awaiting, Begun, Zero, extent, is_complete}
 use Rattle.tlv_walk.specs.Place.{IsOpen, Place, place_after}
-use Rattle.tlv_show.specs.declared.frames.Frame.{Frame}
+use Rattle.tlv_show.specs.declared.frames.SiblingFrame.{SiblingFrame}
 use Rattle.tlv_show.specs.declared.rules.Rules.{Rules}
 use Rattle.tlv_show.specs.declared.rules.Rules.TheVariants.{Ber, Der, Cer}
 use Rattle.tlv_show.specs.Conditions.{end_conditions, ends_empty, follows_unused_bits, is_not_full}
 use Rattle.tlv_show.specs.FinderState.{end_notes, frame_after, frame_after_segment, frame_of, frame_under, top_frame}
 use Rattle.tlv_show.proofs.FindingLemmas.EndFindings.{end_findings}
 use Rattle.tlv_show.specs.Items.{heads}
-use Rattle.tlv_show.specs.Site.{Sibling, Site, in_bit_string, in_string, site_inside}
+use Rattle.tlv_show.specs.Site.{Sibling, Site, in_bit_string, in_string, site_of_children}
 use Rattle.tlv_show.proofs.FindingLemmas.SitesAfter.{site_after_padding}
 use Rattle.tlv_show.proofs.FindingLemmas.SiteWords.{first_octet, is_held_by}
 use Rattle.tlv_show.proofs.FindingLemmas.HeaderNotes.{Knows, end-by, ends-are, ends_by, filter-held}
@@ -29,13 +29,13 @@ never : (k : Bool) → false ≡ (k && false)
 never true = refl
 never false = refl
 
-pub knows-inside : (w : Frame) (s : Site) (h : HeaderValue) → Knows (frame_under w h) (site_inside s h)
+pub knows-inside : (w : SiblingFrame) (s : Site) (h : HeaderValue) → Knows (frame_under w h) (site_of_children s h)
 knows-inside w s h = by w.has_segments (has_segments h) refl
   where
-    of-string : Knows (frame_of h) (site_inside s h)
+    of-string : Knows (frame_of h) (site_of_children s h)
     of-string = record { segments = refl; bits = refl; unused = never (has_segments h); not_full = never (has_segments h) }
 
-    by : (outside inside : Bool) → has_segments h ≡ inside → Knows (if outside || inside then frame_of h else top_frame) (site_inside s h)
+    by : (outside inside : Bool) → has_segments h ≡ inside → Knows (if outside || inside then frame_of h else top_frame) (site_of_children s h)
     by true inside e = of-string
     by false true e = of-string
     by false false e = record {
@@ -68,7 +68,7 @@ unused-of h (x ∷ c) e =
     let t : eqb (type_number h) bit_string ≡ is_a bit_string h = type-is (is_universal h.class) h.number in
     unused-at (is_a bit_string h) (type_number h) (announced_length h.size) x c t ∙ ap (λ (k : Bool). not k && is_a bit_string h && not (x == 0)) (sym e)
 
-pub knows-behind : (w : Frame) (s t : Site) (h : HeaderValue) (first : Option ℕ) (unused : Bool) → Knows w s → t.holder ≡ s.holder → t.before ≡ Sibling h first
+pub knows-behind : (w : SiblingFrame) (s t : Site) (h : HeaderValue) (first : Option ℕ) (unused : Bool) → Knows w s → t.holder ≡ s.holder → t.before ≡ Sibling h first
     → unused ≡ follows_unused_bits (Sibling h first) → Knows (frame_after w (is_primitive h) (announced_length h.size) unused) t
 knows-behind w s t h first unused k e b u =
     let same : in_string s ≡ in_string t = ap (is_held_by has_segments) (sym e) in
@@ -95,7 +95,7 @@ knows-behind w s t h first unused k e b u =
           not_full = k.not_full ∙ ap (λ (x : Bool). x && is_not_full s.before) outside ∙ ap (λ (x : Bool). x && is_not_full t.before) still;
         }
 
-pub knows-padding : (w : Frame) (s : Site) → Knows w s → s.holder ≡ None → Knows w (site_after_padding s)
+pub knows-padding : (w : SiblingFrame) (s : Site) → Knows w s → s.holder ≡ None → Knows w (site_after_padding s)
 knows-padding w s k e =
     let none : in_string s ≡ false = ap (is_held_by has_segments) e in
     record {
@@ -106,7 +106,7 @@ knows-padding w s k e =
     }
 
 -- a frame after elements of which none is open
-abbrev pub noted_all : Frame → Forest → Frame
+abbrev pub noted_all : SiblingFrame → Forest → SiblingFrame
 noted_all w Stop = w
 noted_all w (Fill rest) = noted_all w rest
 noted_all w (Whole h c rest) = noted_all (frame_after w true (announced_length h.size) (has_unused_bits (check_after (new_check h) c))) rest
@@ -118,7 +118,7 @@ noted_all w (Begun octets) = w
 noted_all w Zero = w
 
 -- the same of the segments of a string
-abbrev segments_noted : Frame → Forest → Frame
+abbrev segments_noted : SiblingFrame → Forest → SiblingFrame
 segments_noted w Stop = w
 segments_noted w (Fill rest) = segments_noted w rest
 segments_noted w (Whole h c rest) = segments_noted (frame_after_segment w true (announced_length h.size) (has_unused_bits (check_after (new_check h) c))) rest
@@ -129,31 +129,31 @@ segments_noted w (Awaiting h) = w
 segments_noted w (Begun octets) = w
 segments_noted w Zero = w
 
-in-string : (w : Frame) (primitive : Bool) (size : ℕ) (unused : Bool) → w.has_segments ≡ true → frame_after w primitive size unused ≡ frame_after_segment w primitive size unused
+in-string : (w : SiblingFrame) (primitive : Bool) (size : ℕ) (unused : Bool) → w.has_segments ≡ true → frame_after w primitive size unused ≡ frame_after_segment w primitive size unused
 in-string w primitive size unused e = ap (λ (k : Bool). if k then frame_after_segment w primitive size unused else w) e
 
-outside : (w : Frame) (primitive : Bool) (size : ℕ) (unused : Bool) → w.has_segments ≡ false → frame_after w primitive size unused ≡ w
+outside : (w : SiblingFrame) (primitive : Bool) (size : ℕ) (unused : Bool) → w.has_segments ≡ false → frame_after w primitive size unused ≡ w
 outside w primitive size unused e = ap (λ (k : Bool). if k then frame_after_segment w primitive size unused else w) e
 
-all-in-string : (w : Frame) (f : Forest) → w.has_segments ≡ true → noted_all w f ≡ segments_noted w f
+all-in-string : (w : SiblingFrame) (f : Forest) → w.has_segments ≡ true → noted_all w f ≡ segments_noted w f
 all-in-string w Stop e = refl
 all-in-string w (Fill rest) e = all-in-string w rest e
 all-in-string w (Whole h c rest) e =
     let u : Bool = has_unused_bits (check_after (new_check h) c) in
-    ap (λ (t : Frame). noted_all t rest) (in-string w true (announced_length h.size) u e) ∙ all-in-string (frame_after_segment w true (announced_length h.size) u) rest e
+    ap (λ (t : SiblingFrame). noted_all t rest) (in-string w true (announced_length h.size) u e) ∙ all-in-string (frame_after_segment w true (announced_length h.size) u) rest e
 all-in-string w (Closed h inside rest) e =
-    ap (λ (t : Frame). noted_all t rest) (in-string w (is_primitive h) (announced_length h.size) false e) ∙ all-in-string (frame_after_segment w (is_primitive h) (announced_length h.size) false) rest e
+    ap (λ (t : SiblingFrame). noted_all t rest) (in-string w (is_primitive h) (announced_length h.size) false e) ∙ all-in-string (frame_after_segment w (is_primitive h) (announced_length h.size) false) rest e
 all-in-string w (Partial h c) e = refl
 all-in-string w (Entered h inside) e = refl
 all-in-string w (Awaiting h) e = refl
 all-in-string w (Begun octets) e = refl
 all-in-string w Zero e = refl
 
-all-outside : (w : Frame) (f : Forest) → w.has_segments ≡ false → noted_all w f ≡ w
+all-outside : (w : SiblingFrame) (f : Forest) → w.has_segments ≡ false → noted_all w f ≡ w
 all-outside w Stop e = refl
 all-outside w (Fill rest) e = all-outside w rest e
-all-outside w (Whole h c rest) e = ap (λ (t : Frame). noted_all t rest) (outside w true (announced_length h.size) (has_unused_bits (check_after (new_check h) c)) e) ∙ all-outside w rest e
-all-outside w (Closed h inside rest) e = ap (λ (t : Frame). noted_all t rest) (outside w (is_primitive h) (announced_length h.size) false e) ∙ all-outside w rest e
+all-outside w (Whole h c rest) e = ap (λ (t : SiblingFrame). noted_all t rest) (outside w true (announced_length h.size) (has_unused_bits (check_after (new_check h) c)) e) ∙ all-outside w rest e
+all-outside w (Closed h inside rest) e = ap (λ (t : SiblingFrame). noted_all t rest) (outside w (is_primitive h) (announced_length h.size) false e) ∙ all-outside w rest e
 all-outside w (Partial h c) e = refl
 all-outside w (Entered h inside) e = refl
 all-outside w (Awaiting h) e = refl
@@ -161,22 +161,22 @@ all-outside w (Begun octets) e = refl
 all-outside w Zero e = refl
 
 -- what a frame says of the holder
-pub record Stays (w t : Frame) : Type 0 where
+pub record Stays (w t : SiblingFrame) : Type 0 where
   pub at : t.at ≡ w.at
   pub size : t.size ≡ w.size
   pub primitive : t.is_primitive ≡ w.is_primitive
 
-stays-noted : (w : Frame) (primitive : Bool) (size : ℕ) (unused : Bool) → Stays w (frame_after w primitive size unused)
+stays-noted : (w : SiblingFrame) (primitive : Bool) (size : ℕ) (unused : Bool) → Stays w (frame_after w primitive size unused)
 stays-noted w primitive size unused = by w.has_segments
   where
     by : (k : Bool) → Stays w (if k then frame_after_segment w primitive size unused else w)
     by true = record { at = refl; size = refl; primitive = refl }
     by false = record { at = refl; size = refl; primitive = refl }
 
-stays-then : {u w t : Frame} → Stays u w → Stays w t → Stays u t
+stays-then : {u w t : SiblingFrame} → Stays u w → Stays w t → Stays u t
 stays-then a b = record { at = b.at ∙ a.at; size = b.size ∙ a.size; primitive = b.primitive ∙ a.primitive }
 
-stays : (w : Frame) (f : Forest) → Stays w (noted_all w f)
+stays : (w : SiblingFrame) (f : Forest) → Stays w (noted_all w f)
 stays w Stop = record { at = refl; size = refl; primitive = refl }
 stays w (Fill rest) = stays w rest
 stays w (Whole h c rest) = stays-then (stays-noted w true (announced_length h.size) (has_unused_bits (check_after (new_check h) c))) (stays (frame_after w true (announced_length h.size) (has_unused_bits (check_after (new_check h) c))) rest)
@@ -198,7 +198,7 @@ added bits n hs = fold (λ (m : ℕ) (g : HeaderValue). m + (announced_length g.
 abbrev bit_of : Bool → ℕ
 bit_of b = if b then 1 else 0
 
-record SumsUp (w : Frame) (n : ℕ) (f : Forest) : Type 0 where
+record SumsUp (w : SiblingFrame) (n : ℕ) (f : Forest) : Type 0 where
   pub segments : (segments_noted w f).has_segments ≡ w.has_segments
   pub bits : (segments_noted w f).has_bits ≡ w.has_bits
   pub all : (segments_noted w f).all_primitive ≡ (w.all_primitive && list_all is_primitive (heads f))
@@ -212,7 +212,7 @@ and-true false = refl
 more-octets : (w n d : ℕ) → w ≡ min n 1001 → min (w + d) 1001 ≡ min (n + d) 1001
 more-octets w n d e = omega (arith, e)
 
-sums-up : (p : Place) (w : Frame) (n : ℕ) (f : Forest) → IsOpen p f → is_complete f ≡ true → w.octets ≡ min n 1001 → SumsUp w n f
+sums-up : (p : Place) (w : SiblingFrame) (n : ℕ) (f : Forest) → IsOpen p f → is_complete f ≡ true → w.octets ≡ min n 1001 → SumsUp w n f
 sums-up p w n Stop v e o =
     record { segments = refl; bits = refl; all = and-true w.all_primitive; octets = o; empty = refl }
 sums-up p w n (Fill rest) v e o =
@@ -249,7 +249,7 @@ sums-up p w n Zero v e o = absurd (cc (e))
 segments-summed : (rules : Rules) (p : Place) (h : HeaderValue) (inside : Forest) → IsOpen p inside → is_complete inside ≡ true → end_notes rules (segments_noted (frame_of h) inside) ≡ end_findings rules h (heads inside)
 segments-summed rules p h inside v e =
     let r = sums-up p (frame_of h) 0 inside v e refl in
-    let w : Frame = segments_noted (frame_of h) inside in
+    let w : SiblingFrame = segments_noted (frame_of h) inside in
     let k : Bool = has_segments h in
     let b : Bool = is_a bit_string h in
     ends-are rules w
@@ -260,7 +260,7 @@ segments-summed rules p h inside v e =
     ∙ sym (filter-held rules (end_conditions h (heads inside)))
 
 -- outside of strings nothing is found with an end
-no-ends : (rules : Rules) (w : Frame) → w.has_segments ≡ false → end_notes rules w ≡ []
+no-ends : (rules : Rules) (w : SiblingFrame) → w.has_segments ≡ false → end_notes rules w ≡ []
 no-ends Ber w e = refl
 no-ends Der w e = refl
 no-ends Cer w e = rw e refl
@@ -278,7 +278,7 @@ summed rules p h inside v e = by-segments (has_segments h) refl
 
 -- ---- the same if nothing is to be known of what was held
 
-module _ (rules : Rules) (p : Place) (w : Frame) (h : HeaderValue) (inside : Forest) (v : IsOpen p inside) (whole : is_complete inside ≡ true) where
+module _ (rules : Rules) (p : Place) (w : SiblingFrame) (h : HeaderValue) (inside : Forest) (v : IsOpen p inside) (whole : is_complete inside ≡ true) where
   -- an element that is no string: nothing is found with its end
   nothing-ends : has_segments h ≡ false → end_findings rules h (heads inside) ≡ []
   nothing-ends e = sym (summed rules p h inside v whole) ∙ ap (end_notes rules) (all-outside (frame_of h) inside e) ∙ no-ends rules (frame_of h) e
@@ -308,12 +308,12 @@ module _ (rules : Rules) (p : Place) (w : Frame) (h : HeaderValue) (inside : For
           ap (put at) (nothing-ends e) ∙ none at ∙ sym (ap (put h.offset) (nothing-ends e) ∙ none h.offset)
 
 -- the holder of an element asks for its form and size only if it is a string
-pub noted-under : (w : Frame) (h : HeaderValue) (inside : Forest) → frame_after w (noted_all (frame_under w h) inside).is_primitive (noted_all (frame_under w h) inside).size false ≡ frame_after w (is_primitive h) (announced_length h.size) false
+pub noted-under : (w : SiblingFrame) (h : HeaderValue) (inside : Forest) → frame_after w (noted_all (frame_under w h) inside).is_primitive (noted_all (frame_under w h) inside).size false ≡ frame_after w (is_primitive h) (announced_length h.size) false
 noted-under w h inside = by w.has_segments refl
   where
     by : (k : Bool) → w.has_segments ≡ k
         → frame_after w (noted_all (if k || has_segments h then frame_of h else top_frame) inside).is_primitive (noted_all (if k || has_segments h then frame_of h else top_frame) inside).size false ≡ frame_after w (is_primitive h) (announced_length h.size) false
     by true e = let r = stays (frame_of h) inside in ap₂ (λ (b : Bool) (size : ℕ). frame_after w b size false) r.primitive r.size
     by false e =
-        let f : Frame = noted_all (if has_segments h then frame_of h else top_frame) inside in
+        let f : SiblingFrame = noted_all (if has_segments h then frame_of h else top_frame) inside in
         outside w f.is_primitive f.size false e ∙ sym (outside w (is_primitive h) (announced_length h.size) false e)

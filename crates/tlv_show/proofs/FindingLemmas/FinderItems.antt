@@ -12,8 +12,8 @@ use Rattle.tlv_value.specs.Types.{is_primitive}
 use Rattle.tlv_value.proofs.CheckLemmas.CheckPieces.{checked-none, findings-end}
 use Rattle.tlv_walk.specs.Events.{Begin, Bytes, Close, End, Enter, EventValue, Leave, Open, Unused, closing_event, end_offset, events, opening_events}
 use Rattle.tlv_walk.specs.Forest.{Forest, Stop, Fill, Whole, Closed, Partial, Entered, Awaiting, Begun, Zero, extent, is_complete, opening, spell}
-use Rattle.tlv_walk.specs.Place.{IsOpen, Place, place_after, place_inside}
-use Rattle.tlv_show.specs.declared.frames.Frame.{Frame}
+use Rattle.tlv_walk.specs.Place.{IsOpen, Place, place_after, place_of_children}
+use Rattle.tlv_show.specs.declared.frames.SiblingFrame.{SiblingFrame}
 use Rattle.tlv_show.specs.declared.rules.Rules.{Rules}
 use Rattle.tlv_show.specs.EndPlace.{end_place}
 use Rattle.tlv_show.specs.FinderState.{FinderState, FinderValue, contents_notes, count_up, find_begin, find_bytes, find_close, find_end, find_open, frame_after, frame_under, header_notes}
@@ -22,7 +22,7 @@ use Rattle.tlv_show.specs.Found.{contents_findings, header_findings, shows}
 use Rattle.tlv_show.proofs.FindingLemmas.EndFindings.{end_findings}
 use Rattle.tlv_show.specs.Items.{Item, FindingAt, OpeningLine, ClosingLine, WholePrimitive, OpenPrimitive, PaddingLine, heads, items}
 use Rattle.tlv_show.proofs.FindingLemmas.ElementItems.{findings_at}
-use Rattle.tlv_show.specs.Site.{Site, is_padding, site_inside}
+use Rattle.tlv_show.specs.Site.{Site, is_padding, site_of_children}
 use Rattle.tlv_show.proofs.FindingLemmas.SitesAfter.{site_after, site_after_holder, site_after_padding}
 use Rattle.tlv_show.proofs.FindingLemmas.SiteWords.{first_octet}
 use Rattle.tlv_show.specs.Texts.{is_finding}
@@ -100,15 +100,15 @@ primitive-found s h c e =
 
 module _ (rules : Rules) where
   -- between two elements
-  abbrev pub standing : Frame → List Frame → ℕ → FinderState
+  abbrev pub standing : SiblingFrame → List SiblingFrame → ℕ → FinderState
   standing w outer n = record { rules = rules; frame = w; outer = outer; value = None; count = n }
 
-  abbrev pub behind_header : Frame → HeaderValue → ℕ → ℕ
+  abbrev pub behind_header : SiblingFrame → HeaderValue → ℕ → ℕ
   behind_header w h n = count_up n (length (header_notes rules w h))
 
   -- ---- an element that holds others begins
 
-  pub opened-find : (w : Frame) (outer : List Frame) (n : ℕ) (h : HeaderValue) → length outer < 128
+  pub opened-find : (w : SiblingFrame) (outer : List SiblingFrame) (n : ℕ) (h : HeaderValue) → length outer < 128
       → find_open (standing w outer n) h
       ≡ record { state = standing (frame_under w h) (w ∷ outer) (behind_header w h n); level = length outer; at = h.offset; found = header_notes rules w h }
   opened-find w outer n h few =
@@ -121,7 +121,7 @@ module _ (rules : Rules) where
   opened-by s h false true es = refl
   opened-by s h false false es = refl
 
-  pub opened : (w : Frame) (outer : List Frame) (n : ℕ) (h : HeaderValue) (es : List EventValue) → length outer < 128
+  pub opened : (w : SiblingFrame) (outer : List SiblingFrame) (n : ℕ) (h : HeaderValue) (es : List EventValue) → length outer < 128
       → run (standing w outer n) (opening_events h ++ es) ≡ then_found (findings_at (length outer) h.offset (header_notes rules w h)) (run (standing (frame_under w h) (w ∷ outer) (behind_header w h n)) es)
   opened w outer n h es few =
       opened-by (standing w outer n) h h.constructed (h.number == 3) es
@@ -136,24 +136,24 @@ module _ (rules : Rules) where
   abbrev pub behind_end : HeaderValue → Forest → ℕ → ℕ
   behind_end h inside n = count_up n (length (end_findings rules h (heads inside)))
 
-  pub closed : (p : Place) (w : Frame) (outer : List Frame) (n : ℕ) (h : HeaderValue) (inside : Forest) (es : List EventValue) → IsOpen p inside → is_complete inside ≡ true
+  pub closed : (p : Place) (w : SiblingFrame) (outer : List SiblingFrame) (n : ℕ) (h : HeaderValue) (inside : Forest) (es : List EventValue) → IsOpen p inside → is_complete inside ≡ true
       → run (standing (noted_all (frame_under w h) inside) (w ∷ outer) n) (closing_event h inside ∷ es)
       ≡ then_found (findings_at (length outer) h.offset (end_findings rules h (heads inside))) (run (standing (frame_after w (is_primitive h) (announced_length h.size) false) outer (behind_end h inside n)) es)
   closed p w outer n h inside es v whole =
-      let f : Frame = noted_all (frame_under w h) inside in
+      let f : SiblingFrame = noted_all (frame_under w h) inside in
       closed-by (standing f (w ∷ outer) n) (end_offset h.size (h.offset + length (opening h) + length (spell inside))) h.constructed es
       ∙ ap (λ (fs : List Finding). then_found (findings_at (length outer) f.at fs) (run (standing (frame_after w f.is_primitive f.size false) outer (count_up n (length fs))) es)) (summed-under rules p w h inside v whole)
-      ∙ ap₂ (λ (put : List Item) (t : Frame). then_found put (run (standing t outer (behind_end h inside n)) es)) (at-under rules p w h inside v whole (findings_at (length outer)) (λ at. refl)) (noted-under w h inside)
+      ∙ ap₂ (λ (put : List Item) (t : SiblingFrame). then_found put (run (standing t outer (behind_end h inside n)) es)) (at-under rules p w h inside v whole (findings_at (length outer)) (λ at. refl)) (noted-under w h inside)
 
   -- ---- a primitive
 
-  abbrev pub behind_primitive : Frame → HeaderValue → List ℕ → Frame
+  abbrev pub behind_primitive : SiblingFrame → HeaderValue → List ℕ → SiblingFrame
   behind_primitive w h c = frame_after w true (announced_length h.size) (has_unused_bits (check_after (new_check h) c))
 
-  abbrev pub behind_contents : Frame → HeaderValue → List ℕ → ℕ → ℕ
+  abbrev pub behind_contents : SiblingFrame → HeaderValue → List ℕ → ℕ → ℕ
   behind_contents w h c n = count_up (behind_header w h n) (length (contents_findings rules h c))
 
-  pub primitive : (w : Frame) (outer : List Frame) (n : ℕ) (h : HeaderValue) (c : List ℕ) (es : List EventValue) → length c ≡ announced_length h.size
+  pub primitive : (w : SiblingFrame) (outer : List SiblingFrame) (n : ℕ) (h : HeaderValue) (c : List ℕ) (es : List EventValue) → length c ≡ announced_length h.size
       → run (standing w outer n) (Begin h ∷ Bytes c ∷ End ∷ es)
       ≡ then_found (findings_at (length outer) h.offset (header_notes rules w h))
       (then_found (findings_at (length outer) h.offset (contents_findings rules h c)) (run (standing (behind_primitive w h c) outer (behind_contents w h c n)) es))
@@ -165,15 +165,15 @@ module _ (rules : Rules) where
 
   -- ---- what a finder makes of each end by itself
 
-  pub closed-find : (p : Place) (w : Frame) (outer : List Frame) (n : ℕ) (h : HeaderValue) (inside : Forest) → IsOpen p inside → is_complete inside ≡ true
+  pub closed-find : (p : Place) (w : SiblingFrame) (outer : List SiblingFrame) (n : ℕ) (h : HeaderValue) (inside : Forest) → IsOpen p inside → is_complete inside ≡ true
       → find_close (standing (noted_all (frame_under w h) inside) (w ∷ outer) n)
       ≡ record { state = standing (frame_after w (is_primitive h) (announced_length h.size) false) outer (behind_end h inside n); level = length outer; at = (noted_all (frame_under w h) inside).at; found = end_findings rules h (heads inside) }
   closed-find p w outer n h inside v whole =
-      let f : Frame = noted_all (frame_under w h) inside in
+      let f : SiblingFrame = noted_all (frame_under w h) inside in
       ap (λ (gs : List Finding). record { state = standing (frame_after w f.is_primitive f.size false) outer (count_up n (length gs)); level = length outer; at = f.at; found = gs }) (summed-under rules p w h inside v whole)
-      ∙ ap (λ (t : Frame). record { state = standing t outer (behind_end h inside n); level = length outer; at = f.at; found = end_findings rules h (heads inside) }) (noted-under w h inside)
+      ∙ ap (λ (t : SiblingFrame). record { state = standing t outer (behind_end h inside n); level = length outer; at = f.at; found = end_findings rules h (heads inside) }) (noted-under w h inside)
 
-  pub primitive-find : (w : Frame) (outer : List Frame) (n : ℕ) (h : HeaderValue) (c : List ℕ) → length c ≡ announced_length h.size
+  pub primitive-find : (w : SiblingFrame) (outer : List SiblingFrame) (n : ℕ) (h : HeaderValue) (c : List ℕ) → length c ≡ announced_length h.size
       → find_end (find_bytes (find_begin (standing w outer n) h).state c)
       ≡ record { state = standing (behind_primitive w h c) outer (behind_contents w h c n); level = length outer; at = h.offset; found = contents_findings rules h c }
   primitive-find w outer n h c e =
@@ -183,12 +183,12 @@ module _ (rules : Rules) where
   -- ---- elements
 
   -- what was reported of elements: the findings of their items; and if they are whole, the frame after them
-  pub record IsFoundAs (s : Site) (w : Frame) (outer : List Frame) (f : Forest) : Type 0 where
+  pub record IsFoundAs (s : Site) (w : SiblingFrame) (outer : List SiblingFrame) (f : Forest) : Type 0 where
     pub put : (n : ℕ) → (run (standing w outer n) (events f)).put ≡ only (items rules s f)
     pub stands : (n : ℕ) → is_complete f ≡ true → (m : ℕ) × ((run (standing w outer n) (events f)).state ≡ standing (noted_all w f) outer m)
 
   -- findings with a header, and then other items
-  header-items : (s : Site) (w : Frame) (outer : List Frame) (h : HeaderValue) (found rest : List Item) → Knows w s → length outer ≡ s.level → found ≡ only rest
+  header-items : (s : Site) (w : SiblingFrame) (outer : List SiblingFrame) (h : HeaderValue) (found rest : List Item) → Knows w s → length outer ≡ s.level → found ≡ only rest
       → findings_at (length outer) h.offset (header_notes rules w h) ++ found ≡ only (findings_at s.level h.offset (header_findings rules s h) ++ rest)
   header-items s w outer h found rest k l e =
       ap₂ (λ (n : ℕ) (fs : List Finding). findings_at n h.offset fs ++ found) l (header-same rules w s h k)
@@ -196,12 +196,12 @@ module _ (rules : Rules) where
       ∙ sym (only-findings_at s.level h.offset (header_findings rules s h) rest)
 
   -- other findings, and then other items
-  more-items : (s : Site) (outer : List Frame) (at : ℕ) (fs : List Finding) (found rest : List Item) → length outer ≡ s.level → found ≡ only rest
+  more-items : (s : Site) (outer : List SiblingFrame) (at : ℕ) (fs : List Finding) (found rest : List Item) → length outer ≡ s.level → found ≡ only rest
       → findings_at (length outer) at fs ++ found ≡ only (findings_at s.level at fs ++ rest)
   more-items s outer at fs found rest l e =
       ap₂ (λ (n : ℕ) (t : List Item). findings_at n at fs ++ t) l e ∙ sym (only-findings_at s.level at fs rest)
 
-  pub finds_forest : (p : Place) (s : Site) (w : Frame) (outer : List Frame) (f : Forest) → IsOpen p f → Knows w s → length outer ≡ s.level → s.level ≡ p.depth → (p.padding ≡ true → s.holder ≡ None)
+  pub finds_forest : (p : Place) (s : Site) (w : SiblingFrame) (outer : List SiblingFrame) (f : Forest) → IsOpen p f → Knows w s → length outer ≡ s.level → s.level ≡ p.depth → (p.padding ≡ true → s.holder ≡ None)
       → IsFoundAs s w outer f
   finds_forest p s w outer Stop v k l d free = record { put = λ n. refl; stands = λ n e. (n, refl) }
   finds_forest p s w outer (Fill rest) v k l d free =
@@ -224,13 +224,13 @@ module _ (rules : Rules) where
             (t.0, ap (λ (x : Step). x.state) (primitive w outer n h c (events rest) size) ∙ t.1);
       }
   finds_forest p s w outer (Closed h inside rest) v k l d free =
-      let i = finds_forest (place_inside p h) (site_inside s h) (frame_under w h) (w ∷ outer) inside v.1 (knows-inside w s h) (omega (arith, l)) (omega (arith, d)) (λ e. absurd (cc (e))) in
+      let i = finds_forest (place_of_children p h) (site_of_children s h) (frame_under w h) (w ∷ outer) inside v.1 (knows-inside w s h) (omega (arith, l)) (omega (arith, d)) (λ e. absurd (cc (e))) in
       let r = finds_forest (place_after p (extent h inside)) (site_after_holder s h inside) (frame_after w (is_primitive h) (announced_length h.size) false) outer rest v.2
       (knows-behind w s (site_after_holder s h inside) h None false k refl refl refl) l d free in
       let few : length outer < 128 = omega (arith, l, d, (v.0.0.depth refl)) in
       let es : List EventValue = closing_event h inside ∷ events rest in
       let all : (n : ℕ) → (m : ℕ) × (run (standing w outer n) (events (Closed h inside rest))
-      ≡ then_found (findings_at (length outer) h.offset (header_notes rules w h)) (then_found (only (items rules (site_inside s h) inside))
+      ≡ then_found (findings_at (length outer) h.offset (header_notes rules w h)) (then_found (only (items rules (site_of_children s h) inside))
       (then_found (findings_at (length outer) h.offset (end_findings rules h (heads inside))) (run (standing (frame_after w (is_primitive h) (announced_length h.size) false) outer m) (events rest))))) =
       λ n.
       let a : ℕ = behind_header w h n in
@@ -241,17 +241,17 @@ module _ (rules : Rules) where
             ∙ ap (then_found put)
             (run-more (standing (frame_under w h) (w ∷ outer) a) (events inside) es
             ∙ ap₂ (λ (l : List Item) (x : FinderState). then_found l (run x es)) (i.put a) t.1
-            ∙ ap (then_found (only (items rules (site_inside s h) inside))) (closed (place_inside p h) w outer t.0 h inside (events rest) v.1 v.0.1)),
+            ∙ ap (then_found (only (items rules (site_of_children s h) inside))) (closed (place_of_children p h) w outer t.0 h inside (events rest) v.1 v.0.1)),
       ) in
       let last : List Item = ClosingLine s.level (end_place h inside) ∷ (findings_at s.level h.offset (end_findings rules h (heads inside)) ++ items rules (site_after_holder s h inside) rest) in
       record {
         put = λ n.
             let a = all n in
             ap (λ (t : Step). t.put) a.1
-            ∙ header-items s w outer h _ (OpeningLine s.level h ∷ (items rules (site_inside s h) inside ++ last)) k l
-            (ap (λ (t : List Item). only (items rules (site_inside s h) inside) ++ t)
+            ∙ header-items s w outer h _ (OpeningLine s.level h ∷ (items rules (site_of_children s h) inside ++ last)) k l
+            (ap (λ (t : List Item). only (items rules (site_of_children s h) inside) ++ t)
             (more-items s outer h.offset (end_findings rules h (heads inside)) _ (items rules (site_after_holder s h inside) rest) l (r.put a.0))
-            ∙ sym (filter-append is_finding (items rules (site_inside s h) inside) last));
+            ∙ sym (filter-append is_finding (items rules (site_of_children s h) inside) last));
         stands = λ n e.
             let a = all n in
             let t = r.stands a.0 e in
@@ -262,12 +262,12 @@ module _ (rules : Rules) where
     stands = λ n e. absurd (cc (e));
   }
   finds_forest p s w outer (Entered h inside) v k l d free =
-      let i = finds_forest (place_inside p h) (site_inside s h) (frame_under w h) (w ∷ outer) inside v.1 (knows-inside w s h) (omega (arith, l)) (omega (arith, d)) (λ e. absurd (cc (e))) in
+      let i = finds_forest (place_of_children p h) (site_of_children s h) (frame_under w h) (w ∷ outer) inside v.1 (knows-inside w s h) (omega (arith, l)) (omega (arith, d)) (λ e. absurd (cc (e))) in
       let few : length outer < 128 = omega (arith, l, d, v.0.0.depth refl) in
       record {
         put = λ n.
             ap (λ (t : Step). t.put) (opened w outer n h (events inside) few)
-            ∙ header-items s w outer h _ (OpeningLine s.level h ∷ items rules (site_inside s h) inside) k l (i.put (behind_header w h n));
+            ∙ header-items s w outer h _ (OpeningLine s.level h ∷ items rules (site_of_children s h) inside) k l (i.put (behind_header w h n));
         stands = λ n e. absurd (cc (e));
       }
   finds_forest p s w outer (Awaiting h) v k l d free = record {

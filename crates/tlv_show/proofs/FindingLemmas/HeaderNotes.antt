@@ -10,7 +10,7 @@ use Rattle.tlv_value.specs.declared.finding.Finding.TheVariants.{B01, B02, B03, 
 use Rattle.tlv_value.specs.Checks.{findings_by}
 use Rattle.tlv_value.specs.CheckNotes.{finding_if}
 use Rattle.tlv_value.specs.Types.{bit_string, constructed_types, has_segments, is_a, is_one_of, is_primitive, is_string, is_unassigned, octet_string, primitive_types}
-use Rattle.tlv_show.specs.declared.frames.Frame.{Frame}
+use Rattle.tlv_show.specs.declared.frames.SiblingFrame.{SiblingFrame}
 use Rattle.tlv_show.specs.declared.rules.Rules.{Rules}
 use Rattle.tlv_show.specs.declared.rules.Rules.TheVariants.{Ber, Der, Cer}
 use Rattle.tlv_show.specs.Conditions.{first_length, has_high_form, has_long_form, follows_unused_bits, header_conditions, is_not_full, leading_bits}
@@ -21,7 +21,7 @@ use Rattle.tlv_show.specs.Site.{Site, in_bit_string, in_string}
 use Rattle.tlv_show.proofs.FindingLemmas.SiteWords.{is_held_by}
 
 -- what a frame knows of a site
-pub record Knows (w : Frame) (s : Site) : Type 0 where
+pub record Knows (w : SiblingFrame) (s : Site) : Type 0 where
   pub segments : w.has_segments ≡ in_string s
   pub bits : w.has_bits ≡ in_bit_string s
   pub unused : w.is_unused ≡ (in_string s && follows_unused_bits s.before)
@@ -88,7 +88,7 @@ rows_by unused other inner short h =
     ∷ (short, C04)
     ∷ []
 
-noted-by : (rules : Rules) (w : Frame) (h : HeaderValue)
+noted-by : (rules : Rules) (w : SiblingFrame) (h : HeaderValue)
     → shown rules (rows_by (w.has_segments && w.has_bits && w.is_unused) (w.has_segments && not (is_a (if w.has_bits then bit_string else octet_string) h)) (h.constructed && w.has_segments) (w.has_segments && w.is_not_full) h) ≡ header_notes rules w h
 noted-by Ber w h =
     seven
@@ -136,7 +136,7 @@ both-once : (a b : Bool) → (a && (a && b)) ≡ (a && b)
 both-once true b = refl
 both-once false b = refl
 
-pub header-same : (rules : Rules) (w : Frame) (s : Site) (h : HeaderValue) → Knows w s → header_notes rules w h ≡ header_findings rules s h
+pub header-same : (rules : Rules) (w : SiblingFrame) (s : Site) (h : HeaderValue) → Knows w s → header_notes rules w h ≡ header_findings rules s h
 header-same rules w s h k =
     let unused : ((w.has_segments && w.has_bits) && w.is_unused) ≡ (in_bit_string s && follows_unused_bits s.before) =
     ap₂ (λ (a b : Bool). (a && b) && w.is_unused) k.segments k.bits ∙ ap (λ (a : Bool). (in_string s && in_bit_string s) && a) k.unused ∙ in-bits s.holder (follows_unused_bits s.before) in
@@ -175,7 +175,7 @@ end-by Cer true b all empty sum =
     ap (λ (t : Bool). finding_if (all && t) C05 ++ finding_if empty C06) (capped n (sum n) (small b))
     ∙ ap (λ (l : List Finding). finding_if (all && nat_le (n + sum n) 1000) C05 ++ l) (sym (append-nil (finding_if empty C06)))
 
-pub ends-are : (rules : Rules) (w : Frame) → end_notes rules w ≡ ends_by rules w.has_segments w.has_bits w.all_primitive w.octets w.is_empty
+pub ends-are : (rules : Rules) (w : SiblingFrame) → end_notes rules w ≡ ends_by rules w.has_segments w.has_bits w.all_primitive w.octets w.is_empty
 ends-are Ber w = refl
 ends-are Der w = refl
 ends-are Cer w = refl

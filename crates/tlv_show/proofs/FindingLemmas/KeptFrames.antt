@@ -3,7 +3,7 @@ use Rattle.std.proofs.Common.{zero, suc, ◌≡◌, ℕ, ◌+◌, ◌-◌, ◌<�
 use Rattle.std.proofs.lemmas.Bool.Decides.{nat_tests}
 use Rattle.tlv_head.specs.Header.{HeaderValue}
 use Rattle.tlv_value.specs.Types.{has_segments}
-use Rattle.tlv_show.specs.declared.frames.Frame.{Frame}
+use Rattle.tlv_show.specs.declared.frames.SiblingFrame.{SiblingFrame}
 use Rattle.tlv_show.specs.declared.frames.Kept.{Kept}
 use Rattle.tlv_show.specs.declared.rules.Rules.{Rules}
 use Rattle.tlv_show.specs.declared.rules.Rules.TheVariants.{Ber, Der, Cer}
@@ -12,11 +12,11 @@ use Rattle.tlv_show.specs.Private.Nesting.{AreKept, IsKept, NestingState, TakesB
 
 -- ---- how many there are
 
-length-all : (w : Frame) (n : ℕ) (outer : List Frame) → length (all_of w n outer) ≡ n + length outer + 1
+length-all : (w : SiblingFrame) (n : ℕ) (outer : List SiblingFrame) → length (all_of w n outer) ≡ n + length outer + 1
 length-all w zero outer = omega arith
 length-all w (suc n) outer = let e = length-all w n outer in omega (arith, e)
 
-pub length-outside : (w : Frame) (n : ℕ) (outer : List Frame) → length (outside w n outer) ≡ n + length outer
+pub length-outside : (w : SiblingFrame) (n : ℕ) (outer : List SiblingFrame) → length (outside w n outer) ≡ n + length outer
 length-outside w zero outer = omega arith
 length-outside w (suc n) outer = let e = length-all w n outer in omega (arith, e)
 
@@ -28,7 +28,7 @@ length-others floor (k ∷ outer) (above, kept, others) =
     omega (arith, e, r, above)
 
 -- the level is their number
-pub one_each : (w : Frame) (floor level : ℕ) (outer : List Kept) → floor ≤ level → AreKept floor outer
+pub one_each : (w : SiblingFrame) (floor level : ℕ) (outer : List Kept) → floor ≤ level → AreKept floor outer
     → length (outside w (level - floor) (all_frames floor outer)) ≡ level
 one_each w floor level outer inside others =
     let e = length-outside w (level - floor) (all_frames floor outer) in
@@ -41,18 +41,18 @@ fewer-kept floor (k ∷ outer) (above, kept, others) = let r = fewer-kept k.floo
 
 -- ---- what contracts see of those that are kept
 
-abbrev nest : Frame → ℕ → List Frame → NestingState
+abbrev nest : SiblingFrame → ℕ → List SiblingFrame → NestingState
 nest w n outer = record { frame = innermost w n; outer = outside w n outer }
 
-abbrev seen : Frame → ℕ → ℕ → List Kept → NestingState
+abbrev seen : SiblingFrame → ℕ → ℕ → List Kept → NestingState
 seen w floor level outer = nest w (level - floor) (all_frames floor outer)
 
-split : (w : Frame) (n : ℕ) (outer : List Frame) → all_of w n outer ≡ innermost w n ∷ outside w n outer
+split : (w : SiblingFrame) (n : ℕ) (outer : List SiblingFrame) → all_of w n outer ≡ innermost w n ∷ outside w n outer
 split w zero outer = refl
 split w (suc n) outer = refl
 
 -- all frames outside of strings say the same of headers
-pub same-notes : (rules : Rules) (w : Frame) (n : ℕ) (h : HeaderValue) → IsKept w n
+pub same-notes : (rules : Rules) (w : SiblingFrame) (n : ℕ) (h : HeaderValue) → IsKept w n
     → header_notes rules w h ≡ header_notes rules (innermost w n) h
 same-notes Ber w n h kept = grind arith
 same-notes Der w n h kept = grind arith
@@ -60,7 +60,7 @@ same-notes Cer w n h kept = grind arith
 
 -- ---- an element begins
 
-entered-is : (w : Frame) (n : ℕ) (outer : List Frame) (h : HeaderValue) → length (outside w n outer) < 128
+entered-is : (w : SiblingFrame) (n : ℕ) (outer : List SiblingFrame) (h : HeaderValue) → length (outside w n outer) < 128
     → nesting_inside (nest w n outer) h
     ≡ record { frame = frame_under (innermost w n) h; outer = innermost w n ∷ outside w n outer }
 entered-is w n outer h few =
@@ -71,26 +71,26 @@ neither : (a b : Bool) → (a || b) ≡ false → (a ≡ false) × (b ≡ false)
 neither true b e = absurd (cc (e))
 neither false b e = (refl, e)
 
-entered-plain : (w : Frame) (n : ℕ) (outer : List Frame) (h : HeaderValue) → length (outside w n outer) < 128
+entered-plain : (w : SiblingFrame) (n : ℕ) (outer : List SiblingFrame) (h : HeaderValue) → length (outside w n outer) < 128
     → IsKept w n → (w.has_segments || has_segments h) ≡ false → nest w (suc n) outer ≡ nesting_inside (nest w n outer) h
 entered-plain w n outer h few kept none =
     let e : w.has_segments ≡ false = (neither w.has_segments (has_segments h) none).0 in
     let f : has_segments h ≡ false = (neither w.has_segments (has_segments h) none).1 in
     ap₂ (λ (a b : Bool). record { frame = if a || b then frame_of h else top_frame; outer = all_of w n outer })
     (sym (kept ∙ e)) (sym f)
-    ∙ ap (λ (l : List Frame). record { frame = frame_under (innermost w n) h; outer = l }) (split w n outer)
+    ∙ ap (λ (l : List SiblingFrame). record { frame = frame_under (innermost w n) h; outer = l }) (split w n outer)
     ∙ sym (entered-is w n outer h few)
 
-entered-frame : (w : Frame) (n : ℕ) (outer : List Frame) (h : HeaderValue) → length (outside w n outer) < 128
+entered-frame : (w : SiblingFrame) (n : ℕ) (outer : List SiblingFrame) (h : HeaderValue) → length (outside w n outer) < 128
     → IsKept w n → (w.has_segments || has_segments h) ≡ true
     → nest (frame_of h) 0 (all_of w n outer) ≡ nesting_inside (nest w n outer) h
 entered-frame w n outer h few kept one =
-    ap₂ (λ (b : Bool) (l : List Frame). record { frame = if b then frame_of h else top_frame; outer = l })
+    ap₂ (λ (b : Bool) (l : List SiblingFrame). record { frame = if b then frame_of h else top_frame; outer = l })
     (sym (ap (λ (b : Bool). b || has_segments h) kept ∙ one)) (split w n outer)
     ∙ sym (entered-is w n outer h few)
 
 module _
-    (w : Frame) (floor level : ℕ) (outer : List Kept)
+    (w : SiblingFrame) (floor level : ℕ) (outer : List Kept)
     (inside : floor ≤ level) (kept : IsKept w (level - floor)) (others : AreKept floor outer)
     (h : HeaderValue) (few : level < 128)
   where
@@ -113,35 +113,35 @@ module _
 
 -- ---- an element ends
 
-outside-strings : (w : Frame) (primitive : Bool) (size : ℕ) (unused : Bool) → w.has_segments ≡ false
+outside-strings : (w : SiblingFrame) (primitive : Bool) (size : ℕ) (unused : Bool) → w.has_segments ≡ false
     → frame_after w primitive size unused ≡ w
 outside-strings w primitive size unused e =
     ap (λ (k : Bool). if k then frame_after_segment w primitive size unused else w) e
 
-one-less : (w : Frame) (n : ℕ) → IsKept w (suc n) → (innermost w n).has_segments ≡ false
+one-less : (w : SiblingFrame) (n : ℕ) → IsKept w (suc n) → (innermost w n).has_segments ≡ false
 one-less w zero kept = sym kept
 one-less w (suc n) kept = refl
 
-left-plain : (w : Frame) (n : ℕ) (outer : List Frame) → IsKept w (suc n)
+left-plain : (w : SiblingFrame) (n : ℕ) (outer : List SiblingFrame) → IsKept w (suc n)
     → nest w n outer ≡ nesting_outside (nest w (suc n) outer)
 left-plain w n outer kept =
-    ap (λ (v : Frame). record { frame = v; outer = outside w n outer })
+    ap (λ (v : SiblingFrame). record { frame = v; outer = outside w n outer })
     (sym (outside-strings (innermost w n) false 0 false (one-less w n kept)))
     ∙ ap (nesting_around top_frame) (sym (split w n outer))
 
-left-frame : (closed w : Frame) (n : ℕ) (outer : List Frame) → IsKept w n
+left-frame : (closed w : SiblingFrame) (n : ℕ) (outer : List SiblingFrame) → IsKept w n
     → nest (frame_after w closed.is_primitive closed.size false) n outer ≡ nesting_around closed (all_of w n outer)
 left-frame closed w zero outer kept = refl
 left-frame closed w (suc n) outer kept =
-    ap (λ (v : Frame). record { frame = top_frame; outer = all_of v n outer })
+    ap (λ (v : SiblingFrame). record { frame = top_frame; outer = all_of v n outer })
     (outside-strings w closed.is_primitive closed.size false (sym kept))
 
-left-top : (w : Frame) (outer : List Frame) → length outer ≡ 0
+left-top : (w : SiblingFrame) (outer : List SiblingFrame) → length outer ≡ 0
     → (record { frame = w; outer = outer } ≡ nesting_around w outer) × (None ≡ segments_by w outer)
 left-top w [] none = (refl, refl)
 left-top w (v ∷ outer) none = absurd (omega arith)
 
-module _ (w : Frame) (floor level : ℕ) (outer : List Kept) where
+module _ (w : SiblingFrame) (floor level : ℕ) (outer : List Kept) where
   pub leaves-plain : IsKept w (level - floor) → floor < level
       → seen w floor (level - 1) outer ≡ nesting_outside (seen w floor level outer)
   leaves-plain kept above =
@@ -156,8 +156,8 @@ module _ (w : Frame) (floor level : ℕ) (outer : List Kept) where
       left-top (innermost w (level - floor)) (outside w (level - floor) (all_frames floor outer))
       (one_each w floor level outer inside others ∙ top)
 
-pub leaves-frame : (w : Frame) (floor level : ℕ) (outer : List Kept) → AreKept floor outer → floor ≡ level → 0 < level
-    → (v : Frame) (lower : ℕ) (rest : List Kept) → TakesBack w outer v lower rest
+pub leaves-frame : (w : SiblingFrame) (floor level : ℕ) (outer : List Kept) → AreKept floor outer → floor ≡ level → 0 < level
+    → (v : SiblingFrame) (lower : ℕ) (rest : List Kept) → TakesBack w outer v lower rest
     → seen v lower (level - 1) rest ≡ nesting_outside (seen w floor level outer)
 leaves-frame w floor level [] none at_floor any v lower rest back = absurd (omega arith)
 leaves-frame w floor level (k ∷ outer) (above, kept, others) at_floor any v lower rest back =

@@ -12,7 +12,7 @@ use Rattle.tlv_walk.specs.declared.framing.Framing.{Framing}
 use Rattle.tlv_walk.specs.Alike.{AreAlike, holders, nothing, padding, primitives}
 use Rattle.tlv_walk.specs.Forest.{Forest, Stop, Fill, Whole, Closed, Partial, Entered, Awaiting, Begun, Zero, extent, has_element, spell}
 use Rattle.tlv_walk.specs.Inside.{AreRising, CanName, is_among}
-use Rattle.tlv_walk.specs.Place.{IsOpen, Place, is_indefinite, place_after, place_inside, top_place}
+use Rattle.tlv_walk.specs.Place.{IsOpen, Place, is_indefinite, place_after, place_of_children, top_place}
 use Rattle.tlv_walk.specs.Reading.{IsReading, IsSound, IsSoundList}
 use Rattle.tlv_walk.specs.Wrappers.{wrapper_at, wrappers}
 use Rattle.tlv_walk.proofs.GrammarLemmas.Alike.{AreRegular, IsRegular}
@@ -28,7 +28,7 @@ use Rattle.tlv_show.specs.Found.{contents_findings, header_findings}
 use Rattle.tlv_show.proofs.FindingLemmas.EndFindings.{end_findings}
 use Rattle.tlv_show.specs.Items.{Item, OpeningLine, ClosingLine, WholePrimitive, PaddingLine, heads, items}
 use Rattle.tlv_show.proofs.FindingLemmas.ElementItems.{on_contents, on_end, on_header}
-use Rattle.tlv_show.specs.Site.{Site, is_padding, site_inside, top_site}
+use Rattle.tlv_show.specs.Site.{Site, is_padding, site_of_children, top_site}
 use Rattle.tlv_show.proofs.FindingLemmas.SitesAfter.{site_after, site_after_holder, site_after_padding}
 use Rattle.tlv_show.specs.Spellings.{SomeSpelling, is_item_on_spelling, is_on_spelling}
 use Rattle.tlv_show.proofs.FindingLemmas.LongerHeaders.{longer_identifier-absent, longer_lengths, longer_lengths-absent}
@@ -104,9 +104,9 @@ module _ (rules : Rules) (strict : rules ≢ Ber) where
       (none-found (place_after p (length (octets_of h) + length c)) (site_after s h c) rest u.2 r.1))
   none-found p s (Closed h inside rest) u r =
       let last : List Item = on_end rules s h inside ++ items rules (site_after_holder s h inside) rest in
-      let held : List Item = items rules (site_inside s h) inside in
+      let held : List Item = items rules (site_of_children s h) inside in
       both-none (on_header rules s h) (OpeningLine s.level h ∷ (held ++ ClosingLine s.level (end_place h inside) ∷ last)) (header-none s h r.0)
-      (both-none held (ClosingLine s.level (end_place h inside) ∷ last) (none-found (place_inside p h) (site_inside s h) inside u.3 r.1)
+      (both-none held (ClosingLine s.level (end_place h inside) ∷ last) (none-found (place_of_children p h) (site_of_children s h) inside u.3 r.1)
       (both-none (on_end rules s h inside) (items rules (site_after_holder s h inside) rest) (end-none s h inside)
       (none-found (place_after p (extent h inside)) (site_after_holder s h inside) rest u.4 r.2)))
   none-found p s (Partial h c) u r = absurd u

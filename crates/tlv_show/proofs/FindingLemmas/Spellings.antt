@@ -16,7 +16,7 @@ use Rattle.tlv_walk.specs.declared.ending.Ending.TheVariants.{Done}
 use Rattle.tlv_walk.specs.declared.framing.Framing.{Framing}
 use Rattle.tlv_walk.specs.Ending.{IsEnding}
 use Rattle.tlv_walk.specs.Forest.{Forest, Stop, Fill, Whole, Closed, Partial, Entered, Awaiting, Begun, Zero, extent, spell}
-use Rattle.tlv_walk.specs.Place.{Place, is_indefinite, place_after, place_inside, top_place}
+use Rattle.tlv_walk.specs.Place.{Place, is_indefinite, place_after, place_of_children, top_place}
 use Rattle.tlv_walk.specs.Reading.{IsReading, IsSound, IsSoundList}
 use Rattle.tlv_walk.proofs.GrammarLemmas.Alike.{AreRegular, IsRegular, one_spelling}
 use Rattle.tlv_walk.proofs.GrammarLemmas.Endings.{done-sound, sound-reading}
@@ -28,7 +28,7 @@ use Rattle.tlv_show.specs.Found.{header_findings}
 use Rattle.tlv_show.specs.Items.{Item, OpeningLine, ClosingLine, WholePrimitive, PaddingLine, items}
 use Rattle.tlv_show.proofs.FindingLemmas.ElementItems.{findings_at, on_contents, on_end, on_header}
 use Rattle.tlv_show.specs.EndPlace.{end_place}
-use Rattle.tlv_show.specs.Site.{Site, is_padding, site_inside, top_site}
+use Rattle.tlv_show.specs.Site.{Site, is_padding, site_of_children, top_site}
 use Rattle.tlv_show.proofs.FindingLemmas.SitesAfter.{site_after, site_after_holder, site_after_padding}
 use Rattle.tlv_show.specs.Spellings.{OneSpelling, is_item_on_spelling, is_on_spelling}
 use Rattle.tlv_show.proofs.FindingLemmas.FindingsOfHeaders.{any_of, found-with_header}
@@ -119,12 +119,12 @@ module _ (rules : Rules) (strict : rules ≢ Ber) where
       (regular rules s h strict u.0.valid head.0, all-regular (place_after p (length (octets_of h) + length c)) (site_after s h c) rest u.2 others.1)
   all-regular p s (Closed h inside rest) u e =
       let last : List Item = on_end rules s h inside ++ items rules (site_after_holder s h inside) rest in
-      let held_and_last : List Item = items rules (site_inside s h) inside ++ ClosingLine s.level (end_place h inside) ∷ last in
+      let held_and_last : List Item = items rules (site_of_children s h) inside ++ ClosingLine s.level (end_place h inside) ∷ last in
       let head = none-in (on_header rules s h) (OpeningLine s.level h ∷ held_and_last) e in
-      let held = none-in (items rules (site_inside s h) inside) (ClosingLine s.level (end_place h inside) ∷ last) head.1 in
+      let held = none-in (items rules (site_of_children s h) inside) (ClosingLine s.level (end_place h inside) ∷ last) head.1 in
       let others = none-in (on_end rules s h inside) (items rules (site_after_holder s h inside) rest) held.1 in (
         regular rules s h strict u.0.valid head.0,
-        all-regular (place_inside p h) (site_inside s h) inside u.3 held.0,
+        all-regular (place_of_children p h) (site_of_children s h) inside u.3 held.0,
         all-regular (place_after p (extent h inside)) (site_after_holder s h inside) rest u.4 others.1,
       )
   all-regular p s (Partial h c) u e = absurd u

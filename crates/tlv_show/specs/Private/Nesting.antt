@@ -1,7 +1,7 @@
 -- The frames that are kept of the elements that are open, and all those that they stand for.
 use Rattle.std.specs.Prelude.{ℕ, zero, suc, ◌≡◌, ◌-◌, ◌<◌, ⊤, nat_lt, if◌then◌else◌, false, List, [], ◌∷◌, length, Option, Some, None}
 use Rattle.tlv_head.specs.Header.{HeaderValue}
-use Rattle.tlv_show.specs.declared.frames.Frame.{Frame}
+use Rattle.tlv_show.specs.declared.frames.SiblingFrame.{SiblingFrame}
 use Rattle.tlv_show.specs.declared.frames.Kept.{Kept}
 use Rattle.tlv_show.specs.FinderState.{frame_after, frame_under, top_frame}
 
@@ -9,8 +9,8 @@ use Rattle.tlv_show.specs.FinderState.{frame_after, frame_under, top_frame}
 
 -- the frame of the innermost element, and those outside, innermost first
 pub record NestingState : Type 0 where
-  pub frame : Frame
-  pub outer : List Frame
+  pub frame : SiblingFrame
+  pub outer : List SiblingFrame
 
 abbrev pub new_nesting : NestingState
 new_nesting = record { frame = top_frame; outer = [] }
@@ -23,7 +23,7 @@ nesting_inside s h =
     else s
 
 -- it ends
-abbrev pub nesting_around : Frame → List Frame → NestingState
+abbrev pub nesting_around : SiblingFrame → List SiblingFrame → NestingState
 nesting_around closed [] = record { frame = closed; outer = [] }
 nesting_around closed (w ∷ outer) = record {
   frame = frame_after w closed.is_primitive closed.size false;
@@ -34,39 +34,39 @@ abbrev pub nesting_outside : NestingState → NestingState
 nesting_outside s = nesting_around s.frame s.outer
 
 -- its frame, if what it held were segments
-abbrev pub if_segments : Frame → Option Frame
+abbrev pub if_segments : SiblingFrame → Option SiblingFrame
 if_segments w = if w.has_segments then Some w else None
 
-abbrev pub segments_by : Frame → List Frame → Option Frame
+abbrev pub segments_by : SiblingFrame → List SiblingFrame → Option SiblingFrame
 segments_by closed [] = None
 segments_by closed (w ∷ outer) = if_segments closed
 
-abbrev pub segments_left : NestingState → Option Frame
+abbrev pub segments_left : NestingState → Option SiblingFrame
 segments_left s = segments_by s.frame s.outer
 
 -- ---- Those that are kept
 
 -- if elements without a frame are open inside `w`, each of them has that of the top
-abbrev pub innermost : Frame → ℕ → Frame
+abbrev pub innermost : SiblingFrame → ℕ → SiblingFrame
 innermost w zero = w
 innermost w (suc plain) = top_frame
 
-abbrev pub all_of : Frame → ℕ → List Frame → List Frame
+abbrev pub all_of : SiblingFrame → ℕ → List SiblingFrame → List SiblingFrame
 all_of w zero outer = w ∷ outer
 all_of w (suc plain) outer = top_frame ∷ all_of w plain outer
 
-abbrev pub outside : Frame → ℕ → List Frame → List Frame
+abbrev pub outside : SiblingFrame → ℕ → List SiblingFrame → List SiblingFrame
 outside w zero outer = outer
 outside w (suc plain) outer = all_of w plain outer
 
 -- those outside of an element that has a frame, by its floor. It is itself at the level `floor - 1`; outside of it,
 -- from the floor of `k` on, elements without a frame are open
-abbrev pub all_frames : ℕ → List Kept → List Frame
+abbrev pub all_frames : ℕ → List Kept → List SiblingFrame
 all_frames floor [] = []
 all_frames floor (k ∷ outer) = all_of k.frame (floor - 1 - k.floor) (all_frames k.floor outer)
 
 -- a string counts no elements without a frame
-abbrev pub IsKept : Frame → ℕ → Type 0
+abbrev pub IsKept : SiblingFrame → ℕ → Type 0
 IsKept w plain = (innermost w plain).has_segments ≡ w.has_segments
 
 -- each floor is above the one outside of it, and that of the top is 0
@@ -79,12 +79,12 @@ abbrev pub innermost_of : List Kept → Option Kept
 innermost_of [] = None
 innermost_of (k ∷ outer) = Some k
 
-pub record IsTakenBack (closed : Frame) (k : Kept) (outer : List Kept) (w : Frame) (floor : ℕ) (rest : List Kept)
+pub record IsTakenBack (closed : SiblingFrame) (k : Kept) (outer : List Kept) (w : SiblingFrame) (floor : ℕ) (rest : List Kept)
     : Type 0 where
   pub frame : w ≡ frame_after k.frame closed.is_primitive closed.size false
   pub level : floor ≡ k.floor
   pub others : rest ≡ outer
 
-abbrev pub TakesBack : Frame → List Kept → Frame → ℕ → List Kept → Type 0
+abbrev pub TakesBack : SiblingFrame → List Kept → SiblingFrame → ℕ → List Kept → Type 0
 TakesBack closed [] w floor rest = ⊤
 TakesBack closed (k ∷ outer) w floor rest = IsTakenBack closed k outer w floor rest

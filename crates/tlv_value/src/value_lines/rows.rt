@@ -3,7 +3,6 @@ ghost use Rattle.std.specs.Prelude.{◌≡◌, ◌+◌, ◌<◌, ◌≤◌, ◌^
 ghost use Rattle.tlv_io.specs.Cuts.{last_rows};
 ghost use Rattle.tlv_io.specs.LineTexts.{HasRoomFor};
 ghost use Rattle.tlv_io.specs.Out.{Puts};
-ghost use Rattle.tlv_value.specs.Cuts.{row_size};
 ghost use Rattle.tlv_value.specs.Layout.{line, no_columns, row_line};
 ghost use Rattle.tlv_value.specs.OpenRow.{IsOpenRow};
 ghost use Rattle.tlv_value.specs.Private.Rows.{full_line, full_lines, row_indent_of};

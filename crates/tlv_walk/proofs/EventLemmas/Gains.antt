@@ -5,7 +5,7 @@ use Rattle.std.proofs.lemmas.List.{map_push}
 use Rattle.tlv_head.specs.declared.fault.FaultCode.TheVariants.{BadEnd, BadInside, MissingEnd}
 use Rattle.tlv_head.specs.Header.{HeaderValue, announced_length, octets_of}
 use Rattle.tlv_walk.specs.Forest.{Forest, Stop, Fill, Whole, Closed, Partial, Entered, Awaiting, Begun, Zero, extent, lead}
-use Rattle.tlv_walk.specs.Place.{IsOpen, Place, place_after, place_inside}
+use Rattle.tlv_walk.specs.Place.{IsOpen, Place, place_after, place_of_children}
 use Rattle.tlv_walk.specs.Events.{Begin, Bytes, End, Enter, EventValue, Pad, Unused, closing_event, events, opening_events, single_octets}
 use Rattle.tlv_walk.proofs.GrammarLemmas.Bounds.{fits}
 use Rattle.tlv_walk.proofs.GrammarLemmas.PushSteps.{Step, Grown, Ended, Refused, entered, follow, is_filled, partial, push, settle}
@@ -30,7 +30,7 @@ gained p (Fill rest) x = gained (place_after p 1) rest x
 gained p (Whole h c rest) x = gained (place_after p (length (octets_of h) + length c)) rest x
 gained p (Closed h inside rest) x = gained (place_after p (extent h inside)) rest x
 gained p (Partial h c) x = Bytes (x ∷ []) ∷ cond (eqb (length (c ++ x ∷ [])) (announced_length h.size)) (End ∷ []) []
-gained p (Entered h inside) x = gained (place_inside p h) inside x ++ closing h (push (place_inside p h) inside x)
+gained p (Entered h inside) x = gained (place_of_children p h) inside x ++ closing h (push (place_of_children p h) inside x)
 gained p (Awaiting h) x = cond (eqb x 0) (Unused ∷ closing h (Grown Stop)) []
 gained p (Begun o) x = step_events (push p (Begun o) x)
 gained p Zero x = []
@@ -116,7 +116,7 @@ push-brings p (Closed h inside rest) x w =
     follow-brings (Closed h inside) before (events rest) _ _ split (push-brings (place_after p (extent h inside)) rest x w.2) in
     subst (λ (es : List EventValue). Brings (es ++ gained p (Closed h inside rest) x) (push p (Closed h inside rest) x)) (sym (split rest)) brings
 push-brings p (Partial h c) x w = partial-brings h c x
-push-brings p (Entered h inside) x w = settle-brings h (events inside) _ _ (push-brings (place_inside p h) inside x w.1)
+push-brings p (Entered h inside) x w = settle-brings h (events inside) _ _ (push-brings (place_of_children p h) inside x w.1)
 push-brings p (Awaiting h) x w = awaiting-brings h x w.1
 push-brings p (Begun o) x w = step-brings (push p (Begun o) x)
 push-brings p Zero x w = zero-brings (fits p 2) (eqb x 0)

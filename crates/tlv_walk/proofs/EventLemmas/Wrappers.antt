@@ -6,7 +6,7 @@ use Rattle.tlv_head.specs.Header.{HeaderValue, announced_length, holds, is_wrapp
 use Rattle.tlv_head.proofs.Scan.{Scan, Fresh, High, Named, Long, Ready, Stuck, Over, scan, step}
 use Rattle.tlv_walk.specs.Forest.{Forest, Stop, Fill, Whole, Closed, Partial, Entered, Awaiting, Begun, Zero, extent, lead, opening, spell}
 use Rattle.tlv_walk.specs.Inside.{is_among}
-use Rattle.tlv_walk.specs.Place.{IsHeadAt, IsOpen, Place, place_after, place_inside}
+use Rattle.tlv_walk.specs.Place.{IsHeadAt, IsOpen, Place, place_after, place_of_children}
 use Rattle.tlv_walk.specs.Events.{Begin, Bytes, Close, End, Enter, EventValue, Leave, Open, Pad, Unused, closing_event, events, opening_events, single_octets}
 use Rattle.tlv_walk.specs.Wrappers.{wrapper_at, wrapper_offsets, wrappers}
 use Rattle.tlv_walk.proofs.GrammarLemmas.Bounds.{fits}
@@ -91,10 +91,10 @@ wrappers-entered p (Closed h inside rest) w = sym
     (enters-opens h (events inside ++ closing_event h inside ∷ events rest)
     ∙ ap (λ (t : List ℕ). wrapper_at h ++ t)
     (enters-append (events inside) (closing_event h inside ∷ events rest)
-    ∙ (ap (λ (t : List ℕ). t ++ wrapper_offsets (closing_event h inside ∷ events rest)) (sym (wrappers-entered (place_inside p h) inside w.1))
+    ∙ (ap (λ (t : List ℕ). t ++ wrapper_offsets (closing_event h inside ∷ events rest)) (sym (wrappers-entered (place_of_children p h) inside w.1))
     ∙ ap (λ (t : List ℕ). wrappers inside ++ t) (enters-closes h inside (events rest) ∙ sym (wrappers-entered (place_after p (extent h inside)) rest w.2)))))
 wrappers-entered p (Partial h c) w = refl
-wrappers-entered p (Entered h inside) w = sym (enters-opens h (events inside) ∙ ap (λ (t : List ℕ). wrapper_at h ++ t) (sym (wrappers-entered (place_inside p h) inside w.1)))
+wrappers-entered p (Entered h inside) w = sym (enters-opens h (events inside) ∙ ap (λ (t : List ℕ). wrapper_at h ++ t) (sym (wrappers-entered (place_of_children p h) inside w.1)))
 wrappers-entered p (Awaiting h) w = waiting-wraps h w.1
 wrappers-entered p (Begun octets) w = refl
 wrappers-entered p Zero w = refl
@@ -192,9 +192,9 @@ gained-few p (Partial h c) x = elim (cases_Bool (eqb (length (c ++ x ∷ [])) (a
   | inr e ↦ rw e (omega arith)
 ]
 gained-few p (Entered h inside) x =
-    let es : List EventValue = closing h (push (place_inside p h) inside x) in
-    let none : length (wrapper_offsets es) ≡ 0 = ap length (closing-none h (push (place_inside p h) inside x)) in
-    omega (arith, gained-few (place_inside p h) inside x, ap length (enters-append (gained (place_inside p h) inside x) es), length-append (wrapper_offsets (gained (place_inside p h) inside x)) (wrapper_offsets es))
+    let es : List EventValue = closing h (push (place_of_children p h) inside x) in
+    let none : length (wrapper_offsets es) ≡ 0 = ap length (closing-none h (push (place_of_children p h) inside x)) in
+    omega (arith, gained-few (place_of_children p h) inside x, ap length (enters-append (gained (place_of_children p h) inside x) es), length-append (wrapper_offsets (gained (place_of_children p h) inside x)) (wrapper_offsets es))
 gained-few p (Awaiting h) x = elim (cases_Bool (eqb x 0)) [
   | inl e ↦ rw e (omega (arith, ap length (closing-none h (Grown Stop))))
   | inr e ↦ rw e (omega arith)
@@ -246,14 +246,14 @@ wrappers-rise p (Closed h inside rest) w =
     rise-append p.at (p.at + length (opening h)) _ (wrapper_at h) (wrappers inside ++ wrappers rest)
     (wrapper-rises p.at (p.at + length (opening h)) h w.0.0.header.offset (omega (arith, length-opening h)))
     (rise-append (p.at + length (opening h)) (p.at + extent h inside) _ (wrappers inside) (wrappers rest)
-    (rise-within _ _ _ _ (wrappers inside) (omega arith) (omega arith) (wrappers-rise (place_inside p h) inside w.1))
+    (rise-within _ _ _ _ (wrappers inside) (omega arith) (omega arith) (wrappers-rise (place_of_children p h) inside w.1))
     (rise-within _ _ _ _ (wrappers rest) (omega arith) (omega arith) (wrappers-rise (place_after p (extent h inside)) rest w.2)))
 wrappers-rise p (Partial h c) w = omega arith
 wrappers-rise p (Entered h inside) w =
     let two : 2 ≤ length (octets_of h) = header-length h w.0.0.header.valid in
     rise-append p.at (p.at + length (opening h)) _ (wrapper_at h) (wrappers inside)
     (wrapper-rises p.at (p.at + length (opening h)) h w.0.0.header.offset (omega (arith, length-opening h)))
-    (rise-within _ _ _ _ (wrappers inside) (omega arith) (omega (arith, length-append (opening h) (spell inside))) (wrappers-rise (place_inside p h) inside w.1))
+    (rise-within _ _ _ _ (wrappers inside) (omega arith) (omega (arith, length-append (opening h) (spell inside))) (wrappers-rise (place_of_children p h) inside w.1))
 wrappers-rise p (Awaiting h) w = wrapper-rises p.at _ h w.0.header.offset (omega (arith, header-length h w.0.header.valid))
 wrappers-rise p (Begun octets) w = omega arith
 wrappers-rise p Zero w = omega arith
@@ -291,10 +291,10 @@ wrappers-named p (Fill rest) w = wrappers-named (place_after p 1) rest w.1
 wrappers-named p (Whole h c rest) w = wrappers-named (place_after p (length (octets_of h) + length c)) rest w.1
 wrappers-named p (Closed h inside rest) w =
     named-append p.inside (wrapper_at h) (wrappers inside ++ wrappers rest) (wrapper-named p h w.0.0.header)
-    (named-append p.inside (wrappers inside) (wrappers rest) (wrappers-named (place_inside p h) inside w.1) (wrappers-named (place_after p (extent h inside)) rest w.2))
+    (named-append p.inside (wrappers inside) (wrappers rest) (wrappers-named (place_of_children p h) inside w.1) (wrappers-named (place_after p (extent h inside)) rest w.2))
 wrappers-named p (Partial h c) w = tt
 wrappers-named p (Entered h inside) w =
-    named-append p.inside (wrapper_at h) (wrappers inside) (wrapper-named p h w.0.0.header) (wrappers-named (place_inside p h) inside w.1)
+    named-append p.inside (wrapper_at h) (wrappers inside) (wrapper-named p h w.0.0.header) (wrappers-named (place_of_children p h) inside w.1)
 wrappers-named p (Awaiting h) w = wrapper-named p h w.0.header
 wrappers-named p (Begun octets) w = tt
 wrappers-named p Zero w = tt

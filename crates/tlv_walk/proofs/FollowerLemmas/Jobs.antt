@@ -13,7 +13,7 @@ use Rattle.std.specs.List.{concat}
 use Rattle.tlv_io.specs.Device.{DrainState, SourceState, octets_given}
 use Rattle.tlv_walk.specs.DriveJob.{Drives, drive_job, drive_state, had_enough, run_over}
 use Rattle.tlv_walk.specs.Events.{EventValue, events}
-use Rattle.tlv_walk.specs.Follow.{Effect, effect_of, goes_of}
+use Rattle.tlv_walk.specs.Follow.{Effect, effect_of, go_of}
 use Rattle.tlv_walk.specs.Forest.{Forest}
 use Rattle.tlv_walk.specs.Job.{Job, Runs, WantMore, read_failed, too_long, write_failed}
 use Rattle.tlv_walk.proofs.FollowerLemmas.Enough.{EndsSo, Returns, Settled, comes_to, returns}
@@ -25,7 +25,7 @@ pub run-ending : (framing : Framing) (f : Forest) (es : List EventValue) (g : Go
 run-ending framing f es go.On e = refl
 run-ending framing f es go.Enough e = refl
 
-pub had-goes : (k : Bool) → had_enough (goes_of k) ≡ k
+pub had-goes : (k : Bool) → had_enough (go_of k) ≡ k
 had-goes true = refl
 had-goes false = refl
 

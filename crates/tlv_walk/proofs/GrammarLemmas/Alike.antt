@@ -7,7 +7,7 @@ use Rattle.tlv_head.specs.Shortest.{HaveOneTag, IsShortest}
 use Rattle.tlv_head.proofs.Shortest.{shortest_are_one}
 use Rattle.tlv_walk.specs.Alike.{AreAlike, holders, nothing, padding, primitives}
 use Rattle.tlv_walk.specs.Forest.{Awaiting, Begun, Closed, Entered, Fill, Forest, Partial, Stop, Whole, Zero, contents_length, end_octets, extent, lead, opening, spell}
-use Rattle.tlv_walk.specs.Place.{Place, is_indefinite, place_after, place_inside}
+use Rattle.tlv_walk.specs.Place.{Place, is_indefinite, place_after, place_of_children}
 use Rattle.tlv_walk.proofs.GrammarLemmas.Lengths.{HasLength}
 use Rattle.tlv_walk.specs.Reading.{IsSound}
 
@@ -57,7 +57,7 @@ module _ (form : Bool → Bool) where
       one_spelling (place_after p (length (octets_of h) + length c)) (place_after q (length (octets_of k) + length c)) a b rest u.2 v.2 r.1 s.1 in
       ap₂ (λ (x y : List ℕ). x ++ (c ++ y)) head others
   one_spelling p q f g (holders h k inside within a b tag held rest) u v r s =
-      let contents : spell inside ≡ spell within = one_spelling (place_inside p h) (place_inside q k) inside within held u.3 v.3 r.1 s.1 in
+      let contents : spell inside ≡ spell within = one_spelling (place_of_children p h) (place_of_children q k) inside within held u.3 v.3 r.1 s.1 in
       let others : spell a ≡ spell b = one_spelling (place_after p (extent h inside)) (place_after q (extent k within)) a b rest u.4 v.4 r.2 s.2 in
       let count : contents_length h inside ≡ contents_length k within = ap₂ (λ (x y : List ℕ). length x + length y) (same-lead h k tag) contents in
       let size : h.size ≡ k.size = same-size h.size k.size (contents_length h inside) (same-form form h k tag r.0 s.0) u.1 (rw count v.1) in

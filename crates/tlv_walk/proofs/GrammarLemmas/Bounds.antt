@@ -8,7 +8,7 @@ use Rattle.tlv_head.specs.declared.header.Size.TheVariants.{Definite, Indefinite
 use Rattle.tlv_head.specs.Header.{HeaderValue, announced_length, holds, is_wrapper, octets_of}
 use Rattle.tlv_walk.specs.Forest.{end_octets, lead}
 use Rattle.tlv_walk.proofs.GrammarLemmas.Spellings.{length-opening}
-use Rattle.tlv_walk.specs.Place.{Fits, Place, is_indefinite, place_inside}
+use Rattle.tlv_walk.specs.Place.{Fits, Place, is_indefinite, place_of_children}
 use Rattle.tlv_walk.proofs.GrammarLemmas.Lengths.{HasLength, LacksOctets}
 use Rattle.tlv_walk.specs.Private.Stack.{bound_in}
 
@@ -144,7 +144,7 @@ pub lead-zero : (h : HeaderValue) (x : ℕ) (xs : List ℕ) → lead h ≡ x ∷
 lead-zero h x xs e = lead-cases h.constructed h.number x xs e
 
 -- the bound is not before the first element that an element holds
-pub fits-inside : (p : Place) (h : HeaderValue) → holds h ≡ true → Fits p (length (octets_of h) + announced_length h.size) → Fits (place_inside p h) 0
+pub fits-inside : (p : Place) (h : HeaderValue) → holds h ≡ true → Fits p (length (octets_of h) + announced_length h.size) → Fits (place_of_children p h) 0
 fits-inside p h e f =
-    within-le (place_inside p h).bound _ _ (omega (arith, length-opening h))
+    within-le (place_of_children p h).bound _ _ (omega (arith, length-opening h))
     (contents-within h.size (p.at + length (octets_of h)) p.bound (length (lead h)) (lead-announced_length h e) (within-le p.bound _ _ (omega arith) f))

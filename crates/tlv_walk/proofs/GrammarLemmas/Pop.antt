@@ -4,7 +4,7 @@ use Rattle.std.proofs.lemmas.Bool.{cases_Bool, and_from, true≢false}
 use Rattle.tlv_head.specs.declared.header.Size.TheVariants.{Definite}
 use Rattle.tlv_head.specs.Header.{HeaderValue, announced_length, octets_of}
 use Rattle.tlv_walk.specs.Forest.{Awaiting, Begun, Closed, Entered, Fill, Forest, Partial, Stop, Whole, Zero, contents_length, end_octets, extent, is_complete, lead, opening, spell}
-use Rattle.tlv_walk.specs.Place.{Fits, IsEntry, IsHeadAt, IsOpen, Place, is_indefinite, place_after, place_inside}
+use Rattle.tlv_walk.specs.Place.{Fits, IsEntry, IsHeadAt, IsOpen, Place, is_indefinite, place_after, place_of_children}
 use Rattle.tlv_walk.proofs.GrammarLemmas.Lengths.{LacksOctets}
 use Rattle.tlv_walk.proofs.GrammarLemmas.Bounds.{IsEndless, IsFull, definite-length, fits-inside, fits-within, has_length, indefinite-endless, lacks-length, length-full, within-lacks, within-le}
 use Rattle.tlv_walk.proofs.GrammarLemmas.Spellings.{append_assoc-3, append_assoc-4, length-closed, length-opening, length-whole}
@@ -67,14 +67,14 @@ lacking-entered h f lacks = elim (cases_Bool (is_complete f)) [
 ]
 
 -- contents before the last octet lack octets
-lacks-before : (p : Place) (h : HeaderValue) (f g : Forest) (x : ℕ) → IsEntry p true h → IsOpen (place_inside p h) g → spell g ≡ spell f ++ x ∷ [] → LacksOctets h.size (contents_length h f)
+lacks-before : (p : Place) (h : HeaderValue) (f g : Forest) (x : ℕ) → IsEntry p true h → IsOpen (place_of_children p h) g → spell g ≡ spell f ++ x ∷ [] → LacksOctets h.size (contents_length h f)
 lacks-before p h f g x entry w spelled =
     within-lacks h.size (p.at + length (octets_of h)) p.bound (contents_length h f)
-    (within-le (place_inside p h).bound _ _ (omega (arith, ap length spelled, length-append (spell f) (x ∷ []), length-opening h))
-    (reaches (place_inside p h) g (fits-inside p h entry.header.form entry.fits) w))
+    (within-le (place_of_children p h).bound _ _ (omega (arith, ap length spelled, length-append (spell f) (x ∷ []), length-opening h))
+    (reaches (place_of_children p h) g (fits-inside p h entry.header.form entry.fits) w))
 
 -- an element that holds octets is popped by the last of them, or by that of what comes before
-settled : (p : Place) (h : HeaderValue) (inside g : Forest) → IsEntry p true h → IsOpen (place_inside p h) inside → (inside ≡ Stop) ⊎ Popped (place_inside p h) inside
+settled : (p : Place) (h : HeaderValue) (inside g : Forest) → IsEntry p true h → IsOpen (place_of_children p h) inside → (inside ≡ Stop) ⊎ Popped (place_of_children p h) inside
     → entered h inside ≡ g → spell g ≡ opening h ++ spell inside → Popped p g
 settled p h inside g entry w (inl stop) same spelled =
     let same' : entered h Stop ≡ g = ap (entered h) (sym stop) ∙ same in
@@ -135,12 +135,12 @@ is-zeroed p (Begun o) w whole i f = absurd (cc)
 is-zeroed p Zero w whole i f = absurd (cc)
 
 -- an element of indefinite length is popped by the second of its end-of-contents octets
-endless-popped : (p : Place) (h : HeaderValue) (inside : Forest) → is_indefinite h.size ≡ true → IsClosed p h inside → IsOpen (place_inside p h) inside → Popped p (Closed h inside Stop)
+endless-popped : (p : Place) (h : HeaderValue) (inside : Forest) → is_indefinite h.size ≡ true → IsClosed p h inside → IsOpen (place_of_children p h) inside → Popped p (Closed h inside Stop)
 endless-popped p h inside i w v =
     let e : IsEndless h.size (p.at + length (octets_of h)) p.bound (contents_length h inside) = indefinite-endless h.size _ p.bound _ i in
     let two : length (end_octets h.size) ≡ 2 = ap length e.ends in
-    let f : Fits (place_inside p h) (length (spell inside) + 2) = rw e.bound (within-le p.bound _ _ (omega arith) w.0.fits) in
-    let r : IsZeroed (place_inside p h) inside (zeroed inside) = is-zeroed (place_inside p h) inside v w.1 i f in
+    let f : Fits (place_of_children p h) (length (spell inside) + 2) = rw e.bound (within-le p.bound _ _ (omega arith) w.0.fits) in
+    let r : IsZeroed (place_of_children p h) inside (zeroed inside) = is-zeroed (place_of_children p h) inside v w.1 i f in
     record {
       from = Entered h (zeroed inside);
       last = 0;
@@ -154,8 +154,8 @@ endless-popped p h inside i w v =
     }
 
 -- an element of definite length is popped as its last octet is
-definite-popped : (p : Place) (h : HeaderValue) (inside : Forest) → is_indefinite h.size ≡ false → IsClosed p h inside → IsOpen (place_inside p h) inside
-    → (inside ≡ Stop) ⊎ Popped (place_inside p h) inside → Popped p (Closed h inside Stop)
+definite-popped : (p : Place) (h : HeaderValue) (inside : Forest) → is_indefinite h.size ≡ false → IsClosed p h inside → IsOpen (place_of_children p h) inside
+    → (inside ≡ Stop) ⊎ Popped (place_of_children p h) inside → Popped p (Closed h inside Stop)
 definite-popped p h inside i w v below =
     let test : has_length h.size (contents_length h inside) ≡ true = definite-length h.size _ i w.2 in
     let full : IsFull h.size (contents_length h inside) = length-full h.size _ test in
@@ -166,7 +166,7 @@ definite-popped p h inside i w v below =
     (ap (λ (t : List ℕ). opening h ++ (spell inside ++ (t ++ []))) full.ends ∙ ap (λ (t : List ℕ). opening h ++ t) (append-nil (spell inside)))
 
 -- an element that holds others and has ended is popped
-closed-popped : (p : Place) (h : HeaderValue) (inside : Forest) → IsClosed p h inside → IsOpen (place_inside p h) inside → (inside ≡ Stop) ⊎ Popped (place_inside p h) inside
+closed-popped : (p : Place) (h : HeaderValue) (inside : Forest) → IsClosed p h inside → IsOpen (place_of_children p h) inside → (inside ≡ Stop) ⊎ Popped (place_of_children p h) inside
     → Popped p (Closed h inside Stop)
 closed-popped p h inside w v below = elim (cases_Bool (is_indefinite h.size)) [
   | inl i ↦ endless-popped p h inside i w v
@@ -200,12 +200,12 @@ pop p (Whole h c rest) w = inr (elim (pop (place_after p (length (octets_of h) +
   | inr r ↦ followed p _ (Whole h c) (octets_of h ++ c) rest r (w.0, r.is_open) (λ g. sym (append_assoc (octets_of h) c (spell g))) (λ x. refl)
 ])
 pop p (Closed h inside rest) w = inr (elim (pop (place_after p (extent h inside)) rest w.2) [
-  | inl e ↦ rw e (closed-popped p h inside w.0 w.1 (pop (place_inside p h) inside w.1))
+  | inl e ↦ rw e (closed-popped p h inside w.0 w.1 (pop (place_of_children p h) inside w.1))
   | inr r ↦ followed p _ (Closed h inside) (opening h ++ (spell inside ++ end_octets h.size)) rest r (w.0, w.1, r.is_open)
       (λ g. sym (append_assoc-3 (opening h) (spell inside) (end_octets h.size) (spell g))) (λ x. refl)
 ])
 pop p (Partial h c) w = inr (partial-popped p h c w)
-pop p (Entered h inside) w = inr (settled p h inside (Entered h inside) w.0.0 w.1 (pop (place_inside p h) inside w.1) (lacking-entered h inside w.0.1) refl)
+pop p (Entered h inside) w = inr (settled p h inside (Entered h inside) w.0.0 w.1 (pop (place_of_children p h) inside w.1) (lacking-entered h inside w.0.1) refl)
 pop p (Awaiting h) w = inr (opened-popped p h (0 ∷ []) w.1 w.0)
 pop p (Begun o) w = inr (elim (back o) [
   | is_nil e ↦ absurd (w.0 e)

@@ -9,20 +9,20 @@ use Rattle.tlv_head.specs.Refusal.{IsFront}
 use Rattle.tlv_head.proofs.Scan.{Origin, Scan, Fresh, High, Named, Long, Ready, Stuck, Over, origin_of, step, scan, first-more}
 use Rattle.tlv_head.proofs.Meaning.{Reads, reads-step, reads-scan, front-from_more, front-bytes}
 use Rattle.tlv_walk.specs.Forest.{Awaiting, Begun, Closed, Entered, Fill, Forest, Partial, Stop, Whole, Zero, contents_length, end_octets, extent, is_complete, lead, opening, spell}
-use Rattle.tlv_walk.specs.Place.{Fits, IsEntry, IsHeadAt, IsOpen, Place, place_after, place_inside}
+use Rattle.tlv_walk.specs.Place.{Fits, IsEntry, IsHeadAt, IsOpen, Place, place_after, place_of_children}
 use Rattle.tlv_walk.proofs.GrammarLemmas.Lengths.{LacksOctets}
 use Rattle.tlv_walk.proofs.GrammarLemmas.Bounds.{IsEndless, IsFull, fits, fits-inside, has_length, indefinite-endless, lead-zero, length-full, length-lacks, within-fits, within-le, within-outside}
 use Rattle.tlv_walk.proofs.GrammarLemmas.Spellings.{append_assoc-3, append_assoc-4, length-closed, length-opening, length-whole}
 use Rattle.tlv_walk.proofs.GrammarLemmas.PushSteps.{IsWholeElement, IsClosed, Step, origin, is_filled, entered, partial, opened, begun, complete, begin, zero_between, follow, settle, push, Spells, IsStep, Grown, Ended, Refused}
 
 -- if what an element holds ends within the bound inside, the element so far ends within that outside
-reaches-entered : (p : Place) (h : HeaderValue) (inside : Forest) → Fits p (length (octets_of h) + announced_length h.size) → Fits (place_inside p h) (length (spell inside))
+reaches-entered : (p : Place) (h : HeaderValue) (inside : Forest) → Fits p (length (octets_of h) + announced_length h.size) → Fits (place_of_children p h) (length (spell inside))
     → Fits p (length (opening h ++ spell inside))
 reaches-entered p h inside f g =
     let size : length (opening h ++ spell inside) ≡ length (octets_of h) + (length (lead h) + length (spell inside)) = omega (arith, length-append (opening h) (spell inside), length-opening h) in
     within-le p.bound _ _ (omega arith)
     (within-outside h.size (p.at + length (octets_of h)) p.bound (length (lead h) + length (spell inside)) (within-le p.bound _ _ (omega arith) f)
-    (within-le (place_inside p h).bound _ _ (omega (arith, length-opening h)) g))
+    (within-le (place_of_children p h).bound _ _ (omega (arith, length-opening h)) g))
 
 -- an open forest ends within the bound
 pub reaches : (p : Place) (f : Forest) → Fits p 0 → IsOpen p f → Fits p (length (spell f))
@@ -36,7 +36,7 @@ reaches p (Closed h inside rest) z w =
     (reaches (place_after p (extent h inside)) rest (within-le p.bound _ _ (omega arith) w.0.0.fits) w.2)
 reaches p (Partial h c) z w = within-le p.bound _ _ (omega (arith, length-append (octets_of h) c, w.1)) w.0.fits
 reaches p (Entered h inside) z w =
-    reaches-entered p h inside w.0.0.fits (reaches (place_inside p h) inside (fits-inside p h w.0.0.header.form w.0.0.fits) w.1)
+    reaches-entered p h inside w.0.0.fits (reaches (place_of_children p h) inside (fits-inside p h w.0.0.header.form w.0.0.fits) w.1)
 reaches p (Awaiting h) z w = within-le p.bound _ _ (omega arith) w.0.fits
 reaches p (Begun o) z w = w.2
 reaches p Zero z w = w.1
@@ -73,7 +73,7 @@ partial-sound p h c n header e most f =
     ]
 
 -- an element that holds others, with all its contents octets by its definite length
-pub closed-sound : (p : Place) (h : HeaderValue) (g : Forest) → IsEntry p true h → IsOpen (place_inside p h) g → is_complete g ≡ true → IsFull h.size (contents_length h g)
+pub closed-sound : (p : Place) (h : HeaderValue) (g : Forest) → IsEntry p true h → IsOpen (place_of_children p h) g → is_complete g ≡ true → IsFull h.size (contents_length h g)
     → Spells p (opening h ++ spell g) (Closed h g Stop)
 closed-sound p h g entry w whole full =
     let none : length (end_octets h.size) ≡ 0 = ap length full.ends in
@@ -91,19 +91,19 @@ closed-sound p h g entry w whole full =
     }
 
 -- an element that is not filled lacks octets, if what it holds is whole
-pub unfilled-lacks : (p : Place) (h : HeaderValue) (g : Forest) → is_filled h g ≡ false → is_complete g ≡ true → Fits (place_inside p h) (length (spell g)) → LacksOctets h.size (contents_length h g)
+pub unfilled-lacks : (p : Place) (h : HeaderValue) (g : Forest) → is_filled h g ≡ false → is_complete g ≡ true → Fits (place_of_children p h) (length (spell g)) → LacksOctets h.size (contents_length h g)
 unfilled-lacks p h g e whole there =
     let short : has_length h.size (contents_length h g) ≡ false = rw whole at e in
-    length-lacks h.size (p.at + length (octets_of h)) p.bound _ (within-le (place_inside p h).bound _ _ (omega (arith, length-opening h)) there) short
+    length-lacks h.size (p.at + length (octets_of h)) p.bound _ (within-le (place_of_children p h).bound _ _ (omega (arith, length-opening h)) there) short
 
 -- what an element holds is open: so is the element
-pub entered-sound : (p : Place) (h : HeaderValue) (g : Forest) → IsEntry p true h → IsOpen (place_inside p h) g → Spells p (opening h ++ spell g) (entered h g)
+pub entered-sound : (p : Place) (h : HeaderValue) (g : Forest) → IsEntry p true h → IsOpen (place_of_children p h) g → Spells p (opening h ++ spell g) (entered h g)
 entered-sound p h g entry w = elim (cases_Bool (is_filled h g)) [
   | inl e ↦
       let parts : (is_complete g ≡ true) × (has_length h.size (contents_length h g) ≡ true) = and_parts _ _ e in
       rw e (closed-sound p h g entry w parts.0 (length-full h.size _ parts.1))
   | inr e ↦
-      let there : Fits (place_inside p h) (length (spell g)) = reaches (place_inside p h) g (fits-inside p h entry.header.form entry.fits) w in
+      let there : Fits (place_of_children p h) (length (spell g)) = reaches (place_of_children p h) g (fits-inside p h entry.header.form entry.fits) w in
       rw e (record { is_open = ((entry, λ whole. unfilled-lacks p h g e whole there), w); spelled = refl })
 ]
 
@@ -229,7 +229,7 @@ whole-step p h c o (Ended g) w r = record {
 whole-step p h c o (Refused code) w r = tt
 
 -- a step of what follows an element that holds others
-closed-step : (p : Place) (h : HeaderValue) (inside : Forest) (o : List ℕ) (s : Step) → IsClosed p h inside → IsOpen (place_inside p h) inside → IsStep (place_after p (extent h inside)) o s
+closed-step : (p : Place) (h : HeaderValue) (inside : Forest) (o : List ℕ) (s : Step) → IsClosed p h inside → IsOpen (place_of_children p h) inside → IsStep (place_after p (extent h inside)) o s
     → IsStep p (opening h ++ (spell inside ++ (end_octets h.size ++ o))) (follow (Closed h inside) s)
 closed-step p h inside o (Grown g) w v r = record { is_open = (w, v, r.is_open); spelled = ap (λ (t : List ℕ). opening h ++ (spell inside ++ (end_octets h.size ++ t))) r.spelled }
 closed-step p h inside o (Ended g) w v r = record {
@@ -242,7 +242,7 @@ closed-step p h inside o (Ended g) w v r = record {
 closed-step p h inside o (Refused code) w v r = tt
 
 -- a step of what an element holds
-entered-step : (p : Place) (h : HeaderValue) (o : List ℕ) (s : Step) → IsEntry p true h → IsStep (place_inside p h) o s → IsStep p (opening h ++ o) (settle h s)
+entered-step : (p : Place) (h : HeaderValue) (o : List ℕ) (s : Step) → IsEntry p true h → IsStep (place_of_children p h) o s → IsStep p (opening h ++ o) (settle h s)
 entered-step p h o (Grown g) entry r =
     let e : Spells p (opening h ++ spell g) (entered h g) = entered-sound p h g entry r.is_open in
     record { is_open = e.is_open; spelled = e.spelled ∙ ap (λ (t : List ℕ). opening h ++ t) r.spelled }
@@ -276,7 +276,7 @@ push-sound p (Closed head inside rest) x h w =
 push-sound p (Partial head c) x h w = partial-step p head c x w
 push-sound p (Entered head inside) x h w =
     rw (append_assoc (opening head) (spell inside) (x ∷ []))
-    (entered-step p head _ _ w.0.0 (push-sound (place_inside p head) inside x h w.1))
+    (entered-step p head _ _ w.0.0 (push-sound (place_of_children p head) inside x h w.1))
 push-sound p (Awaiting head) x h w = awaiting-step p head x w
 push-sound p (Begun o) x h w = front-step p o x h w.1
 push-sound p Zero x h w = zero-step p x w.0

@@ -7,7 +7,7 @@ use Rattle.tlv_head.specs.Header.{HeaderValue, announced_length, holds, octets_o
 use Rattle.tlv_head.proofs.Scan.{Origin, Scan, Fresh, High, Named, Long, Ready, Stuck, Over, step, scan}
 use Rattle.tlv_walk.specs.Forest.{Awaiting, Begun, Closed, Entered, Fill, Forest, Partial, Stop, Whole, Zero, contents_length, extent, is_complete, lead, spell}
 use Rattle.tlv_walk.specs.Inside.{is_among}
-use Rattle.tlv_walk.specs.Place.{Fits, IsElementAt, IsOpen, Place, place_after, place_inside}
+use Rattle.tlv_walk.specs.Place.{Fits, IsElementAt, IsOpen, Place, place_after, place_of_children}
 use Rattle.tlv_walk.proofs.GrammarLemmas.Lengths.{HasLength}
 use Rattle.tlv_walk.proofs.GrammarLemmas.Bounds.{fits, has_length}
 
@@ -93,7 +93,7 @@ push p (Fill rest) x = follow Fill (push (place_after p 1) rest x)
 push p (Whole h c rest) x = follow (Whole h c) (push (place_after p (length (octets_of h) + length c)) rest x)
 push p (Closed h inside rest) x = follow (Closed h inside) (push (place_after p (extent h inside)) rest x)
 push p (Partial h c) x = Grown (partial h (c ++ x ∷ []))
-push p (Entered h inside) x = settle h (push (place_inside p h) inside x)
+push p (Entered h inside) x = settle h (push (place_of_children p h) inside x)
 push p (Awaiting h) x = cond (eqb x 0) (Grown (entered h Stop)) (Refused BadInside)
 push p (Begun o) x = cond (fits p (length o + 1)) (begin p (o ++ x ∷ []) (step (origin p) (scan (origin p) o) x)) (Refused Overrun)
 push p Zero x = cond (fits p 2) (cond (eqb x 0) (Ended Stop) (Refused BadEnd)) (Refused MissingEnd)

@@ -8,7 +8,7 @@ use Rattle.tlv_head.proofs.Shortest.{identifier-some, lengths-some}
 use Rattle.tlv_walk.specs.Alike.{AreAlike, HaveLowForms, holders, nothing, padding, primitives}
 use Rattle.tlv_walk.specs.Forest.{Forest, Stop, Fill, Whole, Closed, Partial, Entered, Awaiting, Begun, Zero, end_octets, extent, lead, opening, spell}
 use Rattle.tlv_walk.specs.Inside.{is_among}
-use Rattle.tlv_walk.specs.Place.{Place, place_after, place_inside}
+use Rattle.tlv_walk.specs.Place.{Place, place_after, place_of_children}
 use Rattle.tlv_walk.specs.Reading.{IsSound}
 use Rattle.tlv_walk.specs.Wrappers.{wrappers}
 use Rattle.tlv_walk.proofs.GrammarLemmas.Alike.{AreRegular}
@@ -159,7 +159,7 @@ module _ (form : Bool → Bool) (definite : form false ≡ false) where
       }
 
   spelling-closed : (p : Place) (h : HeaderValue) (inside rest : Forest) (constructed : Bool) → h.constructed ≡ constructed → IsHeader h → p.depth < 128
-      → (held : Spelling form (place_inside p h) inside)
+      → (held : Spelling form (place_of_children p h) inside)
       → Holds h constructed (form constructed) (length held.octets)
       → (o : Octets h constructed (size-for (form constructed) (length (lead-for constructed h.number) + length held.octets)))
       → Spelling form (place_after p (extent h inside)) rest → Spelling form p (Closed h inside rest)
@@ -205,8 +205,8 @@ module _ (form : Bool → Bool) (definite : form false ≡ false) where
             let k : HeaderValue = head_of h (not constructed) constructed size o q.at in
             let named : is_among q.at q.inside ≡ not constructed =
             agrees q.at (omega arith) (omega (arith, total, some)) ∙ joint.of_own q.at in
-            let i : SpelledAt form (place_inside q k) inside held.octets (held.names (q.at + length begins)) =
-            held.there (place_inside q k) (record { padding = refl; depth = ap (λ (d : ℕ). d + 1) like.depth })
+            let i : SpelledAt form (place_of_children q k) inside held.octets (held.names (q.at + length begins)) =
+            held.there (place_of_children q k) (record { padding = refl; depth = ap (λ (d : ℕ). d + 1) like.depth })
             (λ j least most. agrees j (omega (arith, least)) (omega (arith, most, total)) ∙ joint.of_inner q.at j least most) in
             let next_is : extent k i.forest ≡ far = ap (λ (l : List ℕ). length begins + (length l + length ends)) i.spelled in
             let t : SpelledAt form (place_after q (extent k i.forest)) rest r.octets (r.names (q.at + extent k i.forest)) =
@@ -253,7 +253,7 @@ module _ (form : Bool → Bool) (definite : form false ≡ false) where
       let count : length (spell (Closed h inside rest)) ≡ extent h inside + length (spell rest) = length-closed h inside rest in
       let begins : length (opening h) ≡ length (octets_of h) + length (lead h) = length-opening h in
       let some : 2 ≤ length (octets_of h) = header-length h u.0.valid in
-      let held : Spelling form (place_inside p h) inside = respelled (place_inside p h) inside (omega (arith, count, few)) u.3 low.0 in
+      let held : Spelling form (place_of_children p h) inside = respelled (place_of_children p h) inside (omega (arith, count, few)) u.3 low.0 in
       let m : ℕ = length (lead h) + length held.octets in
       let below : m < 2 ^ 40 = omega (arith, held.short, count, begins, some, few, lead-short h.constructed h.number) in
       let primitive : h.constructed ≡ false → form h.constructed ≡ false = λ e. ap form e ∙ definite in

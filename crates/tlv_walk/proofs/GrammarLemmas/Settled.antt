@@ -6,7 +6,7 @@ use Rattle.tlv_head.specs.declared.header.Size.TheVariants.{Definite, Indefinite
 use Rattle.tlv_head.specs.Header.{HeaderValue, octets_of}
 use Rattle.tlv_walk.specs.declared.framing.Framing.{Framing}
 use Rattle.tlv_walk.specs.Forest.{Closed, Forest, Stop, contents_length, is_complete, opening, spell}
-use Rattle.tlv_walk.specs.Place.{Fits, IsOpen, Place, place_after, place_inside, top_place}
+use Rattle.tlv_walk.specs.Place.{Fits, IsOpen, Place, place_after, place_of_children, top_place}
 use Rattle.tlv_walk.specs.Private.Stack.{bound_in}
 use Rattle.tlv_walk.specs.Stack.{IsFilled}
 use Rattle.tlv_walk.specs.Private.Zipper.{AreLayers, AreWhole, Layer, frames_of, place_in, spell_layers}
@@ -51,7 +51,7 @@ pub unfilled-room : (w : Framing) (l : Layer) (ls : List Layer) (f : Forest) →
     → IsOpen (top_place w) (within (l ∷ ls) f)
 unfilled-room w l ls f a i e =
     let p : Place = place_after (place_in w ls) (length (spell l.before)) in
-    let there : Fits (place_inside p l.head) (length (spell f)) = reaches (place_inside p l.head) f (fits-inside p l.head a.2.header.form a.2.fits) i.is_open in
+    let there : Fits (place_of_children p l.head) (length (spell f)) = reaches (place_of_children p l.head) f (fits-inside p l.head a.2.header.form a.2.fits) i.is_open in
     open-within w (l ∷ ls) f a i.is_open (λ whole. unfilled-lacks p l.head f e whole there)
 
 -- they are open, and spell the octets of the layers and then their own

@@ -3,7 +3,7 @@ use Rattle.std.proofs.Common.{◌≡◌, ◌+◌, true, false, length, refl, ari
 use Rattle.tlv_head.specs.Header.{HeaderValue, octets_of}
 use Rattle.tlv_walk.specs.declared.framing.Framing.{Framing}
 use Rattle.tlv_walk.specs.Forest.{Awaiting, Begun, Closed, Entered, Fill, Forest, Partial, Stop, Whole, Zero, contents_length, extent, is_complete, spell}
-use Rattle.tlv_walk.specs.Place.{Fits, IsOpen, Place, place_after, place_inside, top_place}
+use Rattle.tlv_walk.specs.Place.{Fits, IsOpen, Place, place_after, place_of_children, top_place}
 use Rattle.tlv_walk.proofs.GrammarLemmas.Lengths.{HasLength}
 use Rattle.tlv_walk.specs.Reading.{IsSound}
 use Rattle.tlv_walk.proofs.GrammarLemmas.Bounds.{filled-within, within-le}
@@ -22,9 +22,9 @@ sound-whole p (Begun octets) s = absurd s
 sound-whole p Zero s = absurd s
 
 -- the contents of an element within the bound are within the bound inside
-fits-contents : (p : Place) (h : HeaderValue) (inside : Forest) → HasLength h.size (contents_length h inside) → Fits p (extent h inside) → Fits (place_inside p h) (length (spell inside))
+fits-contents : (p : Place) (h : HeaderValue) (inside : Forest) → HasLength h.size (contents_length h inside) → Fits p (extent h inside) → Fits (place_of_children p h) (length (spell inside))
 fits-contents p h inside same f =
-    within-le (place_inside p h).bound _ _ (omega (arith, length-opening h))
+    within-le (place_of_children p h).bound _ _ (omega (arith, length-opening h))
     (filled-within h.size (p.at + length (octets_of h)) p.bound (contents_length h inside) same
     (within-le p.bound _ _ (omega (arith, length-opening h)) f))
 
@@ -41,8 +41,8 @@ sound-open p (Whole h c rest) d z s = (
 )
 sound-open p (Closed h inside rest) d z s =
     let f : Fits p (extent h inside) = within-le p.bound _ _ (omega (arith, length-closed h inside rest)) z in (
-      (record { header = s.0; depth = λ _. s.2; fits = f }, sound-whole (place_inside p h) inside s.3, s.1),
-      sound-open (place_inside p h) inside (λ e. absurd (cc)) (fits-contents p h inside s.1 f) s.3,
+      (record { header = s.0; depth = λ _. s.2; fits = f }, sound-whole (place_of_children p h) inside s.3, s.1),
+      sound-open (place_of_children p h) inside (λ e. absurd (cc)) (fits-contents p h inside s.1 f) s.3,
       sound-open (place_after p (extent h inside)) rest d (within-le p.bound _ _ (omega (arith, length-closed h inside rest)) z) s.4,
     )
 sound-open p (Partial h c) d z s = absurd s
@@ -57,7 +57,7 @@ open-sound p Stop w t = tt
 open-sound p (Fill rest) w t = (w.0.0, open-sound (place_after p 1) rest w.1 t)
 open-sound p (Whole h c rest) w t = (w.0.0.header, w.0.1, open-sound (place_after p (length (octets_of h) + length c)) rest w.1 t)
 open-sound p (Closed h inside rest) w t =
-    (w.0.0.header, w.0.2, w.0.0.depth refl, open-sound (place_inside p h) inside w.1 w.0.1, open-sound (place_after p (extent h inside)) rest w.2 t)
+    (w.0.0.header, w.0.2, w.0.0.depth refl, open-sound (place_of_children p h) inside w.1 w.0.1, open-sound (place_after p (extent h inside)) rest w.2 t)
 open-sound p (Partial h c) w t = absurd (cc)
 open-sound p (Entered h inside) w t = absurd (cc)
 open-sound p (Awaiting h) w t = absurd (cc)

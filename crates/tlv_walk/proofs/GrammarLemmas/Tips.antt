@@ -3,7 +3,7 @@ use Rattle.std.proofs.Common.{◌≡◌, ℕ, ◌+◌, true, false, length, Opti
 use Rattle.tlv_head.specs.declared.fault.FaultCode.{FaultCode}
 use Rattle.tlv_head.specs.Header.{HeaderValue, octets_of}
 use Rattle.tlv_walk.specs.Forest.{Awaiting, Begun, Closed, Entered, Fill, Forest, Partial, Stop, Whole, Zero, contents_length, extent, is_complete, spell}
-use Rattle.tlv_walk.specs.Place.{Fits, IsOpen, Place, place_after, place_inside}
+use Rattle.tlv_walk.specs.Place.{Fits, IsOpen, Place, place_after, place_of_children}
 use Rattle.tlv_walk.specs.Ending.{tip}
 use Rattle.tlv_walk.proofs.GrammarLemmas.Bounds.{fits-inside, lacks-within, within-le}
 use Rattle.tlv_walk.proofs.GrammarLemmas.Spellings.{length-closed, length-opening, length-whole}
@@ -34,7 +34,7 @@ push-tip p (Fill rest) x = refusal-follow Fill (push (place_after p 1) rest x) �
 push-tip p (Whole h c rest) x = refusal-follow (Whole h c) (push (place_after p (length (octets_of h) + length c)) rest x) ∙ push-tip (place_after p (length (octets_of h) + length c)) rest x
 push-tip p (Closed h inside rest) x = refusal-follow (Closed h inside) (push (place_after p (extent h inside)) rest x) ∙ push-tip (place_after p (extent h inside)) rest x
 push-tip p (Partial h c) x = refl
-push-tip p (Entered h inside) x = refusal-settle h (push (place_inside p h) inside x) ∙ push-tip (place_inside p h) inside x
+push-tip p (Entered h inside) x = refusal-settle h (push (place_of_children p h) inside x) ∙ push-tip (place_of_children p h) inside x
 push-tip p (Awaiting h) x = refl
 push-tip p (Begun o) x = refl
 push-tip p Zero x = refl
@@ -57,9 +57,9 @@ room-after : (p : Place) (n : ℕ) (f g : Forest) → length (spell g) ≡ n + l
 room-after p n f g size whole r i w = within-le p.bound _ _ (omega arith) (r i (whole w))
 
 -- what an element holds has room, if octets are lacking
-room-inside : (p : Place) (h : HeaderValue) (inside : Forest) → IsOpen p (Entered h inside) → HasRoom (place_inside p h) inside
+room-inside : (p : Place) (h : HeaderValue) (inside : Forest) → IsOpen p (Entered h inside) → HasRoom (place_of_children p h) inside
 room-inside p h inside e i w =
-    within-le (place_inside p h).bound _ _ (omega (arith, length-opening h))
+    within-le (place_of_children p h).bound _ _ (omega (arith, length-opening h))
     (lacks-within h.size (p.at + length (octets_of h)) p.bound (contents_length h inside) i (e.0.1 w))
 
 -- it holds of the tip of an open forest with room
@@ -73,7 +73,7 @@ tip-fact p (Closed h inside rest) z r w =
     tip-fact (place_after p (extent h inside)) rest (within-le p.bound _ _ (omega arith) w.0.0.fits) (room-after p _ rest (Closed h inside rest) (length-closed h inside rest) (λ t. t) r) w.2
 tip-fact p (Partial h c) z r w = tt
 tip-fact p (Entered h inside) z r w =
-    tip-fact (place_inside p h) inside (fits-inside p h w.0.0.header.form w.0.0.fits) (room-inside p h inside w) w.1
+    tip-fact (place_of_children p h) inside (fits-inside p h w.0.0.header.form w.0.0.fits) (room-inside p h inside w) w.1
 tip-fact p (Awaiting h) z r w = tt
 tip-fact p (Begun o) z r w = w
 tip-fact p Zero z r w = w.1

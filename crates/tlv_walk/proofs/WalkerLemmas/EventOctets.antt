@@ -13,7 +13,7 @@ use Rattle.tlv_walk.specs.DriveJob.{event_octets}
 use Rattle.tlv_walk.specs.Events.{AreEqualJoined, Begin, Bytes, Close, End, Enter, EventValue, Leave, Open, Pad, Unused, closing_event, end_offset, events, opening_events, single_octets}
 use Rattle.tlv_walk.specs.Forest.{Forest, Stop, Fill, Whole, Closed, Partial, Entered, Awaiting, Begun, Zero, end_octets, extent, is_complete, lead, opening, spell}
 use Rattle.tlv_walk.specs.WalkerState.{IsAfterEvent, WalkerState}
-use Rattle.tlv_walk.specs.Place.{IsHeadAt, IsOpen, Place, place_after, place_inside}
+use Rattle.tlv_walk.specs.Place.{IsHeadAt, IsOpen, Place, place_after, place_of_children}
 use Rattle.tlv_walk.specs.Private.Zipper.{AreLayers, BeforeUnused, Between, HasZipper, InContents, InEnd, InHeader, IsPhaseOf, Layer, Tail, Zipper, events_layers, events_tail, events_zipper, place_in, place_of, spell_layers, spell_tail}
 use Rattle.tlv_walk.specs.Stands.{Stands}
 use Rattle.tlv_walk.proofs.EventLemmas.Joined.{apart-from_joined}
@@ -95,7 +95,7 @@ octets_whole p (Closed h inside rest) o e =
     ∙ ap (λ (l : List ℕ). l ++ flat_map event_octets (events inside ++ closing_event h inside ∷ events rest)) (octets_opens h)
     ∙ ap (λ (l : List ℕ). opening h ++ l) (
     octets_append (events inside) (closing_event h inside ∷ events rest)
-    ∙ ap (λ (l : List ℕ). l ++ flat_map event_octets (closing_event h inside ∷ events rest)) (octets_whole (place_inside p h) inside o.1 o.0.1)
+    ∙ ap (λ (l : List ℕ). l ++ flat_map event_octets (closing_event h inside ∷ events rest)) (octets_whole (place_of_children p h) inside o.1 o.0.1)
     ∙ ap (λ (l : List ℕ). spell inside ++ (l ++ flat_map event_octets (events rest))) (octets_closes p h inside o.0.0.header)
     ∙ ap (λ (l : List ℕ). spell inside ++ (end_octets h.size ++ l)) (octets_whole (place_after p (extent h inside)) rest o.2 e)
     )

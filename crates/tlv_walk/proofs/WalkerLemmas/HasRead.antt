@@ -6,14 +6,14 @@ use Rattle.tlv_walk.specs.declared.ending.Ending.TheVariants as ending
 use Rattle.tlv_walk.specs.Ending.{IsEnding, ShowsSoundness}
 use Rattle.tlv_walk.specs.Events.{EventValue}
 use Rattle.tlv_walk.specs.Forest.{Forest}
-use Rattle.tlv_walk.specs.WalkerState.{WalkerState, first_unused_in}
+use Rattle.tlv_walk.specs.WalkerState.{WalkerState, first_without_string_in}
 use Rattle.tlv_walk.specs.OpenCount.{open_count}
 use Rattle.tlv_walk.specs.Phase.{Phase, Failed}
 use Rattle.tlv_walk.specs.Place.{Place}
 use Rattle.tlv_walk.specs.Private.Zipper.{IsPhaseOf, Tail, place_of}
 use Rattle.tlv_walk.specs.Stands.{IsIdle, Stands}
 use Rattle.tlv_walk.specs.HasRead.{HasRead, StandsAtEnd, refused_one, refused, took, took_all}
-use Rattle.tlv_walk.specs.Wrappers.{first_unused}
+use Rattle.tlv_walk.specs.Wrappers.{first_without_string}
 use Rattle.tlv_walk.proofs.WalkerLemmas.OpenCounts.{state-depth}
 use Rattle.tlv_walk.proofs.GrammarLemmas.Readings.{reading-unique}
 use Rattle.tlv_walk.proofs.GrammarLemmas.Unique.{shows-soundness}
@@ -31,9 +31,9 @@ pub read_offset : (w : WalkerState) (b : List ℕ) (f : Forest) → HasRead w b 
 read_offset w b f (took past st e) = st.private_state.has_state.offset
 read_offset w b f (refused x past g st e) = st.offset
 
-pub read_unused : (w : WalkerState) (b : List ℕ) (f : Forest) → HasRead w b f → first_unused_in w ≡ first_unused w.framing.inside f
-read_unused w b f (took past st e) = stands_unused w b past st ∙ ap (first_unused w.framing.inside) e
-read_unused w b f (refused x past g st e) = st.unused ∙ ap (first_unused w.framing.inside) e
+pub read_unused : (w : WalkerState) (b : List ℕ) (f : Forest) → HasRead w b f → first_without_string_in w ≡ first_without_string w.framing.inside f
+read_unused w b f (took past st e) = stands_unused w b past st ∙ ap (first_without_string w.framing.inside) e
+read_unused w b f (refused x past g st e) = st.unused ∙ ap (first_without_string w.framing.inside) e
 
 -- a walker that stands for octets was refused none
 pub never_failed : (w : WalkerState) (b : List ℕ) (past : List EventValue) (f : Fault) → Stands w b past → w.phase ≡ Failed f → ⊥

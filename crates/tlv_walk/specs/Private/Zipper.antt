@@ -12,7 +12,7 @@ use Rattle.tlv_walk.specs.Inside.{CanName, is_among}
 use Rattle.tlv_walk.specs.WalkerState.{WalkerState}
 use Rattle.tlv_walk.specs.Private.WalkerState.{wrappers_after}
 use Rattle.tlv_walk.specs.Private.Stack.{frame_with}
-use Rattle.tlv_walk.specs.Place.{Fits, IsEntry, IsHeadAt, IsOpen, Place, place_after, place_inside, top_place}
+use Rattle.tlv_walk.specs.Place.{Fits, IsEntry, IsHeadAt, IsOpen, Place, place_after, place_of_children, top_place}
 use Rattle.tlv_walk.specs.Wrappers.{wrapper_offsets}
 
 -- an open element that holds others, and the whole elements before it in the element around it
@@ -42,7 +42,7 @@ pub record Zipper : Type 0 where
 -- where the elements in the innermost open element begin
 abbrev pub place_in : Framing → List Layer → Place
 place_in w [] = top_place w
-place_in w (l ∷ ls) = place_inside (place_after (place_in w ls) (length (spell l.before))) l.head
+place_in w (l ∷ ls) = place_of_children (place_after (place_in w ls) (length (spell l.before))) l.head
 
 -- after the whole elements there
 abbrev pub place_of : Framing → Zipper → Place
