@@ -1,8 +1,8 @@
--- Texts that are written behind the octets held.
+-- Texts that are written after the octets held.
 use Rattle.std.proofs.Common.{◌≡◌, ℕ, ◌+◌, ◌-◌, ◌*◌, ◌/◌, ◌<◌, ◌≤◌, ◌^◌, List, [], ◌∷◌, ◌++◌, length, take, drop, get_or, decimal, replicate, set, refl, sym, ap, ap₂, ◌∙◌, arith, append_assoc, append-nil, length-append, take-append-drop, suc, zero}
 use Rattle.std.proofs.Math.Seq.{drop-append-add, drop-append_seam, take-add, take-append-add, take-append_seam}
 use Rattle.std.proofs.lemmas.Fmt.{length-decimal-le}
-use Rattle.std.proofs.lemmas.List.{drop-drop, length-replicate, length-take-le, replicate-append-replicate, take-append-le, take-replicate, take-take, take_all, take_more, take_more_set}
+use Rattle.std.proofs.lemmas.List.{drop-drop, length-replicate, length-take-le, replicate-append-replicate, set-append_right, take-append-le, take-replicate, take-take, take_all, take_more, take_more_set}
 use Rattle.hex.specs.Hex.{encode_lower, lower_digits}
 use Rattle.hex.proofs.HexLemmas.{length-encode_with}
 use Rattle.itoa.proofs.Decimal.{length_one, length_step_wide}
@@ -10,7 +10,7 @@ use Rattle.tlv_io.specs.LineTexts.{right, spaced_pairs, spaces}
 
 -- ---- texts that were added
 
--- the first columns of a line, one behind the other
+-- the first columns of a line, one after the other
 pub columns_added : (old one two three new first second : List ℕ) → one ≡ old ++ first → two ≡ one ++ 32 ∷ [] → three ≡ two ++ second → new ≡ three ++ 58 ∷ 32 ∷ []
     → new ≡ old ++ (first ++ 32 ∷ [] ++ second ++ 58 ∷ 32 ∷ [])
 columns_added old one two three new first second p q r s = rw (s, r, q, p) (simp append_assoc refl)
@@ -19,33 +19,37 @@ columns_added old one two three new first second p q r s = rw (s, r, q, p) (simp
 pub added : (old new text : List ℕ) → new ≡ old ++ text → length new ≡ length old + length text
 added old new text e = ap length e ∙ length-append old text
 
--- ---- a text behind the octets in front
+-- as many octets as are held are those that are held
+pub held_up_to : (octets held : List ℕ) (len count : ℕ) → take len octets ≡ held → count ≡ length held → len ≤ length octets → take count octets ≡ held
+held_up_to octets held len count is size within = ap (λ (n : ℕ). take n octets) (size ∙ sym (ap length is) ∙ length-take-le len octets within) ∙ is
 
--- a part was lent and a text written to its front
-pub behind_part : (old part text : List ℕ) (at n : ℕ) → at ≤ length old → take n part ≡ text → take (at + n) (take at old ++ part) ≡ take at old ++ text
-behind_part old part text at n within e =
+-- ---- a text after the octets that stay
+
+-- the rest was lent, and a text was written to its front
+pub part_written : (old part text : List ℕ) (at n : ℕ) → at ≤ length old → take n part ≡ text → take (at + n) (take at old ++ part) ≡ take at old ++ text
+part_written old part text at n within e =
     let size : length (take at old) ≡ at = length-take-le at old within in
     ap (λ (k : ℕ). take (k + n) (take at old ++ part)) (sym size) ∙ take-append-add (take at old) part n ∙ ap (λ (l : List ℕ). take at old ++ l) e
 
--- of which more was lent than that
-pub behind_front : (old part tail text : List ℕ) (at n : ℕ) → at ≤ length old → n ≤ length part → take n part ≡ text → take (at + n) (take at old ++ (part ++ tail)) ≡ take at old ++ text
-behind_front old part tail text at n within long e = behind_part old (part ++ tail) text at n within (take-append-le n part tail long ∙ e)
+-- of which more was lent than the text takes
+pub front_written : (old part tail text : List ℕ) (at n : ℕ) → at ≤ length old → n ≤ length part → take n part ≡ text → take (at + n) (take at old ++ (part ++ tail)) ≡ take at old ++ text
+front_written old part tail text at n within long e = part_written old (part ++ tail) text at n within (take-append-le n part tail long ∙ e)
 
--- a text was written behind what stays
-pub behind_kept : (new front text rest : List ℕ) (start n : ℕ) → take start new ≡ front → drop start new ≡ text ++ rest → n ≡ start + length text → take n new ≡ front ++ text
-behind_kept new front text rest start n kept written e =
+-- a text was written after what stays
+pub text_written : (new front text rest : List ℕ) (start n : ℕ) → take start new ≡ front → drop start new ≡ text ++ rest → n ≡ start + length text → take n new ≡ front ++ text
+text_written new front text rest start n kept written e =
     ap (λ (k : ℕ). take k new) e ∙ take-add start (length text) new ∙ ap₂ (λ (k l : List ℕ). k ++ take (length text) l) kept written ∙ ap (λ (l : List ℕ). front ++ l) (take-append_seam text rest)
 
 -- spaces were written to so many places, and then a text to their right end
-pub behind_right : (old new tail text rest pad : List ℕ) (at start places : ℕ) → at ≤ length old → length text ≤ places → start + length text ≡ at + places → pad ≡ spaces places
+pub right_written : (old new tail text rest pad : List ℕ) (at start places : ℕ) → at ≤ length old → length text ≤ places → start + length text ≡ at + places → pad ≡ spaces places
     → take start new ≡ take start (take at old ++ (pad ++ tail)) → drop start new ≡ text ++ rest → take (at + places) new ≡ take at old ++ right places text
-behind_right old new tail text rest pad at start places within short e is kept written =
+right_written old new tail text rest pad at start places within short e is kept written =
     let left : ℕ = places - length text in
     let from : start ≡ at + left = omega (arith, e, short) in
     let size : length pad ≡ places = ap length is ∙ length-replicate places 32 in
     let blank : take left (pad ++ tail) ≡ spaces left = take-append-le left pad tail (omega (arith, size)) ∙ ap (take left) is ∙ take-replicate left places 32 (omega arith) in
-    let front : take start new ≡ take at old ++ spaces left = kept ∙ ap (λ (k : ℕ). take k (take at old ++ (pad ++ tail))) from ∙ behind_part old (pad ++ tail) (spaces left) at left within blank in
-    behind_kept new (take at old ++ spaces left) text rest start (at + places) front written (sym e) ∙ append_assoc (take at old) (spaces left) text
+    let front : take start new ≡ take at old ++ spaces left = kept ∙ ap (λ (k : ℕ). take k (take at old ++ (pad ++ tail))) from ∙ part_written old (pad ++ tail) (spaces left) at left within blank in
+    text_written new (take at old ++ spaces left) text rest start (at + places) front written (sym e) ∙ append_assoc (take at old) (spaces left) text
 
 -- a long text stands as it is
 pub right_long : (places : ℕ) (text : List ℕ) → places ≤ length text → right places text ≡ text
@@ -64,7 +68,7 @@ spaces_front count pad tail e few =
 pub spaces_step : (to pad tail : List ℕ) (done : ℕ) → done ≤ length to → pad ≡ replicate 32 32 → take done to ≡ spaces done → take (done + 32) (take done to ++ (pad ++ tail)) ≡ spaces (done + 32)
 spaces_step to pad tail done within e is =
     let more : List ℕ = replicate 32 32 in
-    behind_part to (pad ++ tail) more done 32 within (spaces_front 32 pad tail e (omega arith))
+    part_written to (pad ++ tail) more done 32 within (spaces_front 32 pad tail e (omega arith))
     ∙ ap (λ (l : List ℕ). l ++ more) is
     ∙ replicate-append-replicate done 32 32
 
@@ -84,10 +88,10 @@ right_end old new front text tail start places is short e kept written =
     let blank : take left (spaces places ++ tail) ≡ spaces left = take-append-le left (spaces places) tail (omega (arith, size)) ∙ take-replicate left places 32 (omega arith) in
     let before : take start old ≡ front ++ spaces left =
     ap (take start) is ∙ ap (λ (k : ℕ). take k (front ++ (spaces places ++ tail))) from ∙ take-append-add front (spaces places ++ tail) left ∙ ap (λ (l : List ℕ). front ++ l) blank in
-    let behind : drop (length front + places) old ≡ tail =
+    let after : drop (length front + places) old ≡ tail =
     ap (drop (length front + places)) is ∙ drop-append-add front (spaces places ++ tail) places ∙ ap (λ (k : ℕ). drop k (spaces places ++ tail)) (sym size) ∙ drop-append_seam (spaces places) tail in
     sym (take-append-drop start new)
-    ∙ ap₂ (λ (k l : List ℕ). k ++ l) (kept ∙ before) (written ∙ ap (λ (l : List ℕ). text ++ l) behind)
+    ∙ ap₂ (λ (k l : List ℕ). k ++ l) (kept ∙ before) (written ∙ ap (λ (l : List ℕ). text ++ l) after)
     ∙ append_assoc front (spaces left) (text ++ tail)
     ∙ ap (λ (l : List ℕ). front ++ l) (sym (append_assoc (spaces left) text tail))
 
@@ -99,6 +103,12 @@ right-size places text short = omega (arith, length-append (spaces (places - len
 pub right-short : (places n : ℕ) → places ≤ 20 → n < 2 ^ 64 → length (right places (decimal n)) ≤ 20
 right-short places n few fits =
     omega (arith, length-append (spaces (places - length (decimal n))) (decimal n), length-replicate {A = ℕ} (places - length (decimal n)) 32, length-decimal-le 20 n (omega arith) (omega arith) fits)
+
+-- a colon was written to spaces
+blank_columns : (front tail : List ℕ) (at : ℕ) → length front ≡ at → set (front ++ (spaces 17 ++ tail)) (at + 15) 58 ≡ front ++ (spaces 15 ++ 58 ∷ 32 ∷ tail)
+blank_columns front tail at size =
+    set-append_right front (spaces 17 ++ tail) at (at + 15) 58 size (omega arith)
+    ∙ let place : at + 15 - at ≡ 15 = omega arith in ap (λ (n : ℕ). front ++ set (spaces 17 ++ tail) n 58) place
 
 module _ (old first tail : List ℕ) (at : ℕ) (within : at ≤ length old) (short : length first ≤ 8) where
   -- what stands before the second column
@@ -112,15 +122,17 @@ module _ (old first tail : List ℕ) (at : ℕ) (within : at ≤ length old) (sh
   pub front-size : length front_column ≡ at + 9
   front-size = omega (arith, length-append (take at old) (right 8 first ++ 32 ∷ []), length-take-le at old within, length-append (right 8 first) (32 ∷ []), right-size 8 first short)
 
-  -- an offset was written to blank columns
-  pub offset_written : (pad mid : List ℕ) (start : ℕ) → pad ≡ spaces 15 ++ 58 ∷ 32 ∷ [] → start + length first ≡ at + 8
-      → take start mid ≡ take start (take at old ++ (pad ++ tail)) → drop start mid ≡ first ++ drop (at + 8) (take at old ++ (pad ++ tail))
+  -- spaces and a colon stand there, and an offset was written to them
+  pub offset_written : (pad mid : List ℕ) (start : ℕ) → pad ≡ spaces 17 → start + length first ≡ at + 8
+      → take start mid ≡ take start (set (take at old ++ (pad ++ tail)) (at + 15) 58) → drop start mid ≡ first ++ drop (at + 8) (set (take at old ++ (pad ++ tail)) (at + 15) 58)
       → mid ≡ front_column ++ (spaces 6 ++ 58 ∷ 32 ∷ tail)
   offset_written pad mid start blank e kept written =
       let size : length (take at old) ≡ at = length-take-le at old within in
+      let there : List ℕ = set (take at old ++ (pad ++ tail)) (at + 15) 58 in
       let more : List ℕ = 32 ∷ (spaces 6 ++ 58 ∷ 32 ∷ tail) in
-      right_end (take at old ++ (pad ++ tail)) mid (take at old) first more start 8 (ap (λ (l : List ℕ). take at old ++ (l ++ tail)) blank) short (omega (arith, e, size)) kept
-      (written ∙ ap (λ (n : ℕ). first ++ drop (n + 8) (take at old ++ (pad ++ tail))) (sym size))
+      let is = ap (λ (l : List ℕ). set (take at old ++ (l ++ tail)) (at + 15) 58) blank ∙ blank_columns (take at old) tail at size in
+      right_end there mid (take at old) first more start 8 is short (omega (arith, e, size)) kept
+      (written ∙ ap (λ (n : ℕ). first ++ drop (n + 8) there) (sym size))
       ∙ ap (λ (l : List ℕ). take at old ++ l) (sym (append_assoc (right 8 first) (32 ∷ []) (spaces 6 ++ 58 ∷ 32 ∷ tail)))
       ∙ sym (append_assoc (take at old) (right 8 first ++ 32 ∷ []) (spaces 6 ++ 58 ∷ 32 ∷ tail))
 
@@ -135,7 +147,7 @@ module _ (old first tail : List ℕ) (at : ℕ) (within : at ≤ length old) (sh
       let all : length whole ≡ at + 17 = omega (arith, length-append (take at old) (columns_of second), length-take-le at old within, size) in
       ap₂ take (sym all) same ∙ take-append_seam whole tail
 
-  -- a size was written behind the offset
+  -- a size was written after the offset
   pub size_written : (mid new text : List ℕ) (start : ℕ) → mid ≡ front_column ++ (spaces 6 ++ 58 ∷ 32 ∷ tail) → length text ≤ 6 → start + length text ≡ at + 15
       → take start new ≡ take start mid → drop start new ≡ text ++ drop (at + 15) mid
       → take (at + 17) new ≡ take at old ++ columns_of (right 6 text)
@@ -143,14 +155,14 @@ module _ (old first tail : List ℕ) (at : ℕ) (within : at ≤ length old) (sh
       columns_there new (right 6 text) (right-size 6 text few)
       (right_end mid new front_column text (58 ∷ 32 ∷ tail) start 6 is few (omega (arith, e, front-size)) kept (written ∙ ap (λ (n : ℕ). text ++ drop n mid) (omega (arith, front-size))))
 
-  -- a word was written behind the offset
+  -- a word was written after the offset
   pub word_written : (mid there word : List ℕ) → mid ≡ front_column ++ (spaces 6 ++ 58 ∷ 32 ∷ tail) → length word ≡ 6 → there ≡ word
       → take (at + 17) (take (at + 9) mid ++ (there ++ drop (at + 15 - (at + 9)) (drop (at + 9) mid))) ≡ take at old ++ columns_of (right 6 word)
   word_written mid there word is six same =
-      let behind : List ℕ = spaces 6 ++ 58 ∷ 32 ∷ tail in
-      let front : take (at + 9) mid ≡ front_column = ap₂ take (sym front-size) is ∙ take-append_seam front_column behind in
+      let after : List ℕ = spaces 6 ++ 58 ∷ 32 ∷ tail in
+      let front : take (at + 9) mid ≡ front_column = ap₂ take (sym front-size) is ∙ take-append_seam front_column after in
       let back : drop (at + 15 - (at + 9)) (drop (at + 9) mid) ≡ 58 ∷ 32 ∷ tail =
-      drop-drop (at + 15 - (at + 9)) (at + 9) mid ∙ ap₂ (λ (n : ℕ) (l : List ℕ). drop n l) (omega (arith, front-size)) is ∙ drop-append-add front_column behind 6 in
+      drop-drop (at + 15 - (at + 9)) (at + 9) mid ∙ ap₂ (λ (n : ℕ) (l : List ℕ). drop n l) (omega (arith, front-size)) is ∙ drop-append-add front_column after 6 in
       let t = ap₂ (λ (k l : List ℕ). k ++ l) front (ap₂ (λ (k l : List ℕ). k ++ l) same back) in
       columns_there (take (at + 9) mid ++ (there ++ drop (at + 15 - (at + 9)) (drop (at + 9) mid))) word six t
       ∙ ap (λ (l : List ℕ). take at old ++ columns_of l) (sym (right_long 6 word (omega (arith, six))))
@@ -199,25 +211,25 @@ pub pairs-size : (octets : List ℕ) → length (spaced_pairs octets) ≡ 3 * le
 pairs-size [] = refl
 pairs-size (x ∷ xs) = omega (arith, length-append (32 ∷ encode_lower (x ∷ [])) (spaced_pairs xs), length-encode_with lower_digits (x ∷ []), pairs-size xs)
 
--- the pair of octet i, in place of the spaces behind the one before it
+-- the pair of octet i, in place of the spaces after the one before it
 pub row_step : (octets to new pair rest : List ℕ) (i : ℕ) → i < 16 → length octets ≡ 16 → to ≡ spaced_pairs (take i octets) ++ (spaces (48 - 3 * i) ++ rest)
     → pair ≡ encode_lower (get_or octets i 0 ∷ []) → new ≡ take (3 * i + 1) to ++ (pair ++ drop (3 * i + 3 - (3 * i + 1)) (drop (3 * i + 1) to))
     → new ≡ spaced_pairs (take (i + 1) octets) ++ (spaces (48 - 3 * (i + 1)) ++ rest)
 row_step octets to new pair rest i few whole is p e =
     let before : List ℕ = spaced_pairs (take i octets) in
-    let behind : List ℕ = spaces (48 - 3 * (i + 1)) ++ rest in
+    let after : List ℕ = spaces (48 - 3 * (i + 1)) ++ rest in
     let size : length before ≡ 3 * i = pairs-size (take i octets) ∙ ap (λ (n : ℕ). 3 * n) (length-take-le i octets (omega arith)) in
     let three : 48 - 3 * i ≡ suc (suc (suc (48 - 3 * (i + 1)))) = omega (arith, few) in
-    let t : to ≡ before ++ (32 ∷ 32 ∷ 32 ∷ behind) = is ∙ ap (λ (n : ℕ). before ++ (spaces n ++ rest)) three in
-    let front : take (3 * i + 1) to ≡ before ++ 32 ∷ [] = ap₂ (λ (n : ℕ) (l : List ℕ). take (n + 1) l) (sym size) t ∙ take-append-add before (32 ∷ 32 ∷ 32 ∷ behind) 1 in
-    let back : drop (3 * i + 3 - (3 * i + 1)) (drop (3 * i + 1) to) ≡ behind =
-    drop-drop (3 * i + 3 - (3 * i + 1)) (3 * i + 1) to ∙ ap₂ (λ (n : ℕ) (l : List ℕ). drop n l) (omega (arith, size)) t ∙ drop-append-add before (32 ∷ 32 ∷ 32 ∷ behind) 3 in
+    let t : to ≡ before ++ (32 ∷ 32 ∷ 32 ∷ after) = is ∙ ap (λ (n : ℕ). before ++ (spaces n ++ rest)) three in
+    let front : take (3 * i + 1) to ≡ before ++ 32 ∷ [] = ap₂ (λ (n : ℕ) (l : List ℕ). take (n + 1) l) (sym size) t ∙ take-append-add before (32 ∷ 32 ∷ 32 ∷ after) 1 in
+    let back : drop (3 * i + 3 - (3 * i + 1)) (drop (3 * i + 1) to) ≡ after =
+    drop-drop (3 * i + 3 - (3 * i + 1)) (3 * i + 1) to ∙ ap₂ (λ (n : ℕ) (l : List ℕ). drop n l) (omega (arith, size)) t ∙ drop-append-add before (32 ∷ 32 ∷ 32 ∷ after) 3 in
     e
     ∙ ap₂ (λ (k l : List ℕ). k ++ (pair ++ l)) front back
-    ∙ ap (λ (l : List ℕ). (before ++ 32 ∷ []) ++ (l ++ behind)) p
-    ∙ append_assoc before (32 ∷ []) (encode_lower (get_or octets i 0 ∷ []) ++ behind)
-    ∙ sym (append_assoc before (32 ∷ encode_lower (get_or octets i 0 ∷ [])) behind)
-    ∙ ap (λ (l : List ℕ). l ++ behind) (sym (pairs-more octets i (omega arith)))
+    ∙ ap (λ (l : List ℕ). (before ++ 32 ∷ []) ++ (l ++ after)) p
+    ∙ append_assoc before (32 ∷ []) (encode_lower (get_or octets i 0 ∷ []) ++ after)
+    ∙ sym (append_assoc before (32 ∷ encode_lower (get_or octets i 0 ∷ [])) after)
+    ∙ ap (λ (l : List ℕ). l ++ after) (sym (pairs-more octets i (omega arith)))
 
 -- all 16
 pub row_whole : (octets to rest : List ℕ) (i : ℕ) → i ≡ 16 → length octets ≡ 16 → to ≡ spaced_pairs (take i octets) ++ (spaces (48 - 3 * i) ++ rest) → take 48 to ≡ spaced_pairs octets
@@ -227,10 +239,10 @@ row_whole octets to rest i last whole is =
     let size : length (spaced_pairs octets) ≡ 48 = omega (arith, pairs-size octets, whole) in
     ap₂ take (sym size) (is ∙ ap₂ (λ (l : List ℕ) (n : ℕ). spaced_pairs l ++ (spaces n ++ rest)) all none) ∙ take-append_seam (spaced_pairs octets) rest
 
--- the pair of octet i, behind the pairs before it
+-- the pair of octet i, after the pairs before it
 pub pairs_step : (octets to pair tail : List ℕ) (i : ℕ) → i < length octets → 3 * i + 3 ≤ length to → take (3 * i) to ≡ spaced_pairs (take i octets) → pair ≡ encode_lower (get_or octets i 0 ∷ [])
     → take (3 * (i + 1)) (take (3 * i + 1) (set to (3 * i) 32) ++ (pair ++ tail)) ≡ spaced_pairs (take (i + 1) octets)
-pairs_step octets to pair tail i behind within t e =
+pairs_step octets to pair tail i more within t e =
     let before : List ℕ = spaced_pairs (take i octets) in
     let front : take (3 * i + 1) (set to (3 * i) 32) ≡ before ++ 32 ∷ [] = take_more_set to (3 * i) 32 (omega (arith, within)) ∙ ap (λ (l : List ℕ). l ++ 32 ∷ []) t in
     let size : length (take (3 * i + 1) (set to (3 * i) 32)) ≡ 3 * i + 1 = ap length front ∙ length-append before (32 ∷ []) ∙ ap (λ (l : List ℕ). length l + 1) (sym t) ∙ ap (λ (n : ℕ). n + 1) (length-take-le (3 * i) to (omega (arith, within))) in
@@ -241,4 +253,4 @@ pairs_step octets to pair tail i behind within t e =
     ∙ ap₂ (λ (k l : List ℕ). k ++ l) front (take-append_seam pair tail)
     ∙ append_assoc before (32 ∷ []) pair
     ∙ ap (λ (l : List ℕ). before ++ 32 ∷ l) e
-    ∙ sym (pairs-more octets i behind)
+    ∙ sym (pairs-more octets i more)

@@ -16,8 +16,6 @@ pub(crate) const CAPACITY: usize = 4096;
 /// An `ArrayVec` is filled with blanks when it is cleared, which an [`Out`](crate::Out) would pay for at each flush.
 #[derive(Drop)]
 pub struct Held {
-    /// How many octets there are. It is in front of them, so that the compiler sees that no octet is written over it,
-    /// and need not read it again after each one.
     len: usize,
     octets: [u8; CAPACITY],
 }
@@ -49,15 +47,21 @@ impl Held {
         ensures octets { result.now ≡ self.now }
         ensures bound { length self.now ≤ 4096 }
     {
-        &self.octets[..self.len]
+        &self.octets[..self.len()]
     }
 
     /// How many octets there are.
-    #[inline]
+    ///
+    /// The compiler does not read the invariant. The test shows it that the count is small, so that octets which are
+    /// written after the first `len` are not written over the count, and it need not be read again after each text.
+    #[inline(always)]
     pub fn len(&self) -> usize
         ensures count { result ≡ length self.now }
         ensures bound { result ≤ 4096 }
     {
+        if self.len > CAPACITY {
+            unreachable!();
+        }
         self.len
     }
 
@@ -76,8 +80,9 @@ impl Held {
         requires { HasRoomFor self.old (length octets.now) }
         ensures { self.new ≡ self.old ++ octets.now }
     {
-        let end = self.len + octets.len();
-        self.octets[self.len..end].copy_from_slice(octets);
+        let len = self.len();
+        let end = len + octets.len();
+        self.octets[len..end].copy_from_slice(octets);
         self.len = end;
     }
 
@@ -88,8 +93,9 @@ impl Held {
         requires room { HasRoomFor self.old N }
         ensures { self.new ≡ self.old ++ take count octets.now }
     {
-        self.octets[self.len..self.len + N].copy_from_slice(octets);
-        self.len += count;
+        let len = self.len();
+        self.octets[len..len + N].copy_from_slice(octets);
+        self.len = len + count;
     }
 
     /// Adds octets, if there is room for them, and else nothing.
@@ -109,8 +115,9 @@ impl Held {
         requires { HasRoomFor self.old (count + 32) }
         ensures { self.new ≡ self.old ++ spaces count }
     {
-        fill_spaces(&mut self.octets[self.len..], count);
-        self.len += count;
+        let len = self.len();
+        fill_spaces(&mut self.octets[len..], count);
+        self.len = len + count;
     }
 
     /// Adds octets as pairs of digits, each after a space.
@@ -119,8 +126,9 @@ impl Held {
         requires { HasRoomFor self.old (3 * length octets.now) }
         ensures { self.new ≡ self.old ++ spaced_pairs octets.now }
     {
-        write_pairs(octets, &mut self.octets[self.len..]);
-        self.len += 3 * octets.len();
+        let len = self.len();
+        write_pairs(octets, &mut self.octets[len..]);
+        self.len = len + 3 * octets.len();
     }
 
     /// Adds 16 octets as pairs of digits, each after a space.
@@ -129,8 +137,9 @@ impl Held {
         requires { HasRoomFor self.old 48 }
         ensures { self.new ≡ self.old ++ spaced_pairs octets.now }
     {
-        write_row(octets, &mut self.octets[self.len..]);
-        self.len += 48;
+        let len = self.len();
+        write_row(octets, &mut self.octets[len..]);
+        self.len = len + 48;
     }
 
     /// How many octets more can be held.
@@ -138,7 +147,7 @@ impl Held {
     pub(crate) fn room(&self) -> usize
         ensures { result + length self.now ≡ 4096 }
     {
-        CAPACITY - self.len
+        CAPACITY - self.len()
     }
 
     /// Drops all octets.

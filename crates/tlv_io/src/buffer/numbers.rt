@@ -5,9 +5,6 @@ ghost use Rattle.tlv_io.specs.LineTexts.{HasRoomFor, columns, right};
 use super::Held;
 use itoa::{Buffer, write_digits};
 
-/// The columns that a line begins with, before an offset and a size or a word are written to them.
-const BLANK_COLUMNS: &[u8; 17] = b"               : ";
-
 impl Held {
     /// Adds a number.
     #[inline(always)]
@@ -15,7 +12,7 @@ impl Held {
         requires { HasRoomFor self.old 20 }
         ensures { self.new ≡ self.old ++ decimal number }
     {
-        let end = self.len + digit_count(number);
+        let end = self.len() + digit_count(number);
         let _ = write_digits(number, &mut self.octets, end);
         self.len = end;
     }
@@ -52,8 +49,9 @@ impl Held {
         if offset >= 100_000_000 || size >= 1_000_000 {
             return self.wide_columns(offset, size);
         }
-        let start = self.len;
-        self.octets[start..start + 17].copy_from_slice(BLANK_COLUMNS);
+        let start = self.len();
+        self.octets[start..start + 17].copy_from_slice(&[b' '; 17]);
+        self.octets[start + 15] = b':';
         let _ = write_digits(offset, &mut self.octets, start + 8);
         let _ = write_digits(size, &mut self.octets, start + 15);
         self.len = start + 17;
@@ -80,8 +78,9 @@ impl Held {
         if offset >= 100_000_000 {
             return self.wide_worded(offset, word);
         }
-        let start = self.len;
-        self.octets[start..start + 17].copy_from_slice(BLANK_COLUMNS);
+        let start = self.len();
+        self.octets[start..start + 17].copy_from_slice(&[b' '; 17]);
+        self.octets[start + 15] = b':';
         let _ = write_digits(offset, &mut self.octets, start + 8);
         self.octets[start + 9..start + 15].copy_from_slice(word);
         self.len = start + 17;
@@ -108,8 +107,9 @@ impl Held {
         if number >= 100_000_000 {
             self.number(number);
         } else {
-            let end = self.len + 8;
-            self.octets[self.len..end].copy_from_slice(b"        ");
+            let start = self.len();
+            let end = start + 8;
+            self.octets[start..end].copy_from_slice(&[b' '; 8]);
             let _ = write_digits(number, &mut self.octets, end);
             self.len = end;
         }
@@ -124,8 +124,9 @@ impl Held {
         if number >= 1_000_000 {
             self.number(number);
         } else {
-            let end = self.len + 6;
-            self.octets[self.len..end].copy_from_slice(b"      ");
+            let start = self.len();
+            let end = start + 6;
+            self.octets[start..end].copy_from_slice(&[b' '; 6]);
             let _ = write_digits(number, &mut self.octets, end);
             self.len = end;
         }

@@ -2,8 +2,6 @@
 ghost use Rattle.std.specs.Prelude.{◌≡◌, ◌+◌, ◌*◌, ◌≤◌, length, take};
 ghost use Rattle.tlv_io.specs.LineTexts.{spaced_pairs, spaces};
 
-static SPACES: [u8; 32] = [b' '; 32];
-
 /// Writes spaces, and up to 32 more after them.
 #[inline(always)]
 pub(super) fn fill_spaces(to: &mut [u8], count: usize)
@@ -11,7 +9,7 @@ pub(super) fn fill_spaces(to: &mut [u8], count: usize)
     ensures text { take count to.new ≡ spaces count }
     ensures size { length to.new ≡ length to.old }
 {
-    to[..32].copy_from_slice(&SPACES);
+    to[..32].copy_from_slice(&[b' '; 32]);
     if count > 32 {
         fill_more_spaces(to, count);
     }
@@ -26,7 +24,7 @@ fn fill_more_spaces(to: &mut [u8], count: usize)
 {
     let mut done = 0;
     while done < count {
-        to[done..done + 32].copy_from_slice(&SPACES);
+        to[done..done + 32].copy_from_slice(&[b' '; 32]);
         done += 32;
     }
 }

@@ -1,6 +1,6 @@
 use Rattle.std.proofs.Common.{◌≡◌, ◌∙◌, ◌++◌, take, decimal, ap, arith, rules}
 use Rattle.std.proofs.lemmas.Fmt.{length-decimal-le}
-use Rattle.tlv_io.proofs.BufferTexts.{behind_kept}
+use Rattle.tlv_io.proofs.BufferTexts.{text_written, held_up_to}
 use Rattle.tlv_io.proofs.buffer.Held.number.Goals as goal
 
 pub overflow_add-end : goal.overflow_add-end
@@ -16,5 +16,5 @@ write_digits-requires c =
 pub returns : goal.returns
 returns c =
     let w = c.write_digits in
-    let at : w.result ≡ c.self.inside.len = omega (arith, w.ensures.start, c.digit_count.ensures) in
-    behind_kept w.new.buf _ (decimal c.args.number) _ w.result _ (w.ensures.before ∙ ap (λ n. take n c.self.inside.octets) at) w.ensures.written (omega (arith, w.ensures.start)) ∙ ap (λ l. l ++ decimal c.args.number) c.self.view_is
+    let at : w.result ≡ c.len.result = omega (arith, w.ensures.start, c.digit_count.ensures) in
+    text_written w.new.buf _ (decimal c.args.number) _ w.result _ (w.ensures.before ∙ ap (λ n. take n c.self.inside.octets) at) w.ensures.written (omega (arith, w.ensures.start)) ∙ ap (λ l. l ++ decimal c.args.number) (held_up_to _ _ _ _ c.self.view_is c.len.ensures.count (omega (arith, c.self.invariant, c.self.told)))
