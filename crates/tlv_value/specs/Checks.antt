@@ -47,7 +47,8 @@ octet_test number =
 abbrev pub allows_octet : ℕ → ℕ → Bool
 allows_octet number x = option_map_or (λ test. test x) (octet_test number) true
 
--- the contents have the characters of the type with this number: these types, and UTF8String, UniversalString, BMPString
+-- the contents have the characters of the type with this number: one of these types, or UTF8String, UniversalString,
+-- BMPString
 abbrev pub allows : ℕ → List ℕ → Bool
 allows number octets =
     if eqb number 12 then is_utf8 octets

@@ -111,7 +111,7 @@ tests true false = refl
 tests false true = refl
 tests false false = refl
 
--- of a grammar, and of its canonical form
+-- a grammar, and its canonical form
 time-by : (short : Bool) (form canonical : Form) (c c' : List ℕ) → (short ≡ true → c' ≡ c)
     → finding_if (short && not (has_form form c)) B19 ++ (finding_if (short && has_form form c && not (has_form canonical c)) S04 ++ [])
     ≡ (if short then time_findings (has_form form c') (has_form canonical c') else [])
@@ -126,7 +126,7 @@ general-same : (c : List ℕ) → on 24 c ≡ universal_findings 24 (noted 24 c)
 general-same c =
     time-by (nat_le (length c) 64) general_time canonical_general_time c (take 64 c) (λ e. take-all 64 c (leb-true (length c) 64 e))
 
--- all octets at once, and each of them
+-- what the contents have as a whole, and what each octet has
 both-at : (n k : ℕ) (c : List ℕ) → eqb n k ≡ true → allows_both k c ≡ allows k c → allows_both n c ≡ allows n c
 both-at n k c e h = subst (λ (m : ℕ). allows_both m c ≡ allows m c) (sym (eqb-true n k e)) h
 
@@ -151,7 +151,7 @@ allows-both n c = at (eqb n 12) (eqb n 18) (eqb n 19) (eqb n 22) (eqb n 26) (eqb
         let r : allows n c ≡ true = rw (e, f, g, h, i, j, k) refl in
         l ∙ sym r
 
--- of any other type
+-- any other type
 allowed-each : (n : ℕ) (c : List ℕ) (text : Bool)
     → ((if text then (if text then true && all_utf8 (full_rows Utf8 [] c) else true) && is_utf8 (if text then open_row Utf8 [] c else [])
     else if eqb n 30 then eqb (length c % 2) 0
@@ -240,6 +240,6 @@ of-class Application n c = refl
 of-class Context n c = refl
 of-class Private n c = refl
 
--- of a primitive with this header
+-- a primitive with this header
 pub noted-same : (h : HeaderValue) (c : List ℕ) → findings_on_contents h c ≡ universal_findings (type_number h) (noted (type_number h) c)
 noted-same h c = of-class h.class h.number c

@@ -79,7 +79,7 @@ built s left front last allowed padded formed row time = record {
 built-eq : (s : CheckState) (l l' : ℕ) (f f' : List ℕ) (t t' : ℕ) (a a' p p' m m' : Bool) (r r' i i' : List ℕ) → l ≡ l' → f ≡ f' → t ≡ t' → a ≡ a' → p ≡ p' → m ≡ m' → r ≡ r' → i ≡ i' → built s l f t a p m r i ≡ built s l' f' t' a' p' m' r' i'
 built-eq s l l' f f' t t' a a' p p' m m' r r' i i' e1 e2 e3 e4 e5 e6 e7 e8 = rw (e1, e2, e3, e4, e5, e6, e7, e8) refl
 
--- what is noted of a type, by what it asks for
+-- what is noted, by what the type asks for
 abbrev noted_by : Bool → Bool → Bool → CheckState → List ℕ → CheckState
 noted_by front each time s octets =
     if front then with_front s octets

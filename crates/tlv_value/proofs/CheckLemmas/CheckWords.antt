@@ -1,4 +1,4 @@
--- Words of what strings may hold, of all of their octets.
+-- What the contents of a string have as a whole, beside what each octet has.
 use Rattle.std.specs.List.{list_all}
 use Rattle.std.specs.Prelude.{ℕ, ◌%◌, Bool, true, ◌&&◌, eqb, if◌then◌else◌, List, length}
 use Rattle.std.specs.Str.{is_utf8}

@@ -22,7 +22,7 @@ nothing-noted s octets none =
     let text : eqb s.number 12 ≡ false = grind (arith, nat_tests) in
     rw (all, object, text, and-true s.allowed) refl
 
--- of an object identifier
+-- an object identifier
 pub object-noted : (s : CheckState) (octets : List ℕ) → is_object s.number ≡ true
     → record s { padded = s.padded || is_padded_after s.last octets; last = last_octet_of s.last octets } ≡ with_each s octets
 object-noted s octets object =
@@ -31,7 +31,7 @@ object-noted s octets object =
     let text : eqb s.number 12 ≡ false = grind (arith, nat_tests) in
     rw (all, object, text, and-true s.allowed) refl
 
--- of a UTF8String
+-- a UTF8String
 pub text-noted : (s : CheckState) (octets : List ℕ) → s.number ≡ 12
     → record s { formed = s.formed && all_utf8 (full_rows Utf8 s.row octets); row = open_row Utf8 s.row octets; last = last_octet_of s.last octets } ≡ with_each s octets
 text-noted s octets is_text =
@@ -41,7 +41,7 @@ text-noted s octets is_text =
     let text : eqb s.number 12 ≡ true = grind (arith, nat_tests) in
     rw (all, object, text, and-true s.allowed) refl
 
--- of a string of some characters
+-- a string with a test of each octet
 pub characters-noted : (s : CheckState) (octets : List ℕ) → is_object s.number ≡ false → eqb s.number 12 ≡ false
     → record s { allowed = s.allowed && list_all (allows_octet s.number) octets; last = last_octet_of s.last octets } ≡ with_each s octets
 characters-noted s octets object text = rw (object, text) refl

@@ -17,7 +17,7 @@ allows-other number x a b c d =
     let e26 : eqb number 26 ≡ false = grind (arith, nat_tests) in
     rw (e18, e19, e22, e26) refl
 
--- a type that has all octets
+-- a type without a test of octets allows all
 pub all-other : (number : ℕ) (xs : List ℕ) → (number ≡ 18 → ⊥) → (number ≡ 19 → ⊥) → (number ≡ 22 → ⊥) → (number ≡ 26 → ⊥) → list_all (allows_octet number) xs ≡ true
 all-other number [] a b c d = refl
 all-other number (x ∷ xs) a b c d = rw (allows-other number x a b c d) (all-other number xs a b c d)
@@ -63,7 +63,7 @@ take-room front octets n room e h =
     ap (λ (t : List ℕ). front ++ t) (ap (λ (k : ℕ). take k octets) m ∙ take_min room octets)
     ∙ sym (take-append-add front octets room) ∙ ap (λ (k : ℕ). take k (front ++ octets)) (sym w)
 
--- no octet 80, so none that begins a subidentifier
+-- if there is no octet 80, none begins a subidentifier
 not-padded : (begins is other padded : Bool) → (other ≡ false → padded ≡ false) → (is || other) ≡ false → ((begins && is) || padded) ≡ false
 not-padded begins true other padded more e = cc
 not-padded true false other padded more e = more e
