@@ -194,7 +194,7 @@ fn is_zulu(octets: &[u8]) -> bool
     matches!(octets, [b'Z'])
 }
 
-/// `+hh` or `-hh`.
+/// What is after `+hh` or `-hh`.
 fn after_difference(octets: &[u8]) -> Option<&[u8]>
     ensures { option_to_list (option_copied result) ≡ (sign then hour) octets.now }
 {
@@ -204,7 +204,7 @@ fn after_difference(octets: &[u8]) -> Option<&[u8]>
     }
 }
 
-/// This octet.
+/// What is after this octet.
 fn after_mark(octets: &[u8], octet: u8) -> Option<&[u8]>
     ensures { option_to_list (option_copied result) ≡ mark octet octets.now }
 {
