@@ -34,6 +34,6 @@ value_of-replicate : (b r : ℕ) → value_of b (replicate r 0) ≡ 0
 value_of-replicate b zero = refl
 value_of-replicate b (suc r) = omega (arith, value_of-replicate b r, zero-mul (b ^ length {A = ℕ} (replicate r 0)))
 
--- zeros behind digits
+-- digits, and zeros after them
 pub value_of-zeros : (b : ℕ) (ds : List ℕ) (r : ℕ) → value_of b (ds ++ replicate r 0) ≡ value_of b ds * b ^ r
 value_of-zeros b ds r = rw (value_of-append b ds (replicate r 0), value_of-replicate b r, length-replicate {A = ℕ} r 0) (omega arith)

@@ -1,4 +1,4 @@
--- What a push answers is determined by the octets, the room and the depth.
+-- The octets, the room and the depth determine what a push returns.
 use Rattle.std.proofs.Common.{◌≡◌, ◌≢◌, ℕ, true, ◌<◌, inl, inr, [], ◌∷◌, ◌++◌, Option, Some, IfSome, refl, ap, sym, ◌∙◌, arith, append-nil, subst}
 use Rattle.tlv_head.specs.declared.fault.FaultCode.{FaultCode}
 use Rattle.tlv_head.specs.declared.header.Size.{Size}
@@ -14,16 +14,16 @@ use Rattle.tlv_head.proofs.Headers.{front-no_header}
 use Rattle.tlv_head.proofs.Refused.{one-refusal, refused-none}
 use Rattle.tlv_head.proofs.Scan.{same-header}
 
--- two headers that an octet completes are one
+-- an octet completes at most one header
 pub completes_unique : (r : HeadReaderState) (x : ℕ) (g h : HeaderValue) → Completes r x g → Completes r x h → g ≡ h
 completes_unique r x g h p q =
     same-header g h p.valid q.valid (λ i. record { offset = (p.offset ∙ sym q.offset) i; named = (p.named ∙ sym q.named) i }) (p.octets ∙ sym q.octets)
 
--- what can be completed is no whole header
+-- the front of a header is no whole header
 pub front_not_whole : (r : HeadReaderState) (x : ℕ) (h : HeaderValue) → IsFront (r.octets ++ x ∷ []) → Completes r x h → ⊥
 front_not_whole r x h f c = front-no_header _ h f c.valid c.octets
 
--- what is refused for the octets alone completes no header
+-- an octet that is refused for the octets alone completes no header
 refused_completes_none : (code : FaultCode) (r : HeadReaderState) (x : ℕ) (h : HeaderValue) → IsRefusedOctet r.octets x code → Completes r x h → ⊥
 refused_completes_none code r x h p c = refused-none code r.octets x p h [] c.valid (append-nil (r.octets ++ x ∷ []) ∙ sym c.octets)
 
@@ -45,7 +45,7 @@ exact old new x room depth More a h c n f = absurd (front_not_whole old x h a.1 
 exact old new x room depth (Whole g) a h c n f = ap (λ k. Whole k) (completes_unique old x g h a.0 c)
 exact old new x room depth (Refused fault) a h c n f = absurd (refused_not_whole fault.code old x room depth h a.0 c n f)
 
--- why an octet is refused, with the code that says it
+-- why an octet is refused with this code
 data Cause (code : FaultCode) (r : HeadReaderState) (x : ℕ) (room : Option ℕ) (depth : ℕ) : Type 0 where
   bound : room ≡ Some 0 → code ≡ Overrun → Cause code r x room depth
   past : room ≢ Some 0 → EndsPast r x room depth → code ≡ Overrun → Cause code r x room depth
@@ -64,7 +64,7 @@ not_deep_and_past r x room depth d p =
     let k : depth < 128 = p.shallow s in
     omega (arith, d.deep)
 
--- an octet is refused with one code
+-- an octet is refused with one code alone
 one_code : (c d : FaultCode) (r : HeadReaderState) (x : ℕ) (room : Option ℕ) (depth : ℕ) → Cause c r x room depth → Cause d r x room depth → c ≡ d
 one_code c d r x room depth (bound z e) (bound y f) = e ∙ sym f
 one_code c d r x room depth (bound z e) (past n p f) = absurd (n z)
@@ -93,15 +93,15 @@ room_left : (size : Size) (room : Option ℕ) → ContentsFit size room → room
 room_left (Definite n) room f e = let none : IfSome (Some 0) (λ r. n < r) = subst (λ (o : Option ℕ). IfSome o (λ r. n < r)) e f in omega (arith, none)
 room_left Indefinite room f e = let none : IfSome (Some 0) (λ r. 0 < r) = subst (λ (o : Option ℕ). IfSome o (λ r. 0 < r)) e f in omega (arith, none)
 
--- a push has one answer
-pub one-answer : (old new other : HeadReaderState) (x : ℕ) (room : Option ℕ) (depth : ℕ) (r s : Head) → Pushes old x room depth new r → Pushes old x room depth other s → r ≡ s
-one-answer old new other x room depth r (Whole h) a b = exact old new x room depth r a h b.0 (room_left h.size room b.1.within) b.1
-one-answer old new other x room depth (Whole h) More a b = sym (exact old other x room depth More b h a.0 (room_left h.size room a.1.within) a.1)
-one-answer old new other x room depth (Whole h) (Refused g) a b = sym (exact old other x room depth (Refused g) b h a.0 (room_left h.size room a.1.within) a.1)
-one-answer old new other x room depth More More a b = refl
-one-answer old new other x room depth More (Refused g) a b = absurd (refused_no_front g.code old x room depth (cause _ _ _ _ _ b.0) a.0 a.1)
-one-answer old new other x room depth (Refused f) More a b = absurd (refused_no_front f.code old x room depth (cause _ _ _ _ _ a.0) b.0 b.1)
-one-answer old new other x room depth (Refused f) (Refused g) a b =
+-- a push returns one result alone
+pub one-result : (old new other : HeadReaderState) (x : ℕ) (room : Option ℕ) (depth : ℕ) (r s : Head) → Pushes old x room depth new r → Pushes old x room depth other s → r ≡ s
+one-result old new other x room depth r (Whole h) a b = exact old new x room depth r a h b.0 (room_left h.size room b.1.within) b.1
+one-result old new other x room depth (Whole h) More a b = sym (exact old other x room depth More b h a.0 (room_left h.size room a.1.within) a.1)
+one-result old new other x room depth (Whole h) (Refused g) a b = sym (exact old other x room depth (Refused g) b h a.0 (room_left h.size room a.1.within) a.1)
+one-result old new other x room depth More More a b = refl
+one-result old new other x room depth More (Refused g) a b = absurd (refused_no_front g.code old x room depth (cause _ _ _ _ _ b.0) a.0 a.1)
+one-result old new other x room depth (Refused f) More a b = absurd (refused_no_front f.code old x room depth (cause _ _ _ _ _ a.0) b.0 b.1)
+one-result old new other x room depth (Refused f) (Refused g) a b =
     let code : f.code ≡ g.code = one_code f.code g.code old x room depth (cause _ _ _ _ _ a.0) (cause _ _ _ _ _ b.0) in
     let offset : f.offset ≡ g.offset = a.1 ∙ sym b.1 in
     let same : f ≡ g = λ i. record { code = code i; offset = offset i } in

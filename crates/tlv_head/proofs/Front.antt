@@ -7,7 +7,7 @@ use Rattle.tlv_head.specs.declared.header.Size.{Size}
 use Rattle.tlv_head.specs.declared.header.Size.TheVariants.{Definite, Indefinite}
 use Rattle.tlv_head.specs.declared.header.HeaderFields.{HeaderFields}
 use Rattle.tlv_head.specs.declared.next_octet.Identifier.{Identifier}
-use Rattle.tlv_head.specs.Fields.{Suits, header_with}
+use Rattle.tlv_head.specs.Fields.{IsHeaderSized, header_with}
 use Rattle.tlv_head.specs.declared.next_octet.Part.{Part}
 use Rattle.tlv_head.specs.declared.next_octet.Part.TheVariants.{Start, Number, Length, Digits, Done}
 use Rattle.tlv_head.specs.Header.{HeaderValue, IsHeader, IsIdentifier, IsLength, octets_of}
@@ -43,14 +43,14 @@ header-some h v e =
     let fresh : Fresh ≡ Ready h = rw e at ready in
     cc
 
--- no header is a front of what has only begun
+-- no header is a front of octets that have only begun one
 pub begun_none : (os : List ℕ) → IsBegun os → (h : HeaderValue) (rest : List ℕ) → IsHeader h → octets_of h ++ rest ≡ os → ⊥
 begun_none os (inl none) h rest v e = header-some h v (front_nil (octets_of h) rest (e ∙ none))
 begun_none os (inr f) h rest v e =
     no-front h f.head (rest ++ f.more) v f.valid (λ z. f.proper (rest_nil rest f.more z))
     (sym (append_assoc (octets_of h) rest f.more) ∙ (ap (λ s. s ++ f.more) e ∙ f.front))
 
--- the octet at a place, with what comes before and behind it
+-- the octet at a place, with what is before and after it
 pub around : (xs : List ℕ) (i : ℕ) → i < length xs → xs ≡ (take i xs ++ get_or xs i 0 ∷ []) ++ drop (i + 1) xs
 around xs i h = sym (take-append-drop (i + 1) xs) ∙ ap (λ z. z ++ drop (i + 1) xs) (take_more xs i 0 h)
 
@@ -67,9 +67,9 @@ length-some Indefinite l e = rw e (omega arith)
 pub header-two : (h : HeaderValue) → IsHeader h → 2 ≤ length (octets_of h)
 header-two h v = omega (arith, length-append h.identifier h.lengths, identifier-some h.class h.constructed h.number h.identifier v.identifier, length-some h.size h.lengths v.lengths)
 
--- the header that was made
-pub made_suits : (os : List ℕ) (f : HeaderFields) (id : Identifier) (size : Size) → MakesHeader id size os → f.id_len ≡ id.octets → Suits f os
-made_suits os f id size m e =
+-- by their number the octets may be those of the header that was made
+pub made_sized : (os : List ℕ) (f : HeaderFields) (id : Identifier) (size : Size) → MakesHeader id size os → f.id_len ≡ id.octets → IsHeaderSized f os
+made_sized os f id size m e =
     let count : id.octets ≡ length m.identifier = m.identified.count in
     let few : length m.identifier ≤ 10 = m.identified.few in
     let most : length m.lengths ≤ 127 = m.few in
@@ -90,7 +90,7 @@ made_begins os rest at named id size m =
       octets = rw (front, back, m.octet) refl;
     }
 
--- an identifier, and a length behind it
+-- an identifier, and a length after it
 pub begins_short : (os : List ℕ) (at : ℕ) (named : Bool) (id : Identifier) (size : Size) (before count : ℕ) → BeginsWithIdentifier os id → before ≡ id.octets
     → BeginsWithLength (take (length os - before) (drop before os)) id.constructed size count
     → BeginsWithFields os at named (record { offset = at; named = named; class = id.class; constructed = id.constructed; number = id.number; size = size; id_len = id.octets }) (before + count)
@@ -111,7 +111,7 @@ begins_short os at named id size before count i e l =
     } in
     record {
       within = within;
-      suits = made_suits (take (before + count) os) _ id size made refl;
+      sized = made_sized (take (before + count) os) _ id size made refl;
       begins = subst (λ (xs : List ℕ). BeginsWith xs at named (header_with (record { offset = at; named = named; class = id.class; constructed = id.constructed; number = id.number; size = size; id_len = id.octets }) (take (before + count) os)))
           (take-append-drop (before + count) os) (made_begins (take (before + count) os) (drop (before + count) os) at named id size made);
     }

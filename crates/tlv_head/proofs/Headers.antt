@@ -10,7 +10,7 @@ use Rattle.tlv_head.specs.declared.fault.FaultCode.TheVariants.{StrayEnd, Indefi
 use Rattle.tlv_head.proofs.Scan.{Scan, Origin, origin_of, start, Fresh, High, Named, Long, Ready, Stuck, Over, leads, class_of, step, scan, scan_from-append, scan_from-past, scan-moved, moved, is_more, more-from_front, no-front, same-header}
 use Rattle.tlv_head.proofs.Meaning.{IsHighState, IsLongState, Reads, reads-step, reads-scan, front-from_more, front-bytes}
 
--- lists that go on to one list: one is a front of the other
+-- if two lists are fronts of one list, one of the two is a front of the other
 pub fronts : (a b x y : List ℕ) → a ++ x ≡ b ++ y → ((z : List ℕ) × (a ++ z ≡ b) × (x ≡ z ++ y)) ⊎ ((z : List ℕ) × (b ++ z ≡ a) × (y ≡ z ++ x))
 fronts [] b x y e = inl (b, refl, e)
 fronts (c ∷ a) [] x y e = inr (c ∷ a, refl, sym e)
@@ -38,7 +38,7 @@ abbrev pub IsHeadRefusal : FaultCode → List ℕ → ℕ → Type 0
 IsHeadRefusal StrayEnd o x = (o ≡ []) × (x ≡ 0)
 IsHeadRefusal code o x = IsRefusedOctet o x code
 
--- what a state that is stuck says
+-- why the reading is stuck, if it is
 abbrev pub Explains : Scan → List ℕ → ℕ → Type 0
 Explains Fresh o x = Unit {0}
 Explains (High c k ds) o x = Unit {0}

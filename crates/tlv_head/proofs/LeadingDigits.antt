@@ -9,7 +9,7 @@ use Rattle.tlv_head.specs.declared.header.Size.{Size}
 use Rattle.tlv_head.specs.declared.header.Size.TheVariants.{Definite, Indefinite}
 use Rattle.tlv_head.proofs.Digits.{value_of-lt}
 
--- a first digit is 0 exactly where the others alone could make the value
+-- a first digit is 0 exactly if the value is so small that the others alone could make it
 pub leading-zero : (b x : ℕ) (xs : List ℕ) → 0 < b → All (λ d. d < b) xs → (x == 0) ≡ nat_lt (value_of b (x ∷ xs)) (b ^ length xs)
 leading-zero b zero xs some each =
     let less : value_of b xs < b ^ length xs = value_of-lt b xs some each in
@@ -32,7 +32,7 @@ high-leading lead (d ∷ ds) last each below =
     omega (arith, length-append (with_bit_8 ds) (last ∷ []), length-append ds (last ∷ []), length-map ds (λ d. 128 + d)) in
     rw (bits, count) (leading-zero 128 d (ds ++ last ∷ []) (lit< tt) (All-push (λ d. d < 128) ds last (All-tail (λ d. d < 128) d ds each) below))
 
--- 8.1.2.4.2 c): bits 7 to 1 of the first subsequent octet are 0 exactly where one octet fewer holds the number
+-- 8.1.2.4.2 c): bits 7 to 1 of the first subsequent octet are 0 exactly if the number needs fewer octets
 pub leading_bits-zero : (h : HeaderValue) → IsHeader h → 1 < length h.identifier
     → (slice_index h.identifier 1 % 128 == 0) ≡ nat_lt h.number (128 ^ (length h.identifier - 2))
 leading_bits-zero h valid high = elim valid.identifier [
@@ -52,7 +52,7 @@ long-leading n octets f = rw (f.value, f.octet) (by-digits f.digits f.each f.som
         let count : length ((128 + length (d ∷ ds)) ∷ (d ∷ ds)) - 2 ≡ length ds = omega arith in
         rw count (leading-zero 256 d ds (lit< tt) (All-tail (λ d. d < 256) d ds each))
 
--- 10.1: the first subsequent octet is 0 exactly where one octet fewer holds the length
+-- 10.1: the first subsequent octet is 0 exactly if the length needs fewer octets
 pub first_length-zero : (h : HeaderValue) → IsHeader h → 1 < length h.lengths
     → (slice_index h.lengths 1 == 0) ≡ nat_lt (announced_length h.size) (256 ^ (length h.lengths - 2))
 first_length-zero h valid long = by-size h.size valid.lengths

@@ -30,7 +30,7 @@ pub record IsLongState (c : Class) (k : Bool) (n : ℕ) (i : List ℕ) (m : ℕ)
   pub limit : value_of 256 ds * 256 ^ (m - length ds) < 2 ^ 40
   pub octets : o ≡ i ++ (128 + m) ∷ ds
 
--- what the octets are, by the state that they lead to
+-- what the octets are, if they lead to this state
 abbrev pub Reads : Origin → Scan → List ℕ → Type 0
 Reads at Fresh o = o ≡ []
 Reads at (High c k ds) o = IsHighState c k ds o
@@ -187,11 +187,11 @@ reads-scan_from at s o (x ∷ xs) each r =
     rw (append_assoc o (x ∷ []) xs) at
     (reads-scan_from at (step at s x) (o ++ x ∷ []) xs (All-tail (λ x. x < 256) x xs each) (reads-step at x s o (All-head (λ x. x < 256) x xs each) r))
 
--- whatever state octets lead to, they are what it says
+-- octets are what the state that they lead to says
 pub reads-scan : (at : Origin) (xs : List ℕ) → All (λ x. x < 256) xs → Reads at (scan at xs) xs
 reads-scan at xs each = reads-scan_from at Fresh [] xs each refl
 
--- a header of an empty element, over identifier octets
+-- identifier octets, or the first of them: a length of 0 makes a header of them
 named-front : (c : Class) (k : Bool) (n : ℕ) (i o more : List ℕ) → IsIdentifier c k n i → o ≢ [] → o ++ more ≡ i → IsFront o
 named-front c k n i o more id some e = record {
   head = head_of start c k n i (Definite 0) (0 ∷ []);
@@ -201,7 +201,7 @@ named-front c k n i o more id some e = record {
   front = rw (← append_assoc o more (0 ∷ []), e);
 }
 
--- a header whose length ends in zeros, over the digits so far
+-- digits of a length: zeros make a header of them
 long-front : (c : Class) (k : Bool) (n : ℕ) (i : List ℕ) (m : ℕ) (ds o : List ℕ) → o ≢ [] → IsLongState c k n i m ds o → IsFront o
 long-front c k n i m ds o some s =
     let total : length (ds ++ replicate (m - length ds) 0) ≡ m = omega (arith, length-append ds (replicate (m - length ds) 0), length-replicate {A = ℕ} (m - length ds) 0, s.short) in
@@ -225,7 +225,7 @@ long-front c k n i m ds o some s =
       front = rw (s.octets, append_assoc i ((128 + m) ∷ ds) (replicate (m - length ds) 0));
     }
 
--- octets that want more are the front of a header
+-- octets after which more are needed are the front of a header
 pub front-from_more : (at : Origin) (s : Scan) (o : List ℕ) → Reads at s o → o ≢ [] → is_more s ≡ true → IsFront o
 front-from_more at Fresh o r some e = absurd (some r)
 front-from_more at (High c k ds) o r some e =
@@ -236,7 +236,7 @@ front-from_more at (Ready h) o r some e = absurd (cc)
 front-from_more at (Stuck code) o r some e = absurd (cc)
 front-from_more at Over o r some e = absurd (cc)
 
--- a header is made of octets
+-- the numbers in a header are octets
 leading-byte : (c : Class) (k : Bool) (n : ℕ) → n < 32 → leading_octet c k n < 256
 leading-byte Universal true n h = omega arith
 leading-byte Universal false n h = omega arith

@@ -1,4 +1,4 @@
--- What `read_header` finds is determined by the octets and where they stand.
+-- The octets and their offset determine what `read_header` finds.
 use Rattle.std.proofs.Common.{◌≡◌, ℕ, ◌<◌, Bool, List, length, take, ap, sym, ◌∙◌, arith}
 use Rattle.std.proofs.lemmas.List.{length-take-le, take-append-drop}
 use Rattle.tlv_head.specs.declared.header.HeaderFields.{HeaderFields}
@@ -12,7 +12,7 @@ use Rattle.tlv_head.proofs.Scan.{origin_of}
 identifier-count : (octets : List ℕ) (at : ℕ) (named : Bool) (f : HeaderFields) (n : ℕ) → BeginsWithFields octets at named f n
     → length (take f.id_len (take n octets)) ≡ f.id_len
 identifier-count octets at named f n b =
-    let some : f.id_len < length (take n octets) = b.suits.identifier in
+    let some : f.id_len < length (take n octets) = b.sized.identifier in
     length-take-le f.id_len (take n octets) (omega arith)
 
 octets-count : (octets : List ℕ) (at : ℕ) (named : Bool) (f : HeaderFields) (n : ℕ) → BeginsWithFields octets at named f n

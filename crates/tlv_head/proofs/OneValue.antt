@@ -1,4 +1,4 @@
--- Digits by their value: the fewest, and no others of the same number.
+-- Digits by their value: the fewest, and no others of the same count.
 use Rattle.std.proofs.Common.{◌≡◌, ◌≢◌, ℕ, zero, suc, ◌+◌, ◌*◌, ◌^◌, ◌<◌, ◌≤◌, inl, inr, List, [], ◌∷◌, length, All, refl, sym, ap, ◌∙◌, arith}
 use Rattle.std.proofs.lemmas.Bool.{cases_lt}
 use Rattle.std.proofs.lemmas.List.Elements.{All-tail}
@@ -7,7 +7,7 @@ use Rattle.std.proofs.Math.Nat.{pow-le-pow_right}
 use Rattle.tlv_head.specs.Header.{value_of}
 use Rattle.tlv_head.proofs.Digits.{value_of-lt}
 
--- as many digits with one value are the same digits
+-- two lists of digits with one length and one value are the same
 pub same-digits : (b : ℕ) (xs ys : List ℕ) → 0 < b → All (λ d. d < b) xs → All (λ d. d < b) ys
     → length xs ≡ length ys → value_of b xs ≡ value_of b ys → xs ≡ ys
 same-digits b [] [] some u v l e = refl
@@ -21,7 +21,7 @@ same-digits b (x ∷ xs) (y ∷ ys) some u v l e =
     let same : (x ≡ y) × (value_of b xs ≡ value_of b ys) = same_from_place x (value_of b xs) y (value_of b ys) (b ^ length xs) left right e' in
     rw (same.0, same-digits b xs ys some (All-tail (λ d. d < b) x xs u) (All-tail (λ d. d < b) y ys v) count same.1)
 
--- a number has no fewer digits than those of which the first is not 0
+-- no digits of a number are fewer than those of which the first is not 0
 pub fewest-digits : (b x : ℕ) (xs ys : List ℕ) → 0 < b → x ≢ 0 → All (λ d. d < b) ys
     → value_of b (x ∷ xs) ≡ value_of b ys → length (x ∷ xs) ≤ length ys
 fewest-digits b zero xs ys some nonzero v e = absurd (nonzero refl)

@@ -1,4 +1,4 @@
--- What is refused for the octets alone: no header begins with it, and it begins with none.
+-- Octets that are refused whatever the room and the depth: no header begins with them, and they begin with none.
 use Rattle.std.proofs.Common.{◌≡◌, ◌≢◌, ◌⊎◌, inl, inr, ℕ, ◌+◌, ◌-◌, ◌<◌, ◌≤◌, Bool, true, false, not, ◌&&◌, eqb, ltb, List, [], ◌∷◌, ◌++◌, length, All, refl, sym, ap, ◌∙◌, arith, append_assoc, append-nil, length-append, lt-ltb, le-ltb, ne_eqb, ⊎_elim}
 use Rattle.std.proofs.lemmas.Bool.{cases_Bool}
 use Rattle.std.proofs.lemmas.List.Elements.{All-head, All-tail}
@@ -10,7 +10,7 @@ use Rattle.tlv_head.specs.Refusal.{NoHeaderBeginsWith, BeginsWithNoHeader, IsFro
 use Rattle.tlv_head.proofs.Scan.{Scan, Origin, start, Fresh, High, Named, Long, Ready, Stuck, Over, step, scan_from, scan, scan_from-append, scan_from-over, scan-identifier, scan-moved, moved, step-leading, is_more, more-from_front}
 use Rattle.tlv_head.proofs.Headers.{fronts, stuck-none}
 
--- octets of which a front, read from a state, is refused at its last octet
+-- read from this state, a front of the octets is refused at its last octet
 record IsStuckFrom (at : Origin) (s : Scan) (o : List ℕ) : Type 0 where
   front : List ℕ
   rest : List ℕ
@@ -18,7 +18,7 @@ record IsStuckFrom (at : Origin) (s : Scan) (o : List ℕ) : Type 0 where
   stuck : scan_from at s front ≡ Stuck code
   octets : o ≡ front ++ rest
 
--- whatever follows them
+-- so it is, whatever follows
 stuck-longer : (at : Origin) (s : Scan) (o more : List ℕ) → IsStuckFrom at s o → IsStuckFrom at s (o ++ more)
 stuck-longer at s o more r = record {
   front = r.front;
@@ -34,7 +34,7 @@ stuck-last at o code e = record { front = o; rest = []; code = code; stuck = e; 
 front-none : (o : List ℕ) (code : FaultCode) → scan start o ≡ Stuck code → NoHeaderBeginsWith o
 front-none o code e = stuck-none start (Stuck code) o e refl (λ h z. cc)
 
--- they begin no header
+-- no header begins with such octets
 stuck-begins-none : (o : List ℕ) → IsStuckFrom start Fresh o → NoHeaderBeginsWith o
 stuck-begins-none o r = λ h more v e.
     front-none r.front r.code r.stuck h (r.rest ++ more) v (sym (append_assoc r.front r.rest more) ∙ (ap (λ z. z ++ more) (sym r.octets) ∙ e))
@@ -43,7 +43,7 @@ past-header : (at : Origin) (h : HeaderValue) (z : List ℕ) (code : FaultCode) 
 past-header at h [] code e = cc
 past-header at h (y ∷ z) code e = let over : scan_from at Over z ≡ Over = scan_from-over at z in cc
 
--- what is refused at its last octet begins with no header
+-- octets that are refused at the last of them begin with no header
 header-not_stuck : (h : HeaderValue) (z o : List ℕ) (code : FaultCode) → IsHeader h → octets_of h ++ z ≡ o → scan start o ≡ Stuck code → ⊥
 header-not_stuck h z o code v e s =
     let whole : scan start (octets_of h ++ z) ≡ Stuck code = ap (scan start) e ∙ s in
@@ -56,7 +56,7 @@ stuck-begins_with-none o r = λ h rest v e. elim (fronts r.front (octets_of h) r
   | inr z ↦ header-not_stuck h z.0 r.front r.code v z.1 r.stuck
 ]
 
--- a step behind octets that were read
+-- one octet after those that were read
 scan-step : (at : Origin) (o : List ℕ) (x : ℕ) (s : Scan) (code : FaultCode) → scan at o ≡ s → step at s x ≡ Stuck code → scan at (o ++ x ∷ []) ≡ Stuck code
 scan-step at o x s code e f = rw (scan_from-append at Fresh o (x ∷ []), e) f
 
@@ -94,7 +94,7 @@ reserved-stuck at c k n o x i e = scan-step at o x (Named c k n o) ReservedLengt
 primitive-stuck : (at : Origin) (c : Class) (n : ℕ) (o : List ℕ) (x : ℕ) → IsIdentifier c false n o → x ≡ 128 → scan at (o ++ x ∷ []) ≡ Stuck IndefinitePrimitive
 primitive-stuck at c n o x i e = scan-step at o x (Named c false n o) IndefinitePrimitive (scan-identifier at c false n o i) (rw e refl)
 
--- digits of a length that is not whole lead on, unless one is refused
+-- digits of a length that is not whole are read, or one of them is refused
 long-or-stuck : (at : Origin) (c : Class) (k : Bool) (n : ℕ) (i : List ℕ) (m : ℕ) (ds es : List ℕ) → length ds + length es < m
     → (scan_from at (Long c k n i m ds) es ≡ Long c k n i m (ds ++ es)) ⊎ IsStuckFrom at (Long c k n i m ds) es
 long-or-stuck at c k n i m ds [] h = inl (ap (Long c k n i m) (sym (append-nil ds)))
@@ -112,7 +112,7 @@ long-or-stuck at c k n i m ds (e ∷ es) h = ⊎_elim
     (long-or-stuck at c k n i m (ds ++ e ∷ []) es fewer))
     (cases_Bool (not (eqb e 0) && ltb (length ds + 5) m))
 
--- a length octet that makes the length too large, unless one before it does
+-- a length octet that makes the length too large, or one before it that does
 too_large-stuck : (at : Origin) (c : Class) (k : Bool) (n : ℕ) (x left : ℕ) (i ds o : List ℕ) → IsIdentifier c k n i → 6 ≤ left → length ds + left ≤ 126
     → o ≡ i ++ (128 + (length ds + left)) ∷ ds → x ≢ 0 → (scan at (o ++ x ∷ []) ≡ Stuck LengthTooLarge) ⊎ IsStuckFrom at Fresh o
 too_large-stuck at c k n x left i ds o id many few octets nonzero =
@@ -142,7 +142,7 @@ too_large-stuck at c k n x left i ds o id many few octets nonzero =
     }))
     (long-or-stuck at c k n i m [] ds (omega (arith, many)))
 
--- the code is that of the state, unless an octet before is refused
+-- the last octet is refused with this code, or one before it is refused
 refused-last : (at : Origin) (code : FaultCode) (o : List ℕ) (x : ℕ) → IsRefusedOctet o x code
     → (scan at (o ++ x ∷ []) ≡ Stuck code) ⊎ ((code ≡ LengthTooLarge) × IsStuckFrom at Fresh o)
 refused-last at code o x (tag_too_long c k ds each eight octets flag) = inl (too_long-stuck at c k ds o x each eight octets flag)
@@ -159,11 +159,11 @@ refused-stuck_from code o x r = ⊎_elim
     (λ (s : (code ≡ LengthTooLarge) × IsStuckFrom start Fresh o). stuck-longer start Fresh o (x ∷ []) s.1)
     (refused-last start code o x r)
 
--- what is refused for the octets alone begins no header
+-- no header begins with octets of which the last is refused
 pub refused-none : (code : FaultCode) (o : List ℕ) (x : ℕ) → IsRefusedOctet o x code → NoHeaderBeginsWith (o ++ x ∷ [])
 refused-none code o x r = stuck-begins-none (o ++ x ∷ []) (refused-stuck_from code o x r)
 
--- nor does it begin with one, whatever follows
+-- nor do they begin with one, whatever follows
 pub refused-with_none : (code : FaultCode) (o : List ℕ) (x : ℕ) (more : List ℕ) → IsRefusedOctet o x code → BeginsWithNoHeader ((o ++ x ∷ []) ++ more)
 refused-with_none code o x more r =
     stuck-begins_with-none ((o ++ x ∷ []) ++ more) (stuck-longer start Fresh (o ++ x ∷ []) more (refused-stuck_from code o x r))
@@ -178,7 +178,7 @@ stuck-no_more at o r =
     ap (scan at) r.octets ∙ (scan_from-append at Fresh r.front r.rest ∙ ap (λ (s : Scan). scan_from at s r.rest) r.stuck) in
     ap is_more split ∙ past-stuck at r.code r.rest
 
--- behind the front of a header it is refused with that code
+-- after the front of a header an octet is refused with this code
 pub refused-stuck : (at : Origin) (code : FaultCode) (o : List ℕ) (x : ℕ) → IsFront o → IsRefusedOctet o x code → scan at (o ++ x ∷ []) ≡ Stuck code
 refused-stuck at code o x front r = ⊎_elim
     (λ (e : scan at (o ++ x ∷ []) ≡ Stuck code). e)
@@ -196,7 +196,7 @@ stuck-or_over at s o x r =
     over [] = refl
     over (y ∷ z) = scan_from-over at (z ++ x ∷ [])
 
--- the code is that of the state, or the state is past a refusal
+-- the state has this code, or is after a refusal
 refused-state : (code : FaultCode) (o : List ℕ) (x : ℕ) → IsRefusedOctet o x code
     → (scan start (o ++ x ∷ []) ≡ Stuck code) ⊎ ((code ≡ LengthTooLarge) × (scan start (o ++ x ∷ []) ≡ Over))
 refused-state code o x r = ⊎_elim
@@ -204,7 +204,7 @@ refused-state code o x r = ⊎_elim
     (λ (s : (code ≡ LengthTooLarge) × IsStuckFrom start Fresh o). inr (s.0, stuck-or_over start Fresh o x s.1))
     (refused-last start code o x r)
 
--- an octet is refused with one code
+-- an octet is refused with one code alone
 pub one-refusal : (c d : FaultCode) (o : List ℕ) (x : ℕ) → IsRefusedOctet o x c → IsRefusedOctet o x d → c ≡ d
 one-refusal c d o x p q = both (refused-state c o x p) (refused-state d o x q)
   where

@@ -28,7 +28,7 @@ octet-string = inl (record { small = lit< tt; octet = refl; nonzero = omega arit
 sequence : IsIdentifier Universal true 16 (0x30 ∷ [])
 sequence = inl (record { small = lit< tt; octet = refl; nonzero = omega arith })
 
--- 20: the number 0 is that of an element where the octet is not 00
+-- 20: an element may have the number 0 if the octet is not 00
 constructed-zero : IsIdentifier Universal true 0 (0x20 ∷ [])
 constructed-zero = inl (record { small = lit< tt; octet = refl; nonzero = omega arith })
 
@@ -42,7 +42,7 @@ zero-no_identifier class constructed number (inr high) =
 high-integer : IsIdentifier Universal false 2 (0x1f ∷ 0x02 ∷ [])
 high-integer = inr (record { digits = []; last = 2; each = below 128 [] refl; last_digit = lit< tt; few = omega arith; value = refl; octet = refl })
 
--- 1f 80 02: the same number behind a digit 0
+-- 1f 80 02: the same number after a digit 0
 padded-integer : IsIdentifier Universal false 2 (0x1f ∷ 0x80 ∷ 0x02 ∷ [])
 padded-integer = inr (record { digits = 0 ∷ []; last = 2; each = below 128 (0 ∷ []) refl; last_digit = lit< tt; few = lit≤ tt; value = refl; octet = refl })
 

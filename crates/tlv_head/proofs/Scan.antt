@@ -1,4 +1,4 @@
--- The octets of a header, read one at a time: each header is read, and nothing behind it.
+-- The octets of a header, read one at a time: each header is read, and nothing after it.
 use Rattle.std.proofs.Common.{◌≡◌, ◌≢◌, inl, inr, ℕ, zero, suc, ◌+◌, ◌-◌, ◌*◌, ◌/◌, ◌%◌, ◌^◌, ◌<◌, ◌≤◌, Bool, true, false, cond, ◌&&◌, not, eqb, ltb, List, [], ◌∷◌, ◌++◌, length, map, All, refl, ap, ◌∙◌, arith, append_assoc, append-nil, lt-ltb, le-ltb, eq-eqb, ne_eqb, mul-le-mul_right, ⊎_elim, length-append}
 use Rattle.std.proofs.lemmas.Bool.{cases_lt, cases_eq, and_right, cases_Bool}
 use Rattle.std.proofs.lemmas.List.Elements.{All-head, All-tail}
@@ -30,14 +30,14 @@ pub data Scan : Type 0 where
   Fresh : Scan
   -- subsequent identifier octets, without their bit 8
   High : (class : Class) (constructed : Bool) (digits : List ℕ) → Scan
-  -- the identifier, of which the length is to follow
+  -- the identifier: the length is to follow
   Named : (class : Class) (constructed : Bool) (number : ℕ) (identifier : List ℕ) → Scan
   -- the identifier, how many length octets follow the first, and those so far
   Long : (class : Class) (constructed : Bool) (number : ℕ) (identifier : List ℕ) (count : ℕ) (digits : List ℕ) → Scan
   Ready : (head : HeaderValue) → Scan
   -- the last octet was refused
   Stuck : (code : FaultCode) → Scan
-  -- an octet past a header or a refusal
+  -- an octet after a header or a refusal
   Over : Scan
 
 abbrev pub class_of : ℕ → Class
@@ -103,7 +103,7 @@ leads-first at x c k n nz ec ek en = rw (ne_eqb x 0 nz, ec, ek, en, class_of-bit
 pub step-leading : (at : Origin) (c : Class) (k : Bool) (n : ℕ) → n < 32 → leading_octet c k n ≢ 0 → step at Fresh (leading_octet c k n) ≡ leads (leading_octet c k n) c k n
 step-leading at c k n h nz = leads-first at (leading_octet c k n) c k n nz (leading-class c k n h) (leading-form c k n h) (leading-low c k n h)
 
--- digits that go on a number, up to the last
+-- more digits of a number, up to the last
 scan-high : (at : Origin) (c : Class) (k : Bool) (ds es : List ℕ) (l : ℕ) → All (λ d. d < 128) es → l < 128 → length ds + length es ≤ 8
     → scan_from at (High c k ds) (map (λ d. 128 + d) es ++ l ∷ [])
     ≡ Named c k (value_of 128 ((ds ++ es) ++ l ∷ [])) (leading_octet c k 31 ∷ (map (λ d. 128 + d) (ds ++ es) ++ l ∷ []))
@@ -133,14 +133,14 @@ scan-identifier at c k n i (inr high) =
 pow-le : (i j : ℕ) → i ≤ j → 256 ^ i ≤ 256 ^ j
 pow-le i j h = let some : 0 < 256 = omega arith in pow-le-pow_right some h
 
--- a digit other than 0 that five are to follow makes 2^40 or more
+-- a digit other than 0 with five or more after it makes 2^40 or more
 high-value : (ds : List ℕ) (e : ℕ) (es : List ℕ) → 1 ≤ e → 5 ≤ length es → 2 ^ 40 ≤ value_of 256 (ds ++ e ∷ es)
 high-value ds e es some many =
     let power : 256 ^ 5 ≤ 256 ^ length es = pow-le 5 (length es) many in
     let times : 1 * 256 ^ length es ≤ e * 256 ^ length es = mul-le-mul_right (256 ^ length es) some in
     omega (arith, value_of-append-le 256 ds (e ∷ es))
 
--- so that a length below 2^40 has none
+-- so a length below 2^40 has none
 long-test : (ds : List ℕ) (e : ℕ) (es : List ℕ) (m : ℕ) → length ds + suc (length es) ≡ m → value_of 256 (ds ++ e ∷ es) < 2 ^ 40
     → (not (eqb e 0) && ltb (length ds + 5) m) ≡ false
 long-test ds e es m total limit = ⊎_elim
@@ -187,7 +187,7 @@ scan-length at c k n i (Definite a) l (inr long) allowed =
 scan-length at c true n i Indefinite l e allowed = rw e
 scan-length at c false n i Indefinite l e allowed = absurd (cc (allowed))
 
--- the octets of each header lead to it
+-- the octets of a header are read as this header
 pub scan-header : (h : HeaderValue) → IsHeader h → scan (origin_of h) (octets_of h) ≡ Ready h
 scan-header h valid =
     rw (scan_from-append (origin_of h) Fresh h.identifier h.lengths, scan-identifier (origin_of h) h.class h.constructed h.number h.identifier valid.identifier)
@@ -238,7 +238,7 @@ more-cases : (at : Origin) (s : Scan) (xs : List ℕ) (h : HeaderValue) → xs �
 more-cases at s xs h some r true e = e
 more-cases at s xs h some r false e = absurd (scan_from-past at s xs h e some r)
 
--- the front of a header wants more octets
+-- after the front of a header more octets are needed
 pub more-from_front : (at : Origin) (o : List ℕ) → IsFront o → is_more (scan at o) ≡ true
 more-from_front at o f =
     let whole : scan at (o ++ f.more) ≡ Ready (moved at f.head) = rw f.front (scan-moved at f.head f.valid) in
@@ -252,7 +252,7 @@ no-front h g xs vh vg some e =
     let past : scan_from start (Ready (moved start h)) xs ≡ Ready (moved start g) = rw (scan-moved start h vh) at split in
     scan_from-past start (Ready (moved start h)) xs (moved start g) refl some past
 
--- one list of octets is one header
+-- two headers with the same octets are one
 pub same-header : (h g : HeaderValue) → IsHeader h → IsHeader g → origin_of h ≡ origin_of g → octets_of h ≡ octets_of g → h ≡ g
 same-header h g vh vg o e =
     let left : scan (origin_of h) (octets_of h) ≡ Ready h = scan-header h vh in

@@ -38,7 +38,7 @@ flagged-end (a ∷ ds) (b ∷ es) l m x y h k e =
     let rest : (with_bit_8 ds ++ l ∷ []) ++ x ≡ (with_bit_8 es ++ m ∷ []) ++ y = cc in
     ap (λ (u : ℕ). u ∷ (with_bit_8 ds ++ l ∷ [])) same ∙ ap (λ (t : List ℕ). (128 + b) ∷ t) (flagged-end ds es l m x y h k rest)
 
--- octets begin with one identifier at most
+-- octets begin with at most one identifier
 one-identifier : (c d : Class) (k j : Bool) (n m : ℕ) (i o x y : List ℕ) → IsIdentifier c k n i → IsIdentifier d j m o → i ++ x ≡ o ++ y → i ≡ o
 one-identifier c d k j n m i o x y (inl p) (inl q) e =
     let whole : leading_octet c k n ∷ x ≡ leading_octet d j m ∷ y = ap (λ (z : List ℕ). z ++ x) (sym p.octet) ∙ (e ∙ ap (λ (z : List ℕ). z ++ y) q.octet) in
@@ -60,7 +60,7 @@ one-identifier c d k j n m i o x y (inr p) (inr q) e =
     let digits : with_bit_8 p.digits ++ p.last ∷ [] ≡ with_bit_8 q.digits ++ q.last ∷ [] = flagged-end p.digits q.digits p.last q.last x y p.last_digit q.last_digit rest in
     p.octet ∙ (ap (λ (u : ℕ). u ∷ (with_bit_8 p.digits ++ p.last ∷ [])) same ∙ (ap (λ (t : List ℕ). leading_octet d j 31 ∷ t) digits ∙ sym q.octet))
 
--- and it says one form
+-- and it is primitive or constructed, not both
 one-form : (c d : Class) (k j : Bool) (n m : ℕ) (i o : List ℕ) → IsIdentifier c k n i → IsIdentifier d j m o → i ≡ o → k ≡ j
 one-form c d k j n m i o p q e =
     let left : scan start i ≡ Named c k n i = scan-identifier start c k n i p in
@@ -68,7 +68,7 @@ one-form c d k j n m i o p q e =
     let both : Named c k n i ≡ Named d j m o = sym left ∙ (ap (scan start) e ∙ right) in
     cc
 
--- a front that is no longer than another is a front of that one
+-- of two fronts the shorter is a front of the other
 within-front : (o i x y : List ℕ) → length i ≤ length o → o ++ x ≡ i ++ y → (z : List ℕ) × (o ≡ i ++ z)
 within-front o [] x y h e = (o, refl)
 within-front [] (b ∷ i) x y h e = absurd (omega arith)
@@ -92,7 +92,7 @@ snoc≢nil : (os : List ℕ) (x : ℕ) → os ++ x ∷ [] ≢ []
 snoc≢nil [] x e = cc
 snoc≢nil (y ∷ os) x e = cc
 
--- no identifier is a front of the high form so far
+-- a high form that has not ended has no identifier as its front
 unended : (id : Identifier) (o : List ℕ) (c : Class) (k : Bool) (n : ℕ) (i z : List ℕ) → CarriesNumber id o → IsIdentifier c k n i → o ≡ i ++ z → ⊥
 unended id o c k n i z h p e =
     let ended : CarriesIdentifier (record { class = id.class; constructed = id.constructed; number = id.number * 128 + 0; octets = id.octets + 1 }) (o ++ 0 ∷ []) =
@@ -101,14 +101,14 @@ unended id o c k n i z h p e =
     let same : o ++ 0 ∷ [] ≡ i = one-identifier _ c _ k _ n (o ++ 0 ∷ []) i [] (z ++ 0 ∷ []) ended.identified p whole in
     omega (arith, ap length same, length-append o (0 ∷ []), ap length e, length-append i z)
 
--- nor is one a front of it and another octet, with octets left for a length
+-- nor is one a front of it and another octet, if octets are left for a length
 unended-length : (id : Identifier) (o : List ℕ) (x : ℕ) (c : Class) (k : Bool) (n : ℕ) (i l : List ℕ) → CarriesNumber id o → IsIdentifier c k n i → 1 ≤ length l
     → o ++ x ∷ [] ≡ i ++ l → ⊥
 unended-length id o x c k n i l h p some e =
     let r = within-front o i (x ∷ []) l (omega (arith, ap length e, length-append o (x ∷ []), length-append i l)) e in
     unended id o c k n i r.0 h p r.1
 
--- no octet is refused behind the high form so far, where it has at most seven digits
+-- after the high form so far no octet is refused, if there are at most seven digits
 unrefused : (code : FaultCode) (id : Identifier) (o : List ℕ) (x : ℕ) → CarriesNumber id o → length o ≤ 8 → IsRefusedOctet o x code → ⊥
 unrefused code id o x h few (tag_too_long c k digits each eight octet flag) =
     let size : length o ≡ length digits + 1 = rw octet (omega (arith, length-map digits (λ d. 128 + d))) in
@@ -117,7 +117,7 @@ unrefused code id o x h few (reserved_length c k n i all) = unended id o c k n o
 unrefused code id o x h few (indefinite_primitive c n i mark) = unended id o c false n o [] h i (sym (append-nil o))
 unrefused code id o x h few (length_too_large c k n i digits left p each octet most many nonzero) = unended id o c k n i _ h p octet
 
--- so an octet is taken, and makes no header
+-- so an octet is read, and makes no header
 pub always-unfinished : (r : Next) (id : Identifier) (o : List ℕ) (x : ℕ) → CarriesNumber id o → length o ≤ 8 → MakesNext o x r
     → ((p : Part) → r ≡ Unfinished p → ⊥) → ⊥
 always-unfinished (Unfinished p) id o x h few f not = not p refl
@@ -125,15 +125,15 @@ always-unfinished (Finished d size) id o x h few f not =
     unended-length id o x d.class d.constructed d.number f.identifier f.lengths h f.identified.identified f.some f.octet
 always-unfinished (Refused code) id o x h few f not = unrefused code id o x h few f
 
--- what is answered is carried
+-- the octets say the part that is returned
 followed : (r : Next) (p : Part) (o : List ℕ) (x : ℕ) → MakesNext o x r → r ≡ Unfinished p → Carries p (o ++ x ∷ [])
 followed r p o x f e = subst (MakesNext o x) e f
 
--- the high form, which goes on
+-- the high form goes on
 pub still-high : (r : Next) (p : Part) (d : Identifier) (o : List ℕ) (x : ℕ) → MakesNext o x r → r ≡ Unfinished p → p ≡ Number d → CarriesNumber d (o ++ x ∷ [])
 still-high r p d o x f e g = followed r (Number d) o x f (e ∙ ap (λ (q : Part). Unfinished q) g)
 
--- the high form so far, whatever it says
+-- octets of the high form, which has not ended
 abbrev pub IsUnended : List ℕ → Type 0
 IsUnended o = (d : Identifier) × CarriesNumber d o
 
@@ -168,19 +168,19 @@ leads-on (Digits d n left) x h not nor =
     short_front (a ∷ i) y l x e = absurd (omega (arith, ap length e, length-append i (y ∷ l)))
 leads-on Done x h not nor = let none : x ∷ [] ≡ [] = h in cc
 
--- octets that begin with the high form so far begin with no identifier of as few octets
-none-behind : (id : Identifier) (o more : List ℕ) (c : Class) (k : Bool) (n : ℕ) (i rest : List ℕ) → CarriesNumber id o → IsIdentifier c k n i
+-- octets that begin with the high form so far begin with no identifier that is as short
+none-after : (id : Identifier) (o more : List ℕ) (c : Class) (k : Bool) (n : ℕ) (i rest : List ℕ) → CarriesNumber id o → IsIdentifier c k n i
     → length i ≤ length o → o ++ more ≡ i ++ rest → ⊥
-none-behind id o more c k n i rest h p few e = let r = within-front o i more rest few e in unended id o c k n i r.0 h p r.1
+none-after id o more c k n i rest h p few e = let r = within-front o i more rest few e in unended id o c k n i r.0 h p r.1
 
--- three octets of the high form that have not ended it
+-- the high form has not ended with the third octet
 pub no-third : (xs : List ℕ) (id : Identifier) → CarriesNumber id (get_or xs 0 0 ∷ get_or xs 1 0 ∷ get_or xs 2 0 ∷ []) → 3 ≤ length xs → BeginsWithNoIdentifier xs
 no-third [] id h some = absurd (omega arith)
 no-third (x ∷ []) id h some = absurd (omega arith)
 no-third (x ∷ y ∷ []) id h some = absurd (omega arith)
-no-third (x ∷ y ∷ z ∷ xs) id h some = λ c k n i rest p few more e. none-behind id (x ∷ y ∷ z ∷ []) xs c k n i rest h p few e
+no-third (x ∷ y ∷ z ∷ xs) id h some = λ c k n i rest p few more e. none-after id (x ∷ y ∷ z ∷ []) xs c k n i rest h p few e
 
--- a header is an identifier, which has an octet behind it
+-- a header begins with an identifier, and has an octet after it
 pub no-short_identifier : (os : List ℕ) → BeginsWithNoIdentifier os → BeginsWithNoShortHeader os
 no-short_identifier os none = λ h rest v e few less.
     none h.class h.constructed h.number h.identifier (h.lengths ++ rest) v.identifier few
@@ -190,7 +190,7 @@ no-short_identifier os none = λ h rest v e few less.
     front-nil [] b e = refl
     front-nil (x ∷ a) b e = absurd (cc)
 
--- and a length that its form may have
+-- and then a length that its form may have
 pub no-short_length : (os : List ℕ) (id : Identifier) (before : ℕ) → BeginsWithIdentifier os id → before ≡ id.octets
     → BeginsWithNoLength (take (length os - before) (drop before os)) id.constructed → BeginsWithNoShortHeader os
 no-short_length os id before b at none = λ h rest v e few less.

@@ -1,4 +1,4 @@
--- Headers of one tag and one size: those that are as short as they can be are one, and no other is shorter.
+-- Headers with one tag and one size: one of them is as short as it can be, and no other is shorter.
 use Rattle.std.proofs.Common.{◌≡◌, ◌≢◌, ℕ, ◌+◌, ◌%◌, ◌<◌, ◌≤◌, inl, inr, Bool, List, [], ◌∷◌, ◌++◌, length, All, sym, ap, ap₂, ◌∙◌, arith, lit<, length-append}
 use Rattle.std.proofs.lemmas.Bool.{cases_lt}
 use Rattle.std.proofs.lemmas.List.{length-map, same_from_push}
@@ -49,7 +49,7 @@ identifier-le class constructed n xs ys (inr f) (inr g) s =
     fewest 128 (all_digits f) (all_digits g) (lit< tt) nonzero (each-high class constructed n ys g) (sym f.value ∙ g.value) in
     omega (arith, fewer, count-high class constructed n xs f, count-high class constructed n ys g)
 
--- as many subsequent octets
+-- the same number of subsequent octets
 high-same : (class : Class) (constructed : Bool) (n : ℕ) (xs ys : List ℕ) → IsHighForm class constructed n xs → IsHighForm class constructed n ys
     → length xs ≡ length ys → xs ≡ ys
 high-same class constructed n xs ys f g e =
@@ -60,7 +60,7 @@ high-same class constructed n xs ys f g e =
     let parts : (f.digits ≡ g.digits) × (f.last ≡ g.last) = same_from_push f.digits g.digits f.last g.last digits in
     f.octet ∙ ap₂ (λ (ds : List ℕ) (last : ℕ). leading_octet class constructed 31 ∷ (with_bit_8 ds ++ last ∷ [])) parts.0 parts.1 ∙ sym g.octet
 
--- as many identifier octets
+-- the same number of identifier octets
 pub identifier-same : (class : Class) (constructed : Bool) (n : ℕ) (xs ys : List ℕ) → IsIdentifier class constructed n xs → IsIdentifier class constructed n ys
     → length xs ≡ length ys → xs ≡ ys
 identifier-same class constructed n xs ys (inl f) (inl g) e = f.octet ∙ sym g.octet
@@ -83,7 +83,7 @@ length-le (Definite n) xs ys (inr f) (inr g) s =
     let fewer : length f.digits ≤ length g.digits = fewest 256 f.digits g.digits (lit< tt) nonzero g.each (sym f.value ∙ g.value) in
     omega (arith, fewer, ap length f.octet, ap length g.octet)
 
--- as many length octets
+-- the same number of length octets
 pub length-same : (size : Size) (xs ys : List ℕ) → IsLength size xs → IsLength size ys → length xs ≡ length ys → xs ≡ ys
 length-same Indefinite xs ys u v e = u ∙ sym v
 length-same (Definite n) xs ys (inl f) (inl g) e = f.1 ∙ sym g.1
@@ -96,7 +96,7 @@ length-same (Definite n) xs ys (inr f) (inr g) e =
 
 -- ---- both
 
--- the other's octets, as they say the first's fields
+-- the octets of the other header, with the fields of the first
 moved-identifier : (h g : HeaderValue) → IsHeader g → HaveOneTag h g → IsIdentifier h.class h.constructed h.number g.identifier
 moved-identifier h g valid tag = rw (tag.class, tag.constructed, tag.number) valid.identifier
 
@@ -139,7 +139,7 @@ lengths-some (Definite n) octets (inl f) = omega (arith, ap length f.1)
 lengths-some (Definite n) octets (inr f) = omega (arith, ap length f.octet)
 lengths-some Indefinite octets v = omega (arith, ap length v)
 
--- where there is one octet or more, a number that is too small for more leaves one
+-- a number that is too small for two octets or more has one
 single-octet : (n m least : ℕ) → 1 ≤ n → (1 < n → least ≤ m) → m < least → n ≡ 1
 single-octet n m least some large small = elim (cases_lt 1 n) [
   | inl more ↦ absurd (omega (arith, large more))

@@ -178,7 +178,7 @@ shorter-length h valid none =
           absurd (none (subst (IsShortestLength (announced_length h.size)) same l.shortest))
     ]
 
--- and one that is has none
+-- and one that is as short as it can be has none
 pub no-shorter_identifier : (h : HeaderValue) → IsHeader h → IsShortestIdentifier h.number h.identifier → HasShorter (λ k. k.identifier) h → ⊥
 no-shorter_identifier h valid s r = omega (arith, r.fewer, shortest-identifier h r.other valid r.valid r.tag s)
 

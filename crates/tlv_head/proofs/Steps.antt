@@ -41,7 +41,7 @@ number-lt id octets h =
     let p : 128 ^ length h.digits ≤ 128 ^ 8 = pow-le-pow_right {n = 128} (lit< tt) h.few in
     omega (arith, h.value)
 
--- one more octet behind a front
+-- one more octet after a front
 front-snoc : (i ds os : List ℕ) (a b x : ℕ) → os ≡ i ++ a ∷ ds → b ≡ a → os ++ x ∷ [] ≡ i ++ (b ∷ (ds ++ x ∷ []))
 front-snoc i ds os a b x e f = rw (e, f) (append_assoc i (a ∷ ds) (x ∷ []))
 

@@ -1,4 +1,4 @@
--- What a reader carries can be made a header.
+-- What a reader carries can become a header.
 use Rattle.std.proofs.Common.{◌≡◌, ◌≢◌, ℕ, suc, zero, Bool, true, false, ◌||◌, ◌+◌, ◌*◌, ◌-◌, ◌<◌, ◌≤◌, inl, inr, List, [], ◌∷◌, ◌++◌, length, Option, refl, ap, sym, ◌∙◌, arith, length-append, append_assoc, lit<, take, drop}
 use Rattle.std.proofs.lemmas.Bool.{cases_eq}
 use Rattle.tlv_head.specs.Header.{HeaderValue, IsHeader, is_wrapper}
@@ -73,7 +73,7 @@ made_ends_past r id size os x depth room m e c past = record {
   past = past;
 }
 
--- the octets that make a header, cut behind its identifier
+-- the octets that make a header, cut after its identifier
 pub made_whole : (r : HeadReaderState) (id : Identifier) (size : Size) (os : List ℕ) (x : ℕ) (m : MakesHeader id size (os ++ x ∷ [])) → os ≡ r.octets
     → Completes r x (record {
       offset = r.offset;
@@ -92,9 +92,9 @@ made_whole r id size os x m e =
 cons≢nil : (x : ℕ) (xs : List ℕ) → x ∷ xs ≢ []
 cons≢nil x xs e = cc
 
--- what a zero leads to
-zero_behind : (os : List ℕ) → IsFront (os ++ 0 ∷ []) → IsFront os
-zero_behind os u = record {
+-- octets that go on with a zero to the front of a header
+zero_after : (os : List ℕ) → IsFront (os ++ 0 ∷ []) → IsFront os
+zero_after os u = record {
   head = u.head;
   more = 0 ∷ u.more;
   valid = u.valid;
@@ -124,13 +124,13 @@ unfinished_identifier id os h = zero_ends id (Definite 0) os (record {
 })
 
 pub unfinished_number : (id : Identifier) (os : List ℕ) → CarriesNumber id os → IsFront os
-unfinished_number id os h = zero_behind os (unfinished_identifier _ _ (ends_number id 0 0 os h refl (lit< tt)))
+unfinished_number id os h = zero_after os (unfinished_identifier _ _ (ends_number id 0 0 os h refl (lit< tt)))
 
 pub unfinished_length : (k : ℕ) (id : Identifier) (n left : ℕ) (os : List ℕ) → left ≤ k → CarriesLength id n left os → IsFront os
 unfinished_length zero id n left os below h = let some : 1 ≤ left = h.front.some in absurd (omega arith)
 unfinished_length (suc k) id n left os below h = elim (cases_eq (left - 1) 0) [
   | inl e ↦ zero_ends id (Definite (n * 256 + 0)) os (ends_length id n left 0 0 os h refl (lit< tt) (inl refl) e)
-  | inr e ↦ zero_behind os (unfinished_length k id (n * 256 + 0) (left - 1) _ (omega arith) (more_length id n left 0 0 os h refl (lit< tt) (inl refl) e))
+  | inr e ↦ zero_after os (unfinished_length k id (n * 256 + 0) (left - 1) _ (omega arith) (more_length id n left 0 0 os h refl (lit< tt) (inl refl) e))
 ]
 
 snoc≢nil : (os : List ℕ) (x : ℕ) → os ++ x ∷ [] ≢ []

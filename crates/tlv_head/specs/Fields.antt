@@ -32,9 +32,9 @@ fields_of h = record {
 abbrev pub fields_wrap : HeaderFields → Bool
 fields_wrap f = is_wrapper f.named f.class f.constructed f.number f.size
 
--- by their number the octets may be those of a header with these fields: the identifier has at most ten of them, which
--- are more, and at most 137. That they say the fields is not asked
-pub record Suits (f : HeaderFields) (octets : List ℕ) : Type 0 where
+-- by their number the octets may be those of a header with these fields: there are at most 137, and the identifier has
+-- at most ten of them, and not all. They need not say the fields
+pub record IsHeaderSized (f : HeaderFields) (octets : List ℕ) : Type 0 where
   pub identifier : f.id_len < length octets
   pub few : f.id_len ≤ 10
   pub room : length octets ≤ 137

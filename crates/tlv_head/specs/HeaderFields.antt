@@ -1,6 +1,6 @@
 -- What the fields of a `Header` say.
 use Rattle.std.specs.Prelude.{◌≡◌, take, drop, length, slice_index}
-use Rattle.tlv_head.specs.Fields.{Suits}
+use Rattle.tlv_head.specs.Fields.{IsHeaderSized}
 use Rattle.tlv_head.specs.Header.{HeaderValue, octets_of}
 use Rattle.tlv_head.specs.declared.header.Header.TheInside.{Inside}
 use Rattle.tlv_head.specs.declared.header.HeaderFields.{HeaderFields}
@@ -44,10 +44,10 @@ fields_in h = record {
   id_len = h.id_len;
 }
 
--- the octets suit what is said, and the two that are kept beside them are the second ones of the identifier and of the
--- length
+-- by their number the octets may be those of a header with these fields, and the two that are kept beside them are the
+-- second ones of the identifier and of the length
 abbrev pub HeaderFieldsAgree : Inside → Type 0
 HeaderFieldsAgree h =
-    Suits (fields_in h) h.raw.items
+    IsHeaderSized (fields_in h) h.raw.items
     × (h.number_octet ≡ slice_index (take h.id_len h.raw.items) 1)
     × (h.length_octet ≡ slice_index (drop h.id_len h.raw.items) 1)

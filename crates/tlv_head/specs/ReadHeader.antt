@@ -1,14 +1,14 @@
 -- What `read_header` and `read_short` return.
 use Rattle.std.specs.Prelude.{◌≡◌, ℕ, ◌+◌, ◌≤◌, Bool, List, ◌++◌, length, take}
 use Rattle.tlv_head.specs.declared.header.HeaderFields.{HeaderFields}
-use Rattle.tlv_head.specs.Fields.{Suits, header_with}
+use Rattle.tlv_head.specs.Fields.{IsHeaderSized, header_with}
 use Rattle.tlv_head.specs.Header.{HeaderValue, IsHeader, octets_of}
 use Rattle.tlv_head.specs.Refusal.{BeginsWith}
 
 -- the octets begin with the header that has these fields and so many of the octets
 pub record BeginsWithFields (octets : List ℕ) (at : ℕ) (is_named : Bool) (f : HeaderFields) (count : ℕ) : Type 0 where
   pub within : count ≤ length octets
-  pub suits : Suits f (take count octets)
+  pub sized : IsHeaderSized f (take count octets)
   pub begins : BeginsWith octets at is_named (header_with f (take count octets))
 
 -- the header with these fields and so many octets has at most three identifier octets and three length octets

@@ -122,13 +122,13 @@ impl HeaderFields {
 impl Header {
     ghost use Rattle.std.specs.Prelude.{◌≤◌, length, slice_index};
     ghost use Rattle.tlv_head.specs.Header.{octets_of, wraps};
-    ghost use Rattle.tlv_head.specs.Fields.{Suits, fields_of, header_with};
+    ghost use Rattle.tlv_head.specs.Fields.{IsHeaderSized, fields_of, header_with};
 
     /// The header with these fields and octets: at most 137, of which at most ten, and not all, are the identifier.
     /// That the octets say these fields is for the caller to see to, as [`read_header`](crate::read_header) does.
     #[inline]
     pub fn new(fields: &HeaderFields, octets: &[u8]) -> Header
-        requires { Suits fields.now octets.now }
+        requires { IsHeaderSized fields.now octets.now }
         ensures { result ≡ header_with fields.now octets.now }
     {
         let mut raw = ArrayVec::new();
@@ -152,7 +152,7 @@ impl Header {
     /// of them from the slice that it is given, so that nothing need be written if nobody asks for
     /// the octets.)
     pub(crate) fn with_raw(fields: &HeaderFields, raw: ArrayVec<u8, 137>) -> Header
-        requires { Suits fields.now raw.items }
+        requires { IsHeaderSized fields.now raw.items }
         ensures { result ≡ header_with fields.now raw.items }
     {
         let (number_octet, length_octet) = seconds(fields.id_len, raw.as_slice());

@@ -36,12 +36,12 @@ module _ (size : ℕ) (wanted : ℕ → ℕ) where
 
 -- ---- premises
 
--- one of two numbers is at most what both are
+-- if both numbers are at most this, the chosen one is
 pub most-if : (test : Bool) (m n most : ℕ) → m ≤ most → n ≤ most → (if test then m else n) ≤ most
 most-if true m n most h g = h
 most-if false m n most h g = g
 
--- and at least what both are
+-- if both are at least this, it is
 pub least-if : (test : Bool) (least m n : ℕ) → least ≤ m → least ≤ n → least ≤ (if test then m else n)
 least-if true least m n h g = h
 least-if false least m n h g = g

@@ -1,4 +1,4 @@
--- Puts to an `Out`, and octets sent to a drain, one behind another.
+-- Puts to an `Out`, and octets sent to a drain, one after another.
 use Rattle.std.proofs.Common.{◌≡◌, ◌≢◌, ◌+◌, ◌<◌, ◌++◌, ◌∷◌, ℕ, List, [], length, take, drop, get_or, flat_map, refl, sym, ap, ◌∙◌, subst, append_assoc, append-nil, arith, take-append-drop}
 use Rattle.std.specs.Prelude.{Option, Some, None, Result, Ok, Err, IsErr, OnErr, OnOk, ⊤}
 use mathlib.Core.Bool.{true≢false}
@@ -22,7 +22,7 @@ appends_kept (Some x) None c bs p q = absurd p
 appends_kept (Some x) (Some y) None bs p q = absurd q
 appends_kept (Some x) (Some y) (Some z) bs p q = q ∙ p
 
--- n octets of what the first i of xs left were appended behind those i
+-- the first i of xs were appended, and then n of those that were left
 pub appends_more : (a b c : Option (List ℕ)) (xs rest : List ℕ) (i n : ℕ) → rest ≡ drop i xs → Appends a b (take i xs) → Appends b c (take n rest) → Appends a c (take (i + n) xs)
 appends_more None b c xs rest i n e p q = tt
 appends_more (Some x) None c xs rest i n e p q = absurd p
@@ -30,11 +30,11 @@ appends_more (Some x) (Some y) None xs rest i n e p q = absurd q
 appends_more (Some x) (Some y) (Some z) xs rest i n e p q =
     q ∙ ap (λ l. l ++ take n rest) p ∙ append_assoc x _ _ ∙ ap (λ l. x ++ (take i xs ++ take n l)) e ∙ ap (λ l. x ++ l) (sym (take-add i n xs))
 
--- octets are left behind the first i of more
+-- octets are left after the first i, if there are more than i
 some_left : (i : ℕ) (xs : List ℕ) → i < length xs → drop i xs ≢ []
 some_left i xs less none = omega (arith, less, length-drop i xs, ap length none)
 
--- and behind them others
+-- and others after them
 pub more_left : (xs ys : List ℕ) → xs ≢ [] → xs ++ ys ≢ []
 more_left [] ys some none = some refl
 more_left (x ∷ xs) ys some none = cc (none)
@@ -54,7 +54,7 @@ module _ {T E : Type 0} (result : Result T E) where
     failures = failed ∙ ap (failures_after result) failures;
   }
 
--- ---- one put behind another
+-- ---- one put after another
 
 -- what was put so far
 abbrev pub HasPut : {D : Type 0} → (D → DrainState) → Out D → Out D → List ℕ → Type 0
@@ -74,8 +74,8 @@ front_all xs = record { rest = []; is = append-nil xs }
 pub front_first : (xs ys : List ℕ) → IsFront xs (xs ++ ys)
 front_first xs ys = record { rest = ys; is = refl }
 
-pub front_behind : (xs ys zs : List ℕ) → IsFront ys zs → IsFront (xs ++ ys) (xs ++ zs)
-front_behind xs ys zs f = record { rest = f.rest; is = append_assoc xs ys f.rest ∙ ap (λ (l : List ℕ). xs ++ l) f.is }
+pub front_after : (xs ys zs : List ℕ) → IsFront ys zs → IsFront (xs ++ ys) (xs ++ zs)
+front_after xs ys zs f = record { rest = f.rest; is = append_assoc xs ys f.rest ∙ ap (λ (l : List ℕ). xs ++ l) f.is }
 
 pub front_within : (xs ys zs : List ℕ) → IsFront xs ys → IsFront xs (ys ++ zs)
 front_within xs ys zs f = record { rest = f.rest ++ zs; is = sym (append_assoc xs f.rest zs) ∙ ap (λ (l : List ℕ). l ++ zs) f.is }
@@ -197,7 +197,7 @@ pub ruleset lines = (puts_line, puts_no_room)
 -- what a function that puts several times needs, as `#[tactic(auto, using(crate::proofs::Puts::puts))]`
 pub ruleset puts = (puts_then, puts_failed, puts_failed_last)
 
--- ---- octets sent to a drain, one call behind another
+-- ---- octets sent to a drain, one call after another
 
 module _ {T U E : Type 0} where
   -- octets were sent, and then others
@@ -233,7 +233,7 @@ module _ {T U E F : Type 0} where
   }
 
 module _ {T E : Type 0} where
-  -- where the call did not fail, the drain has all of them
+  -- if the call did not fail, the drain has all of them
   pub sends_appends : (a b : DrainState) (xs : List ℕ) (x : T) → Sends {T = T} {E = E} a b xs (Ok x) → Appends a.octets b.octets xs
   sends_appends a b xs x p = subst (Appends a.octets b.octets) (sym (append-nil p.sent) ∙ ap (λ (l : List ℕ). p.sent ++ l) (sym p.all) ∙ p.front) p.took
 
@@ -269,7 +269,7 @@ module _ {D : Type 0} (state_of : D → DrainState) (text : ℕ → List ℕ) wh
 
 module _ {D : Type 0} (state_of : D → DrainState) where
   module _ {T E : Type 0} where
-    -- the drain that was lent, before and behind
+    -- the drain that was lent: how it was before, and how it is after
     pub sends_puts : (a c : Out D) (d d' : D) (xs : List ℕ) (r : Result T E) → (drain_of a).now ≡ d → held_octets a ≡ [] → d' ≡ (drain_of c).now
         → Puts state_of a c xs r → OnOk r (held_octets c ≡ []) → Sends (state_of d) (state_of d') xs r
     sends_puts a c d d' xs r from none to p empty =

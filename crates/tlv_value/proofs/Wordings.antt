@@ -44,11 +44,11 @@ module _ (whole code text : List ℕ) (count : ℕ)
   pub code_in_front : take 3 whole ≡ code
   code_in_front = sym (take-take 3 count whole (omega arith)) ∙ ap (take 3) e ∙ take_at code (32 ∷ text) 3 size
 
-  pub text_behind : take (count - 4) (drop 4 whole) ≡ text
-  text_behind =
-      let behind : length code + 1 ≡ 4 = omega arith in
+  pub text_at_end : take (count - 4) (drop 4 whole) ≡ text
+  text_at_end =
+      let front : length code + 1 ≡ 4 = omega arith in
       sym (drop-take 4 (count - 4) whole)
       ∙ ap (λ (n : ℕ). drop 4 (take n whole)) (omega arith)
       ∙ ap (drop 4) e
-      ∙ ap (λ (n : ℕ). drop n (code ++ 32 ∷ text)) (sym behind)
+      ∙ ap (λ (n : ℕ). drop n (code ++ 32 ∷ text)) (sym front)
       ∙ drop-append-add code (32 ∷ text) 1

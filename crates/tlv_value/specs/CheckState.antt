@@ -1,10 +1,11 @@
 -- What is to be kept of the contents of a primitive, so that what is found on them can be reported at their end.
+use Rattle.std.specs.List.{list_all}
 use Rattle.std.specs.Prelude.{ℕ, ◌-◌, ◌%◌, Bool, true, false, ◌&&◌, ◌||◌, not, eqb, if◌then◌else◌, List, [], ◌∷◌, ◌++◌, length, take}
 use Rattle.std.specs.Str.{is_utf8}
 use Rattle.tlv_head.specs.Header.{HeaderValue, announced_length, is_universal}
 use Rattle.tlv_value.specs.declared.kind.Kind.TheVariants.{Utf8}
 use Rattle.tlv_value.specs.declared.finding.Finding.{Finding}
-use Rattle.tlv_value.specs.Checks.{allows_octet, every, is_padded_after, last_octet_of}
+use Rattle.tlv_value.specs.Checks.{allows_octet, is_padded_after, last_octet_of}
 use Rattle.tlv_value.specs.CheckNotes.{Notes, is_object, universal_findings}
 use Rattle.tlv_value.specs.Rows.{full_rows, open_row}
 use Rattle.tlv_value.specs.Types.{bit_string, octet_string}
@@ -73,7 +74,7 @@ with_front s octets = record s { front = take 2 (s.front ++ octets); last = last
 
 abbrev pub with_each : CheckState → List ℕ → CheckState
 with_each s octets = record s {
-  allowed = s.allowed && every (allows_octet s.number) octets;
+  allowed = s.allowed && list_all (allows_octet s.number) octets;
   padded = if is_object s.number then s.padded || is_padded_after s.last octets else s.padded;
   formed = if eqb s.number 12 then s.formed && all_utf8 (full_rows Utf8 s.row octets) else s.formed;
   row = if eqb s.number 12 then open_row Utf8 s.row octets else s.row;

@@ -1,8 +1,9 @@
 -- What is found on the contents of a primitive: X.690 8 and 11. The conditions are at the end, with what they speak of
 -- before them.
-use Rattle.std.specs.Prelude.{ℕ, ◌%◌, ◌^◌, Bool, true, false, ◌&&◌, ◌||◌, not, ◌==◌, eqb, nat_le, nat_lt, if◌then◌else◌, List, [], ◌∷◌, flat_map, length, slice_index, codes}
+use Rattle.std.specs.Prelude.{ℕ, ◌%◌, ◌^◌, Bool, true, false, ◌&&◌, ◌||◌, not, ◌==◌, eqb, nat_le, nat_lt, if◌then◌else◌, List, [], ◌∷◌, flat_map, length, slice_index, Option, Some, None, codes}
 use Rattle.std.specs.Char.{is_ascii_alphabetic, is_ascii_digit}
 use Rattle.std.specs.List.{list_all, list_any}
+use Rattle.std.specs.Option.{option_map_or}
 use Rattle.std.specs.Str.{is_utf8}
 use Rattle.tlv_head.specs.Header.{HeaderValue, is_universal}
 use Rattle.tlv_value.specs.declared.finding.Finding.{Finding}
@@ -33,18 +34,27 @@ is_digit_or_space x = eqb x 32 || is_ascii_digit x
 abbrev pub is_printable_string : ℕ → Bool
 is_printable_string x = is_digit_or_space x || is_ascii_alphabetic x || list_any (eqb x) (codes "'()+,-./:=?")
 
--- the contents have the characters of the type with this number: UTF8String, NumericString, PrintableString, IA5String,
--- VisibleString, UniversalString, BMPString
+-- the test that each octet of a string of the type with this number passes: NumericString, PrintableString, IA5String,
+-- VisibleString. Other types have none
+abbrev pub octet_test : ℕ → Option (ℕ → Bool)
+octet_test number =
+    if eqb number 18 then Some is_digit_or_space
+    else if eqb number 19 then Some is_printable_string
+    else if eqb number 22 then Some (λ x. nat_lt x 128)
+    else if eqb number 26 then Some is_printable
+    else None
+
+abbrev pub allows_octet : ℕ → ℕ → Bool
+allows_octet number x = option_map_or (λ test. test x) (octet_test number) true
+
+-- the contents have the characters of the type with this number: one of these types, or UTF8String, UniversalString,
+-- BMPString
 abbrev pub allows : ℕ → List ℕ → Bool
 allows number octets =
     if eqb number 12 then is_utf8 octets
-    else if eqb number 18 then list_all is_digit_or_space octets
-    else if eqb number 19 then list_all is_printable_string octets
-    else if eqb number 22 then list_all (λ x. nat_lt x 128) octets
-    else if eqb number 26 then list_all is_printable octets
     else if eqb number 28 then eqb (length octets % 4) 0
     else if eqb number 30 then eqb (length octets % 2) 0
-    else true
+    else option_map_or (λ test. list_all test octets) (octet_test number) true
 
 -- ---- The findings
 
@@ -108,17 +118,3 @@ contents_conditions h c =
 -- what is found, by the rules of BER, CER or DER, in order
 abbrev pub findings_on_contents : HeaderValue → List ℕ → List Finding
 findings_on_contents h c = findings_by (contents_conditions h c)
-
--- ---- What each octet may be, for contents that come in pieces
-
-abbrev pub every : (ℕ → Bool) → List ℕ → Bool
-every test octets = list_all test octets
-
--- NumericString, PrintableString, IA5String, VisibleString
-abbrev pub allows_octet : ℕ → ℕ → Bool
-allows_octet number x =
-    if eqb number 18 then is_digit_or_space x
-    else if eqb number 19 then is_printable_string x
-    else if eqb number 22 then nat_lt x 128
-    else if eqb number 26 then is_printable x
-    else true

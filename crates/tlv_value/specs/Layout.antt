@@ -8,9 +8,12 @@ pub use Rattle.tlv_io.specs.LineTexts.{columns, right, spaces}
 abbrev pub no_columns : List ℕ
 no_columns = spaces 17
 
--- a line: its first columns, the indentation of its level, its text and a line feed
+-- what is before the text of a line: its first columns, and the indentation of its level
+abbrev pub margin : Bool → List ℕ → ℕ → List ℕ
+margin pure first level = (if pure then [] else first) ++ spaces (2 * level)
+
 abbrev pub line : Bool → List ℕ → ℕ → List ℕ → List ℕ
-line pure first level text = (if pure then [] else first) ++ spaces (2 * level) ++ text ++ 10 ∷ []
+line pure first level text = margin pure first level ++ text ++ 10 ∷ []
 
 -- a row of this number, from 0 on: above the limit the first row is three dots, and the others have no line
 abbrev pub row_within_limit : Option ℕ → ℕ → List ℕ → Option (List ℕ)
@@ -23,7 +26,3 @@ row_within_limit (Some limit) i text =
 abbrev pub row_line : Layout → ℕ → List ℕ → List ℕ
 row_line layout i text =
     option_map_or (line layout.pure no_columns (layout.level + 1)) (row_within_limit layout.limit i text) []
-
--- what is before the text of a line
-abbrev pub margin : Bool → List ℕ → ℕ → List ℕ
-margin pure first level = (if pure then [] else first) ++ spaces (2 * level)

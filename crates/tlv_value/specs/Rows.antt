@@ -45,8 +45,8 @@ open_row_in kind (row ∷ next ∷ rows) = open_row_in kind (next ∷ rows)
 abbrev pub known_rows : Bool → Kind → List ℕ → List (List ℕ)
 known_rows whole kind octets = if whole then rows_of kind octets else full_rows_in kind (rows_of kind octets)
 
--- ---- Rows as octets come. A `ValueText` and a `ValueCheck` keep the row that has begun from one piece of contents to the
--- next. With the octets of that piece after it, it is cut anew.
+-- ---- Rows as octets come. A `ValueText` and a `ValueCheck` keep the row that has begun from one piece of contents to
+-- the next. With the octets of that piece after it, it is cut anew.
 
 -- the rows that are then full
 abbrev pub full_rows : Kind → List ℕ → List ℕ → List (List ℕ)

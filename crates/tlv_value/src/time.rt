@@ -55,7 +55,7 @@ pub fn general_canonical(contents: &[u8]) -> bool
     let Some(rest) = to_canonical_second(rest) else {
         return false;
     };
-    match behind_mark(rest, b'.') {
+    match after_mark(rest, b'.') {
         Some(fraction) => is_canonical_fraction(fraction) || is_zulu(rest),
         None => is_zulu(rest),
     }
@@ -111,7 +111,7 @@ fn is_utc_zone(octets: &[u8]) -> bool
 fn is_utc_difference(octets: &[u8]) -> bool
     ensures { result ≡ has_form (sign then hour then minute) octets.now }
 {
-    match behind_difference(octets) {
+    match after_difference(octets) {
         Some(rest) => is_minute(rest),
         None => false,
     }
@@ -160,7 +160,7 @@ fn is_general_zone(octets: &[u8]) -> bool
 fn is_general_difference(octets: &[u8]) -> bool
     ensures { result ≡ has_form (sign then hour then maybe minute) octets.now }
 {
-    match behind_difference(octets) {
+    match after_difference(octets) {
         Some(rest) => rest.is_empty() || is_minute(rest),
         None => false,
     }
@@ -194,8 +194,8 @@ fn is_zulu(octets: &[u8]) -> bool
     matches!(octets, [b'Z'])
 }
 
-/// `+hh` or `-hh`.
-fn behind_difference(octets: &[u8]) -> Option<&[u8]>
+/// What is after `+hh` or `-hh`.
+fn after_difference(octets: &[u8]) -> Option<&[u8]>
     ensures { option_to_list (option_copied result) ≡ (sign then hour) octets.now }
 {
     match octets {
@@ -204,8 +204,8 @@ fn behind_difference(octets: &[u8]) -> Option<&[u8]>
     }
 }
 
-/// This octet.
-fn behind_mark(octets: &[u8], octet: u8) -> Option<&[u8]>
+/// What is after this octet.
+fn after_mark(octets: &[u8], octet: u8) -> Option<&[u8]>
     ensures { option_to_list (option_copied result) ≡ mark octet octets.now }
 {
     match octets {

@@ -1,6 +1,6 @@
 //! What follows a walk.
 ghost use Rattle.std.specs.Prelude.{◌≡◌, true};
-ghost use Rattle.tlv_head.specs.Fields.{Suits, header_with};
+ghost use Rattle.tlv_head.specs.Fields.{IsHeaderSized, header_with};
 ghost use Rattle.tlv_walk.specs.Events.{Bytes, EventValue, Open, Pad};
 ghost use Rattle.tlv_walk.specs.Follow.{Effect, GoesOn, HasEffect, HasEffectOrNone, IsWholeElement, Joins, Rests, effect_of, put_if_followed, whole_events};
 ghost use Rattle.tlv_io.specs.Out.{Puts};
@@ -74,7 +74,7 @@ pub trait Follow {
         octets: &[u8],
         out: &mut Out<'_, D>,
     ) -> Result<Go, WriteFault>
-        requires suits { Suits fields.now octets.now }
+        requires sized { IsHeaderSized fields.now octets.now }
         requires constructed { fields.now.constructed ≡ true }
         ensures puts { Puts D.state out.old out.new
             (next self.old (Open (header_with fields.now octets.now))).put result }

@@ -2,6 +2,7 @@
 use Rattle.std.proofs.Common.{◌≡◌, ℕ, Bool, true, false, ◌&&◌, ◌||◌, ◌==◌, ◌%◌, ◌^◌, not, eqb, ◌≤◌, nat_le, nat_lt, if◌then◌else◌, List, [], ◌∷◌, ◌++◌, length, take, refl, sym, ap, ◌∙◌, subst, arith, append_assoc, append-nil}
 use Rattle.std.proofs.lemmas.Bool.{eqb-true, leb-true}
 use Rattle.std.proofs.lemmas.Grind.{common_steps}
+use Rattle.std.specs.List.{list_all}
 use Rattle.std.specs.Prelude.{slice_index}
 use Rattle.tlv_head.specs.declared.header.Class.{Class}
 use Rattle.tlv_head.specs.declared.header.Class.TheVariants.{Universal, Application, Context, Private}
@@ -9,7 +10,7 @@ use Rattle.tlv_head.specs.declared.header.Size.TheVariants.{Definite}
 use Rattle.tlv_head.specs.Header.{HeaderValue}
 use Rattle.tlv_value.specs.declared.finding.Finding.{Finding}
 use Rattle.tlv_value.specs.declared.finding.Finding.TheVariants.{B06, B07, B08, B09, B10, B11, B12, B13, B14, B15, B18, B19, S02, S03, S04}
-use Rattle.tlv_value.specs.Checks.{allows, allows_octet, contents_conditions, every, findings_by, findings_on_contents, first, is_padded_integer, last_octet_of}
+use Rattle.tlv_value.specs.Checks.{allows, allows_octet, contents_conditions, findings_by, findings_on_contents, first, is_padded_integer, last_octet_of}
 use Rattle.tlv_value.proofs.CheckLemmas.CheckWords.{allows_both, is_padded_object}
 use Rattle.tlv_value.specs.CheckNotes.{Notes, finding_if, time_findings, universal_findings}
 use Rattle.tlv_value.specs.CheckState.{all_utf8, is_allowed_in, new_check_of, notes_each, notes_in, type_number, with_each, with_notes}
@@ -44,9 +45,9 @@ padded-noted (x ∷ y ∷ c) = refl
 take-all : (n : ℕ) (c : List ℕ) → length c ≤ n → take n c ≡ c
 take-all n c h = grind (arith, common_steps)
 
-every-is : (test : ℕ → Bool) → ((x : ℕ) → test x ≡ true) → (c : List ℕ) → every test c ≡ true
-every-is test e [] = refl
-every-is test e (x ∷ c) = rw (e x) (every-is test e c)
+all-is : (test : ℕ → Bool) → ((x : ℕ) → test x ≡ true) → (c : List ℕ) → list_all test c ≡ true
+all-is test e [] = refl
+all-is test e (x ∷ c) = rw (e x) (all-is test e c)
 
 three : (a b d : List Finding) → a ++ (b ++ (d ++ [])) ≡ (a ++ b) ++ d
 three a b d = ap (λ (l : List Finding). a ++ (b ++ l)) (append-nil d) ∙ sym (append_assoc a b d)
@@ -110,7 +111,7 @@ tests true false = refl
 tests false true = refl
 tests false false = refl
 
--- of a grammar, and of its canonical form
+-- a grammar, and its canonical form
 time-by : (short : Bool) (form canonical : Form) (c c' : List ℕ) → (short ≡ true → c' ≡ c)
     → finding_if (short && not (has_form form c)) B19 ++ (finding_if (short && has_form form c && not (has_form canonical c)) S04 ++ [])
     ≡ (if short then time_findings (has_form form c') (has_form canonical c') else [])
@@ -125,12 +126,12 @@ general-same : (c : List ℕ) → on 24 c ≡ universal_findings 24 (noted 24 c)
 general-same c =
     time-by (nat_le (length c) 64) general_time canonical_general_time c (take 64 c) (λ e. take-all 64 c (leb-true (length c) 64 e))
 
--- all octets at once, and each of them
+-- what the contents have as a whole, and what each octet has
 both-at : (n k : ℕ) (c : List ℕ) → eqb n k ≡ true → allows_both k c ≡ allows k c → allows_both n c ≡ allows n c
 both-at n k c e h = subst (λ (m : ℕ). allows_both m c ≡ allows m c) (sym (eqb-true n k e)) h
 
-with-each : (k : Bool) (test : ℕ → Bool) → ((x : ℕ) → test x ≡ true) → (c : List ℕ) → (k && every test c) ≡ k
-with-each true test e c = every-is test e c
+with-each : (k : Bool) (test : ℕ → Bool) → ((x : ℕ) → test x ≡ true) → (c : List ℕ) → (k && list_all test c) ≡ k
+with-each true test e c = all-is test e c
 with-each false test e c = refl
 
 allows-both : (n : ℕ) (c : List ℕ) → allows_both n c ≡ allows n c
@@ -146,23 +147,23 @@ allows-both n c = at (eqb n 12) (eqb n 18) (eqb n 19) (eqb n 22) (eqb n 26) (eqb
     at false false false false false true v e f g h i j k = both-at n 28 c j (with-each (eqb (length c % 4) 0) (allows_octet 28) (λ x. refl) c)
     at false false false false false false true e f g h i j k = both-at n 30 c k (with-each (eqb (length c % 2) 0) (allows_octet 30) (λ x. refl) c)
     at false false false false false false false e f g h i j k =
-        let l : allows_both n c ≡ true = rw (e, j, k) (every-is (allows_octet n) (λ x. rw (f, g, h, i) refl) c) in
+        let l : allows_both n c ≡ true = rw (e, j, k) (all-is (allows_octet n) (λ x. rw (f, g, h, i) refl) c) in
         let r : allows n c ≡ true = rw (e, f, g, h, i, j, k) refl in
         l ∙ sym r
 
--- of any other type
+-- any other type
 allowed-each : (n : ℕ) (c : List ℕ) (text : Bool)
     → ((if text then (if text then true && all_utf8 (full_rows Utf8 [] c) else true) && is_utf8 (if text then open_row Utf8 [] c else [])
     else if eqb n 30 then eqb (length c % 2) 0
     else if eqb n 28 then eqb (length c % 4) 0
     else true)
-    && (true && every (allows_octet n) c))
+    && (true && list_all (allows_octet n) c))
     ≡ ((if text then is_utf8 c
     else if eqb n 30 then eqb (length c % 2) 0
     else if eqb n 28 then eqb (length c % 4) 0
     else true)
-    && every (allows_octet n) c)
-allowed-each n c true = ap (λ (f : Bool). f && every (allows_octet n) c) (rows-formed_at c)
+    && list_all (allows_octet n) c)
+allowed-each n c true = ap (λ (f : Bool). f && list_all (allows_octet n) c) (rows-formed_at c)
 allowed-each n c false = refl
 
 other-allowed : (n : ℕ) (c : List ℕ) → eqb n 1 ≡ false → eqb n 2 ≡ false → eqb n 3 ≡ false → eqb n 10 ≡ false → eqb n 23 ≡ false → eqb n 24 ≡ false
@@ -239,6 +240,6 @@ of-class Application n c = refl
 of-class Context n c = refl
 of-class Private n c = refl
 
--- of a primitive with this header
+-- a primitive with this header
 pub noted-same : (h : HeaderValue) (c : List ℕ) → findings_on_contents h c ≡ universal_findings (type_number h) (noted (type_number h) c)
 noted-same h c = of-class h.class h.number c

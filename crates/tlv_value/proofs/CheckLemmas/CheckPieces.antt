@@ -1,12 +1,14 @@
 -- What is found on contents in pieces.
 use Rattle.std.proofs.Common.{◌≡◌, ℕ, zero, suc, ◌-◌, Bool, true, false, List, [], ◌∷◌, ◌++◌, length, take, refl, sym, ap, ◌∙◌, arith, append_assoc, length-append}
+use Rattle.std.proofs.lemmas.List.Folds.{list_all-append}
+use Rattle.std.specs.List.{list_all}
 use Rattle.std.specs.Prelude.{◌&&◌, ◌||◌, eqb, nat_lt, if◌then◌else◌}
 use Rattle.std.specs.Str.{is_utf8}
 use Rattle.tlv_head.specs.Header.{HeaderValue, announced_length}
 use Rattle.tlv_value.specs.declared.kind.Kind.TheVariants.{Utf8}
 use Rattle.tlv_value.specs.CheckLaws.{ChecksJoin, FindingsEnd}
 use Rattle.tlv_value.specs.CheckState.{CheckState, all_utf8, check_after, new_check, new_check_of, notes_each, notes_front, notes_in, notes_time, type_number, with_each, with_front, with_notes, with_time}
-use Rattle.tlv_value.specs.Checks.{allows_octet, every, is_padded_after, last_octet_of}
+use Rattle.tlv_value.specs.Checks.{allows_octet, is_padded_after, last_octet_of}
 use Rattle.tlv_value.specs.CheckNotes.{is_object, universal_findings}
 use Rattle.tlv_value.specs.Rows.{full_rows, open_row}
 use Rattle.tlv_value.proofs.CheckLemmas.CheckNotes.{noted-same}
@@ -23,10 +25,6 @@ and-assoc false b c = refl
 or-assoc : (a b c : Bool) → ((a || b) || c) ≡ (a || (b || c))
 or-assoc true b c = refl
 or-assoc false b c = refl
-
-every-join : (test : ℕ → Bool) (x y : List ℕ) → (every test x && every test y) ≡ every test (x ++ y)
-every-join test [] y = refl
-every-join test (z ∷ x) y = and-assoc (test z) (every test x) (every test y) ∙ ap (λ (b : Bool). test z && b) (every-join test x y)
 
 padded-join : (before : ℕ) (x y : List ℕ) → (is_padded_after before x || is_padded_after (last_octet_of before x) y) ≡ is_padded_after before (x ++ y)
 padded-join before [] y = refl
@@ -81,7 +79,7 @@ built s left front last allowed padded formed row time = record {
 built-eq : (s : CheckState) (l l' : ℕ) (f f' : List ℕ) (t t' : ℕ) (a a' p p' m m' : Bool) (r r' i i' : List ℕ) → l ≡ l' → f ≡ f' → t ≡ t' → a ≡ a' → p ≡ p' → m ≡ m' → r ≡ r' → i ≡ i' → built s l f t a p m r i ≡ built s l' f' t' a' p' m' r' i'
 built-eq s l l' f f' t t' a a' p p' m m' r r' i i' e1 e2 e3 e4 e5 e6 e7 e8 = rw (e1, e2, e3, e4, e5, e6, e7, e8) refl
 
--- what is noted of a type, by what it asks for
+-- what is noted, by what the type asks for
 abbrev noted_by : Bool → Bool → Bool → CheckState → List ℕ → CheckState
 noted_by front each time s octets =
     if front then with_front s octets
@@ -104,7 +102,7 @@ join-by false true t s x y =
     (with_each (with_each s x) y).allowed (with_each s (x ++ y)).allowed (with_each (with_each s x) y).padded (with_each s (x ++ y)).padded (with_each (with_each s x) y).formed (with_each s (x ++ y)).formed
     (with_each (with_each s x) y).row (with_each s (x ++ y)).row s.time s.time
     l refl (last-join s.last x y)
-    (and-assoc s.allowed (every (allows_octet s.number) x) (every (allows_octet s.number) y) ∙ ap (λ (b : Bool). s.allowed && b) (every-join (allows_octet s.number) x y))
+    (and-assoc s.allowed (list_all (allows_octet s.number) x) (list_all (allows_octet s.number) y) ∙ ap (λ (b : Bool). s.allowed && b) (sym (list_all-append (allows_octet s.number) x y)))
     (padded-at (is_object s.number) s.padded s.last x y) (formed-at (eqb s.number 12) s.formed s.row x y) (row-at (eqb s.number 12) s.row x y) refl
 join-by false false true s x y =
     let l : s.left - length x - length y ≡ s.left - length (x ++ y) = omega (arith, length-append x y) in

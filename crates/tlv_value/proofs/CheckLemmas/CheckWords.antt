@@ -1,7 +1,8 @@
--- Words of what strings may hold, of all of their octets.
+-- What the contents of a string have as a whole, beside what each octet has.
+use Rattle.std.specs.List.{list_all}
 use Rattle.std.specs.Prelude.{ℕ, ◌%◌, Bool, true, ◌&&◌, eqb, if◌then◌else◌, List, length}
 use Rattle.std.specs.Str.{is_utf8}
-use Rattle.tlv_value.specs.Checks.{allows_octet, every, is_padded_after}
+use Rattle.tlv_value.specs.Checks.{allows_octet, is_padded_after}
 
 abbrev pub is_padded_object : List ℕ → Bool
 is_padded_object octets = is_padded_after 0 octets
@@ -16,4 +17,4 @@ allows_all number octets =
 
 -- the two together are `allows`
 abbrev pub allows_both : ℕ → List ℕ → Bool
-allows_both number octets = allows_all number octets && every (allows_octet number) octets
+allows_both number octets = allows_all number octets && list_all (allows_octet number) octets

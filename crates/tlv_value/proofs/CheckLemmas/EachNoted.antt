@@ -1,13 +1,14 @@
 -- What is noted of each contents octet, type by type. Of most types it is nothing.
 use Rattle.std.proofs.Common.{◌≡◌, ℕ, Bool, true, false, List, refl, arith}
+use Rattle.std.specs.List.{list_all}
 use Rattle.std.specs.Prelude.{◌&&◌, ◌||◌, eqb}
 use Rattle.std.proofs.lemmas.Bool.Decides.{nat_tests}
 use Rattle.tlv_value.specs.CheckNotes.{is_object}
 use Rattle.tlv_value.specs.CheckState.{CheckState, all_utf8, notes_each, with_each}
-use Rattle.tlv_value.specs.Checks.{allows_octet, every, is_padded_after, last_octet_of}
+use Rattle.tlv_value.specs.Checks.{allows_octet, is_padded_after, last_octet_of}
 use Rattle.tlv_value.specs.declared.kind.Kind.TheVariants.{Utf8}
 use Rattle.tlv_value.specs.Rows.{full_rows, open_row}
-use Rattle.tlv_value.proofs.CheckLemmas.Noting.{every-other}
+use Rattle.tlv_value.proofs.CheckLemmas.Noting.{all-other}
 
 and-true : (k : Bool) → (k && true) ≡ k
 and-true true = refl
@@ -15,32 +16,32 @@ and-true false = refl
 
 pub nothing-noted : (s : CheckState) (octets : List ℕ) → notes_each s.number ≡ false → record (with_each s octets) { last = s.last } ≡ s
 nothing-noted s octets none =
-    let all : every (allows_octet s.number) octets ≡ true =
-    every-other s.number octets (λ e. grind (arith, nat_tests, e, none)) (λ e. grind (arith, nat_tests, e, none)) (λ e. grind (arith, nat_tests, e, none)) (λ e. grind (arith, nat_tests, e, none)) in
+    let all : list_all (allows_octet s.number) octets ≡ true =
+    all-other s.number octets (λ e. grind (arith, nat_tests, e, none)) (λ e. grind (arith, nat_tests, e, none)) (λ e. grind (arith, nat_tests, e, none)) (λ e. grind (arith, nat_tests, e, none)) in
     let object : is_object s.number ≡ false = grind (arith, nat_tests) in
     let text : eqb s.number 12 ≡ false = grind (arith, nat_tests) in
     rw (all, object, text, and-true s.allowed) refl
 
--- of an object identifier
+-- an object identifier
 pub object-noted : (s : CheckState) (octets : List ℕ) → is_object s.number ≡ true
     → record s { padded = s.padded || is_padded_after s.last octets; last = last_octet_of s.last octets } ≡ with_each s octets
 object-noted s octets object =
-    let all : every (allows_octet s.number) octets ≡ true =
-    every-other s.number octets (λ e. grind (arith, nat_tests, e, object)) (λ e. grind (arith, nat_tests, e, object)) (λ e. grind (arith, nat_tests, e, object)) (λ e. grind (arith, nat_tests, e, object)) in
+    let all : list_all (allows_octet s.number) octets ≡ true =
+    all-other s.number octets (λ e. grind (arith, nat_tests, e, object)) (λ e. grind (arith, nat_tests, e, object)) (λ e. grind (arith, nat_tests, e, object)) (λ e. grind (arith, nat_tests, e, object)) in
     let text : eqb s.number 12 ≡ false = grind (arith, nat_tests) in
     rw (all, object, text, and-true s.allowed) refl
 
--- of a UTF8String
+-- a UTF8String
 pub text-noted : (s : CheckState) (octets : List ℕ) → s.number ≡ 12
     → record s { formed = s.formed && all_utf8 (full_rows Utf8 s.row octets); row = open_row Utf8 s.row octets; last = last_octet_of s.last octets } ≡ with_each s octets
 text-noted s octets is_text =
-    let all : every (allows_octet s.number) octets ≡ true =
-    every-other s.number octets (λ e. grind (arith, nat_tests, e, is_text)) (λ e. grind (arith, nat_tests, e, is_text)) (λ e. grind (arith, nat_tests, e, is_text)) (λ e. grind (arith, nat_tests, e, is_text)) in
+    let all : list_all (allows_octet s.number) octets ≡ true =
+    all-other s.number octets (λ e. grind (arith, nat_tests, e, is_text)) (λ e. grind (arith, nat_tests, e, is_text)) (λ e. grind (arith, nat_tests, e, is_text)) (λ e. grind (arith, nat_tests, e, is_text)) in
     let object : is_object s.number ≡ false = grind (arith, nat_tests) in
     let text : eqb s.number 12 ≡ true = grind (arith, nat_tests) in
     rw (all, object, text, and-true s.allowed) refl
 
--- of a string of some characters
+-- a string with a test of each octet
 pub characters-noted : (s : CheckState) (octets : List ℕ) → is_object s.number ≡ false → eqb s.number 12 ≡ false
-    → record s { allowed = s.allowed && every (allows_octet s.number) octets; last = last_octet_of s.last octets } ≡ with_each s octets
+    → record s { allowed = s.allowed && list_all (allows_octet s.number) octets; last = last_octet_of s.last octets } ≡ with_each s octets
 characters-noted s octets object text = rw (object, text) refl

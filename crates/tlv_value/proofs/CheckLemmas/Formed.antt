@@ -53,7 +53,7 @@ joined row (x ∷ xs) e u = joined_at row x xs (has_room Utf8 (length row) x) (e
 
 -- ---- and the other way round, character by character
 
--- the octets behind the first of a character
+-- the octets after the first of a character
 abbrev IsTail : List ℕ → Type 0
 IsTail ys = (i : ℕ) → i < length ys → utf8_length (get_or ys i 0) ≡ 1
 
@@ -78,8 +78,8 @@ tail-nil : IsTail []
 tail-nil i h = absurd (omega arith)
 
 -- an octet from 80 to bf announces nothing
-behind-quiet : (n : ℕ) → utf8_length (128 + n % 64) ≡ 1
-behind-quiet n = grind (arith, nat_tests)
+tail-quiet : (n : ℕ) → utf8_length (128 + n % 64) ≡ 1
+tail-quiet n = grind (arith, nat_tests)
 
 lead1 : (c : ℕ) → c < 128 → utf8_length c ≡ 1
 lead1 c h = grind (arith, nat_tests)
@@ -101,7 +101,7 @@ encode-at c false true d e f g h = record {
   tail = (128 + c % 64) ∷ [];
   octets = refl;
   announced_length = lead2 c (grind (arith, nat_tests)) (ltb-true c 2048 f);
-  quiet = tail-one (128 + c % 64) (behind-quiet c);
+  quiet = tail-one (128 + c % 64) (tail-quiet c);
   few = omega arith;
 }
 encode-at c false false true e f g h = record {
@@ -109,7 +109,7 @@ encode-at c false false true e f g h = record {
   tail = (128 + c / 64 % 64) ∷ (128 + c % 64) ∷ [];
   octets = refl;
   announced_length = lead3 c (grind (arith, nat_tests)) (ltb-true c 65536 g);
-  quiet = tail-more (128 + c / 64 % 64) ((128 + c % 64) ∷ []) (behind-quiet (c / 64)) (tail-one (128 + c % 64) (behind-quiet c));
+  quiet = tail-more (128 + c / 64 % 64) ((128 + c % 64) ∷ []) (tail-quiet (c / 64)) (tail-one (128 + c % 64) (tail-quiet c));
   few = omega arith;
 }
 encode-at c false false false e f g h = record {
@@ -117,7 +117,7 @@ encode-at c false false false e f g h = record {
   tail = (128 + c / 4096 % 64) ∷ (128 + c / 64 % 64) ∷ (128 + c % 64) ∷ [];
   octets = refl;
   announced_length = lead4 c (grind (arith, nat_tests)) h;
-  quiet = tail-more (128 + c / 4096 % 64) ((128 + c / 64 % 64) ∷ (128 + c % 64) ∷ []) (behind-quiet (c / 4096)) (tail-more (128 + c / 64 % 64) ((128 + c % 64) ∷ []) (behind-quiet (c / 64)) (tail-one (128 + c % 64) (behind-quiet c)));
+  quiet = tail-more (128 + c / 4096 % 64) ((128 + c / 64 % 64) ∷ (128 + c % 64) ∷ []) (tail-quiet (c / 4096)) (tail-more (128 + c / 64 % 64) ((128 + c % 64) ∷ []) (tail-quiet (c / 64)) (tail-one (128 + c % 64) (tail-quiet c)));
   few = omega arith;
 }
 
@@ -128,7 +128,7 @@ encode-unit : (c : ℕ) → scalar c ≡ true → IsUnit (encode c)
 unfolding encode
 encode-unit c e = encode-at c (ltb c 128) (ltb c 2048) (ltb c 65536) refl refl refl (scalar-bound c e)
 
--- a unit has room where its first octet has
+-- a unit has room if its first octet has
 room-unit : (n x : ℕ) (tail : List ℕ) → utf8_length x ≡ suc (length tail) → IsTail tail → n + suc (length tail) ≤ 64 → HaveRoom Utf8 n (x ∷ tail) (suc (length tail))
 room-unit n x tail a q h zero g = rw a (grind (arith, nat_tests))
 room-unit n x tail a q h (suc i) g = rw (q i (omega arith)) (grind (arith, nat_tests))
@@ -173,7 +173,7 @@ put_row row rows all u e f = rw (f, is_utf8-from_IsUtf8 row u) e
 
 module _ (row : List ℕ) (x : ℕ) (tail rest : List ℕ) (announced_length : utf8_length x ≡ suc (length tail)) (quiet : IsTail tail) (few : length tail ≤ 3)
     (v : IsUtf8 (x ∷ tail)) (u : IsUtf8 row) (h : length row < 64) (more : (r : List ℕ) → IsUtf8 r → length r < 64 → AreFormed r rest) where
-  -- a character behind the row that has begun
+  -- a character after the row that has begun
   unit-within : (full : Bool) → eqb (length row + suc (length tail)) 64 ≡ full → length row + suc (length tail) ≤ 64 → AreFormed row ((x ∷ tail) ++ rest)
   unit-within false e l =
       let f = fill row (x ∷ tail) rest (room-unit (length row) x tail announced_length quiet l) (grind (arith, nat_tests)) in
@@ -185,8 +185,8 @@ module _ (row : List ℕ) (x : ℕ) (tail rest : List ℕ) (announced_length : u
       (put_row (row ++ x ∷ tail) (rows_filled Utf8 [] rest) (rows_filled Utf8 row ((x ∷ tail) ++ rest)) (IsUtf8-append row (x ∷ tail) u v) g.0 f.0, rw f.1 g.1)
 
   -- a character that begins a row
-  unit-behind : has_room Utf8 (length row) x ≡ false → AreFormed row ((x ∷ tail) ++ rest)
-  unit-behind r =
+  unit-after : has_room Utf8 (length row) x ≡ false → AreFormed row ((x ∷ tail) ++ rest)
+  unit-after r =
       let f = fill [] (x ∷ tail) rest (room-unit 0 x tail announced_length quiet (omega arith)) (omega arith) in
       let g = more (x ∷ tail) v (omega arith) in
       let p : rows_filled Utf8 row ((x ∷ tail) ++ rest) ≡ row ∷ rows_filled Utf8 (x ∷ tail) rest = rw r (ap (λ (t : List (List ℕ)). row ∷ t) (sym (filled-begins Utf8 x (tail ++ rest)) ∙ f.0)) in
@@ -195,7 +195,7 @@ module _ (row : List ℕ) (x : ℕ) (tail rest : List ℕ) (announced_length : u
 
   unit-step : (room : Bool) → nat_le (length row + suc (length tail)) 64 ≡ room → AreFormed row ((x ∷ tail) ++ rest)
   unit-step true e = unit-within (eqb (length row + suc (length tail)) 64) refl (leb-true (length row + suc (length tail)) 64 e)
-  unit-step false e = unit-behind (rw announced_length e)
+  unit-step false e = unit-after (rw announced_length e)
 
 formed : (row cs : List ℕ) → scalars cs ≡ true → IsUtf8 row → length row < 64 → AreFormed row (encodes cs)
 formed row [] e u h = (refl, u)

@@ -3,7 +3,7 @@ use Rattle.std.proofs.Common.{◌≡◌, ℕ, Bool, true, false, ◌||◌, List,
 use Rattle.std.specs.Prelude.{Option, Some, None, flat_map, option_to_list}
 use Rattle.tlv_value.specs.Times.{Form, is_rest_empty, has_form, ◌then◌, ◌or◌, maybe}
 
--- the form holds of what is left, if anything is
+-- something is left, and the test holds of it
 abbrev pub holds_of : (List ℕ → Bool) → Option (List ℕ) → Bool
 holds_of test None = false
 holds_of test (Some rest) = test rest

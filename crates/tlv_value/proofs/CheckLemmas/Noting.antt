@@ -1,13 +1,13 @@
 -- What is noted of contents in pieces.
 use Rattle.std.proofs.Common.{◌≡◌, ℕ, ◌+◌, ◌-◌, ◌<◌, ◌≤◌, Bool, true, false, List, [], ◌∷◌, ◌++◌, length, take, drop, get_or, refl, sym, ap, ◌∙◌, arith}
-use Rattle.std.specs.List.{list_any}
+use Rattle.std.specs.List.{list_all, list_any}
 use Rattle.std.specs.Prelude.{◌&&◌, ◌||◌, eqb, min, nat_lt}
 use Rattle.std.proofs.lemmas.Bool.Decides.{nat_tests}
 use Rattle.std.proofs.Math.Seq.{take-append-add}
 use Rattle.std.proofs.lemmas.List.{drop_more, take_min}
 use Rattle.std.specs.Str.{is_utf8}
 use Rattle.tlv_value.specs.CheckState.{all_utf8}
-use Rattle.tlv_value.specs.Checks.{allows_octet, every, is_padded_after, last_octet_of}
+use Rattle.tlv_value.specs.Checks.{allows_octet, is_padded_after, last_octet_of}
 
 allows-other : (number x : ℕ) → (number ≡ 18 → ⊥) → (number ≡ 19 → ⊥) → (number ≡ 22 → ⊥) → (number ≡ 26 → ⊥) → allows_octet number x ≡ true
 allows-other number x a b c d =
@@ -17,23 +17,23 @@ allows-other number x a b c d =
     let e26 : eqb number 26 ≡ false = grind (arith, nat_tests) in
     rw (e18, e19, e22, e26) refl
 
--- a type that has all octets
-pub every-other : (number : ℕ) (xs : List ℕ) → (number ≡ 18 → ⊥) → (number ≡ 19 → ⊥) → (number ≡ 22 → ⊥) → (number ≡ 26 → ⊥) → every (allows_octet number) xs ≡ true
-every-other number [] a b c d = refl
-every-other number (x ∷ xs) a b c d = rw (allows-other number x a b c d) (every-other number xs a b c d)
+-- a type without a test of octets allows all
+pub all-other : (number : ℕ) (xs : List ℕ) → (number ≡ 18 → ⊥) → (number ≡ 19 → ⊥) → (number ≡ 22 → ⊥) → (number ≡ 26 → ⊥) → list_all (allows_octet number) xs ≡ true
+all-other number [] a b c d = refl
+all-other number (x ∷ xs) a b c d = rw (allows-other number x a b c d) (all-other number xs a b c d)
 
 -- one octet more
-every-more : (all : Bool) (test : ℕ → Bool) (x : ℕ) (xs : List ℕ) → ((all && test x) && every test xs) ≡ (all && every test (x ∷ xs))
-every-more true test x xs = refl
-every-more false test x xs = refl
+all-more : (all : Bool) (test : ℕ → Bool) (x : ℕ) (xs : List ℕ) → ((all && test x) && list_all test xs) ≡ (all && list_all test (x ∷ xs))
+all-more true test x xs = refl
+all-more false test x xs = refl
 
-pub every-next : (all next : Bool) (test : ℕ → Bool) (xs : List ℕ) (i : ℕ) → i < length xs → next ≡ (all && test (get_or xs i 0))
-    → (all && every test (drop i xs)) ≡ every test xs
-    → (next && every test (drop (i + 1) xs)) ≡ every test xs
-every-next all next test xs i h e k =
-    ap (λ (b : Bool). b && every test (drop (i + 1) xs)) e
-    ∙ every-more all test (get_or xs i 0) (drop (i + 1) xs)
-    ∙ ap (λ (l : List ℕ). all && every test l) (sym (drop_more xs i 0 h)) ∙ k
+pub all-next : (all next : Bool) (test : ℕ → Bool) (xs : List ℕ) (i : ℕ) → i < length xs → next ≡ (all && test (get_or xs i 0))
+    → (all && list_all test (drop i xs)) ≡ list_all test xs
+    → (next && list_all test (drop (i + 1) xs)) ≡ list_all test xs
+all-next all next test xs i h e k =
+    ap (λ (b : Bool). b && list_all test (drop (i + 1) xs)) e
+    ∙ all-more all test (get_or xs i 0) (drop (i + 1) xs)
+    ∙ ap (λ (l : List ℕ). all && list_all test l) (sym (drop_more xs i 0 h)) ∙ k
 
 -- the last octet
 pub last-at : (before x : ℕ) (xs : List ℕ) → last_octet_of before (x ∷ xs) ≡ get_or (x ∷ xs) (length xs) 0
@@ -63,7 +63,7 @@ take-room front octets n room e h =
     ap (λ (t : List ℕ). front ++ t) (ap (λ (k : ℕ). take k octets) m ∙ take_min room octets)
     ∙ sym (take-append-add front octets room) ∙ ap (λ (k : ℕ). take k (front ++ octets)) (sym w)
 
--- no octet 80, so none that begins a subidentifier
+-- if there is no octet 80, none begins a subidentifier
 not-padded : (begins is other padded : Bool) → (other ≡ false → padded ≡ false) → (is || other) ≡ false → ((begins && is) || padded) ≡ false
 not-padded begins true other padded more e = cc
 not-padded true false other padded more e = more e

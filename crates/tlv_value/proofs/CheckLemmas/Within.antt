@@ -12,8 +12,8 @@ abbrev is_nil : List ℕ → Bool
 is_nil [] = true
 is_nil (x ∷ xs) = false
 
--- of whatever octets, each rest that the first form leaves the second leaves too: where a rest of the first passes a
--- test, one of the second does
+-- whatever the octets, the second form leaves each rest that the first leaves: if a rest of the first passes a test,
+-- one of the second does
 record Within (f g : Form) : Type 0 where
   pub leaves : (test : List ℕ → Bool) (octets : List ℕ) → list_any test (f octets) ≡ true → list_any test (g octets) ≡ true
 
@@ -70,7 +70,7 @@ within-or {f} {g} {h} {k} v w = record {
       (w.leaves test octets) (sym (list_any-append test (f octets) (g octets)) ∙ e);
 }
 
--- the parts of the first form may stand otherwise together
+-- the parts of the first form, put together the other way
 together :
     (test : List ℕ → Bool) (f g h : Form) (octets : List ℕ)
     → list_any test (((f then g) then h) octets) ≡ list_any test ((f then (g then h)) octets)
@@ -81,13 +81,13 @@ together test f g h octets =
     (λ (x : List ℕ). sym (any-flat_map test h (g x))) (f octets)
     ∙ sym (any-flat_map test (g then h) (f octets))
 
--- a first part, and the rest of the first form before what follows it
+-- a first part, and then two parts within one
 within-front : {f k : Form} (g h m : Form) → Within f k → Within (g then h) m → Within ((f then g) then h) (k then m)
 within-front {f} g h m v w = record {
   leaves = λ test octets e. (within-then v w).leaves test octets (sym (together test f g h octets) ∙ e);
 }
 
--- the same, where the second form stands as the first does
+-- the same, with a second form of three parts
 within-fronts : {f k : Form} (g h m n : Form) → Within f k → Within (g then h) (m then n) → Within ((f then g) then h) ((k then m) then n)
 within-fronts {f} {k} g h m n v w = record {
   leaves = λ test octets e. together test k m n octets ∙ (within-front g h (m then n) v w).leaves test octets e;
@@ -102,7 +102,7 @@ if-within test true true rests w h = h
 if-within test true false rests w h = absurd (let e = w refl in cc)
 if-within test false b rests w h = absurd cc
 
--- two digits of a number up to a greater one
+-- two digits of a number with a greater limit
 within-two : (low high more : ℕ) → high ≤ more → Within (two low high) (two low more)
 within-two low high more le = record { leaves = leave }
   where
@@ -120,12 +120,12 @@ within-two low high more le = record { leaves = leave }
         let before : Bool = is_digit x && is_digit y && nat_le low n in
         if-within test (before && nat_le n high) (before && nat_le n more) (rest ∷ []) (and-last before (nat_le n high) (nat_le n more) (greater n)) h
 
--- digits, or none: none
+-- if there are no digits, all is left
 no-digits : (test : List ℕ → Bool) (octets : List ℕ) → list_any test (octets ∷ []) ≡ true → list_any test (digits octets) ≡ true
 no-digits test [] h = h
 no-digits test (x ∷ xs) h = or-both (test (x ∷ xs)) false (test (x ∷ xs)) (list_any test (if is_digit x then digits xs else [])) (λ e. e) (λ e. absurd cc) h
 
--- what is there only where a test passes
+-- an octet that passes a test
 there :
     (p : List (List ℕ) → Bool) (b : Bool) (rests : List (List ℕ))
     → p [] ≡ false
@@ -204,7 +204,7 @@ empty-any [] = refl
 empty-any ([] ∷ rests) = refl
 empty-any ((x ∷ xs) ∷ rests) = empty-any rests
 
--- where the canonical form is within the grammar, nothing is found exactly on what has the canonical form
+-- if the canonical form is within the grammar, nothing is found exactly on contents of the canonical form
 clear-within :
     {f g : Form} → Within f g → (octets : List ℕ) → has_form f octets ≡ eqb (length (time_findings (has_form g octets) (has_form f octets))) 0
 clear-within {f} {g} w octets =

@@ -96,7 +96,7 @@ judged old new v (Err TooLarge) x n = record { pieces = x.pieces; result_is = in
 judged old new v (Err ReadFailed) x n = absurd n
 judged old new v (Err Memory) x n = record { pieces = x.pieces; result_is = subst (λ (l : List ℕ). length l ≤ 1048576) (sym x.gives.0) x.gives.3; failures = x.failures }
 
--- they could not be read
+-- the octets could not be read
 pub unread : {Z : Type 0} (old new : SourceState) (e : NamesFault) → Gives {Z = Z} old new (Err e) → ReadsFrom old new (Err e)
 unread old new (BadOid k) x = absurd x.gives
 unread old new (BadName k) x = absurd x.gives

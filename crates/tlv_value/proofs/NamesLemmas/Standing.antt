@@ -22,7 +22,7 @@ use Rattle.tlv_value.proofs.NamesLemmas.Tables.{among-find}
 abbrev find : List ℕ → List Entry → Option (List ℕ)
 find = finite.find (slice_cmp nat_cmp)
 
--- what lines come to that stand below others
+-- the table or refusal of lines that are below others
 abbrev pub judged : List Line → List Line → Result Table NamesFault
 judged above below = option_map_or Err (first_refusal above below) (Ok (finite.from_entries (entries_of (above ++ below))))
 

@@ -52,7 +52,7 @@ is_some-map : {A B : Type 0} (f : A → B) (o : Option A) → is_some (option_ma
 is_some-map f None = refl
 is_some-map f (Some x) = refl
 
--- what the map has is what its texts have
+-- the map has a key exactly if its texts have it
 pub among-texts : {Z : Type 0} (q : List ℕ) (m : BTreeMap (Vec ℕ Z) (Vec ℕ Z)) (b : Bool) → b ≡ is_some (get_by (λ k. slice_cmp nat_cmp q k.items) m) → has_entry q (texts_in m) ≡ b
 among-texts {Z} q m b h =
     among-find q (texts_in m)
@@ -78,7 +78,7 @@ one-longer {Z} k old new dotted had b h l d c e =
     let more : btree_map_len new ≡ btree_map_len old + 1 = l ∙ ap (λ t. btree_map_len old + (if t then 0 else 1)) none in
     omega (arith, length-texts new, length-texts old)
 
--- the answer of a look-up
+-- what a look-up returns
 pub get-texts : {Z : Type 0} (m : BTreeMap (Vec ℕ Z) (Vec ℕ Z)) (q : List ℕ) → option_map (λ name. name.items) (get_by (λ k. slice_cmp nat_cmp q k.items) m) ≡ finite.get (table_in m) q
 get-texts m q = lookup-texts q m.entries ∙ sym (finite.get-from_entries nat_list_cmp_total (texts_in m) q)
 

@@ -36,7 +36,7 @@ first_line (x ∷ []) some = line-at (x == 10) x 0 [] refl
 first_line (x ∷ y ∷ ys) some =
     line-at (x == 10) x (position_or_len (is_mark 10) (y ∷ ys)) (y ∷ ys) (ap (onto_first x) (first_line (y ∷ ys) (omega arith)))
 
--- the blanks behind the first of them
+-- the blanks after the first
 
 blanks-at : (b : Bool) (x n : ℕ) (xs : List ℕ) → is_blank x ≡ b → without_first_blanks (drop n xs) ≡ without_first_blanks (drop (n + 1) xs)
     → without_first_blanks (drop (cond (not b) (1 + n) 0) (x ∷ xs)) ≡ without_first_blanks (drop (cond (not b) (1 + n) 0 + 1) (x ∷ xs))
@@ -192,7 +192,7 @@ no_first first second h =
     let high : nat_lt (decimal_number first) 2 ≡ false = le-ltb (decimal_number first) 2 (omega arith) in
     rw (other, high) refl
 
--- where the first part of a text ends
+-- the first part of a text, by where it ends
 
 pub front_no_arc : (xs : List ℕ) (end : ℕ) → end ≡ position_or_len (is_mark 46) xs → is_arc (take end xs) ≡ false → list_all is_arc (dotted_parts xs) ≡ false
 front_no_arc xs end e h = no_arc xs (subst (λ n. is_arc (take n xs) ≡ false) e h)
@@ -241,7 +241,7 @@ last_end xs end h l b = ap without_last_blanks (one-more xs end h l) ∙ last_no
 pub empty_end : (xs : List ℕ) (end : ℕ) → end ≡ 0 → without_last_blanks (take end xs) ≡ take end xs
 empty_end xs end e = rw e refl
 
--- what a line says that is not blank
+-- what a line says, if it is not blank
 
 full_text : (text : List ℕ) → 0 < length text → (get_or text 0 0 ≡ 35 → ⊥)
     → entry_line text ≡ pair_line (before_first is_blank text) (without_first_blanks (after_first is_blank text))

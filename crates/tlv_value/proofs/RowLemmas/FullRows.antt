@@ -76,7 +76,7 @@ module _ (kind : Kind) (short : row_size kind ≡ 16) where
       ∙ ap (λ (r : List ℕ). first_chunks 16 n octets ++ last_rows r) (t.1 ∙ k.1)
 
   module _ (layout : Layout) (endless : layout.limit ≡ None) where
-    -- their lines, where there is no limit to rows
+    -- their lines, if there is no limit to rows
     lines_of : (i : ℕ) (rows : List (List ℕ)) → row_lines kind layout i rows ≡ full_lines layout rows
     lines_of i [] = refl
     lines_of i (row ∷ rows) =
@@ -97,14 +97,14 @@ module _ (kind : Kind) (short : row_size kind ≡ 16) where
           ap length all ∙ length-append rows (rows_filled kind [] more),
         )
 
--- the lines of all rows, where there is no limit to them
+-- the lines of all rows, if there is no limit to them
 pub pair_lines : (kind : Kind) → row_size kind ≡ 16 → (layout : Layout) → layout.limit ≡ None → (octets : List ℕ) → full_lines layout (rows_of Octets octets) ≡ row_lines kind layout 0 (rows_of kind octets)
 pair_lines kind short layout endless octets =
     ap (full_lines layout) (rows_cut Octets refl octets ∙ sym (rows_cut kind short octets)) ∙ sym (lines_of kind short layout endless 0 (rows_of kind octets))
 
 -- ---- the line of a full row
 
--- pairs behind a space, and with spaces between them
+-- pairs, each after a space, and pairs with spaces between them
 pairs_joined : (x : ℕ) (xs : List ℕ) → spaced_pairs (x ∷ xs) ≡ 32 ∷ row_text Octets (x ∷ xs)
 pairs_joined x xs = refl
 
@@ -127,7 +127,7 @@ pub lines_cut : (layout : Layout) (octets : List ℕ) (rows : List (List ℕ)) (
 lines_cut layout octets rows more e f =
     sym (flat_map-append (full_line layout) rows (last_rows more)) ∙ ap (full_lines layout) (rw (e, f) (sym (rows_cut Octets refl octets)))
 
--- the line of the last, where there is one
+-- the line of the last, if there is one
 pub last_line : (layout : Layout) (row : List ℕ) → eqb (length row) 0 ≡ false → full_line layout row ≡ full_lines layout (last_rows row)
 last_line layout [] some = absurd (grind (arith, nat_tests))
 last_line layout (x ∷ xs) some = sym (append-nil (full_line layout (x ∷ xs)))
@@ -139,13 +139,13 @@ no_last_line layout front (x ∷ xs) none = absurd (grind (arith, nat_tests))
 -- ---- line by line
 
 module _ (layout : Layout) where
-  -- one more
+  -- one row more
   pub lines_more : (rows : List (List ℕ)) (i : ℕ) → i < length rows → full_lines layout (take i rows) ++ full_line layout (get_or rows i []) ≡ full_lines layout (take (i + 1) rows)
   lines_more rows i h =
       sym (ap (full_lines layout) (take_more rows i [] h)
       ∙ flat_map-append (full_line layout) (take i rows) (get_or rows i [] ∷ [])
       ∙ ap (λ (l : List ℕ). full_lines layout (take i rows) ++ l) (append-nil (full_line layout (get_or rows i []))))
 
-  -- and those behind
+  -- the first rows, and those after them
   pub lines_split : (rows : List (List ℕ)) (i : ℕ) → full_lines layout (take i rows) ++ full_lines layout (drop i rows) ≡ full_lines layout rows
   lines_split rows i = sym (flat_map-append (full_line layout) (take i rows) (drop i rows)) ∙ ap (full_lines layout) (take-append-drop i rows)

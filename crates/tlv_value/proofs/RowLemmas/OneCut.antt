@@ -1,5 +1,5 @@
--- Contents are cut into rows in one way alone: the rows of a cut are those that octets fill one after another. So what is
--- kept of them between pieces can be said of the cut.
+-- Contents are cut into rows in one way alone: the rows of a cut are those that octets fill one after another. So what
+-- is kept of them between pieces can be said of the cut.
 use Rattle.std.proofs.Common.{◌≡◌, inl, inr, ℕ, ◌+◌, ◌<◌, ◌≤◌, Bool, true, false, List, [], ◌∷◌, ◌++◌, length, get_or, refl, sym, ap, ap₂, ◌∙◌, arith, append_assoc, append-nil, length-append}
 use Rattle.std.proofs.Math.Seq.{drop-append_seam, get_or-append_seam, take-append_seam}
 use Rattle.std.proofs.lemmas.Bool.{eqb-true}
@@ -25,27 +25,27 @@ module _ (kind : Kind) where
   has-octet : (row : List ℕ) → IsRow (row_size kind) (character_length kind) row → 1 ≤ length row
   has-octet row r = nil-or row r.some
 
-  -- each octet of a row has room behind those before it
+  -- each octet of a row has room after those before it
   row-room : (row rest : List ℕ) → IsRow (row_size kind) (character_length kind) row → HaveRoom kind 0 (row ++ rest) (length row)
   row-room row rest r i h =
       let same : get_or (row ++ rest) i 0 ≡ get_or row i 0 = get_or_append_left row rest 0 i h in
       let room = r.whole i h in
       rw same (grind (arith, nat_tests))
 
-  -- a row is full as the condition on rows has it
+  -- a row that is full by the condition on rows
   as-filled : (row next rest : List ℕ) → 1 ≤ length next → IsFull (row_size kind) (character_length kind) row next → IsFilled kind [] (length row) (row ++ (next ++ rest))
   as-filled row next rest h (inl e) = inl (omega arith)
   as-filled row [] rest h (inr f) = absurd (omega arith)
   as-filled row (x ∷ next) rest h (inr f) =
-      let behind : get_or (row ++ x ∷ (next ++ rest)) (length row) 0 ≡ x = get_or-append_seam row x (next ++ rest) 0 in
+      let next-octet : get_or (row ++ x ∷ (next ++ rest)) (length row) 0 ≡ x = get_or-append_seam row x (next ++ rest) 0 in
       let place : 0 + length row ≡ length row = omega arith in
-      inr (omega (arith, length-append row (x ∷ (next ++ rest))), rw (place, behind) (grind (arith, nat_tests)))
+      inr (omega (arith, length-append row (x ∷ (next ++ rest))), rw (place, next-octet) (grind (arith, nat_tests)))
 
   -- the rows that octets fill, and the row that has then begun
   abbrev AreParts : List ℕ → List (List ℕ) → List ℕ → Type 0
   AreParts octets rows row = (rows_filled kind [] octets ≡ rows) × (row_begun kind [] octets ≡ row)
 
-  -- a row that is full, and the rows of the octets behind it
+  -- a full row, and the rows of the octets after it
   parts-front : (row rest : List ℕ) (rows : List (List ℕ)) (last : List ℕ) → IsRow (row_size kind) (character_length kind) row → IsFilled kind [] (length row) (row ++ rest) → AreParts rest rows last
       → AreParts (row ++ rest) (row ∷ rows) last
   parts-front row rest rows last r f more =
@@ -66,7 +66,7 @@ module _ (kind : Kind) where
       let short : length row < row_size kind = grind (arith, nat_tests) in
       rw (append-nil row) (keep kind [] row room (omega arith))
 
-  -- those of a cut
+  -- the parts of a cut
   parts : (rows : List (List ℕ)) → AreRows (row_size kind) (character_length kind) rows → AreFull (row_size kind) (character_length kind) rows → AreParts (octets_of_rows rows) (full_rows_in kind rows) (open_row_in kind rows)
   parts [] each full = (refl, refl)
   parts (row ∷ []) each full = parts-last row (eqb (length row) (row_size kind)) refl each.0
@@ -100,7 +100,7 @@ cut-parts kind octets =
 pub rows-parts : (kind : Kind) (octets : List ℕ) → rows_of kind octets ≡ full_rows kind [] octets ++ last_rows (open_row kind [] octets)
 rows-parts kind octets = sym (all-parts kind (rows_of kind octets) (cut_of_contents kind octets).is_cut.each)
 
--- and so they are behind an open row
+-- so it is after an open row
 pub open-parts : (kind : Kind) (row octets : List ℕ) → IsOpenRow kind row → (rows_filled kind row octets ≡ full_rows kind row octets) × (row_begun kind row octets ≡ open_row kind row octets)
 open-parts kind row octets begun =
     let short = begun.short in
@@ -111,7 +111,7 @@ open-parts kind row octets begun =
     let last = ap (λ (r : List ℕ). row_begun kind r octets) k.1 in
     (sym (j.0 ∙ filled) ∙ p.0, sym (j.1 ∙ last) ∙ p.1)
 
--- two pieces, one after the other, are as one
+-- two pieces in order have the rows of one
 pub rows-join : (kind : Kind) (row x y : List ℕ) → (full_rows kind row (x ++ y) ≡ full_rows kind row x ++ full_rows kind (open_row kind row x) y) × (open_row kind row (x ++ y) ≡ open_row kind (open_row kind row x) y)
 rows-join kind row x y =
     let before = cut-parts kind (row ++ x) in

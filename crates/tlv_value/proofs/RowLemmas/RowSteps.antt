@@ -36,7 +36,7 @@ module _ (kind : Kind) where
   pub begun-begins : (x : ℕ) (xs : List ℕ) → row_begun kind [] (x ∷ xs) ≡ row_begun kind (x ∷ []) xs
   begun-begins x xs = rw (first-room kind x, first-open kind) refl
 
-  -- the row is full with these octets, or with the one behind them
+  -- the row is full with these octets, or has no room for the octet after them
   abbrev pub IsFilled : List ℕ → ℕ → List ℕ → Type 0
   IsFilled row m rest = (length row + m ≡ row_size kind) ⊎ ((m < length rest) × (has_room kind (length row + m) (get_or rest m 0) ≡ false))
 
@@ -63,7 +63,7 @@ module _ (kind : Kind) where
       let r : has_room kind (length row) x ≡ false = rw l at e.1 in
       (rw (r, append-nil row, filled-begins x xs) refl, rw (r, begun-begins x xs) refl)
 
-  -- the first octet, where it is the last of the row and where it is not
+  -- the first octet, if it is the last of the row and if it is not
   turn-one : (row : List ℕ) (m x : ℕ) (xs : List ℕ) (last : Bool) → eqb (length row + 1) (row_size kind) ≡ last → has_room kind (length row) x ≡ true
       → length row + suc m ≤ row_size kind
       → (length row + 1 < row_size kind → Turned (row ++ x ∷ []) m xs)
@@ -152,7 +152,7 @@ module _ (kind : Kind) where
   pub none-open : IsOpenRow kind []
   none-open = record { short = let h = one_fits kind in omega arith; whole = λ i h. absurd (omega arith) }
 
-  -- each octet of it has room behind those before it
+  -- each of its octets has room after those before it
   pub open-room : (row : List ℕ) → IsOpenRow kind row → HaveRoom kind 0 row (length row)
   open-room row o i h = let room = o.whole i h in grind (arith, nat_tests)
 
@@ -197,7 +197,7 @@ module _ (kind : Kind) where
       more (row ++ x ∷ []) (open-one row x o r (grind (arith, nat_tests)))
   begun-open_at row x xs false last r l o more = more (x ∷ []) (one-open x)
 
-  -- what octets begin behind it is open too
+  -- the row that octets after it begin is open too
   pub begun-open : (row xs : List ℕ) → IsOpenRow kind row → IsOpenRow kind (row_begun kind row xs)
   begun-open row [] o = o
   begun-open row (x ∷ xs) o = begun-open_at row x xs (has_room kind (length row) x) (eqb (length row + 1) (row_size kind)) refl refl o (λ r q. begun-open r xs q)

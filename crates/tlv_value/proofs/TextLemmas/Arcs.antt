@@ -27,7 +27,7 @@ abbrev pub carry : ℕ → List ℕ → List ℕ
 carry n [] = []
 carry n (x ∷ xs) = if nat_lt x 128 then (n * 128 + x % 128) ∷ carry 0 xs else carry (n * 128 + x % 128) xs
 
--- the octets end with a whole subidentifier, behind one that has begun or has not
+-- the octets end with a whole subidentifier; whether one has begun before them is given
 abbrev pub ends : Bool → List ℕ → Bool
 ends begun [] = not begun
 ends begun (x ∷ xs) = ends (not (nat_lt x 128)) xs
@@ -39,7 +39,7 @@ parts_text first relative (v ∷ vs) = part_text first relative v ++ parts_text 
 abbrev texts : List ℕ → Bool → Bool → List ℕ → Option (List ℕ)
 texts t first relative vs = if all_below (2 ^ 128) vs then Some (t ++ parts_text first relative vs) else None
 
--- what has grown past the limit stays there
+-- a number past the limit stays past it
 too-large-at : (n x : ℕ) (xs : List ℕ) (last : Bool) → nat_lt x 128 ≡ last → ends (not last) xs ≡ true → 2 ^ 128 ≤ n
     → ((m : ℕ) → ends true xs ≡ true → 2 ^ 128 ≤ m → all_below (2 ^ 128) (carry m xs) ≡ false)
     → all_below (2 ^ 128) (if last then (n * 128 + x % 128) ∷ carry 0 xs else carry (n * 128 + x % 128) xs) ≡ false
@@ -155,7 +155,7 @@ ends-finished (x ∷ xs) e =
     let l : length (x ∷ xs) - 1 ≡ length xs = omega arith in
     ends-last false x xs (rw l at (and_right (nat_le 1 (length (x ∷ xs))) (nat_lt (get_or (x ∷ xs) (length (x ∷ xs) - 1) 0) 128) e))
 
--- as the definition has it
+-- the dotted text of the definition
 pub run-dotted : (relative : Bool) (c : List ℕ) → is_finished c ≡ true → nat_le (length c) 64 ≡ true → run [] true relative 0 c ≡ dotted_text relative c
 run-dotted relative c f l =
     let e = ends-finished c f in
@@ -214,7 +214,7 @@ first-long-at v k true q vs s h g = two-long 0 v k vs (long 0 1 (omega arith) (o
 first-long-at v k false true vs s h g = two-long 1 (v - 40) k vs (long 1 1 (omega arith) (omega arith) (omega arith)) (long (v - 40) (3 * k) (omega arith) (omega (arith, g)) (omega arith))
 first-long-at v k false false vs s h g = two-long 2 (v - 80) k vs (long 2 1 (omega arith) (omega arith) (omega arith)) (long (v - 80) (3 * k) (omega arith) (omega (arith, g)) (omega arith))
 
--- what the loop's end has
+-- at the end of the loop
 pub run-end : (relative : Bool) (c t : List ℕ) (first : Bool) (n i : ℕ) → is_finished c ≡ true → length c ≤ 64 → length c ≤ i
     → run t first relative n (drop i c) ≡ run [] true relative 0 c → dotted_text relative c ≡ Some t
 run-end relative c t first n i f l o e =
@@ -227,7 +227,8 @@ pub run-none : (relative : Bool) (c t : List ℕ) (first : Bool) (n i : ℕ) →
 run-none relative c t first n i f l o h e =
     sym (run-dotted relative c f (grind (arith, nat_tests))) ∙ sym e ∙ run-over t first relative n (drop i c) (omega (arith, length-drop i c)) h
 
--- so many octets of the contents were read, and there is room for what those to come may add: n has up to three digits for each of its octets
+-- i octets of the contents were read, and there is room for what the others may add: n has up to three digits for each
+-- of its octets
 abbrev pub HasRoom : List ℕ → Bool → ℕ → ℕ → Type 0
 HasRoom t first n i = (k : ℕ) × (n < 10 ^ (3 * k)) × (length t + 4 * k + (if first then 2 else 0) ≤ 4 * i + 2)
 

@@ -1,4 +1,4 @@
--- What the calls put, as the definitions have it.
+-- What the calls put is what the definitions say.
 use Rattle.std.proofs.Common.{◌≡◌, ℕ, ◌+◌, ◌≤◌, Bool, true, false, List, [], ◌∷◌, ◌++◌, length, refl, sym, ap, ◌∙◌, arith, append_assoc, append-nil}
 use Rattle.std.specs.Prelude.{nat_le, if◌then◌else◌}
 use Rattle.std.proofs.lemmas.Bool.Decides.{nat_tests}
@@ -28,7 +28,7 @@ relative-rows : (layout : Layout) (i : ℕ) (rows : List (List ℕ)) → row_lin
 relative-rows layout i [] = refl
 relative-rows layout i (row ∷ rows) = ap (λ (t : List ℕ). row_line layout i (row_text Octets row) ++ t) (relative-rows layout (i + 1) rows)
 
--- a line with its front apart, and rows behind it
+-- a line in parts, and rows after it
 line-front : (margin tag text rows : List ℕ) → (margin ++ tag) ++ ((text ++ 10 ∷ []) ++ rows) ≡ ((margin ++ (tag ++ text)) ++ 10 ∷ []) ++ rows
 line-front margin tag text rows =
     sym (append_assoc (margin ++ tag) (text ++ 10 ∷ []) rows) ∙ ap (λ (t : List ℕ). t ++ rows) (sym (append_assoc (margin ++ tag) text (10 ∷ [])) ∙ ap (λ (t : List ℕ). t ++ 10 ∷ []) (append_assoc margin tag text))
@@ -36,7 +36,7 @@ line-front margin tag text rows =
 front-line : (p : Primitive) (v : Value) → front_of p ++ rest_of_lines p.layout [] v ≡ primitive_line p v.text ++ row_lines Octets p.layout 0 v.rows
 front-line p v = line-front (margin p.layout.pure (columns p.offset (decimal p.size)) p.layout.level) (tag_text p.class p.number) v.text (row_lines Octets p.layout 0 v.rows)
 
--- what its line begins with, and the rest of its lines
+-- what the line of a primitive begins with, and the rest of its lines
 pub shown-front : (name_of : NameOf) (p : Primitive) (octets : List ℕ)
     → front_of p ++ (((kind_value name_of p.kind octets).text ++ 10 ∷ []) ++ row_lines p.kind p.layout 0 (kind_value name_of p.kind octets).rows) ≡ primitive_lines name_of p octets
 shown-front name_of p octets =
@@ -134,7 +134,7 @@ pub new-first : (s : TextState) (x : ℕ) (rest : List ℕ) → kind_of s.class 
 new-first s x rest e u l =
     new-first_at (kind_of s.class s.number) s.kept.wrote_line s.size s.layout (line_in s) x rest (row_lines (kind_of s.class s.number) s.layout s.kept.rows (full_rows (kind_of s.class s.number) s.kept.row (x ∷ rest))) e u l
 
--- the rows behind it
+-- the rows after it
 pub rows-first : (kind : Kind) (layout : Layout) (n : ℕ) (row begun rest : List ℕ) → kind ≡ Bits → n ≡ 0 → row ≡ begun → row_lines kind layout n (full_rows kind row rest) ≡ row_lines Bits layout 0 (full_rows Bits begun rest)
 rows-first kind layout n row begun rest e z r = rw (e, z, r) refl
 

@@ -18,7 +18,7 @@ pub length-last_bits : (n x : ℕ) → length (last_bits n x) ≡ n
 length-last_bits zero x = refl
 length-last_bits (suc n) x = omega (arith, length-append (last_bits n (x / 2)) (x % 2 ∷ []), length-last_bits n (x / 2))
 
--- n bits behind others
+-- n bits after others
 pub value_of-bits : (n : ℕ) (bits : List ℕ) (x : ℕ) → x < 2 ^ n → value_of 2 (bits ++ last_bits n x) ≡ value_of 2 bits * 2 ^ n + x
 value_of-bits zero bits x h =
     let h1 : x < 1 = rw (pow-zero 2) at h in
@@ -30,7 +30,7 @@ value_of-bits (suc n) bits x h =
     ∙ value_of-snoc 2 (bits ++ last_bits n (x / 2)) (x % 2)
     ∙ rw (e, pow-suc 2 n) (grind arith)
 
--- eight bits behind others
+-- eight bits after others
 pub value_of-octet : (bits : List ℕ) (x : ℕ) → x < 256 → value_of 2 (bits ++ last_bits 8 x) ≡ value_of 2 bits * 256 + x
 value_of-octet bits x h = value_of-bits 8 bits x h
 

@@ -13,7 +13,7 @@ use Rattle.tlv_value.specs.Rows.{rows_of}
 use Rattle.tlv_value.specs.TextState.{row_lines}
 use Rattle.tlv_value.specs.Value.{NameOf, spaced_pairs}
 
--- a text that there is
+-- a text, if there is one
 pub some_text : (d : Option (List ℕ)) → is_some d ≡ true → d ≡ Some (unwrap_or d [])
 some_text None e = cc (e)
 some_text (Some text) e = refl
@@ -22,9 +22,9 @@ pub no_text : (d : Option (List ℕ)) → is_some d ≡ false → d ≡ None
 no_text None e = refl
 no_text (Some text) e = cc (e)
 
--- what was added behind a space
-pub behind_space : (old new text : List ℕ) (n : ℕ) → new ≡ old ++ 32 ∷ text → n ≡ length old + 1 → take (length new - n) (drop n new) ≡ text
-behind_space old new text n e at =
+-- what was added after a space
+pub after_space : (old new text : List ℕ) (n : ℕ) → new ≡ old ++ 32 ∷ text → n ≡ length old + 1 → take (length new - n) (drop n new) ≡ text
+after_space old new text n e at =
     take_all (length new - n) (drop n new) (omega (arith, length-drop n new)) ∙ ap (λ (l : List ℕ). drop n l) e ∙ ap (λ (k : ℕ). drop k (old ++ 32 ∷ text)) at ∙ drop-append-add old (32 ∷ text) 1
 
 module _ (name_of : NameOf) (layout : Layout) (relative : Bool) (contents : List ℕ) where

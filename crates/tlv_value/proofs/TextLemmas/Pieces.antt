@@ -131,9 +131,9 @@ module _ (layout : Layout) (line : List ℕ → List ℕ) (size : ℕ) where
   abbrev WholeIsEnded : NameOf → Kind → Bool → List ℕ → Type 0
   WholeIsEnded name_of kind long octets = whole_at name_of kind long octets ≡ open_at kind long octets ++ ended_at name_of kind long (kept_by kind layout line size long (has_line kind []) (begin_kept kind) octets)
 
-  last-behind : (kind : Kind) (first octets : List ℕ)
+  last-after : (kind : Kind) (first octets : List ℕ)
       → first ++ row_lines kind layout 0 (rows_of kind octets) ≡ (first ++ row_lines kind layout 0 (full_rows kind [] octets)) ++ row_lines kind layout (0 + length (full_rows kind [] octets)) (last_rows (open_row kind [] octets))
-  last-behind kind first octets =
+  last-after kind first octets =
       let full = full_rows kind [] octets in
       let last = last_rows (open_row kind [] octets) in
       ap (λ (rows : List (List ℕ)). first ++ row_lines kind layout 0 rows) (rows-parts kind octets)
@@ -142,20 +142,20 @@ module _ (layout : Layout) (line : List ℕ → List ℕ) (size : ℕ) where
 
   whole-ended : (name_of : NameOf) (kind : Kind) (long : Bool) (octets : List ℕ) → (long ≡ true → 1 ≤ length octets) → WholeIsEnded name_of kind long octets
   whole-ended name_of kind false octets some = refl
-  whole-ended name_of Octets true octets some = last-behind Octets (line []) octets
-  whole-ended name_of Boolean true octets some = last-behind Boolean (line []) octets
-  whole-ended name_of Integer true octets some = last-behind Integer (line []) octets
-  whole-ended name_of Object true octets some = last-behind Object (line []) octets
-  whole-ended name_of Relative true octets some = last-behind Relative (line []) octets
-  whole-ended name_of Text true octets some = last-behind Text (line []) octets
-  whole-ended name_of Utf8 true octets some = last-behind Utf8 (line []) octets
-  whole-ended name_of Ucs2 true octets some = last-behind Ucs2 (line []) octets
-  whole-ended name_of Ucs4 true octets some = last-behind Ucs4 (line []) octets
+  whole-ended name_of Octets true octets some = last-after Octets (line []) octets
+  whole-ended name_of Boolean true octets some = last-after Boolean (line []) octets
+  whole-ended name_of Integer true octets some = last-after Integer (line []) octets
+  whole-ended name_of Object true octets some = last-after Object (line []) octets
+  whole-ended name_of Relative true octets some = last-after Relative (line []) octets
+  whole-ended name_of Text true octets some = last-after Text (line []) octets
+  whole-ended name_of Utf8 true octets some = last-after Utf8 (line []) octets
+  whole-ended name_of Ucs2 true octets some = last-after Ucs2 (line []) octets
+  whole-ended name_of Ucs4 true octets some = last-after Ucs4 (line []) octets
   whole-ended name_of Bits true [] some = absurd (let h = some refl in omega arith)
   whole-ended name_of Bits true (u ∷ octets) some =
       let f = first-full u octets (nat_le u 7) in
       let o = first-open_row u octets (nat_le u 7) in
-      last-behind Bits (line (long_text Bits size (u ∷ []))) (row_octets Bits (u ∷ octets))
+      last-after Bits (line (long_text Bits size (u ∷ []))) (row_octets Bits (u ∷ octets))
       ∙ ap (λ (t : List (List ℕ)). (line (long_text Bits size (u ∷ [])) ++ row_lines Bits layout 0 (full_rows Bits [] (row_octets Bits (u ∷ octets)))) ++ row_lines Bits layout (0 + length t) (last_rows (open_row Bits [] (row_octets Bits (u ∷ octets))))) f
       ∙ ap (λ (t : List ℕ). (line (long_text Bits size (u ∷ [])) ++ row_lines Bits layout 0 (full_rows Bits [] (row_octets Bits (u ∷ octets)))) ++ row_lines Bits layout (0 + length (full_rows Bits (row_octets Bits (u ∷ [])) octets)) (last_rows t)) o
 
@@ -247,7 +247,7 @@ new-long name_of p c is long e =
     started : Kind → TextState
     started j = record { offset = p.offset; class = p.class; number = p.number; size = p.size; layout = p.layout; left = p.size; kept = begin_kept j }
 
--- one whose value stands on its line is written with its end
+-- one with its value on its line is written with its end
 pub shown-new : (name_of : NameOf) (h : HeaderValue) (layout : Layout) (p : Primitive) (c : List ℕ) → p ≡ primitive_of h layout → is_long (kind_of h.class h.number) (size_of h.size) ≡ false
     → length c ≡ size_of h.size → primitive_lines name_of p c ≡ whole_lines name_of h layout c
 shown-new name_of h layout p c is short e = ap (λ (q : Primitive). primitive_lines name_of q c) is ∙ at-end ∙ whole-new name_of h layout c e

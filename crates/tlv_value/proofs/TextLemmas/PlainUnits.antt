@@ -1,4 +1,4 @@
--- Characters that stand as they are, one behind another.
+-- Characters that are written as they are, one after another.
 use Rattle.std.proofs.Common.{◌≡◌, ℕ, zero, suc, ◌<◌, ◌≤◌, Bool, true, false, List, [], ◌∷◌, ◌++◌, length, take, drop, get_or, if◌then◌else◌, refl, sym, ap, ◌∙◌, arith}
 use Rattle.std.proofs.lemmas.Bool.Decides.{nat_tests}
 use Rattle.std.proofs.lemmas.List.{take-append-drop}
@@ -52,7 +52,7 @@ plain-text Utf8 x a h = plain-octet x h
 plain-text Ucs2 x a h = absurd (cc)
 plain-text Ucs4 x a h = absurd (cc)
 
--- the first n octets are n units, which are written as they stand
+-- the first n octets are n units, which are written as they are
 pub plain-units : (kind : Kind) (n : ℕ) (octets : List ℕ) → n ≤ length octets → is_ascii kind ≡ true → ((i : ℕ) → i < n → is_plain (get_or octets i 0) ≡ true)
     → flat_map (unit_text kind) (units kind 0 octets) ≡ take n octets ++ flat_map (unit_text kind) (units kind 0 (drop n octets))
 plain-units kind zero [] h a p = refl
@@ -64,7 +64,7 @@ plain-units kind (suc n) (x ∷ xs) h a p =
     ∙ ap (λ (t : List ℕ). t ++ flat_map (unit_text kind) (units kind 0 xs)) (plain-text kind x a plain)
     ∙ ap (λ (t : List ℕ). x ∷ t) (plain-units kind n xs (omega arith) a (λ i g. p (suc i) (omega arith)))
 
--- a row of such characters stands as it is
+-- a row of such characters is written as it is
 pub plain-row : (kind : Kind) (row : List ℕ) → is_ascii kind ≡ true → list_all is_plain row ≡ true → flat_map (unit_text kind) (units kind 0 row) ≡ row
 plain-row kind [] a p = refl
 plain-row kind (x ∷ xs) a p =

@@ -1,4 +1,4 @@
--- Puts, one behind another.
+-- Rows of octets, and their lines, one after another.
 use Rattle.std.proofs.Common.{◌≡◌, ℕ, ◌+◌, ◌++◌, ◌∷◌, [], List, length, arith, refl, sym, ap, ◌∙◌, append_assoc}
 use Rattle.tlv_io.specs.Cuts.{last_rows}
 use Rattle.tlv_value.specs.declared.kind.Kind.{Kind}
@@ -9,7 +9,7 @@ use Rattle.tlv_value.specs.TextState.{row_lines}
 use Rattle.tlv_value.specs.Value.{row_text}
 use Rattle.tlv_value.proofs.RowLemmas.OneCut.{rows-parts}
 
--- rows in order, with others behind them
+-- rows, and others after them
 pub row_lines-append : (kind : Kind) (layout : Layout) (i : ℕ) (xs ys : List (List ℕ)) → row_lines kind layout i (xs ++ ys) ≡ row_lines kind layout i xs ++ row_lines kind layout (i + length xs) ys
 row_lines-append kind layout i [] ys = let e : i + 0 ≡ i = omega arith in rw e refl
 row_lines-append kind layout i (x ∷ xs) ys =

@@ -44,7 +44,7 @@ used-last unused front last h =
     rw (l, b, t) (map-append (λ bit. 48 + bit) (bits_of front) (take (8 - unused) (last_bits 8 last)) ∙ ap (λ (t : List ℕ). digits_of (bits_of front) ++ t) (take-digits (8 - unused) (last_bits 8 last))) in
     used-some unused front last ∙ ap (λ (t : List ℕ). 32 ∷ t) d
 
--- behind the digits of the last octet so many are dropped
+-- the digits of the unused bits are dropped from the end
 pub digits-cut : (held before digits : List ℕ) (unused n : ℕ) → unused ≤ 7 → length digits ≡ 8 → n ≡ length ((held ++ before) ++ digits) - unused
     → take n ((held ++ before) ++ digits) ≡ held ++ (before ++ take (8 - unused) digits)
 digits-cut held before digits unused n h size e =

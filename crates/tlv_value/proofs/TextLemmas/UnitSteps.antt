@@ -1,4 +1,4 @@
--- Units, one behind another.
+-- Units, one after another.
 use Rattle.std.proofs.Common.{◌≡◌, ◌↔◌, ℕ, zero, suc, ◌-◌, ◌≤◌, Bool, true, false, List, [], ◌∷◌, ◌++◌, length, take, drop, refl, sym, ap, ◌∙◌, arith}
 use Rattle.std.specs.Prelude.{IsTrue, IsUtf8, flat_map}
 use Rattle.std.specs.Str.{is_utf8}
@@ -17,7 +17,7 @@ first-unit : (kind : Kind) (m x : ℕ) (xs : List ℕ) → 1 ≤ m → units kin
 first-unit kind zero x xs h = absurd (omega arith)
 first-unit kind (suc m) x xs h = let e : suc m - 1 ≡ m = omega arith in rw e (units-skip kind m xs)
 
--- the first unit, and those behind it
+-- the first unit, and those after it
 pub units-step : (kind : Kind) (m : ℕ) (octets : List ℕ) → m ≡ unit_size kind octets → 1 ≤ m → 1 ≤ length octets
     → flat_map (unit_text kind) (units kind 0 octets) ≡ unit_text kind (take m octets) ++ flat_map (unit_text kind) (units kind 0 (drop m octets))
 units-step kind m [] e some h = absurd (omega arith)
@@ -30,7 +30,7 @@ same-at octets false false h e = refl
 same-at octets true false h e = sym (is_utf8-from_IsUtf8 octets (h.0 refl)) ∙ e
 same-at octets false true h e = h.1 (IsUtf8-from_is_utf8 octets e)
 
--- what `simdutf8` answers
+-- what `simdutf8` returns
 pub is_utf8-same : (octets : List ℕ) (r : Bool) → (IsTrue r ↔ IsUtf8 octets) → r ≡ is_utf8 octets
 is_utf8-same octets r h = same-at octets r (is_utf8 octets) h refl
 

@@ -1,5 +1,4 @@
--- Words of the checker and of proofs: what each octet may be, and what all of them; what is found on a type by its
--- number.
+-- What is found on the contents of a universal type, by its number: words of the checker and of proofs.
 use Rattle.std.specs.Prelude.{ℕ, false, List, []}
 use Rattle.tlv_head.specs.declared.header.Class.TheVariants.{Universal}
 use Rattle.tlv_head.specs.declared.header.Size.TheVariants.{Definite}

@@ -1,6 +1,7 @@
 //! Which octets the strings of some characters have.
+ghost use Rattle.std.specs.List.{list_all};
 ghost use Rattle.std.specs.Prelude.{◌≡◌};
-ghost use Rattle.tlv_value.specs.Checks.{allows_octet, every, is_printable_string};
+ghost use Rattle.tlv_value.specs.Checks.{allows_octet, is_printable_string};
 
 use super::both;
 use tlv_head::universal;
@@ -19,7 +20,7 @@ static PRINTABLE: [u8; 256] = *b"\
 /// Whether the type with this universal number has all of the octets.
 #[inline(never)]
 pub(crate) fn are_allowed(number: u64, octets: &[u8]) -> bool
-    ensures { result ≡ every (allows_octet number) octets.now }
+    ensures { result ≡ list_all (allows_octet number) octets.now }
 {
     // A call for each type: where it is inlined, the type is then not asked for again at each octet.
     match number {
@@ -34,7 +35,7 @@ pub(crate) fn are_allowed(number: u64, octets: &[u8]) -> bool
 /// Whether the type with this universal number has each of the octets.
 #[inline(always)]
 fn is_each_allowed(number: u64, octets: &[u8]) -> bool
-    ensures { result ≡ every (allows_octet number) octets.now }
+    ensures { result ≡ list_all (allows_octet number) octets.now }
 {
     // There is no way out of the loop, so that many octets are looked at in one go.
     let mut all = true;

@@ -1,6 +1,6 @@
 //! How a walker takes headers.
 ghost use Rattle.std.specs.Prelude.{◌≡◌, ◌≢◌, ℕ, ◌+◌, ◌^◌, ◌<◌, ◌≤◌, ◌∷◌, [], IsTrue, Some, length, true};
-ghost use Rattle.tlv_head.specs.Fields.{Suits, header_with};
+ghost use Rattle.tlv_head.specs.Fields.{IsHeaderSized, header_with};
 ghost use Rattle.tlv_head.specs.Header.{announced_length, holds, octets_of};
 ghost use Rattle.tlv_head.specs.ReadHeader.{BeginsWithFields};
 ghost use Rattle.tlv_walk.specs.Phase as phases;
@@ -137,7 +137,7 @@ impl Walker {
     #[inline(always)]
     pub(super) fn enter(&mut self, fields: &HeaderFields, octets: &[u8]) -> HeaderKind
         requires phase { self.old.phase ≡ phases.Between }
-        requires suits { Suits fields.now octets.now }
+        requires sized { IsHeaderSized fields.now octets.now }
         requires enter { CanEnter self.old (header_with fields.now octets.now) }
         ensures yields { YieldsAt self.old self.new (fields.now.offset + length octets.now) }
         ensures enters { Enters self.old self.new fields.now

@@ -1,6 +1,6 @@
 //! How a walker finds the next event in few instructions.
 ghost use Rattle.std.specs.Prelude.{◌≡◌, ◌+◌, ◌^◌, ◌≤◌, IfSome, length, take, true};
-ghost use Rattle.tlv_head.specs.Fields.{Suits};
+ghost use Rattle.tlv_head.specs.Fields.{IsHeaderSized};
 ghost use Rattle.tlv_walk.specs.Follow.{whole_events};
 ghost use Rattle.tlv_walk.specs.Private.WalkerState.{CanPass, Passes, StepsAtOnce, close_event, header_at, open_event};
 ghost use Rattle.tlv_walk.specs.Private.Steps.{YieldsAtOnce, YieldsEvents};
@@ -95,7 +95,7 @@ impl Walker {
             (open_event result) }
         ensures yields { YieldsAtOnce self.old self.new piece.old.now piece.new.now
             (open_event result) }
-        ensures suits { IfSome result (λ found. Suits found.0 found.1.now) }
+        ensures sized { IfSome result (λ found. IsHeaderSized found.0 found.1.now) }
         ensures constructed { IfSome result (λ found. found.0.constructed ≡ true) }
     {
         if !matches!(self.phase, Phase::Between) {

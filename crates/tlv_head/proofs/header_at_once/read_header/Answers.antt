@@ -3,7 +3,7 @@ use Rattle.std.proofs.lemmas.List.{take-append-drop, take_all, take_more}
 use Rattle.tlv_head.specs.Refusal.{BeginsWith}
 use Rattle.tlv_head.specs.Fields.{header_with}
 use Rattle.tlv_head.specs.Private.NextOctet.{MakesHeader}
-use Rattle.tlv_head.proofs.Front.{around, begun_none, begun_part, made_begins, made_suits}
+use Rattle.tlv_head.proofs.Front.{around, begun_none, begun_part, made_begins, made_sized}
 use Rattle.tlv_head.proofs.Refused.{refused-with_none}
 use Rattle.tlv_head.proofs.header_at_once.read_header.Goals as goal
 
@@ -16,7 +16,7 @@ returns-in-Finished c =
     subst (MakesHeader c.in-Finished.identifier c.in-Finished.size) (sym (take_more xs i 0 (omega arith))) (c.in-Finished.ensures (take i xs) c.loop-i.invariant.carries) in
     rw c.fields_of.ensures (record {
       within = omega arith;
-      suits = made_suits octets _ c.in-Finished.identifier c.in-Finished.size made refl;
+      sized = made_sized octets _ c.in-Finished.identifier c.in-Finished.size made refl;
       begins = subst (λ s. BeginsWith s c.args.offset c.args.named (header_with (record { offset = c.args.offset; named = c.args.named; class = c.in-Finished.identifier.class; constructed = c.in-Finished.identifier.constructed; number = c.in-Finished.identifier.number; size = c.in-Finished.size; id_len = c.in-Finished.identifier.octets }) octets))
           (take-append-drop (i + 1) xs) (made_begins octets (drop (i + 1) xs) c.args.offset c.args.named c.in-Finished.identifier c.in-Finished.size made);
     })

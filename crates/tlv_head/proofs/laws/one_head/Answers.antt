@@ -1,5 +1,5 @@
-use Rattle.tlv_head.proofs.Exact.{one-answer}
+use Rattle.tlv_head.proofs.Exact.{one-result}
 use Rattle.tlv_head.proofs.laws.one_head.Goals as goal
 
 pub returns : goal.returns
-returns c = one-answer
+returns c = one-result

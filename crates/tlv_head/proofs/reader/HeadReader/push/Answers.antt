@@ -51,7 +51,7 @@ returns-in-Refused c =
     rw c.refused-in-Refused.ensures (q, rw (← c.self.view_is) (ap (λ n. c.self.inside.offset + n) c.len.ensures.value), refl) in
     record { pushes = a; whole = exact _ _ _ _ _ _ a }
 
--- the header that is answered
+-- the header that is returned
 completes : (c : goal.After-with_raw) → Completes c.args.self.now c.args.octet c.with_raw.result
 completes c =
     rw (← c.self.view_is, c.with_raw.ensures, c.fields_of-fields.ensures, c.take.ensures.value, c.push-in-Finished.ensures.items)

@@ -11,7 +11,7 @@ use Rattle.tlv_value.proofs.check.characters.is_printable.Goals as goal
 abbrev stands : ℕ → Bool
 stands x = not (eqb x 42)
 
--- the table, held against the definition at each octet by computing
+-- the table says what the definition says: both are computed at each octet
 table : map stands PRINTABLE ≡ map is_printable_string (range_with_len 0 256)
 table = refl
 
