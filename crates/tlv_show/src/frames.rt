@@ -1,11 +1,8 @@
 //! What is kept of the elements that are beside one another.
-ghost use Rattle.std.specs.Prelude.{◌≡◌, ◌<◌, ◌∷◌, [], drop, length};
+ghost use Rattle.std.specs.Prelude.{◌≡◌};
 ghost use Rattle.tlv_show.specs.FinderState.{frame_after, frame_of, top_frame};
-ghost use Rattle.tlv_show.specs.Private.Nesting.{innermost_of};
 
 use crate::headers::{is_bit_string, is_string, size_of};
-use arrayvec::ArrayVec;
-use std::marker::Model;
 use tlv_head::Header;
 
 /// What is kept of an element that holds others, and of those that it holds so far.
@@ -82,49 +79,4 @@ pub(crate) fn note_element(frame: &mut SiblingFrame, is_primitive: bool, size: u
 pub(crate) struct Kept {
     pub frame: SiblingFrame,
     pub floor: u8,
-}
-
-/// The frames outside of the innermost one, at most 128.
-#[derive(Drop)]
-pub(crate) struct Frames {
-    frames: ArrayVec<Kept, 128>,
-}
-
-impl Model for Frames {
-    ghost use Rattle.std.specs.Prelude.{◌≤◌, List, length, reverse};
-    ghost use Rattle.tlv_show.specs.declared.frames.Kept.{Kept};
-
-    ghost Value = { List Kept };
-
-    ghost view = { λ s. reverse s.frames.items };
-
-    ghost invariant = { λ s. length s.frames.items ≤ 128 };
-}
-
-impl Frames {
-    pub fn new() -> Frames
-        ensures { result ≡ [] }
-    {
-        Frames {
-            frames: ArrayVec::new(),
-        }
-    }
-
-    /// Keeps a frame, as the innermost one.
-    #[inline(always)]
-    pub fn push(&mut self, kept: Kept)
-        requires { length self.old < 128 }
-        ensures { self.new ≡ kept ∷ self.old }
-    {
-        self.frames.push(kept);
-    }
-
-    /// Takes the innermost frame back.
-    #[inline(always)]
-    pub fn pop(&mut self) -> Option<Kept>
-        ensures value { result ≡ innermost_of self.old }
-        ensures rest { self.new ≡ drop 1 self.old }
-    {
-        self.frames.pop()
-    }
 }

@@ -6,10 +6,11 @@ ghost use Rattle.tlv_show.specs.FinderState.{frame_after, header_notes};
 ghost use Rattle.tlv_show.specs.Private.Nesting.{TakesBack, nesting_inside, nesting_outside, new_nesting, segments_left};
 ghost use Rattle.tlv_show.specs.declared.rules.Rules.{Rules};
 
-use crate::frames::{Frames, Kept, SiblingFrame, frame_of, note_element, top};
+use crate::frames::{Kept, SiblingFrame, frame_of, note_element, top};
 use crate::headers::is_string;
 use std::marker::Model;
 use tlv_head::Header;
+use tlv_walk::Frames;
 
 /// The frames of the open elements that hold others, of which at most 128 are kept. An element that is no string and
 /// is in none is counted alone: such elements are many, and a frame is long.
@@ -22,7 +23,8 @@ pub(crate) struct Nesting {
     /// Its floor: how many elements hold what stands directly in its element. The `level - floor` elements that are
     /// open inside of it have no frame.
     floor: u8,
-    outer: Frames,
+    /// The frames outside of it that are kept.
+    outer: Frames<Kept>,
 }
 
 impl Model for Nesting {
@@ -154,7 +156,7 @@ fn has_frame(frame: &SiblingFrame, header: &Header) -> bool
 /// An element that has a frame ends: the frame outside is the innermost one again, and says of the element what has
 /// to be known of it.
 #[inline(never)]
-fn take_back(frame: &mut SiblingFrame, floor: &mut u8, outer: &mut Frames)
+fn take_back(frame: &mut SiblingFrame, floor: &mut u8, outer: &mut Frames<Kept>)
     ensures { TakesBack frame.old outer.old frame.new floor.new outer.new }
 {
     if let Some(kept) = outer.pop() {

@@ -1,7 +1,6 @@
 -- What a stack shows of its frames: the innermost one, and those that hold it.
-use Rattle.std.proofs.Common.{◌≡◌, ◌≢◌, ◌⊎◌, inl, inr, ◌↔◌, ℕ, suc, ◌-◌, ◌^◌, ◌≤◌, Bool, true, false, eqb, if◌then◌else◌, List, [], ◌∷◌, ◌++◌, length, reverse, Option, Some, None, refl, sym, ap, ap₂, ◌∙◌, subst, arith, eqb-true, ne_eqb}
+use Rattle.std.proofs.Common.{◌≡◌, ◌≢◌, ◌⊎◌, inl, inr, ◌↔◌, ℕ, suc, ◌-◌, ◌^◌, ◌≤◌, Bool, true, false, eqb, if◌then◌else◌, List, [], ◌∷◌, length, Option, Some, None, refl, sym, ap, ap₂, ◌∙◌, arith, eqb-true, ne_eqb}
 use Rattle.std.proofs.lemmas.Bool.{false_from_ne_true}
-use Rattle.std.proofs.lemmas.List.{reverse-append, length-reverse}
 use Rattle.tlv_walk.specs.declared.stack.Frame.{Frame as Kept}
 use Rattle.tlv_walk.specs.declared.stack.Holder.{Holder}
 use Rattle.tlv_walk.specs.declared.stack.Holder.TheVariants.{Input, Definite, Indefinite, Wrapper}
@@ -11,25 +10,12 @@ use Rattle.tlv_walk.specs.Private.FrameFields.{AreHolders, HasEnd, bound_from, e
 
 -- one frame more
 
-reverse-more : (xs : List Kept) (f : Kept) → reverse (xs ++ f ∷ []) ≡ f ∷ reverse xs
-reverse-more xs f = reverse-append xs (f ∷ [])
-
-more_frames : (i f : Kept) (xs : List Kept)
-    → frames_from i (reverse (xs ++ f ∷ [])) ≡ frame_from i ∷ frames_from f (reverse xs)
-more_frames i f xs = ap (frames_from i) (reverse-more xs f)
-
-pub more_holders : (i f : Kept) (xs : List Kept) → HasEnd i.holder i.bound → AreHolders f (reverse xs)
-    → AreHolders i (reverse (xs ++ f ∷ []))
-more_holders i f xs e h = subst (AreHolders i) (sym (reverse-more xs f)) (e, h)
-
 length-frames_in : (i : Kept) (fs : List Kept) → length (frames_from i fs) ≡ length fs
 length-frames_in i [] = refl
 length-frames_in i (f ∷ fs) = ap suc (length-frames_in f fs)
 
-pub length-frames : (i : Kept) (xs : List Kept) (now : List Frame) → frames_from i (reverse xs) ≡ now
-    → length now ≡ length xs
-length-frames i xs now shown =
-    sym (ap length shown) ∙ length-frames_in i (reverse xs) ∙ length-reverse xs
+pub length-frames : (i : Kept) (fs : List Kept) (now : List Frame) → frames_from i fs ≡ now → length now ≡ length fs
+length-frames i fs now shown = sym (ap length shown) ∙ length-frames_in i fs
 
 -- the bound
 
@@ -104,13 +90,11 @@ is_filled i (f ∷ fs) at h = (end_alone i.holder i.bound at h.0, λ k. ends_the
 
 -- an element of the indefinite length is opened inside the innermost one
 
-pub more_indefinite : (i : Kept) (xs : List Kept) (now : List Frame) (end : Option ℕ) (wrapper : Bool)
-    → AreHolders i (reverse xs) → frames_from i (reverse xs) ≡ now → end ≡ None → (wrapper ≡ true → end ≢ None)
-    → frames_from (record { bound = i.bound; holder = Indefinite }) (reverse (xs ++ i ∷ []))
-    ≡ frame_inside now end wrapper ∷ now
-more_indefinite i xs now end wrapper h shown e definite =
+pub more_indefinite : (i : Kept) (fs : List Kept) (now : List Frame) (end : Option ℕ) (wrapper : Bool)
+    → AreHolders i fs → frames_from i fs ≡ now → end ≡ None → (wrapper ≡ true → end ≢ None)
+    → frames_from (record { bound = i.bound; holder = Indefinite }) (i ∷ fs) ≡ frame_inside now end wrapper ∷ now
+more_indefinite i fs now end wrapper h shown e definite =
     let plain : false ≡ wrapper = sym (false_from_ne_true wrapper (λ w. definite w e)) in
-    let bound : bound_from i.bound ≡ bound_of now = sym (bound-frames i (reverse xs) now h shown) in
-    more_frames _ i xs
-    ∙ ap₂ (λ (b : Option ℕ) (fs : List Frame). record { end = None; bound = b; wrapper = false } ∷ fs) bound shown
+    let bound : bound_from i.bound ≡ bound_of now = sym (bound-frames i fs now h shown) in
+    ap₂ (λ (b : Option ℕ) (fs : List Frame). record { end = None; bound = b; wrapper = false } ∷ fs) bound shown
     ∙ ap₂ (λ (n : Option ℕ) (w : Bool). frame_inside now n w ∷ now) (sym e) plain

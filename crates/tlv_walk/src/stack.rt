@@ -3,7 +3,7 @@ ghost use Rattle.std.specs.Prelude.{◌≡◌, ◌≢◌, ◌-◌, ◌^◌, ◌<
 ghost use Rattle.tlv_walk.specs.Stack.{IsFilled, IsInIndefinite, IsInWrapper, Within, bound_of};
 ghost use Rattle.tlv_walk.specs.Private.Stack.{frame_inside, left_to, wraps_of};
 
-use arrayvec::ArrayVec;
+use crate::frames::Frames;
 use std::marker::Model;
 
 /// What holds the elements that come next.
@@ -37,20 +37,20 @@ pub(crate) struct Stack {
     /// The innermost open element, or the input if none is open.
     innermost: Frame,
     /// What holds that, from the input on; nothing, if it is the input itself.
-    outer: ArrayVec<Frame, 128>,
+    outer: Frames<Frame>,
 }
 
 impl Model for Stack {
-    ghost use Rattle.std.specs.Prelude.{◌≤◌, List, length, reverse};
+    ghost use Rattle.std.specs.Prelude.{List};
     ghost use Rattle.tlv_walk.specs.Stack.{Frame as Seen};
 
     ghost Value = { List Seen };
 
     ghost use Rattle.tlv_walk.specs.Private.FrameFields.{AreHolders, frames_from};
 
-    ghost view = { λ s. frames_from s.innermost (reverse s.outer.items) };
+    ghost view = { λ s. frames_from s.innermost s.outer };
 
-    ghost invariant = { λ s. AreHolders s.innermost (reverse s.outer.items) × (length s.outer.items ≤ 128) };
+    ghost invariant = { λ s. AreHolders s.innermost s.outer };
 }
 
 impl Stack {
@@ -62,7 +62,7 @@ impl Stack {
                 bound: u64::MAX,
                 holder: Holder::Input,
             },
-            outer: ArrayVec::new(),
+            outer: Frames::new(),
         }
     }
 

@@ -74,11 +74,7 @@ abbrev pub AreKept : ℕ → List Kept → Type 0
 AreKept floor [] = floor ≡ 0
 AreKept floor (k ∷ outer) = (k.floor < floor) × IsKept k.frame (floor - 1 - k.floor) × AreKept k.floor outer
 
--- the innermost of these, and what is kept after the end of the element inside it
-abbrev pub innermost_of : List Kept → Option Kept
-innermost_of [] = None
-innermost_of (k ∷ outer) = Some k
-
+-- what is kept after the end of the element inside the innermost of these
 pub record IsTakenBack (closed : SiblingFrame) (k : Kept) (outer : List Kept) (w : SiblingFrame) (floor : ℕ) (rest : List Kept)
     : Type 0 where
   pub frame : w ≡ frame_after k.frame closed.is_primitive closed.size false

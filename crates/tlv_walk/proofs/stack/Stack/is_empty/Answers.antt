@@ -5,5 +5,5 @@ use Rattle.tlv_walk.proofs.stack.Stack.is_empty.Goals as goal
 
 pub returns : goal.returns
 returns c =
-    let e = length-frames c.self.inside.innermost c.self.inside.outer.items c.args.self.now c.self.view_is in
+    let e = length-frames c.self.inside.innermost c.self.inside.outer c.args.self.now c.self.view_is in
     grind (arith, common_steps, e)

@@ -1,0 +1,66 @@
+//! The frames of open elements.
+ghost use Rattle.std.specs.Prelude.{◌≡◌, ◌<◌, ◌≤◌, ◌↔◌, ◌∷◌, IsTrue, MatchOption, [], length};
+
+use arrayvec::ArrayVec;
+use std::marker::Model;
+
+/// A frame for each open element, the innermost first: at most 128, in an array.
+#[derive(Drop)]
+pub struct Frames<T> {
+    outermost_first: ArrayVec<T, 128>,
+}
+
+impl<T> Model for Frames<T> {
+    ghost use Rattle.std.specs.Prelude.{◌≤◌, List, length, reverse};
+
+    ghost Value = { List T };
+
+    ghost view = { λ s. reverse s.outermost_first.items };
+
+    ghost invariant = { λ s. length s.outermost_first.items ≤ 128 };
+}
+
+impl<T: Copy + Default> Frames<T> {
+    /// No frame.
+    pub fn new() -> Frames<T>
+        ensures { result ≡ [] }
+    {
+        Frames {
+            outermost_first: ArrayVec::new(),
+        }
+    }
+
+    /// How many there are.
+    #[inline(always)]
+    pub fn len(&self) -> usize
+        ensures count { result ≡ length self.now }
+        ensures bound { result ≤ 128 }
+    {
+        self.outermost_first.len()
+    }
+
+    /// Whether there is none.
+    #[inline(always)]
+    pub fn is_empty(&self) -> bool
+        ensures { IsTrue result ↔ (self.now ≡ []) }
+    {
+        self.outermost_first.is_empty()
+    }
+
+    /// Adds a frame inside the innermost one.
+    #[inline(always)]
+    pub fn push(&mut self, frame: T)
+        requires { length self.old < 128 }
+        ensures { self.new ≡ frame ∷ self.old }
+    {
+        self.outermost_first.push(frame);
+    }
+
+    /// Takes the innermost one away, and returns it. If there is none, nothing changes.
+    #[inline(always)]
+    pub fn pop(&mut self) -> Option<T>
+        ensures { MatchOption result ((self.old ≡ []) × (self.new ≡ [])) (λ frame. self.old ≡ frame ∷ self.new) }
+    {
+        self.outermost_first.pop()
+    }
+}
