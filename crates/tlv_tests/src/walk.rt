@@ -4,6 +4,7 @@ mod deep;
 mod devices;
 mod enough;
 mod fault_rows;
+mod frames;
 mod framings;
 mod lines;
 mod memory;
