@@ -191,7 +191,7 @@ reads-scan_from at s o (x ∷ xs) each r =
 pub reads-scan : (at : Origin) (xs : List ℕ) → All (λ x. x < 256) xs → Reads at (scan at xs) xs
 reads-scan at xs each = reads-scan_from at Fresh [] xs each refl
 
--- identifier octets, or the first of them: a length of 0 makes a header of them
+-- identifier octets, or the first of them, are the front of a header: its length may be 0
 named-front : (c : Class) (k : Bool) (n : ℕ) (i o more : List ℕ) → IsIdentifier c k n i → o ≢ [] → o ++ more ≡ i → IsFront o
 named-front c k n i o more id some e = record {
   head = head_of start c k n i (Definite 0) (0 ∷ []);
@@ -201,7 +201,7 @@ named-front c k n i o more id some e = record {
   front = rw (← append_assoc o more (0 ∷ []), e);
 }
 
--- digits of a length: zeros make a header of them
+-- octets up to digits of a length are the front of a header: its other digits may be zeros
 long-front : (c : Class) (k : Bool) (n : ℕ) (i : List ℕ) (m : ℕ) (ds o : List ℕ) → o ≢ [] → IsLongState c k n i m ds o → IsFront o
 long-front c k n i m ds o some s =
     let total : length (ds ++ replicate (m - length ds) 0) ≡ m = omega (arith, length-append ds (replicate (m - length ds) 0), length-replicate {A = ℕ} (m - length ds) 0, s.short) in
@@ -236,7 +236,7 @@ front-from_more at (Ready h) o r some e = absurd (cc)
 front-from_more at (Stuck code) o r some e = absurd (cc)
 front-from_more at Over o r some e = absurd (cc)
 
--- the numbers in a header are octets
+-- the numbers in a header are below 256
 leading-byte : (c : Class) (k : Bool) (n : ℕ) → n < 32 → leading_octet c k n < 256
 leading-byte Universal true n h = omega arith
 leading-byte Universal false n h = omega arith

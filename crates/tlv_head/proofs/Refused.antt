@@ -94,7 +94,7 @@ reserved-stuck at c k n o x i e = scan-step at o x (Named c k n o) ReservedLengt
 primitive-stuck : (at : Origin) (c : Class) (n : ℕ) (o : List ℕ) (x : ℕ) → IsIdentifier c false n o → x ≡ 128 → scan at (o ++ x ∷ []) ≡ Stuck IndefinitePrimitive
 primitive-stuck at c n o x i e = scan-step at o x (Named c false n o) IndefinitePrimitive (scan-identifier at c false n o i) (rw e refl)
 
--- digits of a length that is not whole are read, or one of them is refused
+-- the digits of an unfinished length are read, or one of them is refused
 long-or-stuck : (at : Origin) (c : Class) (k : Bool) (n : ℕ) (i : List ℕ) (m : ℕ) (ds es : List ℕ) → length ds + length es < m
     → (scan_from at (Long c k n i m ds) es ≡ Long c k n i m (ds ++ es)) ⊎ IsStuckFrom at (Long c k n i m ds) es
 long-or-stuck at c k n i m ds [] h = inl (ap (Long c k n i m) (sym (append-nil ds)))
@@ -112,7 +112,7 @@ long-or-stuck at c k n i m ds (e ∷ es) h = ⊎_elim
     (long-or-stuck at c k n i m (ds ++ e ∷ []) es fewer))
     (cases_Bool (not (eqb e 0) && ltb (length ds + 5) m))
 
--- a length octet that makes the length too large, or one before it that does
+-- a length octet that makes the length too large is refused, or one before it is
 too_large-stuck : (at : Origin) (c : Class) (k : Bool) (n : ℕ) (x left : ℕ) (i ds o : List ℕ) → IsIdentifier c k n i → 6 ≤ left → length ds + left ≤ 126
     → o ≡ i ++ (128 + (length ds + left)) ∷ ds → x ≢ 0 → (scan at (o ++ x ∷ []) ≡ Stuck LengthTooLarge) ⊎ IsStuckFrom at Fresh o
 too_large-stuck at c k n x left i ds o id many few octets nonzero =

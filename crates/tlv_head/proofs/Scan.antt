@@ -252,7 +252,7 @@ no-front h g xs vh vg some e =
     let past : scan_from start (Ready (moved start h)) xs ≡ Ready (moved start g) = rw (scan-moved start h vh) at split in
     scan_from-past start (Ready (moved start h)) xs (moved start g) refl some past
 
--- two headers with the same octets are one
+-- two headers at one place with the same octets are one
 pub same-header : (h g : HeaderValue) → IsHeader h → IsHeader g → origin_of h ≡ origin_of g → octets_of h ≡ octets_of g → h ≡ g
 same-header h g vh vg o e =
     let left : scan (origin_of h) (octets_of h) ≡ Ready h = scan-header h vh in

@@ -60,7 +60,7 @@ one-identifier c d k j n m i o x y (inr p) (inr q) e =
     let digits : with_bit_8 p.digits ++ p.last ∷ [] ≡ with_bit_8 q.digits ++ q.last ∷ [] = flagged-end p.digits q.digits p.last q.last x y p.last_digit q.last_digit rest in
     p.octet ∙ (ap (λ (u : ℕ). u ∷ (with_bit_8 p.digits ++ p.last ∷ [])) same ∙ (ap (λ (t : List ℕ). leading_octet d j 31 ∷ t) digits ∙ sym q.octet))
 
--- and it is primitive or constructed, not both
+-- and it has one form: primitive or constructed
 one-form : (c d : Class) (k j : Bool) (n m : ℕ) (i o : List ℕ) → IsIdentifier c k n i → IsIdentifier d j m o → i ≡ o → k ≡ j
 one-form c d k j n m i o p q e =
     let left : scan start i ≡ Named c k n i = scan-identifier start c k n i p in
@@ -125,7 +125,7 @@ always-unfinished (Finished d size) id o x h few f not =
     unended-length id o x d.class d.constructed d.number f.identifier f.lengths h f.identified.identified f.some f.octet
 always-unfinished (Refused code) id o x h few f not = unrefused code id o x h few f
 
--- the octets say the part that is returned
+-- what is returned is what the octets are
 followed : (r : Next) (p : Part) (o : List ℕ) (x : ℕ) → MakesNext o x r → r ≡ Unfinished p → Carries p (o ++ x ∷ [])
 followed r p o x f e = subst (MakesNext o x) e f
 
@@ -168,7 +168,7 @@ leads-on (Digits d n left) x h not nor =
     short_front (a ∷ i) y l x e = absurd (omega (arith, ap length e, length-append i (y ∷ l)))
 leads-on Done x h not nor = let none : x ∷ [] ≡ [] = h in cc
 
--- octets that begin with the high form so far begin with no identifier that is as short
+-- octets that begin with the high form so far begin with no identifier that ends within it
 none-after : (id : Identifier) (o more : List ℕ) (c : Class) (k : Bool) (n : ℕ) (i rest : List ℕ) → CarriesNumber id o → IsIdentifier c k n i
     → length i ≤ length o → o ++ more ≡ i ++ rest → ⊥
 none-after id o more c k n i rest h p few e = let r = within-front o i more rest few e in unended id o c k n i r.0 h p r.1

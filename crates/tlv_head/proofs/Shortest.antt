@@ -1,4 +1,4 @@
--- Headers with one tag and one size: one of them is as short as it can be, and no other is shorter.
+-- Headers with one tag and one size: at most one is as short as it can be, and no other is shorter than that one.
 use Rattle.std.proofs.Common.{◌≡◌, ◌≢◌, ℕ, ◌+◌, ◌%◌, ◌<◌, ◌≤◌, inl, inr, Bool, List, [], ◌∷◌, ◌++◌, length, All, sym, ap, ap₂, ◌∙◌, arith, lit<, length-append}
 use Rattle.std.proofs.lemmas.Bool.{cases_lt}
 use Rattle.std.proofs.lemmas.List.{length-map, same_from_push}

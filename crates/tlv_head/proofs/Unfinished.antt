@@ -92,7 +92,7 @@ made_whole r id size os x m e =
 cons≢nil : (x : ℕ) (xs : List ℕ) → x ∷ xs ≢ []
 cons≢nil x xs e = cc
 
--- octets that go on with a zero to the front of a header
+-- octets are the front of a header if they are with a zero after them
 zero_after : (os : List ℕ) → IsFront (os ++ 0 ∷ []) → IsFront os
 zero_after os u = record {
   head = u.head;

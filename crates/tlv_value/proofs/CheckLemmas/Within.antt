@@ -70,7 +70,7 @@ within-or {f} {g} {h} {k} v w = record {
       (w.leaves test octets) (sym (list_any-append test (f octets) (g octets)) ∙ e);
 }
 
--- the parts of the first form, put together the other way
+-- three parts may be put together in either order
 together :
     (test : List ℕ → Bool) (f g h : Form) (octets : List ℕ)
     → list_any test (((f then g) then h) octets) ≡ list_any test ((f then (g then h)) octets)
@@ -120,12 +120,12 @@ within-two low high more le = record { leaves = leave }
         let before : Bool = is_digit x && is_digit y && nat_le low n in
         if-within test (before && nat_le n high) (before && nat_le n more) (rest ∷ []) (and-last before (nat_le n high) (nat_le n more) (greater n)) h
 
--- if there are no digits, all is left
+-- there may be no digits: then all is left
 no-digits : (test : List ℕ → Bool) (octets : List ℕ) → list_any test (octets ∷ []) ≡ true → list_any test (digits octets) ≡ true
 no-digits test [] h = h
 no-digits test (x ∷ xs) h = or-both (test (x ∷ xs)) false (test (x ∷ xs)) (list_any test (if is_digit x then digits xs else [])) (λ e. e) (λ e. absurd cc) h
 
--- an octet that passes a test
+-- something is left only if the test passes
 there :
     (p : List (List ℕ) → Bool) (b : Bool) (rests : List (List ℕ))
     → p [] ≡ false
@@ -137,7 +137,7 @@ there p false rests z h = absurd cc
 not-zero : (x : ℕ) → (nat_le 49 x && nat_le x 57) ≡ true → is_digit x ≡ true
 not-zero x h = grind (arith, nat_tests)
 
--- digits and one that is not 0 are digits
+-- digits, and one after them that is not 0, are digits
 abbrev IsMore : (List ℕ → Bool) → List ℕ → Type 0
 IsMore test octets = list_any test ((digits then one 49 57) octets) ≡ true → list_any test (digits octets) ≡ true
 
