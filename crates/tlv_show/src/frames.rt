@@ -79,7 +79,7 @@ pub(crate) fn note_element(frame: &mut SiblingFrame, is_primitive: bool, size: u
 
 /// A frame, and its floor: how many elements hold what stands directly in its element.
 #[derive(Clone, Copy, Default)]
-pub(crate) struct Kept {
+pub(crate) struct KeptFrame {
     pub frame: SiblingFrame,
     pub floor: u8,
 }
@@ -87,14 +87,14 @@ pub(crate) struct Kept {
 /// The frames outside of the innermost one, at most 128.
 #[derive(Drop)]
 pub(crate) struct Frames {
-    frames: ArrayVec<Kept, 128>,
+    frames: ArrayVec<KeptFrame, 128>,
 }
 
 impl Model for Frames {
     ghost use Rattle.std.specs.Prelude.{◌≤◌, List, length, reverse};
-    ghost use Rattle.tlv_show.specs.declared.frames.Kept.{Kept};
+    ghost use Rattle.tlv_show.specs.declared.frames.KeptFrame.{KeptFrame};
 
-    ghost Value = { List Kept };
+    ghost Value = { List KeptFrame };
 
     ghost view = { λ s. reverse s.frames.items };
 
@@ -112,7 +112,7 @@ impl Frames {
 
     /// Keeps a frame, as the innermost one.
     #[inline(always)]
-    pub fn push(&mut self, kept: Kept)
+    pub fn push(&mut self, kept: KeptFrame)
         requires { length self.old < 128 }
         ensures { self.new ≡ kept ∷ self.old }
     {
@@ -121,7 +121,7 @@ impl Frames {
 
     /// Takes the innermost frame back.
     #[inline(always)]
-    pub fn pop(&mut self) -> Option<Kept>
+    pub fn pop(&mut self) -> Option<KeptFrame>
         ensures value { result ≡ innermost_of self.old }
         ensures rest { self.new ≡ drop 1 self.old }
     {

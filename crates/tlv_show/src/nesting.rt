@@ -2,11 +2,11 @@
 ghost use Rattle.std.specs.Prelude.{◌≡◌, ◌||◌, false, length, true};
 ghost use Rattle.tlv_head.specs.Header.{HeaderValue};
 ghost use Rattle.tlv_value.specs.Types.{has_segments};
-ghost use Rattle.tlv_show.specs.FinderState.{frame_after, header_notes};
+ghost use Rattle.tlv_show.specs.FinderState.{frame_after, header_findings_in};
 ghost use Rattle.tlv_show.specs.Private.Nesting.{TakesBack, nesting_inside, nesting_outside, new_nesting, segments_left};
 ghost use Rattle.tlv_show.specs.declared.rules.Rules.{Rules};
 
-use crate::frames::{Frames, Kept, SiblingFrame, frame_of, note_element, top};
+use crate::frames::{Frames, KeptFrame, SiblingFrame, frame_of, note_element, top};
 use crate::headers::is_string;
 use std::marker::Model;
 use tlv_head::Header;
@@ -70,8 +70,8 @@ impl Nesting {
     #[inline(always)]
     pub fn frame(&self) -> &SiblingFrame
         ensures segments { result.now.has_segments ≡ self.now.frame.has_segments }
-        ensures notes { (rules : Rules) (h : HeaderValue)
-            → header_notes rules result.now h ≡ header_notes rules self.now.frame h }
+        ensures findings { (rules : Rules) (h : HeaderValue)
+            → header_findings_in rules result.now h ≡ header_findings_in rules self.now.frame h }
     {
         &self.frame
     }
@@ -89,7 +89,7 @@ impl Nesting {
             return;
         }
         self.level += 1;
-        self.outer.push(Kept {
+        self.outer.push(KeptFrame {
             frame: self.frame,
             floor: self.floor,
         });
