@@ -20,11 +20,11 @@ pub record IsInInput (b : List ℕ) (n : ℕ) (f : Forest) : Type 0 where
   pub octets : front ++ (extract_text n false f ++ rest) ≡ b
   pub place : length front ≡ n
   -- its header
-  pub head : HeaderValue
-  pub valid : IsHeader head
-  pub offset : head.offset ≡ n
-  pub parts : extract_text n false f ≡ octets_of head ++ (extract_text n true f
-      ++ (if has_whole_element_at n f then end_octets head.size else []))
+  pub header : HeaderValue
+  pub valid : IsHeader header
+  pub offset : header.offset ≡ n
+  pub parts : extract_text n false f ≡ octets_of header ++ (extract_text n true f
+      ++ (if has_whole_element_at n f then end_octets header.size else []))
 
 -- an element that is found is in the input
 abbrev pub ExtractTextIsInTheInput : Type 0

@@ -3,22 +3,22 @@ use Rattle.std.specs.Prelude.{ℕ, Bool, false, ◌==◌, if◌then◌else◌, L
 use Rattle.std.specs.Prelude.{Option, Some, None}
 use Rattle.std.specs.Option.{is_some, option_map_or, option_or}
 use Rattle.tlv_head.specs.Header.{octets_of}
-use Rattle.tlv_walk.specs.Forest.{Forest, Stop, Fill, Whole, Closed, Partial, Entered, Awaiting}
+use Rattle.tlv_walk.specs.Forest.{Forest, NoMore, PaddingOctet, Primitive, Holder, OpenPrimitive, OpenHolder, OpenBitString}
 use Rattle.tlv_walk.specs.Forest.{end_octets, is_complete, lead, opening}
 
 -- the element whose header begins at the offset n, by itself, if its header is whole. No two
 -- elements begin at one offset
 abbrev pub element_at : ℕ → Forest → Option Forest
-element_at n (Fill rest) = element_at n rest
-element_at n (Whole h c rest) =
-    if h.offset == n then Some (Whole h c Stop) else element_at n rest
-element_at n (Closed h children rest) =
-    if h.offset == n then Some (Closed h children Stop)
+element_at n (PaddingOctet rest) = element_at n rest
+element_at n (Primitive h c rest) =
+    if h.offset == n then Some (Primitive h c NoMore) else element_at n rest
+element_at n (Holder h children rest) =
+    if h.offset == n then Some (Holder h children NoMore)
     else option_or (element_at n children) (element_at n rest)
-element_at n (Partial h c) = if h.offset == n then Some (Partial h c) else None
-element_at n (Entered h children) =
-    if h.offset == n then Some (Entered h children) else element_at n children
-element_at n (Awaiting h) = if h.offset == n then Some (Awaiting h) else None
+element_at n (OpenPrimitive h c) = if h.offset == n then Some (OpenPrimitive h c) else None
+element_at n (OpenHolder h children) =
+    if h.offset == n then Some (OpenHolder h children) else element_at n children
+element_at n (OpenBitString h) = if h.offset == n then Some (OpenBitString h) else None
 element_at n _ = None
 
 -- such an element is there
@@ -32,23 +32,23 @@ has_whole_element_at n f = option_map_or is_complete (element_at n f) false
 -- 8.1.1.1: the octets of elements so far. The octets of an unfinished header are left out, and so
 -- is the first of the end-of-contents octets without the second. Padding belongs to no element
 abbrev pub octets_so_far : Forest → List ℕ
-octets_so_far (Fill rest) = octets_so_far rest
-octets_so_far (Whole h c rest) = octets_of h ++ (c ++ octets_so_far rest)
-octets_so_far (Closed h children rest) =
+octets_so_far (PaddingOctet rest) = octets_so_far rest
+octets_so_far (Primitive h c rest) = octets_of h ++ (c ++ octets_so_far rest)
+octets_so_far (Holder h children rest) =
     opening h ++ (octets_so_far children ++ (end_octets h.size ++ octets_so_far rest))
-octets_so_far (Partial h c) = octets_of h ++ c
-octets_so_far (Entered h children) = opening h ++ octets_so_far children
-octets_so_far (Awaiting h) = octets_of h
+octets_so_far (OpenPrimitive h c) = octets_of h ++ c
+octets_so_far (OpenHolder h children) = opening h ++ octets_so_far children
+octets_so_far (OpenBitString h) = octets_of h
 octets_so_far _ = []
 
 -- 8.1.1.1: the contents octets so far of one element: neither its identifier and length octets nor
 -- its end-of-contents octets. The first contents octet of a BIT STRING that holds encodings is one
 -- of them
 abbrev pub contents_so_far : Forest → List ℕ
-contents_so_far (Whole h c _) = c
-contents_so_far (Closed h children _) = lead h ++ octets_so_far children
-contents_so_far (Partial h c) = c
-contents_so_far (Entered h children) = lead h ++ octets_so_far children
+contents_so_far (Primitive h c _) = c
+contents_so_far (Holder h children _) = lead h ++ octets_so_far children
+contents_so_far (OpenPrimitive h c) = c
+contents_so_far (OpenHolder h children) = lead h ++ octets_so_far children
 contents_so_far _ = []
 
 -- what is written of an element

@@ -5,7 +5,7 @@ use Rattle.tlv_walk.specs.declared.follow.Go.TheVariants.{On}
 use Rattle.tlv_walk.specs.Ending.{IsEnding}
 use Rattle.tlv_walk.specs.Events.{events}
 use Rattle.tlv_walk.specs.Follow.{effect_of}
-use Rattle.tlv_walk.specs.Forest.{Forest, spell}
+use Rattle.tlv_walk.specs.Forest.{Forest, spelling}
 use Rattle.tlv_walk.specs.Place.{IsOpen, top_place}
 use Rattle.tlv_walk.specs.Reading.{IsPrefixOf, IsReading}
 use Rattle.tlv_cut.specs.LongerInputs.{ForLongerInputs}
@@ -26,7 +26,7 @@ IndefTextGoesOn = ForLongerInputs (λ f g. IsPrefixOf (indef_text f) (indef_text
 -- what is written are the octets of elements that keep all rules
 abbrev pub IndefTextKeepsRules : Type 0
 IndefTextKeepsRules = (padding : Bool) (f : Forest) → IsOpen (top_place (indef_framing padding)) f
-    → (spell (indef_reading f) ≡ indef_text f)
+    → (spelling (indef_reading f) ≡ indef_text f)
     × IsOpen (top_place (indef_framing padding)) (indef_reading f)
 
 -- what is written is read as those elements, and of these the same octets are written again

@@ -1,26 +1,26 @@
 -- What the octets that `indef` writes are read as.
 use Rattle.std.specs.Prelude.{ℕ, ◌+◌, length}
 use Rattle.tlv_head.specs.Header.{octets_of}
-use Rattle.tlv_walk.specs.Forest.{Forest, Stop, Fill, Whole, Closed, Partial, Entered, Awaiting}
-use Rattle.tlv_walk.specs.Forest.{Begun, Zero, extent, opening}
+use Rattle.tlv_walk.specs.Forest.{Forest, NoMore, PaddingOctet, Primitive, Holder, OpenPrimitive, OpenHolder, OpenBitString}
+use Rattle.tlv_walk.specs.Forest.{OpenEndOctets, OpenHeader, extent, opening}
 use Rattle.tlv_cut.specs.IndefText.{with_indefinite_lengths}
 
 -- the same elements from the offset n on: each begins where what is before it ends
 abbrev pub with_offsets_from : ℕ → Forest → Forest
-with_offsets_from n Stop = Stop
-with_offsets_from n (Fill rest) = Fill (with_offsets_from (n + 1) rest)
-with_offsets_from n (Whole h c rest) =
-    Whole (record h { offset = n }) c
+with_offsets_from n NoMore = NoMore
+with_offsets_from n (PaddingOctet rest) = PaddingOctet (with_offsets_from (n + 1) rest)
+with_offsets_from n (Primitive h c rest) =
+    Primitive (record h { offset = n }) c
     (with_offsets_from (n + (length (octets_of h) + length c)) rest)
-with_offsets_from n (Closed h children rest) =
-    Closed (record h { offset = n }) (with_offsets_from (n + length (opening h)) children)
+with_offsets_from n (Holder h children rest) =
+    Holder (record h { offset = n }) (with_offsets_from (n + length (opening h)) children)
     (with_offsets_from (n + extent h children) rest)
-with_offsets_from n (Partial h c) = Partial (record h { offset = n }) c
-with_offsets_from n (Entered h children) =
-    Entered (record h { offset = n }) (with_offsets_from (n + length (opening h)) children)
-with_offsets_from n (Awaiting h) = Awaiting (record h { offset = n })
-with_offsets_from n (Begun octets) = Begun octets
-with_offsets_from n Zero = Zero
+with_offsets_from n (OpenPrimitive h c) = OpenPrimitive (record h { offset = n }) c
+with_offsets_from n (OpenHolder h children) =
+    OpenHolder (record h { offset = n }) (with_offsets_from (n + length (opening h)) children)
+with_offsets_from n (OpenBitString h) = OpenBitString (record h { offset = n })
+with_offsets_from n (OpenHeader octets) = OpenHeader octets
+with_offsets_from n OpenEndOctets = OpenEndOctets
 
 -- the same elements with indefinite lengths, at the offsets that they have in what is written
 abbrev pub indef_reading : Forest → Forest

@@ -22,7 +22,7 @@ use Rattle.tlv_walk.specs.declared.run.DeviceFault.TheVariants.{ReadFailed, Writ
 use Rattle.std.specs.List.{concat}
 use Rattle.tlv_io.specs.Device.{DrainState, Last, SourceState, failed, gave, never, new_source, next_count, octets_given}
 use Rattle.tlv_walk.specs.Ending.{IsEnding, IsFinalEnding}
-use Rattle.tlv_walk.specs.Forest.{Forest, spell}
+use Rattle.tlv_walk.specs.Forest.{Forest, spelling}
 use Rattle.tlv_walk.specs.Job.{EndsWith, Job, Runs, WantMore}
 use Rattle.tlv_io.specs.MemSource.{MemSourceState}
 use Rattle.tlv_io.specs.Out.{Sends}
@@ -70,12 +70,12 @@ take_front n xs ys = elim (cases_lt (length xs) n) [
 
 -- if the octets are spelled whole, no octet of them is refused
 spelled_on : (framing : Framing) (b : List ℕ) (f : Forest) (e : Ending)
-    → IsReading framing b f → spell f ≡ b → IsEnding framing b e → IsFinalEnding e → ⊥
+    → IsReading framing b f → spelling f ≡ b → IsEnding framing b e → IsFinalEnding e → ⊥
 spelled_on framing b f ending.Done r s x final = absurd final
 spelled_on framing b f (ending.Fault k) r s x final =
     let y : IsRefused framing b k.code k.offset = fault-halt framing b k.code k.offset final.0 final.1 x in
-    let most : length (spell f) ≤ length (spell y.forest) = halt-longest framing y.forest k.code b y.halt f r.is_open ([], append-nil (spell f) ∙ s) in
-    omega (arith, most, ap length s, ap length y.halt.front, length-append (spell y.forest) (y.halt.octet ∷ y.halt.rest))
+    let most : length (spelling f) ≤ length (spelling y.forest) = halt-longest framing y.forest k.code b y.halt f r.is_open ([], append-nil (spelling f) ∙ s) in
+    omega (arith, most, ap length s, ap length y.halt.front, length-append (spelling y.forest) (y.halt.octet ∷ y.halt.rest))
 
 -- what was sent of a text, and what is after it in a longer one
 front_and_rest : (written sent left text rest longer : List ℕ)

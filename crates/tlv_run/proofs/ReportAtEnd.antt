@@ -1,4 +1,4 @@
--- What is reported when a run ends, as proofs say it.
+-- What is reported when a run ends, in the words of proofs.
 use Rattle.std.specs.Prelude.{Result, Ok, Err}
 use Rattle.tlv_walk.specs.declared.run.DeviceFault.{DeviceFault}
 use Rattle.tlv_run.specs.Report.{ReportValue, device_report}

@@ -6,7 +6,7 @@ pub mod EndFindings
 pub mod FinderFolds
 pub mod FinderItems
 pub mod FindingsOfHeaders
-pub mod HeaderNotes
+pub mod HeaderFindings
 pub mod KeptFrames
 pub mod Lists
 pub mod LongerHeaders

@@ -6,7 +6,7 @@ use Rattle.tlv_walk.specs.Events.{Begin, Bytes, Close, End, Enter, EventValue, L
 use Rattle.tlv_walk.specs.Follow.{Effect, each_octet, no_effect}
 use Rattle.tlv_show.specs.declared.finding_lines.Style.{Style}
 use Rattle.tlv_show.specs.declared.finding_lines.Style.TheVariants.{Check, Dump}
-use Rattle.tlv_show.specs.FinderState.{FinderState, FinderValue, find_begin, find_bytes, find_close, find_end, find_open}
+use Rattle.tlv_show.specs.FinderState.{FinderState, FinderValue, finder_begin_step, finder_bytes_step, finder_close_step, finder_end_step, finder_open_step}
 use Rattle.tlv_show.specs.Texts.{check_finding_line, finding_line}
 
 -- a finding in an element at this level and offset, as it is written
@@ -23,16 +23,16 @@ findings_effect f = record { state = f.state; put = styled_lines Check f.level f
 
 -- a contents octet
 abbrev pub check_octet_step : FinderState → ℕ → Effect FinderState
-check_octet_step s x = no_effect (find_bytes s (x ∷ []))
+check_octet_step s x = no_effect (finder_bytes_step s (x ∷ []))
 
 -- an event
 abbrev pub check_step : FinderState → EventValue → Effect FinderState
-check_step s (Open h) = findings_effect (find_open s h)
-check_step s (Enter h) = findings_effect (find_open s h)
-check_step s (Begin h) = findings_effect (find_begin s h)
+check_step s (Open h) = findings_effect (finder_open_step s h)
+check_step s (Enter h) = findings_effect (finder_open_step s h)
+check_step s (Begin h) = findings_effect (finder_begin_step s h)
 check_step s (Bytes octets) = each_octet check_octet_step s octets
-check_step s End = findings_effect (find_end s)
-check_step s (Close at) = findings_effect (find_close s)
-check_step s Leave = findings_effect (find_close s)
+check_step s End = findings_effect (finder_end_step s)
+check_step s (Close at) = findings_effect (finder_close_step s)
+check_step s Leave = findings_effect (finder_close_step s)
 check_step s Unused = no_effect s
 check_step s (Pad octets) = no_effect s

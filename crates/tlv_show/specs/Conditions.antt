@@ -77,8 +77,9 @@ bits_octet h = if is_a bit_string h then 1 else 0
 
 -- 9.2: how many contents octets a string with these segments would have as a primitive: those of each segment but for
 -- its octet for unused bits, and one such octet for the whole string
-abbrev pub total : HeaderValue → List HeaderValue → ℕ
-total h segments = bits_octet h + sum_by (λ (g : HeaderValue). announced_length g.size - bits_octet h) segments
+abbrev pub length_as_primitive : HeaderValue → List HeaderValue → ℕ
+length_as_primitive h segments =
+    bits_octet h + sum_by (λ (g : HeaderValue). announced_length g.size - bits_octet h) segments
 
 -- whether the last of the elements is a primitive without contents octets, after one that is or is not
 abbrev pub ends_empty : Bool → List HeaderValue → Bool
@@ -88,7 +89,7 @@ ends_empty empty (h ∷ hs) = ends_empty (is_primitive h && announced_length h.s
 abbrev pub end_conditions : HeaderValue → List HeaderValue → List (Bool × Finding)
 end_conditions h children =
     -- 9.2: a string of at most 1000 contents octets is primitive
-    (has_segments h && list_all is_primitive children && nat_le (total h children) 1000, C05)
+    (has_segments h && list_all is_primitive children && nat_le (length_as_primitive h children) 1000, C05)
     -- 9.2: the last segment has one contents octet or more
     ∷ (has_segments h && ends_empty false children, C06)
     ∷ []

@@ -9,7 +9,7 @@ use Rattle.tlv_show.specs.declared.rules.Rules.{Rules}
 use Rattle.tlv_show.specs.declared.finding_lines.Style.TheVariants.{Dump}
 use Rattle.tlv_show.specs.CheckStep.{styled_lines}
 use Rattle.tlv_show.specs.LinesStep.{LinesState, lines_octet_step, lines_padding_step, lines_step, new_lines}
-use Rattle.tlv_show.specs.FinderState.{FinderState, FinderValue, find_begin, find_bytes, find_close, find_end, find_open, finds_nothing, new_finder}
+use Rattle.tlv_show.specs.FinderState.{FinderState, FinderValue, finder_begin_step, finder_bytes_step, finder_close_step, finder_end_step, finder_open_step, new_finder, without_findings}
 
 -- what contracts see of a `Dump`
 pub record DumpState : Type 0 where
@@ -43,7 +43,7 @@ findings_last s f d = record {
 abbrev pub dump_octet_step : DumpState → ℕ → Effect DumpState
 dump_octet_step s x =
     let d = lines_octet_step s.lines x in
-    record { state = record { lines = d.state; finder = find_bytes s.finder (x ∷ []) }; put = d.put; goes = On }
+    record { state = record { lines = d.state; finder = finder_bytes_step s.finder (x ∷ []) }; put = d.put; goes = On }
 
 abbrev pub dump_padding_step : DumpState → ℕ → Effect DumpState
 dump_padding_step s x =
@@ -52,12 +52,12 @@ dump_padding_step s x =
 
 -- an event
 abbrev pub dump_step : DumpState → EventValue → Effect DumpState
-dump_step s (Open h) = findings_first s (find_open s.finder h) (lines_step s.lines (Open h))
-dump_step s (Enter h) = findings_first s (find_open s.finder h) (lines_step s.lines (Enter h))
-dump_step s (Begin h) = findings_first s (find_begin s.finder h) (lines_step s.lines (Begin h))
+dump_step s (Open h) = findings_first s (finder_open_step s.finder h) (lines_step s.lines (Open h))
+dump_step s (Enter h) = findings_first s (finder_open_step s.finder h) (lines_step s.lines (Enter h))
+dump_step s (Begin h) = findings_first s (finder_begin_step s.finder h) (lines_step s.lines (Begin h))
 dump_step s (Bytes octets) = each_octet dump_octet_step s octets
-dump_step s End = findings_last s (find_end s.finder) (lines_step s.lines End)
-dump_step s (Close at) = findings_last s (find_close s.finder) (lines_step s.lines (Close at))
-dump_step s Leave = findings_last s (find_close s.finder) (lines_step s.lines Leave)
-dump_step s Unused = findings_last s (finds_nothing s.finder) (lines_step s.lines Unused)
+dump_step s End = findings_last s (finder_end_step s.finder) (lines_step s.lines End)
+dump_step s (Close at) = findings_last s (finder_close_step s.finder) (lines_step s.lines (Close at))
+dump_step s Leave = findings_last s (finder_close_step s.finder) (lines_step s.lines Leave)
+dump_step s Unused = findings_last s (without_findings s.finder) (lines_step s.lines Unused)
 dump_step s (Pad octets) = each_octet dump_padding_step s octets

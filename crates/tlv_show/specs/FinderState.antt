@@ -69,8 +69,8 @@ frame_after w primitive size unused = if w.has_segments then frame_after_segment
 
 -- ---- Findings, by a frame
 
-abbrev pub basic_notes : SiblingFrame → HeaderValue → List Finding
-basic_notes w h =
+abbrev pub basic_findings_in : SiblingFrame → HeaderValue → List Finding
+basic_findings_in w h =
     finding_if (has_high_form h && nat_lt h.number 31) B01
     ++ finding_if (has_high_form h && leading_bits h == 0) B02
     ++ finding_if (is_unassigned h) B03
@@ -79,29 +79,29 @@ basic_notes w h =
     ++ finding_if (w.has_segments && w.has_bits && w.is_unused) B16
     ++ finding_if (w.has_segments && not (is_a (if w.has_bits then bit_string else octet_string) h)) B17
 
-abbrev pub length_notes : HeaderValue → List Finding
-length_notes h = finding_if (has_long_form h && (nat_lt (announced_length h.size) 128 || first_length h == 0)) S01
+abbrev pub length_findings : HeaderValue → List Finding
+length_findings h = finding_if (has_long_form h && (nat_lt (announced_length h.size) 128 || first_length h == 0)) S01
 
-abbrev pub der_notes : HeaderValue → List Finding
-der_notes h = finding_if (is_indefinite h.size) D01 ++ finding_if (has_segments h) D02
+abbrev pub der_findings : HeaderValue → List Finding
+der_findings h = finding_if (is_indefinite h.size) D01 ++ finding_if (has_segments h) D02
 
-abbrev pub cer_notes : SiblingFrame → HeaderValue → List Finding
-cer_notes w h =
+abbrev pub cer_findings_in : SiblingFrame → HeaderValue → List Finding
+cer_findings_in w h =
     finding_if (h.constructed && not (is_indefinite h.size)) C01
     ++ finding_if (is_primitive h && is_string h && nat_lt 1000 (announced_length h.size)) C02
     ++ finding_if (h.constructed && w.has_segments) C03
     ++ finding_if (w.has_segments && w.is_not_full) C04
 
-abbrev pub header_notes : Rules → SiblingFrame → HeaderValue → List Finding
-header_notes Ber w h = basic_notes w h
-header_notes Der w h = basic_notes w h ++ length_notes h ++ der_notes h
-header_notes Cer w h = basic_notes w h ++ length_notes h ++ cer_notes w h
+abbrev pub header_findings_in : Rules → SiblingFrame → HeaderValue → List Finding
+header_findings_in Ber w h = basic_findings_in w h
+header_findings_in Der w h = basic_findings_in w h ++ length_findings h ++ der_findings h
+header_findings_in Cer w h = basic_findings_in w h ++ length_findings h ++ cer_findings_in w h
 
 -- with the end of an element that holds others
-abbrev pub end_notes : Rules → SiblingFrame → List Finding
-end_notes Ber w = []
-end_notes Der w = []
-end_notes Cer w =
+abbrev pub end_findings_in : Rules → SiblingFrame → List Finding
+end_findings_in Ber w = []
+end_findings_in Der w = []
+end_findings_in Cer w =
     finding_if (w.has_segments && w.all_primitive && nat_le ((if w.has_bits then 1 else 0) + w.octets) 1000) C05
     ++ finding_if (w.has_segments && w.is_empty) C06
 
@@ -135,16 +135,16 @@ abbrev pub count_up : ℕ → ℕ → ℕ
 count_up count n = max count (min (count + n) (2 ^ 64 - 1))
 
 -- findings are counted
-abbrev pub finds : FinderState → ℕ → ℕ → List Finding → FinderValue
-finds s level at found = record {
+abbrev pub with_findings : FinderState → ℕ → ℕ → List Finding → FinderValue
+with_findings s level at found = record {
   state = record s { count = count_up s.count (length found) };
   level = level;
   at = at;
   found = found;
 }
 
-abbrev pub finds_nothing : FinderState → FinderValue
-finds_nothing s = record { state = s; level = 0; at = 0; found = [] }
+abbrev pub without_findings : FinderState → FinderValue
+without_findings s = record { state = s; level = 0; at = 0; found = [] }
 
 -- ---- What it makes of an event
 
@@ -155,27 +155,29 @@ finder_inside s h =
     then record s { frame = frame_under s.frame h; outer = s.frame ∷ s.outer }
     else s
 
-abbrev pub find_open : FinderState → HeaderValue → FinderValue
-find_open s h = finds (finder_inside s h) (length s.outer) h.offset (header_notes s.rules s.frame h)
+abbrev pub finder_open_step : FinderState → HeaderValue → FinderValue
+finder_open_step s h =
+    with_findings (finder_inside s h) (length s.outer) h.offset (header_findings_in s.rules s.frame h)
 
 -- a primitive begins
 abbrev pub finder_at_value : FinderState → HeaderValue → FinderState
 finder_at_value s h = record s { value = Some (record { at = h.offset; check = new_check h }) }
 
-abbrev pub find_begin : FinderState → HeaderValue → FinderValue
-find_begin s h = finds (finder_at_value s h) (length s.outer) h.offset (header_notes s.rules s.frame h)
+abbrev pub finder_begin_step : FinderState → HeaderValue → FinderValue
+finder_begin_step s h =
+    with_findings (finder_at_value s h) (length s.outer) h.offset (header_findings_in s.rules s.frame h)
 
 -- contents octets: no more count than were announced
 abbrev pub open_value_after : Option OpenValue → List ℕ → Option OpenValue
 open_value_after None octets = None
 open_value_after (Some v) octets = Some (record v { check = check_after v.check (take v.check.left octets) })
 
-abbrev pub find_bytes : FinderState → List ℕ → FinderState
-find_bytes s octets = if length octets == 0 then s else record s { value = open_value_after s.value octets }
+abbrev pub finder_bytes_step : FinderState → List ℕ → FinderState
+finder_bytes_step s octets = if length octets == 0 then s else record s { value = open_value_after s.value octets }
 
 -- a primitive ends, of which all contents octets have come
-abbrev pub contents_notes : Rules → CheckState → List Finding
-contents_notes rules t = if t.left == 0 then filter (shows rules) (findings_in t) else []
+abbrev pub contents_findings_in : Rules → CheckState → List Finding
+contents_findings_in rules t = if t.left == 0 then filter (shows rules) (findings_in t) else []
 
 abbrev pub finder_after_value : FinderState → OpenValue → FinderState
 finder_after_value s v = record s {
@@ -183,12 +185,13 @@ finder_after_value s v = record s {
   value = None;
 }
 
-abbrev pub find_value_end : FinderState → Option OpenValue → FinderValue
-find_value_end s None = finds_nothing s
-find_value_end s (Some v) = finds (finder_after_value s v) (length s.outer) v.at (contents_notes s.rules v.check)
+abbrev pub finder_value_end_step : FinderState → Option OpenValue → FinderValue
+finder_value_end_step s None = without_findings s
+finder_value_end_step s (Some v) =
+    with_findings (finder_after_value s v) (length s.outer) v.at (contents_findings_in s.rules v.check)
 
-abbrev pub find_end : FinderState → FinderValue
-find_end s = find_value_end s s.value
+abbrev pub finder_end_step : FinderState → FinderValue
+finder_end_step s = finder_value_end_step s s.value
 
 -- an element that holds others ends, inside this frame and those around it
 abbrev pub finder_outside : FinderState → SiblingFrame → List SiblingFrame → FinderState
@@ -197,9 +200,10 @@ finder_outside s w outer = record s {
   outer = outer;
 }
 
-abbrev pub find_frame_end : FinderState → List SiblingFrame → FinderValue
-find_frame_end s [] = finds_nothing s
-find_frame_end s (w ∷ outer) = finds (finder_outside s w outer) (length outer) s.frame.at (end_notes s.rules s.frame)
+abbrev pub finder_frame_end_step : FinderState → List SiblingFrame → FinderValue
+finder_frame_end_step s [] = without_findings s
+finder_frame_end_step s (w ∷ outer) =
+    with_findings (finder_outside s w outer) (length outer) s.frame.at (end_findings_in s.rules s.frame)
 
-abbrev pub find_close : FinderState → FinderValue
-find_close s = find_frame_end s s.outer
+abbrev pub finder_close_step : FinderState → FinderValue
+finder_close_step s = finder_frame_end_step s s.outer

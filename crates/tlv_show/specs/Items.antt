@@ -4,7 +4,7 @@ use Rattle.std.specs.Prelude.{ℕ, ◌+◌, Bool, if◌then◌else◌, List, [],
 use Rattle.tlv_head.specs.Header.{HeaderValue, octets_of}
 use Rattle.tlv_value.specs.declared.finding.Finding.{Finding}
 use Rattle.tlv_value.specs.Checks.{contents_conditions, findings_by}
-use Rattle.tlv_walk.specs.Forest.{Forest, Fill, Whole, Closed, Partial, Entered, Awaiting, extent}
+use Rattle.tlv_walk.specs.Forest.{Forest, PaddingOctet, Primitive, Holder, OpenPrimitive, OpenHolder, OpenBitString, extent}
 use Rattle.tlv_show.specs.declared.rules.Rules.{Rules}
 use Rattle.tlv_show.specs.Conditions.{end_conditions, header_conditions}
 use Rattle.tlv_show.specs.EndPlace.{end_place}
@@ -16,20 +16,20 @@ pub data Item : Type 0 where
   -- something is found in the element that begins at this offset
   FindingAt : (level offset : ℕ) (finding : Finding) → Item
   -- an element that holds others begins, and ends: with the offset of its end-of-contents octets, if it has them
-  OpeningLine : (level : ℕ) (head : HeaderValue) → Item
+  OpeningLine : (level : ℕ) (header : HeaderValue) → Item
   ClosingLine : (level : ℕ) (offset : Option ℕ) → Item
   -- a primitive, and one that lacks contents octets
-  WholePrimitive : (level : ℕ) (head : HeaderValue) (contents : List ℕ) → Item
-  OpenPrimitive : (level : ℕ) (head : HeaderValue) (contents : List ℕ) → Item
+  PrimitiveLines : (level : ℕ) (header : HeaderValue) (contents : List ℕ) → Item
+  OpenPrimitiveLines : (level : ℕ) (header : HeaderValue) (contents : List ℕ) → Item
   -- padding begins at this offset
   PaddingLine : (level offset : ℕ) → Item
 
 -- the headers of whole elements one after another
-abbrev pub heads : Forest → List HeaderValue
-heads (Fill rest) = heads rest
-heads (Whole h c rest) = h ∷ heads rest
-heads (Closed h children rest) = h ∷ heads rest
-heads _ = []
+abbrev pub headers : Forest → List HeaderValue
+headers (PaddingOctet rest) = headers rest
+headers (Primitive h c rest) = h ∷ headers rest
+headers (Holder h children rest) = h ∷ headers rest
+headers _ = []
 
 module _ (rules : Rules) where
   -- what is found in an element, in order: of these conditions, what the rules show
@@ -40,21 +40,21 @@ module _ (rules : Rules) where
   -- its last
   abbrev pub items : Site → Forest → List Item
   -- a run of padding has one line
-  items s (Fill rest) =
+  items s (PaddingOctet rest) =
       (if is_padding s.before then [] else PaddingLine s.level s.at ∷ [])
       ++ items (onward s 1 Padding) rest
-  items s (Whole h c rest) =
+  items s (Primitive h c rest) =
       finding_items s h (header_conditions s h)
-      ++ (WholePrimitive s.level h c ∷ finding_items s h (contents_conditions h c)
+      ++ (PrimitiveLines s.level h c ∷ finding_items s h (contents_conditions h c)
       ++ items (onward s (length (octets_of h) + length c) (Sibling h (slice_get c 0))) rest)
-  items s (Closed h children rest) =
+  items s (Holder h children rest) =
       finding_items s h (header_conditions s h)
       ++ (OpeningLine s.level h ∷ items (site_of_children s h) children
-      ++ (ClosingLine s.level (end_place h children) ∷ finding_items s h (end_conditions h (heads children))
+      ++ (ClosingLine s.level (end_place h children) ∷ finding_items s h (end_conditions h (headers children))
       ++ items (onward s (extent h children) (Sibling h None)) rest))
-  items s (Partial h c) = finding_items s h (header_conditions s h) ++ OpenPrimitive s.level h c ∷ []
-  items s (Entered h children) =
+  items s (OpenPrimitive h c) = finding_items s h (header_conditions s h) ++ OpenPrimitiveLines s.level h c ∷ []
+  items s (OpenHolder h children) =
       finding_items s h (header_conditions s h)
       ++ OpeningLine s.level h ∷ items (site_of_children s h) children
-  items s (Awaiting h) = finding_items s h (header_conditions s h) ++ OpeningLine s.level h ∷ []
+  items s (OpenBitString h) = finding_items s h (header_conditions s h) ++ OpeningLine s.level h ∷ []
   items s _ = []

@@ -2,7 +2,7 @@
 use Rattle.std.specs.Prelude.{◌≡◌, ℕ, ◌^◌, ◌≤◌, List, [], ◌∷◌, ◌++◌, length, None, Bool, false, flat_map}
 use Rattle.std.specs.FinMap as finite
 use Rattle.std.specs.List.{filter}
-use Rattle.tlv_show.specs.Items.{Item, FindingAt, OpeningLine, ClosingLine, WholePrimitive, OpenPrimitive, PaddingLine, items}
+use Rattle.tlv_show.specs.Items.{Item, FindingAt, OpeningLine, ClosingLine, PrimitiveLines, OpenPrimitiveLines, PaddingLine, items}
 use Rattle.tlv_show.specs.Site.{top_site}
 use Rattle.tlv_show.specs.declared.rules.Rules.TheVariants.{Ber}
 use Rattle.tlv_show.specs.CheckJob.{check_job}
@@ -25,7 +25,7 @@ use Rattle.tlv_walk.specs.declared.follow.Go.TheVariants.{On}
 use Rattle.tlv_show.specs.declared.finding_lines.Style.TheVariants.{Dump}
 use Rattle.tlv_show.specs.CheckStep.{styled_lines}
 use Rattle.tlv_show.specs.DumpStep.{DumpState, dump_step, finding_lines}
-use Rattle.tlv_show.specs.FinderState.{find_begin}
+use Rattle.tlv_show.specs.FinderState.{finder_begin_step}
 use Rattle.tlv_show.specs.Found.{contents_findings, shows}
 
 -- the text of a longer input, of no more octets than are dumped, begins with that of the shorter
@@ -59,7 +59,7 @@ PrimitivesAreShown =
     ≡ record {
       state = shown;
       put =
-          finding_lines s (find_begin s.finder h)
+          finding_lines s (finder_begin_step s.finder h)
           ++ (whole_lines (finite.get s.lines.names) h s.lines.layout c
           ++ contents_finding_lines s h c);
       goes = On;
@@ -89,8 +89,8 @@ abbrev pub is_basic : Item → Bool
 is_basic (FindingAt level at finding) = shows Ber finding
 is_basic (OpeningLine level h) = false
 is_basic (ClosingLine level offset) = false
-is_basic (WholePrimitive level h c) = false
-is_basic (OpenPrimitive level h c) = false
+is_basic (PrimitiveLines level h c) = false
+is_basic (OpenPrimitiveLines level h c) = false
 is_basic (PaddingLine level offset) = false
 
 -- what a check lists under BER is what it lists under other rules, but for the findings that these rules add

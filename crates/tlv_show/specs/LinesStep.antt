@@ -28,8 +28,8 @@ abbrev pub new_lines : Layout → Table → LinesState
 new_lines layout names = record { layout = layout; names = names; offset = 0; in_padding = false; value = None }
 
 -- it becomes `s`, and these octets are put
-abbrev pub put_lines : LinesState → List ℕ → Effect LinesState
-put_lines s octets = record { state = s; put = octets; goes = On }
+abbrev pub lines_effect : LinesState → List ℕ → Effect LinesState
+lines_effect s octets = record { state = s; put = octets; goes = On }
 
 -- an offset so many octets further; it stops at 2^64 - 1
 abbrev pub offset_after : ℕ → ℕ → ℕ
@@ -49,20 +49,20 @@ past_header s h = record s { offset = offset_after h.offset (length (octets_of h
 -- an element that holds others begins
 abbrev pub lines_open_step : LinesState → HeaderValue → List ℕ → Effect LinesState
 lines_open_step s h word =
-    put_lines (record (past_header s h) { layout = inner_layout s.layout }) (opening_line s.layout h word)
+    lines_effect (record (past_header s h) { layout = inner_layout s.layout }) (opening_line s.layout h word)
 
 -- it ends
 abbrev pub lines_close_step : LinesState → Option ℕ → Effect LinesState
 lines_close_step s None =
-    put_lines (record s { layout = outer_layout s.layout }) (close_line (outer_layout s.layout) None)
+    lines_effect (record s { layout = outer_layout s.layout }) (close_line (outer_layout s.layout) None)
 lines_close_step s (Some at) =
-    put_lines (record s { layout = outer_layout s.layout; offset = offset_after at 2 })
+    lines_effect (record s { layout = outer_layout s.layout; offset = offset_after at 2 })
     (close_line (outer_layout s.layout) (Some at))
 
 -- a primitive begins
 abbrev pub lines_begin_step : LinesState → HeaderValue → Effect LinesState
 lines_begin_step s h =
-    put_lines (record (past_header s h) { value = Some (new_text h s.layout) })
+    lines_effect (record (past_header s h) { value = Some (new_text h s.layout) })
     (begin_lines (new_text h s.layout))
 
 -- contents octets: no more count than were announced
@@ -77,7 +77,7 @@ value_contents_lines (Some t) octets = contents_lines t (take t.left octets)
 -- a contents octet
 abbrev pub lines_octet_step : LinesState → ℕ → Effect LinesState
 lines_octet_step s x =
-    put_lines (record s { offset = offset_after s.offset 1; value = value_after s.value (x ∷ []) })
+    lines_effect (record s { offset = offset_after s.offset 1; value = value_after s.value (x ∷ []) })
     (value_contents_lines s.value (x ∷ []))
 
 -- a primitive ends, of which all contents octets have come
@@ -86,12 +86,12 @@ value_end_lines names None = []
 value_end_lines names (Some t) = if eqb t.left 0 then end_lines (finite.get names) t else []
 
 abbrev pub lines_end_step : LinesState → Effect LinesState
-lines_end_step s = put_lines (record s { value = None }) (value_end_lines s.names s.value)
+lines_end_step s = lines_effect (record s { value = None }) (value_end_lines s.names s.value)
 
 -- an octet of padding: the first of a run has a line
 abbrev pub lines_padding_step : LinesState → ℕ → Effect LinesState
 lines_padding_step s x =
-    put_lines (record s { offset = offset_after s.offset 1; in_padding = true })
+    lines_effect (record s { offset = offset_after s.offset 1; in_padding = true })
     (if s.in_padding then [] else padding_line s.layout s.offset)
 
 -- an event
@@ -103,5 +103,5 @@ lines_step s (Bytes octets) = each_octet lines_octet_step s octets
 lines_step s End = lines_end_step s
 lines_step s (Close at) = lines_close_step s at
 lines_step s Leave = lines_close_step s None
-lines_step s Unused = put_lines (record s { offset = offset_after s.offset 1 }) []
+lines_step s Unused = lines_effect (record s { offset = offset_after s.offset 1 }) []
 lines_step s (Pad octets) = each_octet lines_padding_step s octets

@@ -12,7 +12,7 @@ pub data Before : Type 0 where
   -- octets 00 between encodings
   Padding : Before
   -- an element. Of a primitive that wraps nothing the first contents octet is kept, if there is one
-  Sibling : (head : HeaderValue) (first : Option ℕ) → Before
+  Sibling : (header : HeaderValue) (first : Option ℕ) → Before
 
 pub record Site : Type 0 where
   -- the offset of its first octet

@@ -8,9 +8,13 @@ use crate::Rules;
 use arrayvec::ArrayVec;
 use tlv_value::{Finding, ValueCheck};
 
-/// Notes what is found on the contents of a primitive, of which all have come.
+/// Adds what is found on the contents of a primitive, of which all have come.
 #[inline(never)]
-pub(crate) fn note_contents(rules: Rules, check: &ValueCheck, found: &mut ArrayVec<Finding, 16>)
+pub(crate) fn add_contents_findings(
+    rules: Rules,
+    check: &ValueCheck,
+    found: &mut ArrayVec<Finding, 16>,
+)
     requires left { check.now.left ≡ 0 }
     requires none { found.old.items ≡ [] }
     ensures { found.new.items ≡ filter (shows rules) (findings_in check.now) }

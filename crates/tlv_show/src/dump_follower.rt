@@ -5,7 +5,7 @@ ghost use Rattle.tlv_walk.specs.Events.{Begin, Bytes, Close, End, Enter};
 ghost use Rattle.tlv_io.specs.Out.{Puts};
 ghost use Rattle.tlv_walk.specs.HasRead.{event_value};
 ghost use Rattle.tlv_show.specs.DumpStep.{dump_octet_step, dump_padding_step, dump_step, findings_first, new_dump};
-ghost use Rattle.tlv_show.specs.FinderState.{find_open};
+ghost use Rattle.tlv_show.specs.FinderState.{finder_open_step};
 ghost use Rattle.tlv_show.specs.LinesStep.{lines_open_step};
 ghost use Rattle.tlv_show.specs.DumpJob.{top_layout};
 
@@ -140,10 +140,10 @@ impl Dump<'_> {
     ) -> Result<(), WriteFault>
         requires { length word.now ≤ 16 }
         ensures state { OnOk result
-            (self.new ≡ (findings_first self.old (find_open self.old.finder header.now)
+            (self.new ≡ (findings_first self.old (finder_open_step self.old.finder header.now)
             (lines_open_step self.old.lines header.now word.now)).state) }
         ensures puts { Puts D.state out.old out.new
-            (findings_first self.old (find_open self.old.finder header.now)
+            (findings_first self.old (finder_open_step self.old.finder header.now)
             (lines_open_step self.old.lines header.now word.now)).put result }
     {
         let has_findings = self.finder.open(header);

@@ -2,13 +2,13 @@
 ghost use Rattle.std.specs.Prelude.{◌≡◌, [], if◌then◌else◌, length};
 ghost use Rattle.tlv_head.specs.Header.{announced_length};
 ghost use Rattle.tlv_walk.specs.HasRead.{event_value};
-ghost use Rattle.tlv_show.specs.FinderState.{end_notes, find_begin, find_bytes, find_close, find_end, find_open, finder_at_value, finder_inside, finds, finds_nothing, header_notes, new_finder};
-ghost use Rattle.tlv_show.specs.Private.FinderState.{PassesOrStays, ReportsFindings, find_step, with_state};
+ghost use Rattle.tlv_show.specs.FinderState.{end_findings_in, finder_at_value, finder_begin_step, finder_bytes_step, finder_close_step, finder_end_step, finder_inside, finder_open_step, header_findings_in, new_finder, with_findings, without_findings};
+ghost use Rattle.tlv_show.specs.Private.FinderState.{PassesOrStays, ReportsFindings, finder_step, with_state};
 
 use crate::Rules;
-use crate::contents_findings::note_contents;
+use crate::contents_findings::add_contents_findings;
 use crate::frames::SiblingFrame;
-use crate::header_findings::{is_plain, is_plain_if_usual, note_end, note_header};
+use crate::header_findings::{add_end_findings, add_header_findings, is_plain, is_plain_if_usual};
 use crate::nesting::Nesting;
 use arrayvec::ArrayVec;
 use std::marker::Model;
@@ -81,7 +81,7 @@ impl Model for Finder {
 impl Finder {
     /// A finder of which no event has come.
     pub fn new(rules: Rules) -> Finder
-        ensures { result ≡ finds_nothing (new_finder rules) }
+        ensures { result ≡ without_findings (new_finder rules) }
     {
         Finder {
             rules,
@@ -132,7 +132,7 @@ impl Finder {
     #[inline(always)]
     pub fn find(&mut self, event: &Event<'_>) -> bool
         ensures { ReportsFindings
-            (find_step self.old.state (event_value event.now)) self.new result }
+            (finder_step self.old.state (event_value event.now)) self.new result }
     {
         match event {
             Event::Open(header) | Event::Enter(header) => self.open(header),
@@ -172,8 +172,8 @@ impl Finder {
     #[inline(always)]
     fn header(&mut self, header: &Header) -> bool
         ensures { ReportsFindings
-            (finds self.old.state (length self.old.state.outer) header.now.offset
-            (header_notes self.old.state.rules self.old.state.frame header.now)) self.new result }
+            (with_findings self.old.state (length self.old.state.outer) header.now.offset
+            (header_findings_in self.old.state.rules self.old.state.frame header.now)) self.new result }
     {
         if is_plain(self.rules, self.holders.frame(), header) {
             return false;
@@ -185,12 +185,12 @@ impl Finder {
     /// Looks for all that may be found with a header.
     #[inline(always)]
     fn look(&mut self, header: &Header)
-        ensures { self.new ≡ finds self.old.state (length self.old.state.outer) header.now.offset
-            (header_notes self.old.state.rules self.old.state.frame header.now) }
+        ensures { self.new ≡ with_findings self.old.state (length self.old.state.outer) header.now.offset
+            (header_findings_in self.old.state.rules self.old.state.frame header.now) }
     {
         let level = self.holders.level();
         self.last.restart(level, header.offset);
-        note_header(
+        add_header_findings(
             self.rules,
             self.holders.frame(),
             header,
@@ -220,7 +220,7 @@ impl Finder {
     /// An element that holds others begins.
     #[inline(always)]
     pub fn open(&mut self, header: &Header) -> bool
-        ensures { ReportsFindings (find_open self.old.state header.now) self.new result }
+        ensures { ReportsFindings (finder_open_step self.old.state header.now) self.new result }
     {
         // Most such elements are no strings, and nothing is found with them.
         if is_plain(self.rules, self.holders.frame(), header) {
@@ -235,7 +235,7 @@ impl Finder {
     /// A primitive begins.
     #[inline(always)]
     pub fn begin(&mut self, header: &Header) -> bool
-        ensures { ReportsFindings (find_begin self.old.state header.now) self.new result }
+        ensures { ReportsFindings (finder_begin_step self.old.state header.now) self.new result }
     {
         let has_findings = self.header(header);
         self.enter_value(header);
@@ -245,7 +245,7 @@ impl Finder {
     /// Contents of a primitive go on. Those past the octets that were announced do not count.
     #[inline(always)]
     pub fn bytes(&mut self, octets: &[u8])
-        ensures { self.new ≡ with_state (find_bytes self.old.state octets.now) self.old }
+        ensures { self.new ≡ with_state (finder_bytes_step self.old.state octets.now) self.old }
     {
         if self.is_open && !octets.is_empty() {
             let count = self.check.left().min(octets.len() as u64) as usize;
@@ -256,7 +256,7 @@ impl Finder {
     /// A primitive ends.
     #[inline(always)]
     pub fn end(&mut self) -> bool
-        ensures { ReportsFindings (find_end self.old.state) self.new result }
+        ensures { ReportsFindings (finder_end_step self.old.state) self.new result }
     {
         if !self.is_open {
             return false;
@@ -270,7 +270,7 @@ impl Finder {
         }
         let level = self.holders.level();
         self.last.restart(level, self.at);
-        note_contents(self.rules, check, &mut self.last.findings);
+        add_contents_findings(self.rules, check, &mut self.last.findings);
         self.count = self.count.saturating_add(self.last.findings.len() as u64);
         true
     }
@@ -278,7 +278,7 @@ impl Finder {
     /// An element that holds others ends.
     #[inline(always)]
     pub fn close(&mut self) -> bool
-        ensures { ReportsFindings (find_close self.old.state) self.new result }
+        ensures { ReportsFindings (finder_close_step self.old.state) self.new result }
     {
         match self.holders.leave() {
             Some(closed) => self.look_at_end(&closed),
@@ -289,11 +289,11 @@ impl Finder {
     /// Finds what is to be found with the end of an element that held segments.
     #[inline(never)]
     fn look_at_end(&mut self, closed: &SiblingFrame) -> bool
-        ensures { ReportsFindings (finds self.old.state (length self.old.state.outer) closed.now.at
-            (end_notes self.old.state.rules closed.now)) self.new result }
+        ensures { ReportsFindings (with_findings self.old.state (length self.old.state.outer) closed.now.at
+            (end_findings_in self.old.state.rules closed.now)) self.new result }
     {
         self.last.restart(self.holders.level(), closed.at);
-        note_end(self.rules, closed, &mut self.last.findings);
+        add_end_findings(self.rules, closed, &mut self.last.findings);
         self.count = self.count.saturating_add(self.last.findings.len() as u64);
         true
     }

@@ -4,7 +4,7 @@ ghost use Rattle.tlv_io.specs.LineTexts.{HasRoomFor};
 ghost use Rattle.tlv_io.specs.Out.{Puts};
 ghost use Rattle.tlv_show.specs.CheckStep.{styled_line, styled_lines};
 ghost use Rattle.tlv_show.specs.Private.CheckStep.{last_finding_lines};
-ghost use Rattle.tlv_show.specs.Private.FinderState.{finds_if};
+ghost use Rattle.tlv_show.specs.Private.FinderState.{with_findings_if};
 ghost use Rattle.tlv_show.specs.Texts.{check_finding_line, finding_line};
 
 use crate::finder::Finder;
@@ -29,7 +29,7 @@ pub(crate) fn put_findings<D: Drain>(
     out: &mut Out<'_, D>,
 ) -> Result<(), WriteFault>
     ensures { Puts D.state out.old out.new
-        (last_finding_lines style (finds_if has_findings finder.now)) result }
+        (last_finding_lines style (with_findings_if has_findings finder.now)) result }
 {
     if !has_findings {
         return Ok(());

@@ -76,7 +76,7 @@ pub(crate) fn note_element(frame: &mut SiblingFrame, is_primitive: bool, size: u
 
 /// A frame, and its floor: how many elements hold what stands directly in its element.
 #[derive(Clone, Copy, Default)]
-pub(crate) struct Kept {
+pub(crate) struct KeptFrame {
     pub frame: SiblingFrame,
     pub floor: u8,
 }

@@ -4,7 +4,7 @@ ghost use Rattle.tlv_value.specs.CheckNotes.{finding_if};
 ghost use Rattle.tlv_value.specs.Types.{has_segments};
 ghost use Rattle.tlv_show.specs.Conditions.{has_high_form, leading_bits};
 ghost use Rattle.tlv_show.specs.Private.UsualTypes.{IsUsual};
-ghost use Rattle.tlv_show.specs.FinderState.{basic_notes, cer_notes, der_notes, end_notes, header_notes, length_notes};
+ghost use Rattle.tlv_show.specs.FinderState.{basic_findings_in, cer_findings_in, der_findings, end_findings_in, header_findings_in, length_findings};
 
 use crate::Rules;
 use crate::frames::SiblingFrame;
@@ -16,27 +16,27 @@ use arrayvec::ArrayVec;
 use tlv_head::{Header, universal};
 use tlv_value::Finding;
 
-/// Notes what is found with a header, in order, by the frame of the element that holds it.
+/// Adds what is found with a header, in order, by the frame of the element that holds it.
 #[inline(always)]
-pub(crate) fn note_header(
+pub(crate) fn add_header_findings(
     rules: Rules,
     frame: &SiblingFrame,
     header: &Header,
     found: &mut ArrayVec<Finding, 16>,
 )
     requires { found.old.items ≡ [] }
-    ensures { found.new.items ≡ header_notes rules frame.now header.now }
+    ensures { found.new.items ≡ header_findings_in rules frame.now header.now }
 {
-    note_basic(frame, header, found);
+    add_basic_findings(frame, header, found);
     match rules {
         Rules::Ber => {}
         Rules::Der => {
-            note_length(header, found);
-            note_der(header, found);
+            add_length_findings(header, found);
+            add_der_findings(header, found);
         }
         Rules::Cer => {
-            note_length(header, found);
-            note_cer(frame, header, found);
+            add_length_findings(header, found);
+            add_cer_findings(frame, header, found);
         }
     }
 }
@@ -44,7 +44,7 @@ pub(crate) fn note_header(
 /// Whether nothing is found with a header, as far as a short look shows.
 #[inline(always)]
 pub(crate) fn is_plain(rules: Rules, frame: &SiblingFrame, header: &Header) -> bool
-    ensures notes { IsTrue result → header_notes rules frame.now header.now ≡ [] }
+    ensures findings { IsTrue result → header_findings_in rules frame.now header.now ≡ [] }
     ensures segments { IsTrue result → (frame.now.has_segments || has_segments header.now) ≡ false }
 {
     is_usual(header) && is_plain_if_usual(rules, frame, header)
@@ -54,8 +54,8 @@ pub(crate) fn is_plain(rules: Rules, frame: &SiblingFrame, header: &Header) -> b
 /// for: callers look at it first, or with the contents.
 #[inline(always)]
 pub(crate) fn is_plain_if_usual(rules: Rules, frame: &SiblingFrame, header: &Header) -> bool
-    ensures notes { IsTrue result → IsUsual header.now
-        → header_notes rules frame.now header.now ≡ [] }
+    ensures findings { IsTrue result → IsUsual header.now
+        → header_findings_in rules frame.now header.now ≡ [] }
     ensures segments { IsTrue result → frame.now.has_segments ≡ false }
 {
     if frame.has_segments || !is_tag_usual(header) {
@@ -113,19 +113,23 @@ fn is_usual(header: &Header) -> bool
     }
 }
 
-/// Notes what is found with the end of the element whose frame this is.
+/// Adds what is found with the end of the element whose frame this is.
 #[inline(always)]
-pub(crate) fn note_end(rules: Rules, frame: &SiblingFrame, found: &mut ArrayVec<Finding, 16>)
+pub(crate) fn add_end_findings(
+    rules: Rules,
+    frame: &SiblingFrame,
+    found: &mut ArrayVec<Finding, 16>,
+)
     requires { found.old.items ≡ [] }
-    ensures { found.new.items ≡ end_notes rules frame.now }
+    ensures { found.new.items ≡ end_findings_in rules frame.now }
 {
     if matches!(rules, Rules::Cer) {
-        note(
+        add_if(
             frame.has_segments && frame.all_primitive && fits(frame),
             Finding::C05,
             found,
         );
-        note(frame.has_segments && frame.is_empty, Finding::C06, found);
+        add_if(frame.has_segments && frame.is_empty, Finding::C06, found);
     }
 }
 
@@ -139,7 +143,7 @@ fn fits(frame: &SiblingFrame) -> bool
 
 /// Adds a finding, if it is there.
 #[inline(always)]
-fn note(there: bool, finding: Finding, found: &mut ArrayVec<Finding, 16>)
+fn add_if(there: bool, finding: Finding, found: &mut ArrayVec<Finding, 16>)
     requires { length found.old.items < 16 }
     ensures items { found.new.items ≡ found.old.items ++ finding_if there finding }
     ensures few { length found.new.items ≤ length found.old.items + 1 }
@@ -149,37 +153,37 @@ fn note(there: bool, finding: Finding, found: &mut ArrayVec<Finding, 16>)
     }
 }
 
-/// Notes what violates the rules of all encodings.
+/// Adds what violates the rules of all encodings.
 #[inline(always)]
-fn note_basic(frame: &SiblingFrame, header: &Header, found: &mut ArrayVec<Finding, 16>)
+fn add_basic_findings(frame: &SiblingFrame, header: &Header, found: &mut ArrayVec<Finding, 16>)
     requires { found.old.items ≡ [] }
-    ensures items { found.new.items ≡ basic_notes frame.now header.now }
+    ensures items { found.new.items ≡ basic_findings_in frame.now header.now }
     ensures few { length found.new.items ≤ 7 }
 {
     let is_high = has_high_form(header);
-    note(is_high && header.number < 31, Finding::B01, found);
-    note(
+    add_if(is_high && header.number < 31, Finding::B01, found);
+    add_if(
         is_high && header.number_octet() % 128 == 0,
         Finding::B02,
         found,
     );
-    note(is_unassigned(header), Finding::B03, found);
-    note(
+    add_if(is_unassigned(header), Finding::B03, found);
+    add_if(
         header.constructed && is_always_primitive(header),
         Finding::B04,
         found,
     );
-    note(
+    add_if(
         !header.constructed && is_always_constructed(header),
         Finding::B05,
         found,
     );
-    note(
+    add_if(
         frame.has_segments && frame.has_bits && frame.is_unused,
         Finding::B16,
         found,
     );
-    note(
+    add_if(
         frame.has_segments && !is_segment(frame.has_bits, header),
         Finding::B17,
         found,
@@ -188,44 +192,44 @@ fn note_basic(frame: &SiblingFrame, header: &Header, found: &mut ArrayVec<Findin
 
 /// Adds a length that is not the shortest.
 #[inline(always)]
-fn note_length(header: &Header, found: &mut ArrayVec<Finding, 16>)
+fn add_length_findings(header: &Header, found: &mut ArrayVec<Finding, 16>)
     requires { length found.old.items ≤ 7 }
-    ensures items { found.new.items ≡ found.old.items ++ length_notes header.now }
+    ensures items { found.new.items ≡ found.old.items ++ length_findings header.now }
     ensures few { length found.new.items ≤ 8 }
 {
-    note(is_length_padded(header), Finding::S01, found);
+    add_if(is_length_padded(header), Finding::S01, found);
 }
 
 /// Adds what violates the rules of DER alone.
 #[inline(always)]
-fn note_der(header: &Header, found: &mut ArrayVec<Finding, 16>)
+fn add_der_findings(header: &Header, found: &mut ArrayVec<Finding, 16>)
     requires { length found.old.items ≤ 8 }
-    ensures { found.new.items ≡ found.old.items ++ der_notes header.now }
+    ensures { found.new.items ≡ found.old.items ++ der_findings header.now }
 {
-    note(is_indefinite(header), Finding::D01, found);
-    note(header.constructed && is_string(header), Finding::D02, found);
+    add_if(is_indefinite(header), Finding::D01, found);
+    add_if(header.constructed && is_string(header), Finding::D02, found);
 }
 
 /// Adds what violates the rules of CER alone.
 #[inline(always)]
-fn note_cer(frame: &SiblingFrame, header: &Header, found: &mut ArrayVec<Finding, 16>)
+fn add_cer_findings(frame: &SiblingFrame, header: &Header, found: &mut ArrayVec<Finding, 16>)
     requires { length found.old.items ≤ 8 }
-    ensures { found.new.items ≡ found.old.items ++ cer_notes frame.now header.now }
+    ensures { found.new.items ≡ found.old.items ++ cer_findings_in frame.now header.now }
 {
-    note(
+    add_if(
         header.constructed && !is_indefinite(header),
         Finding::C01,
         found,
     );
-    note(
+    add_if(
         !header.constructed && is_string(header) && size_of(header) > 1000,
         Finding::C02,
         found,
     );
-    note(
+    add_if(
         header.constructed && frame.has_segments,
         Finding::C03,
         found,
     );
-    note(frame.has_segments && frame.is_not_full, Finding::C04, found);
+    add_if(frame.has_segments && frame.is_not_full, Finding::C04, found);
 }

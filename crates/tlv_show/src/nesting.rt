@@ -2,11 +2,11 @@
 ghost use Rattle.std.specs.Prelude.{◌≡◌, ◌||◌, false, length, true};
 ghost use Rattle.tlv_head.specs.Header.{HeaderValue};
 ghost use Rattle.tlv_value.specs.Types.{has_segments};
-ghost use Rattle.tlv_show.specs.FinderState.{frame_after, header_notes};
+ghost use Rattle.tlv_show.specs.FinderState.{frame_after, header_findings_in};
 ghost use Rattle.tlv_show.specs.Private.Nesting.{TakesBack, nesting_inside, nesting_outside, new_nesting, segments_left};
 ghost use Rattle.tlv_show.specs.declared.rules.Rules.{Rules};
 
-use crate::frames::{Kept, SiblingFrame, frame_of, note_element, top};
+use crate::frames::{KeptFrame, SiblingFrame, frame_of, note_element, top};
 use crate::headers::is_string;
 use std::marker::Model;
 use tlv_head::Header;
@@ -24,7 +24,7 @@ pub(crate) struct Nesting {
     /// open inside of it have no frame.
     floor: u8,
     /// The frames outside of it that are kept.
-    outer: Frames<Kept>,
+    outer: Frames<KeptFrame>,
 }
 
 impl Model for Nesting {
@@ -72,8 +72,8 @@ impl Nesting {
     #[inline(always)]
     pub fn frame(&self) -> &SiblingFrame
         ensures segments { result.now.has_segments ≡ self.now.frame.has_segments }
-        ensures notes { (rules : Rules) (h : HeaderValue)
-            → header_notes rules result.now h ≡ header_notes rules self.now.frame h }
+        ensures findings { (rules : Rules) (h : HeaderValue)
+            → header_findings_in rules result.now h ≡ header_findings_in rules self.now.frame h }
     {
         &self.frame
     }
@@ -91,7 +91,7 @@ impl Nesting {
             return;
         }
         self.level += 1;
-        self.outer.push(Kept {
+        self.outer.push(KeptFrame {
             frame: self.frame,
             floor: self.floor,
         });
@@ -156,7 +156,7 @@ fn has_frame(frame: &SiblingFrame, header: &Header) -> bool
 /// An element that has a frame ends: the frame outside is the innermost one again, and says of the element what has
 /// to be known of it.
 #[inline(never)]
-fn take_back(frame: &mut SiblingFrame, floor: &mut u8, outer: &mut Frames<Kept>)
+fn take_back(frame: &mut SiblingFrame, floor: &mut u8, outer: &mut Frames<KeptFrame>)
     ensures { TakesBack frame.old outer.old frame.new floor.new outer.new }
 {
     if let Some(kept) = outer.pop() {

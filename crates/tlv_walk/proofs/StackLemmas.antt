@@ -4,7 +4,7 @@ use Rattle.std.proofs.lemmas.Bool.{false_from_ne_true}
 use Rattle.tlv_walk.specs.declared.stack.Frame.{Frame as Kept}
 use Rattle.tlv_walk.specs.declared.stack.Holder.{Holder}
 use Rattle.tlv_walk.specs.declared.stack.Holder.TheVariants.{Input, Definite, Indefinite, Wrapper}
-use Rattle.tlv_walk.specs.Stack.{Frame, IsFilled, IsInIndefinite, IsInWrapper, Within, bound_of}
+use Rattle.tlv_walk.specs.Stack.{Frame, IsFilled, IsInIndefinite, IsInWrapper, IsWithin, bound_of}
 use Rattle.tlv_walk.specs.Private.Stack.{frame_inside}
 use Rattle.tlv_walk.specs.Private.FrameFields.{AreHolders, HasEnd, bound_from, end_from, frame_from, frames_from, wraps_from}
 
@@ -34,11 +34,11 @@ pub bound-frames : (i : Kept) (fs : List Kept) (now : List Frame) → AreHolders
 bound-frames i fs now h shown = sym (ap bound_of shown) ∙ bound-frames_in i fs h
 
 within_at : (n end : ℕ) (b : Bool) → eqb n (2 ^ 64 - 1) ≡ b → end ≤ 2 ^ 64 - 1
-    → (end ≤ n) ↔ Within (if b then None else Some n) end
+    → (end ≤ n) ↔ IsWithin (if b then None else Some n) end
 within_at n end true e most = ((λ h. tt), (λ h. omega (arith, eqb-true n (2 ^ 64 - 1) e)))
 within_at n end false e most = ((λ h. h), (λ h. h))
 
-pub within_bound : (n end : ℕ) → end ≤ 2 ^ 64 - 1 → (end ≤ n) ↔ Within (bound_from n) end
+pub within_bound : (n end : ℕ) → end ≤ 2 ^ 64 - 1 → (end ≤ n) ↔ IsWithin (bound_from n) end
 within_bound n end most = within_at n end (eqb n (2 ^ 64 - 1)) refl most
 
 -- what the innermost element is

@@ -7,43 +7,43 @@ use Rattle.tlv_head.specs.Refusal.{IsRefusedOctet}
 use Rattle.tlv_walk.specs.declared.framing.Framing.{Framing}
 use Rattle.tlv_walk.specs.declared.ending.Ending.{Ending}
 use Rattle.tlv_walk.specs.declared.ending.Ending.TheVariants.{Done, Fault}
-use Rattle.tlv_walk.specs.Forest.{Forest, Stop, Fill, Whole, Closed, Entered, Awaiting, Begun, Zero, extent, has_element, is_complete, spell}
-use Rattle.tlv_walk.specs.Place.{Fits, IsHeadAt, Place, place_after, place_of_children, top_place}
+use Rattle.tlv_walk.specs.Forest.{Forest, NoMore, PaddingOctet, Primitive, Holder, OpenHolder, OpenBitString, OpenHeader, OpenEndOctets, extent, has_element, is_complete, spelling}
+use Rattle.tlv_walk.specs.Place.{Fits, IsHeaderAt, Place, place_after, place_of_children, top_place}
 use Rattle.tlv_walk.specs.Reading.{CannotBecomeSound, IsReading, IsSoundList}
 
 -- where the innermost open end of a forest that begins there begins, and what is there: nothing between encodings
--- (`Stop`), or a primitive, a wrapping BIT STRING, a header or end-of-contents octets that lack octets
+-- (`NoMore`), or a primitive, a wrapping BIT STRING, a header or end-of-contents octets that lack octets
 abbrev pub tip : Place → Forest → Place × Forest
-tip p (Fill rest) = tip (place_after p 1) rest
-tip p (Whole h c rest) = tip (place_after p (length (octets_of h) + length c)) rest
-tip p (Closed h children rest) = tip (place_after p (extent h children)) rest
-tip p (Entered h children) = tip (place_of_children p h) children
+tip p (PaddingOctet rest) = tip (place_after p 1) rest
+tip p (Primitive h c rest) = tip (place_after p (length (octets_of h) + length c)) rest
+tip p (Holder h children rest) = tip (place_after p (extent h children)) rest
+tip p (OpenHolder h children) = tip (place_of_children p h) children
 tip p end = (p, end)
 
 -- why the octet x is refused at an open end that begins at p: a line for each cause. The bound is looked at before
 -- the octet
 pub data IsFault (p : Place) (x : ℕ) : Forest → FaultCode → Type 0 where
   -- 8.6.2.2: a wrapping BIT STRING must begin with 00
-  bad_inside : {h : HeaderValue} → x ≢ 0 → IsFault p x (Awaiting h) BadInside
+  bad_inside : {h : HeaderValue} → x ≢ 0 → IsFault p x (OpenBitString h) BadInside
   -- 8.1.5: the second 00 is missing at the bound, or is another octet
-  missing_end : (Fits p 2 → ⊥) → IsFault p x Zero MissingEnd
-  bad_end : Fits p 2 → x ≢ 0 → IsFault p x Zero BadEnd
+  missing_end : (Fits p 2 → ⊥) → IsFault p x OpenEndOctets MissingEnd
+  bad_end : Fits p 2 → x ≢ 0 → IsFault p x OpenEndOctets BadEnd
   -- 8.1.3.3: the header passes the bound
-  no_room : {o : List ℕ} → (Fits p (length o + 1) → ⊥) → IsFault p x (Begun o) Overrun
+  no_room : {o : List ℕ} → (Fits p (length o + 1) → ⊥) → IsFault p x (OpenHeader o) Overrun
   -- F06 to F09: no header goes on with that octet
   refused_octet : {o : List ℕ} {code : FaultCode} → Fits p (length o + 1) → IsRefusedOctet o x code
-      → IsFault p x (Begun o) code
+      → IsFault p x (OpenHeader o) code
   -- 8.1.4: the header of an element that holds others, inside 128 of them
-  too_deep : {o : List ℕ} → Fits p (length o + 1) → (h : HeaderValue) → IsHeadAt p true h → octets_of h ≡ o ++ x ∷ []
-      → 128 ≤ p.depth → IsFault p x (Begun o) TooDeep
+  too_deep : {o : List ℕ} → Fits p (length o + 1) → (h : HeaderValue) → IsHeaderAt p true h → octets_of h ≡ o ++ x ∷ []
+      → 128 ≤ p.depth → IsFault p x (OpenHeader o) TooDeep
   -- 8.1.3.3: the header of contents that end past the bound
-  overrun : {o : List ℕ} → Fits p (length o + 1) → (h : HeaderValue) → IsHeadAt p (holds h) h
+  overrun : {o : List ℕ} → Fits p (length o + 1) → (h : HeaderValue) → IsHeaderAt p (holds h) h
       → octets_of h ≡ o ++ x ∷ [] → (holds h ≡ true → p.depth < 128)
-      → (Fits p (length (octets_of h) + announced_length h.size) → ⊥) → IsFault p x (Begun o) Overrun
+      → (Fits p (length (octets_of h) + announced_length h.size) → ⊥) → IsFault p x (OpenHeader o) Overrun
   -- 8.1.5: no end-of-contents octets before the bound
-  no_end : p.indefinite ≡ true → (Fits p 1 → ⊥) → IsFault p x Stop MissingEnd
+  no_end : p.indefinite ≡ true → (Fits p 1 → ⊥) → IsFault p x NoMore MissingEnd
   -- 8.1.5: 00 where no end-of-contents octets can stand, and no padding
-  stray_end : p.indefinite ≡ false → p.padding ≡ false → x ≡ 0 → IsFault p x Stop StrayEnd
+  stray_end : p.indefinite ≡ false → p.padding ≡ false → x ≡ 0 → IsFault p x NoMore StrayEnd
 
 abbrev pub fault : FaultCode → ℕ → Ending
 fault code offset = Fault (record { code = code; offset = offset })
@@ -51,18 +51,18 @@ fault code offset = Fault (record { code = code; offset = offset })
 -- the ending of an input
 pub data IsEnding (framing : Framing) (b : List ℕ) : Ending → Type 0 where
   -- F01: no octet of an element came
-  empty : (f : Forest) → IsReading framing b f → spell f ≡ b → has_element f ≡ false
+  empty : (f : Forest) → IsReading framing b f → spelling f ≡ b → has_element f ≡ false
       → IsEnding framing b (fault Empty (length b))
   -- F02: something is open
-  short : (f : Forest) → IsReading framing b f → spell f ≡ b → is_complete f ≡ false
+  short : (f : Forest) → IsReading framing b f → spelling f ≡ b → is_complete f ≡ false
       → IsEnding framing b (fault Short (length b))
   -- one or more elements, and nothing is open
-  done : (f : Forest) → IsReading framing b f → spell f ≡ b → has_element f ≡ true → is_complete f ≡ true
+  done : (f : Forest) → IsReading framing b f → spelling f ≡ b → has_element f ≡ true → is_complete f ≡ true
       → IsEnding framing b Done
   -- the octet after the reading is refused
-  refused : (f : Forest) (x : ℕ) (rest : List ℕ) (code : FaultCode) → IsReading framing b f → spell f ++ x ∷ rest ≡ b
+  refused : (f : Forest) (x : ℕ) (rest : List ℕ) (code : FaultCode) → IsReading framing b f → spelling f ++ x ∷ rest ≡ b
       → IsFault (tip (top_place framing) f).0 x (tip (top_place framing) f).1 code
-      → IsEnding framing b (fault code (length (spell f)))
+      → IsEnding framing b (fault code (length (spelling f)))
 
 -- a code other than F01 and F02, which alone say that the input ends too early
 abbrev pub IsFinalCode : FaultCode → Type 0

@@ -3,20 +3,20 @@ use Rattle.std.specs.Prelude.{◌≡◌, ℕ, ◌+◌, if◌then◌else◌, List
 use Rattle.tlv_head.specs.declared.header.Size.{Size}
 use Rattle.tlv_head.specs.declared.header.Size.TheVariants.{Definite, Indefinite}
 use Rattle.tlv_head.specs.Header.{HeaderValue}
-use Rattle.tlv_walk.specs.Forest.{Forest, Stop, Fill, Whole, Closed, Partial, Entered, Awaiting, Begun, Zero, lead, opening, spell}
+use Rattle.tlv_walk.specs.Forest.{Forest, NoMore, PaddingOctet, Primitive, Holder, OpenPrimitive, OpenHolder, OpenBitString, OpenHeader, OpenEndOctets, lead, opening, spelling}
 
 -- an event, apart from where its octets lie in memory
 pub data EventValue : Type 0 where
   -- 8.1.2.5: a constructed element begins
-  Open : (head : HeaderValue) → EventValue
+  Open : (header : HeaderValue) → EventValue
   -- 8.1.2.5: a primitive begins, gives contents octets, and ends
-  Begin : (head : HeaderValue) → EventValue
+  Begin : (header : HeaderValue) → EventValue
   Bytes : (octets : List ℕ) → EventValue
   End : EventValue
   -- 8.1.5: a constructed element ends, with the offset of its end-of-contents octets, if it has them
   Close : (offset : Option ℕ) → EventValue
   -- 8.6.2, 8.7.2: a wrapper begins, gives the first contents octet of a BIT STRING, and ends
-  Enter : (head : HeaderValue) → EventValue
+  Enter : (header : HeaderValue) → EventValue
   Unused : EventValue
   Leave : EventValue
   -- octets 00 between encodings
@@ -34,19 +34,21 @@ opening_events h = (if h.constructed then Open h else Enter h) ∷ map (λ z. Un
 -- an element that holds others ends
 abbrev pub closing_event : HeaderValue → Forest → EventValue
 closing_event h children =
-    if h.constructed then Close (end_offset h.size (h.offset + length (opening h) + length (spell children))) else Leave
+    if h.constructed
+    then Close (end_offset h.size (h.offset + length (opening h) + length (spelling children)))
+    else Leave
 
 -- an open forest read off in order
 abbrev pub events : Forest → List EventValue
-events Stop = []
-events (Fill rest) = Pad (0 ∷ []) ∷ events rest
-events (Whole h c rest) = Begin h ∷ Bytes c ∷ End ∷ events rest
-events (Closed h children rest) = opening_events h ++ (events children ++ closing_event h children ∷ events rest)
-events (Partial h c) = Begin h ∷ Bytes c ∷ []
-events (Entered h children) = opening_events h ++ events children
-events (Awaiting h) = Enter h ∷ []
-events (Begun octets) = []
-events Zero = []
+events NoMore = []
+events (PaddingOctet rest) = Pad (0 ∷ []) ∷ events rest
+events (Primitive h c rest) = Begin h ∷ Bytes c ∷ End ∷ events rest
+events (Holder h children rest) = opening_events h ++ (events children ++ closing_event h children ∷ events rest)
+events (OpenPrimitive h c) = Begin h ∷ Bytes c ∷ []
+events (OpenHolder h children) = opening_events h ++ events children
+events (OpenBitString h) = Enter h ∷ []
+events (OpenHeader octets) = []
+events OpenEndOctets = []
 
 -- each octet by itself
 abbrev pub single_octets : List EventValue → List EventValue

@@ -7,23 +7,23 @@ use Rattle.tlv_head.specs.Header.{HeaderValue, definite_length, octets_of}
 -- 8.1.1.1, 8.1.4: whole elements, one after another, and then at most one open end
 pub data Forest : Type 0 where
   -- no more
-  Stop : Forest
+  NoMore : Forest
   -- an octet 00 between encodings
-  Fill : (rest : Forest) → Forest
+  PaddingOctet : (rest : Forest) → Forest
   -- a primitive with all its contents octets
-  Whole : (head : HeaderValue) (contents : List ℕ) (rest : Forest) → Forest
+  Primitive : (header : HeaderValue) (contents : List ℕ) (rest : Forest) → Forest
   -- an element that holds others and has ended: constructed, or a wrapper
-  Closed : (head : HeaderValue) (children rest : Forest) → Forest
+  Holder : (header : HeaderValue) (children rest : Forest) → Forest
   -- a primitive with fewer contents octets than its length
-  Partial : (head : HeaderValue) (contents : List ℕ) → Forest
+  OpenPrimitive : (header : HeaderValue) (contents : List ℕ) → Forest
   -- an element that holds others and has not ended, with what it holds so far
-  Entered : (head : HeaderValue) (children : Forest) → Forest
+  OpenHolder : (header : HeaderValue) (children : Forest) → Forest
   -- a wrapping BIT STRING without its first contents octet
-  Awaiting : (head : HeaderValue) → Forest
+  OpenBitString : (header : HeaderValue) → Forest
   -- the front of a header
-  Begun : (octets : List ℕ) → Forest
+  OpenHeader : (octets : List ℕ) → Forest
   -- the first of the end-of-contents octets
-  Zero : Forest
+  OpenEndOctets : Forest
 
 -- 8.6.2.2: the contents octets of a wrapper before what it holds: in a BIT STRING 00, no bit unused
 abbrev pub lead : HeaderValue → List ℕ
@@ -38,35 +38,35 @@ abbrev pub end_octets : Size → List ℕ
 end_octets size = if is_some (definite_length size) then [] else 0 ∷ 0 ∷ []
 
 -- 8.1.1.1: the octets
-abbrev pub spell : Forest → List ℕ
-spell Stop = []
-spell (Fill rest) = 0 ∷ spell rest
-spell (Whole h c rest) = octets_of h ++ (c ++ spell rest)
-spell (Closed h children rest) = opening h ++ (spell children ++ (end_octets h.size ++ spell rest))
-spell (Partial h c) = octets_of h ++ c
-spell (Entered h children) = opening h ++ spell children
-spell (Awaiting h) = octets_of h
-spell (Begun octets) = octets
-spell Zero = 0 ∷ []
+abbrev pub spelling : Forest → List ℕ
+spelling NoMore = []
+spelling (PaddingOctet rest) = 0 ∷ spelling rest
+spelling (Primitive h c rest) = octets_of h ++ (c ++ spelling rest)
+spelling (Holder h children rest) = opening h ++ (spelling children ++ (end_octets h.size ++ spelling rest))
+spelling (OpenPrimitive h c) = octets_of h ++ c
+spelling (OpenHolder h children) = opening h ++ spelling children
+spelling (OpenBitString h) = octets_of h
+spelling (OpenHeader octets) = octets
+spelling OpenEndOctets = 0 ∷ []
 
 -- 8.1.4: the number of contents octets so far of an element that holds others
 abbrev pub contents_length : HeaderValue → Forest → ℕ
-contents_length h children = length (lead h) + length (spell children)
+contents_length h children = length (lead h) + length (spelling children)
 
 -- 8.1.1.1: the number of octets of an element that holds others and has ended
 abbrev pub extent : HeaderValue → Forest → ℕ
-extent h children = length (opening h) + (length (spell children) + length (end_octets h.size))
+extent h children = length (opening h) + (length (spelling children) + length (end_octets h.size))
 
 -- nothing is open
 abbrev pub is_complete : Forest → Bool
-is_complete Stop = true
-is_complete (Fill rest) = is_complete rest
-is_complete (Whole h c rest) = is_complete rest
-is_complete (Closed h children rest) = is_complete rest
+is_complete NoMore = true
+is_complete (PaddingOctet rest) = is_complete rest
+is_complete (Primitive h c rest) = is_complete rest
+is_complete (Holder h children rest) = is_complete rest
 is_complete end = false
 
 -- an octet of an element is there
 abbrev pub has_element : Forest → Bool
-has_element Stop = false
-has_element (Fill rest) = has_element rest
+has_element NoMore = false
+has_element (PaddingOctet rest) = has_element rest
 has_element f = true

@@ -11,7 +11,7 @@ use Rattle.tlv_walk.specs.Events.{AreEqualJoined, Begin, Bytes, Close, End, Ente
 use Rattle.tlv_walk.specs.WalkerState.{WalkerState, first_without_string_in}
 use Rattle.tlv_walk.specs.OpenCount.{open_count}
 use Rattle.tlv_walk.specs.Stands.{IsIdle, Stands}
-use Rattle.tlv_walk.specs.Forest.{Forest, spell}
+use Rattle.tlv_walk.specs.Forest.{Forest, spelling}
 use Rattle.tlv_walk.specs.Reading.{CannotBecomeSound, IsReading}
 use Rattle.tlv_walk.specs.Wrappers.{first_without_string}
 
@@ -32,7 +32,7 @@ event_value (event.Pad octets) = Pad octets.now
 pub record IsRefusedAfter (framing : Framing) (p : List ℕ) (octet : ℕ) (past : List EventValue) (f : Fault)
     : Type 0 where
   pub reading : Forest
-  pub spelled : spell reading ≡ p
+  pub spelled : spelling reading ≡ p
   pub offset : f.offset ≡ length p
   pub all_events : AreEqualJoined past (events reading)
   pub stays : (c : List ℕ) → IsReading framing (p ++ octet ∷ c) reading

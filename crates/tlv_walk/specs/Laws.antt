@@ -3,7 +3,7 @@ use Rattle.std.specs.Prelude.{◌≡◌, ℕ, List, ◌++◌}
 use Rattle.tlv_head.specs.declared.fault.FaultCode.{FaultCode}
 use Rattle.tlv_walk.specs.declared.ending.Ending.{Ending}
 use Rattle.tlv_walk.specs.declared.framing.Framing.{Framing}
-use Rattle.tlv_walk.specs.Forest.{Forest, spell}
+use Rattle.tlv_walk.specs.Forest.{Forest, spelling}
 use Rattle.tlv_walk.specs.Place.{IsOpen, Place}
 use Rattle.tlv_walk.specs.Reading.{AreOctets, CannotBecomeSound, IsPrefixOf, IsReading}
 use Rattle.tlv_walk.specs.Events.{AreEqualJoined, EventValue, events}
@@ -11,12 +11,12 @@ use Rattle.tlv_walk.specs.Ending.{IsEnding, IsFinalCode, fault}
 
 -- each front of an open forest's spelling is the spelling of an open forest
 abbrev pub FrontsAreOpen : Type 0
-FrontsAreOpen = (p : Place) (f : Forest) (s : List ℕ) → IsOpen p f → IsPrefixOf s (spell f)
-    → (g : Forest) × IsOpen p g × (spell g ≡ s)
+FrontsAreOpen = (p : Place) (f : Forest) (s : List ℕ) → IsOpen p f → IsPrefixOf s (spelling f)
+    → (g : Forest) × IsOpen p g × (spelling g ≡ s)
 
 -- open forests that stand at one place and have one spelling are one forest, offsets included
 abbrev pub SpellingsAreExact : Type 0
-SpellingsAreExact = (p : Place) (f g : Forest) → IsOpen p f → IsOpen p g → spell f ≡ spell g → f ≡ g
+SpellingsAreExact = (p : Place) (f g : Forest) → IsOpen p f → IsOpen p g → spelling f ≡ spelling g → f ≡ g
 
 -- octets have a reading, and no other
 abbrev pub OctetsHaveOneReading : Type 0

@@ -14,7 +14,7 @@ use Rattle.tlv_walk.specs.Ending.{IsEnding, IsFinalEnding}
 use Rattle.tlv_walk.specs.Events.{AreEqualJoined, EventValue, events}
 use Rattle.tlv_walk.specs.Follow.{Effect, effect_of}
 use Rattle.tlv_walk.specs.FollowsEvents.{FollowsEvents}
-use Rattle.tlv_walk.specs.Forest.{Forest, spell}
+use Rattle.tlv_walk.specs.Forest.{Forest, spelling}
 use Rattle.tlv_walk.specs.Job.{drain_result, source_result}
 use Rattle.tlv_walk.specs.WalkerState.{WalkerState}
 use Rattle.tlv_io.specs.Out.{Sends}
@@ -87,7 +87,7 @@ module _ {S : Type 0} (next : S → EventValue → Effect S) (before after : Tur
     pub is_reading : IsReading before.walker.framing octets reading
     pub yields : AreEqualJoined (past ++ more) (events reading)
     pub ending : IsEnding before.walker.framing octets run.ending
-    pub spelled : run.octets ≡ length (spell reading)
+    pub spelled : run.octets ≡ length (spelling reading)
     pub unused : run.unused ≡ first_without_string before.walker.framing.inside reading
     pub framing : after.walker.framing ≡ before.walker.framing
     pub walker : StandsAtEnd after.walker octets (past ++ more)

@@ -7,7 +7,7 @@ use Rattle.tlv_head.specs.Header.{HeaderValue, IsHeader, announced_length, defin
 use Rattle.tlv_head.specs.Refusal.{IsFront}
 use Rattle.tlv_walk.specs.declared.framing.Framing.{Framing}
 use Rattle.tlv_walk.specs.Inside.{is_among}
-use Rattle.tlv_walk.specs.Forest.{Awaiting, Begun, Closed, Entered, Fill, Forest, Partial, Stop, Whole, Zero, contents_length, extent, is_complete, lead, opening}
+use Rattle.tlv_walk.specs.Forest.{Forest, Holder, NoMore, OpenBitString, OpenEndOctets, OpenHeader, OpenHolder, OpenPrimitive, PaddingOctet, Primitive, contents_length, extent, is_complete, lead, opening}
 
 -- where a forest is
 pub record Place : Type 0 where
@@ -59,7 +59,7 @@ abbrev pub Fits : Place → ℕ → Type 0
 Fits p n = IfSome p.bound (λ b. p.at + n ≤ b)
 
 -- 8.1.2, 8.1.3: a header is there, of an element that holds others or of one that does not
-pub record IsHeadAt (p : Place) (holding : Bool) (h : HeaderValue) : Type 0 where
+pub record IsHeaderAt (p : Place) (holding : Bool) (h : HeaderValue) : Type 0 where
   pub valid : IsHeader h
   pub offset : h.offset ≡ p.at
   pub named : h.named ≡ is_among p.at p.inside
@@ -67,7 +67,7 @@ pub record IsHeadAt (p : Place) (holding : Bool) (h : HeaderValue) : Type 0 wher
 
 -- 8.1.4: an element is there, in at most 127 others if it holds others, and n octets of it do not pass the bound
 pub record IsElementAt (p : Place) (holding : Bool) (h : HeaderValue) (n : ℕ) : Type 0 where
-  pub header : IsHeadAt p holding h
+  pub header : IsHeaderAt p holding h
   pub depth : holding ≡ true → p.depth < 128
   pub fits : Fits p n
 
@@ -77,27 +77,27 @@ IsEntry p holding h = IsElementAt p holding h (length (octets_of h) + announced_
 
 -- an open forest: each element in it stands by the rules, and no octet and no announced end lies past the bound
 abbrev pub IsOpen : Place → Forest → Type 0
-IsOpen p Stop = Unit {0}
+IsOpen p NoMore = Unit {0}
 -- an octet 00 between encodings
-IsOpen p (Fill rest) = ((p.padding ≡ true) × (p.indefinite ≡ false) × Fits p 1) × IsOpen (place_after p 1) rest
+IsOpen p (PaddingOctet rest) = ((p.padding ≡ true) × (p.indefinite ≡ false) × Fits p 1) × IsOpen (place_after p 1) rest
 -- 8.1.4: a primitive with all its contents octets
-IsOpen p (Whole h c rest) =
+IsOpen p (Primitive h c rest) =
     (IsElementAt p false h (length (octets_of h) + length c) × (h.size ≡ Definite (length c)))
     × IsOpen (place_after p (length (octets_of h) + length c)) rest
 -- 8.1.4, 8.1.5: an element that holds others and has ended. 8.1.3.3: a definite length is that of the contents
-IsOpen p (Closed h children rest) =
+IsOpen p (Holder h children rest) =
     (IsElementAt p true h (extent h children) × (is_complete children ≡ true)
     × IfSome (definite_length h.size) (λ n. contents_length h children ≡ n))
     × IsOpen (place_of_children p h) children × IsOpen (place_after p (extent h children)) rest
 -- 8.1.4: a primitive that lacks contents octets
-IsOpen p (Partial h c) = IsEntry p false h × (length c < announced_length h.size)
+IsOpen p (OpenPrimitive h c) = IsEntry p false h × (length c < announced_length h.size)
 -- 8.1.4: an element that holds others and has not ended: if what it holds is whole, and the length is
 -- definite, contents octets are lacking
-IsOpen p (Entered h children) =
+IsOpen p (OpenHolder h children) =
     (IsEntry p true h × (is_complete children ≡ true → IfSome (definite_length h.size) (λ n. contents_length h children < n)))
     × IsOpen (place_of_children p h) children
 -- 8.6.2.2: a wrapping BIT STRING of which the header alone is there
-IsOpen p (Awaiting h) = IsEntry p true h × (lead h ≡ 0 ∷ [])
+IsOpen p (OpenBitString h) = IsEntry p true h × (lead h ≡ 0 ∷ [])
 -- the front of a header, or the first of the end-of-contents octets, inside the bound
-IsOpen p (Begun octets) = (octets ≢ []) × IsFront octets × Fits p (length octets)
-IsOpen p Zero = (p.indefinite ≡ true) × Fits p 1
+IsOpen p (OpenHeader octets) = (octets ≢ []) × IsFront octets × Fits p (length octets)
+IsOpen p OpenEndOctets = (p.indefinite ≡ true) × Fits p 1

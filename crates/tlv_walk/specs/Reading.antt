@@ -3,8 +3,8 @@ use Rattle.std.specs.Prelude.{◌≡◌, ℕ, ◌+◌, ◌<◌, ◌≤◌, true,
 use Rattle.tlv_head.specs.declared.header.Size.TheVariants.{Definite}
 use Rattle.tlv_head.specs.Header.{definite_length, octets_of}
 use Rattle.tlv_walk.specs.declared.framing.Framing.{Framing}
-use Rattle.tlv_walk.specs.Forest.{Closed, Fill, Forest, Stop, Whole, contents_length, extent, has_element, spell}
-use Rattle.tlv_walk.specs.Place.{IsHeadAt, IsOpen, Place, place_after, place_of_children, top_place}
+use Rattle.tlv_walk.specs.Forest.{Forest, Holder, NoMore, PaddingOctet, Primitive, contents_length, extent, has_element, spelling}
+use Rattle.tlv_walk.specs.Place.{IsHeaderAt, IsOpen, Place, place_after, place_of_children, top_place}
 
 -- octets, each below 256
 abbrev pub AreOctets : List ℕ → Type 0
@@ -17,19 +17,20 @@ IsPrefixOf p b = (rest : List ℕ) × (p ++ rest ≡ b)
 -- the reading of an input: the open forest that spells the longest front of it that any open forest spells
 pub record IsReading (framing : Framing) (b : List ℕ) (f : Forest) : Type 0 where
   pub is_open : IsOpen (top_place framing) f
-  pub front : IsPrefixOf (spell f) b
-  pub longest : (g : Forest) → IsOpen (top_place framing) g → IsPrefixOf (spell g) b
-      → length (spell g) ≤ length (spell f)
+  pub front : IsPrefixOf (spelling f) b
+  pub longest : (g : Forest) → IsOpen (top_place framing) g → IsPrefixOf (spelling g) b
+      → length (spelling g) ≤ length (spelling f)
 
 -- 8.1.1 to 8.1.5: nothing is open, each definite length is that of the contents, and no element is held by
 -- more than 127 others; padding is between the outermost elements alone
 abbrev pub IsSound : Place → Forest → Type 0
-IsSound p Stop = Unit {0}
-IsSound p (Fill rest) = (p.padding ≡ true) × IsSound (place_after p 1) rest
-IsSound p (Whole h c rest) =
-    IsHeadAt p false h × (h.size ≡ Definite (length c)) × IsSound (place_after p (length (octets_of h) + length c)) rest
-IsSound p (Closed h children rest) =
-    IsHeadAt p true h × IfSome (definite_length h.size) (λ n. contents_length h children ≡ n) × (p.depth < 128)
+IsSound p NoMore = Unit {0}
+IsSound p (PaddingOctet rest) = (p.padding ≡ true) × IsSound (place_after p 1) rest
+IsSound p (Primitive h c rest) =
+    IsHeaderAt p false h × (h.size ≡ Definite (length c))
+    × IsSound (place_after p (length (octets_of h) + length c)) rest
+IsSound p (Holder h children rest) =
+    IsHeaderAt p true h × IfSome (definite_length h.size) (λ n. contents_length h children ≡ n) × (p.depth < 128)
     × IsSound (place_of_children p h) children × IsSound (place_after p (extent h children)) rest
 IsSound p end = ⊥
 
@@ -38,7 +39,7 @@ pub record IsSoundList (framing : Framing) (b : List ℕ) : Type 0 where
   pub forest : Forest
   pub sound : IsSound (top_place framing) forest
   pub some : has_element forest ≡ true
-  pub octets : spell forest ≡ b
+  pub octets : spelling forest ≡ b
 
 -- no input that begins with p is a sound list
 abbrev pub CannotBecomeSound : Framing → List ℕ → Type 0

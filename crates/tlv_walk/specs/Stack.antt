@@ -16,8 +16,8 @@ bound_of [] = None
 bound_of (f ∷ fs) = f.bound
 
 -- the offset does not lie past the bound
-abbrev pub Within : Option ℕ → ℕ → Type 0
-Within bound n = IfSome bound (λ b. n ≤ b)
+abbrev pub IsWithin : Option ℕ → ℕ → Type 0
+IsWithin bound n = IfSome bound (λ b. n ≤ b)
 
 -- the innermost element has the indefinite length
 abbrev pub IsInIndefinite : List Frame → Type 0
@@ -37,7 +37,7 @@ IsFilled (f ∷ fs) offset = f.end ≡ Some offset
 -- an element's bound is where it ends, or else the bound around it
 abbrev pub IsBound : Option ℕ → Option ℕ → Option ℕ → Type 0
 IsBound outer None bound = bound ≡ outer
-IsBound outer (Some e) bound = (bound ≡ Some e) × Within outer e
+IsBound outer (Some e) bound = (bound ≡ Some e) × IsWithin outer e
 
 abbrev pub IsNested : List Frame → Type 0
 IsNested [] = Unit {0}

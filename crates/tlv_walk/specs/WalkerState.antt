@@ -6,7 +6,7 @@ use Rattle.tlv_walk.specs.declared.event.Event.{Event}
 use Rattle.tlv_walk.specs.declared.event.Event.TheVariants as event
 use Rattle.tlv_walk.specs.declared.framing.Framing.{Framing}
 use Rattle.tlv_walk.specs.Phase.{Phase, Between, InHeader, InContents, BeforeUnused, InEnd, Failed}
-use Rattle.tlv_walk.specs.Stack.{Frame, IsInIndefinite, IsInWrapper, IsNested, Within, bound_of}
+use Rattle.tlv_walk.specs.Stack.{Frame, IsInIndefinite, IsInWrapper, IsNested, IsWithin, bound_of}
 
 pub record WalkerState : Type 0 where
   -- the open elements, innermost first
@@ -44,15 +44,15 @@ abbrev pub IsPhase : Phase → List Frame → ℕ → ℕ → Type 0
 IsPhase Between stack offset events = events + length stack ≤ offset
 IsPhase (InHeader r) stack offset events = IsInHeader r offset × (events + length stack + length r.octets ≤ offset)
 IsPhase (InContents left) stack offset events =
-    Within (bound_of stack) (offset + left) × (events + length stack + 1 ≤ offset)
+    IsWithin (bound_of stack) (offset + left) × (events + length stack + 1 ≤ offset)
 IsPhase BeforeUnused stack offset events =
-    IsInWrapper stack × Within (bound_of stack) (offset + 1) × (events + length stack ≤ offset)
+    IsInWrapper stack × IsWithin (bound_of stack) (offset + 1) × (events + length stack ≤ offset)
 IsPhase InEnd stack offset events = IsInIndefinite stack × (events + length stack + 1 ≤ offset)
 IsPhase (Failed fault) stack offset events = events + length stack ≤ offset
 
 pub record IsWalkerState (w : WalkerState) : Type 0 where
   pub nested : IsNested w.stack
-  pub within : Within (bound_of w.stack) w.offset
+  pub within : IsWithin (bound_of w.stack) w.offset
   pub limit : w.offset ≤ 2 ^ 40
   pub fewer : length w.stack ≤ 128
   pub phased : IsPhase w.phase w.stack w.offset w.events

@@ -3,7 +3,7 @@ use Rattle.std.specs.Prelude.{ℕ, not, if◌then◌else◌, List, [], ◌∷◌
 use Rattle.std.specs.List.{find}
 use Rattle.tlv_head.specs.Header.{HeaderValue}
 use Rattle.tlv_walk.specs.Events.{Enter, EventValue}
-use Rattle.tlv_walk.specs.Forest.{Forest, Fill, Whole, Closed, Entered, Awaiting}
+use Rattle.tlv_walk.specs.Forest.{Forest, PaddingOctet, Primitive, Holder, OpenHolder, OpenBitString}
 use Rattle.tlv_walk.specs.Inside.{is_among}
 
 -- of an element that holds others: the offset, if it is a wrapper
@@ -12,11 +12,11 @@ wrapper_at h = if h.constructed then [] else h.offset ∷ []
 
 -- the offsets of the wrappers
 abbrev pub wrappers : Forest → List ℕ
-wrappers (Fill rest) = wrappers rest
-wrappers (Whole h c rest) = wrappers rest
-wrappers (Closed h children rest) = wrapper_at h ++ (wrappers children ++ wrappers rest)
-wrappers (Entered h children) = wrapper_at h ++ wrappers children
-wrappers (Awaiting h) = wrapper_at h
+wrappers (PaddingOctet rest) = wrappers rest
+wrappers (Primitive h c rest) = wrappers rest
+wrappers (Holder h children rest) = wrapper_at h ++ (wrappers children ++ wrappers rest)
+wrappers (OpenHolder h children) = wrapper_at h ++ wrappers children
+wrappers (OpenBitString h) = wrapper_at h
 wrappers end = []
 
 -- the first offset of the list that is not among the others

@@ -33,15 +33,14 @@ pub struct Framing {
 }
 
 impl Inside {
-    ghost use Rattle.std.specs.Prelude.{◌≡◌, IfNone, IfSome, [], slice_get};
+    ghost use Rattle.std.specs.Prelude.{◌≡◌, MatchOption, [], slice_get};
     ghost use Rattle.tlv_walk.specs.Inside.{CanName, is_among};
 
     /// The offsets, if there are at most 16, each larger than the one before and at most 2^40;
     /// otherwise nothing. There may be none.
     pub fn new(offsets: &[u64]) -> Option<Inside>
-        ensures named { IfSome result (λ inside. inside ≡ offsets.now) }
-        ensures some { IfSome result (λ inside. CanName offsets.now) }
-        ensures none { IfNone result (CanName offsets.now → ⊥) }
+        ensures { MatchOption result (CanName offsets.now → ⊥)
+            (λ inside. (inside ≡ offsets.now) × CanName offsets.now) }
     {
         let mut named = ArrayVec::new();
         let mut least = 0;

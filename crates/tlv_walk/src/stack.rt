@@ -1,6 +1,6 @@
 //! The open elements that hold others.
 ghost use Rattle.std.specs.Prelude.{◌≡◌, ◌≢◌, ◌-◌, ◌^◌, ◌<◌, ◌≤◌, ◌↔◌, ◌∷◌, IfSome, IsTrue, None, [], length, drop, true};
-ghost use Rattle.tlv_walk.specs.Stack.{IsFilled, IsInIndefinite, IsInWrapper, Within, bound_of};
+ghost use Rattle.tlv_walk.specs.Stack.{IsFilled, IsInIndefinite, IsInWrapper, IsWithin, bound_of};
 ghost use Rattle.tlv_walk.specs.Private.Stack.{frame_inside, left_to, wraps_of};
 
 use crate::frames::Frames;
@@ -163,14 +163,14 @@ impl Stack {
     /// before it.
     #[inline(always)]
     pub fn reaches(&self, end: u64) -> bool
-        ensures { IsTrue result ↔ Within (bound_of self.now) end }
+        ensures { IsTrue result ↔ IsWithin (bound_of self.now) end }
     {
         end <= self.innermost.bound
     }
 
     /// How many octets there are from this offset to the bound.
     pub fn room(&self, offset: u64) -> Option<u64>
-        requires { Within (bound_of self.now) offset }
+        requires { IsWithin (bound_of self.now) offset }
         ensures { result ≡ left_to (bound_of self.now) offset }
     {
         room_to(self.bound(), offset)
@@ -179,7 +179,7 @@ impl Stack {
 
 /// How many octets there are from an offset to a bound.
 pub(crate) fn room_to(bound: Option<u64>, offset: u64) -> Option<u64>
-    requires { Within bound offset }
+    requires { IsWithin bound offset }
     ensures { result ≡ left_to bound offset }
 {
     match bound {

@@ -8,7 +8,7 @@ use Rattle.tlv_head.specs.Private.Header.{AllowsSize}
 use Rattle.tlv_walk.specs.declared.follow.Go.TheVariants as go
 use Rattle.tlv_walk.specs.Events.{Begin, Bytes, End, Enter, EventValue, closing_event, events, opening_events}
 use Rattle.tlv_walk.specs.Follow.{Effect, go_of, no_effect}
-use Rattle.tlv_walk.specs.Forest.{Forest, Stop, Fill, Whole, Closed, Partial, Entered, Awaiting, Begun, Zero}
+use Rattle.tlv_walk.specs.Forest.{Forest, NoMore, PaddingOctet, Primitive, Holder, OpenPrimitive, OpenHolder, OpenBitString, OpenHeader, OpenEndOctets}
 use Rattle.tlv_walk.specs.Forest.{end_octets, extent, is_complete, lead, opening}
 use Rattle.tlv_walk.specs.Place.{IsOpen, Place, place_after, place_of_children}
 use Rattle.tlv_walk.proofs.FollowerLemmas.Followed.{followed-enough, followed-one}
@@ -130,44 +130,44 @@ module _ (n : ℕ) (only : Bool) where
   -- ---- what is put
 
   whole_octets : (h : HeaderValue) (c : List ℕ)
-      → (outer_octets only (octets_of h) ++ c) ++ outer_octets only [] ≡ element_text only (Whole h c Stop)
+      → (outer_octets only (octets_of h) ++ c) ++ outer_octets only [] ≡ element_text only (Primitive h c NoMore)
   whole_octets h c = by only
     where
-      by : (k : Bool) → (outer_octets k (octets_of h) ++ c) ++ outer_octets k [] ≡ element_text k (Whole h c Stop)
+      by : (k : Bool) → (outer_octets k (octets_of h) ++ c) ++ outer_octets k [] ≡ element_text k (Primitive h c NoMore)
       by true = append-nil c
       by false = append_assoc (octets_of h) c []
 
   closed_octets : (h : HeaderValue) (inside : Forest)
       → (outer_octets only (octets_of h) ++ lead h) ++ (octets_so_far inside ++ outer_octets only (end_octets h.size))
-      ≡ element_text only (Closed h inside Stop)
+      ≡ element_text only (Holder h inside NoMore)
   closed_octets h inside = by only
     where
       by : (k : Bool)
           → (outer_octets k (octets_of h) ++ lead h) ++ (octets_so_far inside ++ outer_octets k (end_octets h.size))
-          ≡ element_text k (Closed h inside Stop)
+          ≡ element_text k (Holder h inside NoMore)
       by true = ap (λ (l : List ℕ). lead h ++ l) (append-nil (octets_so_far inside))
       by false = ap (λ (l : List ℕ). opening h ++ (octets_so_far inside ++ l)) (sym (append-nil (end_octets h.size)))
 
-  partial_octets : (h : HeaderValue) (c : List ℕ) → outer_octets only (octets_of h) ++ c ≡ element_text only (Partial h c)
+  partial_octets : (h : HeaderValue) (c : List ℕ) → outer_octets only (octets_of h) ++ c ≡ element_text only (OpenPrimitive h c)
   partial_octets h c = by only
     where
-      by : (k : Bool) → outer_octets k (octets_of h) ++ c ≡ element_text k (Partial h c)
+      by : (k : Bool) → outer_octets k (octets_of h) ++ c ≡ element_text k (OpenPrimitive h c)
       by true = refl
       by false = refl
 
   entered_octets : (h : HeaderValue) (inside : Forest)
-      → (outer_octets only (octets_of h) ++ lead h) ++ octets_so_far inside ≡ element_text only (Entered h inside)
+      → (outer_octets only (octets_of h) ++ lead h) ++ octets_so_far inside ≡ element_text only (OpenHolder h inside)
   entered_octets h inside = by only
     where
       by : (k : Bool)
-          → (outer_octets k (octets_of h) ++ lead h) ++ octets_so_far inside ≡ element_text k (Entered h inside)
+          → (outer_octets k (octets_of h) ++ lead h) ++ octets_so_far inside ≡ element_text k (OpenHolder h inside)
       by true = refl
       by false = refl
 
-  awaiting_octets : (h : HeaderValue) → outer_octets only (octets_of h) ≡ element_text only (Awaiting h)
+  awaiting_octets : (h : HeaderValue) → outer_octets only (octets_of h) ≡ element_text only (OpenBitString h)
   awaiting_octets h = by only
     where
-      by : (k : Bool) → outer_octets k (octets_of h) ≡ element_text k (Awaiting h)
+      by : (k : Bool) → outer_octets k (octets_of h) ≡ element_text k (OpenBitString h)
       by true = refl
       by false = refl
 
@@ -187,20 +187,20 @@ module _ (n : ℕ) (only : Bool) where
 
   -- if all elements have ended, the one at the offset has
   whole_at : (p : Place) (f : Forest) → IsOpen p f → is_complete f ≡ true → AllWhole (element_at n f)
-  whole_at p Stop v w = refl
-  whole_at p (Fill rest) v w = whole_at (place_after p 1) rest v.1 w
-  whole_at p (Whole h c rest) v w =
-      either (h.offset == n) (Some (Whole h c Stop)) (element_at n rest) refl (whole_at (place_after p _) rest v.1 w)
-  whole_at p (Closed h inside rest) v w =
+  whole_at p NoMore v w = refl
+  whole_at p (PaddingOctet rest) v w = whole_at (place_after p 1) rest v.1 w
+  whole_at p (Primitive h c rest) v w =
+      either (h.offset == n) (Some (Primitive h c NoMore)) (element_at n rest) refl (whole_at (place_after p _) rest v.1 w)
+  whole_at p (Holder h inside rest) v w =
       let a = element_at n inside in
       let b = element_at n rest in
-      either (h.offset == n) (Some (Closed h inside Stop)) (option_or a b) refl
+      either (h.offset == n) (Some (Holder h inside NoMore)) (option_or a b) refl
       (either_there a b (whole_at (place_of_children p h) inside v.1 v.0.1) (whole_at (place_after p (extent h inside)) rest v.2 w))
-  whole_at p (Partial h c) v w = absurd (cc (w))
-  whole_at p (Entered h inside) v w = absurd (cc (w))
-  whole_at p (Awaiting h) v w = absurd (cc (w))
-  whole_at p (Begun octets) v w = absurd (cc (w))
-  whole_at p Zero v w = absurd (cc (w))
+  whole_at p (OpenPrimitive h c) v w = absurd (cc (w))
+  whole_at p (OpenHolder h inside) v w = absurd (cc (w))
+  whole_at p (OpenBitString h) v w = absurd (cc (w))
+  whole_at p (OpenHeader octets) v w = absurd (cc (w))
+  whole_at p OpenEndOctets v w = absurd (cc (w))
 
   -- the element that is there has ended
   there_whole : (a : Option Forest) (e : Forest) → a ≡ Some e → AllWhole a → option_map_or is_complete a false ≡ true
@@ -213,14 +213,14 @@ module _ (n : ℕ) (only : Bool) where
   enough es fs octets e = followed-enough extract_step before es fs (ap (λ (t : Effect ExtractState). t.goes) e) ∙ e
 
   -- an element that holds others and is not the one wanted
-  passed_by : (p : Place) (h : HeaderValue) (inside rest : Forest) → IsOpen p (Closed h inside rest)
+  passed_by : (p : Place) (h : HeaderValue) (inside rest : Forest) → IsOpen p (Holder h inside rest)
       → (h.offset == n) ≡ false
       → IsTextOf (element_at n inside) (made_from before (events inside))
       → IsTextOf (element_at n rest) (made_from before (events rest))
       → IsTextOf (option_or (element_at n inside) (element_at n rest))
-      (made_from before (events (Closed h inside rest)))
+      (made_from before (events (Holder h inside rest)))
   passed_by p h inside rest v e i r =
-      let t = made_from before (events (Closed h inside rest)) in
+      let t = made_from before (events (Holder h inside rest)) in
       let opened = opens_other h (events inside ++ closing_event h inside ∷ events rest) e in
       first_there (element_at n inside) (element_at n rest) t
       (λ e is.
@@ -237,59 +237,59 @@ module _ (n : ℕ) (only : Bool) where
   -- what is made of the events of elements is the text of the element at the offset
   pub makes_text : (p : Place) (f : Forest) → IsOpen p f → p.depth ≤ 128
       → IsTextOf (element_at n f) (made_from before (events f))
-  makes_text p Stop v deep = missed (made_from before []) refl
-  makes_text p (Fill rest) v deep = makes_text (place_after p 1) rest v.1 deep
-  makes_text p (Whole h c rest) v deep =
+  makes_text p NoMore v deep = missed (made_from before []) refl
+  makes_text p (PaddingOctet rest) v deep = makes_text (place_after p 1) rest v.1 deep
+  makes_text p (Primitive h c rest) v deep =
       let es = Begin h ∷ Bytes c ∷ End ∷ [] in
-      choose (h.offset == n) (Some (Whole h c Stop)) (element_at n rest) (made_from before (es ++ events rest))
-      (λ e. whole_text (Whole h c Stop) _ _ refl (whole_octets h c) (enough es (events rest) _ (made_from-whole h c e)))
+      choose (h.offset == n) (Some (Primitive h c NoMore)) (element_at n rest) (made_from before (es ++ events rest))
+      (λ e. whole_text (Primitive h c NoMore) _ _ refl (whole_octets h c) (enough es (events rest) _ (made_from-whole h c e)))
       (λ e. subst (IsTextOf (element_at n rest))
       (sym (then_more before before [] (Begin h ∷ Bytes c ∷ []) (End ∷ events rest)
       (made_from-begins before before [] h c (other_begins h e))))
       (makes_text (place_after p _) rest v.1 deep))
-  makes_text p (Closed h inside rest) v deep =
+  makes_text p (Holder h inside rest) v deep =
       let es = opening_events h ++ (events inside ++ closing_event h inside ∷ []) in
-      choose (h.offset == n) (Some (Closed h inside Stop)) (option_or (element_at n inside) (element_at n rest))
-      (made_from before (events (Closed h inside rest)))
+      choose (h.offset == n) (Some (Holder h inside NoMore)) (option_or (element_at n inside) (element_at n rest))
+      (made_from before (events (Holder h inside rest)))
       (λ e.
       let k = passed_on n only (place_of_children p h) 0 inside v.1 (omega arith) (omega (arith, (v.0.0.depth refl))) in
       let all = enough es (events rest) _ (made_from-closed h inside e v.0.0.header.valid.allowed v.0.1 k) in
-      whole_text (Closed h inside Stop) _ _ refl (closed_octets h inside)
+      whole_text (Holder h inside NoMore) _ _ refl (closed_octets h inside)
       (ap (made_from before) (events-closed h inside rest) ∙ all))
       (λ e. passed_by p h inside rest v e (makes_text (place_of_children p h) inside v.1 (omega (arith, (v.0.0.depth refl))))
       (makes_text (place_after p (extent h inside)) rest v.2 deep))
-  makes_text p (Partial h c) v deep =
+  makes_text p (OpenPrimitive h c) v deep =
       let es = Begin h ∷ Bytes c ∷ [] in
-      choose (h.offset == n) (Some (Partial h c)) None (made_from before es)
+      choose (h.offset == n) (Some (OpenPrimitive h c)) None (made_from before es)
       (λ e.
       let all =
       made_from-begins before (state_inside n only 0) (outer_octets only (octets_of h)) h c (wanted_begins h e) in
-      open_text (Partial h c) _ refl (ap (λ (t : Effect ExtractState). t.put) all ∙ partial_octets h c)
+      open_text (OpenPrimitive h c) _ refl (ap (λ (t : Effect ExtractState). t.put) all ∙ partial_octets h c)
       (ap (λ (t : Effect ExtractState). t.goes) all)
       (ap (λ (t : Effect ExtractState). has_found t.state) all))
       (λ e. missed _ (made_from-begins before before [] h c (other_begins h e)))
-  makes_text p (Entered h inside) v deep =
-      choose (h.offset == n) (Some (Entered h inside)) (element_at n inside)
+  makes_text p (OpenHolder h inside) v deep =
+      choose (h.offset == n) (Some (OpenHolder h inside)) (element_at n inside)
       (made_from before (opening_events h ++ events inside))
       (λ e.
       let k = passed_on n only (place_of_children p h) 0 inside v.1 (omega arith) (omega (arith, (v.0.0.depth refl))) in
       let all =
       then_more before (state_inside n only 0) (outer_octets only (octets_of h) ++ lead h) (opening_events h)
       (events inside) (opens_wanted h e) in
-      open_text (Entered h inside) _ refl
+      open_text (OpenHolder h inside) _ refl
       (ap (λ (t : Effect ExtractState). t.put) all
       ∙ ap (λ (l : List ℕ). (outer_octets only (octets_of h) ++ lead h) ++ l) k.put ∙ entered_octets h inside)
       (ap (λ (t : Effect ExtractState). t.goes) all ∙ k.goes)
       (ap (λ (t : Effect ExtractState). has_found t.state) all ∙ k.found))
       (λ e. subst (IsTextOf (element_at n inside)) (sym (opens_other h (events inside) e))
       (makes_text (place_of_children p h) inside v.1 (omega (arith, (v.0.0.depth refl)))))
-  makes_text p (Awaiting h) v deep =
-      choose (h.offset == n) (Some (Awaiting h)) None (made_from before (Enter h ∷ []))
+  makes_text p (OpenBitString h) v deep =
+      choose (h.offset == n) (Some (OpenBitString h)) None (made_from before (Enter h ∷ []))
       (λ e.
       let all = followed-one extract_step before (Enter h) ∙ wanted_begins h e in
-      open_text (Awaiting h) _ refl (ap (λ (t : Effect ExtractState). t.put) all ∙ awaiting_octets h)
+      open_text (OpenBitString h) _ refl (ap (λ (t : Effect ExtractState). t.put) all ∙ awaiting_octets h)
       (ap (λ (t : Effect ExtractState). t.goes) all)
       (ap (λ (t : Effect ExtractState). has_found t.state) all))
       (λ e. missed _ (followed-one extract_step before (Enter h) ∙ other_begins h e))
-  makes_text p (Begun octets) v deep = missed (made_from before []) refl
-  makes_text p Zero v deep = missed (made_from before []) refl
+  makes_text p (OpenHeader octets) v deep = missed (made_from before []) refl
+  makes_text p OpenEndOctets v deep = missed (made_from before []) refl

@@ -5,9 +5,9 @@ use Rattle.std.specs.Prelude.{length, Option, Some, None}
 use Rattle.std.specs.Option.{option_or}
 use Rattle.std.proofs.lemmas.Bool.{eqb-true, true≢false}
 use Rattle.tlv_head.specs.Header.{HeaderValue, IsHeader, octets_of}
-use Rattle.tlv_walk.specs.Forest.{Forest, Stop, Fill, Whole, Closed, Partial, Entered, Awaiting, Begun, Zero}
-use Rattle.tlv_walk.specs.Forest.{end_octets, extent, is_complete, lead, opening, spell}
-use Rattle.tlv_walk.specs.Place.{IsHeadAt, IsOpen, Place, place_after, place_of_children}
+use Rattle.tlv_walk.specs.Forest.{Forest, NoMore, PaddingOctet, Primitive, Holder, OpenPrimitive, OpenHolder, OpenBitString, OpenHeader, OpenEndOctets}
+use Rattle.tlv_walk.specs.Forest.{end_octets, extent, is_complete, lead, opening, spelling}
+use Rattle.tlv_walk.specs.Place.{IsHeaderAt, IsOpen, Place, place_after, place_of_children}
 use Rattle.tlv_walk.proofs.GrammarLemmas.Spellings.{append_assoc-3, append_assoc-4}
 use Rattle.tlv_cut.specs.ExtractText.{contents_so_far, element_at, octets_so_far}
 
@@ -16,11 +16,11 @@ use Rattle.tlv_cut.specs.ExtractText.{contents_so_far, element_at, octets_so_far
 -- they are a front of all octets, and all of them if all elements have ended
 record IsFrontOf (f : Forest) : Type 0 where
   rest : List ℕ
-  octets : spell f ≡ octets_so_far f ++ rest
-  all : is_complete f ≡ true → spell f ≡ octets_so_far f
+  octets : spelling f ≡ octets_so_far f ++ rest
+  all : is_complete f ≡ true → spelling f ≡ octets_so_far f
 
 -- those of elements after others
-front_of_rest : (f rest : Forest) (o : List ℕ) → spell f ≡ o ++ spell rest → octets_so_far f ≡ o ++ octets_so_far rest
+front_of_rest : (f rest : Forest) (o : List ℕ) → spelling f ≡ o ++ spelling rest → octets_so_far f ≡ o ++ octets_so_far rest
     → is_complete f ≡ is_complete rest → IsFrontOf rest → IsFrontOf f
 front_of_rest f rest o all keeps whole r = record {
   rest = r.rest;
@@ -30,23 +30,23 @@ front_of_rest f rest o all keeps whole r = record {
 }
 
 octets_so_far-front : (p : Place) (f : Forest) → p.padding ≡ false → IsOpen p f → IsFrontOf f
-octets_so_far-front p Stop plain v = record { rest = []; octets = refl; all = λ w. refl }
-octets_so_far-front p (Fill rest) plain v = absurd (true≢false (sym v.0.0 ∙ plain))
-octets_so_far-front p (Whole h c rest) plain v =
-    front_of_rest (Whole h c rest) rest (octets_of h ++ c) (sym (append_assoc (octets_of h) c (spell rest)))
+octets_so_far-front p NoMore plain v = record { rest = []; octets = refl; all = λ w. refl }
+octets_so_far-front p (PaddingOctet rest) plain v = absurd (true≢false (sym v.0.0 ∙ plain))
+octets_so_far-front p (Primitive h c rest) plain v =
+    front_of_rest (Primitive h c rest) rest (octets_of h ++ c) (sym (append_assoc (octets_of h) c (spelling rest)))
     (sym (append_assoc (octets_of h) c (octets_so_far rest))) refl
     (octets_so_far-front (place_after p _) rest plain v.1)
-octets_so_far-front p (Closed h inside rest) plain v =
+octets_so_far-front p (Holder h inside rest) plain v =
     let i = octets_so_far-front (place_of_children p h) inside refl v.1 in
     let e = end_octets h.size in
-    front_of_rest (Closed h inside rest) rest (opening h ++ (spell inside ++ e))
-    (sym (append_assoc-3 (opening h) (spell inside) e (spell rest)))
+    front_of_rest (Holder h inside rest) rest (opening h ++ (spelling inside ++ e))
+    (sym (append_assoc-3 (opening h) (spelling inside) e (spelling rest)))
     (ap (λ (k : List ℕ). opening h ++ (k ++ (e ++ octets_so_far rest))) (sym (i.all v.0.1))
-    ∙ sym (append_assoc-3 (opening h) (spell inside) e (octets_so_far rest))) refl
+    ∙ sym (append_assoc-3 (opening h) (spelling inside) e (octets_so_far rest))) refl
     (octets_so_far-front (place_after p (extent h inside)) rest plain v.2)
-octets_so_far-front p (Partial h c) plain v =
+octets_so_far-front p (OpenPrimitive h c) plain v =
     record { rest = []; octets = sym (append-nil (octets_of h ++ c)); all = λ w. refl }
-octets_so_far-front p (Entered h inside) plain v =
+octets_so_far-front p (OpenHolder h inside) plain v =
     let i = octets_so_far-front (place_of_children p h) inside refl v.1 in
     record {
       rest = i.rest;
@@ -54,10 +54,10 @@ octets_so_far-front p (Entered h inside) plain v =
           ∙ sym (append_assoc (opening h) (octets_so_far inside) i.rest);
       all = λ w. absurd (cc (w));
     }
-octets_so_far-front p (Awaiting h) plain v =
+octets_so_far-front p (OpenBitString h) plain v =
     record { rest = []; octets = sym (append-nil (octets_of h)); all = λ w. refl }
-octets_so_far-front p (Begun octets) plain v = record { rest = octets; octets = refl; all = λ w. absurd (cc (w)) }
-octets_so_far-front p Zero plain v = record { rest = 0 ∷ []; octets = refl; all = λ w. absurd (cc (w)) }
+octets_so_far-front p (OpenHeader octets) plain v = record { rest = octets; octets = refl; all = λ w. absurd (cc (w)) }
+octets_so_far-front p OpenEndOctets plain v = record { rest = 0 ∷ []; octets = refl; all = λ w. absurd (cc (w)) }
 
 module _ (n : ℕ) where
   -- ---- the element
@@ -66,17 +66,17 @@ module _ (n : ℕ) where
   pub record IsFoundIn (p : Place) (f e : Forest) : Type 0 where
     pub front : List ℕ
     pub rest : List ℕ
-    pub octets : spell f ≡ front ++ (octets_so_far e ++ rest)
+    pub octets : spelling f ≡ front ++ (octets_so_far e ++ rest)
     pub place : p.at + length front ≡ n
-    pub head : HeaderValue
-    pub valid : IsHeader head
-    pub offset : head.offset ≡ n
+    pub header : HeaderValue
+    pub valid : IsHeader header
+    pub offset : header.offset ≡ n
     pub parts : octets_so_far e
-        ≡ octets_of head ++ (contents_so_far e ++ (if is_complete e then end_octets head.size else []))
+        ≡ octets_of header ++ (contents_so_far e ++ (if is_complete e then end_octets header.size else []))
 
   -- it is the first of the forest
-  first : (p : Place) (k : Bool) (h : HeaderValue) (f e : Forest) (rest : List ℕ) → IsHeadAt p k h
-      → (h.offset == n) ≡ true → spell f ≡ octets_so_far e ++ rest
+  first : (p : Place) (k : Bool) (h : HeaderValue) (f e : Forest) (rest : List ℕ) → IsHeaderAt p k h
+      → (h.offset == n) ≡ true → spelling f ≡ octets_so_far e ++ rest
       → octets_so_far e ≡ octets_of h ++ (contents_so_far e ++ (if is_complete e then end_octets h.size else []))
       → IsFoundIn p f e
   first p k h f e rest at is octets parts = record {
@@ -84,14 +84,14 @@ module _ (n : ℕ) where
     rest = rest;
     octets = octets;
     place = omega (arith, at.offset, eqb-true h.offset n is);
-    head = h;
+    header = h;
     valid = at.valid;
     offset = eqb-true h.offset n is;
     parts = parts;
   }
 
   -- it is among elements that come later, or deeper
-  further : (p q : Place) (f g e : Forest) (o t : List ℕ) → spell f ≡ o ++ (spell g ++ t) → q.at ≡ p.at + length o
+  further : (p q : Place) (f g e : Forest) (o t : List ℕ) → spelling f ≡ o ++ (spelling g ++ t) → q.at ≡ p.at + length o
       → IsFoundIn q g e → IsFoundIn p f e
   further p q f g e o t all at r = record {
     front = o ++ r.front;
@@ -101,7 +101,7 @@ module _ (n : ℕ) where
         ∙ ap (λ (l : List ℕ). o ++ l) (append_assoc-3 r.front (octets_so_far e) r.rest t)
         ∙ sym (append_assoc o r.front (octets_so_far e ++ (r.rest ++ t)));
     place = omega (arith, at, r.place, length-append o r.front);
-    head = r.head;
+    header = r.header;
     valid = r.valid;
     offset = r.offset;
     parts = r.parts;
@@ -125,14 +125,14 @@ module _ (n : ℕ) where
   none p f e is = absurd (cc (is))
 
   -- it is after an element
-  in_rest : (p q : Place) (f rest e : Forest) (o : List ℕ) → spell f ≡ o ++ spell rest → q.at ≡ p.at + length o
+  in_rest : (p q : Place) (f rest e : Forest) (o : List ℕ) → spelling f ≡ o ++ spelling rest → q.at ≡ p.at + length o
       → IsFoundIn q rest e → IsFoundIn p f e
   in_rest p q f rest e o all at r =
-      further p q f rest e o [] (all ∙ ap (λ (l : List ℕ). o ++ l) (sym (append-nil (spell rest)))) at r
+      further p q f rest e o [] (all ∙ ap (λ (l : List ℕ). o ++ l) (sym (append-nil (spelling rest)))) at r
 
   closed_parts : (h : HeaderValue) (inside : Forest)
-      → octets_so_far (Closed h inside Stop)
-      ≡ octets_of h ++ (contents_so_far (Closed h inside Stop) ++ end_octets h.size)
+      → octets_so_far (Holder h inside NoMore)
+      ≡ octets_of h ++ (contents_so_far (Holder h inside NoMore) ++ end_octets h.size)
   closed_parts h inside =
       let e = end_octets h.size in
       append_assoc (octets_of h) (lead h) (octets_so_far inside ++ (e ++ []))
@@ -140,51 +140,51 @@ module _ (n : ℕ) where
       ∙ ap (λ (l : List ℕ). octets_of h ++ l) (sym (append_assoc (lead h) (octets_so_far inside) e))
 
   pub find : (p : Place) (f : Forest) → IsOpen p f → (e : Forest) → element_at n f ≡ Some e → IsFoundIn p f e
-  find p Stop v d some = none p Stop d some
-  find p (Fill rest) v d some =
-      in_rest p (place_after p 1) (Fill rest) rest d (0 ∷ []) refl refl (find (place_after p 1) rest v.1 d some)
-  find p (Whole h c rest) v d some =
-      let f = Whole h c rest in
-      choose p f (h.offset == n) (Whole h c Stop) (element_at n rest) d
+  find p NoMore v d some = none p NoMore d some
+  find p (PaddingOctet rest) v d some =
+      in_rest p (place_after p 1) (PaddingOctet rest) rest d (0 ∷ []) refl refl (find (place_after p 1) rest v.1 d some)
+  find p (Primitive h c rest) v d some =
+      let f = Primitive h c rest in
+      choose p f (h.offset == n) (Primitive h c NoMore) (element_at n rest) d
       (λ is.
-      first p false h f (Whole h c Stop) (spell rest) v.0.0.header is
-      (sym (append_assoc-3 (octets_of h) c [] (spell rest)))
+      first p false h f (Primitive h c NoMore) (spelling rest) v.0.0.header is
+      (sym (append_assoc-3 (octets_of h) c [] (spelling rest)))
       (ap (λ (l : List ℕ). octets_of h ++ (c ++ l)) (sym (ap end_octets v.0.1))))
       (λ _ some.
-      in_rest p (place_after p _) f rest d (octets_of h ++ c) (sym (append_assoc (octets_of h) c (spell rest)))
+      in_rest p (place_after p _) f rest d (octets_of h ++ c) (sym (append_assoc (octets_of h) c (spelling rest)))
       (omega (arith, length-append (octets_of h) c))
       (find (place_after p _) rest v.1 d some))
       some
-  find p (Closed h inside rest) v d some =
-      let f = Closed h inside rest in
+  find p (Holder h inside rest) v d some =
+      let f = Holder h inside rest in
       let e = end_octets h.size in
       let i = octets_so_far-front (place_of_children p h) inside refl v.1 in
-      choose p f (h.offset == n) (Closed h inside Stop) (option_or (element_at n inside) (element_at n rest)) d
+      choose p f (h.offset == n) (Holder h inside NoMore) (option_or (element_at n inside) (element_at n rest)) d
       (λ is.
-      first p true h f (Closed h inside Stop) (spell rest) v.0.0.header is
-      (ap (λ (k : List ℕ). opening h ++ (k ++ (e ++ spell rest))) (i.all v.0.1)
-      ∙ sym (append_assoc-4 (opening h) (octets_so_far inside) e [] (spell rest)))
+      first p true h f (Holder h inside NoMore) (spelling rest) v.0.0.header is
+      (ap (λ (k : List ℕ). opening h ++ (k ++ (e ++ spelling rest))) (i.all v.0.1)
+      ∙ sym (append_assoc-4 (opening h) (octets_so_far inside) e [] (spelling rest)))
       (closed_parts h inside))
       (λ _ some.
       first_there p f (element_at n inside) (element_at n rest) d
-      (λ some. further p (place_of_children p h) f inside d (opening h) (e ++ spell rest) refl refl
+      (λ some. further p (place_of_children p h) f inside d (opening h) (e ++ spelling rest) refl refl
       (find (place_of_children p h) inside v.1 d some))
       (λ some.
-      in_rest p (place_after p (extent h inside)) f rest d (opening h ++ (spell inside ++ e))
-      (sym (append_assoc-3 (opening h) (spell inside) e (spell rest)))
-      (omega (arith, length-append (opening h) (spell inside ++ e), length-append (spell inside) e))
+      in_rest p (place_after p (extent h inside)) f rest d (opening h ++ (spelling inside ++ e))
+      (sym (append_assoc-3 (opening h) (spelling inside) e (spelling rest)))
+      (omega (arith, length-append (opening h) (spelling inside ++ e), length-append (spelling inside) e))
       (find (place_after p (extent h inside)) rest v.2 d some))
       some)
       some
-  find p (Partial h c) v d some =
-      choose p (Partial h c) (h.offset == n) (Partial h c) None d
+  find p (OpenPrimitive h c) v d some =
+      choose p (OpenPrimitive h c) (h.offset == n) (OpenPrimitive h c) None d
       (λ is.
-      first p false h (Partial h c) (Partial h c) [] v.0.header is (sym (append-nil (octets_of h ++ c)))
+      first p false h (OpenPrimitive h c) (OpenPrimitive h c) [] v.0.header is (sym (append-nil (octets_of h ++ c)))
       (ap (λ (l : List ℕ). octets_of h ++ l) (sym (append-nil c))))
-      (λ _ some. none p (Partial h c) d some)
+      (λ _ some. none p (OpenPrimitive h c) d some)
       some
-  find p (Entered h inside) v d some =
-      let f = Entered h inside in
+  find p (OpenHolder h inside) v d some =
+      let f = OpenHolder h inside in
       let i = octets_so_far-front (place_of_children p h) inside refl v.1 in
       choose p f (h.offset == n) f (element_at n inside) d
       (λ is.
@@ -194,11 +194,11 @@ module _ (n : ℕ) where
       ∙ ap (λ (l : List ℕ). octets_of h ++ l) (sym (append-nil (lead h ++ octets_so_far inside)))))
       (λ _ some. in_rest p (place_of_children p h) f inside d (opening h) refl refl (find (place_of_children p h) inside v.1 d some))
       some
-  find p (Awaiting h) v d some =
-      choose p (Awaiting h) (h.offset == n) (Awaiting h) None d
-      (λ is. first p true h (Awaiting h) (Awaiting h) [] v.0.header is (sym (append-nil (octets_of h)))
+  find p (OpenBitString h) v d some =
+      choose p (OpenBitString h) (h.offset == n) (OpenBitString h) None d
+      (λ is. first p true h (OpenBitString h) (OpenBitString h) [] v.0.header is (sym (append-nil (octets_of h)))
       (sym (append-nil (octets_of h))))
-      (λ _ some. none p (Awaiting h) d some)
+      (λ _ some. none p (OpenBitString h) d some)
       some
-  find p (Begun octets) v d some = none p (Begun octets) d some
-  find p Zero v d some = none p Zero d some
+  find p (OpenHeader octets) v d some = none p (OpenHeader octets) d some
+  find p OpenEndOctets v d some = none p OpenEndOctets d some

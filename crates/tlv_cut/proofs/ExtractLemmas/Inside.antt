@@ -10,7 +10,7 @@ use Rattle.tlv_walk.specs.declared.follow.Go.TheVariants as go
 use Rattle.tlv_walk.specs.Events.{Begin, Bytes, Close, End, Enter, EventValue, Leave, Open, Pad, Unused, closing_event}
 use Rattle.tlv_walk.specs.Events.{end_offset, events, opening_events}
 use Rattle.tlv_walk.specs.Follow.{Effect, and_then, effect_of, if_on}
-use Rattle.tlv_walk.specs.Forest.{Forest, Stop, Fill, Whole, Closed, Partial, Entered, Awaiting, Begun, Zero}
+use Rattle.tlv_walk.specs.Forest.{Forest, NoMore, PaddingOctet, Primitive, Holder, OpenPrimitive, OpenHolder, OpenBitString, OpenHeader, OpenEndOctets}
 use Rattle.tlv_walk.specs.Forest.{end_octets, extent, is_complete, lead, opening}
 use Rattle.tlv_walk.specs.Place.{IsOpen, Place, place_after, place_of_children}
 use Rattle.tlv_walk.proofs.FollowerLemmas.Followed.{followed-more, followed-one}
@@ -74,7 +74,7 @@ made_from-closes s h inside allowed =
 
 -- the events of an element that has ended, and of what follows it
 pub events-closed : (h : HeaderValue) (inside rest : Forest)
-    → events (Closed h inside rest) ≡ (opening_events h ++ (events inside ++ closing_event h inside ∷ [])) ++ events rest
+    → events (Holder h inside rest) ≡ (opening_events h ++ (events inside ++ closing_event h inside ∷ [])) ++ events rest
 events-closed h inside rest =
     sym (append_assoc (opening_events h) (events inside ++ closing_event h inside ∷ []) (events rest)
     ∙ ap (λ (l : List EventValue). opening_events h ++ l) (append_assoc (events inside) (closing_event h inside ∷ []) (events rest)))
@@ -147,26 +147,26 @@ module _ (n : ℕ) (only : Bool) where
   -- the octets of all that the element wanted holds are put
   pub passed_on : (p : Place) (level : ℕ) (f : Forest) → IsOpen p f → level ≤ p.depth → p.depth ≤ 128
       → IsPassedOn level f
-  passed_on p level Stop v low deep = record { put = refl; goes = refl; found = refl; stays = λ w. refl }
-  passed_on p level (Fill rest) v low deep =
-      passed_on_after level (Pad (0 ∷ []) ∷ []) [] (Fill rest) rest refl refl refl refl
+  passed_on p level NoMore v low deep = record { put = refl; goes = refl; found = refl; stays = λ w. refl }
+  passed_on p level (PaddingOctet rest) v low deep =
+      passed_on_after level (Pad (0 ∷ []) ∷ []) [] (PaddingOctet rest) rest refl refl refl refl
       (passed_on (place_after p 1) level rest v.1 low deep)
-  passed_on p level (Whole h c rest) v low deep =
-      passed_on_after level (Begin h ∷ Bytes c ∷ End ∷ []) (octets_of h ++ c) (Whole h c rest) rest
+  passed_on p level (Primitive h c rest) v low deep =
+      passed_on_after level (Begin h ∷ Bytes c ∷ End ∷ []) (octets_of h ++ c) (Primitive h c rest) rest
       (primitive_passed_on level h c (omega (arith, low, deep))) refl
       (append_assoc (octets_of h) c (octets_so_far rest)) refl (passed_on (place_after p _) level rest v.1 low deep)
-  passed_on p level (Closed h inside rest) v low deep =
+  passed_on p level (Holder h inside rest) v low deep =
       let i : IsPassedOn (suc level) inside =
       passed_on (place_of_children p h) (suc level) inside v.1 (omega (arith, low)) (omega (arith, (v.0.0.depth refl))) in
       passed_on_after level (opening_events h ++ (events inside ++ closing_event h inside ∷ []))
-      (opening h ++ (octets_so_far inside ++ end_octets h.size)) (Closed h inside rest) rest
+      (opening h ++ (octets_so_far inside ++ end_octets h.size)) (Holder h inside rest) rest
       (closed_passed_on level h inside (omega (arith, low, deep)) v.0.0.header.valid.allowed v.0.1 i)
       (events-closed h inside rest)
       (append_assoc (opening h) (octets_so_far inside ++ end_octets h.size) (octets_so_far rest)
       ∙ ap (λ (l : List ℕ). opening h ++ l)
       (append_assoc (octets_so_far inside) (end_octets h.size) (octets_so_far rest))) refl
       (passed_on (place_after p (extent h inside)) level rest v.2 low deep)
-  passed_on p level (Partial h c) v low deep =
+  passed_on p level (OpenPrimitive h c) v low deep =
       let all =
       made_from-begins (state_inside level) (state_inside (suc level)) (octets_of h) h c
       (one_more level h (omega (arith, low, deep))) in
@@ -176,7 +176,7 @@ module _ (n : ℕ) (only : Bool) where
         found = ap (λ (t : Effect ExtractState). has_found t.state) all;
         stays = λ w. absurd (cc (w));
       }
-  passed_on p level (Entered h inside) v low deep =
+  passed_on p level (OpenHolder h inside) v low deep =
       let i : IsPassedOn (suc level) inside =
       passed_on (place_of_children p h) (suc level) inside v.1 (omega (arith, low)) (omega (arith, (v.0.0.depth refl))) in
       let all = then_more (state_inside level) (state_inside (suc level)) (opening h) (opening_events h) (events inside)
@@ -188,7 +188,7 @@ module _ (n : ℕ) (only : Bool) where
         found = ap (λ (t : Effect ExtractState). has_found t.state) all ∙ i.found;
         stays = λ w. absurd (cc (w));
       }
-  passed_on p level (Awaiting h) v low deep =
+  passed_on p level (OpenBitString h) v low deep =
       let all =
       followed-one extract_step (state_inside level) (Enter h) ∙ one_more level h (omega (arith, low, deep)) in
       record {
@@ -197,5 +197,5 @@ module _ (n : ℕ) (only : Bool) where
         found = ap (λ (t : Effect ExtractState). has_found t.state) all;
         stays = λ w. absurd (cc (w));
       }
-  passed_on p level (Begun octets) v low deep = record { put = refl; goes = refl; found = refl; stays = λ w. refl }
-  passed_on p level Zero v low deep = record { put = refl; goes = refl; found = refl; stays = λ w. refl }
+  passed_on p level (OpenHeader octets) v low deep = record { put = refl; goes = refl; found = refl; stays = λ w. refl }
+  passed_on p level OpenEndOctets v low deep = record { put = refl; goes = refl; found = refl; stays = λ w. refl }

@@ -37,13 +37,13 @@ extract_text_is_in_the_input framing b f r n some =
           ∙ sym (append_assoc-3 e.front (octets_so_far there.0) e.rest r.front.0)
           ∙ ap (λ (l : List ℕ). l ++ r.front.0) (sym e.octets) ∙ r.front.1;
       place = omega (arith, e.place);
-      head = e.head;
+      header = e.header;
       valid = e.valid;
       offset = e.offset;
       parts =
           written ∙ e.parts
-          ∙ ap (λ (o : Option Forest). octets_of e.head ++ (option_map_or contents_so_far o []
-          ++ (if option_map_or is_complete o false then end_octets e.head.size else []))) (sym there.1);
+          ∙ ap (λ (o : Option Forest). octets_of e.header ++ (option_map_or contents_so_far o []
+          ++ (if option_map_or is_complete o false then end_octets e.header.size else []))) (sym there.1);
     }
 
 pub extract_makes_its_text : ExtractMakesItsText

@@ -7,8 +7,8 @@ use Rattle.tlv_head.specs.Header.{HeaderValue, indefinite_octets, octets_of}
 use Rattle.tlv_walk.specs.declared.follow.Go.TheVariants.{On}
 use Rattle.tlv_walk.specs.Events.{Close, Enter, EventValue, Leave, Open, Unused, closing_event, end_offset, events, opening_events}
 use Rattle.tlv_walk.specs.Follow.{Effect, effect_of}
-use Rattle.tlv_walk.specs.Forest.{Forest, Stop, Fill, Whole, Closed, Partial, Entered, Awaiting, Begun, Zero}
-use Rattle.tlv_walk.specs.Forest.{lead, opening, spell}
+use Rattle.tlv_walk.specs.Forest.{Forest, NoMore, PaddingOctet, Primitive, Holder, OpenPrimitive, OpenHolder, OpenBitString, OpenHeader, OpenEndOctets}
+use Rattle.tlv_walk.specs.Forest.{lead, opening, spelling}
 use Rattle.tlv_cut.specs.IndefText.{indef_text, indefinite_header, with_indefinite_lengths}
 use Rattle.tlv_cut.specs.IndefStep.{IndefState, indef_event_text, indef_step}
 use Rattle.tlv_cut.proofs.Lead.{lead_by}
@@ -56,7 +56,7 @@ closes_by false at = refl
 
 closes_put : (h : HeaderValue) (inside : Forest) → indef_event_text (closing_event h inside) ≡ end_by h.constructed
 closes_put h inside =
-    closes_by h.constructed (end_offset h.size (h.offset + length (opening h) + length (spell inside)))
+    closes_by h.constructed (end_offset h.size (h.offset + length (opening h) + length (spelling inside)))
 
 -- in a constructed element nothing is between the indefinite length and what it holds
 no_lead : (h : HeaderValue) → h.constructed ≡ true → indefinite_octets h ≡ opening (indefinite_header h)
@@ -65,39 +65,39 @@ no_lead h e =
 
 -- the octets of an element that holds these, and of what follows it
 closed_spelled : (constructed : Bool) (h : HeaderValue) (inside rest : Forest) → h.constructed ≡ constructed
-    → opening_by constructed h ++ (spell inside ++ (end_by constructed ++ spell rest))
-    ≡ spell (if constructed then Closed (indefinite_header h) inside rest else Whole h (lead h ++ spell inside) rest)
-closed_spelled true h inside rest e = ap (λ (l : List ℕ). l ++ (spell inside ++ (0 ∷ 0 ∷ spell rest))) (no_lead h e)
+    → opening_by constructed h ++ (spelling inside ++ (end_by constructed ++ spelling rest))
+    ≡ spelling (if constructed then Holder (indefinite_header h) inside rest else Primitive h (lead h ++ spelling inside) rest)
+closed_spelled true h inside rest e = ap (λ (l : List ℕ). l ++ (spelling inside ++ (0 ∷ 0 ∷ spelling rest))) (no_lead h e)
 closed_spelled false h inside rest e =
-    append_assoc (octets_of h) (lead h) (spell inside ++ spell rest)
-    ∙ ap (λ (l : List ℕ). octets_of h ++ l) (sym (append_assoc (lead h) (spell inside) (spell rest)))
+    append_assoc (octets_of h) (lead h) (spelling inside ++ spelling rest)
+    ∙ ap (λ (l : List ℕ). octets_of h ++ l) (sym (append_assoc (lead h) (spelling inside) (spelling rest)))
 
 entered_spelled : (constructed : Bool) (h : HeaderValue) (inside : Forest) → h.constructed ≡ constructed
-    → opening_by constructed h ++ spell inside
-    ≡ spell (if constructed then Entered (indefinite_header h) inside else Partial h (lead h ++ spell inside))
-entered_spelled true h inside e = ap (λ (l : List ℕ). l ++ spell inside) (no_lead h e)
-entered_spelled false h inside e = append_assoc (octets_of h) (lead h) (spell inside)
+    → opening_by constructed h ++ spelling inside
+    ≡ spelling (if constructed then OpenHolder (indefinite_header h) inside else OpenPrimitive h (lead h ++ spelling inside))
+entered_spelled true h inside e = ap (λ (l : List ℕ). l ++ spelling inside) (no_lead h e)
+entered_spelled false h inside e = append_assoc (octets_of h) (lead h) (spelling inside)
 
 -- what is put for the events of elements
 pub events_text-events : (f : Forest) → events_text (events f) ≡ indef_text f
-events_text-events Stop = refl
-events_text-events (Fill rest) = ap (λ (l : List ℕ). 0 ∷ l) (events_text-events rest)
-events_text-events (Whole h c rest) = ap (λ (l : List ℕ). octets_of h ++ (c ++ l)) (events_text-events rest)
-events_text-events (Closed h inside rest) =
+events_text-events NoMore = refl
+events_text-events (PaddingOctet rest) = ap (λ (l : List ℕ). 0 ∷ l) (events_text-events rest)
+events_text-events (Primitive h c rest) = ap (λ (l : List ℕ). octets_of h ++ (c ++ l)) (events_text-events rest)
+events_text-events (Holder h inside rest) =
     events_text-append (opening_events h) (events inside ++ closing_event h inside ∷ events rest)
     ∙ ap₂ (λ (k l : List ℕ). k ++ l) (opens_put h)
     (events_text-append (events inside) (closing_event h inside ∷ events rest)
     ∙ ap₂ (λ (k l : List ℕ). k ++ l) (events_text-events inside)
     (ap₂ (λ (k l : List ℕ). k ++ l) (closes_put h inside) (events_text-events rest)))
     ∙ closed_spelled h.constructed h (with_indefinite_lengths inside) (with_indefinite_lengths rest) refl
-events_text-events (Partial h c) = ap (λ (l : List ℕ). octets_of h ++ l) (append-nil c)
-events_text-events (Entered h inside) =
+events_text-events (OpenPrimitive h c) = ap (λ (l : List ℕ). octets_of h ++ l) (append-nil c)
+events_text-events (OpenHolder h inside) =
     events_text-append (opening_events h) (events inside)
     ∙ ap₂ (λ (k l : List ℕ). k ++ l) (opens_put h) (events_text-events inside)
     ∙ entered_spelled h.constructed h (with_indefinite_lengths inside) refl
-events_text-events (Awaiting h) = append-nil (octets_of h)
-events_text-events (Begun octets) = refl
-events_text-events Zero = refl
+events_text-events (OpenBitString h) = append-nil (octets_of h)
+events_text-events (OpenHeader octets) = refl
+events_text-events OpenEndOctets = refl
 
 -- what an `Indef` makes of the events of elements
 pub followed-events : (s : IndefState) (f : Forest)

@@ -7,45 +7,45 @@ use Rattle.tlv_head.specs.declared.header.Size.{Size}
 use Rattle.tlv_head.specs.declared.header.Size.TheVariants.{Indefinite}
 use Rattle.tlv_head.specs.Header.{HeaderValue, announced_length, definite_length, is_wrapper, octets_of}
 use Rattle.tlv_head.specs.Private.Header.{AllowsSize}
-use Rattle.tlv_walk.specs.Forest.{Forest, Stop, Fill, Whole, Closed, Partial, Entered, Awaiting, Begun, Zero}
-use Rattle.tlv_walk.specs.Forest.{extent, has_element, is_complete, lead, opening, spell}
-use Rattle.tlv_walk.specs.Place.{Fits, IsHeadAt, IsOpen, Place, place_after, place_of_children}
+use Rattle.tlv_walk.specs.Forest.{Forest, NoMore, PaddingOctet, Primitive, Holder, OpenPrimitive, OpenHolder, OpenBitString, OpenHeader, OpenEndOctets}
+use Rattle.tlv_walk.specs.Forest.{extent, has_element, is_complete, lead, opening, spelling}
+use Rattle.tlv_walk.specs.Place.{Fits, IsHeaderAt, IsOpen, Place, place_after, place_of_children}
 use Rattle.tlv_cut.specs.IndefText.{with_indefinite_lengths, indefinite_header}
 use Rattle.tlv_cut.specs.IndefReading.{with_offsets_from}
 use Rattle.tlv_cut.proofs.Lead.{lead_by}
-use Rattle.tlv_cut.proofs.IndefLemmas.Offsets.{constructed_at, is_named, spell-with_offsets_from}
+use Rattle.tlv_cut.proofs.IndefLemmas.Offsets.{constructed_at, is_named, spelling-with_offsets_from}
 
 -- elements that have all ended have ended at any offset
 is_whole-with_offsets_from : (at : ℕ) (f : Forest) → is_complete (with_offsets_from at f) ≡ is_complete f
-is_whole-with_offsets_from at Stop = refl
-is_whole-with_offsets_from at (Fill rest) = is_whole-with_offsets_from (at + 1) rest
-is_whole-with_offsets_from at (Whole h c rest) =
+is_whole-with_offsets_from at NoMore = refl
+is_whole-with_offsets_from at (PaddingOctet rest) = is_whole-with_offsets_from (at + 1) rest
+is_whole-with_offsets_from at (Primitive h c rest) =
     is_whole-with_offsets_from (at + (length (octets_of h) + length c)) rest
-is_whole-with_offsets_from at (Closed h inside rest) = is_whole-with_offsets_from (at + extent h inside) rest
-is_whole-with_offsets_from at (Partial h c) = refl
-is_whole-with_offsets_from at (Entered h inside) = refl
-is_whole-with_offsets_from at (Awaiting h) = refl
-is_whole-with_offsets_from at (Begun octets) = refl
-is_whole-with_offsets_from at Zero = refl
+is_whole-with_offsets_from at (Holder h inside rest) = is_whole-with_offsets_from (at + extent h inside) rest
+is_whole-with_offsets_from at (OpenPrimitive h c) = refl
+is_whole-with_offsets_from at (OpenHolder h inside) = refl
+is_whole-with_offsets_from at (OpenBitString h) = refl
+is_whole-with_offsets_from at (OpenHeader octets) = refl
+is_whole-with_offsets_from at OpenEndOctets = refl
 
 -- and with indefinite lengths
 closed_whole : (constructed : Bool) (h : HeaderValue) (c : List ℕ) (inside rest : Forest) → is_complete rest ≡ true
-    → is_complete (if constructed then Closed (indefinite_header h) inside rest else Whole h c rest) ≡ true
+    → is_complete (if constructed then Holder (indefinite_header h) inside rest else Primitive h c rest) ≡ true
 closed_whole true h c inside rest e = e
 closed_whole false h c inside rest e = e
 
 is_whole-with_indefinite_lengths : (f : Forest) → is_complete f ≡ true → is_complete (with_indefinite_lengths f) ≡ true
-is_whole-with_indefinite_lengths Stop e = refl
-is_whole-with_indefinite_lengths (Fill rest) e = is_whole-with_indefinite_lengths rest e
-is_whole-with_indefinite_lengths (Whole h c rest) e = is_whole-with_indefinite_lengths rest e
-is_whole-with_indefinite_lengths (Closed h inside rest) e =
+is_whole-with_indefinite_lengths NoMore e = refl
+is_whole-with_indefinite_lengths (PaddingOctet rest) e = is_whole-with_indefinite_lengths rest e
+is_whole-with_indefinite_lengths (Primitive h c rest) e = is_whole-with_indefinite_lengths rest e
+is_whole-with_indefinite_lengths (Holder h inside rest) e =
     closed_whole h.constructed h _ (with_indefinite_lengths inside) (with_indefinite_lengths rest)
     (is_whole-with_indefinite_lengths rest e)
-is_whole-with_indefinite_lengths (Partial h c) e = absurd (cc)
-is_whole-with_indefinite_lengths (Entered h inside) e = absurd (cc)
-is_whole-with_indefinite_lengths (Awaiting h) e = absurd (cc)
-is_whole-with_indefinite_lengths (Begun octets) e = refl
-is_whole-with_indefinite_lengths Zero e = refl
+is_whole-with_indefinite_lengths (OpenPrimitive h c) e = absurd (cc)
+is_whole-with_indefinite_lengths (OpenHolder h inside) e = absurd (cc)
+is_whole-with_indefinite_lengths (OpenBitString h) e = absurd (cc)
+is_whole-with_indefinite_lengths (OpenHeader octets) e = refl
+is_whole-with_indefinite_lengths OpenEndOctets e = refl
 
 pub whole : (at : ℕ) (f : Forest) → is_complete f ≡ true
     → is_complete (with_offsets_from at (with_indefinite_lengths f)) ≡ true
@@ -54,22 +54,22 @@ whole at f e = is_whole-with_offsets_from at (with_indefinite_lengths f) ∙ is_
 -- if there is an element, there is one with indefinite lengths too
 closed_some : (constructed : Bool) (at : ℕ) (h : HeaderValue) (c : List ℕ) (inside rest : Forest)
     → has_element (with_offsets_from at
-    (if constructed then Closed (indefinite_header h) inside rest else Whole h c rest)) ≡ true
+    (if constructed then Holder (indefinite_header h) inside rest else Primitive h c rest)) ≡ true
 closed_some true at h c inside rest = refl
 closed_some false at h c inside rest = refl
 
 pub some : (at : ℕ) (f : Forest) → is_complete f ≡ true → has_element f ≡ true
     → has_element (with_offsets_from at (with_indefinite_lengths f)) ≡ true
-some at Stop w e = e
-some at (Fill rest) w e = some (at + 1) rest w e
-some at (Whole h c rest) w e = refl
-some at (Closed h inside rest) w e =
+some at NoMore w e = e
+some at (PaddingOctet rest) w e = some (at + 1) rest w e
+some at (Primitive h c rest) w e = refl
+some at (Holder h inside rest) w e =
     closed_some h.constructed at h _ (with_indefinite_lengths inside) (with_indefinite_lengths rest)
-some at (Partial h c) w e = absurd (cc)
-some at (Entered h inside) w e = absurd (cc)
-some at (Awaiting h) w e = absurd (cc)
-some at (Begun octets) w e = absurd (cc)
-some at Zero w e = absurd (cc)
+some at (OpenPrimitive h c) w e = absurd (cc)
+some at (OpenHolder h inside) w e = absurd (cc)
+some at (OpenBitString h) w e = absurd (cc)
+some at (OpenHeader octets) w e = absurd (cc)
+some at OpenEndOctets w e = absurd (cc)
 
 -- the place `q` is as `p`, if no string is read as encodings, but for a bound: at `q` there is none
 pub record IsFree (p q : Place) : Type 0 where
@@ -106,8 +106,8 @@ free_inside p q h g e k = record {
 }
 
 -- the header of a primitive may be there
-primitive_at : (p q : Place) (h : HeaderValue) → IsFree p q → IsHeadAt p false h
-    → IsHeadAt q false (record h { offset = q.at })
+primitive_at : (p q : Place) (h : HeaderValue) → IsFree p q → IsHeaderAt p false h
+    → IsHeaderAt q false (record h { offset = q.at })
 primitive_at p q h k v = record {
   valid = record { identifier = v.valid.identifier; lengths = v.valid.lengths; allowed = v.valid.allowed };
   offset = refl;
@@ -119,8 +119,8 @@ primitive_at p q h k v = record {
 abbrev heading_at : Place → HeaderValue → HeaderValue
 heading_at q h = record (indefinite_header h) { offset = q.at }
 
-constructed_head : (p q : Place) (h : HeaderValue) → IsFree p q → IsHeadAt p true h → IsHeadAt q true (heading_at q h)
-constructed_head p q h k v =
+constructed_header : (p q : Place) (h : HeaderValue) → IsFree p q → IsHeaderAt p true h → IsHeaderAt q true (heading_at q h)
+constructed_header p q h k v =
     let constructed = constructed_at p h k.names v in
     record {
       valid = record {
@@ -140,34 +140,34 @@ follows : (q : Place) (h : HeaderValue) (at : ℕ) (inside rest : Forest)
     → IsOpen (place_after q (extent (heading_at q h) (with_offsets_from at inside))) rest
 follows q h at inside rest v =
     subst (λ (l : List ℕ). IsOpen (place_after q (length (opening (heading_at q h)) + (length l + 2))) rest)
-    (sym (spell-with_offsets_from at inside)) v
+    (sym (spelling-with_offsets_from at inside)) v
 
 -- what `with_indefinite_lengths` makes of a constructed element keeps the rules that it keeps with an indefinite length
 made_closed : (q : Place) (h : HeaderValue) (inside rest : Forest) → h.constructed ≡ true
     → IsOpen q (with_offsets_from q.at
-    (Closed (indefinite_header h) (with_indefinite_lengths inside) (with_indefinite_lengths rest)))
-    → IsOpen q (with_offsets_from q.at (with_indefinite_lengths (Closed h inside rest)))
+    (Holder (indefinite_header h) (with_indefinite_lengths inside) (with_indefinite_lengths rest)))
+    → IsOpen q (with_offsets_from q.at (with_indefinite_lengths (Holder h inside rest)))
 made_closed q h inside rest e v =
-    let one = Closed (indefinite_header h) (with_indefinite_lengths inside) (with_indefinite_lengths rest) in
-    let other = Whole h (lead h ++ spell (with_indefinite_lengths inside)) (with_indefinite_lengths rest) in
+    let one = Holder (indefinite_header h) (with_indefinite_lengths inside) (with_indefinite_lengths rest) in
+    let other = Primitive h (lead h ++ spelling (with_indefinite_lengths inside)) (with_indefinite_lengths rest) in
     subst (λ (k : Bool). IsOpen q (with_offsets_from q.at (if k then one else other))) (sym e) v
 
 made_entered : (q : Place) (h : HeaderValue) (inside : Forest) → h.constructed ≡ true
-    → IsOpen q (with_offsets_from q.at (Entered (indefinite_header h) (with_indefinite_lengths inside)))
-    → IsOpen q (with_offsets_from q.at (with_indefinite_lengths (Entered h inside)))
+    → IsOpen q (with_offsets_from q.at (OpenHolder (indefinite_header h) (with_indefinite_lengths inside)))
+    → IsOpen q (with_offsets_from q.at (with_indefinite_lengths (OpenHolder h inside)))
 made_entered q h inside e v =
-    let one = Entered (indefinite_header h) (with_indefinite_lengths inside) in
-    let other = Partial h (lead h ++ spell (with_indefinite_lengths inside)) in
+    let one = OpenHolder (indefinite_header h) (with_indefinite_lengths inside) in
+    let other = OpenPrimitive h (lead h ++ spelling (with_indefinite_lengths inside)) in
     subst (λ (k : Bool). IsOpen q (with_offsets_from q.at (if k then one else other))) (sym e) v
 
 pub is_open : (p q : Place) (f : Forest) → IsFree p q → IsOpen p f
     → IsOpen q (with_offsets_from q.at (with_indefinite_lengths f))
-is_open p q Stop k v = tt
-is_open p q (Fill rest) k v = (
+is_open p q NoMore k v = tt
+is_open p q (PaddingOctet rest) k v = (
   (k.padding v.0.0, k.definite v.0.0, free_fits p q k 1),
   is_open (place_after p 1) (place_after q 1) rest (free_after p q 1 1 k) v.1,
 )
-is_open p q (Whole h c rest) k v =
+is_open p q (Primitive h c rest) k v =
     let n = length (octets_of h) + length c in (
       (
         record {
@@ -180,25 +180,25 @@ is_open p q (Whole h c rest) k v =
       ),
       is_open (place_after p n) (place_after q n) rest (free_after p q n n k) v.1,
     )
-is_open p q (Closed h inside rest) k v =
-    let head = heading_at q h in
-    let at = q.at + length (opening head) in
-    let n = extent head (with_indefinite_lengths inside) in
+is_open p q (Holder h inside rest) k v =
+    let header = heading_at q h in
+    let at = q.at + length (opening header) in
+    let n = extent header (with_indefinite_lengths inside) in
     made_closed q h inside rest (constructed_at p h k.names v.0.0.header) (
       (
         record {
-          header = constructed_head p q h k v.0.0.header;
+          header = constructed_header p q h k v.0.0.header;
           depth = λ _. subst (λ (d : ℕ). d < 128) (sym k.depth) (v.0.0.depth refl);
-          fits = free_fits p q k (extent head (with_offsets_from at (with_indefinite_lengths inside)));
+          fits = free_fits p q k (extent header (with_offsets_from at (with_indefinite_lengths inside)));
         },
         whole at inside v.0.1,
         tt,
       ),
-      is_open (place_of_children p h) (place_of_children q head) inside (free_inside p q h head refl k) v.1,
+      is_open (place_of_children p h) (place_of_children q header) inside (free_inside p q h header refl k) v.1,
       follows q h at (with_indefinite_lengths inside) (with_offsets_from (q.at + n) (with_indefinite_lengths rest))
           (is_open (place_after p (extent h inside)) (place_after q n) rest (free_after p q (extent h inside) n k) v.2),
     )
-is_open p q (Partial h c) k v = (
+is_open p q (OpenPrimitive h c) k v = (
   record {
     header = primitive_at p q h k v.0.header;
     depth = λ e. absurd (cc (e));
@@ -207,22 +207,22 @@ is_open p q (Partial h c) k v = (
   },
   v.1,
 )
-is_open p q (Entered h inside) k v =
-    let head = heading_at q h in
+is_open p q (OpenHolder h inside) k v =
+    let header = heading_at q h in
     made_entered q h inside (constructed_at p h k.names v.0.0.header) (
       (
         record {
-          header = constructed_head p q h k v.0.0.header;
+          header = constructed_header p q h k v.0.0.header;
           depth = λ _. subst (λ (d : ℕ). d < 128) (sym k.depth) (v.0.0.depth refl);
-          fits = free_fits p q k (length (octets_of head) + 0);
+          fits = free_fits p q k (length (octets_of header) + 0);
         },
         λ w. tt,
       ),
-      is_open (place_of_children p h) (place_of_children q head) inside (free_inside p q h head refl k) v.1,
+      is_open (place_of_children p h) (place_of_children q header) inside (free_inside p q h header refl k) v.1,
     )
-is_open p q (Awaiting h) k v = absurd (awaits h (constructed_at p h k.names v.0.header) v.1)
+is_open p q (OpenBitString h) k v = absurd (awaits h (constructed_at p h k.names v.0.header) v.1)
   where
     awaits : (h : HeaderValue) → h.constructed ≡ true → lead h ≡ 0 ∷ [] → ⊥
     awaits h e l = cc (ap (λ (k : Bool). lead_by k (eqb h.number 3)) e, l)
-is_open p q (Begun octets) k v = tt
-is_open p q Zero k v = tt
+is_open p q (OpenHeader octets) k v = tt
+is_open p q OpenEndOctets k v = tt

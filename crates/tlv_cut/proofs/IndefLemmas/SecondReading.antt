@@ -2,7 +2,7 @@
 use Rattle.std.proofs.Common.{◌≡◌, ℕ, Bool, true, List, refl, ap, ◌∙◌}
 use Rattle.tlv_walk.specs.declared.ending.Ending.TheVariants.{Done}
 use Rattle.tlv_walk.specs.Ending.{IsEnding, done}
-use Rattle.tlv_walk.specs.Forest.{Forest, has_element, is_complete, spell}
+use Rattle.tlv_walk.specs.Forest.{Forest, has_element, is_complete, spelling}
 use Rattle.tlv_walk.specs.Place.{IsOpen, top_place}
 use Rattle.tlv_walk.specs.Reading.{IsReading, IsSoundList}
 use Rattle.tlv_walk.proofs.GrammarLemmas.Endings.{done-sound, sound-reading}
@@ -12,17 +12,17 @@ use Rattle.tlv_cut.specs.IndefText.{indef_text, with_indefinite_lengths}
 use Rattle.tlv_cut.specs.IndefJob.{indef_framing}
 use Rattle.tlv_cut.specs.IndefReading.{indef_reading}
 use Rattle.tlv_cut.proofs.IndefLemmas.Rules.{IsFree, is_open, some, whole}
-use Rattle.tlv_cut.proofs.IndefLemmas.Offsets.{indef_text-again, spell-with_offsets_from}
+use Rattle.tlv_cut.proofs.IndefLemmas.Offsets.{indef_text-again, spelling-with_offsets_from}
 
 top_free : (padding : Bool) → IsFree (top_place (indef_framing padding)) (top_place (indef_framing padding))
 top_free padding =
     record { names = refl; same_names = refl; depth = refl; bound = refl; padding = λ e. e; definite = λ e. refl }
 
 pub indef_text_keeps_rules : (padding : Bool) (f : Forest) → IsOpen (top_place (indef_framing padding)) f
-    → (spell (indef_reading f) ≡ indef_text f) × IsOpen (top_place (indef_framing padding)) (indef_reading f)
+    → (spelling (indef_reading f) ≡ indef_text f) × IsOpen (top_place (indef_framing padding)) (indef_reading f)
 indef_text_keeps_rules padding f v =
     let p = top_place (indef_framing padding) in
-    (spell-with_offsets_from 0 (with_indefinite_lengths f), is_open p p f (top_free padding) v)
+    (spelling-with_offsets_from 0 (with_indefinite_lengths f), is_open p p f (top_free padding) v)
 
 pub indef_text_is_read_back : (padding : Bool) (b : List ℕ) (f : Forest) → IsReading (indef_framing padding) b f
     → IsReading (indef_framing padding) (indef_text f) (indef_reading f) × (indef_text (indef_reading f) ≡ indef_text f)

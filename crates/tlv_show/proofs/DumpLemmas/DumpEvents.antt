@@ -11,7 +11,7 @@ use Rattle.tlv_show.specs.declared.finding_lines.Style.TheVariants.{Dump}
 use Rattle.tlv_show.specs.CheckStep.{styled_lines}
 use Rattle.tlv_show.specs.LinesStep.{LinesState, lines_octet_step, lines_step, past_header}
 use Rattle.tlv_show.specs.DumpStep.{DumpState, dump_step}
-use Rattle.tlv_show.specs.FinderState.{FinderState, FinderValue, find_begin, find_bytes, find_close, find_end, find_open}
+use Rattle.tlv_show.specs.FinderState.{FinderState, FinderValue, finder_begin_step, finder_bytes_step, finder_close_step, finder_end_step, finder_open_step}
 use Rattle.tlv_show.specs.Laws.{PrimitivesAreShown}
 use Rattle.tlv_show.specs.LinesStep.{offset_after, value_after, value_contents_lines}
 use Rattle.tlv_show.proofs.DumpLemmas.Dumped.{dumped_bytes, of_bytes, rested-new}
@@ -43,10 +43,10 @@ texts layout f = styled_lines (Dump layout.pure) f.level f.at f.found
 pub opens-by : (l : LinesState) (s : FinderState) (h : HeaderValue) (k three : Bool)
     → effect_of dump_step (pair l s) ((if k then Open h else Enter h) ∷ map {A = ℕ} (λ z. Unused) (if k then [] else (if three then 0 ∷ [] else [])))
     ≡ (let d = effect_of lines_step l ((if k then Open h else Enter h) ∷ map {A = ℕ} (λ z. Unused) (if k then [] else (if three then 0 ∷ [] else []))) in
-    shows (pair d.state (find_open s h).state) (texts l.layout (find_open s h) ++ d.put))
-opens-by l s h true three = ap (shows _) (append_assoc (texts l.layout (find_open s h)) (lines_step l (Open h)).put [])
-opens-by l s h false true = ap (shows _) (append_assoc (texts l.layout (find_open s h)) (lines_step l (Enter h)).put [])
-opens-by l s h false false = ap (shows _) (append_assoc (texts l.layout (find_open s h)) (lines_step l (Enter h)).put [])
+    shows (pair d.state (finder_open_step s h).state) (texts l.layout (finder_open_step s h) ++ d.put))
+opens-by l s h true three = ap (shows _) (append_assoc (texts l.layout (finder_open_step s h)) (lines_step l (Open h)).put [])
+opens-by l s h false true = ap (shows _) (append_assoc (texts l.layout (finder_open_step s h)) (lines_step l (Enter h)).put [])
+opens-by l s h false false = ap (shows _) (append_assoc (texts l.layout (finder_open_step s h)) (lines_step l (Enter h)).put [])
 
 again : (a b : List ℕ) → (a ++ b) ++ [] ≡ (a ++ []) ++ b
 again a b = append-nil (a ++ b) ∙ ap (λ (x : List ℕ). x ++ b) (sym (append-nil a))
@@ -54,10 +54,10 @@ again a b = append-nil (a ++ b) ∙ ap (λ (x : List ℕ). x ++ b) (sym (append-
 pub closes-by : (l : LinesState) (s : FinderState) (at : Option ℕ) (k : Bool)
     → effect_of dump_step (pair l s) ((if k then Close at else Leave) ∷ [])
     ≡ (let d = effect_of lines_step l ((if k then Close at else Leave) ∷ []) in
-    shows (pair d.state (find_close s).state) (d.put ++ texts l.layout (find_close s)))
-closes-by l s None true = ap (shows _) (again (lines_step l (Close None)).put (texts l.layout (find_close s)))
-closes-by l s (Some at) true = ap (shows _) (again (lines_step l (Close (Some at))).put (texts l.layout (find_close s)))
-closes-by l s at false = ap (shows _) (again (lines_step l Leave).put (texts l.layout (find_close s)))
+    shows (pair d.state (finder_close_step s).state) (d.put ++ texts l.layout (finder_close_step s)))
+closes-by l s None true = ap (shows _) (again (lines_step l (Close None)).put (texts l.layout (finder_close_step s)))
+closes-by l s (Some at) true = ap (shows _) (again (lines_step l (Close (Some at))).put (texts l.layout (finder_close_step s)))
+closes-by l s at false = ap (shows _) (again (lines_step l Leave).put (texts l.layout (finder_close_step s)))
 
 -- ---- a primitive
 
@@ -67,15 +67,15 @@ around a b m e t = simp (append_assoc, append-nil)
 pub primitive-by : (l : LinesState) (s : FinderState) (h : HeaderValue) (c : List ℕ)
     → effect_of dump_step (pair l s) (Begin h ∷ Bytes c ∷ End ∷ [])
     ≡ (let d = effect_of lines_step l (Begin h ∷ Bytes c ∷ End ∷ []) in
-    let f = find_end (find_bytes (find_begin s h).state c) in
-    shows (pair d.state f.state) (texts l.layout (find_begin s h) ++ (d.put ++ texts l.layout f)))
+    let f = finder_end_step (finder_bytes_step (finder_begin_step s h).state c) in
+    shows (pair d.state f.state) (texts l.layout (finder_begin_step s h) ++ (d.put ++ texts l.layout f)))
 primitive-by l s h c =
     let b = lines_step l (Begin h) in
     let m = each_octet lines_octet_step b.state c in
     let e = lines_step m.state End in
-    let u : FinderState = find_bytes (find_begin s h).state c in
-    let f = find_end u in
-    let first = texts l.layout (find_begin s h) in
+    let u : FinderState = finder_bytes_step (finder_begin_step s h).state c in
+    let f = finder_end_step u in
+    let first = texts l.layout (finder_begin_step s h) in
     let whole : Effect LinesState → Effect DumpState = λ k. shows (pair (lines_step k.state End).state f.state) ((first ++ b.put) ++ (k.put ++ (((lines_step k.state End).put ++ texts k.state.layout f) ++ []))) in
     let parts : Effect LinesState → Effect DumpState =
     λ k. let d = and_then b (λ z. if_on k.goes k (λ w. effect_of lines_step w (End ∷ []))) in shows (pair d.state f.state) (first ++ (d.put ++ texts l.layout f)) in
@@ -86,7 +86,7 @@ primitive-by l s h c =
       put = (first ++ b.put) ++ (if_on k.goes k (λ w. effect_of dump_step w (End ∷ []))).put;
       goes = (if_on k.goes k (λ w. effect_of dump_step w (End ∷ []))).goes;
     })
-    (each-shown (pair b.state (find_begin s h).state) c)
+    (each-shown (pair b.state (finder_begin_step s h).state) c)
     ∙ ap whole is
     ∙ ap (shows (pair (lines_step o.state End).state f.state)) (around first b.put o.put (lines_step o.state End).put (texts l.layout f))
     ∙ sym (ap parts is)
@@ -100,19 +100,19 @@ primitives_are_shown s h c size =
       refl,
       f.1,
       primitive-by s.lines s.finder h c
-          ∙ ap₂ (λ (d : Effect LinesState) (f : FinderValue). shows (pair d.state f.state) (texts s.lines.layout (find_begin s.finder h) ++ (d.put ++ texts s.lines.layout f))) d f.2,
+          ∙ ap₂ (λ (d : Effect LinesState) (f : FinderValue). shows (pair d.state f.state) (texts s.lines.layout (finder_begin_step s.finder h) ++ (d.put ++ texts s.lines.layout f))) d f.2,
     )
 
 -- a primitive that is open
 pub part-by : (l : LinesState) (s : FinderState) (h : HeaderValue) (c : List ℕ)
-    → (effect_of dump_step (pair l s) (Begin h ∷ Bytes c ∷ [])).put ≡ texts l.layout (find_begin s h) ++ (effect_of lines_step l (Begin h ∷ Bytes c ∷ [])).put
+    → (effect_of dump_step (pair l s) (Begin h ∷ Bytes c ∷ [])).put ≡ texts l.layout (finder_begin_step s h) ++ (effect_of lines_step l (Begin h ∷ Bytes c ∷ [])).put
 part-by l s h c =
     let b = lines_step l (Begin h) in
     let m = each_octet lines_octet_step b.state c in
-    let first = texts l.layout (find_begin s h) in
+    let first = texts l.layout (finder_begin_step s h) in
     let o : Effect LinesState = of_bytes b.state (offset_after b.state.offset (length c)) (value_after b.state.value c) (value_contents_lines b.state.value c) in
     let is : m ≡ o = dumped_bytes b.state c (λ e. rested-new h l.layout) in
-    ap (λ (k : Effect DumpState). (first ++ b.put) ++ (if_on k.goes k (λ w. effect_of dump_step w [])).put) (each-shown (pair b.state (find_begin s h).state) c)
+    ap (λ (k : Effect DumpState). (first ++ b.put) ++ (if_on k.goes k (λ w. effect_of dump_step w [])).put) (each-shown (pair b.state (finder_begin_step s h).state) c)
     ∙ append_assoc first b.put (m.put ++ [])
     ∙ ap (λ (k : Effect LinesState). first ++ (b.put ++ (k.put ++ []))) is
     ∙ sym (ap (λ (k : Effect LinesState). first ++ (and_then b (λ z. if_on k.goes k (λ w. effect_of lines_step w []))).put) is)

@@ -5,14 +5,14 @@ use Rattle.tlv_value.specs.Names.{Table}
 use Rattle.tlv_walk.specs.declared.follow.Go.{Go}
 use Rattle.tlv_walk.specs.Events.{Begin, Bytes, Close, End, Enter, EventValue, Leave, Open, Pad, Unused, events}
 use Rattle.tlv_walk.specs.Follow.{Effect, effect_of, if_on}
-use Rattle.tlv_walk.specs.Forest.{Forest, spell}
+use Rattle.tlv_walk.specs.Forest.{Forest, spelling}
 use Rattle.tlv_walk.specs.Place.{top_place}
 use Rattle.tlv_walk.specs.Reading.{IsReading}
 use Rattle.tlv_show.specs.declared.options.Options.{Options}
 use Rattle.tlv_show.specs.DumpJob.{dump_job, top_layout}
 use Rattle.tlv_show.specs.DumpStep.{DumpState, dump_step, new_dump}
 use Rattle.tlv_show.specs.FinderState.{FinderState, top_frame}
-use Rattle.tlv_show.specs.Private.FinderState.{find_step}
+use Rattle.tlv_show.specs.Private.FinderState.{finder_step}
 use Rattle.tlv_show.specs.Site.{Start}
 use Rattle.tlv_show.specs.Texts.{finding_count}
 use Rattle.tlv_show.proofs.FindingLemmas.CheckFolds.{count-run}
@@ -22,7 +22,7 @@ use Rattle.tlv_show.proofs.FindingLemmas.FinderItems.{run}
 use Rattle.tlv_show.proofs.DumpLemmas.Shows.{Shower}
 
 -- the finder of a dump goes by the events alone
-finder-by : (s : DumpState) (e : EventValue) → (dump_step s e).state.finder ≡ (find_step s.finder e).state
+finder-by : (s : DumpState) (e : EventValue) → (dump_step s e).state.finder ≡ (finder_step s.finder e).state
 finder-by s (Open h) = refl
 finder-by s (Begin h) = refl
 finder-by s (Bytes octets) = ap (λ (t : Effect DumpState). t.state.finder) (each-shown s octets)
@@ -43,7 +43,7 @@ finder-run s (e ∷ es) =
 module _ (options : Options) (names : Table) (octets : List ℕ) (f : Forest) (short : length octets ≤ 2 ^ 40) (r : IsReading options.framing octets f) where
   pub text-made : (effect_of dump_step (new_dump options.rules (top_layout options) names) (events f)).put ≡ (dump_job options names).text f
   text-made =
-      (shows_forest (top_layout options) names options.rules (top_place options.framing) None Start top_frame [] f r.is_open (omega (arith, short, ap length r.front.1, length-append (spell f) r.front.0))
+      (shows_forest (top_layout options) names options.rules (top_place options.framing) None Start top_frame [] f r.is_open (omega (arith, short, ap length r.front.1, length-append (spelling f) r.front.0))
       (record { segments = refl; bits = refl; unused = refl; not_full = refl }, refl, λ e. refl)).text 0
 
   pub count-made : (effect_of dump_step (new_dump options.rules (top_layout options) names) (events f)).state.finder.count ≡ finding_count options.rules f

@@ -13,7 +13,7 @@ use Rattle.tlv_value.specs.Types.{is_primitive}
 use Rattle.tlv_walk.specs.declared.follow.Go.{Go}
 use Rattle.tlv_walk.specs.Events.{Begin, Bytes, End, EventValue, Pad, closing_event, end_offset, events, opening_events}
 use Rattle.tlv_walk.specs.Follow.{Effect, effect_of}
-use Rattle.tlv_walk.specs.Forest.{Forest, Stop, Fill, Whole, Closed, Partial, Entered, Awaiting, Begun, Zero, end_octets, extent, is_complete, lead, opening, spell}
+use Rattle.tlv_walk.specs.Forest.{Forest, NoMore, PaddingOctet, Primitive, Holder, OpenPrimitive, OpenHolder, OpenBitString, OpenHeader, OpenEndOctets, end_octets, extent, is_complete, lead, opening, spelling}
 use Rattle.tlv_walk.specs.Place.{IsOpen, Place, place_after, place_of_children}
 use Rattle.tlv_walk.proofs.GrammarLemmas.Spellings.{length-closed, length-whole}
 use Rattle.tlv_show.specs.declared.frames.SiblingFrame.{SiblingFrame}
@@ -23,10 +23,10 @@ use Rattle.tlv_show.specs.CheckStep.{styled_lines}
 use Rattle.tlv_show.specs.LinesStep.{LinesState}
 use Rattle.tlv_show.specs.DumpStep.{DumpState, dump_step}
 use Rattle.tlv_show.specs.EndPlace.{end_place}
-use Rattle.tlv_show.specs.FinderState.{FinderValue, frame_after, frame_under, header_notes}
+use Rattle.tlv_show.specs.FinderState.{FinderValue, frame_after, frame_under, header_findings_in}
 use Rattle.tlv_show.specs.Found.{contents_findings, header_findings}
 use Rattle.tlv_show.proofs.FindingLemmas.EndFindings.{end_findings}
-use Rattle.tlv_show.specs.Items.{Item, FindingAt, OpeningLine, ClosingLine, WholePrimitive, OpenPrimitive, PaddingLine, heads, items}
+use Rattle.tlv_show.specs.Items.{Item, FindingAt, OpeningLine, ClosingLine, PrimitiveLines, OpenPrimitiveLines, PaddingLine, headers, items}
 use Rattle.tlv_show.proofs.FindingLemmas.ElementItems.{findings_at}
 use Rattle.tlv_show.specs.Lines.{close_line, opening_line, padding_line}
 use Rattle.tlv_show.proofs.DumpLemmas.HolderLine.{holder_line}
@@ -38,7 +38,7 @@ use Rattle.tlv_show.proofs.DumpLemmas.DumpSteps.{all_on}
 use Rattle.tlv_show.proofs.DumpLemmas.DumpTexts.{at_level, closer_shown, fill_shown, holder_shown, no_padding, padded_behind, part_shown, primitive_shown, standing as lines_at}
 use Rattle.tlv_show.proofs.FindingLemmas.FinderFolds.{at-under, knows-behind, knows-inside, knows-padding, not-constructed, noted_all, unused-of}
 use Rattle.tlv_show.proofs.FindingLemmas.FinderItems.{behind_contents, behind_end, behind_header, behind_primitive, closed-find, opened-find, primitive-find, standing}
-use Rattle.tlv_show.proofs.FindingLemmas.HeaderNotes.{Knows, header-same}
+use Rattle.tlv_show.proofs.FindingLemmas.HeaderFindings.{Knows, header-same}
 use Rattle.tlv_show.proofs.DumpLemmas.DumpEvents.{pair, shows, then_shown, texts, opens-by, closes-by, primitive-by, part-by}
 
 -- ---- elements, in this style, with these names and rules
@@ -74,7 +74,7 @@ module _ (style : Layout) (names : Table) (rules : Rules) where
     pub text : (n : ℕ) → (effect_of dump_step (start p (is_padding before) w outer n) (events f)).put ≡ texts_of (items rules (site p holder before) f)
     pub stands : (n : ℕ) → is_complete f ≡ true → (m : ℕ)
         × ((effect_of dump_step (start p (is_padding before) w outer n) (events f)).state
-        ≡ pair (lines_at style names p.depth (p.at + length (spell f)) (padded_behind style names (is_padding before) f)) (standing rules (noted_all w f) outer m))
+        ≡ pair (lines_at style names p.depth (p.at + length (spelling f)) (padded_behind style names (is_padding before) f)) (standing rules (noted_all w f) outer m))
 
   -- elements after what was shown
   behind-shown : (p q : Place) (padded : Bool) (w : SiblingFrame) (outer : List SiblingFrame) (n m : ℕ) (v : SiblingFrame) (holder : Option HeaderValue) (before : Before) (es : List EventValue) (put : List ℕ) (rest : Forest)
@@ -93,7 +93,7 @@ module _ (style : Layout) (names : Table) (rules : Rules) where
   opened-shown : (p : Place) (holder : Option HeaderValue) (before : Before) (w : SiblingFrame) (outer : List SiblingFrame) (n : ℕ) (h : HeaderValue) → Known p holder before w outer
       → h.offset ≡ p.at → p.depth < 128 → p.at + length (opening h) ≤ 2 ^ 64 - 1
       → effect_of dump_step (start p (is_padding before) w outer n) (opening_events h)
-      ≡ shows (start (place_of_children p h) false (frame_under w h) (w ∷ outer) (behind_header rules w h n)) (styled_lines (Dump style.pure) (length outer) h.offset (header_notes rules w h) ++ holder_line (at_level style names p.depth) h)
+      ≡ shows (start (place_of_children p h) false (frame_under w h) (w ∷ outer) (behind_header rules w h n)) (styled_lines (Dump style.pure) (length outer) h.offset (header_findings_in rules w h) ++ holder_line (at_level style names p.depth) h)
   opened-shown p holder before w outer n h k there low far =
       opens-by (lines_at style names p.depth p.at (is_padding before)) (standing rules w outer n) h h.constructed (h.number == 3)
       ∙ ap₂ (λ (d : Effect LinesState) (f : FinderValue). shows (pair d.state f.state) (texts style f ++ d.put))
@@ -105,20 +105,20 @@ module _ (style : Layout) (names : Table) (rules : Rules) where
       → p.at + (length (octets_of h) + length c) ≤ 2 ^ 64 - 1
       → effect_of dump_step (start p padded w outer n) (Begin h ∷ Bytes c ∷ End ∷ [])
       ≡ shows (start (place_after p (length (octets_of h) + length c)) false (behind_primitive rules w h c) outer (behind_contents rules w h c n))
-      (styled_lines (Dump style.pure) (length outer) h.offset (header_notes rules w h) ++ (whole_lines (finite.get names) h (at_level style names p.depth) c ++ styled_lines (Dump style.pure) (length outer) h.offset (contents_findings rules h c)))
+      (styled_lines (Dump style.pure) (length outer) h.offset (header_findings_in rules w h) ++ (whole_lines (finite.get names) h (at_level style names p.depth) c ++ styled_lines (Dump style.pure) (length outer) h.offset (contents_findings rules h c)))
   primitive-shown p padded w outer n h c there size far =
       primitive-by (lines_at style names p.depth p.at padded) (standing rules w outer n) h c
-      ∙ ap₂ (λ (d : Effect LinesState) (f : FinderValue). shows (pair d.state f.state) (styled_lines (Dump style.pure) (length outer) h.offset (header_notes rules w h) ++ (d.put ++ texts style f)))
+      ∙ ap₂ (λ (d : Effect LinesState) (f : FinderValue). shows (pair d.state f.state) (styled_lines (Dump style.pure) (length outer) h.offset (header_findings_in rules w h) ++ (d.put ++ texts style f)))
       (primitive_shown style names p.depth p.at padded h c there size far)
       (primitive-find rules w outer n h c (sym size))
 
-  pub shows_forest : (p : Place) (holder : Option HeaderValue) (before : Before) (w : SiblingFrame) (outer : List SiblingFrame) (f : Forest) → IsOpen p f → p.at + length (spell f) ≤ 2 ^ 64 - 1 → Known p holder before w outer
+  pub shows_forest : (p : Place) (holder : Option HeaderValue) (before : Before) (w : SiblingFrame) (outer : List SiblingFrame) (f : Forest) → IsOpen p f → p.at + length (spelling f) ≤ 2 ^ 64 - 1 → Known p holder before w outer
       → IsShown p holder before w outer f
-  shows_forest p holder before w outer Stop v b k = record {
+  shows_forest p holder before w outer NoMore v b k = record {
     text = λ n. refl;
     stands = λ n e. (n, ap (λ (at : ℕ). pair (lines_at style names p.depth at (is_padding before)) (standing rules w outer n)) (omega arith));
   }
-  shows_forest p holder before w outer (Fill rest) v b k =
+  shows_forest p holder before w outer (PaddingOctet rest) v b k =
       let s : Site = site p holder before in
       let t = shows_forest (place_after p 1) holder Padding w outer rest v.1 (omega (arith, b)) (knows-padding w s k.0 (k.2 v.0.0), k.1, k.2) in
       let one : (n : ℕ) → effect_of dump_step (start p (is_padding before) w outer n) (Pad (0 ∷ []) ∷ []) ≡ shows (start (place_after p 1) true w outer n) (if is_padding before then [] else padding_line (at_level style names p.depth) p.at) =
@@ -135,7 +135,7 @@ module _ (style : Layout) (names : Table) (rules : Rules) where
           → (if k then [] else padding_line (at_level style names level) at) ++ texts_of l ≡ texts_of ((if k then [] else PaddingLine level at ∷ []) ++ l)
       pads true level at l = refl
       pads false level at l = refl
-  shows_forest p holder before w outer (Whole h c rest) v b k =
+  shows_forest p holder before w outer (Primitive h c rest) v b k =
       let s : Site = site p holder before in
       let q : Place = place_after p (length (octets_of h) + length c) in
       let size : announced_length h.size ≡ length c = ap announced_length v.0.1 in
@@ -150,8 +150,8 @@ module _ (style : Layout) (names : Table) (rules : Rules) where
       record {
         text = λ n.
             ap (λ (x : Effect DumpState). x.put) (all n)
-            ∙ three (styled_lines (Dump style.pure) (length outer) h.offset (header_notes rules w h)) (whole_lines (finite.get names) h (at_level style names p.depth) c) (styled_lines (Dump style.pure) (length outer) h.offset (contents_findings rules h c)) (texts_of others)
-            ∙ found-first (length outer) p.depth h.offset (header_notes rules w h) (header_findings rules s h) _ (WholePrimitive p.depth h c ∷ (findings_at p.depth h.offset (contents_findings rules h c) ++ others)) k.1 (header-same rules w s h k.0)
+            ∙ three (styled_lines (Dump style.pure) (length outer) h.offset (header_findings_in rules w h)) (whole_lines (finite.get names) h (at_level style names p.depth) c) (styled_lines (Dump style.pure) (length outer) h.offset (contents_findings rules h c)) (texts_of others)
+            ∙ found-first (length outer) p.depth h.offset (header_findings_in rules w h) (header_findings rules s h) _ (PrimitiveLines p.depth h c ∷ (findings_at p.depth h.offset (contents_findings rules h c) ++ others)) k.1 (header-same rules w s h k.0)
             (ap (λ (l : List ℕ). whole_lines (finite.get names) h (at_level style names p.depth) c ++ l) (found-first (length outer) p.depth h.offset (contents_findings rules h c) (contents_findings rules h c) (texts_of others) others k.1 refl refl));
         stands = λ n e.
             let r = t.stands (behind_contents rules w h c n) e in (
@@ -163,7 +163,7 @@ module _ (style : Layout) (names : Table) (rules : Rules) where
     where
       three : (a b c d : List ℕ) → (a ++ (b ++ c)) ++ d ≡ a ++ (b ++ (c ++ d))
       three a b c d = simp append_assoc
-  shows_forest p holder before w outer (Closed h inside rest) v b k =
+  shows_forest p holder before w outer (Holder h inside rest) v b k =
       let s : Site = site p holder before in
       let q : Place = place_after p (extent h inside) in
       let i_place : Place = place_of_children p h in
@@ -171,16 +171,16 @@ module _ (style : Layout) (names : Table) (rules : Rules) where
       let i = shows_forest i_place (Some h) Start (frame_under w h) (w ∷ outer) inside v.1 (omega (arith, b, size)) (knows-inside w s h, omega (arith, k.1), λ e. absurd (cc (e))) in
       let t = shows_forest q holder (Sibling h None) (frame_after w (is_primitive h) (announced_length h.size) false) outer rest v.2 (omega (arith, b, size))
       (knows-behind w s (site_after_holder s h inside) h None false k.0 refl refl refl, k.1, k.2) in
-      let end : ℕ = p.at + length (opening h) + length (spell inside) in
+      let end : ℕ = p.at + length (opening h) + length (spelling inside) in
       let line : List ℕ = holder_line (at_level style names p.depth) h in
       let close : List ℕ = close_line (at_level style names p.depth) (end_place h inside) in
-      let first : List ℕ = styled_lines (Dump style.pure) (length outer) h.offset (header_notes rules w h) in
-      let last : List ℕ = styled_lines (Dump style.pure) (length outer) h.offset (end_findings rules h (heads inside)) in
+      let first : List ℕ = styled_lines (Dump style.pure) (length outer) h.offset (header_findings_in rules w h) in
+      let last : List ℕ = styled_lines (Dump style.pure) (length outer) h.offset (end_findings rules h (headers inside)) in
       let held : List ℕ = texts_of (items rules (site_of_children s h) inside) in
       let closes-shown : (m : ℕ) → effect_of dump_step (pair (lines_at style names (p.depth + 1) end false) (standing rules (noted_all (frame_under w h) inside) (w ∷ outer) m)) (closing_event h inside ∷ [])
       ≡ shows (start q false (frame_after w (is_primitive h) (announced_length h.size) false) outer (behind_end rules h inside m)) (close ++ last) =
       λ m.
-      closes-by (lines_at style names (p.depth + 1) end false) (standing rules (noted_all (frame_under w h) inside) (w ∷ outer) m) (end_offset h.size (h.offset + length (opening h) + length (spell inside))) h.constructed
+      closes-by (lines_at style names (p.depth + 1) end false) (standing rules (noted_all (frame_under w h) inside) (w ∷ outer) m) (end_offset h.size (h.offset + length (opening h) + length (spelling inside))) h.constructed
       ∙ ap₂ (λ (d : Effect LinesState) (f : FinderValue). shows (pair d.state f.state) (d.put ++ texts style f))
       (closer_shown style names p.depth end h inside (omega (arith, v.0.0.header.offset)) v.0.0.header.valid.allowed (omega (arith, b, size)))
       (closed-find rules i_place w outer m h inside v.1 v.0.1)
@@ -214,14 +214,14 @@ module _ (style : Layout) (names : Table) (rules : Rules) where
       ap (effect_of dump_step (start p (is_padding before) w outer n)) (sym joined)
       ∙ behind-shown p q (is_padding before) w outer n (element n).0 (frame_after w (is_primitive h) (announced_length h.size) false) holder (Sibling h None) es ((first ++ line) ++ (held ++ (close ++ last))) rest refl (element n).1 t in
       let others : List Item = items rules (site_after_holder s h inside) rest in
-      let closing : List Item = ClosingLine p.depth (end_place h inside) ∷ (findings_at p.depth h.offset (end_findings rules h (heads inside)) ++ others) in
+      let closing : List Item = ClosingLine p.depth (end_place h inside) ∷ (findings_at p.depth h.offset (end_findings rules h (headers inside)) ++ others) in
       record {
         text = λ n.
             ap (λ (x : Effect DumpState). x.put) (all n)
             ∙ six first line held close last (texts_of others)
-            ∙ found-first (length outer) p.depth h.offset (header_notes rules w h) (header_findings rules s h) _ (OpeningLine p.depth h ∷ (items rules (site_of_children s h) inside ++ closing)) k.1 (header-same rules w s h k.0)
+            ∙ found-first (length outer) p.depth h.offset (header_findings_in rules w h) (header_findings rules s h) _ (OpeningLine p.depth h ∷ (items rules (site_of_children s h) inside ++ closing)) k.1 (header-same rules w s h k.0)
             (ap (λ (l : List ℕ). line ++ l)
-            (ap (λ (l : List ℕ). held ++ (close ++ l)) (found-first (length outer) p.depth h.offset (end_findings rules h (heads inside)) (end_findings rules h (heads inside)) (texts_of others) others k.1 refl refl)
+            (ap (λ (l : List ℕ). held ++ (close ++ l)) (found-first (length outer) p.depth h.offset (end_findings rules h (headers inside)) (end_findings rules h (headers inside)) (texts_of others) others k.1 refl refl)
             ∙ sym (split (items rules (site_of_children s h) inside) closing)));
         stands = λ n e.
             let r = t.stands (element n).0 e in (
@@ -237,18 +237,18 @@ module _ (style : Layout) (names : Table) (rules : Rules) where
       as_shows : (s t : DumpState) (es : List EventValue) (put : List ℕ) → (effect_of dump_step s es).state ≡ t → (effect_of dump_step s es).put ≡ put → effect_of dump_step s es ≡ shows t put
       as_shows s t es put e f =
           ap (λ (g : Go). record { state = (effect_of dump_step s es).state; put = (effect_of dump_step s es).put; goes = g }) (all_on s es) ∙ ap₂ (λ (u : DumpState) (l : List ℕ). shows u l) e f
-  shows_forest p holder before w outer (Partial h c) v b k = record {
+  shows_forest p holder before w outer (OpenPrimitive h c) v b k = record {
     text = λ n.
         part-by (lines_at style names p.depth p.at (is_padding before)) (standing rules w outer n) h c
-        ∙ found-first (length outer) p.depth h.offset (header_notes rules w h) (header_findings rules (site p holder before) h) _ (OpenPrimitive p.depth h c ∷ []) k.1 (header-same rules w (site p holder before) h k.0)
+        ∙ found-first (length outer) p.depth h.offset (header_findings_in rules w h) (header_findings rules (site p holder before) h) _ (OpenPrimitiveLines p.depth h c ∷ []) k.1 (header-same rules w (site p holder before) h k.0)
         (part_shown style names p.depth p.at (is_padding before) h c (omega (arith, v.1)) ∙ sym (append-nil (open_lines h (at_level style names p.depth) c)));
     stands = λ n e. absurd (cc (e));
   }
-  shows_forest p holder before w outer (Entered h inside) v b k =
+  shows_forest p holder before w outer (OpenHolder h inside) v b k =
       let s : Site = site p holder before in
-      let size = length-append (opening h) (spell inside) in
+      let size = length-append (opening h) (spelling inside) in
       let i = shows_forest (place_of_children p h) (Some h) Start (frame_under w h) (w ∷ outer) inside v.1 (omega (arith, b, size)) (knows-inside w s h, omega (arith, k.1), λ e. absurd (cc (e))) in
-      let first : List ℕ = styled_lines (Dump style.pure) (length outer) h.offset (header_notes rules w h) in
+      let first : List ℕ = styled_lines (Dump style.pure) (length outer) h.offset (header_findings_in rules w h) in
       let line : List ℕ = holder_line (at_level style names p.depth) h in
       record {
         text = λ n.
@@ -257,13 +257,13 @@ module _ (style : Layout) (names : Table) (rules : Rules) where
             (opened-shown p holder before w outer n h k v.0.0.header.offset (v.0.0.depth refl) (omega (arith, b, size))))
             ∙ ap (λ (l : List ℕ). (first ++ line) ++ l) (i.text (behind_header rules w h n))
             ∙ append_assoc first line (texts_of (items rules (site_of_children s h) inside))
-            ∙ found-first (length outer) p.depth h.offset (header_notes rules w h) (header_findings rules s h) _ (OpeningLine p.depth h ∷ items rules (site_of_children s h) inside) k.1 (header-same rules w s h k.0) refl;
+            ∙ found-first (length outer) p.depth h.offset (header_findings_in rules w h) (header_findings rules s h) _ (OpeningLine p.depth h ∷ items rules (site_of_children s h) inside) k.1 (header-same rules w s h k.0) refl;
         stands = λ n e. absurd (cc (e));
       }
-  shows_forest p holder before w outer (Awaiting h) v b k = record {
+  shows_forest p holder before w outer (OpenBitString h) v b k = record {
     text = λ n.
-        append_assoc (styled_lines (Dump style.pure) (length outer) h.offset (header_notes rules w h)) (opening_line (at_level style names p.depth) h (codes " wraps {")) []
-        ∙ found-first (length outer) p.depth h.offset (header_notes rules w h) (header_findings rules (site p holder before) h) _ (OpeningLine p.depth h ∷ []) k.1 (header-same rules w (site p holder before) h k.0)
+        append_assoc (styled_lines (Dump style.pure) (length outer) h.offset (header_findings_in rules w h)) (opening_line (at_level style names p.depth) h (codes " wraps {")) []
+        ∙ found-first (length outer) p.depth h.offset (header_findings_in rules w h) (header_findings rules (site p holder before) h) _ (OpeningLine p.depth h ∷ []) k.1 (header-same rules w (site p holder before) h k.0)
         (ap (λ (l : List ℕ). l ++ []) (sym (awaiting p.depth h h.constructed v.1)));
     stands = λ n e. absurd (cc (e));
   }
@@ -272,5 +272,5 @@ module _ (style : Layout) (names : Table) (rules : Rules) where
           → opening_line (at_level style names level) h (if k then codes " {" else codes " wraps {") ≡ opening_line (at_level style names level) h (codes " wraps {")
       awaiting level h true e = absurd (cc (e))
       awaiting level h false e = refl
-  shows_forest p holder before w outer (Begun octets) v b k = record { text = λ n. refl; stands = λ n e. absurd (cc (e)) }
-  shows_forest p holder before w outer Zero v b k = record { text = λ n. refl; stands = λ n e. absurd (cc (e)) }
+  shows_forest p holder before w outer (OpenHeader octets) v b k = record { text = λ n. refl; stands = λ n e. absurd (cc (e)) }
+  shows_forest p holder before w outer OpenEndOctets v b k = record { text = λ n. refl; stands = λ n e. absurd (cc (e)) }

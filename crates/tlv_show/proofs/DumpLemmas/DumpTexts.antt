@@ -15,11 +15,11 @@ use Rattle.tlv_value.specs.Value.{NameOf}
 use Rattle.tlv_value.proofs.TextLemmas.Pieces.{lines-end, open-lines}
 use Rattle.tlv_walk.specs.Events.{Begin, Bytes, Close, End, Enter, EventValue, Leave, Open, Pad, Unused, closing_event, end_offset, opening_events}
 use Rattle.tlv_walk.specs.Follow.{Effect, and_then, effect_of, if_on}
-use Rattle.tlv_walk.specs.Forest.{Forest, Stop, Fill, Whole, Closed, Partial, Entered, Awaiting, Begun, Zero, end_octets, extent, lead, opening, spell}
+use Rattle.tlv_walk.specs.Forest.{Forest, NoMore, PaddingOctet, Primitive, Holder, OpenPrimitive, OpenHolder, OpenBitString, OpenHeader, OpenEndOctets, end_octets, extent, lead, opening, spelling}
 use Rattle.tlv_walk.specs.Place.{IsOpen, Place, is_indefinite, place_after}
 use Rattle.tlv_walk.proofs.FollowerLemmas.Followed.{followed-more}
 use Rattle.tlv_walk.proofs.GrammarLemmas.Spellings.{length-opening}
-use Rattle.tlv_show.specs.LinesStep.{LinesState, lines_step, offset_after, past_header, put_lines}
+use Rattle.tlv_show.specs.LinesStep.{LinesState, lines_effect, lines_step, offset_after, past_header}
 use Rattle.tlv_show.specs.EndPlace.{end_place}
 use Rattle.tlv_show.specs.Lines.{close_line, opening_line, padding_line}
 use Rattle.tlv_show.proofs.DumpLemmas.HolderLine.{holder_line}
@@ -35,7 +35,7 @@ both : (s : LinesState) (xs ys : List EventValue) → effect_of lines_step s (xs
 both s xs ys = followed-more lines_step s xs ys (all_on s xs)
 
 -- what was made, and then more
-then_more : (s t : LinesState) (put : List ℕ) (xs ys : List EventValue) → effect_of lines_step s xs ≡ put_lines t put
+then_more : (s t : LinesState) (put : List ℕ) (xs ys : List EventValue) → effect_of lines_step s xs ≡ lines_effect t put
     → effect_of lines_step s (xs ++ ys) ≡ record (effect_of lines_step t ys) { put = put ++ (effect_of lines_step t ys).put }
 then_more s t put xs ys e = both s xs ys ∙ ap (λ (k : Effect LinesState). and_then k (λ u. effect_of lines_step u ys)) e
 
@@ -57,7 +57,7 @@ whole_shown name_of h layout c e =
 -- whatever went before
 pub primitives_shown : (s : LinesState) (h : HeaderValue) (c : List ℕ) → announced_length h.size ≡ length c
     → effect_of lines_step s (Begin h ∷ Bytes c ∷ End ∷ [])
-    ≡ put_lines (record (past_header s h) { offset = offset_after (past_header s h).offset (length c); value = None }) (whole_lines (finite.get s.names) h s.layout c)
+    ≡ lines_effect (record (past_header s h) { offset = offset_after (past_header s h).offset (length c); value = None }) (whole_lines (finite.get s.names) h s.layout c)
 primitives_shown s h c size =
     let t : TextState = new_text h s.layout in
     let u : LinesState = record (past_header s h) { value = Some t } in
@@ -65,9 +65,9 @@ primitives_shown s h c size =
     let took = take-all (announced_length h.size) c (omega (arith, size)) in
     let none : announced_length h.size - length c ≡ 0 = omega (arith, size) in
     ap (λ (k : Effect LinesState). behind_put (begin_lines t) (if_on k.goes k (λ w. effect_of lines_step w (End ∷ [])))) (dumped_bytes u c (λ e. rested-new h s.layout))
-    ∙ ap (λ (l : List ℕ). put_lines place_after (begin_lines t ++ (contents_lines t l ++ ((if eqb (announced_length h.size - length l) 0 then end_lines (finite.get s.names) (text_after t l) else []) ++ [])))) took
-    ∙ ap (λ (n : ℕ). put_lines place_after (begin_lines t ++ (contents_lines t c ++ ((if eqb n 0 then end_lines (finite.get s.names) (text_after t c) else []) ++ [])))) none
-    ∙ ap (put_lines place_after) (whole_shown (finite.get s.names) h s.layout c (sym size))
+    ∙ ap (λ (l : List ℕ). lines_effect place_after (begin_lines t ++ (contents_lines t l ++ ((if eqb (announced_length h.size - length l) 0 then end_lines (finite.get s.names) (text_after t l) else []) ++ [])))) took
+    ∙ ap (λ (n : ℕ). lines_effect place_after (begin_lines t ++ (contents_lines t c ++ ((if eqb n 0 then end_lines (finite.get s.names) (text_after t c) else []) ++ [])))) none
+    ∙ ap (lines_effect place_after) (whole_shown (finite.get s.names) h s.layout c (sym size))
 
 -- of elements in this style, with these names
 module _ (style : Layout) (names : Table) where
@@ -79,9 +79,9 @@ module _ (style : Layout) (names : Table) where
   standing level at padded = record { layout = at_level level; names = names; offset = at; in_padding = padded; value = None }
 
   -- a state between two elements, and what was put
-  settled : (l m o n : ℕ) (k j : Bool) (put put' : List ℕ) → l ≡ m → o ≡ n → k ≡ j → put ≡ put' → put_lines (standing l o k) put ≡ put_lines (standing m n j) put'
+  settled : (l m o n : ℕ) (k j : Bool) (put put' : List ℕ) → l ≡ m → o ≡ n → k ≡ j → put ≡ put' → lines_effect (standing l o k) put ≡ lines_effect (standing m n j) put'
   settled l m o n k j put put' e f g i =
-      ap₂ (λ (l : ℕ) (put : List ℕ). put_lines (standing l o k) put) e i ∙ ap₂ (λ (o : ℕ) (k : Bool). put_lines (standing m o k) put') f g
+      ap₂ (λ (l : ℕ) (put : List ℕ). lines_effect (standing l o k) put) e i ∙ ap₂ (λ (o : ℕ) (k : Bool). lines_effect (standing m o k) put') f g
 
   -- ---- a primitive
 
@@ -89,7 +89,7 @@ module _ (style : Layout) (names : Table) where
   begun_in level at padded h = record (past_header (standing level at padded) h) { value = Some (new_text h (at_level level)) }
 
   pub primitive_shown : (level at : ℕ) (padded : Bool) (h : HeaderValue) (c : List ℕ) → h.offset ≡ at → announced_length h.size ≡ length c → at + (length (octets_of h) + length c) ≤ 2 ^ 64 - 1
-      → effect_of lines_step (standing level at padded) (Begin h ∷ Bytes c ∷ End ∷ []) ≡ put_lines (standing level (at + (length (octets_of h) + length c)) false) (whole_lines (finite.get names) h (at_level level) c)
+      → effect_of lines_step (standing level at padded) (Begin h ∷ Bytes c ∷ End ∷ []) ≡ lines_effect (standing level (at + (length (octets_of h) + length c)) false) (whole_lines (finite.get names) h (at_level level) c)
   primitive_shown level at padded h c there size far_enough =
       primitives_shown (standing level at padded) h c size
       ∙ settled level level (offset_after (offset_after h.offset (length (octets_of h))) (length c)) (at + (length (octets_of h) + length c)) false false _ (whole_lines (finite.get names) h (at_level level) c)
@@ -113,7 +113,7 @@ module _ (style : Layout) (names : Table) where
   holder_by : (level at : ℕ) (padded k three : Bool) (h : HeaderValue) → h.offset ≡ at → level + 1 ≤ 255
       → at + (length (octets_of h) + length (lead_by k three)) ≤ 2 ^ 64 - 1
       → effect_of lines_step (standing level at padded) ((if k then Open h else Enter h) ∷ map (λ z. Unused) (lead_by k three))
-      ≡ put_lines (standing (level + 1) (at + (length (octets_of h) + length (lead_by k three))) false) (opening_line (at_level level) h (if k then codes " {" else codes " wraps {"))
+      ≡ lines_effect (standing (level + 1) (at + (length (octets_of h) + length (lead_by k three))) false) (opening_line (at_level level) h (if k then codes " {" else codes " wraps {"))
   holder_by level at padded true three h there low far_enough =
       settled (min (level + 1) 255) (level + 1) (offset_after h.offset (length (octets_of h))) (at + (length (octets_of h) + 0)) false false _ (opening_line (at_level level) h (codes " {"))
       (omega (arith, low)) (omega (arith, there, far_enough)) refl (append-nil (opening_line (at_level level) h (codes " {")))
@@ -125,7 +125,7 @@ module _ (style : Layout) (names : Table) where
       (omega (arith, low)) (omega (arith, there, far_enough)) refl (append-nil (opening_line (at_level level) h (codes " wraps {")))
 
   pub holder_shown : (level at : ℕ) (padded : Bool) (h : HeaderValue) → h.offset ≡ at → level + 1 ≤ 255 → at + length (opening h) ≤ 2 ^ 64 - 1
-      → effect_of lines_step (standing level at padded) (opening_events h) ≡ put_lines (standing (level + 1) (at + length (opening h)) false) (holder_line (at_level level) h)
+      → effect_of lines_step (standing level at padded) (opening_events h) ≡ lines_effect (standing (level + 1) (at + length (opening h)) false) (holder_line (at_level level) h)
   holder_shown level at padded h there low far_enough =
       holder_by level at padded h.constructed (eqb h.number 3) h there low (omega (arith, far_enough, length-opening h))
       ∙ settled (level + 1) (level + 1) (at + (length (octets_of h) + length (lead h))) (at + length (opening h)) false false (holder_line (at_level level) h) (holder_line (at_level level) h)
@@ -135,7 +135,7 @@ module _ (style : Layout) (names : Table) where
 
   closer_by : (level o : ℕ) (k : Bool) (size : Size) → AllowsSize k size → o + length (end_octets size) ≤ 2 ^ 64 - 1
       → effect_of lines_step (standing (level + 1) o false) ((if k then Close (end_offset size o) else Leave) ∷ [])
-      ≡ put_lines (standing level (o + length (end_octets size)) false) (close_line (at_level level) (if k && is_indefinite size then Some o else None))
+      ≡ lines_effect (standing level (o + length (end_octets size)) false) (close_line (at_level level) (if k && is_indefinite size then Some o else None))
   closer_by level o true (Definite n) allowed far_enough =
       settled (level + 1 - 1) level o (o + 0) false false _ (close_line (at_level level) None) (omega arith) (omega arith) refl (append-nil (close_line (at_level (level + 1 - 1)) None) ∙ ap (λ (l : ℕ). close_line (at_level l) None) (omega arith))
   closer_by level o true Indefinite allowed far_enough =
@@ -145,40 +145,40 @@ module _ (style : Layout) (names : Table) where
       settled (level + 1 - 1) level o (o + 0) false false _ (close_line (at_level level) None) (omega arith) (omega arith) refl (append-nil (close_line (at_level (level + 1 - 1)) None) ∙ ap (λ (l : ℕ). close_line (at_level l) None) (omega arith))
   closer_by level o false Indefinite allowed far_enough = absurd (cc (allowed))
 
-  pub closer_shown : (level o : ℕ) (h : HeaderValue) (inside : Forest) → h.offset + length (opening h) + length (spell inside) ≡ o → AllowsSize h.constructed h.size → o + length (end_octets h.size) ≤ 2 ^ 64 - 1
-      → effect_of lines_step (standing (level + 1) o false) (closing_event h inside ∷ []) ≡ put_lines (standing level (o + length (end_octets h.size)) false) (close_line (at_level level) (end_place h inside))
+  pub closer_shown : (level o : ℕ) (h : HeaderValue) (inside : Forest) → h.offset + length (opening h) + length (spelling inside) ≡ o → AllowsSize h.constructed h.size → o + length (end_octets h.size) ≤ 2 ^ 64 - 1
+      → effect_of lines_step (standing (level + 1) o false) (closing_event h inside ∷ []) ≡ lines_effect (standing level (o + length (end_octets h.size)) false) (close_line (at_level level) (end_place h inside))
   closer_shown level o h inside there allowed far_enough =
       subst (λ (n : ℕ). effect_of lines_step (standing (level + 1) o false) ((if h.constructed then Close (end_offset h.size n) else Leave) ∷ [])
-      ≡ put_lines (standing level (o + length (end_octets h.size)) false) (close_line (at_level level) (if h.constructed && is_indefinite h.size then Some n else None)))
+      ≡ lines_effect (standing level (o + length (end_octets h.size)) false) (close_line (at_level level) (if h.constructed && is_indefinite h.size then Some n else None)))
       (sym there) (closer_by level o h.constructed h.size allowed far_enough)
 
   -- ---- elements
 
   -- whether padding stands at their end
   abbrev pub padded_behind : Bool → Forest → Bool
-  padded_behind padded Stop = padded
-  padded_behind padded (Fill rest) = padded_behind true rest
-  padded_behind padded (Whole h c rest) = padded_behind false rest
-  padded_behind padded (Closed h inside rest) = padded_behind false rest
-  padded_behind padded (Partial h c) = false
-  padded_behind padded (Entered h inside) = false
-  padded_behind padded (Awaiting h) = false
-  padded_behind padded (Begun octets) = padded
-  padded_behind padded Zero = padded
+  padded_behind padded NoMore = padded
+  padded_behind padded (PaddingOctet rest) = padded_behind true rest
+  padded_behind padded (Primitive h c rest) = padded_behind false rest
+  padded_behind padded (Holder h inside rest) = padded_behind false rest
+  padded_behind padded (OpenPrimitive h c) = false
+  padded_behind padded (OpenHolder h inside) = false
+  padded_behind padded (OpenBitString h) = false
+  padded_behind padded (OpenHeader octets) = padded
+  padded_behind padded OpenEndOctets = padded
 
   -- inside an element there is none
   pub no_padding : (p : Place) (f : Forest) → p.padding ≡ false → IsOpen p f → padded_behind false f ≡ false
-  no_padding p Stop e v = refl
-  no_padding p (Fill rest) e v = absurd (true≢false (sym v.0.0 ∙ e))
-  no_padding p (Whole h c rest) e v = no_padding (place_after p (length (octets_of h) + length c)) rest e v.1
-  no_padding p (Closed h inside rest) e v = no_padding (place_after p (extent h inside)) rest e v.2
-  no_padding p (Partial h c) e v = refl
-  no_padding p (Entered h inside) e v = refl
-  no_padding p (Awaiting h) e v = refl
-  no_padding p (Begun octets) e v = refl
-  no_padding p Zero e v = refl
+  no_padding p NoMore e v = refl
+  no_padding p (PaddingOctet rest) e v = absurd (true≢false (sym v.0.0 ∙ e))
+  no_padding p (Primitive h c rest) e v = no_padding (place_after p (length (octets_of h) + length c)) rest e v.1
+  no_padding p (Holder h inside rest) e v = no_padding (place_after p (extent h inside)) rest e v.2
+  no_padding p (OpenPrimitive h c) e v = refl
+  no_padding p (OpenHolder h inside) e v = refl
+  no_padding p (OpenBitString h) e v = refl
+  no_padding p (OpenHeader octets) e v = refl
+  no_padding p OpenEndOctets e v = refl
 
-  pub fill_shown : (level at : ℕ) (padded : Bool) → at + 1 ≤ 2 ^ 64 - 1 → effect_of lines_step (standing level at padded) (Pad (0 ∷ []) ∷ []) ≡ put_lines (standing level (at + 1) true) (if padded then [] else padding_line (at_level level) at)
+  pub fill_shown : (level at : ℕ) (padded : Bool) → at + 1 ≤ 2 ^ 64 - 1 → effect_of lines_step (standing level at padded) (Pad (0 ∷ []) ∷ []) ≡ lines_effect (standing level (at + 1) true) (if padded then [] else padding_line (at_level level) at)
   fill_shown level at padded far_enough =
       let line = if padded then [] else padding_line (at_level level) at in
       settled level level (offset_after at 1) (at + 1) true true ((line ++ []) ++ []) line refl (far at 1 far_enough) refl (append-nil (line ++ []) ∙ append-nil line)

@@ -18,8 +18,8 @@ use Rattle.tlv_io.proofs.Puts.{puts_nothing, puts_text}
 use Rattle.tlv_show.specs.declared.frames.SiblingFrame.{SiblingFrame}
 use Rattle.tlv_show.specs.declared.finding_lines.Style.TheVariants.{Check}
 use Rattle.tlv_show.specs.CheckStep.{check_step, findings_effect, styled_lines}
-use Rattle.tlv_show.specs.FinderState.{FinderState, FinderValue, count_up, find_begin, find_bytes, frame_after, frame_after_segment, header_notes}
-use Rattle.tlv_show.specs.Private.FinderState.{PassesOrStays, PassesPrimitive, find_whole, with_state}
+use Rattle.tlv_show.specs.FinderState.{FinderState, FinderValue, count_up, finder_begin_step, finder_bytes_step, frame_after, frame_after_segment, header_findings_in}
+use Rattle.tlv_show.specs.Private.FinderState.{PassesOrStays, PassesPrimitive, finder_whole_step, with_state}
 use Rattle.tlv_show.specs.Private.UsualTypes.{IsUsual}
 use Rattle.tlv_show.specs.Found.{shows}
 use Rattle.tlv_show.proofs.FindingLemmas.CheckLaws.{each-found}
@@ -47,18 +47,18 @@ abbrev behind : FinderState → FinderState
 behind s = record s { value = None }
 
 pub passed : (s : FinderState) (h : HeaderValue) (c : List ℕ) → announced_length h.size ≡ length c → s.frame.has_segments ≡ false
-    → header_notes s.rules s.frame h ≡ [] → findings_on_contents h c ≡ []
-    → find_whole s h c ≡ record { state = behind s; level = length s.outer; at = h.offset; found = [] }
+    → header_findings_in s.rules s.frame h ≡ [] → findings_on_contents h c ≡ []
+    → finder_whole_step s h c ≡ record { state = behind s; level = length s.outer; at = h.offset; found = [] }
 passed s h c size w header contents =
     let at : SiblingFrame → ℕ → List Finding → FinderValue = λ (f : SiblingFrame) (n : ℕ) (fs : List Finding). record { state = standing s.rules f s.outer (count_up n (length fs)); level = length s.outer; at = h.offset; found = fs } in
     primitive-find s.rules s.frame s.outer s.count h c (sym size)
-    ∙ ap (λ (fs : List Finding). at (behind_primitive s.rules s.frame h c) (count_up s.count (length (header_notes s.rules s.frame h))) (filter (shows s.rules) fs)) contents
+    ∙ ap (λ (fs : List Finding). at (behind_primitive s.rules s.frame h c) (count_up s.count (length (header_findings_in s.rules s.frame h))) (filter (shows s.rules) fs)) contents
     ∙ ap (λ (fs : List Finding). at (behind_primitive s.rules s.frame h c) (count_up s.count (length fs)) []) header
     ∙ ap (λ (f : SiblingFrame). at f (count_up s.count 0) []) (outside s.frame _ _ w)
     ∙ ap (λ (n : ℕ). record { state = standing s.rules s.frame s.outer n; level = length s.outer; at = h.offset; found = [] }) (none-counted (count_up s.count 0) ∙ none-counted s.count)
 
 pub passes : (old new : FinderValue) (h : HeaderValue) (c : List ℕ) → announced_length h.size ≡ length c → old.state.frame.has_segments ≡ false
-    → header_notes old.state.rules old.state.frame h ≡ [] → findings_on_contents h c ≡ []
+    → header_findings_in old.state.rules old.state.frame h ≡ [] → findings_on_contents h c ≡ []
     → new ≡ with_state (behind old.state) old → PassesPrimitive old new h c
 passes old new h c size w header contents e =
     let all = passed old.state h c size w header contents in
@@ -73,15 +73,15 @@ passes old new h c size w header contents e =
 lists-none : (f : FinderValue) → f.found ≡ [] → findings_effect f ≡ no_effect f.state
 lists-none f e = ap (λ (l : List Finding). record { state = f.state; put = styled_lines Check f.level f.at l; goes = go.On }) e
 
-whole-checked : (s : FinderState) (h : HeaderValue) (o : List ℕ) → (find_begin s h).found ≡ [] → (find_whole s h (contents_in h o)).found ≡ []
-    → effect_of check_step s (whole_events h o) ≡ no_effect (find_whole s h (contents_in h o)).state
+whole-checked : (s : FinderState) (h : HeaderValue) (o : List ℕ) → (finder_begin_step s h).found ≡ [] → (finder_whole_step s h (contents_in h o)).found ≡ []
+    → effect_of check_step s (whole_events h o) ≡ no_effect (finder_whole_step s h (contents_in h o)).state
 whole-checked s h o begins ends =
     let c : List ℕ = contents_in h o in
-    let t : FinderState = (find_begin s h).state in
-    ap (λ (k : Effect FinderState). if_on k.goes k (λ u. effect_of check_step u (Bytes c ∷ End ∷ []))) (lists-none (find_begin s h) begins)
+    let t : FinderState = (finder_begin_step s h).state in
+    ap (λ (k : Effect FinderState). if_on k.goes k (λ u. effect_of check_step u (Bytes c ∷ End ∷ []))) (lists-none (finder_begin_step s h) begins)
     ∙ ap (λ (k : Effect FinderState). if_on k.goes k (λ u. effect_of check_step u (End ∷ []))) (each-found t c)
-    ∙ followed-one check_step (find_bytes t c) End
-    ∙ lists-none (find_whole s h c) ends
+    ∙ followed-one check_step (finder_bytes_step t c) End
+    ∙ lists-none (finder_whole_step s h c) ends
 
 module _ {D : Type 0} (state_of : D → DrainState) (a : Out D) (s : FinderState) (old new : FinderValue) (h : HeaderValue) (o : List ℕ) where
   pub whole-put : (x : Bool) (c : List ℕ) → s ≡ old.state → c ≡ contents_in h o → PassesOrStays old new h c x

@@ -11,7 +11,7 @@ use Rattle.tlv_io.specs.Device.{DrainState, SourceState}
 use Rattle.tlv_walk.specs.DriveJob.{Drives, drive_state, had_enough, run_over}
 use Rattle.tlv_walk.specs.Events.{EventValue, events}
 use Rattle.tlv_walk.specs.Follow.{Effect, effect_of, followed_events}
-use Rattle.tlv_walk.specs.Forest.{Forest, spell}
+use Rattle.tlv_walk.specs.Forest.{Forest, spelling}
 use Rattle.tlv_walk.specs.Job.{Job, Runs}
 use Rattle.tlv_walk.specs.Reading.{IsReading}
 use Rattle.tlv_walk.specs.Wrappers.{first_without_string}
@@ -50,7 +50,7 @@ module _ {S : Type 0} (next : S → EventValue → Effect S) (first : S) (framin
 
   -- the run over all events
   run_on : (f : Forest) (e : Ending) → run_over framing f (followed_events next first (events f)) (effect_of next first (events f)).goes e
-      ≡ record { ending = e; octets = length (spell f); enough = false; unused = first_without_string framing.inside f }
+      ≡ record { ending = e; octets = length (spelling f); enough = false; unused = first_without_string framing.inside f }
   run_on f e = ap (λ (g : Go). run_over framing f (followed_events next first (events f)) g e) (w.goes_on first (events f))
 
   pub shows_ok : (run : Run) (outcome : Outcome) → outcome.ending ≡ run.ending → outcome.findings ≡ count_in t → outcome.unused ≡ run.unused

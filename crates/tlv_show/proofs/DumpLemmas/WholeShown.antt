@@ -18,8 +18,8 @@ use Rattle.tlv_show.specs.CheckStep.{styled_lines}
 use Rattle.tlv_show.specs.LinesStep.{LinesState}
 use Rattle.tlv_show.specs.Private.LinesStep.{past_primitive}
 use Rattle.tlv_show.specs.DumpStep.{DumpState, dump_step}
-use Rattle.tlv_show.specs.FinderState.{FinderState, FinderValue, find_begin}
-use Rattle.tlv_show.specs.Private.FinderState.{PassesOrStays, PassesPrimitive, find_whole}
+use Rattle.tlv_show.specs.FinderState.{FinderState, FinderValue, finder_begin_step}
+use Rattle.tlv_show.specs.Private.FinderState.{PassesOrStays, PassesPrimitive, finder_whole_step}
 use Rattle.tlv_show.proofs.DumpLemmas.DumpEvents.{pair, primitive-by, shows, texts}
 use Rattle.tlv_show.proofs.DumpLemmas.DumpTexts.{primitives_shown}
 
@@ -27,13 +27,13 @@ abbrev pub lines_of : DumpState → HeaderValue → List ℕ → List ℕ
 lines_of s h c = whole_lines (finite.get s.lines.names) h s.lines.layout c
 
 abbrev pub after_whole : DumpState → HeaderValue → List ℕ → DumpState
-after_whole s h c = pair (past_primitive s.lines h c) (find_whole s.finder h c).state
+after_whole s h c = pair (past_primitive s.lines h c) (finder_whole_step s.finder h c).state
 
-pub whole_is : (s : DumpState) (h : HeaderValue) (c : List ℕ) → announced_length h.size ≡ length c → (find_begin s.finder h).found ≡ [] → (find_whole s.finder h c).found ≡ []
+pub whole_is : (s : DumpState) (h : HeaderValue) (c : List ℕ) → announced_length h.size ≡ length c → (finder_begin_step s.finder h).found ≡ [] → (finder_whole_step s.finder h c).found ≡ []
     → effect_of dump_step s (Begin h ∷ Bytes c ∷ End ∷ []) ≡ shows (after_whole s h c) (lines_of s h c)
 whole_is s h c size begins ends =
-    let b : FinderValue = find_begin s.finder h in
-    let f : FinderValue = find_whole s.finder h c in
+    let b : FinderValue = finder_begin_step s.finder h in
+    let f : FinderValue = finder_whole_step s.finder h c in
     let style = Dump s.lines.layout.pure in
     primitive-by s.lines s.finder h c
     ∙ ap (λ (d : Effect LinesState). shows (pair d.state f.state) (texts s.lines.layout b ++ (d.put ++ texts s.lines.layout f))) (primitives_shown s.lines h c size)
@@ -41,7 +41,7 @@ whole_is s h c size begins ends =
     ∙ ap (shows (after_whole s h c)) (append-nil (lines_of s h c))
 
 -- the events of its octets
-pub octets_are : (s : DumpState) (h : HeaderValue) (o c : List ℕ) → c ≡ contents_in h o → announced_length h.size ≡ length c → (find_begin s.finder h).found ≡ [] → (find_whole s.finder h c).found ≡ []
+pub octets_are : (s : DumpState) (h : HeaderValue) (o c : List ℕ) → c ≡ contents_in h o → announced_length h.size ≡ length c → (finder_begin_step s.finder h).found ≡ [] → (finder_whole_step s.finder h c).found ≡ []
     → effect_of dump_step s (whole_events h o) ≡ shows (after_whole s h c) (lines_of s h c)
 octets_are s h o c same size begins ends =
     ap (λ (l : List ℕ). effect_of dump_step s (Begin h ∷ Bytes l ∷ End ∷ [])) (sym same) ∙ whole_is s h c size begins ends
@@ -62,7 +62,7 @@ module _ (s u : DumpState) (old new : FinderValue) (h : HeaderValue) (o c : List
   pub stands_after : (l : LinesState) → l ≡ past_primitive u.lines h c → pair l new.state ≡ after_whole u h c
   stands_after l e =
       let p = took old new h c x on passes in
-      ap₂ pair e (ap (λ (f : FinderValue). f.state) p.state ∙ ap (λ (f : FinderState). (find_whole f h c).state) (sym finder))
+      ap₂ pair e (ap (λ (f : FinderValue). f.state) p.state ∙ ap (λ (f : FinderState). (finder_whole_step f h c).state) (sym finder))
 
 -- ---- by a call that may leave them to others
 

@@ -5,14 +5,14 @@ use Rattle.std.specs.List.{filter}
 use Rattle.std.specs.Prelude.{◌||◌, flat_map}
 use Rattle.tlv_value.specs.declared.finding.Finding.{Finding}
 use Rattle.tlv_value.specs.Checks.{findings_by, findings_on_contents}
-use Rattle.tlv_walk.specs.Forest.{Forest, Stop, Fill, Whole, Closed, Partial, Entered, Awaiting, Begun, Zero}
+use Rattle.tlv_walk.specs.Forest.{Forest, NoMore, PaddingOctet, Primitive, Holder, OpenPrimitive, OpenHolder, OpenBitString, OpenHeader, OpenEndOctets}
 use Rattle.tlv_show.specs.declared.rules.Rules.{Rules}
 use Rattle.tlv_show.specs.declared.rules.Rules.TheVariants.{Ber, Der, Cer}
 use Rattle.tlv_show.specs.Conditions.{end_conditions, header_conditions}
 use Rattle.tlv_show.specs.EndPlace.{end_place}
 use Rattle.tlv_show.specs.Found.{contents_findings, shows}
 use Rattle.tlv_show.proofs.FindingLemmas.EndFindings.{end_findings}
-use Rattle.tlv_show.specs.Items.{Item, FindingAt, OpeningLine, ClosingLine, WholePrimitive, OpenPrimitive, PaddingLine, heads, items}
+use Rattle.tlv_show.specs.Items.{Item, FindingAt, OpeningLine, ClosingLine, PrimitiveLines, OpenPrimitiveLines, PaddingLine, headers, items}
 use Rattle.tlv_show.proofs.FindingLemmas.ElementItems.{findings_at}
 use Rattle.tlv_show.specs.Laws.{BasicFindingsStay, is_basic}
 use Rattle.tlv_show.specs.Site.{Site, is_padding, site_of_children, top_site}
@@ -58,24 +58,24 @@ module _ (rules : Rules) where
   same-pads false level at xs ys e = e
 
   same : (s : Site) (f : Forest) → only (items Ber s f) ≡ basic (items rules s f)
-  same s Stop = refl
-  same s (Fill rest) = same-pads (is_padding s.before) s.level s.at _ _ (same (site_after_padding s) rest)
-  same s (Whole h c rest) =
-      same-found s.level h.offset (findings_by (header_conditions s h)) (WholePrimitive s.level h c ∷ (findings_at s.level h.offset (contents_findings Ber h c) ++ items Ber (site_after s h c) rest))
-      (WholePrimitive s.level h c ∷ (findings_at s.level h.offset (contents_findings rules h c) ++ items rules (site_after s h c) rest))
+  same s NoMore = refl
+  same s (PaddingOctet rest) = same-pads (is_padding s.before) s.level s.at _ _ (same (site_after_padding s) rest)
+  same s (Primitive h c rest) =
+      same-found s.level h.offset (findings_by (header_conditions s h)) (PrimitiveLines s.level h c ∷ (findings_at s.level h.offset (contents_findings Ber h c) ++ items Ber (site_after s h c) rest))
+      (PrimitiveLines s.level h c ∷ (findings_at s.level h.offset (contents_findings rules h c) ++ items rules (site_after s h c) rest))
       (same-found s.level h.offset (findings_on_contents h c) _ _ (same (site_after s h c) rest))
-  same s (Closed h inside rest) =
-      let last : Rules → List Item = λ r. ClosingLine s.level (end_place h inside) ∷ (findings_at s.level h.offset (end_findings r h (heads inside)) ++ items r (site_after_holder s h inside) rest) in
+  same s (Holder h inside rest) =
+      let last : Rules → List Item = λ r. ClosingLine s.level (end_place h inside) ∷ (findings_at s.level h.offset (end_findings r h (headers inside)) ++ items r (site_after_holder s h inside) rest) in
       same-found s.level h.offset (findings_by (header_conditions s h)) (OpeningLine s.level h ∷ (items Ber (site_of_children s h) inside ++ last Ber)) (OpeningLine s.level h ∷ (items rules (site_of_children s h) inside ++ last rules))
       (filter-append _ (items Ber (site_of_children s h) inside) (last Ber)
-      ∙ ap₂ (λ (a b : List Item). a ++ b) (same (site_of_children s h) inside) (same-found s.level h.offset (findings_by (end_conditions h (heads inside))) _ _ (same (site_after_holder s h inside) rest))
+      ∙ ap₂ (λ (a b : List Item). a ++ b) (same (site_of_children s h) inside) (same-found s.level h.offset (findings_by (end_conditions h (headers inside))) _ _ (same (site_after_holder s h inside) rest))
       ∙ sym (filter-append is_basic (items rules (site_of_children s h) inside) (last rules)))
-  same s (Partial h c) = same-found s.level h.offset (findings_by (header_conditions s h)) (OpenPrimitive s.level h c ∷ []) (OpenPrimitive s.level h c ∷ []) refl
-  same s (Entered h inside) =
+  same s (OpenPrimitive h c) = same-found s.level h.offset (findings_by (header_conditions s h)) (OpenPrimitiveLines s.level h c ∷ []) (OpenPrimitiveLines s.level h c ∷ []) refl
+  same s (OpenHolder h inside) =
       same-found s.level h.offset (findings_by (header_conditions s h)) (OpeningLine s.level h ∷ items Ber (site_of_children s h) inside) (OpeningLine s.level h ∷ items rules (site_of_children s h) inside) (same (site_of_children s h) inside)
-  same s (Awaiting h) = same-found s.level h.offset (findings_by (header_conditions s h)) (OpeningLine s.level h ∷ []) (OpeningLine s.level h ∷ []) refl
-  same s (Begun octets) = refl
-  same s Zero = refl
+  same s (OpenBitString h) = same-found s.level h.offset (findings_by (header_conditions s h)) (OpeningLine s.level h ∷ []) (OpeningLine s.level h ∷ []) refl
+  same s (OpenHeader octets) = refl
+  same s OpenEndOctets = refl
 
 pub basic_stay : BasicFindingsStay
 basic_stay rules framing f = sym (only-written (items Ber top_site f)) ∙ ap (flat_map check_line) (same rules top_site f)

@@ -13,7 +13,7 @@ use Rattle.tlv_walk.specs.declared.follow.Go.TheVariants as go
 use Rattle.tlv_walk.specs.declared.framing.Framing.{Framing}
 use Rattle.tlv_walk.specs.Events.{Begin, Bytes, Close, End, Enter, EventValue, Leave, Open, Pad, Unused, events}
 use Rattle.tlv_walk.specs.Follow.{Effect, effect_of, if_on}
-use Rattle.tlv_walk.specs.Forest.{Forest, Stop, Fill, Whole, Closed, Partial, Entered, Awaiting, Begun, Zero, extent, opening, spell}
+use Rattle.tlv_walk.specs.Forest.{Forest, NoMore, PaddingOctet, Primitive, Holder, OpenPrimitive, OpenHolder, OpenBitString, OpenHeader, OpenEndOctets, extent, opening, spelling}
 use Rattle.tlv_walk.specs.Place.{IsOpen, Place, place_after, place_of_children, top_place}
 use Rattle.tlv_walk.specs.Reading.{IsReading}
 use Rattle.tlv_walk.proofs.GrammarLemmas.PopHeaders.{header-length}
@@ -25,11 +25,11 @@ use Rattle.tlv_show.specs.CheckJob.{check_job}
 use Rattle.tlv_show.specs.CheckStep.{check_step, styled_lines}
 use Rattle.tlv_show.specs.Conditions.{end_conditions, header_conditions}
 use Rattle.tlv_show.specs.EndPlace.{end_place}
-use Rattle.tlv_show.specs.FinderState.{FinderState, FinderValue, OpenValue, count_up, find_frame_end, find_open, find_value_end, frame_under, header_notes, new_finder, open_value_after, top_frame}
-use Rattle.tlv_show.specs.Private.FinderState.{find_step}
+use Rattle.tlv_show.specs.FinderState.{FinderState, FinderValue, OpenValue, count_up, finder_frame_end_step, finder_open_step, finder_value_end_step, frame_under, header_findings_in, new_finder, open_value_after, top_frame}
+use Rattle.tlv_show.specs.Private.FinderState.{finder_step}
 use Rattle.tlv_show.specs.Found.{contents_findings, header_findings, shows}
 use Rattle.tlv_show.proofs.FindingLemmas.EndFindings.{end_findings}
-use Rattle.tlv_show.specs.Items.{Item, FindingAt, OpeningLine, ClosingLine, WholePrimitive, OpenPrimitive, PaddingLine, heads, items}
+use Rattle.tlv_show.specs.Items.{Item, FindingAt, OpeningLine, ClosingLine, PrimitiveLines, OpenPrimitiveLines, PaddingLine, headers, items}
 use Rattle.tlv_show.proofs.FindingLemmas.ElementItems.{findings_at}
 use Rattle.tlv_show.specs.Site.{Site, is_padding, site_of_children, top_site}
 use Rattle.tlv_show.proofs.FindingLemmas.SitesAfter.{site_after, site_after_holder, site_after_padding}
@@ -51,7 +51,7 @@ listed_run u = record { state = u.state; put = flat_map check_line u.put; goes =
 pub followed-run : (s : FinderState) (es : List EventValue) → effect_of check_step s es ≡ listed_run (run s es)
 followed-run s [] = refl
 followed-run s (e ∷ es) =
-    let f : FinderValue = find_step s e in
+    let f : FinderValue = finder_step s e in
     ap (λ (t : Effect FinderState). if_on t.goes t (λ u. effect_of check_step u es)) (step-is s e)
     ∙ ap (λ (t : Effect FinderState). record t { put = styled_lines Check f.level f.at f.found ++ t.put }) (followed-run f.state es)
     ∙ ap (λ (l : List ℕ). record { state = (run f.state es).state; put = l; goes = go.On })
@@ -63,8 +63,8 @@ only-written [] = refl
 only-written (FindingAt level at finding ∷ l) = ap (λ (t : List ℕ). check_line (FindingAt level at finding) ++ t) (only-written l)
 only-written (OpeningLine level h ∷ l) = only-written l
 only-written (ClosingLine level offset ∷ l) = only-written l
-only-written (WholePrimitive level h c ∷ l) = only-written l
-only-written (OpenPrimitive level h c ∷ l) = only-written l
+only-written (PrimitiveLines level h c ∷ l) = only-written l
+only-written (OpenPrimitiveLines level h c ∷ l) = only-written l
 only-written (PaddingLine level offset ∷ l) = only-written l
 
 -- ---- the count
@@ -79,20 +79,20 @@ either-count : (a b : FinderState) (k : Bool) → a.count ≡ b.count → (if k 
 either-count a b true e = sym e
 either-count a b false e = refl
 
-by-value : (s : FinderState) (v : Option OpenValue) → (find_value_end s v).state.count ≡ count_up s.count (length (find_value_end s v).found)
+by-value : (s : FinderState) (v : Option OpenValue) → (finder_value_end_step s v).state.count ≡ count_up s.count (length (finder_value_end_step s v).found)
 by-value s None = count-none s.count
 by-value s (Some v) = refl
 
-by-frames : (s : FinderState) (outer : List SiblingFrame) → (find_frame_end s outer).state.count ≡ count_up s.count (length (find_frame_end s outer).found)
+by-frames : (s : FinderState) (outer : List SiblingFrame) → (finder_frame_end_step s outer).state.count ≡ count_up s.count (length (finder_frame_end_step s outer).found)
 by-frames s [] = count-none s.count
 by-frames s (w ∷ outer) = refl
 
-opened-count : (s : FinderState) (h : HeaderValue) → (find_open s h).state.count ≡ count_up s.count (length (find_open s h).found)
+opened-count : (s : FinderState) (h : HeaderValue) → (finder_open_step s h).state.count ≡ count_up s.count (length (finder_open_step s h).found)
 opened-count s h =
-    ap (λ (n : ℕ). count_up n (length (header_notes s.rules s.frame h))) (either-count s (record s { frame = frame_under s.frame h; outer = s.frame ∷ s.outer }) (nat_lt (length s.outer) 128) refl)
+    ap (λ (n : ℕ). count_up n (length (header_findings_in s.rules s.frame h))) (either-count s (record s { frame = frame_under s.frame h; outer = s.frame ∷ s.outer }) (nat_lt (length s.outer) 128) refl)
 
 -- an event's findings are counted
-counted-one : (s : FinderState) (e : EventValue) → (find_step s e).state.count ≡ count_up s.count (length (find_step s e).found)
+counted-one : (s : FinderState) (e : EventValue) → (finder_step s e).state.count ≡ count_up s.count (length (finder_step s e).found)
 counted-one s (Open h) = opened-count s h
 counted-one s (Begin h) = refl
 counted-one s (Bytes octets) = either-count (record s { value = open_value_after s.value octets }) s (length octets == 0) refl ∙ count-none s.count
@@ -106,7 +106,7 @@ counted-one s (Pad octets) = count-none s.count
 pub counted-all : (s : FinderState) (es : List EventValue) → (run s es).state.count ≡ count_up s.count (length (run s es).put)
 counted-all s [] = count-none s.count
 counted-all s (e ∷ es) =
-    let f : FinderValue = find_step s e in
+    let f : FinderValue = finder_step s e in
     counted-all f.state es
     ∙ ap (λ (n : ℕ). count_up n (length (run f.state es).put)) (counted-one s e)
     ∙ count-more s.count (length f.found) (length (run f.state es).put)
@@ -145,43 +145,43 @@ module _ (rules : Rules) where
   few-contents : (h : HeaderValue) (c : List ℕ) → length (contents_findings rules h c) ≤ 15
   few-contents h c = held-few rules (contents_conditions h c)
 
-  few-end : (h : HeaderValue) (inside : Forest) → length (end_findings rules h (heads inside)) ≤ 2
-  few-end h inside = held-few rules (end_conditions h (heads inside))
+  few-end : (h : HeaderValue) (inside : Forest) → length (end_findings rules h (headers inside)) ≤ 2
+  few-end h inside = held-few rules (end_conditions h (headers inside))
 
   -- at most 16 findings for each octet
-  pub few : (p : Place) (s : Site) (f : Forest) → IsOpen p f → length (only (items rules s f)) ≤ 16 * length (spell f)
-  few p s Stop v = omega arith
-  few p s (Fill rest) v =
+  pub few : (p : Place) (s : Site) (f : Forest) → IsOpen p f → length (only (items rules s f)) ≤ 16 * length (spelling f)
+  few p s NoMore v = omega arith
+  few p s (PaddingOctet rest) v =
       omega (arith, few-pads (is_padding s.before) s.level s.at (items rules (site_after_padding s) rest), few (place_after p 1) (site_after_padding s) rest v.1)
-  few p s (Whole h c rest) v =
+  few p s (Primitive h c rest) v =
       let r = few (place_after p (length (octets_of h) + length c)) (site_after s h c) rest v.1 in
       let inner : List Item = findings_at s.level h.offset (contents_findings rules h c) ++ items rules (site_after s h c) rest in
       let b = few-at s.level h.offset (contents_findings rules h c) (items rules (site_after s h c) rest) 15 _ (few-contents h c) r in
-      let a = few-at s.level h.offset (header_findings rules s h) (WholePrimitive s.level h c ∷ inner) 14 _ (few-header s h) b in
+      let a = few-at s.level h.offset (header_findings rules s h) (PrimitiveLines s.level h c ∷ inner) 14 _ (few-header s h) b in
       omega (arith, a, header-length h v.0.0.header.valid, length-whole h c rest)
-  few p s (Closed h inside rest) v =
+  few p s (Holder h inside rest) v =
       let i = few (place_of_children p h) (site_of_children s h) inside v.1 in
       let r = few (place_after p (extent h inside)) (site_after_holder s h inside) rest v.2 in
-      let last : List Item = findings_at s.level h.offset (end_findings rules h (heads inside)) ++ items rules (site_after_holder s h inside) rest in
-      let b = few-at s.level h.offset (end_findings rules h (heads inside)) (items rules (site_after_holder s h inside) rest) 2 _ (few-end h inside) r in
+      let last : List Item = findings_at s.level h.offset (end_findings rules h (headers inside)) ++ items rules (site_after_holder s h inside) rest in
+      let b = few-at s.level h.offset (end_findings rules h (headers inside)) (items rules (site_after_holder s h inside) rest) 2 _ (few-end h inside) r in
       let m = few-both (items rules (site_of_children s h) inside) (ClosingLine s.level (end_place h inside) ∷ last) _ _ i b in
       let a = few-at s.level h.offset (header_findings rules s h) (OpeningLine s.level h ∷ (items rules (site_of_children s h) inside ++ ClosingLine s.level (end_place h inside) ∷ last)) 14 _ (few-header s h) m in
       omega (arith, a, header-length h v.0.0.header.valid, length-closed h inside rest, length-opening h)
     where
       few-both : (xs ys : List Item) (n m : ℕ) → length (only xs) ≤ n → length (only ys) ≤ m → length (only (xs ++ ys)) ≤ n + m
       few-both xs ys n m e f = omega (arith, e, f, ap length (filter-append is_finding xs ys), length-append (only xs) (only ys))
-  few p s (Partial h c) v =
-      let a = few-at s.level h.offset (header_findings rules s h) (OpenPrimitive s.level h c ∷ []) 14 0 (few-header s h) (omega arith) in
+  few p s (OpenPrimitive h c) v =
+      let a = few-at s.level h.offset (header_findings rules s h) (OpenPrimitiveLines s.level h c ∷ []) 14 0 (few-header s h) (omega arith) in
       omega (arith, a, header-length h v.0.header.valid, length-append (octets_of h) c)
-  few p s (Entered h inside) v =
+  few p s (OpenHolder h inside) v =
       let i = few (place_of_children p h) (site_of_children s h) inside v.1 in
       let a = few-at s.level h.offset (header_findings rules s h) (OpeningLine s.level h ∷ items rules (site_of_children s h) inside) 14 _ (few-header s h) i in
-      omega (arith, a, header-length h v.0.0.header.valid, length-append (opening h) (spell inside), length-opening h)
-  few p s (Awaiting h) v =
+      omega (arith, a, header-length h v.0.0.header.valid, length-append (opening h) (spelling inside), length-opening h)
+  few p s (OpenBitString h) v =
       let a = few-at s.level h.offset (header_findings rules s h) (OpeningLine s.level h ∷ []) 14 0 (few-header s h) (omega arith) in
       omega (arith, a, header-length h v.0.header.valid)
-  few p s (Begun octets) v = omega arith
-  few p s Zero v = omega arith
+  few p s (OpenHeader octets) v = omega arith
+  few p s OpenEndOctets v = omega arith
 
   -- ---- a check
 
@@ -200,7 +200,7 @@ module _ (rules : Rules) where
         let n = length-filter is_finding (items rules top_site f) in
         counted-all start (events f)
         ∙ ap (λ (l : List Item). count_up 0 (length l)) put-is
-        ∙ omega (arith, few (top_place framing) top_site f r.is_open, short, n, ap length r.front.1, length-append (spell f) r.front.0)
+        ∙ omega (arith, few (top_place framing) top_site f r.is_open, short, n, ap length r.front.1, length-append (spelling f) r.front.0)
 
     pub count-made : (effect_of check_step start (events f)).state.count ≡ finding_count rules f
     count-made = ap (λ (t : Effect FinderState). t.state.count) (followed-run start (events f)) ∙ count-run

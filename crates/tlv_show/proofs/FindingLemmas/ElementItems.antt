@@ -1,4 +1,4 @@
--- What is reported of an element, as proofs say it.
+-- What is reported of an element, in the words of proofs.
 use Rattle.std.specs.Prelude.{ℕ, List, map}
 use Rattle.tlv_head.specs.Header.{HeaderValue}
 use Rattle.tlv_value.specs.declared.finding.Finding.{Finding}
@@ -7,7 +7,7 @@ use Rattle.tlv_show.specs.declared.rules.Rules.{Rules}
 use Rattle.tlv_show.specs.Found.{contents_findings, header_findings}
 use Rattle.tlv_show.proofs.FindingLemmas.EndFindings.{end_findings}
 use Rattle.tlv_show.specs.Site.{Site}
-use Rattle.tlv_show.specs.Items.{Item, heads, FindingAt}
+use Rattle.tlv_show.specs.Items.{Item, headers, FindingAt}
 
 abbrev pub findings_at : ℕ → ℕ → List Finding → List Item
 findings_at level at findings = map (FindingAt level at) findings
@@ -20,4 +20,4 @@ module _ (rules : Rules) where
   on_contents s h c = findings_at s.level h.offset (contents_findings rules h c)
 
   abbrev pub on_end : Site → HeaderValue → Forest → List Item
-  on_end s h inside = findings_at s.level h.offset (end_findings rules h (heads inside))
+  on_end s h inside = findings_at s.level h.offset (end_findings rules h (headers inside))

@@ -1,4 +1,4 @@
--- Findings at an end, as proofs say them.
+-- Findings at an end, in the words of proofs.
 use Rattle.std.specs.Prelude.{List}
 use Rattle.std.specs.List.{filter}
 use Rattle.tlv_head.specs.Header.{HeaderValue}

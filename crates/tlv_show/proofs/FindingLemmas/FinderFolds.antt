@@ -9,19 +9,19 @@ use Rattle.tlv_value.specs.declared.finding.Finding.{Finding}
 use Rattle.tlv_value.specs.CheckState.{check_after, has_unused_bits, begins_nonzero, new_check, new_check_of, type_number}
 use Rattle.tlv_value.specs.Types.{bit_string, has_segments, is_a, is_primitive, octet_string}
 use Rattle.tlv_value.proofs.CheckLemmas.CheckPieces.{checked-none}
-use Rattle.tlv_walk.specs.Forest.{Forest, Stop, Fill, Whole, Closed, Partial, Entered, Awaiting, Begun, Zero, extent, is_complete}
+use Rattle.tlv_walk.specs.Forest.{Forest, NoMore, PaddingOctet, Primitive, Holder, OpenPrimitive, OpenHolder, OpenBitString, OpenHeader, OpenEndOctets, extent, is_complete}
 use Rattle.tlv_walk.specs.Place.{IsOpen, Place, place_after}
 use Rattle.tlv_show.specs.declared.frames.SiblingFrame.{SiblingFrame}
 use Rattle.tlv_show.specs.declared.rules.Rules.{Rules}
 use Rattle.tlv_show.specs.declared.rules.Rules.TheVariants.{Ber, Der, Cer}
 use Rattle.tlv_show.specs.Conditions.{end_conditions, ends_empty, follows_unused_bits, is_not_full}
-use Rattle.tlv_show.specs.FinderState.{end_notes, frame_after, frame_after_segment, frame_of, frame_under, top_frame}
+use Rattle.tlv_show.specs.FinderState.{end_findings_in, frame_after, frame_after_segment, frame_of, frame_under, top_frame}
 use Rattle.tlv_show.proofs.FindingLemmas.EndFindings.{end_findings}
-use Rattle.tlv_show.specs.Items.{heads}
+use Rattle.tlv_show.specs.Items.{headers}
 use Rattle.tlv_show.specs.Site.{Sibling, Site, in_bit_string, in_string, site_of_children}
 use Rattle.tlv_show.proofs.FindingLemmas.SitesAfter.{site_after_padding}
 use Rattle.tlv_show.proofs.FindingLemmas.SiteWords.{first_octet, is_held_by}
-use Rattle.tlv_show.proofs.FindingLemmas.HeaderNotes.{Knows, end-by, ends-are, ends_by, filter-held}
+use Rattle.tlv_show.proofs.FindingLemmas.HeaderFindings.{Knows, end-by, ends-are, ends_by, filter-held}
 
 -- ---- what frames know
 
@@ -107,27 +107,27 @@ knows-padding w s k e =
 
 -- a frame after elements of which none is open
 abbrev pub noted_all : SiblingFrame → Forest → SiblingFrame
-noted_all w Stop = w
-noted_all w (Fill rest) = noted_all w rest
-noted_all w (Whole h c rest) = noted_all (frame_after w true (announced_length h.size) (has_unused_bits (check_after (new_check h) c))) rest
-noted_all w (Closed h inside rest) = noted_all (frame_after w (is_primitive h) (announced_length h.size) false) rest
-noted_all w (Partial h c) = w
-noted_all w (Entered h inside) = w
-noted_all w (Awaiting h) = w
-noted_all w (Begun octets) = w
-noted_all w Zero = w
+noted_all w NoMore = w
+noted_all w (PaddingOctet rest) = noted_all w rest
+noted_all w (Primitive h c rest) = noted_all (frame_after w true (announced_length h.size) (has_unused_bits (check_after (new_check h) c))) rest
+noted_all w (Holder h inside rest) = noted_all (frame_after w (is_primitive h) (announced_length h.size) false) rest
+noted_all w (OpenPrimitive h c) = w
+noted_all w (OpenHolder h inside) = w
+noted_all w (OpenBitString h) = w
+noted_all w (OpenHeader octets) = w
+noted_all w OpenEndOctets = w
 
 -- the same of the segments of a string
 abbrev segments_noted : SiblingFrame → Forest → SiblingFrame
-segments_noted w Stop = w
-segments_noted w (Fill rest) = segments_noted w rest
-segments_noted w (Whole h c rest) = segments_noted (frame_after_segment w true (announced_length h.size) (has_unused_bits (check_after (new_check h) c))) rest
-segments_noted w (Closed h inside rest) = segments_noted (frame_after_segment w (is_primitive h) (announced_length h.size) false) rest
-segments_noted w (Partial h c) = w
-segments_noted w (Entered h inside) = w
-segments_noted w (Awaiting h) = w
-segments_noted w (Begun octets) = w
-segments_noted w Zero = w
+segments_noted w NoMore = w
+segments_noted w (PaddingOctet rest) = segments_noted w rest
+segments_noted w (Primitive h c rest) = segments_noted (frame_after_segment w true (announced_length h.size) (has_unused_bits (check_after (new_check h) c))) rest
+segments_noted w (Holder h inside rest) = segments_noted (frame_after_segment w (is_primitive h) (announced_length h.size) false) rest
+segments_noted w (OpenPrimitive h c) = w
+segments_noted w (OpenHolder h inside) = w
+segments_noted w (OpenBitString h) = w
+segments_noted w (OpenHeader octets) = w
+segments_noted w OpenEndOctets = w
 
 in-string : (w : SiblingFrame) (primitive : Bool) (size : ℕ) (unused : Bool) → w.has_segments ≡ true → frame_after w primitive size unused ≡ frame_after_segment w primitive size unused
 in-string w primitive size unused e = ap (λ (k : Bool). if k then frame_after_segment w primitive size unused else w) e
@@ -136,29 +136,29 @@ outside : (w : SiblingFrame) (primitive : Bool) (size : ℕ) (unused : Bool) →
 outside w primitive size unused e = ap (λ (k : Bool). if k then frame_after_segment w primitive size unused else w) e
 
 all-in-string : (w : SiblingFrame) (f : Forest) → w.has_segments ≡ true → noted_all w f ≡ segments_noted w f
-all-in-string w Stop e = refl
-all-in-string w (Fill rest) e = all-in-string w rest e
-all-in-string w (Whole h c rest) e =
+all-in-string w NoMore e = refl
+all-in-string w (PaddingOctet rest) e = all-in-string w rest e
+all-in-string w (Primitive h c rest) e =
     let u : Bool = has_unused_bits (check_after (new_check h) c) in
     ap (λ (t : SiblingFrame). noted_all t rest) (in-string w true (announced_length h.size) u e) ∙ all-in-string (frame_after_segment w true (announced_length h.size) u) rest e
-all-in-string w (Closed h inside rest) e =
+all-in-string w (Holder h inside rest) e =
     ap (λ (t : SiblingFrame). noted_all t rest) (in-string w (is_primitive h) (announced_length h.size) false e) ∙ all-in-string (frame_after_segment w (is_primitive h) (announced_length h.size) false) rest e
-all-in-string w (Partial h c) e = refl
-all-in-string w (Entered h inside) e = refl
-all-in-string w (Awaiting h) e = refl
-all-in-string w (Begun octets) e = refl
-all-in-string w Zero e = refl
+all-in-string w (OpenPrimitive h c) e = refl
+all-in-string w (OpenHolder h inside) e = refl
+all-in-string w (OpenBitString h) e = refl
+all-in-string w (OpenHeader octets) e = refl
+all-in-string w OpenEndOctets e = refl
 
 all-outside : (w : SiblingFrame) (f : Forest) → w.has_segments ≡ false → noted_all w f ≡ w
-all-outside w Stop e = refl
-all-outside w (Fill rest) e = all-outside w rest e
-all-outside w (Whole h c rest) e = ap (λ (t : SiblingFrame). noted_all t rest) (outside w true (announced_length h.size) (has_unused_bits (check_after (new_check h) c)) e) ∙ all-outside w rest e
-all-outside w (Closed h inside rest) e = ap (λ (t : SiblingFrame). noted_all t rest) (outside w (is_primitive h) (announced_length h.size) false e) ∙ all-outside w rest e
-all-outside w (Partial h c) e = refl
-all-outside w (Entered h inside) e = refl
-all-outside w (Awaiting h) e = refl
-all-outside w (Begun octets) e = refl
-all-outside w Zero e = refl
+all-outside w NoMore e = refl
+all-outside w (PaddingOctet rest) e = all-outside w rest e
+all-outside w (Primitive h c rest) e = ap (λ (t : SiblingFrame). noted_all t rest) (outside w true (announced_length h.size) (has_unused_bits (check_after (new_check h) c)) e) ∙ all-outside w rest e
+all-outside w (Holder h inside rest) e = ap (λ (t : SiblingFrame). noted_all t rest) (outside w (is_primitive h) (announced_length h.size) false e) ∙ all-outside w rest e
+all-outside w (OpenPrimitive h c) e = refl
+all-outside w (OpenHolder h inside) e = refl
+all-outside w (OpenBitString h) e = refl
+all-outside w (OpenHeader octets) e = refl
+all-outside w OpenEndOctets e = refl
 
 -- what a frame says of the holder
 pub record Stays (w t : SiblingFrame) : Type 0 where
@@ -177,15 +177,15 @@ stays-then : {u w t : SiblingFrame} → Stays u w → Stays w t → Stays u t
 stays-then a b = record { at = b.at ∙ a.at; size = b.size ∙ a.size; primitive = b.primitive ∙ a.primitive }
 
 stays : (w : SiblingFrame) (f : Forest) → Stays w (noted_all w f)
-stays w Stop = record { at = refl; size = refl; primitive = refl }
-stays w (Fill rest) = stays w rest
-stays w (Whole h c rest) = stays-then (stays-noted w true (announced_length h.size) (has_unused_bits (check_after (new_check h) c))) (stays (frame_after w true (announced_length h.size) (has_unused_bits (check_after (new_check h) c))) rest)
-stays w (Closed h inside rest) = stays-then (stays-noted w (is_primitive h) (announced_length h.size) false) (stays (frame_after w (is_primitive h) (announced_length h.size) false) rest)
-stays w (Partial h c) = record { at = refl; size = refl; primitive = refl }
-stays w (Entered h inside) = record { at = refl; size = refl; primitive = refl }
-stays w (Awaiting h) = record { at = refl; size = refl; primitive = refl }
-stays w (Begun octets) = record { at = refl; size = refl; primitive = refl }
-stays w Zero = record { at = refl; size = refl; primitive = refl }
+stays w NoMore = record { at = refl; size = refl; primitive = refl }
+stays w (PaddingOctet rest) = stays w rest
+stays w (Primitive h c rest) = stays-then (stays-noted w true (announced_length h.size) (has_unused_bits (check_after (new_check h) c))) (stays (frame_after w true (announced_length h.size) (has_unused_bits (check_after (new_check h) c))) rest)
+stays w (Holder h inside rest) = stays-then (stays-noted w (is_primitive h) (announced_length h.size) false) (stays (frame_after w (is_primitive h) (announced_length h.size) false) rest)
+stays w (OpenPrimitive h c) = record { at = refl; size = refl; primitive = refl }
+stays w (OpenHolder h inside) = record { at = refl; size = refl; primitive = refl }
+stays w (OpenBitString h) = record { at = refl; size = refl; primitive = refl }
+stays w (OpenHeader octets) = record { at = refl; size = refl; primitive = refl }
+stays w OpenEndOctets = record { at = refl; size = refl; primitive = refl }
 
 -- a primitive that holds nothing is not constructed
 pub not-constructed : (k wraps : Bool) → (k || wraps) ≡ false → k ≡ false
@@ -201,9 +201,9 @@ bit_of b = if b then 1 else 0
 record SumsUp (w : SiblingFrame) (n : ℕ) (f : Forest) : Type 0 where
   pub segments : (segments_noted w f).has_segments ≡ w.has_segments
   pub bits : (segments_noted w f).has_bits ≡ w.has_bits
-  pub all : (segments_noted w f).all_primitive ≡ (w.all_primitive && list_all is_primitive (heads f))
-  pub octets : (segments_noted w f).octets ≡ min (added (bit_of w.has_bits) n (heads f)) 1001
-  pub empty : (segments_noted w f).is_empty ≡ ends_empty w.is_empty (heads f)
+  pub all : (segments_noted w f).all_primitive ≡ (w.all_primitive && list_all is_primitive (headers f))
+  pub octets : (segments_noted w f).octets ≡ min (added (bit_of w.has_bits) n (headers f)) 1001
+  pub empty : (segments_noted w f).is_empty ≡ ends_empty w.is_empty (headers f)
 
 and-true : (a : Bool) → a ≡ (a && true)
 and-true true = refl
@@ -213,12 +213,12 @@ more-octets : (w n d : ℕ) → w ≡ min n 1001 → min (w + d) 1001 ≡ min (n
 more-octets w n d e = omega (arith, e)
 
 sums-up : (p : Place) (w : SiblingFrame) (n : ℕ) (f : Forest) → IsOpen p f → is_complete f ≡ true → w.octets ≡ min n 1001 → SumsUp w n f
-sums-up p w n Stop v e o =
+sums-up p w n NoMore v e o =
     record { segments = refl; bits = refl; all = and-true w.all_primitive; octets = o; empty = refl }
-sums-up p w n (Fill rest) v e o =
+sums-up p w n (PaddingOctet rest) v e o =
     let r = sums-up (place_after p 1) w n rest v.1 e o in
     record { segments = r.segments; bits = r.bits; all = r.all; octets = r.octets; empty = r.empty }
-sums-up p w n (Whole h c rest) v e o =
+sums-up p w n (Primitive h c rest) v e o =
     let d : ℕ = announced_length h.size - bit_of w.has_bits in
     let k : is_primitive h ≡ true = ap not (not-constructed h.constructed (wraps h) v.0.0.header.form) in
     let u : Bool = has_unused_bits (check_after (new_check h) c) in
@@ -226,27 +226,27 @@ sums-up p w n (Whole h c rest) v e o =
     record {
       segments = r.segments;
       bits = r.bits;
-      all = r.all ∙ and_assoc w.all_primitive true (list_all is_primitive (heads rest)) ∙ ap (λ (b : Bool). w.all_primitive && (b && list_all is_primitive (heads rest))) (sym k);
+      all = r.all ∙ and_assoc w.all_primitive true (list_all is_primitive (headers rest)) ∙ ap (λ (b : Bool). w.all_primitive && (b && list_all is_primitive (headers rest))) (sym k);
       octets = r.octets;
-      empty = r.empty ∙ ap (λ (b : Bool). ends_empty (b && announced_length h.size == 0) (heads rest)) (sym k);
+      empty = r.empty ∙ ap (λ (b : Bool). ends_empty (b && announced_length h.size == 0) (headers rest)) (sym k);
     }
-sums-up p w n (Closed h inside rest) v e o =
+sums-up p w n (Holder h inside rest) v e o =
     let d : ℕ = announced_length h.size - bit_of w.has_bits in
     let r = sums-up (place_after p (extent h inside)) (frame_after_segment w (is_primitive h) (announced_length h.size) false) (n + d) rest v.2 e (more-octets w.octets n d o) in
     record {
       segments = r.segments;
       bits = r.bits;
-      all = r.all ∙ and_assoc w.all_primitive (is_primitive h) (list_all is_primitive (heads rest));
+      all = r.all ∙ and_assoc w.all_primitive (is_primitive h) (list_all is_primitive (headers rest));
       octets = r.octets;
       empty = r.empty;
     }
-sums-up p w n (Partial h c) v e o = absurd (cc (e))
-sums-up p w n (Entered h inside) v e o = absurd (cc (e))
-sums-up p w n (Awaiting h) v e o = absurd (cc (e))
-sums-up p w n (Begun octets) v e o = absurd (cc (e))
-sums-up p w n Zero v e o = absurd (cc (e))
+sums-up p w n (OpenPrimitive h c) v e o = absurd (cc (e))
+sums-up p w n (OpenHolder h inside) v e o = absurd (cc (e))
+sums-up p w n (OpenBitString h) v e o = absurd (cc (e))
+sums-up p w n (OpenHeader octets) v e o = absurd (cc (e))
+sums-up p w n OpenEndOctets v e o = absurd (cc (e))
 
-segments-summed : (rules : Rules) (p : Place) (h : HeaderValue) (inside : Forest) → IsOpen p inside → is_complete inside ≡ true → end_notes rules (segments_noted (frame_of h) inside) ≡ end_findings rules h (heads inside)
+segments-summed : (rules : Rules) (p : Place) (h : HeaderValue) (inside : Forest) → IsOpen p inside → is_complete inside ≡ true → end_findings_in rules (segments_noted (frame_of h) inside) ≡ end_findings rules h (headers inside)
 segments-summed rules p h inside v e =
     let r = sums-up p (frame_of h) 0 inside v e refl in
     let w : SiblingFrame = segments_noted (frame_of h) inside in
@@ -255,52 +255,52 @@ segments-summed rules p h inside v e =
     ends-are rules w
     ∙ ap₂ (λ (x y : Bool). ends_by rules x y w.all_primitive w.octets w.is_empty) r.segments r.bits
     ∙ ap₂ (λ (x y : Bool). ends_by rules k (k && b) x w.octets y) r.all r.empty
-    ∙ ap (λ (n : ℕ). ends_by rules k (k && b) (list_all is_primitive (heads inside)) n (ends_empty false (heads inside))) r.octets
-    ∙ end-by rules k b (list_all is_primitive (heads inside)) (ends_empty false (heads inside)) (λ (n : ℕ). added n 0 (heads inside))
-    ∙ sym (filter-held rules (end_conditions h (heads inside)))
+    ∙ ap (λ (n : ℕ). ends_by rules k (k && b) (list_all is_primitive (headers inside)) n (ends_empty false (headers inside))) r.octets
+    ∙ end-by rules k b (list_all is_primitive (headers inside)) (ends_empty false (headers inside)) (λ (n : ℕ). added n 0 (headers inside))
+    ∙ sym (filter-held rules (end_conditions h (headers inside)))
 
 -- outside of strings nothing is found with an end
-no-ends : (rules : Rules) (w : SiblingFrame) → w.has_segments ≡ false → end_notes rules w ≡ []
+no-ends : (rules : Rules) (w : SiblingFrame) → w.has_segments ≡ false → end_findings_in rules w ≡ []
 no-ends Ber w e = refl
 no-ends Der w e = refl
 no-ends Cer w e = rw e refl
 
 -- what is found with an end, by the frame of what was held
-summed : (rules : Rules) (p : Place) (h : HeaderValue) (inside : Forest) → IsOpen p inside → is_complete inside ≡ true → end_notes rules (noted_all (frame_of h) inside) ≡ end_findings rules h (heads inside)
+summed : (rules : Rules) (p : Place) (h : HeaderValue) (inside : Forest) → IsOpen p inside → is_complete inside ≡ true → end_findings_in rules (noted_all (frame_of h) inside) ≡ end_findings rules h (headers inside)
 summed rules p h inside v e = by-segments (has_segments h) refl
   where
-    by-segments : (k : Bool) → has_segments h ≡ k → end_notes rules (noted_all (frame_of h) inside) ≡ end_findings rules h (heads inside)
-    by-segments true c = ap (end_notes rules) (all-in-string (frame_of h) inside c) ∙ segments-summed rules p h inside v e
+    by-segments : (k : Bool) → has_segments h ≡ k → end_findings_in rules (noted_all (frame_of h) inside) ≡ end_findings rules h (headers inside)
+    by-segments true c = ap (end_findings_in rules) (all-in-string (frame_of h) inside c) ∙ segments-summed rules p h inside v e
     by-segments false c =
         let r = sums-up p (frame_of h) 0 inside v e refl in
-        ap (end_notes rules) (all-outside (frame_of h) inside c) ∙ no-ends rules (frame_of h) c
+        ap (end_findings_in rules) (all-outside (frame_of h) inside c) ∙ no-ends rules (frame_of h) c
         ∙ sym (no-ends rules (segments_noted (frame_of h) inside) (r.segments ∙ c)) ∙ segments-summed rules p h inside v e
 
 -- ---- the same if nothing is to be known of what was held
 
 module _ (rules : Rules) (p : Place) (w : SiblingFrame) (h : HeaderValue) (inside : Forest) (v : IsOpen p inside) (whole : is_complete inside ≡ true) where
   -- an element that is no string: nothing is found with its end
-  nothing-ends : has_segments h ≡ false → end_findings rules h (heads inside) ≡ []
-  nothing-ends e = sym (summed rules p h inside v whole) ∙ ap (end_notes rules) (all-outside (frame_of h) inside e) ∙ no-ends rules (frame_of h) e
+  nothing-ends : has_segments h ≡ false → end_findings rules h (headers inside) ≡ []
+  nothing-ends e = sym (summed rules p h inside v whole) ∙ ap (end_findings_in rules) (all-outside (frame_of h) inside e) ∙ no-ends rules (frame_of h) e
 
-  pub summed-under : end_notes rules (noted_all (frame_under w h) inside) ≡ end_findings rules h (heads inside)
+  pub summed-under : end_findings_in rules (noted_all (frame_under w h) inside) ≡ end_findings rules h (headers inside)
   summed-under = by w.has_segments (has_segments h) refl
     where
-      by : (outside inside_it : Bool) → has_segments h ≡ inside_it → end_notes rules (noted_all (if outside || inside_it then frame_of h else top_frame) inside) ≡ end_findings rules h (heads inside)
+      by : (outside inside_it : Bool) → has_segments h ≡ inside_it → end_findings_in rules (noted_all (if outside || inside_it then frame_of h else top_frame) inside) ≡ end_findings rules h (headers inside)
       by true inside_it e = summed rules p h inside v whole
       by false true e = summed rules p h inside v whole
-      by false false e = ap (end_notes rules) (all-outside top_frame inside refl) ∙ no-ends rules top_frame refl ∙ sym (nothing-ends e)
+      by false false e = ap (end_findings_in rules) (all-outside top_frame inside refl) ∙ no-ends rules top_frame refl ∙ sym (nothing-ends e)
 
   -- where it begins does not matter if nothing is found
   pub at-under : {T : Type 0} (put : ℕ → List Finding → List T) → ((at : ℕ) → put at [] ≡ [])
-      → put (noted_all (frame_under w h) inside).at (end_findings rules h (heads inside)) ≡ put h.offset (end_findings rules h (heads inside))
+      → put (noted_all (frame_under w h) inside).at (end_findings rules h (headers inside)) ≡ put h.offset (end_findings rules h (headers inside))
   at-under put none = by w.has_segments (has_segments h) refl
     where
-      kept : put (noted_all (frame_of h) inside).at (end_findings rules h (heads inside)) ≡ put h.offset (end_findings rules h (heads inside))
-      kept = ap (λ (at : ℕ). put at (end_findings rules h (heads inside))) (stays (frame_of h) inside).at
+      kept : put (noted_all (frame_of h) inside).at (end_findings rules h (headers inside)) ≡ put h.offset (end_findings rules h (headers inside))
+      kept = ap (λ (at : ℕ). put at (end_findings rules h (headers inside))) (stays (frame_of h) inside).at
 
       by : (outside inside_it : Bool) → has_segments h ≡ inside_it
-          → put (noted_all (if outside || inside_it then frame_of h else top_frame) inside).at (end_findings rules h (heads inside)) ≡ put h.offset (end_findings rules h (heads inside))
+          → put (noted_all (if outside || inside_it then frame_of h else top_frame) inside).at (end_findings rules h (headers inside)) ≡ put h.offset (end_findings rules h (headers inside))
       by true inside_it e = kept
       by false true e = kept
       by false false e =

@@ -11,16 +11,16 @@ use Rattle.tlv_value.specs.CheckState.{CheckState, check_after, findings_in, has
 use Rattle.tlv_value.specs.Types.{is_primitive}
 use Rattle.tlv_value.proofs.CheckLemmas.CheckPieces.{checked-none, findings-end}
 use Rattle.tlv_walk.specs.Events.{Begin, Bytes, Close, End, Enter, EventValue, Leave, Open, Unused, closing_event, end_offset, events, opening_events}
-use Rattle.tlv_walk.specs.Forest.{Forest, Stop, Fill, Whole, Closed, Partial, Entered, Awaiting, Begun, Zero, extent, is_complete, opening, spell}
+use Rattle.tlv_walk.specs.Forest.{Forest, NoMore, PaddingOctet, Primitive, Holder, OpenPrimitive, OpenHolder, OpenBitString, OpenHeader, OpenEndOctets, extent, is_complete, opening, spelling}
 use Rattle.tlv_walk.specs.Place.{IsOpen, Place, place_after, place_of_children}
 use Rattle.tlv_show.specs.declared.frames.SiblingFrame.{SiblingFrame}
 use Rattle.tlv_show.specs.declared.rules.Rules.{Rules}
 use Rattle.tlv_show.specs.EndPlace.{end_place}
-use Rattle.tlv_show.specs.FinderState.{FinderState, FinderValue, contents_notes, count_up, find_begin, find_bytes, find_close, find_end, find_open, frame_after, frame_under, header_notes}
-use Rattle.tlv_show.specs.Private.FinderState.{find_step}
+use Rattle.tlv_show.specs.FinderState.{FinderState, FinderValue, contents_findings_in, count_up, finder_begin_step, finder_bytes_step, finder_close_step, finder_end_step, finder_open_step, frame_after, frame_under, header_findings_in}
+use Rattle.tlv_show.specs.Private.FinderState.{finder_step}
 use Rattle.tlv_show.specs.Found.{contents_findings, header_findings, shows}
 use Rattle.tlv_show.proofs.FindingLemmas.EndFindings.{end_findings}
-use Rattle.tlv_show.specs.Items.{Item, FindingAt, OpeningLine, ClosingLine, WholePrimitive, OpenPrimitive, PaddingLine, heads, items}
+use Rattle.tlv_show.specs.Items.{Item, FindingAt, OpeningLine, ClosingLine, PrimitiveLines, OpenPrimitiveLines, PaddingLine, headers, items}
 use Rattle.tlv_show.proofs.FindingLemmas.ElementItems.{findings_at}
 use Rattle.tlv_show.specs.Site.{Site, is_padding, site_of_children}
 use Rattle.tlv_show.proofs.FindingLemmas.SitesAfter.{site_after, site_after_holder, site_after_padding}
@@ -28,7 +28,7 @@ use Rattle.tlv_show.proofs.FindingLemmas.SiteWords.{first_octet}
 use Rattle.tlv_show.specs.Texts.{is_finding}
 use Rattle.tlv_show.proofs.FindingLemmas.CheckLaws.{one-or-more}
 use Rattle.tlv_show.proofs.FindingLemmas.FinderFolds.{at-under, knows-behind, knows-inside, knows-padding, not-constructed, noted-under, noted_all, summed-under, unused-of}
-use Rattle.tlv_show.proofs.FindingLemmas.HeaderNotes.{Knows, header-same}
+use Rattle.tlv_show.proofs.FindingLemmas.HeaderFindings.{Knows, header-same}
 
 -- what becomes of a finder, and the items that it reported
 pub record Step : Type 0 where
@@ -43,13 +43,13 @@ then_found put u = record { state = u.state; put = put ++ u.put }
 
 abbrev pub run : FinderState → List EventValue → Step
 run s [] = record { state = s; put = [] }
-run s (e ∷ es) = then_found (found_items (find_step s e)) (run (find_step s e).state es)
+run s (e ∷ es) = then_found (found_items (finder_step s e)) (run (finder_step s e).state es)
 
 pub run-more : (s : FinderState) (xs ys : List EventValue) → run s (xs ++ ys) ≡ then_found (run s xs).put (run (run s xs).state ys)
 run-more s [] ys = refl
 run-more s (x ∷ xs) ys =
-    let u : FinderState = (find_step s x).state in
-    let put : List Item = found_items (find_step s x) in
+    let u : FinderState = (finder_step s x).state in
+    let put : List Item = found_items (finder_step s x) in
     ap (then_found put) (run-more u xs ys)
     ∙ ap (λ (l : List Item). record { state = (run (run u xs).state ys).state; put = l }) (sym (append_assoc put (run u xs).put (run (run u xs).state ys).put))
 
@@ -62,12 +62,12 @@ take-all n c h = grind (arith, common_steps)
 abbrev with_check : FinderState → ℕ → CheckState → FinderState
 with_check s at t = record s { value = Some (record { at = at; check = t }) }
 
-took : (s : FinderState) (at : ℕ) (h : HeaderValue) (c : List ℕ) → length c ≤ announced_length h.size → find_bytes (with_check s at (new_check h)) c ≡ with_check s at (check_after (new_check h) c)
+took : (s : FinderState) (at : ℕ) (h : HeaderValue) (c : List ℕ) → length c ≤ announced_length h.size → finder_bytes_step (with_check s at (new_check h)) c ≡ with_check s at (check_after (new_check h) c)
 took s at h [] e = ap (with_check s at) (sym (checked-none h))
 took s at h (x ∷ c) e = rw (one-or-more x c) (ap (λ (l : List ℕ). with_check s at (check_after (new_check h) l)) (take-all (announced_length h.size) (x ∷ c) e))
 
 -- what is found at their end
-ended : (rules : Rules) (h : HeaderValue) (c : List ℕ) → length c ≡ announced_length h.size → contents_notes rules (check_after (new_check h) c) ≡ contents_findings rules h c
+ended : (rules : Rules) (h : HeaderValue) (c : List ℕ) → length c ≡ announced_length h.size → contents_findings_in rules (check_after (new_check h) c) ≡ contents_findings rules h c
 ended rules h c e =
     let none : (announced_length h.size - length c == 0) ≡ true = grind (arith, nat_tests) in
     ap (λ (b : Bool). if b then filter (shows rules) (findings_in (check_after (new_check h) c)) else []) none ∙ ap (filter (shows rules)) (findings-end h c e)
@@ -87,14 +87,14 @@ only-pads false level at l = refl
 
 -- what a finder makes of a primitive
 pub primitive-found : (s : FinderState) (h : HeaderValue) (c : List ℕ) → length c ≡ announced_length h.size
-    → (u : FinderState) × (u.value ≡ None) × (find_end (find_bytes (find_begin s h).state c) ≡ record { state = u; level = length s.outer; at = h.offset; found = contents_findings s.rules h c })
+    → (u : FinderState) × (u.value ≡ None) × (finder_end_step (finder_bytes_step (finder_begin_step s h).state c) ≡ record { state = u; level = length s.outer; at = h.offset; found = contents_findings s.rules h c })
 primitive-found s h c e =
-    let n = count_up s.count (length (header_notes s.rules s.frame h)) in
+    let n = count_up s.count (length (header_findings_in s.rules s.frame h)) in
     let t : CheckState = check_after (new_check h) c in
     let site_after : List Finding → FinderState = λ fs. record { rules = s.rules; frame = frame_after s.frame true (announced_length h.size) (has_unused_bits t); outer = s.outer; value = None; count = count_up n (length fs) } in (
       site_after (contents_findings s.rules h c),
       refl,
-      ap find_end (took (record s { count = n }) h.offset h c (omega (arith, e)))
+      ap finder_end_step (took (record s { count = n }) h.offset h c (omega (arith, e)))
           ∙ ap (λ (fs : List Finding). record { state = site_after fs; level = length s.outer; at = h.offset; found = fs }) (ended s.rules h c e),
     )
 
@@ -104,44 +104,44 @@ module _ (rules : Rules) where
   standing w outer n = record { rules = rules; frame = w; outer = outer; value = None; count = n }
 
   abbrev pub behind_header : SiblingFrame → HeaderValue → ℕ → ℕ
-  behind_header w h n = count_up n (length (header_notes rules w h))
+  behind_header w h n = count_up n (length (header_findings_in rules w h))
 
   -- ---- an element that holds others begins
 
   pub opened-find : (w : SiblingFrame) (outer : List SiblingFrame) (n : ℕ) (h : HeaderValue) → length outer < 128
-      → find_open (standing w outer n) h
-      ≡ record { state = standing (frame_under w h) (w ∷ outer) (behind_header w h n); level = length outer; at = h.offset; found = header_notes rules w h }
+      → finder_open_step (standing w outer n) h
+      ≡ record { state = standing (frame_under w h) (w ∷ outer) (behind_header w h n); level = length outer; at = h.offset; found = header_findings_in rules w h }
   opened-find w outer n h few =
       let yes : nat_lt (length outer) 128 ≡ true = grind (arith, nat_tests) in
       rw yes refl
 
   opened-by : (s : FinderState) (h : HeaderValue) (k three : Bool) (es : List EventValue)
-      → run s (((if k then Open h else Enter h) ∷ map {A = ℕ} (λ z. Unused) (if k then [] else (if three then 0 ∷ [] else []))) ++ es) ≡ then_found (found_items (find_open s h)) (run (find_open s h).state es)
+      → run s (((if k then Open h else Enter h) ∷ map {A = ℕ} (λ z. Unused) (if k then [] else (if three then 0 ∷ [] else []))) ++ es) ≡ then_found (found_items (finder_open_step s h)) (run (finder_open_step s h).state es)
   opened-by s h true three es = refl
   opened-by s h false true es = refl
   opened-by s h false false es = refl
 
   pub opened : (w : SiblingFrame) (outer : List SiblingFrame) (n : ℕ) (h : HeaderValue) (es : List EventValue) → length outer < 128
-      → run (standing w outer n) (opening_events h ++ es) ≡ then_found (findings_at (length outer) h.offset (header_notes rules w h)) (run (standing (frame_under w h) (w ∷ outer) (behind_header w h n)) es)
+      → run (standing w outer n) (opening_events h ++ es) ≡ then_found (findings_at (length outer) h.offset (header_findings_in rules w h)) (run (standing (frame_under w h) (w ∷ outer) (behind_header w h n)) es)
   opened w outer n h es few =
       opened-by (standing w outer n) h h.constructed (h.number == 3) es
       ∙ ap (λ (f : FinderValue). then_found (found_items f) (run f.state es)) (opened-find w outer n h few)
 
   -- ---- and ends
 
-  closed-by : (s : FinderState) (at : Option ℕ) (k : Bool) (es : List EventValue) → run s ((if k then Close at else Leave) ∷ es) ≡ then_found (found_items (find_close s)) (run (find_close s).state es)
+  closed-by : (s : FinderState) (at : Option ℕ) (k : Bool) (es : List EventValue) → run s ((if k then Close at else Leave) ∷ es) ≡ then_found (found_items (finder_close_step s)) (run (finder_close_step s).state es)
   closed-by s at true es = refl
   closed-by s at false es = refl
 
   abbrev pub behind_end : HeaderValue → Forest → ℕ → ℕ
-  behind_end h inside n = count_up n (length (end_findings rules h (heads inside)))
+  behind_end h inside n = count_up n (length (end_findings rules h (headers inside)))
 
   pub closed : (p : Place) (w : SiblingFrame) (outer : List SiblingFrame) (n : ℕ) (h : HeaderValue) (inside : Forest) (es : List EventValue) → IsOpen p inside → is_complete inside ≡ true
       → run (standing (noted_all (frame_under w h) inside) (w ∷ outer) n) (closing_event h inside ∷ es)
-      ≡ then_found (findings_at (length outer) h.offset (end_findings rules h (heads inside))) (run (standing (frame_after w (is_primitive h) (announced_length h.size) false) outer (behind_end h inside n)) es)
+      ≡ then_found (findings_at (length outer) h.offset (end_findings rules h (headers inside))) (run (standing (frame_after w (is_primitive h) (announced_length h.size) false) outer (behind_end h inside n)) es)
   closed p w outer n h inside es v whole =
       let f : SiblingFrame = noted_all (frame_under w h) inside in
-      closed-by (standing f (w ∷ outer) n) (end_offset h.size (h.offset + length (opening h) + length (spell inside))) h.constructed es
+      closed-by (standing f (w ∷ outer) n) (end_offset h.size (h.offset + length (opening h) + length (spelling inside))) h.constructed es
       ∙ ap (λ (fs : List Finding). then_found (findings_at (length outer) f.at fs) (run (standing (frame_after w f.is_primitive f.size false) outer (count_up n (length fs))) es)) (summed-under rules p w h inside v whole)
       ∙ ap₂ (λ (put : List Item) (t : SiblingFrame). then_found put (run (standing t outer (behind_end h inside n)) es)) (at-under rules p w h inside v whole (findings_at (length outer)) (λ at. refl)) (noted-under w h inside)
 
@@ -155,10 +155,10 @@ module _ (rules : Rules) where
 
   pub primitive : (w : SiblingFrame) (outer : List SiblingFrame) (n : ℕ) (h : HeaderValue) (c : List ℕ) (es : List EventValue) → length c ≡ announced_length h.size
       → run (standing w outer n) (Begin h ∷ Bytes c ∷ End ∷ es)
-      ≡ then_found (findings_at (length outer) h.offset (header_notes rules w h))
+      ≡ then_found (findings_at (length outer) h.offset (header_findings_in rules w h))
       (then_found (findings_at (length outer) h.offset (contents_findings rules h c)) (run (standing (behind_primitive w h c) outer (behind_contents w h c n)) es))
   primitive w outer n h c es e =
-      let put : List Item = findings_at (length outer) h.offset (header_notes rules w h) in
+      let put : List Item = findings_at (length outer) h.offset (header_findings_in rules w h) in
       let s : FinderState = standing w outer (behind_header w h n) in
       ap (λ (u : FinderState). then_found put (then_found [] (run u (End ∷ es)))) (took s h.offset h c (omega (arith, e)))
       ∙ ap (λ (fs : List Finding). then_found put (then_found (findings_at (length outer) h.offset fs) (run (standing (behind_primitive w h c) outer (count_up (behind_header w h n) (length fs))) es))) (ended rules h c e)
@@ -166,18 +166,18 @@ module _ (rules : Rules) where
   -- ---- what a finder makes of each end by itself
 
   pub closed-find : (p : Place) (w : SiblingFrame) (outer : List SiblingFrame) (n : ℕ) (h : HeaderValue) (inside : Forest) → IsOpen p inside → is_complete inside ≡ true
-      → find_close (standing (noted_all (frame_under w h) inside) (w ∷ outer) n)
-      ≡ record { state = standing (frame_after w (is_primitive h) (announced_length h.size) false) outer (behind_end h inside n); level = length outer; at = (noted_all (frame_under w h) inside).at; found = end_findings rules h (heads inside) }
+      → finder_close_step (standing (noted_all (frame_under w h) inside) (w ∷ outer) n)
+      ≡ record { state = standing (frame_after w (is_primitive h) (announced_length h.size) false) outer (behind_end h inside n); level = length outer; at = (noted_all (frame_under w h) inside).at; found = end_findings rules h (headers inside) }
   closed-find p w outer n h inside v whole =
       let f : SiblingFrame = noted_all (frame_under w h) inside in
       ap (λ (gs : List Finding). record { state = standing (frame_after w f.is_primitive f.size false) outer (count_up n (length gs)); level = length outer; at = f.at; found = gs }) (summed-under rules p w h inside v whole)
-      ∙ ap (λ (t : SiblingFrame). record { state = standing t outer (behind_end h inside n); level = length outer; at = f.at; found = end_findings rules h (heads inside) }) (noted-under w h inside)
+      ∙ ap (λ (t : SiblingFrame). record { state = standing t outer (behind_end h inside n); level = length outer; at = f.at; found = end_findings rules h (headers inside) }) (noted-under w h inside)
 
   pub primitive-find : (w : SiblingFrame) (outer : List SiblingFrame) (n : ℕ) (h : HeaderValue) (c : List ℕ) → length c ≡ announced_length h.size
-      → find_end (find_bytes (find_begin (standing w outer n) h).state c)
+      → finder_end_step (finder_bytes_step (finder_begin_step (standing w outer n) h).state c)
       ≡ record { state = standing (behind_primitive w h c) outer (behind_contents w h c n); level = length outer; at = h.offset; found = contents_findings rules h c }
   primitive-find w outer n h c e =
-      ap find_end (took (standing w outer (behind_header w h n)) h.offset h c (omega (arith, e)))
+      ap finder_end_step (took (standing w outer (behind_header w h n)) h.offset h c (omega (arith, e)))
       ∙ ap (λ (fs : List Finding). record { state = standing (behind_primitive w h c) outer (count_up (behind_header w h n) (length fs)); level = length outer; at = h.offset; found = fs }) (ended rules h c e)
 
   -- ---- elements
@@ -189,7 +189,7 @@ module _ (rules : Rules) where
 
   -- findings with a header, and then other items
   header-items : (s : Site) (w : SiblingFrame) (outer : List SiblingFrame) (h : HeaderValue) (found rest : List Item) → Knows w s → length outer ≡ s.level → found ≡ only rest
-      → findings_at (length outer) h.offset (header_notes rules w h) ++ found ≡ only (findings_at s.level h.offset (header_findings rules s h) ++ rest)
+      → findings_at (length outer) h.offset (header_findings_in rules w h) ++ found ≡ only (findings_at s.level h.offset (header_findings rules s h) ++ rest)
   header-items s w outer h found rest k l e =
       ap₂ (λ (n : ℕ) (fs : List Finding). findings_at n h.offset fs ++ found) l (header-same rules w s h k)
       ∙ ap (λ (t : List Item). findings_at s.level h.offset (header_findings rules s h) ++ t) e
@@ -203,11 +203,11 @@ module _ (rules : Rules) where
 
   pub finds_forest : (p : Place) (s : Site) (w : SiblingFrame) (outer : List SiblingFrame) (f : Forest) → IsOpen p f → Knows w s → length outer ≡ s.level → s.level ≡ p.depth → (p.padding ≡ true → s.holder ≡ None)
       → IsFoundAs s w outer f
-  finds_forest p s w outer Stop v k l d free = record { put = λ n. refl; stands = λ n e. (n, refl) }
-  finds_forest p s w outer (Fill rest) v k l d free =
+  finds_forest p s w outer NoMore v k l d free = record { put = λ n. refl; stands = λ n e. (n, refl) }
+  finds_forest p s w outer (PaddingOctet rest) v k l d free =
       let r = finds_forest (place_after p 1) (site_after_padding s) w outer rest v.1 (knows-padding w s k (free v.0.0)) l d free in
       record { put = λ n. r.put n ∙ sym (only-pads (is_padding s.before) s.level s.at (items rules (site_after_padding s) rest)); stands = r.stands }
-  finds_forest p s w outer (Whole h c rest) v k l d free =
+  finds_forest p s w outer (Primitive h c rest) v k l d free =
       let size : length c ≡ announced_length h.size = sym (ap announced_length v.0.1) in
       let form : h.constructed ≡ false = not-constructed h.constructed (wraps h) v.0.0.header.form in
       let u : Bool = has_unused_bits (check_after (new_check h) c) in
@@ -217,25 +217,25 @@ module _ (rules : Rules) where
       record {
         put = λ n.
             ap (λ (t : Step). t.put) (primitive w outer n h c (events rest) size)
-            ∙ header-items s w outer h _ (WholePrimitive s.level h c ∷ (findings_at s.level h.offset (contents_findings rules h c) ++ items rules (site_after s h c) rest)) k l
+            ∙ header-items s w outer h _ (PrimitiveLines s.level h c ∷ (findings_at s.level h.offset (contents_findings rules h c) ++ items rules (site_after s h c) rest)) k l
             (more-items s outer h.offset (contents_findings rules h c) _ (items rules (site_after s h c) rest) l (r.put (behind_contents w h c n)));
         stands = λ n e.
             let t = r.stands (behind_contents w h c n) e in
             (t.0, ap (λ (x : Step). x.state) (primitive w outer n h c (events rest) size) ∙ t.1);
       }
-  finds_forest p s w outer (Closed h inside rest) v k l d free =
+  finds_forest p s w outer (Holder h inside rest) v k l d free =
       let i = finds_forest (place_of_children p h) (site_of_children s h) (frame_under w h) (w ∷ outer) inside v.1 (knows-inside w s h) (omega (arith, l)) (omega (arith, d)) (λ e. absurd (cc (e))) in
       let r = finds_forest (place_after p (extent h inside)) (site_after_holder s h inside) (frame_after w (is_primitive h) (announced_length h.size) false) outer rest v.2
       (knows-behind w s (site_after_holder s h inside) h None false k refl refl refl) l d free in
       let few : length outer < 128 = omega (arith, l, d, (v.0.0.depth refl)) in
       let es : List EventValue = closing_event h inside ∷ events rest in
-      let all : (n : ℕ) → (m : ℕ) × (run (standing w outer n) (events (Closed h inside rest))
-      ≡ then_found (findings_at (length outer) h.offset (header_notes rules w h)) (then_found (only (items rules (site_of_children s h) inside))
-      (then_found (findings_at (length outer) h.offset (end_findings rules h (heads inside))) (run (standing (frame_after w (is_primitive h) (announced_length h.size) false) outer m) (events rest))))) =
+      let all : (n : ℕ) → (m : ℕ) × (run (standing w outer n) (events (Holder h inside rest))
+      ≡ then_found (findings_at (length outer) h.offset (header_findings_in rules w h)) (then_found (only (items rules (site_of_children s h) inside))
+      (then_found (findings_at (length outer) h.offset (end_findings rules h (headers inside))) (run (standing (frame_after w (is_primitive h) (announced_length h.size) false) outer m) (events rest))))) =
       λ n.
       let a : ℕ = behind_header w h n in
       let t = i.stands a v.0.1 in
-      let put : List Item = findings_at (length outer) h.offset (header_notes rules w h) in (
+      let put : List Item = findings_at (length outer) h.offset (header_findings_in rules w h) in (
         behind_end h inside t.0,
         opened w outer n h (events inside ++ es) few
             ∙ ap (then_found put)
@@ -243,25 +243,25 @@ module _ (rules : Rules) where
             ∙ ap₂ (λ (l : List Item) (x : FinderState). then_found l (run x es)) (i.put a) t.1
             ∙ ap (then_found (only (items rules (site_of_children s h) inside))) (closed (place_of_children p h) w outer t.0 h inside (events rest) v.1 v.0.1)),
       ) in
-      let last : List Item = ClosingLine s.level (end_place h inside) ∷ (findings_at s.level h.offset (end_findings rules h (heads inside)) ++ items rules (site_after_holder s h inside) rest) in
+      let last : List Item = ClosingLine s.level (end_place h inside) ∷ (findings_at s.level h.offset (end_findings rules h (headers inside)) ++ items rules (site_after_holder s h inside) rest) in
       record {
         put = λ n.
             let a = all n in
             ap (λ (t : Step). t.put) a.1
             ∙ header-items s w outer h _ (OpeningLine s.level h ∷ (items rules (site_of_children s h) inside ++ last)) k l
             (ap (λ (t : List Item). only (items rules (site_of_children s h) inside) ++ t)
-            (more-items s outer h.offset (end_findings rules h (heads inside)) _ (items rules (site_after_holder s h inside) rest) l (r.put a.0))
+            (more-items s outer h.offset (end_findings rules h (headers inside)) _ (items rules (site_after_holder s h inside) rest) l (r.put a.0))
             ∙ sym (filter-append is_finding (items rules (site_of_children s h) inside) last));
         stands = λ n e.
             let a = all n in
             let t = r.stands a.0 e in
             (t.0, ap (λ (x : Step). x.state) a.1 ∙ t.1);
       }
-  finds_forest p s w outer (Partial h c) v k l d free = record {
-    put = λ n. header-items s w outer h [] (OpenPrimitive s.level h c ∷ []) k l refl;
+  finds_forest p s w outer (OpenPrimitive h c) v k l d free = record {
+    put = λ n. header-items s w outer h [] (OpenPrimitiveLines s.level h c ∷ []) k l refl;
     stands = λ n e. absurd (cc (e));
   }
-  finds_forest p s w outer (Entered h inside) v k l d free =
+  finds_forest p s w outer (OpenHolder h inside) v k l d free =
       let i = finds_forest (place_of_children p h) (site_of_children s h) (frame_under w h) (w ∷ outer) inside v.1 (knows-inside w s h) (omega (arith, l)) (omega (arith, d)) (λ e. absurd (cc (e))) in
       let few : length outer < 128 = omega (arith, l, d, v.0.0.depth refl) in
       record {
@@ -270,9 +270,9 @@ module _ (rules : Rules) where
             ∙ header-items s w outer h _ (OpeningLine s.level h ∷ items rules (site_of_children s h) inside) k l (i.put (behind_header w h n));
         stands = λ n e. absurd (cc (e));
       }
-  finds_forest p s w outer (Awaiting h) v k l d free = record {
+  finds_forest p s w outer (OpenBitString h) v k l d free = record {
     put = λ n. header-items s w outer h [] (OpeningLine s.level h ∷ []) k l refl;
     stands = λ n e. absurd (cc (e));
   }
-  finds_forest p s w outer (Begun octets) v k l d free = record { put = λ n. refl; stands = λ n e. absurd (cc (e)) }
-  finds_forest p s w outer Zero v k l d free = record { put = λ n. refl; stands = λ n e. absurd (cc (e)) }
+  finds_forest p s w outer (OpenHeader octets) v k l d free = record { put = λ n. refl; stands = λ n e. absurd (cc (e)) }
+  finds_forest p s w outer OpenEndOctets v k l d free = record { put = λ n. refl; stands = λ n e. absurd (cc (e)) }

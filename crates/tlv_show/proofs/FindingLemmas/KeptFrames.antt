@@ -4,10 +4,10 @@ use Rattle.std.proofs.lemmas.Bool.Decides.{nat_tests}
 use Rattle.tlv_head.specs.Header.{HeaderValue}
 use Rattle.tlv_value.specs.Types.{has_segments}
 use Rattle.tlv_show.specs.declared.frames.SiblingFrame.{SiblingFrame}
-use Rattle.tlv_show.specs.declared.frames.Kept.{Kept}
+use Rattle.tlv_show.specs.declared.frames.KeptFrame.{KeptFrame}
 use Rattle.tlv_show.specs.declared.rules.Rules.{Rules}
 use Rattle.tlv_show.specs.declared.rules.Rules.TheVariants.{Ber, Der, Cer}
-use Rattle.tlv_show.specs.FinderState.{frame_after, frame_after_segment, frame_of, frame_under, header_notes, top_frame}
+use Rattle.tlv_show.specs.FinderState.{frame_after, frame_after_segment, frame_of, frame_under, header_findings_in, top_frame}
 use Rattle.tlv_show.specs.Private.Nesting.{AreKept, IsKept, NestingState, TakesBack, all_frames, all_of, innermost, nesting_around, nesting_inside, nesting_outside, outside, segments_by, segments_left}
 
 -- ---- how many there are
@@ -20,7 +20,7 @@ pub length-outside : (w : SiblingFrame) (n : ℕ) (outer : List SiblingFrame) �
 length-outside w zero outer = omega arith
 length-outside w (suc n) outer = let e = length-all w n outer in omega (arith, e)
 
-length-others : (floor : ℕ) (outer : List Kept) → AreKept floor outer → length (all_frames floor outer) ≡ floor
+length-others : (floor : ℕ) (outer : List KeptFrame) → AreKept floor outer → length (all_frames floor outer) ≡ floor
 length-others floor [] none = sym none
 length-others floor (k ∷ outer) (above, kept, others) =
     let e = length-all k.frame (floor - 1 - k.floor) (all_frames k.floor outer) in
@@ -28,14 +28,14 @@ length-others floor (k ∷ outer) (above, kept, others) =
     omega (arith, e, r, above)
 
 -- the level is their number
-pub one_each : (w : SiblingFrame) (floor level : ℕ) (outer : List Kept) → floor ≤ level → AreKept floor outer
+pub one_each : (w : SiblingFrame) (floor level : ℕ) (outer : List KeptFrame) → floor ≤ level → AreKept floor outer
     → length (outside w (level - floor) (all_frames floor outer)) ≡ level
 one_each w floor level outer inside others =
     let e = length-outside w (level - floor) (all_frames floor outer) in
     let r = length-others floor outer others in
     omega (arith, e, r, inside)
 
-pub fewer-kept : (floor : ℕ) (outer : List Kept) → AreKept floor outer → length outer ≤ floor
+pub fewer-kept : (floor : ℕ) (outer : List KeptFrame) → AreKept floor outer → length outer ≤ floor
 fewer-kept floor [] none = omega arith
 fewer-kept floor (k ∷ outer) (above, kept, others) = let r = fewer-kept k.floor outer others in omega (arith, r, above)
 
@@ -44,7 +44,7 @@ fewer-kept floor (k ∷ outer) (above, kept, others) = let r = fewer-kept k.floo
 abbrev nest : SiblingFrame → ℕ → List SiblingFrame → NestingState
 nest w n outer = record { frame = innermost w n; outer = outside w n outer }
 
-abbrev seen : SiblingFrame → ℕ → ℕ → List Kept → NestingState
+abbrev seen : SiblingFrame → ℕ → ℕ → List KeptFrame → NestingState
 seen w floor level outer = nest w (level - floor) (all_frames floor outer)
 
 split : (w : SiblingFrame) (n : ℕ) (outer : List SiblingFrame) → all_of w n outer ≡ innermost w n ∷ outside w n outer
@@ -52,11 +52,11 @@ split w zero outer = refl
 split w (suc n) outer = refl
 
 -- all frames outside of strings say the same of headers
-pub same-notes : (rules : Rules) (w : SiblingFrame) (n : ℕ) (h : HeaderValue) → IsKept w n
-    → header_notes rules w h ≡ header_notes rules (innermost w n) h
-same-notes Ber w n h kept = grind arith
-same-notes Der w n h kept = grind arith
-same-notes Cer w n h kept = grind arith
+pub same-findings : (rules : Rules) (w : SiblingFrame) (n : ℕ) (h : HeaderValue) → IsKept w n
+    → header_findings_in rules w h ≡ header_findings_in rules (innermost w n) h
+same-findings Ber w n h kept = grind arith
+same-findings Der w n h kept = grind arith
+same-findings Cer w n h kept = grind arith
 
 -- ---- an element begins
 
@@ -90,7 +90,7 @@ entered-frame w n outer h few kept one =
     ∙ sym (entered-is w n outer h few)
 
 module _
-    (w : SiblingFrame) (floor level : ℕ) (outer : List Kept)
+    (w : SiblingFrame) (floor level : ℕ) (outer : List KeptFrame)
     (inside : floor ≤ level) (kept : IsKept w (level - floor)) (others : AreKept floor outer)
     (h : HeaderValue) (few : level < 128)
   where
@@ -141,7 +141,7 @@ left-top : (w : SiblingFrame) (outer : List SiblingFrame) → length outer ≡ 0
 left-top w [] none = (refl, refl)
 left-top w (v ∷ outer) none = absurd (omega arith)
 
-module _ (w : SiblingFrame) (floor level : ℕ) (outer : List Kept) where
+module _ (w : SiblingFrame) (floor level : ℕ) (outer : List KeptFrame) where
   pub leaves-plain : IsKept w (level - floor) → floor < level
       → seen w floor (level - 1) outer ≡ nesting_outside (seen w floor level outer)
   leaves-plain kept above =
@@ -156,8 +156,8 @@ module _ (w : SiblingFrame) (floor level : ℕ) (outer : List Kept) where
       left-top (innermost w (level - floor)) (outside w (level - floor) (all_frames floor outer))
       (one_each w floor level outer inside others ∙ top)
 
-pub leaves-frame : (w : SiblingFrame) (floor level : ℕ) (outer : List Kept) → AreKept floor outer → floor ≡ level → 0 < level
-    → (v : SiblingFrame) (lower : ℕ) (rest : List Kept) → TakesBack w outer v lower rest
+pub leaves-frame : (w : SiblingFrame) (floor level : ℕ) (outer : List KeptFrame) → AreKept floor outer → floor ≡ level → 0 < level
+    → (v : SiblingFrame) (lower : ℕ) (rest : List KeptFrame) → TakesBack w outer v lower rest
     → seen v lower (level - 1) rest ≡ nesting_outside (seen w floor level outer)
 leaves-frame w floor level [] none at_floor any v lower rest back = absurd (omega arith)
 leaves-frame w floor level (k ∷ outer) (above, kept, others) at_floor any v lower rest back =

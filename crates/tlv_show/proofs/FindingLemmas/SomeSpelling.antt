@@ -10,7 +10,7 @@ use Rattle.tlv_head.specs.Header.{HeaderValue, octets_of}
 use Rattle.tlv_value.specs.Checks.{contents_conditions}
 use Rattle.tlv_walk.specs.declared.framing.Framing.{Framing}
 use Rattle.tlv_walk.specs.Alike.{AreAlike, holders, nothing, padding, primitives}
-use Rattle.tlv_walk.specs.Forest.{Forest, Stop, Fill, Whole, Closed, Partial, Entered, Awaiting, Begun, Zero, extent, has_element, spell}
+use Rattle.tlv_walk.specs.Forest.{Forest, NoMore, PaddingOctet, Primitive, Holder, OpenPrimitive, OpenHolder, OpenBitString, OpenHeader, OpenEndOctets, extent, has_element, spelling}
 use Rattle.tlv_walk.specs.Inside.{AreRising, CanName, is_among}
 use Rattle.tlv_walk.specs.Place.{IsOpen, Place, is_indefinite, place_after, place_of_children, top_place}
 use Rattle.tlv_walk.specs.Reading.{IsReading, IsSound, IsSoundList}
@@ -26,7 +26,7 @@ use Rattle.tlv_show.specs.Conditions.{end_conditions, has_high_form, header_cond
 use Rattle.tlv_show.specs.EndPlace.{end_place}
 use Rattle.tlv_show.specs.Found.{contents_findings, header_findings}
 use Rattle.tlv_show.proofs.FindingLemmas.EndFindings.{end_findings}
-use Rattle.tlv_show.specs.Items.{Item, OpeningLine, ClosingLine, WholePrimitive, PaddingLine, heads, items}
+use Rattle.tlv_show.specs.Items.{Item, OpeningLine, ClosingLine, PrimitiveLines, PaddingLine, headers, items}
 use Rattle.tlv_show.proofs.FindingLemmas.ElementItems.{on_contents, on_end, on_header}
 use Rattle.tlv_show.specs.Site.{Site, is_padding, site_of_children, top_site}
 use Rattle.tlv_show.proofs.FindingLemmas.SitesAfter.{site_after, site_after_holder, site_after_padding}
@@ -90,30 +90,30 @@ module _ (rules : Rules) (strict : rules ≢ Ber) where
 
   end-none : (s : Site) (h : HeaderValue) (inside : Forest) → list_any is_item_on_spelling (on_end rules s h inside) ≡ false
   end-none s h inside =
-      items-found s.level h.offset (end_findings rules h (heads inside)) ∙ all-found is_on_spelling rules (end_conditions h (heads inside))
-      ∙ end-absent rules h (heads inside)
+      items-found s.level h.offset (end_findings rules h (headers inside)) ∙ all-found is_on_spelling rules (end_conditions h (headers inside))
+      ∙ end-absent rules h (headers inside)
 
   none-found : (p : Place) (s : Site) (f : Forest) → IsSound p f → AreRegular (form_by rules) f → list_any is_item_on_spelling (items rules s f) ≡ false
-  none-found p s Stop u r = refl
-  none-found p s (Fill rest) u r =
+  none-found p s NoMore u r = refl
+  none-found p s (PaddingOctet rest) u r =
       both-none (if is_padding s.before then [] else PaddingLine s.level s.at ∷ []) (items rules (site_after_padding s) rest)
       (padding-none (is_padding s.before) s.level s.at) (none-found (place_after p 1) (site_after_padding s) rest u.1 r)
-  none-found p s (Whole h c rest) u r =
-      both-none (on_header rules s h) (WholePrimitive s.level h c ∷ (on_contents rules s h c ++ items rules (site_after s h c) rest)) (header-none s h r.0)
+  none-found p s (Primitive h c rest) u r =
+      both-none (on_header rules s h) (PrimitiveLines s.level h c ∷ (on_contents rules s h c ++ items rules (site_after s h c) rest)) (header-none s h r.0)
       (both-none (on_contents rules s h c) (items rules (site_after s h c) rest) (contents-none s h c)
       (none-found (place_after p (length (octets_of h) + length c)) (site_after s h c) rest u.2 r.1))
-  none-found p s (Closed h inside rest) u r =
+  none-found p s (Holder h inside rest) u r =
       let last : List Item = on_end rules s h inside ++ items rules (site_after_holder s h inside) rest in
       let held : List Item = items rules (site_of_children s h) inside in
       both-none (on_header rules s h) (OpeningLine s.level h ∷ (held ++ ClosingLine s.level (end_place h inside) ∷ last)) (header-none s h r.0)
       (both-none held (ClosingLine s.level (end_place h inside) ∷ last) (none-found (place_of_children p h) (site_of_children s h) inside u.3 r.1)
       (both-none (on_end rules s h inside) (items rules (site_after_holder s h inside) rest) (end-none s h inside)
       (none-found (place_after p (extent h inside)) (site_after_holder s h inside) rest u.4 r.2)))
-  none-found p s (Partial h c) u r = absurd u
-  none-found p s (Entered h inside) u r = absurd u
-  none-found p s (Awaiting h) u r = absurd u
-  none-found p s (Begun octets) u r = absurd u
-  none-found p s Zero u r = absurd u
+  none-found p s (OpenPrimitive h c) u r = absurd u
+  none-found p s (OpenHolder h inside) u r = absurd u
+  none-found p s (OpenBitString h) u r = absurd u
+  none-found p s (OpenHeader octets) u r = absurd u
+  none-found p s OpenEndOctets u r = absurd u
 
 -- ---- what may be named
 
@@ -181,15 +181,15 @@ as-many f g (holders h k inside within a b tag held rest) =
     )
 
 can-name : (framing other : Framing) (f g : Forest) → IsOpen (top_place framing) f → IsOpen (top_place other) g → AreAlike f g
-    → length (spell g) ≤ 2 ^ 40 → CanName framing.inside → CanName (wrappers g)
+    → length (spelling g) ≤ 2 ^ 40 → CanName framing.inside → CanName (wrappers g)
 can-name framing other f g u v alike few can = (
   omega (
     arith,
     can.0,
     as-many f g alike,
-    fewer framing.inside (wrappers f) 0 0 (0 + length (spell f)) can.1 (wrappers-rise (top_place framing) f u) (wrappers-named (top_place framing) f u),
+    fewer framing.inside (wrappers f) 0 0 (0 + length (spelling f)) can.1 (wrappers-rise (top_place framing) f u) (wrappers-named (top_place framing) f u),
   ),
-  rising-of 0 (0 + length (spell g)) (wrappers g) (omega (arith, few)) (wrappers-rise (top_place other) g v),
+  rising-of 0 (0 + length (spelling g)) (wrappers g) (omega (arith, few)) (wrappers-rise (top_place other) g v),
 )
 
 -- ---- the law
@@ -210,26 +210,26 @@ some-spelling rules framing b f strict few ending reading low =
     let it : IsSoundReading framing b f = sound-reading_of framing b f ending reading in
     let elements : IsSoundList framing b = done-sound framing b ending in
     let same : elements.forest ≡ f = reading-unique framing b elements.forest f (sound-reading framing b elements) reading in
-    let spelling : Spelling (form_by rules) (top_place framing) f =
+    let chosen : Spelling (form_by rules) (top_place framing) f =
     respelled (form_by rules) (by-definite rules) (top_place framing) f (omega (arith, few, ap length it.octets)) it.sound low in
-    let by_names : Framing = record { inside = spelling.names 0; padding = framing.padding } in
-    let at_top : SpelledAt (form_by rules) (top_place by_names) f spelling.octets (spelling.names 0) =
-    spelling.there (top_place by_names) (record { padding = refl; depth = refl }) (λ i least most. refl) in
+    let by_names : Framing = record { inside = chosen.names 0; padding = framing.padding } in
+    let at_top : SpelledAt (form_by rules) (top_place by_names) f chosen.octets (chosen.names 0) =
+    chosen.there (top_place by_names) (record { padding = refl; depth = refl }) (λ i least most. refl) in
     let other : Framing = record { inside = wrappers at_top.forest; padding = framing.padding } in
     let named : by_names ≡ other = ap (λ (names : List ℕ). record { inside = names; padding = framing.padding }) (sym at_top.names_are) in
     let sound : IsSound (top_place other) at_top.forest = subst (λ (k : Framing). IsSound (top_place k) at_top.forest) named at_top.sound in
-    let list : IsSoundList other spelling.octets = record {
+    let list : IsSoundList other chosen.octets = record {
       forest = at_top.forest;
       sound = sound;
       some = sym (alike-element f at_top.forest at_top.alike) ∙ ap has_element (sym same) ∙ elements.some;
       octets = at_top.spelled;
     } in
-    let there : IsReading other spelling.octets at_top.forest = sound-reading other spelling.octets list in
-    let small : length (spell at_top.forest) ≤ 2 ^ 40 = omega (arith, ap length at_top.spelled, spelling.short, few, ap length it.octets) in (
-      spelling.octets,
+    let there : IsReading other chosen.octets at_top.forest = sound-reading other chosen.octets list in
+    let small : length (spelling at_top.forest) ≤ 2 ^ 40 = omega (arith, ap length at_top.spelled, chosen.short, few, ap length it.octets) in (
+      chosen.octets,
       at_top.forest,
       record {
-        ending = sound-done other spelling.octets list;
+        ending = sound-done other chosen.octets list;
         reading = there;
         none = none-found rules strict (top_place other) top_site at_top.forest sound at_top.regular;
       },

@@ -15,7 +15,7 @@ use Rattle.tlv_value.specs.declared.finding.Finding.{Finding}
 use Rattle.tlv_walk.specs.declared.ending.Ending.TheVariants.{Done}
 use Rattle.tlv_walk.specs.declared.framing.Framing.{Framing}
 use Rattle.tlv_walk.specs.Ending.{IsEnding}
-use Rattle.tlv_walk.specs.Forest.{Forest, Stop, Fill, Whole, Closed, Partial, Entered, Awaiting, Begun, Zero, extent, spell}
+use Rattle.tlv_walk.specs.Forest.{Forest, NoMore, PaddingOctet, Primitive, Holder, OpenPrimitive, OpenHolder, OpenBitString, OpenHeader, OpenEndOctets, extent, spelling}
 use Rattle.tlv_walk.specs.Place.{Place, is_indefinite, place_after, place_of_children, top_place}
 use Rattle.tlv_walk.specs.Reading.{IsReading, IsSound, IsSoundList}
 use Rattle.tlv_walk.proofs.GrammarLemmas.Alike.{AreRegular, IsRegular, one_spelling}
@@ -25,7 +25,7 @@ use Rattle.tlv_show.specs.declared.rules.Rules.{Rules}
 use Rattle.tlv_show.specs.declared.rules.Rules.TheVariants.{Ber, Der, Cer}
 use Rattle.tlv_show.specs.Conditions.{first_length, has_high_form, has_long_form, header_conditions, leading_bits}
 use Rattle.tlv_show.specs.Found.{header_findings}
-use Rattle.tlv_show.specs.Items.{Item, OpeningLine, ClosingLine, WholePrimitive, PaddingLine, items}
+use Rattle.tlv_show.specs.Items.{Item, OpeningLine, ClosingLine, PrimitiveLines, PaddingLine, items}
 use Rattle.tlv_show.proofs.FindingLemmas.ElementItems.{findings_at, on_contents, on_end, on_header}
 use Rattle.tlv_show.specs.EndPlace.{end_place}
 use Rattle.tlv_show.specs.Site.{Site, is_padding, site_of_children, top_site}
@@ -109,42 +109,42 @@ none-in xs ys e = or_parts _ _ (sym (list_any-append is_item_on_spelling xs ys) 
 
 module _ (rules : Rules) (strict : rules ≢ Ber) where
   all-regular : (p : Place) (s : Site) (f : Forest) → IsSound p f → list_any is_item_on_spelling (items rules s f) ≡ false → AreRegular (form_by rules) f
-  all-regular p s Stop u e = tt
-  all-regular p s (Fill rest) u e =
+  all-regular p s NoMore u e = tt
+  all-regular p s (PaddingOctet rest) u e =
       all-regular (place_after p 1) (site_after_padding s) rest u.1
       (none-in (if is_padding s.before then [] else PaddingLine s.level s.at ∷ []) (items rules (site_after_padding s) rest) e).1
-  all-regular p s (Whole h c rest) u e =
-      let head = none-in (on_header rules s h) (WholePrimitive s.level h c ∷ (on_contents rules s h c ++ items rules (site_after s h c) rest)) e in
-      let others = none-in (on_contents rules s h c) (items rules (site_after s h c) rest) head.1 in
-      (regular rules s h strict u.0.valid head.0, all-regular (place_after p (length (octets_of h) + length c)) (site_after s h c) rest u.2 others.1)
-  all-regular p s (Closed h inside rest) u e =
+  all-regular p s (Primitive h c rest) u e =
+      let header = none-in (on_header rules s h) (PrimitiveLines s.level h c ∷ (on_contents rules s h c ++ items rules (site_after s h c) rest)) e in
+      let others = none-in (on_contents rules s h c) (items rules (site_after s h c) rest) header.1 in
+      (regular rules s h strict u.0.valid header.0, all-regular (place_after p (length (octets_of h) + length c)) (site_after s h c) rest u.2 others.1)
+  all-regular p s (Holder h inside rest) u e =
       let last : List Item = on_end rules s h inside ++ items rules (site_after_holder s h inside) rest in
       let held_and_last : List Item = items rules (site_of_children s h) inside ++ ClosingLine s.level (end_place h inside) ∷ last in
-      let head = none-in (on_header rules s h) (OpeningLine s.level h ∷ held_and_last) e in
-      let held = none-in (items rules (site_of_children s h) inside) (ClosingLine s.level (end_place h inside) ∷ last) head.1 in
+      let header = none-in (on_header rules s h) (OpeningLine s.level h ∷ held_and_last) e in
+      let held = none-in (items rules (site_of_children s h) inside) (ClosingLine s.level (end_place h inside) ∷ last) header.1 in
       let others = none-in (on_end rules s h inside) (items rules (site_after_holder s h inside) rest) held.1 in (
-        regular rules s h strict u.0.valid head.0,
+        regular rules s h strict u.0.valid header.0,
         all-regular (place_of_children p h) (site_of_children s h) inside u.3 held.0,
         all-regular (place_after p (extent h inside)) (site_after_holder s h inside) rest u.4 others.1,
       )
-  all-regular p s (Partial h c) u e = absurd u
-  all-regular p s (Entered h inside) u e = absurd u
-  all-regular p s (Awaiting h) u e = absurd u
-  all-regular p s (Begun octets) u e = absurd u
-  all-regular p s Zero u e = absurd u
+  all-regular p s (OpenPrimitive h c) u e = absurd u
+  all-regular p s (OpenHolder h inside) u e = absurd u
+  all-regular p s (OpenBitString h) u e = absurd u
+  all-regular p s (OpenHeader octets) u e = absurd u
+  all-regular p s OpenEndOctets u e = absurd u
 
 -- ---- the law
 
 -- the reading of a sound input, whole
 pub record IsSoundReading (framing : Framing) (b : List ℕ) (f : Forest) : Type 0 where
   pub sound : IsSound (top_place framing) f
-  pub octets : spell f ≡ b
+  pub octets : spelling f ≡ b
 
 pub sound-reading_of : (framing : Framing) (b : List ℕ) (f : Forest) → IsEnding framing b Done → IsReading framing b f → IsSoundReading framing b f
 sound-reading_of framing b f ending reading =
     let elements : IsSoundList framing b = done-sound framing b ending in
     let same : elements.forest ≡ f = reading-unique framing b elements.forest f (sound-reading framing b elements) reading in
-    record { sound = subst (IsSound (top_place framing)) same elements.sound; octets = ap spell (sym same) ∙ elements.octets }
+    record { sound = subst (IsSound (top_place framing)) same elements.sound; octets = ap spelling (sym same) ∙ elements.octets }
 
 pub spelled-alike : OneSpelling
 spelled-alike rules framing other b c f g strict r t alike =

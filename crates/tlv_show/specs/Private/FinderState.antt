@@ -3,7 +3,7 @@ use Rattle.std.specs.Prelude.{ℕ, ◌≡◌, Bool, true, false, if◌then◌els
 use Rattle.tlv_head.specs.Header.{HeaderValue}
 use Rattle.tlv_value.specs.CheckState.{CheckState}
 use Rattle.tlv_walk.specs.Events.{Begin, Bytes, Close, End, Enter, EventValue, Leave, Open, Pad, Unused}
-use Rattle.tlv_show.specs.FinderState.{OpenValue, FinderState, FinderValue, finds_nothing, find_open, find_begin, find_bytes, find_end, find_close}
+use Rattle.tlv_show.specs.FinderState.{OpenValue, FinderState, FinderValue, without_findings, finder_open_step, finder_begin_step, finder_bytes_step, finder_end_step, finder_close_step}
 
 -- the primitive that begins at `at`, if one is open
 abbrev pub open_by : Bool → ℕ → CheckState → Option OpenValue
@@ -19,30 +19,30 @@ ReportsFindings f new true = new ≡ f
 ReportsFindings f new false = (new.state ≡ f.state) × (f.found ≡ [])
 
 -- what is found, if the finder says that there may be findings
-abbrev pub finds_if : Bool → FinderValue → FinderValue
-finds_if has_findings f = if has_findings then f else finds_nothing f.state
+abbrev pub with_findings_if : Bool → FinderValue → FinderValue
+with_findings_if has_findings f = if has_findings then f else without_findings f.state
 
 -- an event
-abbrev pub find_step : FinderState → EventValue → FinderValue
-find_step s (Open h) = find_open s h
-find_step s (Begin h) = find_begin s h
-find_step s (Bytes octets) = finds_nothing (find_bytes s octets)
-find_step s End = find_end s
-find_step s (Close at) = find_close s
-find_step s (Enter h) = find_open s h
-find_step s Unused = finds_nothing s
-find_step s Leave = find_close s
-find_step s (Pad octets) = finds_nothing s
+abbrev pub finder_step : FinderState → EventValue → FinderValue
+finder_step s (Open h) = finder_open_step s h
+finder_step s (Begin h) = finder_begin_step s h
+finder_step s (Bytes octets) = without_findings (finder_bytes_step s octets)
+finder_step s End = finder_end_step s
+finder_step s (Close at) = finder_close_step s
+finder_step s (Enter h) = finder_open_step s h
+finder_step s Unused = without_findings s
+finder_step s Leave = finder_close_step s
+finder_step s (Pad octets) = without_findings s
 
 -- all of a primitive: its header, its contents and its end. What is found with its end
-abbrev pub find_whole : FinderState → HeaderValue → List ℕ → FinderValue
-find_whole s h c = find_end (find_bytes (find_begin s h).state c)
+abbrev pub finder_whole_step : FinderState → HeaderValue → List ℕ → FinderValue
+finder_whole_step s h c = finder_end_step (finder_bytes_step (finder_begin_step s h).state c)
 
 -- nothing is found with a primitive, and the state is that after its end
 pub record PassesPrimitive (old new : FinderValue) (h : HeaderValue) (c : List ℕ) : Type 0 where
-  pub begins : (find_begin old.state h).found ≡ []
-  pub ends : (find_whole old.state h c).found ≡ []
-  pub state : new ≡ with_state (find_whole old.state h c).state old
+  pub begins : (finder_begin_step old.state h).found ≡ []
+  pub ends : (finder_whole_step old.state h c).found ≡ []
+  pub state : new ≡ with_state (finder_whole_step old.state h c).state old
 
 -- a finder returns whether it took a primitive with which nothing is found; if not, nothing changes
 abbrev pub PassesOrStays : FinderValue → FinderValue → HeaderValue → List ℕ → Bool → Type 0

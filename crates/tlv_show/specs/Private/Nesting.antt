@@ -2,7 +2,7 @@
 use Rattle.std.specs.Prelude.{ℕ, zero, suc, ◌≡◌, ◌-◌, ◌<◌, ⊤, nat_lt, if◌then◌else◌, false, List, [], ◌∷◌, length, Option, Some, None}
 use Rattle.tlv_head.specs.Header.{HeaderValue}
 use Rattle.tlv_show.specs.declared.frames.SiblingFrame.{SiblingFrame}
-use Rattle.tlv_show.specs.declared.frames.Kept.{Kept}
+use Rattle.tlv_show.specs.declared.frames.KeptFrame.{KeptFrame}
 use Rattle.tlv_show.specs.FinderState.{frame_after, frame_under, top_frame}
 
 -- ---- All frames
@@ -61,7 +61,7 @@ outside w (suc plain) outer = all_of w plain outer
 
 -- those outside of an element that has a frame, by its floor. It is itself at the level `floor - 1`; outside of it,
 -- from the floor of `k` on, elements without a frame are open
-abbrev pub all_frames : ℕ → List Kept → List SiblingFrame
+abbrev pub all_frames : ℕ → List KeptFrame → List SiblingFrame
 all_frames floor [] = []
 all_frames floor (k ∷ outer) = all_of k.frame (floor - 1 - k.floor) (all_frames k.floor outer)
 
@@ -70,17 +70,17 @@ abbrev pub IsKept : SiblingFrame → ℕ → Type 0
 IsKept w plain = (innermost w plain).has_segments ≡ w.has_segments
 
 -- each floor is above the one outside of it, and that of the top is 0
-abbrev pub AreKept : ℕ → List Kept → Type 0
+abbrev pub AreKept : ℕ → List KeptFrame → Type 0
 AreKept floor [] = floor ≡ 0
 AreKept floor (k ∷ outer) = (k.floor < floor) × IsKept k.frame (floor - 1 - k.floor) × AreKept k.floor outer
 
 -- what is kept after the end of the element inside the innermost of these
-pub record IsTakenBack (closed : SiblingFrame) (k : Kept) (outer : List Kept) (w : SiblingFrame) (floor : ℕ) (rest : List Kept)
-    : Type 0 where
+pub record IsTakenBack (closed : SiblingFrame) (k : KeptFrame) (outer : List KeptFrame) (w : SiblingFrame) (floor : ℕ)
+    (rest : List KeptFrame) : Type 0 where
   pub frame : w ≡ frame_after k.frame closed.is_primitive closed.size false
   pub level : floor ≡ k.floor
   pub others : rest ≡ outer
 
-abbrev pub TakesBack : SiblingFrame → List Kept → SiblingFrame → ℕ → List Kept → Type 0
+abbrev pub TakesBack : SiblingFrame → List KeptFrame → SiblingFrame → ℕ → List KeptFrame → Type 0
 TakesBack closed [] w floor rest = ⊤
 TakesBack closed (k ∷ outer) w floor rest = IsTakenBack closed k outer w floor rest

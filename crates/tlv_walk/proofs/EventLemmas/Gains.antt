@@ -4,11 +4,11 @@ use Rattle.std.proofs.lemmas.Bool.{cases_Bool}
 use Rattle.std.proofs.lemmas.List.{map_push}
 use Rattle.tlv_head.specs.declared.fault.FaultCode.TheVariants.{BadEnd, BadInside, MissingEnd}
 use Rattle.tlv_head.specs.Header.{HeaderValue, announced_length, octets_of}
-use Rattle.tlv_walk.specs.Forest.{Forest, Stop, Fill, Whole, Closed, Partial, Entered, Awaiting, Begun, Zero, extent, lead}
+use Rattle.tlv_walk.specs.Forest.{Forest, NoMore, PaddingOctet, Primitive, Holder, OpenPrimitive, OpenHolder, OpenBitString, OpenHeader, OpenEndOctets, extent, lead}
 use Rattle.tlv_walk.specs.Place.{IsOpen, Place, place_after, place_of_children}
 use Rattle.tlv_walk.specs.Events.{Begin, Bytes, End, Enter, EventValue, Pad, Unused, closing_event, events, opening_events, single_octets}
 use Rattle.tlv_walk.proofs.GrammarLemmas.Bounds.{fits}
-use Rattle.tlv_walk.proofs.GrammarLemmas.PushSteps.{Step, Grown, Ended, Refused, entered, follow, is_filled, partial, push, settle}
+use Rattle.tlv_walk.proofs.GrammarLemmas.PushSteps.{Step, Grown, Ended, Refused, holder_so_far, follow, is_filled, primitive_so_far, push, settle}
 use Rattle.tlv_walk.proofs.EventLemmas.Joined.{apart-before, apart-more, bytes_apart}
 
 -- the events of what a step gives
@@ -25,15 +25,15 @@ closing h (Refused code) = []
 
 -- what the octet x after an open forest brings
 abbrev pub gained : Place → Forest → ℕ → List EventValue
-gained p Stop x = step_events (push p Stop x)
-gained p (Fill rest) x = gained (place_after p 1) rest x
-gained p (Whole h c rest) x = gained (place_after p (length (octets_of h) + length c)) rest x
-gained p (Closed h inside rest) x = gained (place_after p (extent h inside)) rest x
-gained p (Partial h c) x = Bytes (x ∷ []) ∷ cond (eqb (length (c ++ x ∷ [])) (announced_length h.size)) (End ∷ []) []
-gained p (Entered h inside) x = gained (place_of_children p h) inside x ++ closing h (push (place_of_children p h) inside x)
-gained p (Awaiting h) x = cond (eqb x 0) (Unused ∷ closing h (Grown Stop)) []
-gained p (Begun o) x = step_events (push p (Begun o) x)
-gained p Zero x = []
+gained p NoMore x = step_events (push p NoMore x)
+gained p (PaddingOctet rest) x = gained (place_after p 1) rest x
+gained p (Primitive h c rest) x = gained (place_after p (length (octets_of h) + length c)) rest x
+gained p (Holder h inside rest) x = gained (place_after p (extent h inside)) rest x
+gained p (OpenPrimitive h c) x = Bytes (x ∷ []) ∷ cond (eqb (length (c ++ x ∷ [])) (announced_length h.size)) (End ∷ []) []
+gained p (OpenHolder h inside) x = gained (place_of_children p h) inside x ++ closing h (push (place_of_children p h) inside x)
+gained p (OpenBitString h) x = cond (eqb x 0) (Unused ∷ closing h (Grown NoMore)) []
+gained p (OpenHeader o) x = step_events (push p (OpenHeader o) x)
+gained p OpenEndOctets x = []
 
 -- the events of a step's forest are these, each octet by itself
 abbrev pub Brings : List EventValue → Step → Type 0
@@ -48,7 +48,7 @@ step-brings (Ended g) = refl
 step-brings (Refused code) = tt
 
 -- after the first of the end-of-contents octets nothing is brought
-zero-brings : (a b : Bool) → Brings [] (cond a (cond b (Ended Stop) (Refused BadEnd)) (Refused MissingEnd))
+zero-brings : (a b : Bool) → Brings [] (cond a (cond b (Ended NoMore) (Refused BadEnd)) (Refused MissingEnd))
 zero-brings true true = refl
 zero-brings true false = tt
 zero-brings false b = tt
@@ -61,7 +61,7 @@ follow-brings f before old new (Ended g) split e = ap single_octets (split g) �
 follow-brings f before old new (Refused code) split e = tt
 
 -- a contents octet of a primitive brings that octet, and the end after the last
-partial-brings : (h : HeaderValue) (c : List ℕ) (x : ℕ) → Brings (events (Partial h c) ++ Bytes (x ∷ []) ∷ cond (eqb (length (c ++ x ∷ [])) (announced_length h.size)) (End ∷ []) []) (Grown (partial h (c ++ x ∷ [])))
+partial-brings : (h : HeaderValue) (c : List ℕ) (x : ℕ) → Brings (events (OpenPrimitive h c) ++ Bytes (x ∷ []) ∷ cond (eqb (length (c ++ x ∷ [])) (announced_length h.size)) (End ∷ []) []) (Grown (primitive_so_far h (c ++ x ∷ [])))
 partial-brings h c x = elim (cases_Bool (eqb (length (c ++ x ∷ [])) (announced_length h.size))) [
   | inl full ↦ rw (full, map_push (λ x. Bytes (x ∷ [])) c x, append_assoc (bytes_apart c) (Bytes (x ∷ []) ∷ []) (End ∷ []))
   | inr less ↦ rw (less, map_push (λ x. Bytes (x ∷ [])) c x, append-nil (bytes_apart c ++ Bytes (x ∷ []) ∷ []))
@@ -69,14 +69,14 @@ partial-brings h c x = elim (cases_Bool (eqb (length (c ++ x ∷ [])) (announced
 
 -- an element that holds others ends with its last
 closed-brings : (h : HeaderValue) (old new : List EventValue) (g : Forest) → single_octets (events g) ≡ single_octets (old ++ new)
-    → single_octets (events (Closed h g Stop)) ≡ single_octets ((opening_events h ++ old) ++ (new ++ closing_event h g ∷ []))
+    → single_octets (events (Holder h g NoMore)) ≡ single_octets ((opening_events h ++ old) ++ (new ++ closing_event h g ∷ []))
 closed-brings h old new g e =
     apart-more (opening_events h) (events g ++ closing_event h g ∷ []) old (new ++ closing_event h g ∷ [])
     (apart-before (events g) (old ++ new) (closing_event h g ∷ []) e ∙ ap single_octets (append_assoc old new (closing_event h g ∷ [])))
 
 -- an element that holds others brings what they bring, and its end after the last
 entered-brings : (h : HeaderValue) (old new : List EventValue) (g : Forest) → single_octets (events g) ≡ single_octets (old ++ new)
-    → single_octets (events (entered h g)) ≡ single_octets ((opening_events h ++ old) ++ (new ++ closing h (Grown g)))
+    → single_octets (events (holder_so_far h g)) ≡ single_octets ((opening_events h ++ old) ++ (new ++ closing h (Grown g)))
 entered-brings h old new g e = elim (cases_Bool (is_filled h g)) [
   | inl full ↦ rw full (closed-brings h old new g e)
   | inr less ↦ rw (less, append-nil new) (apart-more (opening_events h) (events g) old new e)
@@ -94,29 +94,29 @@ waiting-opens h true c e = let none : List ℕ = [] in let e' : none ≡ 0 ∷ [
 waiting-opens h false c e = rw (e, c)
 
 -- the first contents octet of a wrapping BIT STRING
-awaiting-brings : (h : HeaderValue) (x : ℕ) → lead h ≡ 0 ∷ [] → Brings (Enter h ∷ cond (eqb x 0) (Unused ∷ closing h (Grown Stop)) []) (cond (eqb x 0) (Grown (entered h Stop)) (Refused BadInside))
+awaiting-brings : (h : HeaderValue) (x : ℕ) → lead h ≡ 0 ∷ [] → Brings (Enter h ∷ cond (eqb x 0) (Unused ∷ closing h (Grown NoMore)) []) (cond (eqb x 0) (Grown (holder_so_far h NoMore)) (Refused BadInside))
 awaiting-brings h x e = elim (cases_Bool (eqb x 0)) [
   | inl z ↦ rw z
-      (entered-brings h [] [] Stop refl
-      ∙ ap (λ (t : List EventValue). single_octets ((t ++ []) ++ closing h (Grown Stop))) (waiting-opens h h.constructed refl e))
+      (entered-brings h [] [] NoMore refl
+      ∙ ap (λ (t : List EventValue). single_octets ((t ++ []) ++ closing h (Grown NoMore))) (waiting-opens h h.constructed refl e))
   | inr nz ↦ rw nz tt
 ]
 
 -- the events of the forest pushed are those before, and then those that the octet brings
 pub push-brings : (p : Place) (f : Forest) (x : ℕ) → IsOpen p f → Brings (events f ++ gained p f x) (push p f x)
-push-brings p Stop x w = step-brings (push p Stop x)
-push-brings p (Fill rest) x w = follow-brings Fill (Pad (0 ∷ []) ∷ []) (events rest) _ _ (λ g. refl) (push-brings (place_after p 1) rest x w.1)
-push-brings p (Whole h c rest) x w =
-    follow-brings (Whole h c) (Begin h ∷ Bytes c ∷ End ∷ []) (events rest) _ _ (λ g. refl) (push-brings (place_after p (length (octets_of h) + length c)) rest x w.1)
-push-brings p (Closed h inside rest) x w =
+push-brings p NoMore x w = step-brings (push p NoMore x)
+push-brings p (PaddingOctet rest) x w = follow-brings PaddingOctet (Pad (0 ∷ []) ∷ []) (events rest) _ _ (λ g. refl) (push-brings (place_after p 1) rest x w.1)
+push-brings p (Primitive h c rest) x w =
+    follow-brings (Primitive h c) (Begin h ∷ Bytes c ∷ End ∷ []) (events rest) _ _ (λ g. refl) (push-brings (place_after p (length (octets_of h) + length c)) rest x w.1)
+push-brings p (Holder h inside rest) x w =
     let before : List EventValue = opening_events h ++ (events inside ++ closing_event h inside ∷ []) in
-    let split : (g : Forest) → events (Closed h inside g) ≡ before ++ events g =
+    let split : (g : Forest) → events (Holder h inside g) ≡ before ++ events g =
     λ g. rw (append_assoc (opening_events h) (events inside ++ closing_event h inside ∷ []) (events g), append_assoc (events inside) (closing_event h inside ∷ []) (events g)) in
-    let brings : Brings ((before ++ events rest) ++ gained p (Closed h inside rest) x) (push p (Closed h inside rest) x) =
-    follow-brings (Closed h inside) before (events rest) _ _ split (push-brings (place_after p (extent h inside)) rest x w.2) in
-    subst (λ (es : List EventValue). Brings (es ++ gained p (Closed h inside rest) x) (push p (Closed h inside rest) x)) (sym (split rest)) brings
-push-brings p (Partial h c) x w = partial-brings h c x
-push-brings p (Entered h inside) x w = settle-brings h (events inside) _ _ (push-brings (place_of_children p h) inside x w.1)
-push-brings p (Awaiting h) x w = awaiting-brings h x w.1
-push-brings p (Begun o) x w = step-brings (push p (Begun o) x)
-push-brings p Zero x w = zero-brings (fits p 2) (eqb x 0)
+    let brings : Brings ((before ++ events rest) ++ gained p (Holder h inside rest) x) (push p (Holder h inside rest) x) =
+    follow-brings (Holder h inside) before (events rest) _ _ split (push-brings (place_after p (extent h inside)) rest x w.2) in
+    subst (λ (es : List EventValue). Brings (es ++ gained p (Holder h inside rest) x) (push p (Holder h inside rest) x)) (sym (split rest)) brings
+push-brings p (OpenPrimitive h c) x w = partial-brings h c x
+push-brings p (OpenHolder h inside) x w = settle-brings h (events inside) _ _ (push-brings (place_of_children p h) inside x w.1)
+push-brings p (OpenBitString h) x w = awaiting-brings h x w.1
+push-brings p (OpenHeader o) x w = step-brings (push p (OpenHeader o) x)
+push-brings p OpenEndOctets x w = zero-brings (fits p 2) (eqb x 0)

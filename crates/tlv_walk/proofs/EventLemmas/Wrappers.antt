@@ -4,14 +4,14 @@ use Rattle.std.proofs.lemmas.Bool.{cases_Bool, true≢false}
 use Rattle.tlv_head.specs.declared.fault.FaultCode.TheVariants.{MissingEnd, Overrun, TooDeep}
 use Rattle.tlv_head.specs.Header.{HeaderValue, announced_length, holds, is_wrapper, octets_of}
 use Rattle.tlv_head.proofs.Scan.{Scan, Fresh, High, Named, Long, Ready, Stuck, Over, scan, step}
-use Rattle.tlv_walk.specs.Forest.{Forest, Stop, Fill, Whole, Closed, Partial, Entered, Awaiting, Begun, Zero, extent, lead, opening, spell}
+use Rattle.tlv_walk.specs.Forest.{Forest, NoMore, PaddingOctet, Primitive, Holder, OpenPrimitive, OpenHolder, OpenBitString, OpenHeader, OpenEndOctets, extent, lead, opening, spelling}
 use Rattle.tlv_walk.specs.Inside.{is_among}
-use Rattle.tlv_walk.specs.Place.{IsHeadAt, IsOpen, Place, place_after, place_of_children}
+use Rattle.tlv_walk.specs.Place.{IsHeaderAt, IsOpen, Place, place_after, place_of_children}
 use Rattle.tlv_walk.specs.Events.{Begin, Bytes, Close, End, Enter, EventValue, Leave, Open, Pad, Unused, closing_event, events, opening_events, single_octets}
 use Rattle.tlv_walk.specs.Wrappers.{wrapper_at, wrapper_offsets, wrappers}
 use Rattle.tlv_walk.proofs.GrammarLemmas.Bounds.{fits}
 use Rattle.tlv_walk.proofs.GrammarLemmas.Spellings.{length-closed, length-opening, length-whole}
-use Rattle.tlv_walk.proofs.GrammarLemmas.PushSteps.{Step, Grown, Ended, Refused, Spells, begin, begun, entered, is_filled, opened, origin, partial, push, zero_between}
+use Rattle.tlv_walk.proofs.GrammarLemmas.PushSteps.{Step, Grown, Ended, Refused, Spells, begin, element_begun, holder_so_far, is_filled, holder_begun, origin, primitive_so_far, push, zero_between}
 use Rattle.tlv_walk.proofs.GrammarLemmas.Push.{push-sound}
 use Rattle.tlv_walk.proofs.GrammarLemmas.PopHeaders.{header-length}
 use Rattle.tlv_walk.proofs.EventLemmas.Gains.{closing, gained, push-brings, step_events}
@@ -84,25 +84,25 @@ waiting-wraps h e = elim (cases_Bool h.constructed) [
 
 -- the wrappers of an open forest are those that its events enter
 pub wrappers-entered : (p : Place) (f : Forest) → IsOpen p f → wrappers f ≡ wrapper_offsets (events f)
-wrappers-entered p Stop w = refl
-wrappers-entered p (Fill rest) w = wrappers-entered (place_after p 1) rest w.1
-wrappers-entered p (Whole h c rest) w = wrappers-entered (place_after p (length (octets_of h) + length c)) rest w.1
-wrappers-entered p (Closed h inside rest) w = sym
+wrappers-entered p NoMore w = refl
+wrappers-entered p (PaddingOctet rest) w = wrappers-entered (place_after p 1) rest w.1
+wrappers-entered p (Primitive h c rest) w = wrappers-entered (place_after p (length (octets_of h) + length c)) rest w.1
+wrappers-entered p (Holder h inside rest) w = sym
     (enters-opens h (events inside ++ closing_event h inside ∷ events rest)
     ∙ ap (λ (t : List ℕ). wrapper_at h ++ t)
     (enters-append (events inside) (closing_event h inside ∷ events rest)
     ∙ (ap (λ (t : List ℕ). t ++ wrapper_offsets (closing_event h inside ∷ events rest)) (sym (wrappers-entered (place_of_children p h) inside w.1))
     ∙ ap (λ (t : List ℕ). wrappers inside ++ t) (enters-closes h inside (events rest) ∙ sym (wrappers-entered (place_after p (extent h inside)) rest w.2)))))
-wrappers-entered p (Partial h c) w = refl
-wrappers-entered p (Entered h inside) w = sym (enters-opens h (events inside) ∙ ap (λ (t : List ℕ). wrapper_at h ++ t) (sym (wrappers-entered (place_of_children p h) inside w.1)))
-wrappers-entered p (Awaiting h) w = waiting-wraps h w.1
-wrappers-entered p (Begun octets) w = refl
-wrappers-entered p Zero w = refl
+wrappers-entered p (OpenPrimitive h c) w = refl
+wrappers-entered p (OpenHolder h inside) w = sym (enters-opens h (events inside) ∙ ap (λ (t : List ℕ). wrapper_at h ++ t) (sym (wrappers-entered (place_of_children p h) inside w.1)))
+wrappers-entered p (OpenBitString h) w = waiting-wraps h w.1
+wrappers-entered p (OpenHeader octets) w = refl
+wrappers-entered p OpenEndOctets w = refl
 
 -- the wrappers of the forest pushed are those before, and then those that the octet enters
 pub push-wrappers : (p : Place) (f g : Forest) (x : ℕ) → x < 256 → IsOpen p f → push p f x ≡ Grown g → wrappers g ≡ wrappers f ++ wrapper_offsets (gained p f x)
 push-wrappers p f g x h w e =
-    let sound : Spells p (spell f ++ x ∷ []) g = rw e at (push-sound p f x h w) in
+    let sound : Spells p (spelling f ++ x ∷ []) g = rw e at (push-sound p f x h w) in
     let brings : single_octets (events g) ≡ single_octets (events f ++ gained p f x) = rw e at (push-brings p f x w) in
     wrappers-entered p g sound.is_open
     ∙ sym (enters-apart (events g)) ∙ ap wrapper_offsets brings ∙ enters-apart (events f ++ gained p f x)
@@ -129,31 +129,31 @@ closing-none h (Ended g) = enters-closes h g []
 closing-none h (Refused code) = refl
 
 -- an element that holds none yet, by its contents octets
-entered-few : (h : HeaderValue) → EntersFew (events (entered h Stop))
-entered-few h = elim (cases_Bool (is_filled h Stop)) [
-  | inl e ↦ rw e (omega (arith, wrapper-few h, ap length (enters-opens h (closing_event h Stop ∷ [])), length-append (wrapper_at h) (wrapper_offsets (closing_event h Stop ∷ [])), ap length (enters-closes h Stop [])))
+entered-few : (h : HeaderValue) → EntersFew (events (holder_so_far h NoMore))
+entered-few h = elim (cases_Bool (is_filled h NoMore)) [
+  | inl e ↦ rw e (omega (arith, wrapper-few h, ap length (enters-opens h (closing_event h NoMore ∷ [])), length-append (wrapper_at h) (wrapper_offsets (closing_event h NoMore ∷ [])), ap length (enters-closes h NoMore [])))
   | inr e ↦ rw e (omega (arith, wrapper-few h, ap length (enters-opens h []), length-append {A = ℕ} (wrapper_at h) []))
 ]
 
 -- an element that holds none yet
-opened-few : (h : HeaderValue) (l : List ℕ) → EntersFew (events (opened h l))
+opened-few : (h : HeaderValue) (l : List ℕ) → EntersFew (events (holder_begun h l))
 opened-few h [] = entered-few h
 opened-few h (x ∷ l) = omega arith
 
 -- a primitive
-partial-none : (h : HeaderValue) (c : List ℕ) → EntersFew (events (partial h c))
+partial-none : (h : HeaderValue) (c : List ℕ) → EntersFew (events (primitive_so_far h c))
 partial-none h c = elim (cases_Bool (eqb (length c) (announced_length h.size))) [
   | inl e ↦ rw e (omega arith)
   | inr e ↦ rw e (omega arith)
 ]
 
 -- a header alone
-begun-few : (h : HeaderValue) (k : Bool) → EntersFew (events (begun k h))
+begun-few : (h : HeaderValue) (k : Bool) → EntersFew (events (element_begun k h))
 begun-few h true = opened-few h (lead h)
 begun-few h false = partial-none h []
 
 -- a header that is complete
-complete-few : (p : Place) (h : HeaderValue) (deep room : Bool) → EntersFew (step_events (cond deep (Refused TooDeep) (cond room (Grown (begun (holds h) h)) (Refused Overrun))))
+complete-few : (p : Place) (h : HeaderValue) (deep room : Bool) → EntersFew (step_events (cond deep (Refused TooDeep) (cond room (Grown (element_begun (holds h) h)) (Refused Overrun))))
 complete-few p h true room = omega arith
 complete-few p h false true = begun-few h (holds h)
 complete-few p h false false = omega arith
@@ -174,7 +174,7 @@ header-few p o s true = begin-few p o s
 header-few p o s false = omega arith
 
 -- between encodings
-between-few : (o : List ℕ) (room zero indefinite padding : Bool) → EntersFew (step_events (cond room (cond zero (zero_between indefinite padding) (Grown (Begun o))) (Refused MissingEnd)))
+between-few : (o : List ℕ) (room zero indefinite padding : Bool) → EntersFew (step_events (cond room (cond zero (zero_between indefinite padding) (Grown (OpenHeader o))) (Refused MissingEnd)))
 between-few o true true true padding = omega arith
 between-few o true true false true = omega arith
 between-few o true true false false = omega arith
@@ -183,24 +183,24 @@ between-few o false zero indefinite padding = omega arith
 
 -- an octet enters one wrapper at most
 pub gained-few : (p : Place) (f : Forest) (x : ℕ) → EntersFew (gained p f x)
-gained-few p Stop x = between-few (x ∷ []) (fits p 1) (eqb x 0) p.indefinite p.padding
-gained-few p (Fill rest) x = gained-few (place_after p 1) rest x
-gained-few p (Whole h c rest) x = gained-few (place_after p (length (octets_of h) + length c)) rest x
-gained-few p (Closed h inside rest) x = gained-few (place_after p (extent h inside)) rest x
-gained-few p (Partial h c) x = elim (cases_Bool (eqb (length (c ++ x ∷ [])) (announced_length h.size))) [
+gained-few p NoMore x = between-few (x ∷ []) (fits p 1) (eqb x 0) p.indefinite p.padding
+gained-few p (PaddingOctet rest) x = gained-few (place_after p 1) rest x
+gained-few p (Primitive h c rest) x = gained-few (place_after p (length (octets_of h) + length c)) rest x
+gained-few p (Holder h inside rest) x = gained-few (place_after p (extent h inside)) rest x
+gained-few p (OpenPrimitive h c) x = elim (cases_Bool (eqb (length (c ++ x ∷ [])) (announced_length h.size))) [
   | inl e ↦ rw e (omega arith)
   | inr e ↦ rw e (omega arith)
 ]
-gained-few p (Entered h inside) x =
+gained-few p (OpenHolder h inside) x =
     let es : List EventValue = closing h (push (place_of_children p h) inside x) in
     let none : length (wrapper_offsets es) ≡ 0 = ap length (closing-none h (push (place_of_children p h) inside x)) in
     omega (arith, gained-few (place_of_children p h) inside x, ap length (enters-append (gained (place_of_children p h) inside x) es), length-append (wrapper_offsets (gained (place_of_children p h) inside x)) (wrapper_offsets es))
-gained-few p (Awaiting h) x = elim (cases_Bool (eqb x 0)) [
-  | inl e ↦ rw e (omega (arith, ap length (closing-none h (Grown Stop))))
+gained-few p (OpenBitString h) x = elim (cases_Bool (eqb x 0)) [
+  | inl e ↦ rw e (omega (arith, ap length (closing-none h (Grown NoMore))))
   | inr e ↦ rw e (omega arith)
 ]
-gained-few p (Begun o) x = header-few p (o ++ x ∷ []) (step (origin p) (scan (origin p) o) x) (fits p (length o + 1))
-gained-few p Zero x = omega arith
+gained-few p (OpenHeader o) x = header-few p (o ++ x ∷ []) (step (origin p) (scan (origin p) o) x) (fits p (length o + 1))
+gained-few p OpenEndOctets x = omega arith
 
 -- each number is larger than the one before, from `least` on and below `end`
 abbrev pub Rise : ℕ → ℕ → List ℕ → Type 0
@@ -234,29 +234,29 @@ wrapper-rises a b h e l = elim (cases_Bool h.constructed) [
 ]
 
 -- the offsets of the wrappers rise, and are those of octets of the forest
-pub wrappers-rise : (p : Place) (f : Forest) → IsOpen p f → Rise p.at (p.at + length (spell f)) (wrappers f)
-wrappers-rise p Stop w = omega arith
-wrappers-rise p (Fill rest) w = rise-within _ _ _ _ (wrappers rest) (omega arith) (omega arith) (wrappers-rise (place_after p 1) rest w.1)
-wrappers-rise p (Whole h c rest) w =
+pub wrappers-rise : (p : Place) (f : Forest) → IsOpen p f → Rise p.at (p.at + length (spelling f)) (wrappers f)
+wrappers-rise p NoMore w = omega arith
+wrappers-rise p (PaddingOctet rest) w = rise-within _ _ _ _ (wrappers rest) (omega arith) (omega arith) (wrappers-rise (place_after p 1) rest w.1)
+wrappers-rise p (Primitive h c rest) w =
     rise-within _ _ _ _ (wrappers rest) (omega arith) (omega (arith, length-whole h c rest))
     (wrappers-rise (place_after p (length (octets_of h) + length c)) rest w.1)
-wrappers-rise p (Closed h inside rest) w =
+wrappers-rise p (Holder h inside rest) w =
     let two : 2 ≤ length (octets_of h) = header-length h w.0.0.header.valid in
-    let size : length (spell (Closed h inside rest)) ≡ extent h inside + length (spell rest) = length-closed h inside rest in
+    let size : length (spelling (Holder h inside rest)) ≡ extent h inside + length (spelling rest) = length-closed h inside rest in
     rise-append p.at (p.at + length (opening h)) _ (wrapper_at h) (wrappers inside ++ wrappers rest)
     (wrapper-rises p.at (p.at + length (opening h)) h w.0.0.header.offset (omega (arith, length-opening h)))
     (rise-append (p.at + length (opening h)) (p.at + extent h inside) _ (wrappers inside) (wrappers rest)
     (rise-within _ _ _ _ (wrappers inside) (omega arith) (omega arith) (wrappers-rise (place_of_children p h) inside w.1))
     (rise-within _ _ _ _ (wrappers rest) (omega arith) (omega arith) (wrappers-rise (place_after p (extent h inside)) rest w.2)))
-wrappers-rise p (Partial h c) w = omega arith
-wrappers-rise p (Entered h inside) w =
+wrappers-rise p (OpenPrimitive h c) w = omega arith
+wrappers-rise p (OpenHolder h inside) w =
     let two : 2 ≤ length (octets_of h) = header-length h w.0.0.header.valid in
     rise-append p.at (p.at + length (opening h)) _ (wrapper_at h) (wrappers inside)
     (wrapper-rises p.at (p.at + length (opening h)) h w.0.0.header.offset (omega (arith, length-opening h)))
-    (rise-within _ _ _ _ (wrappers inside) (omega arith) (omega (arith, length-append (opening h) (spell inside))) (wrappers-rise (place_of_children p h) inside w.1))
-wrappers-rise p (Awaiting h) w = wrapper-rises p.at _ h w.0.header.offset (omega (arith, header-length h w.0.header.valid))
-wrappers-rise p (Begun octets) w = omega arith
-wrappers-rise p Zero w = omega arith
+    (rise-within _ _ _ _ (wrappers inside) (omega arith) (omega (arith, length-append (opening h) (spelling inside))) (wrappers-rise (place_of_children p h) inside w.1))
+wrappers-rise p (OpenBitString h) w = wrapper-rises p.at _ h w.0.header.offset (omega (arith, header-length h w.0.header.valid))
+wrappers-rise p (OpenHeader octets) w = omega arith
+wrappers-rise p OpenEndOctets w = omega arith
 
 -- each is among the offsets named
 abbrev pub AreNamed : List ℕ → List ℕ → Type 0
@@ -275,7 +275,7 @@ wraps-named false true h c e = refl
 wraps-named false false h c e = absurd (cc)
 
 -- an element that stands there, if it is a wrapper, is named
-wrapper-named : (p : Place) (h : HeaderValue) → IsHeadAt p true h → AreNamed p.inside (wrapper_at h)
+wrapper-named : (p : Place) (h : HeaderValue) → IsHeaderAt p true h → AreNamed p.inside (wrapper_at h)
 wrapper-named p h header = elim (cases_Bool h.constructed) [
   | inl c ↦ rw c tt
   | inr c ↦
@@ -286,15 +286,15 @@ wrapper-named p h header = elim (cases_Bool h.constructed) [
 
 -- the wrappers of an open forest are among the offsets named
 pub wrappers-named : (p : Place) (f : Forest) → IsOpen p f → AreNamed p.inside (wrappers f)
-wrappers-named p Stop w = tt
-wrappers-named p (Fill rest) w = wrappers-named (place_after p 1) rest w.1
-wrappers-named p (Whole h c rest) w = wrappers-named (place_after p (length (octets_of h) + length c)) rest w.1
-wrappers-named p (Closed h inside rest) w =
+wrappers-named p NoMore w = tt
+wrappers-named p (PaddingOctet rest) w = wrappers-named (place_after p 1) rest w.1
+wrappers-named p (Primitive h c rest) w = wrappers-named (place_after p (length (octets_of h) + length c)) rest w.1
+wrappers-named p (Holder h inside rest) w =
     named-append p.inside (wrapper_at h) (wrappers inside ++ wrappers rest) (wrapper-named p h w.0.0.header)
     (named-append p.inside (wrappers inside) (wrappers rest) (wrappers-named (place_of_children p h) inside w.1) (wrappers-named (place_after p (extent h inside)) rest w.2))
-wrappers-named p (Partial h c) w = tt
-wrappers-named p (Entered h inside) w =
+wrappers-named p (OpenPrimitive h c) w = tt
+wrappers-named p (OpenHolder h inside) w =
     named-append p.inside (wrapper_at h) (wrappers inside) (wrapper-named p h w.0.0.header) (wrappers-named (place_of_children p h) inside w.1)
-wrappers-named p (Awaiting h) w = wrapper-named p h w.0.header
-wrappers-named p (Begun octets) w = tt
-wrappers-named p Zero w = tt
+wrappers-named p (OpenBitString h) w = wrapper-named p h w.0.header
+wrappers-named p (OpenHeader octets) w = tt
+wrappers-named p OpenEndOctets w = tt

@@ -20,7 +20,7 @@ use Rattle.tlv_walk.specs.DriveJob.{Drives, drive_job, drive_state, event_octets
 use Rattle.tlv_walk.specs.Events.{AreEqualJoined, Bytes, EventValue, Pad, events}
 use Rattle.tlv_walk.specs.Follow.{Effect, GoesOn, Joins, Rests, effect_of, followed_events}
 use Rattle.tlv_walk.specs.FollowsEvents.{FollowsEvents}
-use Rattle.tlv_walk.specs.Forest.{Forest, spell}
+use Rattle.tlv_walk.specs.Forest.{Forest, spelling}
 use Rattle.tlv_walk.specs.Ending.{IsFinalEnding}
 use Rattle.tlv_walk.specs.Job.{ComesTo, EndsWith, Runs, WantMore, drain_result, read_failed, source_result, too_long, write_failed}
 use Rattle.tlv_io.specs.Out.{Sends}
@@ -104,7 +104,7 @@ module _ {S : Type 0} (next : S → EventValue → Effect S)
     first_made =
         made_all s before.follower x.past x.stands.reading go.On x.made (stands_past before.walker b x.past x.stands.reading x.stands x.idle x.stands.is_reading)
 
-    first_spelled : spell x.stands.reading ≡ b
+    first_spelled : spelling x.stands.reading ≡ b
     first_spelled = stands_spelled before.walker b x.past x.stands.reading x.stands x.stands.is_reading
 
     -- the octets so far hold neither a fault nor enough
@@ -207,7 +207,7 @@ module _ {S : Type 0} (next : S → EventValue → Effect S)
           let is_reading : IsReading framing walked f = subst (λ (k : Framing). IsReading k walked f) x.same y.is_reading in
           let k : MadeAll s after.follower f go.On (effect_of next s es).put = made_all s after.follower es f go.On (made_both next s before.follower after.follower x.past y.more go.On x.made y.made) y.yields in
           let answer : run ≡ run_over framing f (followed_events next s (events f)) (effect_of next s (events f)).goes run.ending =
-          run_is run run.ending (length (spell f)) false (first_without_string framing.inside f) refl y.spelled none (y.unused ∙ ap (λ (k : Framing). first_without_string k.inside f) x.same)
+          run_is run run.ending (length (spelling f)) false (first_without_string framing.inside f) refl y.spelled none (y.unused ∙ ap (λ (k : Framing). first_without_string k.inside f) x.same)
           ∙ ap (λ (g : Go). run_over framing f (followed_events next s (events f)) g run.ending) (sym k.goes_so) in
           let ends : EndsWith framing walked (had_enough (effect_of next s (events f)).goes) run.ending =
           subst (λ (b : Bool). EndsWith framing walked b run.ending) (sym (is_enough_so f go.On (effect_of next s es).put k))

@@ -24,7 +24,7 @@ use Rattle.tlv_walk.specs.Events.{AreEqualJoined, EventValue, events}
 use Rattle.tlv_walk.specs.Follow.{Effect, effect_of}
 use Rattle.tlv_walk.specs.Private.ResultOfPause.{IsResultOfPause, IsRun}
 use Rattle.tlv_walk.specs.Private.FollowsPiece.{Fails, FollowsAndFlushes, FollowsPiece, FollowsToFault, GoesOnIn, FollowsToEnough, Pauses, FollowsAll, WalkState, WalksOver, WalksTo, walk_state}
-use Rattle.tlv_walk.specs.Forest.{Forest, spell}
+use Rattle.tlv_walk.specs.Forest.{Forest, spelling}
 use Rattle.tlv_walk.specs.WalkerState.{WalkerState}
 use Rattle.tlv_io.specs.Out.{Puts, Sends, held_octets, drain_of}
 use Rattle.tlv_walk.specs.Place.{top_place}
@@ -48,10 +48,10 @@ use Rattle.tlv_walk.proofs.WalkerLemmas.Zipper.{reading_of}
 -- ---- what a walker stands for
 
 -- a walker that stands for octets has read them all
-pub stands_spelled : (v : WalkerState) (b : List ℕ) (past : List EventValue) (f : Forest) → Stands v b past → IsReading v.framing b f → spell f ≡ b
+pub stands_spelled : (v : WalkerState) (b : List ℕ) (past : List EventValue) (f : Forest) → Stands v b past → IsReading v.framing b f → spelling f ≡ b
 stands_spelled v b past f st r =
     let spells : Spells (top_place v.framing) b (reading_of st.private_state.state) = state-spells v b past st.private_state.state st.private_state.has_state in
-    ap spell (reading-unique v.framing b f (reading_of st.private_state.state) r (state-reading v b past st.private_state.state st.private_state.has_state)) ∙ spells.spelled
+    ap spelling (reading-unique v.framing b f (reading_of st.private_state.state) r (state-reading v b past st.private_state.state st.private_state.has_state)) ∙ spells.spelled
 
 -- if nothing waits, all events of the reading were yielded
 pub stands_past : (v : WalkerState) (b : List ℕ) (past : List EventValue) (f : Forest) → Stands v b past → waiting_events v ≡ [] → IsReading v.framing b f → AreEqualJoined past (events f)

@@ -8,7 +8,7 @@ use Rattle.tlv_head.specs.declared.fault.FaultCode.TheVariants.{Empty, Short}
 use Rattle.tlv_walk.specs.declared.ending.Ending.{Ending}
 use Rattle.tlv_walk.specs.declared.ending.Ending.TheVariants.{Done, Fault}
 use Rattle.tlv_walk.specs.declared.framing.Framing.{Framing}
-use Rattle.tlv_walk.specs.Forest.{Forest, has_element, is_complete, spell}
+use Rattle.tlv_walk.specs.Forest.{Forest, has_element, is_complete, spelling}
 use Rattle.tlv_walk.specs.Place.{top_place}
 use Rattle.tlv_walk.specs.Reading.{IsReading, IsSoundList}
 use Rattle.tlv_walk.specs.Ending.{IsEnding, IsFault, done, empty, fault, refused, short, tip}
@@ -21,7 +21,7 @@ use Rattle.tlv_walk.proofs.GrammarLemmas.Faults.{fault-refused, refused-fault}
 -- the ending of a run over n octets
 abbrev pub ending_of : ℕ → Run → Ending
 ending_of n (Going f) = cond (has_element f) (cond (is_complete f) Done (fault Short n)) (fault Empty n)
-ending_of n (Halted f code) = fault code (length (spell f))
+ending_of n (Halted f code) = fault code (length (spelling f))
 
 -- the ending that pushing gives
 abbrev pub ending : Framing → List ℕ → Ending
@@ -46,14 +46,14 @@ going-ending w f b r =
     ]
 
 -- an octet that is refused gives an ending, whatever follows
-pub halt-ending : (w : Framing) (f : Forest) (code : FaultCode) (b : List ℕ) → (r : IsHalt w f code b) → IsFault (tip (top_place w) f).0 r.octet (tip (top_place w) f).1 code → IsEnding w b (fault code (length (spell f)))
+pub halt-ending : (w : Framing) (f : Forest) (code : FaultCode) (b : List ℕ) → (r : IsHalt w f code b) → IsFault (tip (top_place w) f).0 r.octet (tip (top_place w) f).1 code → IsEnding w b (fault code (length (spelling f)))
 halt-ending w f code b r k = refused f r.octet r.rest code (run-reading w (Halted f code) b r) r.front k
 
 -- a right run has the ending that it gives
 run-ending : (w : Framing) (r : Run) (b : List ℕ) → All (λ x. x < 256) b → IsRun w r b → IsEnding w b (ending_of (length b) r)
 run-ending w (Going f) b each r = going-ending w f b r
 run-ending w (Halted f code) b each r =
-    halt-ending w f code b r (refused-fault w f r.octet code (octet-small (spell f) r.octet r.rest b r.front each) r.is_open r.refused)
+    halt-ending w f code b r (refused-fault w f r.octet code (octet-small (spelling f) r.octet r.rest b r.front each) r.is_open r.refused)
 
 -- an input of octets has an ending
 pub is-ending : (w : Framing) (b : List ℕ) → All (λ x. x < 256) b → IsEnding w b (ending w b)
@@ -75,7 +75,7 @@ pub record IsRefused (w : Framing) (b : List ℕ) (code : FaultCode) (offset : �
   pub forest : Forest
   pub halt : IsHalt w forest code b
   pub fault : IsFault (tip (top_place w) forest).0 halt.octet (tip (top_place w) forest).1 code
-  pub there : offset ≡ length (spell forest)
+  pub there : offset ≡ length (spelling forest)
 
 -- what an ending says
 abbrev pub Says : Framing → List ℕ → Ending → Type 0
@@ -107,8 +107,8 @@ fault-halt w b code offset a d e = elim (ending-says w b (fault code offset) e) 
 -- no input in which an octet is refused is sound
 pub halt-unsound : (w : Framing) (b : List ℕ) (f : Forest) (code : FaultCode) → IsHalt w f code b → IsSoundList w b → ⊥
 halt-unsound w b f code r s =
-    let most : length (spell s.forest) ≤ length (spell f) = halt-longest w f code b r s.forest (sound-open_top w s.forest s.sound) ([], append-nil (spell s.forest) ∙ s.octets) in
-    omega (arith, ap length s.octets, ap length r.front, length-append (spell f) (r.octet ∷ r.rest))
+    let most : length (spelling s.forest) ≤ length (spelling f) = halt-longest w f code b r s.forest (sound-open_top w s.forest s.sound) ([], append-nil (spelling s.forest) ∙ s.octets) in
+    omega (arith, ap length s.octets, ap length r.front, length-append (spelling f) (r.octet ∷ r.rest))
 
 -- no false alarm: after a fault other than F01 and F02 no input that goes on is sound
 pub no-false-alarm : (w : Framing) (b c : List ℕ) (code : FaultCode) (offset : ℕ) → code ≢ Empty → code ≢ Short → IsEnding w b (fault code offset) → IsSoundList w (b ++ c) → ⊥
@@ -136,7 +136,7 @@ offset_in (Fault f) = f.offset
 
 -- an ending that is a fault: the input ends there, or an octet of it is refused
 fault-place : (w : Framing) (b : List ℕ) (e : Ending) (f : FaultOf) → IsEnding w b e → e ≡ Fault f
-    → (f.offset ≡ length b) ⊎ ((g : Forest) × IsReading w b g × (f.offset ≡ length (spell g)))
+    → (f.offset ≡ length b) ⊎ ((g : Forest) × IsReading w b g × (f.offset ≡ length (spelling g)))
 fault-place w b e f (empty g r s n) i = inl (sym (ap offset_in i))
 fault-place w b e f (short g r s n) i = inl (sym (ap offset_in i))
 fault-place w b e f (done g r s n t) i = absurd (cc (i))
@@ -147,6 +147,6 @@ pub refused-reading : (w : Framing) (p : List ℕ) (x : ℕ) (c : List ℕ) (f :
 refused-reading w p x c f g v there e = elim (fault-place w (p ++ x ∷ c) (Fault f) f e refl) [
   | inl end ↦ absurd (omega (arith, end, there, length-append p (x ∷ c)))
   | inr r ↦
-      let same : spell r.0 ≡ spell g = front-same (spell r.0) (spell g) (r.1.front.0) (x ∷ c) (r.1.front.1 ∙ ap (λ (o : List ℕ). o ++ x ∷ c) (sym v.spelled)) (sym r.2 ∙ there ∙ ap length (sym v.spelled)) in
+      let same : spelling r.0 ≡ spelling g = front-same (spelling r.0) (spelling g) (r.1.front.0) (x ∷ c) (r.1.front.1 ∙ ap (λ (o : List ℕ). o ++ x ∷ c) (sym v.spelled)) (sym r.2 ∙ there ∙ ap length (sym v.spelled)) in
       subst (λ (h : Forest). IsReading w (p ++ x ∷ c) h) (unique (top_place w) r.0 g r.1.is_open v.is_open same) r.1
 ]

@@ -10,8 +10,8 @@ use Rattle.tlv_head.proofs.Meaning.{Reads, reads-step, reads-scan, front-bytes}
 use Rattle.tlv_head.proofs.Headers.{IsHeadRefusal, Explains, explains}
 use Rattle.tlv_head.proofs.Refused.{refused-stuck}
 use Rattle.tlv_walk.specs.declared.framing.Framing.{Framing}
-use Rattle.tlv_walk.specs.Forest.{Forest, Stop, Partial, Awaiting, Begun, Zero}
-use Rattle.tlv_walk.specs.Place.{Fits, IsHeadAt, IsOpen, Place, top_place}
+use Rattle.tlv_walk.specs.Forest.{Forest, NoMore, OpenPrimitive, OpenBitString, OpenHeader, OpenEndOctets}
+use Rattle.tlv_walk.specs.Place.{Fits, IsHeaderAt, IsOpen, Place, top_place}
 use Rattle.tlv_walk.specs.Ending.{IsFault, bad_inside, missing_end, bad_end, no_room, refused_octet, too_deep, overrun, no_end, stray_end, tip}
 use Rattle.tlv_walk.proofs.GrammarLemmas.Bounds.{fits, fits-within, within-fits}
 use Rattle.tlv_walk.proofs.GrammarLemmas.PushSteps.{Step, Grown, Ended, Refused, begin, complete, origin, push, zero_between}
@@ -35,13 +35,13 @@ Blames p e x None = Unit {0}
 Blames p e x (Some code) = IsFault p x e code
 
 -- an octet 00 between encodings is refused as a stray end
-zero-blames : (p : Place) (x : ℕ) (i a : Bool) → p.indefinite ≡ i → p.padding ≡ a → x ≡ 0 → Blames p Stop x (refusal (zero_between i a))
+zero-blames : (p : Place) (x : ℕ) (i a : Bool) → p.indefinite ≡ i → p.padding ≡ a → x ≡ 0 → Blames p NoMore x (refusal (zero_between i a))
 zero-blames p x true a e d z = tt
 zero-blames p x false true e d z = tt
 zero-blames p x false false e d z = stray_end e d z
 
 -- between encodings
-between-blames : (p : Place) (x : ℕ) → (p.indefinite ≡ false → Fits p 1) → Blames p Stop x (refusal (push p Stop x))
+between-blames : (p : Place) (x : ℕ) → (p.indefinite ≡ false → Fits p 1) → Blames p NoMore x (refusal (push p NoMore x))
 between-blames p x room = elim (cases_Bool (fits p 1)) [
   | inl f ↦ elim (cases_eq x 0) [
     | inl e ↦ rw (f, eq-eqb x 0 e) (zero-blames p x p.indefinite p.padding refl refl e)
@@ -54,14 +54,14 @@ between-blames p x room = elim (cases_Bool (fits p 1)) [
 ]
 
 -- before the first contents octet of a wrapping BIT STRING
-unused-blames : (p : Place) (h : HeaderValue) (x : ℕ) → Blames p (Awaiting h) x (refusal (push p (Awaiting h) x))
+unused-blames : (p : Place) (h : HeaderValue) (x : ℕ) → Blames p (OpenBitString h) x (refusal (push p (OpenBitString h) x))
 unused-blames p h x = elim (cases_eq x 0) [
   | inl e ↦ rw (eq-eqb x 0 e) tt
   | inr e ↦ rw (ne_eqb x 0 e) (bad_inside e)
 ]
 
 -- after the first of the end-of-contents octets
-end-blames : (p : Place) (x : ℕ) → Blames p Zero x (refusal (push p Zero x))
+end-blames : (p : Place) (x : ℕ) → Blames p OpenEndOctets x (refusal (push p OpenEndOctets x))
 end-blames p x = elim (cases_Bool (fits p 2)) [
   | inl f ↦ elim (cases_eq x 0) [
     | inl e ↦ rw (f, eq-eqb x 0 e) tt
@@ -71,7 +71,7 @@ end-blames p x = elim (cases_Bool (fits p 2)) [
 ]
 
 -- what is refused for the octets of a header alone has that fault
-octet-blames : (p : Place) (o : List ℕ) (x : ℕ) (code : FaultCode) → (o ≡ [] → ⊥) → Fits p (length o + 1) → IsHeadRefusal code o x → IsFault p x (Begun o) code
+octet-blames : (p : Place) (o : List ℕ) (x : ℕ) (code : FaultCode) → (o ≡ [] → ⊥) → Fits p (length o + 1) → IsHeadRefusal code o x → IsFault p x (OpenHeader o) code
 octet-blames p o x StrayEnd some room r = absurd (some r.0)
 octet-blames p o x code some room r = refused_octet room r
 
@@ -83,12 +83,12 @@ shallow t d e k = elim (and_cases t (leb 128 d) e) [
 ]
 
 -- a header that is complete and refused is too deep, or its contents pass the bound
-complete-blames : (p : Place) (o : List ℕ) (x : ℕ) (h : HeaderValue) → Fits p (length o + 1) → IsHeadAt p (holds h) h → octets_of h ≡ o ++ x ∷ []
-    → Blames p (Begun o) x (refusal (complete p h))
+complete-blames : (p : Place) (o : List ℕ) (x : ℕ) (h : HeaderValue) → Fits p (length o + 1) → IsHeaderAt p (holds h) h → octets_of h ≡ o ++ x ∷ []
+    → Blames p (OpenHeader o) x (refusal (complete p h))
 complete-blames p o x h room s octets = elim (cases_Bool (holds h && leb 128 p.depth)) [
   | inl deep ↦
       let parts : (holds h ≡ true) × (leb 128 p.depth ≡ true) = and_parts _ _ deep in
-      let there : IsHeadAt p true h = record { valid = s.valid; offset = s.offset; named = s.named; form = parts.0 } in
+      let there : IsHeaderAt p true h = record { valid = s.valid; offset = s.offset; named = s.named; form = parts.0 } in
       rw deep (too_deep room h there octets (leb-true _ _ parts.1))
   | inr not_deep ↦ elim (cases_Bool (fits p (length (octets_of h) + announced_length h.size))) [
     | inl f ↦ rw (not_deep, f) tt
@@ -98,7 +98,7 @@ complete-blames p o x h room s octets = elim (cases_Bool (holds h && leb 128 p.d
 
 -- octets of a header, by what they say
 begin-blames : (p : Place) (o : List ℕ) (x : ℕ) (s : Scan) → (o ≡ [] → ⊥) → Fits p (length o + 1) → Explains s o x → Reads (origin p) s (o ++ x ∷ [])
-    → Blames p (Begun o) x (refusal (begin p (o ++ x ∷ []) s))
+    → Blames p (OpenHeader o) x (refusal (begin p (o ++ x ∷ []) s))
 begin-blames p o x Fresh some below w r = tt
 begin-blames p o x (High c k ds) some below w r = tt
 begin-blames p o x (Named c k n i) some below w r = tt
@@ -109,7 +109,7 @@ begin-blames p o x (Stuck code) some below w r = octet-blames p o x code some be
 begin-blames p o x Over some below w r = absurd w
 
 -- inside a header
-header-blames : (p : Place) (o : List ℕ) (x : ℕ) → x < 256 → IsOpen p (Begun o) → Blames p (Begun o) x (refusal (push p (Begun o) x))
+header-blames : (p : Place) (o : List ℕ) (x : ℕ) → x < 256 → IsOpen p (OpenHeader o) → Blames p (OpenHeader o) x (refusal (push p (OpenHeader o) x))
 header-blames p o x h w =
     let at : Origin = origin p in
     let now : Reads at (scan at o) o = reads-scan at o (front-bytes o w.1) in
@@ -122,24 +122,24 @@ header-blames p o x h w =
 
 -- a refusal at an open end has a fault of the list
 pub blames : (p : Place) (f : Forest) (x : ℕ) → x < 256 → IsTip p f → Blames p f x (refusal (push p f x))
-blames p Stop x h t = between-blames p x t.1
-blames p (Partial head c) x h t = tt
-blames p (Awaiting head) x h t = unused-blames p head x
-blames p (Begun o) x h t = header-blames p o x h t
-blames p Zero x h t = end-blames p x
+blames p NoMore x h t = between-blames p x t.1
+blames p (OpenPrimitive header c) x h t = tt
+blames p (OpenBitString header) x h t = unused-blames p header x
+blames p (OpenHeader o) x h t = header-blames p o x h t
+blames p OpenEndOctets x h t = end-blames p x
 blames p f x h t = absurd t
 
 -- an octet that is refused for the octets of a header alone is refused there
-stuck-refusal : (p : Place) (o : List ℕ) (x : ℕ) (code : FaultCode) → IsOpen p (Begun o) → Fits p (length o + 1) → IsRefusedOctet o x code → refusal (push p (Begun o) x) ≡ Some code
+stuck-refusal : (p : Place) (o : List ℕ) (x : ℕ) (code : FaultCode) → IsOpen p (OpenHeader o) → Fits p (length o + 1) → IsRefusedOctet o x code → refusal (push p (OpenHeader o) x) ≡ Some code
 stuck-refusal p o x code t room r = ap refusal (push-scan p o x (Stuck code) room (refused-stuck (origin p) code o x t.1 r))
 
 -- the header as it is read there
-read-there : (p : Place) (o : List ℕ) (x : ℕ) (h : HeaderValue) (t : Bool) → Fits p (length o + 1) → IsHeadAt p t h → octets_of h ≡ o ++ x ∷ [] → push p (Begun o) x ≡ complete p (moved (origin p) h)
+read-there : (p : Place) (o : List ℕ) (x : ℕ) (h : HeaderValue) (t : Bool) → Fits p (length o + 1) → IsHeaderAt p t h → octets_of h ≡ o ++ x ∷ [] → push p (OpenHeader o) x ≡ complete p (moved (origin p) h)
 read-there p o x h t room s octets =
     push-scan p o x (Ready (moved (origin p) h)) room (ap (scan (origin p)) (sym octets) ∙ scan-moved (origin p) h s.valid)
 
 -- the header as it is read there holds others if the header does
-holds-there : (p : Place) (h : HeaderValue) (t : Bool) → IsHeadAt p t h → holds (moved (origin p) h) ≡ holds h
+holds-there : (p : Place) (h : HeaderValue) (t : Bool) → IsHeaderAt p t h → holds (moved (origin p) h) ≡ holds h
 holds-there p h t s = ap (λ (named : Bool). h.constructed || is_wrapper named h.class h.constructed h.number h.size) (sym s.named)
 
 -- if the element is not too deep, the test of the depth fails

@@ -3,30 +3,30 @@ use Rattle.std.proofs.Common.{◌≡◌, ◌⊎◌, inl, inr, ℕ, ◌+◌, ◌<
 use Rattle.std.proofs.lemmas.Bool.{cases_Bool, and_from, true≢false}
 use Rattle.tlv_head.specs.declared.header.Size.TheVariants.{Definite}
 use Rattle.tlv_head.specs.Header.{HeaderValue, announced_length, octets_of}
-use Rattle.tlv_walk.specs.Forest.{Awaiting, Begun, Closed, Entered, Fill, Forest, Partial, Stop, Whole, Zero, contents_length, end_octets, extent, is_complete, lead, opening, spell}
-use Rattle.tlv_walk.specs.Place.{Fits, IsEntry, IsHeadAt, IsOpen, Place, is_indefinite, place_after, place_of_children}
+use Rattle.tlv_walk.specs.Forest.{Forest, Holder, NoMore, OpenBitString, OpenEndOctets, OpenHeader, OpenHolder, OpenPrimitive, PaddingOctet, Primitive, contents_length, end_octets, extent, is_complete, lead, opening, spelling}
+use Rattle.tlv_walk.specs.Place.{Fits, IsEntry, IsHeaderAt, IsOpen, Place, is_indefinite, place_after, place_of_children}
 use Rattle.tlv_walk.proofs.GrammarLemmas.Lengths.{LacksOctets}
 use Rattle.tlv_walk.proofs.GrammarLemmas.Bounds.{IsEndless, IsFull, definite-length, fits-inside, fits-within, has_length, indefinite-endless, lacks-length, length-full, within-lacks, within-le}
 use Rattle.tlv_walk.proofs.GrammarLemmas.Spellings.{append_assoc-3, append_assoc-4, length-closed, length-opening, length-whole}
-use Rattle.tlv_walk.proofs.GrammarLemmas.PushSteps.{IsClosed, IsWholeElement, Grown, Ended, entered, follow, is_filled, partial, push, settle}
+use Rattle.tlv_walk.proofs.GrammarLemmas.PushSteps.{IsWholeHolder, IsWholePrimitive, Grown, Ended, holder_so_far, follow, is_filled, primitive_so_far, push, settle}
 use Rattle.tlv_walk.proofs.GrammarLemmas.Push.{reaches, size-definite}
 use Rattle.tlv_walk.proofs.GrammarLemmas.PopHeaders.{back, Popped, header-popped, opened-popped, lead-popped, front-popped, is_nil, is_push}
 
 -- a primitive with all its contents octets
-partial-whole : (h : HeaderValue) (c : List ℕ) → h.size ≡ Definite (length c) → partial h c ≡ Whole h c Stop
+partial-whole : (h : HeaderValue) (c : List ℕ) → h.size ≡ Definite (length c) → primitive_so_far h c ≡ Primitive h c NoMore
 partial-whole h c e = rw (eq-eqb (length c) (announced_length h.size) (sym (ap announced_length e)))
 
 -- a primitive that lacks contents octets
-partial-partial : (h : HeaderValue) (c : List ℕ) (n : ℕ) → h.size ≡ Definite n → length c < n → partial h c ≡ Partial h c
+partial-partial : (h : HeaderValue) (c : List ℕ) (n : ℕ) → h.size ≡ Definite n → length c < n → primitive_so_far h c ≡ OpenPrimitive h c
 partial-partial h c n e less =
     let all : announced_length h.size ≡ n = ap announced_length e in
     rw (ne_eqb (length c) (announced_length h.size) (λ z. omega arith))
 
 -- a primitive is popped by a contents octet
-contents-popped : (p : Place) (h : HeaderValue) (c : List ℕ) (x n : ℕ) (g : Forest) → IsHeadAt p false h → h.size ≡ Definite n → length c < n → Fits p (length (octets_of h) + n)
-    → partial h (c ++ x ∷ []) ≡ g → spell g ≡ octets_of h ++ (c ++ x ∷ []) → Popped p g
+contents-popped : (p : Place) (h : HeaderValue) (c : List ℕ) (x n : ℕ) (g : Forest) → IsHeaderAt p false h → h.size ≡ Definite n → length c < n → Fits p (length (octets_of h) + n)
+    → primitive_so_far h (c ++ x ∷ []) ≡ g → spelling g ≡ octets_of h ++ (c ++ x ∷ []) → Popped p g
 contents-popped p h c x n g header e less f same spelled = record {
-  from = Partial h c;
+  from = OpenPrimitive h c;
   last = x;
   is_open = (record { header = header; depth = λ e. absurd (cc (e)); fits = rw (ap announced_length e) f }, omega (arith, less, ap announced_length e));
   spelled = spelled ∙ sym (append_assoc (octets_of h) c (x ∷ []));
@@ -34,181 +34,181 @@ contents-popped p h c x n g header e less f same spelled = record {
 }
 
 -- a primitive is popped by its last contents octet, or by that of its header
-primitive-popped : (p : Place) (h : HeaderValue) (c : List ℕ) (n : ℕ) (g : Forest) → IsHeadAt p false h → h.size ≡ Definite n → length c ≤ n → Fits p (length (octets_of h) + n)
-    → partial h c ≡ g → spell g ≡ octets_of h ++ c → Popped p g
+primitive-popped : (p : Place) (h : HeaderValue) (c : List ℕ) (n : ℕ) (g : Forest) → IsHeaderAt p false h → h.size ≡ Definite n → length c ≤ n → Fits p (length (octets_of h) + n)
+    → primitive_so_far h c ≡ g → spelling g ≡ octets_of h ++ c → Popped p g
 primitive-popped p h c n g header e most f same spelled = elim (back c) [
   | is_nil z ↦
       let f' : Fits p (length (octets_of h) + announced_length h.size) = rw (ap announced_length e) f in
-      let r : Popped p (partial h []) = header-popped p h false header refl f' in
-      let same' : partial h [] ≡ g = ap (partial h) (sym z) ∙ same in
+      let r : Popped p (primitive_so_far h []) = header-popped p h false header refl f' in
+      let same' : primitive_so_far h [] ≡ g = ap (primitive_so_far h) (sym z) ∙ same in
       rw same' at r
   | is_push ys y z ↦
       let most' : length (ys ++ y ∷ []) ≤ n = rw z at most in
-      contents-popped p h ys y n g header e (omega (arith, length-append ys (y ∷ []))) f (ap (partial h) (sym z) ∙ same) (spelled ∙ ap (λ (t : List ℕ). octets_of h ++ t) z)
+      contents-popped p h ys y n g header e (omega (arith, length-append ys (y ∷ []))) f (ap (primitive_so_far h) (sym z) ∙ same) (spelled ∙ ap (λ (t : List ℕ). octets_of h ++ t) z)
 ]
 
 -- a whole primitive is popped
-whole-popped : (p : Place) (h : HeaderValue) (c : List ℕ) → IsWholeElement p h c → Popped p (Whole h c Stop)
+whole-popped : (p : Place) (h : HeaderValue) (c : List ℕ) → IsWholePrimitive p h c → Popped p (Primitive h c NoMore)
 whole-popped p h c w =
-    primitive-popped p h c (length c) (Whole h c Stop) w.0.header w.1 (omega arith) w.0.fits (partial-whole h c w.1) (ap (λ (t : List ℕ). octets_of h ++ t) (append-nil c))
+    primitive-popped p h c (length c) (Primitive h c NoMore) w.0.header w.1 (omega arith) w.0.fits (partial-whole h c w.1) (ap (λ (t : List ℕ). octets_of h ++ t) (append-nil c))
 
 -- a primitive that lacks contents octets is popped
-partial-popped : (p : Place) (h : HeaderValue) (c : List ℕ) → IsOpen p (Partial h c) → Popped p (Partial h c)
+partial-popped : (p : Place) (h : HeaderValue) (c : List ℕ) → IsOpen p (OpenPrimitive h c) → Popped p (OpenPrimitive h c)
 partial-popped p h c w =
     let n : (n : ℕ) × (h.size ≡ Definite n) = size-definite h w.0.header.valid w.0.header.form in
     let all : announced_length h.size ≡ n.0 = ap announced_length n.1 in
-    primitive-popped p h c n.0 (Partial h c) w.0.header n.1 (omega (arith, w.1)) (within-le p.bound _ _ (omega arith) w.0.fits) (partial-partial h c n.0 n.1 (omega (arith, w.1))) refl
+    primitive-popped p h c n.0 (OpenPrimitive h c) w.0.header n.1 (omega (arith, w.1)) (within-le p.bound _ _ (omega arith) w.0.fits) (partial-partial h c n.0 n.1 (omega (arith, w.1))) refl
 
--- an element that lacks contents octets is entered
-lacking-entered : (h : HeaderValue) (f : Forest) → (is_complete f ≡ true → LacksOctets h.size (contents_length h f)) → entered h f ≡ Entered h f
+-- an element that lacks contents octets has not ended
+lacking-entered : (h : HeaderValue) (f : Forest) → (is_complete f ≡ true → LacksOctets h.size (contents_length h f)) → holder_so_far h f ≡ OpenHolder h f
 lacking-entered h f lacks = elim (cases_Bool (is_complete f)) [
   | inl e ↦ rw (e, lacks-length h.size (contents_length h f) (lacks e))
   | inr e ↦ rw e
 ]
 
 -- contents before the last octet lack octets
-lacks-before : (p : Place) (h : HeaderValue) (f g : Forest) (x : ℕ) → IsEntry p true h → IsOpen (place_of_children p h) g → spell g ≡ spell f ++ x ∷ [] → LacksOctets h.size (contents_length h f)
+lacks-before : (p : Place) (h : HeaderValue) (f g : Forest) (x : ℕ) → IsEntry p true h → IsOpen (place_of_children p h) g → spelling g ≡ spelling f ++ x ∷ [] → LacksOctets h.size (contents_length h f)
 lacks-before p h f g x entry w spelled =
     within-lacks h.size (p.at + length (octets_of h)) p.bound (contents_length h f)
-    (within-le (place_of_children p h).bound _ _ (omega (arith, ap length spelled, length-append (spell f) (x ∷ []), length-opening h))
+    (within-le (place_of_children p h).bound _ _ (omega (arith, ap length spelled, length-append (spelling f) (x ∷ []), length-opening h))
     (reaches (place_of_children p h) g (fits-inside p h entry.header.form entry.fits) w))
 
 -- an element that holds octets is popped by the last of them, or by that of what comes before
-settled : (p : Place) (h : HeaderValue) (inside g : Forest) → IsEntry p true h → IsOpen (place_of_children p h) inside → (inside ≡ Stop) ⊎ Popped (place_of_children p h) inside
-    → entered h inside ≡ g → spell g ≡ opening h ++ spell inside → Popped p g
+settled : (p : Place) (h : HeaderValue) (inside g : Forest) → IsEntry p true h → IsOpen (place_of_children p h) inside → (inside ≡ NoMore) ⊎ Popped (place_of_children p h) inside
+    → holder_so_far h inside ≡ g → spelling g ≡ opening h ++ spelling inside → Popped p g
 settled p h inside g entry w (inl stop) same spelled =
-    let same' : entered h Stop ≡ g = ap (entered h) (sym stop) ∙ same in
+    let same' : holder_so_far h NoMore ≡ g = ap (holder_so_far h) (sym stop) ∙ same in
     rw same' at (lead-popped p h (lead h) refl entry)
 settled p h inside g entry w (inr q) same spelled = record {
-  from = Entered h q.from;
+  from = OpenHolder h q.from;
   last = q.last;
   is_open = ((entry, λ _. lacks-before p h q.from inside q.last entry w q.spelled), q.is_open);
-  spelled = spelled ∙ ap (λ (t : List ℕ). opening h ++ t) q.spelled ∙ sym (append_assoc (opening h) (spell q.from) (q.last ∷ []));
+  spelled = spelled ∙ ap (λ (t : List ℕ). opening h ++ t) q.spelled ∙ sym (append_assoc (opening h) (spelling q.from) (q.last ∷ []));
   pushed = ap (settle h) q.pushed ∙ ap Grown same;
 }
 
 -- whole elements, and after them the first of the end-of-contents octets
 abbrev zeroed : Forest → Forest
-zeroed Stop = Zero
-zeroed (Fill rest) = Fill (zeroed rest)
-zeroed (Whole h c rest) = Whole h c (zeroed rest)
-zeroed (Closed h inside rest) = Closed h inside (zeroed rest)
-zeroed (Partial h c) = Partial h c
-zeroed (Entered h inside) = Entered h inside
-zeroed (Awaiting h) = Awaiting h
-zeroed (Begun o) = Begun o
-zeroed Zero = Zero
+zeroed NoMore = OpenEndOctets
+zeroed (PaddingOctet rest) = PaddingOctet (zeroed rest)
+zeroed (Primitive h c rest) = Primitive h c (zeroed rest)
+zeroed (Holder h inside rest) = Holder h inside (zeroed rest)
+zeroed (OpenPrimitive h c) = OpenPrimitive h c
+zeroed (OpenHolder h inside) = OpenHolder h inside
+zeroed (OpenBitString h) = OpenBitString h
+zeroed (OpenHeader o) = OpenHeader o
+zeroed OpenEndOctets = OpenEndOctets
 
 -- g is f with the first of the end-of-contents octets, and the second ends f
 record IsZeroed (p : Place) (f g : Forest) : Type 0 where
   is_open : IsOpen p g
-  spelled : spell g ≡ spell f ++ 0 ∷ []
+  spelled : spelling g ≡ spelling f ++ 0 ∷ []
   pushed : push p g 0 ≡ Ended f
 
 -- whole elements in an element of indefinite length are so
-is-zeroed : (p : Place) (f : Forest) → IsOpen p f → is_complete f ≡ true → p.indefinite ≡ true → Fits p (length (spell f) + 2) → IsZeroed p f (zeroed f)
-is-zeroed p Stop w whole i f =
+is-zeroed : (p : Place) (f : Forest) → IsOpen p f → is_complete f ≡ true → p.indefinite ≡ true → Fits p (length (spelling f) + 2) → IsZeroed p f (zeroed f)
+is-zeroed p NoMore w whole i f =
     record { is_open = (i, within-le p.bound _ _ (omega arith) f); spelled = refl; pushed = rw (fits-within p.bound (p.at + 2) f) }
-is-zeroed p (Fill rest) w whole i f = absurd (true≢false (sym i ∙ w.0.1))
-is-zeroed p (Whole h c rest) w whole i f =
+is-zeroed p (PaddingOctet rest) w whole i f = absurd (true≢false (sym i ∙ w.0.1))
+is-zeroed p (Primitive h c rest) w whole i f =
     let r : IsZeroed (place_after p (length (octets_of h) + length c)) rest (zeroed rest) =
     is-zeroed (place_after p (length (octets_of h) + length c)) rest w.1 whole i
     (within-le p.bound _ _ (omega (arith, length-whole h c rest)) f) in
     record {
       is_open = (w.0, r.is_open);
-      spelled = rw (r.spelled, append_assoc-3 (octets_of h) c (spell rest) (0 ∷ []));
-      pushed = ap (follow (Whole h c)) r.pushed;
+      spelled = rw (r.spelled, append_assoc-3 (octets_of h) c (spelling rest) (0 ∷ []));
+      pushed = ap (follow (Primitive h c)) r.pushed;
     }
-is-zeroed p (Closed h inside rest) w whole i f =
+is-zeroed p (Holder h inside rest) w whole i f =
     let r : IsZeroed (place_after p (extent h inside)) rest (zeroed rest) =
     is-zeroed (place_after p (extent h inside)) rest w.2 whole i
     (within-le p.bound _ _ (omega (arith, length-closed h inside rest)) f) in
     record {
       is_open = (w.0, w.1, r.is_open);
-      spelled = rw (r.spelled, append_assoc-4 (opening h) (spell inside) (end_octets h.size) (spell rest) (0 ∷ []));
-      pushed = ap (follow (Closed h inside)) r.pushed;
+      spelled = rw (r.spelled, append_assoc-4 (opening h) (spelling inside) (end_octets h.size) (spelling rest) (0 ∷ []));
+      pushed = ap (follow (Holder h inside)) r.pushed;
     }
-is-zeroed p (Partial h c) w whole i f = absurd (cc)
-is-zeroed p (Entered h inside) w whole i f = absurd (cc)
-is-zeroed p (Awaiting h) w whole i f = absurd (cc)
-is-zeroed p (Begun o) w whole i f = absurd (cc)
-is-zeroed p Zero w whole i f = absurd (cc)
+is-zeroed p (OpenPrimitive h c) w whole i f = absurd (cc)
+is-zeroed p (OpenHolder h inside) w whole i f = absurd (cc)
+is-zeroed p (OpenBitString h) w whole i f = absurd (cc)
+is-zeroed p (OpenHeader o) w whole i f = absurd (cc)
+is-zeroed p OpenEndOctets w whole i f = absurd (cc)
 
 -- an element of indefinite length is popped by the second of its end-of-contents octets
-endless-popped : (p : Place) (h : HeaderValue) (inside : Forest) → is_indefinite h.size ≡ true → IsClosed p h inside → IsOpen (place_of_children p h) inside → Popped p (Closed h inside Stop)
+endless-popped : (p : Place) (h : HeaderValue) (inside : Forest) → is_indefinite h.size ≡ true → IsWholeHolder p h inside → IsOpen (place_of_children p h) inside → Popped p (Holder h inside NoMore)
 endless-popped p h inside i w v =
     let e : IsEndless h.size (p.at + length (octets_of h)) p.bound (contents_length h inside) = indefinite-endless h.size _ p.bound _ i in
     let two : length (end_octets h.size) ≡ 2 = ap length e.ends in
-    let f : Fits (place_of_children p h) (length (spell inside) + 2) = rw e.bound (within-le p.bound _ _ (omega arith) w.0.fits) in
+    let f : Fits (place_of_children p h) (length (spelling inside) + 2) = rw e.bound (within-le p.bound _ _ (omega arith) w.0.fits) in
     let r : IsZeroed (place_of_children p h) inside (zeroed inside) = is-zeroed (place_of_children p h) inside v w.1 i f in
     record {
-      from = Entered h (zeroed inside);
+      from = OpenHolder h (zeroed inside);
       last = 0;
       is_open = (
         (record { header = w.0.header; depth = w.0.depth; fits = within-le p.bound _ _ (omega (arith, e.none, length-opening h)) w.0.fits }, λ _. e.lacks _),
         r.is_open,
       );
-      spelled = ap (λ (t : List ℕ). opening h ++ (spell inside ++ (t ++ []))) e.ends
-          ∙ rw (r.spelled, append_assoc-3 (opening h) (spell inside) (0 ∷ []) (0 ∷ []));
+      spelled = ap (λ (t : List ℕ). opening h ++ (spelling inside ++ (t ++ []))) e.ends
+          ∙ rw (r.spelled, append_assoc-3 (opening h) (spelling inside) (0 ∷ []) (0 ∷ []));
       pushed = ap (settle h) r.pushed;
     }
 
 -- an element of definite length is popped as its last octet is
-definite-popped : (p : Place) (h : HeaderValue) (inside : Forest) → is_indefinite h.size ≡ false → IsClosed p h inside → IsOpen (place_of_children p h) inside
-    → (inside ≡ Stop) ⊎ Popped (place_of_children p h) inside → Popped p (Closed h inside Stop)
+definite-popped : (p : Place) (h : HeaderValue) (inside : Forest) → is_indefinite h.size ≡ false → IsWholeHolder p h inside → IsOpen (place_of_children p h) inside
+    → (inside ≡ NoMore) ⊎ Popped (place_of_children p h) inside → Popped p (Holder h inside NoMore)
 definite-popped p h inside i w v below =
     let test : has_length h.size (contents_length h inside) ≡ true = definite-length h.size _ i w.2 in
     let full : IsFull h.size (contents_length h inside) = length-full h.size _ test in
     let none : length (end_octets h.size) ≡ 0 = ap length full.ends in
     let entry : IsEntry p true h = record { header = w.0.header; depth = w.0.depth; fits = within-le p.bound _ _ (omega (arith, full.all, length-opening h)) w.0.fits } in
     let filled : is_filled h inside ≡ true = and_from _ _ w.1 test in
-    settled p h inside (Closed h inside Stop) entry v below (rw filled)
-    (ap (λ (t : List ℕ). opening h ++ (spell inside ++ (t ++ []))) full.ends ∙ ap (λ (t : List ℕ). opening h ++ t) (append-nil (spell inside)))
+    settled p h inside (Holder h inside NoMore) entry v below (rw filled)
+    (ap (λ (t : List ℕ). opening h ++ (spelling inside ++ (t ++ []))) full.ends ∙ ap (λ (t : List ℕ). opening h ++ t) (append-nil (spelling inside)))
 
 -- an element that holds others and has ended is popped
-closed-popped : (p : Place) (h : HeaderValue) (inside : Forest) → IsClosed p h inside → IsOpen (place_of_children p h) inside → (inside ≡ Stop) ⊎ Popped (place_of_children p h) inside
-    → Popped p (Closed h inside Stop)
+closed-popped : (p : Place) (h : HeaderValue) (inside : Forest) → IsWholeHolder p h inside → IsOpen (place_of_children p h) inside → (inside ≡ NoMore) ⊎ Popped (place_of_children p h) inside
+    → Popped p (Holder h inside NoMore)
 closed-popped p h inside w v below = elim (cases_Bool (is_indefinite h.size)) [
   | inl i ↦ endless-popped p h inside i w v
   | inr i ↦ definite-popped p h inside i w v below
 ]
 
 -- padding is popped
-fill-popped : (p : Place) → IsOpen p (Fill Stop) → Popped p (Fill Stop)
-fill-popped p w = record { from = Stop; last = 0; is_open = tt; spelled = refl; pushed = rw (fits-within p.bound (p.at + 1) w.0.2, w.0.1, w.0.0) }
+fill-popped : (p : Place) → IsOpen p (PaddingOctet NoMore) → Popped p (PaddingOctet NoMore)
+fill-popped p w = record { from = NoMore; last = 0; is_open = tt; spelled = refl; pushed = rw (fits-within p.bound (p.at + 1) w.0.2, w.0.1, w.0.0) }
 
 -- what follows an element is popped: so are both
-followed : (p q : Place) (f : Forest → Forest) (o : List ℕ) (rest : Forest) → (r : Popped q rest) → IsOpen p (f r.from) → ((g : Forest) → spell (f g) ≡ o ++ spell g)
+followed : (p q : Place) (f : Forest → Forest) (o : List ℕ) (rest : Forest) → (r : Popped q rest) → IsOpen p (f r.from) → ((g : Forest) → spelling (f g) ≡ o ++ spelling g)
     → ((x : ℕ) → push p (f r.from) x ≡ follow f (push q r.from x)) → Popped p (f rest)
 followed p q f o rest r w spelled pushed = record {
   from = f r.from;
   last = r.last;
   is_open = w;
-  spelled = spelled rest ∙ ap (λ (t : List ℕ). o ++ t) r.spelled ∙ sym (append_assoc o (spell r.from) (r.last ∷ [])) ∙ ap (λ (t : List ℕ). t ++ r.last ∷ []) (sym (spelled r.from));
+  spelled = spelled rest ∙ ap (λ (t : List ℕ). o ++ t) r.spelled ∙ sym (append_assoc o (spelling r.from) (r.last ∷ [])) ∙ ap (λ (t : List ℕ). t ++ r.last ∷ []) (sym (spelled r.from));
   pushed = pushed r.last ∙ ap (follow f) r.pushed;
 }
 
 -- an open forest has no octet, or is a shorter one and the octet pushed
-pub pop : (p : Place) (g : Forest) → IsOpen p g → (g ≡ Stop) ⊎ Popped p g
-pop p Stop w = inl refl
-pop p (Fill rest) w = inr (elim (pop (place_after p 1) rest w.1) [
+pub pop : (p : Place) (g : Forest) → IsOpen p g → (g ≡ NoMore) ⊎ Popped p g
+pop p NoMore w = inl refl
+pop p (PaddingOctet rest) w = inr (elim (pop (place_after p 1) rest w.1) [
   | inl e ↦ rw e (fill-popped p (w.0, tt))
-  | inr r ↦ followed p (place_after p 1) Fill (0 ∷ []) rest r (w.0, r.is_open) (λ g. refl) (λ x. refl)
+  | inr r ↦ followed p (place_after p 1) PaddingOctet (0 ∷ []) rest r (w.0, r.is_open) (λ g. refl) (λ x. refl)
 ])
-pop p (Whole h c rest) w = inr (elim (pop (place_after p (length (octets_of h) + length c)) rest w.1) [
+pop p (Primitive h c rest) w = inr (elim (pop (place_after p (length (octets_of h) + length c)) rest w.1) [
   | inl e ↦ rw e (whole-popped p h c w.0)
-  | inr r ↦ followed p _ (Whole h c) (octets_of h ++ c) rest r (w.0, r.is_open) (λ g. sym (append_assoc (octets_of h) c (spell g))) (λ x. refl)
+  | inr r ↦ followed p _ (Primitive h c) (octets_of h ++ c) rest r (w.0, r.is_open) (λ g. sym (append_assoc (octets_of h) c (spelling g))) (λ x. refl)
 ])
-pop p (Closed h inside rest) w = inr (elim (pop (place_after p (extent h inside)) rest w.2) [
+pop p (Holder h inside rest) w = inr (elim (pop (place_after p (extent h inside)) rest w.2) [
   | inl e ↦ rw e (closed-popped p h inside w.0 w.1 (pop (place_of_children p h) inside w.1))
-  | inr r ↦ followed p _ (Closed h inside) (opening h ++ (spell inside ++ end_octets h.size)) rest r (w.0, w.1, r.is_open)
-      (λ g. sym (append_assoc-3 (opening h) (spell inside) (end_octets h.size) (spell g))) (λ x. refl)
+  | inr r ↦ followed p _ (Holder h inside) (opening h ++ (spelling inside ++ end_octets h.size)) rest r (w.0, w.1, r.is_open)
+      (λ g. sym (append_assoc-3 (opening h) (spelling inside) (end_octets h.size) (spelling g))) (λ x. refl)
 ])
-pop p (Partial h c) w = inr (partial-popped p h c w)
-pop p (Entered h inside) w = inr (settled p h inside (Entered h inside) w.0.0 w.1 (pop (place_of_children p h) inside w.1) (lacking-entered h inside w.0.1) refl)
-pop p (Awaiting h) w = inr (opened-popped p h (0 ∷ []) w.1 w.0)
-pop p (Begun o) w = inr (elim (back o) [
+pop p (OpenPrimitive h c) w = inr (partial-popped p h c w)
+pop p (OpenHolder h inside) w = inr (settled p h inside (OpenHolder h inside) w.0.0 w.1 (pop (place_of_children p h) inside w.1) (lacking-entered h inside w.0.1) refl)
+pop p (OpenBitString h) w = inr (opened-popped p h (0 ∷ []) w.1 w.0)
+pop p (OpenHeader o) w = inr (elim (back o) [
   | is_nil e ↦ absurd (w.0 e)
   | is_push ys y e ↦ rw e (front-popped p ys y (rw e at w.1) (rw e at w.2))
 ])
-pop p Zero w = inr (record { from = Stop; last = 0; is_open = tt; spelled = refl; pushed = rw (fits-within p.bound (p.at + 1) w.1, w.0) })
+pop p OpenEndOctets w = inr (record { from = NoMore; last = 0; is_open = tt; spelled = refl; pushed = rw (fits-within p.bound (p.at + 1) w.1, w.0) })

@@ -7,10 +7,10 @@ use Rattle.tlv_head.specs.declared.header.Size.TheVariants.{Definite, Indefinite
 use Rattle.tlv_head.specs.Header.{HeaderValue, IsHeader, IsIdentifier, IsLength, announced_length, holds, octets_of}
 use Rattle.tlv_head.specs.Refusal.{IsFront}
 use Rattle.tlv_head.proofs.Scan.{Origin, Scan, Fresh, High, Named, Long, Ready, Stuck, Over, origin_of, scan, scan_from-append, scan-header, is_more, more-from_front}
-use Rattle.tlv_walk.specs.Forest.{Forest, Stop, Awaiting, Begun, lead, opening, spell}
-use Rattle.tlv_walk.specs.Place.{Fits, IsEntry, IsHeadAt, IsOpen, Place}
+use Rattle.tlv_walk.specs.Forest.{Forest, NoMore, OpenBitString, OpenHeader, lead, opening, spelling}
+use Rattle.tlv_walk.specs.Place.{Fits, IsEntry, IsHeaderAt, IsOpen, Place}
 use Rattle.tlv_walk.proofs.GrammarLemmas.Bounds.{fits-within, lead-zero, within-le}
-use Rattle.tlv_walk.proofs.GrammarLemmas.PushSteps.{Grown, begin, begun, complete, entered, opened, origin, push}
+use Rattle.tlv_walk.proofs.GrammarLemmas.PushSteps.{Grown, begin, complete, element_begun, holder_begun, holder_so_far, origin, push}
 use Rattle.tlv_walk.proofs.GrammarLemmas.Push.{begun-sound, entered-sound}
 
 -- a list is empty, or has a last element
@@ -33,7 +33,7 @@ pub record Popped (p : Place) (g : Forest) : Type 0 where
   pub from : Forest
   pub last : ℕ
   pub is_open : IsOpen p from
-  pub spelled : spell g ≡ spell from ++ last ∷ []
+  pub spelled : spelling g ≡ spelling from ++ last ∷ []
   pub pushed : push p from last ≡ Grown g
 
 -- identifier octets are one or more
@@ -53,18 +53,18 @@ header-length h valid =
     omega (arith, length-append h.identifier h.lengths, identifier-some h.class h.constructed h.number h.identifier valid.identifier, lengths-some h.size h.lengths valid.lengths)
 
 -- an octet after the front of a header, by what all of them say
-pub push-scan : (p : Place) (o : List ℕ) (x : ℕ) (s : Scan) → Fits p (length o + 1) → scan (origin p) (o ++ x ∷ []) ≡ s → push p (Begun o) x ≡ begin p (o ++ x ∷ []) s
+pub push-scan : (p : Place) (o : List ℕ) (x : ℕ) (s : Scan) → Fits p (length o + 1) → scan (origin p) (o ++ x ∷ []) ≡ s → push p (OpenHeader o) x ≡ begin p (o ++ x ∷ []) s
 push-scan p o x s f e = rw (fits-within p.bound _ f) (ap (begin p (o ++ x ∷ [])) (sym (scan_from-append (origin p) Fresh o (x ∷ [])) ∙ e))
 
 -- an octet that completes a header
 pub push-header : (p : Place) (h : HeaderValue) (o : List ℕ) (x : ℕ) → IsHeader h → origin_of h ≡ origin p → octets_of h ≡ o ++ x ∷ [] → Fits p (length o + 1)
-    → push p (Begun o) x ≡ complete p h
+    → push p (OpenHeader o) x ≡ complete p h
 push-header p h o x valid at e f =
     push-scan p o x (Ready h) f
     (ap (scan (origin p)) (sym e) ∙ (ap (λ (a : Origin). scan a (octets_of h)) (sym at) ∙ scan-header h valid))
 
 -- octets that make no header yet are the front of one
-begin-more : (p : Place) (o : List ℕ) (s : Scan) → is_more s ≡ true → begin p o s ≡ Grown (Begun o)
+begin-more : (p : Place) (o : List ℕ) (s : Scan) → is_more s ≡ true → begin p o s ≡ Grown (OpenHeader o)
 begin-more p o Fresh e = refl
 begin-more p o (High c k ds) e = refl
 begin-more p o (Named c k n i) e = refl
@@ -74,26 +74,26 @@ begin-more p o (Stuck code) e = absurd (cc)
 begin-more p o Over e = absurd (cc)
 
 -- an octet that makes a longer front of a header
-pub push-front : (p : Place) (o : List ℕ) (x : ℕ) → IsFront (o ++ x ∷ []) → Fits p (length o + 1) → push p (Begun o) x ≡ Grown (Begun (o ++ x ∷ []))
+pub push-front : (p : Place) (o : List ℕ) (x : ℕ) → IsFront (o ++ x ∷ []) → Fits p (length o + 1) → push p (OpenHeader o) x ≡ Grown (OpenHeader (o ++ x ∷ []))
 push-front p o x front f = push-scan p o x _ f refl ∙ begin-more p (o ++ x ∷ []) _ (more-from_front (origin p) (o ++ x ∷ []) front)
 
 -- a header that may stand there is a forest
-pub complete-begun : (p : Place) (h : HeaderValue) (k : Bool) → holds h ≡ k → (k && leb 128 p.depth) ≡ false → Fits p (length (octets_of h) + announced_length h.size) → complete p h ≡ Grown (begun k h)
+pub complete-begun : (p : Place) (h : HeaderValue) (k : Bool) → holds h ≡ k → (k && leb 128 p.depth) ≡ false → Fits p (length (octets_of h) + announced_length h.size) → complete p h ≡ Grown (element_begun k h)
 complete-begun p h k e d f = rw (e, d, fits-within p.bound _ f)
 
 -- a header that stands there begins there
-pub header-origin : (p : Place) (k : Bool) (h : HeaderValue) → IsHeadAt p k h → origin_of h ≡ origin p
+pub header-origin : (p : Place) (k : Bool) (h : HeaderValue) → IsHeaderAt p k h → origin_of h ≡ origin p
 header-origin p k h header = λ i. record { offset = header.offset i; named = header.named i }
 
 -- a header alone is popped by its last octet
-pub header-popped : (p : Place) (h : HeaderValue) (k : Bool) → IsHeadAt p k h → (k && leb 128 p.depth) ≡ false → Fits p (length (octets_of h) + announced_length h.size) → Popped p (begun k h)
+pub header-popped : (p : Place) (h : HeaderValue) (k : Bool) → IsHeaderAt p k h → (k && leb 128 p.depth) ≡ false → Fits p (length (octets_of h) + announced_length h.size) → Popped p (element_begun k h)
 header-popped p h k header d f = elim (back (octets_of h)) [
   | is_nil e ↦ absurd (omega (arith, ap length e, header-length h header.valid))
   | is_push o x e ↦
       let size : length (octets_of h) ≡ length o + 1 = ap length e ∙ length-append o (x ∷ []) in
       let two : 2 ≤ length (octets_of h) = header-length h header.valid in
       record {
-        from = Begun o;
+        from = OpenHeader o;
         last = x;
         is_open = (
           λ z. omega (arith, ap length z),
@@ -107,21 +107,21 @@ header-popped p h k header d f = elim (back (octets_of h)) [
 ]
 
 -- an element that holds none yet is popped by the last octet of its header
-pub opened-popped : (p : Place) (h : HeaderValue) (l : List ℕ) → lead h ≡ l → IsEntry p true h → Popped p (opened h l)
+pub opened-popped : (p : Place) (h : HeaderValue) (l : List ℕ) → lead h ≡ l → IsEntry p true h → Popped p (holder_begun h l)
 opened-popped p h l e entry =
-    let r : Popped p (opened h (lead h)) = header-popped p h true entry.header (lt-leb 128 p.depth (entry.depth refl)) entry.fits in
-    rw (ap (opened h) e) at r
+    let r : Popped p (holder_begun h (lead h)) = header-popped p h true entry.header (lt-leb 128 p.depth (entry.depth refl)) entry.fits in
+    rw (ap (holder_begun h) e) at r
 
 -- an element that holds none yet
-pub lead-popped : (p : Place) (h : HeaderValue) (l : List ℕ) → lead h ≡ l → IsEntry p true h → Popped p (entered h Stop)
+pub lead-popped : (p : Place) (h : HeaderValue) (l : List ℕ) → lead h ≡ l → IsEntry p true h → Popped p (holder_so_far h NoMore)
 lead-popped p h [] e entry = opened-popped p h [] e entry
 lead-popped p h (x ∷ xs) e entry =
     let one : lead h ≡ 0 ∷ [] = lead-zero h x xs e in
     record {
-      from = Awaiting h;
+      from = OpenBitString h;
       last = 0;
       is_open = (entry, one);
-      spelled = (entered-sound p h Stop entry tt).spelled ∙ append-nil (opening h) ∙ ap (λ (t : List ℕ). octets_of h ++ t) one;
+      spelled = (entered-sound p h NoMore entry tt).spelled ∙ append-nil (opening h) ∙ ap (λ (t : List ℕ). octets_of h ++ t) one;
       pushed = refl;
     }
 
@@ -130,12 +130,12 @@ more-nonzero : (at : Origin) (x : ℕ) → is_more (scan at (x ∷ [])) ≡ true
 more-nonzero at x e z = let e' : is_more (scan at (0 ∷ [])) ≡ true = rw z at e in cc
 
 -- the front of a header is popped
-pub front-popped : (p : Place) (o : List ℕ) (x : ℕ) → IsFront (o ++ x ∷ []) → Fits p (length (o ++ x ∷ [])) → Popped p (Begun (o ++ x ∷ []))
+pub front-popped : (p : Place) (o : List ℕ) (x : ℕ) → IsFront (o ++ x ∷ []) → Fits p (length (o ++ x ∷ [])) → Popped p (OpenHeader (o ++ x ∷ []))
 front-popped p [] x front f =
     let nz : x ≢ 0 = more-nonzero (origin p) x (more-from_front (origin p) (x ∷ []) front) in
-    record { from = Stop; last = x; is_open = tt; spelled = refl; pushed = rw (fits-within p.bound (p.at + 1) f, ne_eqb x 0 nz) }
+    record { from = NoMore; last = x; is_open = tt; spelled = refl; pushed = rw (fits-within p.bound (p.at + 1) f, ne_eqb x 0 nz) }
 front-popped p (y ∷ o) x front f = record {
-  from = Begun (y ∷ o);
+  from = OpenHeader (y ∷ o);
   last = x;
   is_open = (
     λ z. omega (arith, ap length z),

@@ -5,19 +5,19 @@ use Rattle.tlv_head.specs.declared.fault.FaultCode.TheVariants.{StrayEnd, BadEnd
 use Rattle.tlv_head.specs.declared.header.Size.TheVariants.{Definite}
 use Rattle.tlv_head.specs.Header.{HeaderValue, announced_length, holds, octets_of}
 use Rattle.tlv_head.proofs.Scan.{Origin, Scan, Fresh, High, Named, Long, Ready, Stuck, Over, step, scan}
-use Rattle.tlv_walk.specs.Forest.{Awaiting, Begun, Closed, Entered, Fill, Forest, Partial, Stop, Whole, Zero, contents_length, extent, is_complete, lead, spell}
+use Rattle.tlv_walk.specs.Forest.{Forest, Holder, NoMore, OpenBitString, OpenEndOctets, OpenHeader, OpenHolder, OpenPrimitive, PaddingOctet, Primitive, contents_length, extent, is_complete, lead, spelling}
 use Rattle.tlv_walk.specs.Inside.{is_among}
 use Rattle.tlv_walk.specs.Place.{Fits, IsElementAt, IsOpen, Place, place_after, place_of_children}
 use Rattle.tlv_walk.proofs.GrammarLemmas.Lengths.{HasLength}
 use Rattle.tlv_walk.proofs.GrammarLemmas.Bounds.{fits, has_length}
 
 -- a primitive with all its contents octets
-abbrev pub IsWholeElement : Place → HeaderValue → List ℕ → Type 0
-IsWholeElement p h c = IsElementAt p false h (length (octets_of h) + length c) × (h.size ≡ Definite (length c))
+abbrev pub IsWholePrimitive : Place → HeaderValue → List ℕ → Type 0
+IsWholePrimitive p h c = IsElementAt p false h (length (octets_of h) + length c) × (h.size ≡ Definite (length c))
 
 -- an element that holds others and has ended
-abbrev pub IsClosed : Place → HeaderValue → Forest → Type 0
-IsClosed p h inside = IsElementAt p true h (extent h inside) × (is_complete inside ≡ true) × HasLength h.size (contents_length h inside)
+abbrev pub IsWholeHolder : Place → HeaderValue → Forest → Type 0
+IsWholeHolder p h inside = IsElementAt p true h (extent h inside) × (is_complete inside ≡ true) × HasLength h.size (contents_length h inside)
 
 -- what an octet makes of an open forest
 pub data Step : Type 0 where
@@ -36,42 +36,42 @@ abbrev pub is_filled : HeaderValue → Forest → Bool
 is_filled h f = is_complete f && has_length h.size (contents_length h f)
 
 -- an element that holds these others so far
-abbrev pub entered : HeaderValue → Forest → Forest
-entered h f = cond (is_filled h f) (Closed h f Stop) (Entered h f)
+abbrev pub holder_so_far : HeaderValue → Forest → Forest
+holder_so_far h f = cond (is_filled h f) (Holder h f NoMore) (OpenHolder h f)
 
 -- a primitive with these contents octets so far
-abbrev pub partial : HeaderValue → List ℕ → Forest
-partial h c = cond (eqb (length c) (announced_length h.size)) (Whole h c Stop) (Partial h c)
+abbrev pub primitive_so_far : HeaderValue → List ℕ → Forest
+primitive_so_far h c = cond (eqb (length c) (announced_length h.size)) (Primitive h c NoMore) (OpenPrimitive h c)
 
 -- an element that holds none yet, after its header: the octets are those to come before the first
-abbrev pub opened : HeaderValue → List ℕ → Forest
-opened h [] = entered h Stop
-opened h (x ∷ xs) = Awaiting h
+abbrev pub holder_begun : HeaderValue → List ℕ → Forest
+holder_begun h [] = holder_so_far h NoMore
+holder_begun h (x ∷ xs) = OpenBitString h
 
 -- a header alone, of an element that holds others or of one that does not
-abbrev pub begun : Bool → HeaderValue → Forest
-begun true h = opened h (lead h)
-begun false h = partial h []
+abbrev pub element_begun : Bool → HeaderValue → Forest
+element_begun true h = holder_begun h (lead h)
+element_begun false h = primitive_so_far h []
 
 -- a header is complete
 abbrev pub complete : Place → HeaderValue → Step
 complete p h = cond (holds h && leb 128 p.depth) (Refused TooDeep)
-    (cond (fits p (length (octets_of h) + announced_length h.size)) (Grown (begun (holds h) h)) (Refused Overrun))
+    (cond (fits p (length (octets_of h) + announced_length h.size)) (Grown (element_begun (holds h) h)) (Refused Overrun))
 
 -- octets of a header, by what they say
 abbrev pub begin : Place → List ℕ → Scan → Step
-begin p o Fresh = Grown (Begun o)
-begin p o (High c k ds) = Grown (Begun o)
-begin p o (Named c k n i) = Grown (Begun o)
-begin p o (Long c k n i m ds) = Grown (Begun o)
+begin p o Fresh = Grown (OpenHeader o)
+begin p o (High c k ds) = Grown (OpenHeader o)
+begin p o (Named c k n i) = Grown (OpenHeader o)
+begin p o (Long c k n i m ds) = Grown (OpenHeader o)
 begin p o (Ready h) = complete p h
 begin p o (Stuck code) = Refused code
 begin p o Over = Refused StrayEnd
 
 -- an octet 00 between encodings: inside an element of indefinite length, or if there is padding, or neither
 abbrev pub zero_between : Bool → Bool → Step
-zero_between true padding = Grown Zero
-zero_between false true = Grown (Fill Stop)
+zero_between true padding = Grown OpenEndOctets
+zero_between false true = Grown (PaddingOctet NoMore)
 zero_between false false = Refused StrayEnd
 
 -- a step of what follows an element is a step of both
@@ -82,34 +82,34 @@ follow f (Refused code) = Refused code
 
 -- a step of what an element holds is a step of the element
 abbrev pub settle : HeaderValue → Step → Step
-settle h (Grown g) = Grown (entered h g)
-settle h (Ended g) = Grown (Closed h g Stop)
+settle h (Grown g) = Grown (holder_so_far h g)
+settle h (Ended g) = Grown (Holder h g NoMore)
 settle h (Refused code) = Refused code
 
 -- the octet x after an open forest
 abbrev pub push : Place → Forest → ℕ → Step
-push p Stop x = cond (fits p 1) (cond (eqb x 0) (zero_between p.indefinite p.padding) (Grown (Begun (x ∷ [])))) (Refused MissingEnd)
-push p (Fill rest) x = follow Fill (push (place_after p 1) rest x)
-push p (Whole h c rest) x = follow (Whole h c) (push (place_after p (length (octets_of h) + length c)) rest x)
-push p (Closed h inside rest) x = follow (Closed h inside) (push (place_after p (extent h inside)) rest x)
-push p (Partial h c) x = Grown (partial h (c ++ x ∷ []))
-push p (Entered h inside) x = settle h (push (place_of_children p h) inside x)
-push p (Awaiting h) x = cond (eqb x 0) (Grown (entered h Stop)) (Refused BadInside)
-push p (Begun o) x = cond (fits p (length o + 1)) (begin p (o ++ x ∷ []) (step (origin p) (scan (origin p) o) x)) (Refused Overrun)
-push p Zero x = cond (fits p 2) (cond (eqb x 0) (Ended Stop) (Refused BadEnd)) (Refused MissingEnd)
+push p NoMore x = cond (fits p 1) (cond (eqb x 0) (zero_between p.indefinite p.padding) (Grown (OpenHeader (x ∷ [])))) (Refused MissingEnd)
+push p (PaddingOctet rest) x = follow PaddingOctet (push (place_after p 1) rest x)
+push p (Primitive h c rest) x = follow (Primitive h c) (push (place_after p (length (octets_of h) + length c)) rest x)
+push p (Holder h inside rest) x = follow (Holder h inside) (push (place_after p (extent h inside)) rest x)
+push p (OpenPrimitive h c) x = Grown (primitive_so_far h (c ++ x ∷ []))
+push p (OpenHolder h inside) x = settle h (push (place_of_children p h) inside x)
+push p (OpenBitString h) x = cond (eqb x 0) (Grown (holder_so_far h NoMore)) (Refused BadInside)
+push p (OpenHeader o) x = cond (fits p (length o + 1)) (begin p (o ++ x ∷ []) (step (origin p) (scan (origin p) o) x)) (Refused Overrun)
+push p OpenEndOctets x = cond (fits p 2) (cond (eqb x 0) (Ended NoMore) (Refused BadEnd)) (Refused MissingEnd)
 
 -- an open forest there spells the octets
 pub record Spells (p : Place) (o : List ℕ) (g : Forest) : Type 0 where
   pub is_open : IsOpen p g
-  pub spelled : spell g ≡ o
+  pub spelled : spelling g ≡ o
 
 -- the octets are whole elements and the end-of-contents octets
 pub record Ends (p : Place) (o : List ℕ) (g : Forest) : Type 0 where
   pub is_open : IsOpen p g
   pub whole : is_complete g ≡ true
   pub indefinite : p.indefinite ≡ true
-  pub spelled : spell g ++ 0 ∷ 0 ∷ [] ≡ o
-  pub fits : Fits p (length (spell g) + 2)
+  pub spelled : spelling g ++ 0 ∷ 0 ∷ [] ≡ o
+  pub fits : Fits p (length (spelling g) + 2)
 
 -- a step is right
 abbrev pub IsStep : Place → List ℕ → Step → Type 0

@@ -6,7 +6,7 @@ use Rattle.std.proofs.lemmas.List.Elements.{All-head, All-tail}
 use Rattle.tlv_head.specs.declared.fault.FaultCode.{FaultCode}
 use Rattle.tlv_head.specs.declared.fault.FaultCode.TheVariants.{StrayEnd}
 use Rattle.tlv_walk.specs.declared.framing.Framing.{Framing}
-use Rattle.tlv_walk.specs.Forest.{Forest, Stop, spell}
+use Rattle.tlv_walk.specs.Forest.{Forest, NoMore, spelling}
 use Rattle.tlv_walk.specs.Place.{IsOpen, Place, top_place}
 use Rattle.tlv_walk.specs.Reading.{IsPrefixOf, IsReading}
 use Rattle.tlv_walk.proofs.GrammarLemmas.Spellings.{front-of, front-same}
@@ -18,32 +18,32 @@ use Rattle.tlv_walk.proofs.GrammarLemmas.Pop.{pop}
 -- a forest, popped by this octet
 pub record PoppedBy (p : Place) (f : Forest) (o : List ℕ) (x : ℕ) : Type 0 where
   pub popped : Popped p f
-  pub spelled : spell popped.from ≡ o
+  pub spelled : spelling popped.from ≡ o
   pub octet : popped.last ≡ x
 
 -- it is popped by the last octet of its spelling
-pub popped-by : (p : Place) (f : Forest) (o : List ℕ) (x : ℕ) → IsOpen p f → spell f ≡ o ++ x ∷ [] → PoppedBy p f o x
+pub popped-by : (p : Place) (f : Forest) (o : List ℕ) (x : ℕ) → IsOpen p f → spelling f ≡ o ++ x ∷ [] → PoppedBy p f o x
 popped-by p f o x w e = elim (pop p f w) [
   | inl stop ↦ let e' : [] ≡ o ++ x ∷ [] = rw stop at e in absurd (omega (arith, ap length e', length-append o (x ∷ [])))
   | inr q ↦
-      let same : (spell q.from ≡ o) × (q.last ≡ x) = same_from_push _ _ _ _ (sym q.spelled ∙ e) in
+      let same : (spelling q.from ≡ o) × (q.last ≡ x) = same_from_push _ _ _ _ (sym q.spelled ∙ e) in
       record { popped = q; spelled = same.0; octet = same.1 }
 ]
 
 -- `prefix`, by the number of octets that are cut off
-prefix-within : (p : Place) (n : ℕ) (f : Forest) (s t : List ℕ) → length t ≡ n → IsOpen p f → spell f ≡ s ++ t → (g : Forest) × Spells p s g
+prefix-within : (p : Place) (n : ℕ) (f : Forest) (s t : List ℕ) → length t ≡ n → IsOpen p f → spelling f ≡ s ++ t → (g : Forest) × Spells p s g
 prefix-within p zero f s [] l w e = (f, record { is_open = w; spelled = e ∙ append-nil s })
 prefix-within p zero f s (x ∷ t) l w e = absurd (omega arith)
 prefix-within p (suc n) f s t l w e = elim (back t) [
   | is_nil z ↦ absurd (omega (arith, ap length z))
   | is_push ys y z ↦
-      let e' : spell f ≡ (s ++ ys) ++ y ∷ [] = rw (append_assoc s ys (y ∷ [])) (rw z at e) in
+      let e' : spelling f ≡ (s ++ ys) ++ y ∷ [] = rw (append_assoc s ys (y ∷ [])) (rw z at e) in
       let q : PoppedBy p f (s ++ ys) y = popped-by p f (s ++ ys) y w e' in
       prefix-within p n q.popped.from s ys (omega (arith, ap length z, length-append ys (y ∷ []))) q.popped.is_open q.spelled
 ]
 
 -- each front of an open forest's spelling is an open forest's spelling
-pub prefix : (p : Place) (f : Forest) (s t : List ℕ) → IsOpen p f → spell f ≡ s ++ t → (g : Forest) × Spells p s g
+pub prefix : (p : Place) (f : Forest) (s t : List ℕ) → IsOpen p f → spelling f ≡ s ++ t → (g : Forest) × Spells p s g
 prefix p f s t w e = prefix-within p (length t) f s t refl w e
 
 -- forests that are popped alike are the same
@@ -54,14 +54,14 @@ same-pushed p f g q r e l =
     cc (a, b)
 
 -- an open forest that spells nothing is empty
-pub unique-empty : (p : Place) (f : Forest) → IsOpen p f → spell f ≡ [] → f ≡ Stop
+pub unique-empty : (p : Place) (f : Forest) → IsOpen p f → spelling f ≡ [] → f ≡ NoMore
 unique-empty p f w e = elim (pop p f w) [
   | inl stop ↦ stop
-  | inr q ↦ absurd (omega (arith, ap length e, ap length q.spelled, length-append (spell q.from) (q.last ∷ [])))
+  | inr q ↦ absurd (omega (arith, ap length e, ap length q.spelled, length-append (spelling q.from) (q.last ∷ [])))
 ]
 
 -- `unique`, by the number of octets
-unique-within : (p : Place) (n : ℕ) (f g : Forest) (o : List ℕ) → length o ≡ n → IsOpen p f → IsOpen p g → spell f ≡ o → spell g ≡ o → f ≡ g
+unique-within : (p : Place) (n : ℕ) (f g : Forest) (o : List ℕ) → length o ≡ n → IsOpen p f → IsOpen p g → spelling f ≡ o → spelling g ≡ o → f ≡ g
 unique-within p zero f g [] l w v e d = unique-empty p f w e ∙ sym (unique-empty p g v d)
 unique-within p zero f g (x ∷ o) l w v e d = absurd (omega arith)
 unique-within p (suc n) f g o l w v e d = elim (back o) [
@@ -75,13 +75,13 @@ unique-within p (suc n) f g o l w v e d = elim (back o) [
 ]
 
 -- two open forests at one place with one spelling are the same
-pub unique : (p : Place) (f g : Forest) → IsOpen p f → IsOpen p g → spell f ≡ spell g → f ≡ g
-unique p f g w v e = unique-within p (length (spell g)) f g (spell g) refl w v e refl
+pub unique : (p : Place) (f g : Forest) → IsOpen p f → IsOpen p g → spelling f ≡ spelling g → f ≡ g
+unique p f g w v e = unique-within p (length (spelling g)) f g (spelling g) refl w v e refl
 
 -- the octet that leads from one open forest to another is pushed
-pub push-complete : (p : Place) (f g : Forest) (x : ℕ) → IsOpen p f → IsOpen p g → spell g ≡ spell f ++ x ∷ [] → push p f x ≡ Grown g
+pub push-complete : (p : Place) (f g : Forest) (x : ℕ) → IsOpen p f → IsOpen p g → spelling g ≡ spelling f ++ x ∷ [] → push p f x ≡ Grown g
 push-complete p f g x w v e =
-    let q : PoppedBy p g (spell f) x = popped-by p g (spell f) x v e in
+    let q : PoppedBy p g (spelling f) x = popped-by p g (spelling f) x v e in
     rw (unique p q.popped.from f q.popped.is_open w q.spelled, q.octet) at q.popped.pushed
 
 -- one octet after another, up to the first that is refused
@@ -107,7 +107,7 @@ run_from w r (x ∷ xs) = run_from w (turn w r x) xs
 
 -- the run over an input
 abbrev pub run : Framing → List ℕ → Run
-run w b = run_from w (Going Stop) b
+run w b = run_from w (Going NoMore) b
 
 -- what was taken
 abbrev pub forest_of : Run → Forest
@@ -123,7 +123,7 @@ pub record IsHalt (w : Framing) (f : Forest) (code : FaultCode) (b : List ℕ) :
   pub is_open : IsOpen (top_place w) f
   pub octet : ℕ
   pub rest : List ℕ
-  pub front : spell f ++ octet ∷ rest ≡ b
+  pub front : spelling f ++ octet ∷ rest ≡ b
   pub refused : push (top_place w) f octet ≡ Refused code
 
 -- a run is right
@@ -132,7 +132,7 @@ IsRun w (Going f) b = Spells (top_place w) b f
 IsRun w (Halted f code) b = IsHalt w f code b
 
 -- a step of a run is right
-took-run : (w : Framing) (f : Forest) (x : ℕ) (s : Step) → IsOpen (top_place w) f → push (top_place w) f x ≡ s → IsStep (top_place w) (spell f ++ x ∷ []) s → IsRun w (took f s) (spell f ++ x ∷ [])
+took-run : (w : Framing) (f : Forest) (x : ℕ) (s : Step) → IsOpen (top_place w) f → push (top_place w) f x ≡ s → IsStep (top_place w) (spelling f ++ x ∷ []) s → IsRun w (took f s) (spelling f ++ x ∷ [])
 took-run w f x (Grown g) v e r = r
 took-run w f x (Ended g) v e r = absurd (true≢false (sym r.indefinite))
 took-run w f x (Refused code) v e r = record { is_open = v; octet = x; rest = []; front = refl; refused = e }
@@ -140,7 +140,7 @@ took-run w f x (Refused code) v e r = record { is_open = v; octet = x; rest = []
 -- further octets do not change a halt
 abbrev pub halt-longer : (w : Framing) (f : Forest) (code : FaultCode) (b c : List ℕ) → IsHalt w f code b → IsHalt w f code (b ++ c)
 halt-longer w f code b c r =
-    record { is_open = r.is_open; octet = r.octet; rest = r.rest ++ c; front = rw (← r.front, append_assoc (spell f) (r.octet ∷ r.rest) c); refused = r.refused }
+    record { is_open = r.is_open; octet = r.octet; rest = r.rest ++ c; front = rw (← r.front, append_assoc (spelling f) (r.octet ∷ r.rest) c); refused = r.refused }
 
 -- a run that is right is so after one more octet
 turn-run : (w : Framing) (r : Run) (b : List ℕ) (x : ℕ) → x < 256 → IsRun w r b → IsRun w (turn w r x) (b ++ x ∷ [])
@@ -156,17 +156,17 @@ run_from-run w r b (x ∷ xs) each v =
 
 -- the run over an input is right
 pub is-run : (w : Framing) (b : List ℕ) → All (λ x. x < 256) b → IsRun w (run w b) b
-is-run w b each = run_from-run w (Going Stop) [] b each (record { is_open = tt; spelled = refl })
+is-run w b each = run_from-run w (Going NoMore) [] b each (record { is_open = tt; spelled = refl })
 
 -- no open forest spells the octet that is refused
-pub halt-longest : (w : Framing) (f : Forest) (code : FaultCode) (b : List ℕ) → IsHalt w f code b → (g : Forest) → IsOpen (top_place w) g → IsPrefixOf (spell g) b
-    → length (spell g) ≤ length (spell f)
-halt-longest w f code b r g v q = elim (cases_lt (length (spell f)) (length (spell g))) [
+pub halt-longest : (w : Framing) (f : Forest) (code : FaultCode) (b : List ℕ) → IsHalt w f code b → (g : Forest) → IsOpen (top_place w) g → IsPrefixOf (spelling g) b
+    → length (spelling g) ≤ length (spelling f)
+halt-longest w f code b r g v q = elim (cases_lt (length (spelling f)) (length (spelling g))) [
   | inl more ↦
-      let end : (spell f ++ r.octet ∷ []) ++ r.rest ≡ spell g ++ q.0 = append_assoc (spell f) (r.octet ∷ []) r.rest ∙ (r.front ∙ sym q.1) in
-      let u : (u : List ℕ) × (spell g ≡ (spell f ++ r.octet ∷ []) ++ u) =
-      front-of (spell f ++ r.octet ∷ []) (spell g) r.rest q.0 end (omega (arith, length-append (spell f) (r.octet ∷ []))) in
-      let k : (k : Forest) × Spells (top_place w) (spell f ++ r.octet ∷ []) k = prefix (top_place w) g (spell f ++ r.octet ∷ []) u.0 v u.1 in
+      let end : (spelling f ++ r.octet ∷ []) ++ r.rest ≡ spelling g ++ q.0 = append_assoc (spelling f) (r.octet ∷ []) r.rest ∙ (r.front ∙ sym q.1) in
+      let u : (u : List ℕ) × (spelling g ≡ (spelling f ++ r.octet ∷ []) ++ u) =
+      front-of (spelling f ++ r.octet ∷ []) (spelling g) r.rest q.0 end (omega (arith, length-append (spelling f) (r.octet ∷ []))) in
+      let k : (k : Forest) × Spells (top_place w) (spelling f ++ r.octet ∷ []) k = prefix (top_place w) g (spelling f ++ r.octet ∷ []) u.0 v u.1 in
       let grown : push (top_place w) f r.octet ≡ Grown k.0 = push-complete (top_place w) f k.0 r.octet r.is_open k.1.is_open k.1.spelled in
       let refused : push (top_place w) f r.octet ≡ Refused code = r.refused in
       absurd (cc (grown, refused))
@@ -177,8 +177,8 @@ halt-longest w f code b r g v q = elim (cases_lt (length (spell f)) (length (spe
 pub run-reading : (w : Framing) (r : Run) (b : List ℕ) → IsRun w r b → IsReading w b (forest_of r)
 run-reading w (Going f) b r = record {
   is_open = r.is_open;
-  front = ([], append-nil (spell f) ∙ r.spelled);
-  longest = λ g v q. omega (arith, ap length q.1, ap length r.spelled, length-append (spell g) q.0);
+  front = ([], append-nil (spelling f) ∙ r.spelled);
+  longest = λ g v q. omega (arith, ap length q.1, ap length r.spelled, length-append (spelling g) q.0);
 }
 run-reading w (Halted f code) b r = record { is_open = r.is_open; front = (r.octet ∷ r.rest, r.front); longest = halt-longest w f code b r }
 
@@ -187,7 +187,7 @@ pub is-reading : (w : Framing) (b : List ℕ) → All (λ x. x < 256) b → IsRe
 is-reading w b each = run-reading w (run w b) b (is-run w b each)
 
 -- after octets that are all read others can be read too
-pub reading-longer : (w : Framing) (f : Forest) (b xs : List ℕ) → All (λ x. x < 256) xs → IsReading w b f → spell f ≡ b → (g : Forest) × IsReading w (b ++ xs) g
+pub reading-longer : (w : Framing) (f : Forest) (b xs : List ℕ) → All (λ x. x < 256) xs → IsReading w b f → spelling f ≡ b → (g : Forest) × IsReading w (b ++ xs) g
 reading-longer w f b xs each r e =
     let k : Run = run_from w (Going f) xs in
     (forest_of k, run-reading w k (b ++ xs) (run_from-run w (Going f) b xs each (record { is_open = r.is_open; spelled = e })))
@@ -195,9 +195,9 @@ reading-longer w f b xs each r e =
 -- an input has one reading
 pub reading-unique : (w : Framing) (b : List ℕ) (f g : Forest) → IsReading w b f → IsReading w b g → f ≡ g
 reading-unique w b f g r s =
-    let most : length (spell f) ≤ length (spell g) = s.longest f r.is_open r.front in
-    let most' : length (spell g) ≤ length (spell f) = r.longest g s.is_open s.front in
-    unique (top_place w) f g r.is_open s.is_open (front-same (spell f) (spell g) (r.front.0) (s.front.0) (r.front.1 ∙ sym s.front.1) (omega arith))
+    let most : length (spelling f) ≤ length (spelling g) = s.longest f r.is_open r.front in
+    let most' : length (spelling g) ≤ length (spelling f) = r.longest g s.is_open s.front in
+    unique (top_place w) f g r.is_open s.is_open (front-same (spelling f) (spelling g) (r.front.0) (s.front.0) (r.front.1 ∙ sym s.front.1) (omega arith))
 
 -- a run over two pieces
 pub run_from-append : (w : Framing) (r : Run) (xs ys : List ℕ) → run_from w r (xs ++ ys) ≡ run_from w (run_from w r xs) ys
@@ -206,7 +206,7 @@ run_from-append w r (x ∷ xs) ys = run_from-append w (turn w r x) xs ys
 
 -- a run over one more octet
 pub run-push : (w : Framing) (b : List ℕ) (x : ℕ) → run w (b ++ x ∷ []) ≡ turn w (run w b) x
-run-push w b x = run_from-append w (Going Stop) b (x ∷ [])
+run-push w b x = run_from-append w (Going NoMore) b (x ∷ [])
 
 -- a run that has halted takes no more
 run_from-halted : (w : Framing) (f : Forest) (code : FaultCode) (xs : List ℕ) → run_from w (Halted f code) xs ≡ Halted f code
@@ -215,4 +215,4 @@ run_from-halted w f code (x ∷ xs) = run_from-halted w f code xs
 
 -- what follows an octet that is refused changes nothing
 pub run-refused : (w : Framing) (b c : List ℕ) (f : Forest) (code : FaultCode) → run w b ≡ Halted f code → run w (b ++ c) ≡ Halted f code
-run-refused w b c f code e = rw (run_from-append w (Going Stop) b c, e) (run_from-halted w f code c)
+run-refused w b c f code e = rw (run_from-append w (Going NoMore) b c, e) (run_from-halted w f code c)

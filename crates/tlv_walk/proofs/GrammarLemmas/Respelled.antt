@@ -6,7 +6,7 @@ use Rattle.tlv_head.specs.declared.header.Size.TheVariants.{Definite}
 use Rattle.tlv_head.specs.Header.{HeaderValue, IsHeader, is_wrapper, leading_octet, octets_of}
 use Rattle.tlv_head.proofs.Shortest.{identifier-some, lengths-some}
 use Rattle.tlv_walk.specs.Alike.{AreAlike, HaveLowForms, holders, nothing, padding, primitives}
-use Rattle.tlv_walk.specs.Forest.{Forest, Stop, Fill, Whole, Closed, Partial, Entered, Awaiting, Begun, Zero, end_octets, extent, lead, opening, spell}
+use Rattle.tlv_walk.specs.Forest.{Forest, NoMore, PaddingOctet, Primitive, Holder, OpenPrimitive, OpenHolder, OpenBitString, OpenHeader, OpenEndOctets, end_octets, extent, lead, opening, spelling}
 use Rattle.tlv_walk.specs.Inside.{is_among}
 use Rattle.tlv_walk.specs.Place.{Place, place_after, place_of_children}
 use Rattle.tlv_walk.specs.Reading.{IsSound}
@@ -14,7 +14,7 @@ use Rattle.tlv_walk.specs.Wrappers.{wrappers}
 use Rattle.tlv_walk.proofs.GrammarLemmas.Alike.{AreRegular}
 use Rattle.tlv_walk.proofs.GrammarLemmas.PopHeaders.{header-length}
 use Rattle.tlv_walk.proofs.GrammarLemmas.Spellings.{length-closed, length-opening, length-whole}
-use Rattle.tlv_walk.proofs.GrammarLemmas.ShortHeaders.{Octets, head_of, octets-in, head-valid, head-shortest, octets-for, head-some, size-for, size-below, size-form, size-length, allows-size, lead-for, lead-short, own, own-there, own-apart, in-first, in-second, in-third, not-holding, Holds, holds-again, moved}
+use Rattle.tlv_walk.proofs.GrammarLemmas.ShortHeaders.{Octets, header_of, octets-in, header-valid, header-shortest, octets-for, header-some, size-for, size-below, size-form, size-length, allows-size, lead-for, lead-short, own, own-there, own-apart, in-first, in-second, in-third, not-holding, Holds, holds-again, moved}
 
 -- a place of the same rules, whatever is named
 pub record IsLike (p q : Place) : Type 0 where
@@ -39,14 +39,14 @@ pub record SpelledAt (form : Bool → Bool) (q : Place) (f : Forest) (octets nam
   pub alike : AreAlike f forest
   pub sound : IsSound q forest
   pub regular : AreRegular form forest
-  pub spelled : spell forest ≡ octets
+  pub spelled : spelling forest ≡ octets
   pub names_are : wrappers forest ≡ names
 
 -- one spelling, wherever it stands, and the offsets of its wrappers, by that of its first octet
 pub record Spelling (form : Bool → Bool) (p : Place) (f : Forest) : Type 0 where
   pub octets : List ℕ
   pub names : ℕ → List ℕ
-  pub short : length octets ≤ 4 * length (spell f)
+  pub short : length octets ≤ 4 * length (spelling f)
   pub names_behind : AreBehind names
   pub names_within : AreWithin names (length octets)
   pub there : (q : Place) → IsLike p q → Agrees q (names q.at) (length octets) → SpelledAt form q f octets (names q.at)
@@ -89,7 +89,7 @@ joins constructed inner others begins count far rest some on inner_behind inner_
 }
 
 module _ (form : Bool → Bool) (definite : form false ≡ false) where
-  spelling-fill : (p : Place) (rest : Forest) → p.padding ≡ true → Spelling form (place_after p 1) rest → Spelling form p (Fill rest)
+  spelling-fill : (p : Place) (rest : Forest) → p.padding ≡ true → Spelling form (place_after p 1) rest → Spelling form p (PaddingOctet rest)
   spelling-fill p rest allowed r = record {
     octets = 0 ∷ r.octets;
     names = λ at. r.names (at + 1);
@@ -100,7 +100,7 @@ module _ (form : Bool → Bool) (definite : form false ≡ false) where
         let t : SpelledAt form (place_after q 1) rest r.octets (r.names (q.at + 1)) =
         r.there (place_after q 1) (record { padding = like.padding; depth = like.depth }) (λ i least most. agrees i (omega (arith, least)) (omega (arith, most))) in
         record {
-          forest = Fill t.forest;
+          forest = PaddingOctet t.forest;
           alike = padding rest t.forest t.alike;
           sound = (like.padding ∙ allowed, t.sound);
           regular = t.regular;
@@ -110,15 +110,15 @@ module _ (form : Bool → Bool) (definite : form false ≡ false) where
   }
 
   spelling-whole : (p : Place) (h : HeaderValue) (c : List ℕ) (rest : Forest) → h.constructed ≡ false → IsHeader h → (o : Octets h false (Definite (length c)))
-      → Spelling form (place_after p (length (octets_of h) + length c)) rest → Spelling form p (Whole h c rest)
+      → Spelling form (place_after p (length (octets_of h) + length c)) rest → Spelling form p (Primitive h c rest)
   spelling-whole p h c rest primitive valid o r =
-      let head : List ℕ = octets-in h false (Definite (length c)) o in
-      let total : length (head ++ (c ++ r.octets)) ≡ length head + (length c + length r.octets) =
-      omega (arith, length-append head (c ++ r.octets), length-append c r.octets) in
-      let some : 1 ≤ length head = head-some h false (Definite (length c)) o in
+      let header : List ℕ = octets-in h false (Definite (length c)) o in
+      let total : length (header ++ (c ++ r.octets)) ≡ length header + (length c + length r.octets) =
+      omega (arith, length-append header (c ++ r.octets), length-append c r.octets) in
+      let some : 1 ≤ length header = header-some h false (Definite (length c)) o in
       record {
-        octets = head ++ (c ++ r.octets);
-        names = λ at. r.names (at + (length head + length c));
+        octets = header ++ (c ++ r.octets);
+        names = λ at. r.names (at + (length header + length c));
         short =
             let id : 1 ≤ length h.identifier = identifier-some h.class h.constructed h.number h.identifier valid.identifier in
             let len : 1 ≤ length h.lengths = lengths-some h.size h.lengths valid.lengths in
@@ -134,26 +134,26 @@ module _ (form : Bool → Bool) (definite : form false ≡ false) where
               length-append h.identifier h.lengths,
               length-append o.identifier.octets o.lengths.octets,
             );
-        names_behind = λ at i less. r.names_behind (at + (length head + length c)) i (omega (arith, less));
-        names_within = λ at i more. r.names_within (at + (length head + length c)) i (omega (arith, more, total));
+        names_behind = λ at i less. r.names_behind (at + (length header + length c)) i (omega (arith, less));
+        names_within = λ at i more. r.names_within (at + (length header + length c)) i (omega (arith, more, total));
         there = λ q like agrees.
-            let k : HeaderValue = head_of h false false (Definite (length c)) o q.at in
-            let next : ℕ = q.at + (length head + length c) in
-            let t : SpelledAt form (place_after q (length head + length c)) rest r.octets (r.names next) =
-            r.there (place_after q (length head + length c)) (record { padding = like.padding; depth = like.depth })
+            let k : HeaderValue = header_of h false false (Definite (length c)) o q.at in
+            let next : ℕ = q.at + (length header + length c) in
+            let t : SpelledAt form (place_after q (length header + length c)) rest r.octets (r.names next) =
+            r.there (place_after q (length header + length c)) (record { padding = like.padding; depth = like.depth })
             (λ i least most. agrees i (omega (arith, least)) (omega (arith, most, total))) in
             let unnamed : is_among q.at q.inside ≡ false =
             agrees q.at (omega arith) (omega (arith, total, some)) ∙ r.names_behind next q.at (omega (arith, some)) in
             record {
-              forest = Whole k c t.forest;
+              forest = Primitive k c t.forest;
               alike = primitives h k c rest t.forest (record { class = refl; constructed = primitive; number = refl }) t.alike;
               sound = (
-                record { valid = head-valid h false false (Definite (length c)) o q.at; offset = refl; named = sym unnamed; form = refl },
+                record { valid = header-valid h false false (Definite (length c)) o q.at; offset = refl; named = sym unnamed; form = refl },
                 refl,
                 t.sound,
               );
-              regular = (record { shortest = head-shortest h false false (Definite (length c)) o q.at; by_form = sym definite }, t.regular);
-              spelled = ap (λ (l : List ℕ). head ++ (c ++ l)) t.spelled;
+              regular = (record { shortest = header-shortest h false false (Definite (length c)) o q.at; by_form = sym definite }, t.regular);
+              spelled = ap (λ (l : List ℕ). header ++ (c ++ l)) t.spelled;
               names_are = t.names_are;
             };
       }
@@ -162,14 +162,14 @@ module _ (form : Bool → Bool) (definite : form false ≡ false) where
       → (held : Spelling form (place_of_children p h) inside)
       → Holds h constructed (form constructed) (length held.octets)
       → (o : Octets h constructed (size-for (form constructed) (length (lead-for constructed h.number) + length held.octets)))
-      → Spelling form (place_after p (extent h inside)) rest → Spelling form p (Closed h inside rest)
+      → Spelling form (place_after p (extent h inside)) rest → Spelling form p (Holder h inside rest)
   spelling-closed p h inside rest constructed is valid few held holding o r =
       let first : List ℕ = lead-for constructed h.number in
       let m : ℕ = length first + length held.octets in
       let size : Size = size-for (form constructed) m in
       let begins : List ℕ = octets-in h constructed size o ++ first in
       let ends : List ℕ = end_octets size in
-      let some : 1 ≤ length begins = omega (arith, head-some h constructed size o, length-append (octets-in h constructed size o) first) in
+      let some : 1 ≤ length begins = omega (arith, header-some h constructed size o, length-append (octets-in h constructed size o) first) in
       let total : length (begins ++ (held.octets ++ (ends ++ r.octets))) ≡ length begins + (length held.octets + (length ends + length r.octets)) =
       omega (arith, length-append begins (held.octets ++ (ends ++ r.octets)), length-append held.octets (ends ++ r.octets), length-append ends r.octets) in
       let far : ℕ = length begins + (length held.octets + length ends) in
@@ -202,7 +202,7 @@ module _ (form : Bool → Bool) (definite : form false ≡ false) where
         names_behind = joint.behind;
         names_within = λ at i more. joint.within at i (omega (arith, more, total));
         there = λ q like agrees.
-            let k : HeaderValue = head_of h (not constructed) constructed size o q.at in
+            let k : HeaderValue = header_of h (not constructed) constructed size o q.at in
             let named : is_among q.at q.inside ≡ not constructed =
             agrees q.at (omega arith) (omega (arith, total, some)) ∙ joint.of_own q.at in
             let i : SpelledAt form (place_of_children q k) inside held.octets (held.names (q.at + length begins)) =
@@ -217,40 +217,40 @@ module _ (form : Bool → Bool) (definite : form false ≡ false) where
             ∙ ap (λ (n : ℕ). is_among j (r.names (q.at + n))) (sym next_is)) in
             let others_are : wrappers t.forest ≡ r.names (q.at + far) = t.names_are ∙ ap (λ (n : ℕ). r.names (q.at + n)) next_is in
             record {
-              forest = Closed k i.forest t.forest;
+              forest = Holder k i.forest t.forest;
               alike = holders h k inside i.forest rest t.forest (record { class = refl; constructed = is; number = refl }) i.alike t.alike;
               sound = (
-                record { valid = head-valid h (not constructed) constructed size o q.at; offset = refl; named = sym named; form = holding.again },
-                size-length (form constructed) m (length first + length (spell i.forest)) (omega (arith, ap length i.spelled)),
+                record { valid = header-valid h (not constructed) constructed size o q.at; offset = refl; named = sym named; form = holding.again },
+                size-length (form constructed) m (length first + length (spelling i.forest)) (omega (arith, ap length i.spelled)),
                 omega (arith, like.depth, few),
                 i.sound,
                 t.sound,
               );
-              regular = (record { shortest = head-shortest h (not constructed) constructed size o q.at; by_form = size-form (form constructed) m }, i.regular, t.regular);
+              regular = (record { shortest = header-shortest h (not constructed) constructed size o q.at; by_form = size-form (form constructed) m }, i.regular, t.regular);
               spelled = ap₂ (λ (x y : List ℕ). begins ++ (x ++ (ends ++ y))) i.spelled t.spelled;
               names_are = ap₂ (λ (x y : List ℕ). own constructed q.at ++ (x ++ y)) i.names_are others_are;
             };
       }
 
-  pub respelled : (p : Place) (f : Forest) → length (spell f) ≤ 2 ^ 38 → IsSound p f → HaveLowForms f → Spelling form p f
-  respelled p Stop few u low = record {
+  pub respelled : (p : Place) (f : Forest) → length (spelling f) ≤ 2 ^ 38 → IsSound p f → HaveLowForms f → Spelling form p f
+  respelled p NoMore few u low = record {
     octets = [];
     names = λ at. [];
     short = omega arith;
     names_behind = λ at i less. refl;
     names_within = λ at i more. refl;
-    there = λ q like agrees. record { forest = Stop; alike = nothing; sound = tt; regular = tt; spelled = refl; names_are = refl };
+    there = λ q like agrees. record { forest = NoMore; alike = nothing; sound = tt; regular = tt; spelled = refl; names_are = refl };
   }
-  respelled p (Fill rest) few u low = spelling-fill p rest u.0 (respelled (place_after p 1) rest (omega (arith, few)) u.1 low)
-  respelled p (Whole h c rest) few u low =
-      let count : length (spell (Whole h c rest)) ≡ length (octets_of h) + length c + length (spell rest) = length-whole h c rest in
+  respelled p (PaddingOctet rest) few u low = spelling-fill p rest u.0 (respelled (place_after p 1) rest (omega (arith, few)) u.1 low)
+  respelled p (Primitive h c rest) few u low =
+      let count : length (spelling (Primitive h c rest)) ≡ length (octets_of h) + length c + length (spelling rest) = length-whole h c rest in
       let primitive : h.constructed ≡ false = not-holding h.constructed (is_wrapper h.named h.class h.constructed h.number h.size) u.0.form in
       let o : Octets h false (Definite (length c)) =
       octets-for h false (Definite (length c)) (moved h.class h.constructed false h.number h.identifier primitive u.0.valid.identifier)
       (subst (λ (k : Bool). leading_octet h.class k h.number ≢ 0) primitive low.0) refl (omega (arith, count, few)) in
       spelling-whole p h c rest primitive u.0.valid o (respelled (place_after p (length (octets_of h) + length c)) rest (omega (arith, count, few)) u.2 low.1)
-  respelled p (Closed h inside rest) few u low =
-      let count : length (spell (Closed h inside rest)) ≡ extent h inside + length (spell rest) = length-closed h inside rest in
+  respelled p (Holder h inside rest) few u low =
+      let count : length (spelling (Holder h inside rest)) ≡ extent h inside + length (spelling rest) = length-closed h inside rest in
       let begins : length (opening h) ≡ length (octets_of h) + length (lead h) = length-opening h in
       let some : 2 ≤ length (octets_of h) = header-length h u.0.valid in
       let held : Spelling form (place_of_children p h) inside = respelled (place_of_children p h) inside (omega (arith, count, few)) u.3 low.0 in
@@ -264,8 +264,8 @@ module _ (form : Bool → Bool) (definite : form false ≡ false) where
       (allows-size h.constructed (form h.constructed) m primitive)
       (size-below (form h.constructed) m below) in
       spelling-closed p h inside rest h.constructed refl u.0.valid u.2 held holding o (respelled (place_after p (extent h inside)) rest (omega (arith, count, few)) u.4 low.1)
-  respelled p (Partial h c) few u low = absurd u
-  respelled p (Entered h inside) few u low = absurd u
-  respelled p (Awaiting h) few u low = absurd u
-  respelled p (Begun octets) few u low = absurd u
-  respelled p Zero few u low = absurd u
+  respelled p (OpenPrimitive h c) few u low = absurd u
+  respelled p (OpenHolder h inside) few u low = absurd u
+  respelled p (OpenBitString h) few u low = absurd u
+  respelled p (OpenHeader octets) few u low = absurd u
+  respelled p OpenEndOctets few u low = absurd u

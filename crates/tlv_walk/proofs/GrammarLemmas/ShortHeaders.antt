@@ -28,8 +28,8 @@ pub record Octets (h : HeaderValue) (constructed : Bool) (size : Size) : Type 0 
   pub few_lengths : length lengths.octets + length (end_octets size) ≤ 6
 
 -- the header, named if it is to be that of a wrapper
-abbrev pub head_of : (h : HeaderValue) (named constructed : Bool) (size : Size) → Octets h constructed size → ℕ → HeaderValue
-head_of h named constructed size o at = record {
+abbrev pub header_of : (h : HeaderValue) (named constructed : Bool) (size : Size) → Octets h constructed size → ℕ → HeaderValue
+header_of h named constructed size o at = record {
   offset = at;
   named = named;
   class = h.class;
@@ -43,11 +43,11 @@ head_of h named constructed size o at = record {
 abbrev pub octets-in : (h : HeaderValue) (constructed : Bool) (size : Size) → Octets h constructed size → List ℕ
 octets-in h constructed size o = o.identifier.octets ++ o.lengths.octets
 
-pub head-valid : (h : HeaderValue) (named constructed : Bool) (size : Size) (o : Octets h constructed size) (at : ℕ) → IsHeader (head_of h named constructed size o at)
-head-valid h named constructed size o at = record { identifier = o.identifier.valid; lengths = o.lengths.valid; allowed = o.allowed }
+pub header-valid : (h : HeaderValue) (named constructed : Bool) (size : Size) (o : Octets h constructed size) (at : ℕ) → IsHeader (header_of h named constructed size o at)
+header-valid h named constructed size o at = record { identifier = o.identifier.valid; lengths = o.lengths.valid; allowed = o.allowed }
 
-pub head-shortest : (h : HeaderValue) (named constructed : Bool) (size : Size) (o : Octets h constructed size) (at : ℕ) → IsShortest (head_of h named constructed size o at)
-head-shortest h named constructed size o at = record { identifier = o.identifier.shortest; lengths = o.lengths.shortest }
+pub header-shortest : (h : HeaderValue) (named constructed : Bool) (size : Size) (o : Octets h constructed size) (at : ℕ) → IsShortest (header_of h named constructed size o at)
+header-shortest h named constructed size o at = record { identifier = o.identifier.shortest; lengths = o.lengths.shortest }
 
 few-octets : (size : Size) (l : ShortLength size) → length l.octets ≤ 6 → length l.octets + length (end_octets size) ≤ 6
 few-octets (Definite n) l few = omega (arith, few)
@@ -67,8 +67,8 @@ octets-for h constructed size valid nonzero allowed below =
       few_lengths = few-octets size l.short l.few;
     }
 
-pub head-some : (h : HeaderValue) (constructed : Bool) (size : Size) (o : Octets h constructed size) → 1 ≤ length (octets-in h constructed size o)
-head-some h constructed size o =
+pub header-some : (h : HeaderValue) (constructed : Bool) (size : Size) (o : Octets h constructed size) → 1 ≤ length (octets-in h constructed size o)
+header-some h constructed size o =
     omega (
       arith,
       length-append o.identifier.octets o.lengths.octets,

@@ -2,7 +2,7 @@
 use Rattle.std.proofs.Common.{◌≡◌, ◌+◌, true, false, length, refl, arith}
 use Rattle.tlv_head.specs.Header.{HeaderValue, octets_of}
 use Rattle.tlv_walk.specs.declared.framing.Framing.{Framing}
-use Rattle.tlv_walk.specs.Forest.{Awaiting, Begun, Closed, Entered, Fill, Forest, Partial, Stop, Whole, Zero, contents_length, extent, is_complete, spell}
+use Rattle.tlv_walk.specs.Forest.{Forest, Holder, NoMore, OpenBitString, OpenEndOctets, OpenHeader, OpenHolder, OpenPrimitive, PaddingOctet, Primitive, contents_length, extent, is_complete, spelling}
 use Rattle.tlv_walk.specs.Place.{Fits, IsOpen, Place, place_after, place_of_children, top_place}
 use Rattle.tlv_walk.proofs.GrammarLemmas.Lengths.{HasLength}
 use Rattle.tlv_walk.specs.Reading.{IsSound}
@@ -11,58 +11,58 @@ use Rattle.tlv_walk.proofs.GrammarLemmas.Spellings.{length-closed, length-openin
 
 -- nothing is open in sound elements
 pub sound-whole : (p : Place) (f : Forest) → IsSound p f → is_complete f ≡ true
-sound-whole p Stop s = refl
-sound-whole p (Fill rest) s = sound-whole (place_after p 1) rest s.1
-sound-whole p (Whole h c rest) s = sound-whole (place_after p (length (octets_of h) + length c)) rest s.2
-sound-whole p (Closed h inside rest) s = sound-whole (place_after p (extent h inside)) rest s.4
-sound-whole p (Partial h c) s = absurd s
-sound-whole p (Entered h inside) s = absurd s
-sound-whole p (Awaiting h) s = absurd s
-sound-whole p (Begun octets) s = absurd s
-sound-whole p Zero s = absurd s
+sound-whole p NoMore s = refl
+sound-whole p (PaddingOctet rest) s = sound-whole (place_after p 1) rest s.1
+sound-whole p (Primitive h c rest) s = sound-whole (place_after p (length (octets_of h) + length c)) rest s.2
+sound-whole p (Holder h inside rest) s = sound-whole (place_after p (extent h inside)) rest s.4
+sound-whole p (OpenPrimitive h c) s = absurd s
+sound-whole p (OpenHolder h inside) s = absurd s
+sound-whole p (OpenBitString h) s = absurd s
+sound-whole p (OpenHeader octets) s = absurd s
+sound-whole p OpenEndOctets s = absurd s
 
 -- the contents of an element within the bound are within the bound inside
-fits-contents : (p : Place) (h : HeaderValue) (inside : Forest) → HasLength h.size (contents_length h inside) → Fits p (extent h inside) → Fits (place_of_children p h) (length (spell inside))
+fits-contents : (p : Place) (h : HeaderValue) (inside : Forest) → HasLength h.size (contents_length h inside) → Fits p (extent h inside) → Fits (place_of_children p h) (length (spelling inside))
 fits-contents p h inside same f =
     within-le (place_of_children p h).bound _ _ (omega (arith, length-opening h))
     (filled-within h.size (p.at + length (octets_of h)) p.bound (contents_length h inside) same
     (within-le p.bound _ _ (omega (arith, length-opening h)) f))
 
 -- sound elements that end within the bound are an open forest
-pub sound-open : (p : Place) (f : Forest) → (p.padding ≡ true → p.indefinite ≡ false) → Fits p (length (spell f)) → IsSound p f → IsOpen p f
-sound-open p Stop d z s = tt
-sound-open p (Fill rest) d z s = (
+pub sound-open : (p : Place) (f : Forest) → (p.padding ≡ true → p.indefinite ≡ false) → Fits p (length (spelling f)) → IsSound p f → IsOpen p f
+sound-open p NoMore d z s = tt
+sound-open p (PaddingOctet rest) d z s = (
   (s.0, d s.0, within-le p.bound _ _ (omega arith) z),
   sound-open (place_after p 1) rest d (within-le p.bound _ _ (omega arith) z) s.1,
 )
-sound-open p (Whole h c rest) d z s = (
+sound-open p (Primitive h c rest) d z s = (
   (record { header = s.0; depth = λ e. absurd (cc (e)); fits = within-le p.bound _ _ (omega (arith, length-whole h c rest)) z }, s.1),
   sound-open (place_after p (length (octets_of h) + length c)) rest d (within-le p.bound _ _ (omega (arith, length-whole h c rest)) z) s.2,
 )
-sound-open p (Closed h inside rest) d z s =
+sound-open p (Holder h inside rest) d z s =
     let f : Fits p (extent h inside) = within-le p.bound _ _ (omega (arith, length-closed h inside rest)) z in (
       (record { header = s.0; depth = λ _. s.2; fits = f }, sound-whole (place_of_children p h) inside s.3, s.1),
       sound-open (place_of_children p h) inside (λ e. absurd (cc)) (fits-contents p h inside s.1 f) s.3,
       sound-open (place_after p (extent h inside)) rest d (within-le p.bound _ _ (omega (arith, length-closed h inside rest)) z) s.4,
     )
-sound-open p (Partial h c) d z s = absurd s
-sound-open p (Entered h inside) d z s = absurd s
-sound-open p (Awaiting h) d z s = absurd s
-sound-open p (Begun octets) d z s = absurd s
-sound-open p Zero d z s = absurd s
+sound-open p (OpenPrimitive h c) d z s = absurd s
+sound-open p (OpenHolder h inside) d z s = absurd s
+sound-open p (OpenBitString h) d z s = absurd s
+sound-open p (OpenHeader octets) d z s = absurd s
+sound-open p OpenEndOctets d z s = absurd s
 
 -- an open forest in which nothing is open is sound
 pub open-sound : (p : Place) (f : Forest) → IsOpen p f → is_complete f ≡ true → IsSound p f
-open-sound p Stop w t = tt
-open-sound p (Fill rest) w t = (w.0.0, open-sound (place_after p 1) rest w.1 t)
-open-sound p (Whole h c rest) w t = (w.0.0.header, w.0.1, open-sound (place_after p (length (octets_of h) + length c)) rest w.1 t)
-open-sound p (Closed h inside rest) w t =
+open-sound p NoMore w t = tt
+open-sound p (PaddingOctet rest) w t = (w.0.0, open-sound (place_after p 1) rest w.1 t)
+open-sound p (Primitive h c rest) w t = (w.0.0.header, w.0.1, open-sound (place_after p (length (octets_of h) + length c)) rest w.1 t)
+open-sound p (Holder h inside rest) w t =
     (w.0.0.header, w.0.2, w.0.0.depth refl, open-sound (place_of_children p h) inside w.1 w.0.1, open-sound (place_after p (extent h inside)) rest w.2 t)
-open-sound p (Partial h c) w t = absurd (cc)
-open-sound p (Entered h inside) w t = absurd (cc)
-open-sound p (Awaiting h) w t = absurd (cc)
-open-sound p (Begun octets) w t = absurd (cc)
-open-sound p Zero w t = absurd (cc)
+open-sound p (OpenPrimitive h c) w t = absurd (cc)
+open-sound p (OpenHolder h inside) w t = absurd (cc)
+open-sound p (OpenBitString h) w t = absurd (cc)
+open-sound p (OpenHeader octets) w t = absurd (cc)
+open-sound p OpenEndOctets w t = absurd (cc)
 
 -- at the start of the input
 pub sound-open_top : (w : Framing) (f : Forest) → IsSound (top_place w) f → IsOpen (top_place w) f

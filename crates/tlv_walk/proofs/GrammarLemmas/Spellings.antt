@@ -1,20 +1,20 @@
 -- Spellings: how long they are, and how they are regrouped.
 use Rattle.std.proofs.Common.{◌≡◌, ℕ, ◌+◌, ◌≤◌, List, [], ◌∷◌, ◌++◌, length, ap, ◌∙◌, arith, append_assoc, length-append, refl, sym}
 use Rattle.tlv_head.specs.Header.{HeaderValue, octets_of}
-use Rattle.tlv_walk.specs.Forest.{Forest, Whole, Closed, end_octets, extent, lead, opening, spell}
+use Rattle.tlv_walk.specs.Forest.{Forest, Primitive, Holder, end_octets, extent, lead, opening, spelling}
 
 -- what comes before the elements that an element holds is the header and the contents octets before them
 pub length-opening : (h : HeaderValue) → length (opening h) ≡ length (octets_of h) + length (lead h)
 length-opening h = length-append (octets_of h) (lead h)
 
 -- a primitive, and what follows it
-pub length-whole : (h : HeaderValue) (c : List ℕ) (rest : Forest) → length (spell (Whole h c rest)) ≡ length (octets_of h) + length c + length (spell rest)
-length-whole h c rest = omega (arith, length-append (octets_of h) (c ++ spell rest), length-append c (spell rest))
+pub length-whole : (h : HeaderValue) (c : List ℕ) (rest : Forest) → length (spelling (Primitive h c rest)) ≡ length (octets_of h) + length c + length (spelling rest)
+length-whole h c rest = omega (arith, length-append (octets_of h) (c ++ spelling rest), length-append c (spelling rest))
 
 -- an element that holds others, and what follows it
-pub length-closed : (h : HeaderValue) (inside rest : Forest) → length (spell (Closed h inside rest)) ≡ extent h inside + length (spell rest)
+pub length-closed : (h : HeaderValue) (inside rest : Forest) → length (spelling (Holder h inside rest)) ≡ extent h inside + length (spelling rest)
 length-closed h inside rest =
-    omega (arith, length-append (opening h) (spell inside ++ (end_octets h.size ++ spell rest)), length-append (spell inside) (end_octets h.size ++ spell rest), length-append (end_octets h.size) (spell rest))
+    omega (arith, length-append (opening h) (spelling inside ++ (end_octets h.size ++ spelling rest)), length-append (spelling inside) (end_octets h.size ++ spelling rest), length-append (end_octets h.size) (spelling rest))
 
 -- octets after a list of three pieces are after the last of them
 pub append_assoc-3 : (a b s t : List ℕ) → (a ++ (b ++ s)) ++ t ≡ a ++ (b ++ (s ++ t))

@@ -7,7 +7,7 @@ use Rattle.tlv_head.specs.declared.fault.FaultCode.TheVariants.{Empty, Short}
 use Rattle.tlv_walk.specs.declared.ending.Ending.{Ending}
 use Rattle.tlv_walk.specs.declared.ending.Ending.TheVariants.{Done, Fault}
 use Rattle.tlv_walk.specs.declared.framing.Framing.{Framing}
-use Rattle.tlv_walk.specs.Forest.{Forest, Stop, Fill, Whole, Closed, Partial, Entered, Awaiting, Begun, Zero, has_element, is_complete, spell}
+use Rattle.tlv_walk.specs.Forest.{Forest, NoMore, PaddingOctet, Primitive, Holder, OpenPrimitive, OpenHolder, OpenBitString, OpenHeader, OpenEndOctets, has_element, is_complete, spelling}
 use Rattle.tlv_walk.specs.Place.{top_place}
 use Rattle.tlv_walk.specs.Reading.{CannotBecomeSound, IsReading, IsSoundList}
 use Rattle.tlv_walk.specs.Ending.{IsEnding, IsFault, IsFinalEnding, ShowsSoundness, done, empty, fault, refused, short, tip}
@@ -17,36 +17,36 @@ use Rattle.tlv_walk.proofs.GrammarLemmas.Endings.{IsRefused, done-sound, fault-h
 
 -- without an octet of an element nothing is open
 none-whole : (f : Forest) → has_element f ≡ false → is_complete f ≡ true
-none-whole Stop e = refl
-none-whole (Fill rest) e = none-whole rest e
-none-whole (Whole h c rest) e = absurd (cc)
-none-whole (Closed h inside rest) e = absurd (cc)
-none-whole (Partial h c) e = absurd (cc)
-none-whole (Entered h inside) e = absurd (cc)
-none-whole (Awaiting h) e = absurd (cc)
-none-whole (Begun octets) e = absurd (cc)
-none-whole Zero e = absurd (cc)
+none-whole NoMore e = refl
+none-whole (PaddingOctet rest) e = none-whole rest e
+none-whole (Primitive h c rest) e = absurd (cc)
+none-whole (Holder h inside rest) e = absurd (cc)
+none-whole (OpenPrimitive h c) e = absurd (cc)
+none-whole (OpenHolder h inside) e = absurd (cc)
+none-whole (OpenBitString h) e = absurd (cc)
+none-whole (OpenHeader octets) e = absurd (cc)
+none-whole OpenEndOctets e = absurd (cc)
 
 -- a test of the reading has one result
 test-apart : (w : Framing) (b : List ℕ) (f g : Forest) (test : Forest → Bool) → IsReading w b f → IsReading w b g → test f ≡ true → test g ≡ false → ⊥
 test-apart w b f g test r s t u = true≢false (sym t ∙ ap test (reading-unique w b f g r s) ∙ u)
 
 -- the whole input is read, or an octet is refused
-read-apart : (w : Framing) (b : List ℕ) (f g : Forest) (x : ℕ) (rest : List ℕ) → IsReading w b f → IsReading w b g → spell f ≡ b → spell g ++ x ∷ rest ≡ b → ⊥
+read-apart : (w : Framing) (b : List ℕ) (f g : Forest) (x : ℕ) (rest : List ℕ) → IsReading w b f → IsReading w b g → spelling f ≡ b → spelling g ++ x ∷ rest ≡ b → ⊥
 read-apart w b f g x rest r s e d =
-    let same : length (spell f) ≡ length (spell g) = ap (λ (f : Forest). length (spell f)) (reading-unique w b f g r s) in
-    omega (arith, ap length e, ap length d, length-append (spell g) (x ∷ rest))
+    let same : length (spelling f) ≡ length (spelling g) = ap (λ (f : Forest). length (spelling f)) (reading-unique w b f g r s) in
+    omega (arith, ap length e, ap length d, length-append (spelling g) (x ∷ rest))
 
 -- an octet that is refused is one octet, with one code
-refused-same : (w : Framing) (b : List ℕ) (f g : Forest) (x y : ℕ) (r s : List ℕ) (c d : FaultCode) → IsReading w b f → IsReading w b g → spell f ++ x ∷ r ≡ b → spell g ++ y ∷ s ≡ b
-    → IsFault (tip (top_place w) f).0 x (tip (top_place w) f).1 c → IsFault (tip (top_place w) g).0 y (tip (top_place w) g).1 d → fault c (length (spell f)) ≡ fault d (length (spell g))
+refused-same : (w : Framing) (b : List ℕ) (f g : Forest) (x y : ℕ) (r s : List ℕ) (c d : FaultCode) → IsReading w b f → IsReading w b g → spelling f ++ x ∷ r ≡ b → spelling g ++ y ∷ s ≡ b
+    → IsFault (tip (top_place w) f).0 x (tip (top_place w) f).1 c → IsFault (tip (top_place w) g).0 y (tip (top_place w) g).1 d → fault c (length (spelling f)) ≡ fault d (length (spelling g))
 refused-same w b f g x y r s c d u v e e' k l =
     let same : f ≡ g = reading-unique w b f g u v in
-    let tails : x ∷ r ≡ y ∷ s = append_cancel_left (spell g) (x ∷ r) (y ∷ s) (rw same at (e ∙ sym e')) in
+    let tails : x ∷ r ≡ y ∷ s = append_cancel_left (spelling g) (x ∷ r) (y ∷ s) (rw same at (e ∙ sym e')) in
     let octet : x ≡ y = cc in
     let k' : IsFault (tip (top_place w) g).0 y (tip (top_place w) g).1 c = rw (same, octet) at k in
     let code : c ≡ d = fault-unique w g y c d v.is_open k' l in
-    ap (λ (c : FaultCode). fault c (length (spell f))) code ∙ ap (λ (f : Forest). fault d (length (spell f))) same
+    ap (λ (c : FaultCode). fault c (length (spelling f))) code ∙ ap (λ (f : Forest). fault d (length (spelling f))) same
 
 -- an input has one ending
 pub ending-unique : (w : Framing) (b : List ℕ) (e d : Ending) → IsEnding w b e → IsEnding w b d → e ≡ d
@@ -75,7 +75,7 @@ refused-for-good w b c code offset f a d e r =
     let longer : IsHalt w k.forest code (b ++ c) = halt-longer w k.forest code b c k.halt in
     let same : k.forest ≡ f = reading-unique w b k.forest f (run-reading w (Halted k.forest code) b k.halt) r in
     let reading : IsReading w (b ++ c) k.forest = run-reading w (Halted k.forest code) (b ++ c) longer in
-    let end : IsEnding w (b ++ c) (fault code (length (spell k.forest))) = halt-ending w k.forest code (b ++ c) longer k.fault in
+    let end : IsEnding w (b ++ c) (fault code (length (spelling k.forest))) = halt-ending w k.forest code (b ++ c) longer k.fault in
     (rw same at reading, rw (← k.there) at end)
 
 -- whatever follows an ending that is final, no input that goes on is sound

@@ -9,7 +9,7 @@ use Rattle.tlv_walk.specs.Phase as phase
 use Rattle.tlv_walk.specs.Ending.{IsEnding}
 use Rattle.tlv_walk.specs.Events.{EventValue}
 use Rattle.tlv_walk.specs.WalkerState.{WalkerState}
-use Rattle.tlv_walk.specs.Stack.{Within}
+use Rattle.tlv_walk.specs.Stack.{IsWithin}
 use Rattle.tlv_walk.specs.Private.Stack.{left_to}
 use Rattle.tlv_walk.specs.Private.Zipper.{HasZipper}
 use Rattle.tlv_walk.specs.HasRead.{event_value}
@@ -54,7 +54,7 @@ module _ (old mid new : WalkerState) (x : ℕ) (first : Continues old mid (x ∷
   step_behind rest after step.NeedMore z t = continues_both old mid new (x ∷ []) rest [] [] first t
   step_behind rest after (step.Fault f) z t = fault_behind rest after f z t
 
--- an octet is left to the bound
-pub room_more : (b : Option ℕ) (n : ℕ) → Within b n → (left_to b n ≡ Some 0 → ⊥) → Within b (n + 1)
+-- there is room for an octet before the bound
+pub room_more : (b : Option ℕ) (n : ℕ) → IsWithin b n → (left_to b n ≡ Some 0 → ⊥) → IsWithin b (n + 1)
 room_more None n w f = tt
 room_more (Some m) n w f = let some : m - n ≡ 0 → ⊥ = λ e. f (ap Some e) in omega arith

@@ -7,72 +7,72 @@ use Rattle.tlv_head.specs.Header.{HeaderValue, announced_length, octets_of}
 use Rattle.tlv_head.specs.Private.Header.{AllowsSize}
 use Rattle.tlv_walk.specs.Phase as phase
 use Rattle.tlv_walk.specs.Events.{AreEqualJoined, Close, EventValue, Leave, closing_event, end_offset, events, opening_events, single_octets}
-use Rattle.tlv_walk.specs.Forest.{Closed, Forest, Stop, Zero, contents_length, end_octets, extent, is_complete, opening, spell}
+use Rattle.tlv_walk.specs.Forest.{Forest, Holder, NoMore, OpenEndOctets, contents_length, end_octets, extent, is_complete, opening, spelling}
 use Rattle.tlv_walk.specs.Wrappers.{wrapper_offsets}
 use Rattle.std.proofs.lemmas.Bool.{cases_Bool}
 use Rattle.tlv_walk.specs.WalkerState.{WalkerState}
 use Rattle.tlv_walk.specs.Private.WalkerState.{wrappers_after}
 use Rattle.tlv_walk.specs.Place.{Fits, IsEntry, IsOpen, Place, is_indefinite, place_after}
 use Rattle.tlv_walk.proofs.GrammarLemmas.Lengths.{HasLength}
-use Rattle.tlv_walk.specs.Stack.{Frame, IsFilled, IsInIndefinite, IsInWrapper, Within, bound_of}
+use Rattle.tlv_walk.specs.Stack.{Frame, IsFilled, IsInIndefinite, IsInWrapper, IsWithin, bound_of}
 use Rattle.tlv_walk.specs.Private.Stack.{wraps_of, bound_in}
 use Rattle.tlv_walk.specs.Private.Steps.{Continues}
-use Rattle.tlv_walk.specs.Private.Zipper.{AreWhole, Between, HasZipper, InEnd, Layer, Tail, Zipper, events_layers, events_tail, frame_at, frames_of, place_in, place_of, spell_layers, spell_tail}
+use Rattle.tlv_walk.specs.Private.Zipper.{AreWhole, Between, HasZipper, InEnd, Layer, Tail, Zipper, events_of_layers, events_of_tail, frame_at, frames_of, place_in, place_of, spelling_of_layers, spelling_of_tail}
 use Rattle.tlv_walk.specs.Stands.{ending_event}
 use Rattle.tlv_walk.proofs.WalkerLemmas.Moves.{began, between_tail, closed_here, continues_both, lone_tail, phase_at, tail_state, yields_zero, past_more, with_layers, with_tail}
 use Rattle.tlv_walk.proofs.WalkerLemmas.Places.{definite-size, place-offset}
 use Rattle.tlv_walk.proofs.GrammarLemmas.Spellings.{length-opening}
-use Rattle.tlv_walk.proofs.WalkerLemmas.Zipper.{open-behind, spell-behind, whole-behind}
+use Rattle.tlv_walk.proofs.WalkerLemmas.Zipper.{open-behind, spelling-behind, whole-behind}
 use Rattle.tlv_walk.proofs.WalkerLemmas.ZipperEvents.{events-behind}
 
 regroup : (a b c d e t : List ℕ) → a ++ ((b ++ (c ++ (d ++ ((e ++ t) ++ [])))) ++ []) ≡ ((a ++ (b ++ c)) ++ (d ++ e)) ++ t
 regroup a b c d e t = simp (append_assoc, append-nil) refl
 
-spelled_closed : (ls : List Layer) (l : Layer) (here : Forest) (old t b : List ℕ) → is_complete l.before ≡ true → old ++ t ≡ end_octets l.head.size
-    → spell_layers (l ∷ ls) ++ (spell here ++ old) ≡ b → spell_layers ls ++ (spell (closed_here l here) ++ []) ≡ b ++ t
+spelled_closed : (ls : List Layer) (l : Layer) (here : Forest) (old t b : List ℕ) → is_complete l.before ≡ true → old ++ t ≡ end_octets l.header.size
+    → spelling_of_layers (l ∷ ls) ++ (spelling here ++ old) ≡ b → spelling_of_layers ls ++ (spelling (closed_here l here) ++ []) ≡ b ++ t
 spelled_closed ls l here old t b whole e f =
-    ap (λ (s : List ℕ). spell_layers ls ++ (s ++ [])) (spell-behind l.before (Closed l.head here Stop) whole)
-    ∙ ap (λ (s : List ℕ). spell_layers ls ++ ((spell l.before ++ (opening l.head ++ (spell here ++ (s ++ [])))) ++ [])) (sym e)
-    ∙ regroup (spell_layers ls) (spell l.before) (opening l.head) (spell here) old t
+    ap (λ (s : List ℕ). spelling_of_layers ls ++ (s ++ [])) (spelling-behind l.before (Holder l.header here NoMore) whole)
+    ∙ ap (λ (s : List ℕ). spelling_of_layers ls ++ ((spelling l.before ++ (opening l.header ++ (spelling here ++ (s ++ [])))) ++ [])) (sym e)
+    ∙ regroup (spelling_of_layers ls) (spelling l.before) (opening l.header) (spelling here) old t
     ∙ ap (λ (s : List ℕ). s ++ t) f
 
 regroup_past : (a b c d : List EventValue) (e : EventValue) → a ++ ((b ++ (c ++ (d ++ e ∷ []))) ++ []) ≡ ((a ++ (b ++ c)) ++ (d ++ [])) ++ e ∷ []
 regroup_past a b c d e = simp (append_assoc, append-nil) refl
 
-past_closed : (past : List EventValue) (ls : List Layer) (l : Layer) (here : Forest) → is_complete l.before ≡ true → AreEqualJoined past (events_layers (l ∷ ls) ++ (events here ++ []))
-    → AreEqualJoined (past ++ closing_event l.head here ∷ []) (events_layers ls ++ (events (closed_here l here) ++ []))
+past_closed : (past : List EventValue) (ls : List Layer) (l : Layer) (here : Forest) → is_complete l.before ≡ true → AreEqualJoined past (events_of_layers (l ∷ ls) ++ (events here ++ []))
+    → AreEqualJoined (past ++ closing_event l.header here ∷ []) (events_of_layers ls ++ (events (closed_here l here) ++ []))
 past_closed past ls l here whole h =
-    past_more past (events_layers (l ∷ ls) ++ (events here ++ [])) (closing_event l.head here ∷ []) (events_layers ls ++ (events (closed_here l here) ++ [])) h
-    (ap single_octets (ap (λ (es : List EventValue). events_layers ls ++ (es ++ [])) (events-behind l.before (Closed l.head here Stop) whole)
-    ∙ regroup_past (events_layers ls) (events l.before) (opening_events l.head) (events here) (closing_event l.head here)))
+    past_more past (events_of_layers (l ∷ ls) ++ (events here ++ [])) (closing_event l.header here ∷ []) (events_of_layers ls ++ (events (closed_here l here) ++ [])) h
+    (ap single_octets (ap (λ (es : List EventValue). events_of_layers ls ++ (es ++ [])) (events-behind l.before (Holder l.header here NoMore) whole)
+    ∙ regroup_past (events_of_layers ls) (events l.before) (opening_events l.header) (events here) (closing_event l.header here)))
 
-closed_whole : (w : WalkerState) (l : Layer) (ls : List Layer) (here : Forest) → AreWhole (place_in w.framing ls) l.before → IsEntry (place_after (place_in w.framing ls) (length (spell l.before))) true l.head
-    → AreWhole (place_in w.framing (l ∷ ls)) here → HasLength l.head.size (contents_length l.head here) → Fits (place_after (place_in w.framing ls) (length (spell l.before))) (extent l.head here)
+closed_whole : (w : WalkerState) (l : Layer) (ls : List Layer) (here : Forest) → AreWhole (place_in w.framing ls) l.before → IsEntry (place_after (place_in w.framing ls) (length (spelling l.before))) true l.header
+    → AreWhole (place_in w.framing (l ∷ ls)) here → HasLength l.header.size (contents_length l.header here) → Fits (place_after (place_in w.framing ls) (length (spelling l.before))) (extent l.header here)
     → AreWhole (place_in w.framing ls) (closed_here l here)
 closed_whole w l ls here before entry inside filled fits = record {
-  is_open = open-behind (place_in w.framing ls) l.before (Closed l.head here Stop) before
+  is_open = open-behind (place_in w.framing ls) l.before (Holder l.header here NoMore) before
       ((record { header = entry.header; depth = entry.depth; fits = fits }, inside.whole, filled), inside.is_open, tt);
-  whole = whole-behind l.before (Closed l.head here Stop) before.whole;
+  whole = whole-behind l.before (Holder l.header here NoMore) before.whole;
 }
 
 -- the state of a walker whose innermost element ends with these octets
 pub close_state : (w v : WalkerState) (b : List ℕ) (past : List EventValue) (l : Layer) (ls : List Layer) (here : Forest) (tail : Tail) (t : List ℕ)
-    → HasZipper w b past (record { layers = l ∷ ls; here = here; tail = tail }) → w.stack ≡ frames_of w.framing (l ∷ ls) → events_tail tail ≡ []
-    → spell_tail tail ++ t ≡ end_octets l.head.size → HasLength l.head.size (contents_length l.head here)
-    → Fits (place_after (place_in w.framing ls) (length (spell l.before))) (extent l.head here)
+    → HasZipper w b past (record { layers = l ∷ ls; here = here; tail = tail }) → w.stack ≡ frames_of w.framing (l ∷ ls) → events_of_tail tail ≡ []
+    → spelling_of_tail tail ++ t ≡ end_octets l.header.size → HasLength l.header.size (contents_length l.header here)
+    → Fits (place_after (place_in w.framing ls) (length (spelling l.before))) (extent l.header here)
     → v ≡ record w { stack = drop 1 w.stack; phase = phase.Between; offset = w.offset + length t; events = w.events + 1 } → w.has_element ≡ true
-    → HasZipper v (b ++ t) (past ++ closing_event l.head here ∷ []) (record { layers = ls; here = closed_here l here; tail = Between })
+    → HasZipper v (b ++ t) (past ++ closing_event l.header here ∷ []) (record { layers = ls; here = closed_here l here; tail = Between })
 close_state w v b past l ls here tail t has stack quiet ends filled fits is_v element =
-    subst (λ (u : WalkerState). HasZipper u (b ++ t) (past ++ closing_event l.head here ∷ []) (record { layers = ls; here = closed_here l here; tail = Between })) (sym is_v) (record {
-      spelled = spelled_closed ls l here (spell_tail tail) t b has.layers.1.whole ends has.spelled;
+    subst (λ (u : WalkerState). HasZipper u (b ++ t) (past ++ closing_event l.header here ∷ []) (record { layers = ls; here = closed_here l here; tail = Between })) (sym is_v) (record {
+      spelled = spelled_closed ls l here (spelling_of_tail tail) t b has.layers.1.whole ends has.spelled;
       offset = omega (arith, has.offset, length-append b t);
       stack = ap (drop 1) stack;
       layers = has.layers.0;
       here = closed_whole w l ls here has.layers.1 has.layers.2 has.here filled fits;
       phase = tt;
       same_events = past_closed past ls l here has.layers.1.whole
-          (subst (λ (es : List EventValue). AreEqualJoined past (events_layers (l ∷ ls) ++ (events here ++ es))) quiet has.same_events);
-      element = element ∙ sym (began ls l.before (Closed l.head here Stop) has.layers.1.whole refl);
+          (subst (λ (es : List EventValue). AreEqualJoined past (events_of_layers (l ∷ ls) ++ (events here ++ es))) quiet has.same_events);
+      element = element ∙ sym (began ls l.before (Holder l.header here NoMore) has.layers.1.whole refl);
     })
 
 constructed_indefinite : (k : Bool) (s : Size) → s ≡ Indefinite → AllowsSize k s → k ≡ true
@@ -87,35 +87,35 @@ size_indefinite Indefinite e = refl
 length_of : (h : HeaderValue) (s : Size) (m : ℕ) → h.size ≡ s → HasLength s m → HasLength h.size m
 length_of h s m e x = subst (λ (t : Size). HasLength t m) (sym e) x
 
--- an element of indefinite length yielded to end at its end-of-contents octets
-closes_indefinite : (h : HeaderValue) (here : Forest) (n : ℕ) → h.constructed ≡ true → h.size ≡ Indefinite → h.offset + length (opening h) + length (spell here) ≡ n → closing_event h here ≡ Close (Some n)
+-- the event of the end of an element of indefinite length has the offset of its end-of-contents octets
+closes_indefinite : (h : HeaderValue) (here : Forest) (n : ℕ) → h.constructed ≡ true → h.size ≡ Indefinite → h.offset + length (opening h) + length (spelling here) ≡ n → closing_event h here ≡ Close (Some n)
 closes_indefinite h here n k s e =
-    ap (λ (c : Bool). if c then Close (end_offset h.size (h.offset + length (opening h) + length (spell here))) else Leave) k
-    ∙ ap (λ (t : Size). Close (end_offset t (h.offset + length (opening h) + length (spell here)))) s ∙ ap (λ (m : ℕ). Close (Some m)) e
+    ap (λ (c : Bool). if c then Close (end_offset h.size (h.offset + length (opening h) + length (spelling here))) else Leave) k
+    ∙ ap (λ (t : Size). Close (end_offset t (h.offset + length (opening h) + length (spelling here)))) s ∙ ap (λ (m : ℕ). Close (Some m)) e
 
-second_from : (w : WalkerState) (b : List ℕ) (past : List EventValue) (s : Zipper) (ls : List Layer) → HasZipper w b past (with_layers s ls InEnd) → IsOpen (place_of w.framing (with_layers s ls InEnd)) Zero
-    → Within (bound_of w.stack) (w.offset + 1)
+second_from : (w : WalkerState) (b : List ℕ) (past : List EventValue) (s : Zipper) (ls : List Layer) → HasZipper w b past (with_layers s ls InEnd) → IsOpen (place_of w.framing (with_layers s ls InEnd)) OpenEndOctets
+    → IsWithin (bound_of w.stack) (w.offset + 1)
     → (t : Zipper) × HasZipper (record w { stack = drop 1 w.stack; phase = phase.Between; offset = w.offset + 1; events = w.events + 1 }) (b ++ 0 ∷ []) (past ++ Close (Some (w.offset - 1)) ∷ []) t
 second_from w b past s [] has zero room = absurd (true≢false (sym zero.0))
 second_from w b past s (l ∷ ls) has zero room =
-    let p : Place = place_after (place_in w.framing ls) (length (spell l.before)) in
-    let size : l.head.size ≡ Indefinite = size_indefinite l.head.size zero.0 in
+    let p : Place = place_after (place_in w.framing ls) (length (spelling l.before)) in
+    let size : l.header.size ≡ Indefinite = size_indefinite l.header.size zero.0 in
     let at : w.offset ≡ (place_of w.framing (with_layers s (l ∷ ls) InEnd)).at + 1 = place-offset w b past _ has in
-    let head : l.head.offset ≡ p.at = has.layers.2.header.offset in
-    let k : l.head.constructed ≡ true = constructed_indefinite l.head.constructed l.head.size size has.layers.2.header.valid.allowed in
-    let ends : end_octets l.head.size ≡ 0 ∷ 0 ∷ [] = ap end_octets size in
-    let event : closing_event l.head s.here ≡ Close (Some (w.offset - 1)) = closes_indefinite l.head s.here (w.offset - 1) k size (omega arith) in
-    let bound : Within (bound_in l.head.size (p.at + length (octets_of l.head)) p.bound) (w.offset + 1) = subst (λ (fs : List Frame). Within (bound_of fs) (w.offset + 1)) has.stack room in
-    let outer : Within p.bound (w.offset + 1) = subst (λ (t : Size). Within (bound_in t (p.at + length (octets_of l.head)) p.bound) (w.offset + 1)) size bound in
-    let two : length (end_octets l.head.size) ≡ 2 = ap length ends in
-    let fits : Fits p (extent l.head s.here) = subst (λ (n : ℕ). Within p.bound n) (omega arith) outer in (
+    let header : l.header.offset ≡ p.at = has.layers.2.header.offset in
+    let k : l.header.constructed ≡ true = constructed_indefinite l.header.constructed l.header.size size has.layers.2.header.valid.allowed in
+    let ends : end_octets l.header.size ≡ 0 ∷ 0 ∷ [] = ap end_octets size in
+    let event : closing_event l.header s.here ≡ Close (Some (w.offset - 1)) = closes_indefinite l.header s.here (w.offset - 1) k size (omega arith) in
+    let bound : IsWithin (bound_in l.header.size (p.at + length (octets_of l.header)) p.bound) (w.offset + 1) = subst (λ (fs : List Frame). IsWithin (bound_of fs) (w.offset + 1)) has.stack room in
+    let outer : IsWithin p.bound (w.offset + 1) = subst (λ (t : Size). IsWithin (bound_in t (p.at + length (octets_of l.header)) p.bound) (w.offset + 1)) size bound in
+    let two : length (end_octets l.header.size) ≡ 2 = ap length ends in
+    let fits : Fits p (extent l.header s.here) = subst (λ (n : ℕ). IsWithin p.bound n) (omega arith) outer in (
       _,
       subst (λ (e : EventValue). HasZipper (record w { stack = drop 1 w.stack; phase = phase.Between; offset = w.offset + 1; events = w.events + 1 }) (b ++ 0 ∷ []) (past ++ e ∷ []) (record { layers = ls; here = closed_here l s.here; tail = Between })) event
-          (close_state w _ b past l ls s.here InEnd (0 ∷ []) has has.stack refl (sym ends) (length_of l.head Indefinite _ size tt) fits refl (has.element)),
+          (close_state w _ b past l ls s.here InEnd (0 ∷ []) has has.stack refl (sym ends) (length_of l.header Indefinite _ size tt) fits refl (has.element)),
     )
 
 -- the second of the end-of-contents octets
-pub yields_second : (w : WalkerState) → w.phase ≡ phase.InEnd → Within (bound_of w.stack) (w.offset + 1)
+pub yields_second : (w : WalkerState) → w.phase ≡ phase.InEnd → IsWithin (bound_of w.stack) (w.offset + 1)
     → Continues w (record w { stack = drop 1 w.stack; phase = phase.Between; offset = w.offset + 1; events = w.events + 1 }) (0 ∷ []) (Close (Some (w.offset - 1)) ∷ [])
 yields_second w e room = record {
   framing = refl;
@@ -126,7 +126,7 @@ yields_second w e room = record {
       second_from w b past s s.layers has' (phase_at w b past (with_tail s InEnd) _ e has') room;
 }
 
--- an element that is filled yielded to end
+-- the event of the end of an element that is filled has no offset
 closes_definite : (k : Bool) (s : Size) (n m : ℕ) → s ≡ Definite n → (if k then Close (end_offset s m) else Leave) ≡ (if not k then Leave else Close None)
 closes_definite true (Definite n) m o e = refl
 closes_definite true Indefinite m o e = absurd (cc)
@@ -140,20 +140,20 @@ filled_from : (w : WalkerState) (b : List ℕ) (past : List EventValue) (s : Zip
     → (t : Zipper) × HasZipper (record w { stack = drop 1 w.stack; events = w.events + 1 }) (b ++ []) (past ++ ending_event f ∷ []) t
 filled_from w b past s [] has e f fs is full = absurd (cc (has.stack))
 filled_from w b past s (l ∷ ls) has e f fs is full =
-    let p : Place = place_after (place_in w.framing ls) (length (spell l.before)) in
-    let same : f ≡ frame_at p l.head = head_frame f (frame_at p l.head) fs (frames_of w.framing ls) (sym is ∙ has.stack) in
-    let size : (n : ℕ) × (l.head.size ≡ Definite n) × (p.at + length (octets_of l.head) + n ≡ w.offset) = definite-size l.head.size _ w.offset (sym (ap (λ (g : Frame). g.end) same) ∙ full) in
+    let p : Place = place_after (place_in w.framing ls) (length (spelling l.before)) in
+    let same : f ≡ frame_at p l.header = head_frame f (frame_at p l.header) fs (frames_of w.framing ls) (sym is ∙ has.stack) in
+    let size : (n : ℕ) × (l.header.size ≡ Definite n) × (p.at + length (octets_of l.header) + n ≡ w.offset) = definite-size l.header.size _ w.offset (sym (ap (λ (g : Frame). g.end) same) ∙ full) in
     let at : w.offset ≡ (place_of w.framing (with_layers s (l ∷ ls) Between)).at + 0 = place-offset w b past _ has in
-    let long : contents_length l.head s.here ≡ size.0 = omega (arith, size.2, at, length-opening l.head) in
-    let none : end_octets l.head.size ≡ [] = ap end_octets size.1 in
-    let zero : length (end_octets l.head.size) ≡ 0 = ap length none in
-    let event : closing_event l.head s.here ≡ ending_event f = closes_definite l.head.constructed l.head.size size.0 _ size.1 ∙ ap ending_event (sym same) in
-    let entry : Fits p (length (octets_of l.head) + size.0) = subst (λ (t : Size). Fits p (length (octets_of l.head) + announced_length t)) size.1 has.layers.2.fits in
-    let fits : Fits p (extent l.head s.here) = subst (λ (n : ℕ). Fits p n) (omega (arith, long, zero, length-opening l.head)) entry in
+    let long : contents_length l.header s.here ≡ size.0 = omega (arith, size.2, at, length-opening l.header) in
+    let none : end_octets l.header.size ≡ [] = ap end_octets size.1 in
+    let zero : length (end_octets l.header.size) ≡ 0 = ap length none in
+    let event : closing_event l.header s.here ≡ ending_event f = closes_definite l.header.constructed l.header.size size.0 _ size.1 ∙ ap ending_event (sym same) in
+    let entry : Fits p (length (octets_of l.header) + size.0) = subst (λ (t : Size). Fits p (length (octets_of l.header) + announced_length t)) size.1 has.layers.2.fits in
+    let fits : Fits p (extent l.header s.here) = subst (λ (n : ℕ). Fits p n) (omega (arith, long, zero, length-opening l.header)) entry in
     let still : w.offset ≡ w.offset + 0 = omega arith in (
       _,
       subst (λ (t : EventValue). HasZipper (record w { stack = drop 1 w.stack; events = w.events + 1 }) (b ++ []) (past ++ t ∷ []) (record { layers = ls; here = closed_here l s.here; tail = Between })) event
-          (close_state w _ b past l ls s.here Between [] has has.stack refl (sym none) (length_of l.head (Definite size.0) _ size.1 long) fits
+          (close_state w _ b past l ls s.here Between [] has has.stack refl (sym none) (length_of l.header (Definite size.0) _ size.1 long) fits
           (λ i. record w { stack = drop 1 w.stack; phase = e i; offset = still i; events = w.events + 1 }) has.element),
     )
 
@@ -207,21 +207,21 @@ pub yields_closed : (w : WalkerState) → w.phase ≡ phase.Between → IsFilled
 yields_closed w e full n = yields_popped w false e full (wraps_none w.stack w.offset full n)
 
 -- an end before the bound
-within_less : (b : Option ℕ) (m n : ℕ) → m ≤ n → Within b n → Within b m
+within_less : (b : Option ℕ) (m n : ℕ) → m ≤ n → IsWithin b n → IsWithin b m
 within_less None m n h w = tt
 within_less (Some k) m n h w = omega (arith, h, w)
 
 -- both of the end-of-contents octets
-pub yields_both : (w : WalkerState) → w.phase ≡ phase.Between → IsInIndefinite w.stack → Within (bound_of w.stack) (w.offset + 2)
+pub yields_both : (w : WalkerState) → w.phase ≡ phase.Between → IsInIndefinite w.stack → IsWithin (bound_of w.stack) (w.offset + 2)
     → Continues w (record w { stack = drop 1 w.stack; offset = w.offset + 2; events = w.events + 1 }) (0 ∷ 0 ∷ []) (Close (Some w.offset) ∷ [])
 yields_both w e inside fits =
     let mid : WalkerState = record w { phase = phase.InEnd; offset = w.offset + 1 } in
-    let room : Within (bound_of w.stack) (w.offset + 1) = within_less (bound_of w.stack) (w.offset + 1) (w.offset + 2) (omega arith) fits in
+    let room : IsWithin (bound_of w.stack) (w.offset + 1) = within_less (bound_of w.stack) (w.offset + 1) (w.offset + 2) (omega arith) fits in
     let two : w.offset + 1 + 1 ≡ w.offset + 2 = omega arith in
     let one : w.offset + 1 - 1 ≡ w.offset = omega arith in
     let new : WalkerState = record w { stack = drop 1 w.stack; phase = phase.Between; offset = w.offset + 1 + 1; events = w.events + 1 } in
     let both : Continues w new (0 ∷ 0 ∷ []) (Close (Some (w.offset + 1 - 1)) ∷ []) =
     continues_both w mid new (0 ∷ []) (0 ∷ []) [] (Close (Some (w.offset + 1 - 1)) ∷ []) (yields_zero w e inside room)
-    (yields_second mid refl (subst (Within (bound_of w.stack)) (sym two) fits)) in
+    (yields_second mid refl (subst (IsWithin (bound_of w.stack)) (sym two) fits)) in
     subst (λ (m : WalkerState). Continues w m (0 ∷ 0 ∷ []) (Close (Some w.offset) ∷ [])) (λ i. record w { stack = drop 1 w.stack; phase = sym e i; offset = two i; events = w.events + 1 })
     (subst (λ (n : ℕ). Continues w new (0 ∷ 0 ∷ []) (Close (Some n) ∷ [])) one both)

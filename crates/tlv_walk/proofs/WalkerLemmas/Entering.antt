@@ -6,13 +6,13 @@ use Rattle.tlv_head.specs.HeadReaderState.{HeadReaderState}
 use Rattle.tlv_head.specs.Refusal.{IsFront}
 use Rattle.tlv_walk.specs.Phase as phase
 use Rattle.tlv_walk.specs.Events.{AreEqualJoined, Begin, Bytes, Enter, EventValue, Open, Unused, events, opening_events, single_octets}
-use Rattle.tlv_walk.specs.Forest.{Forest, Stop, Awaiting, lead, opening, spell}
+use Rattle.tlv_walk.specs.Forest.{Forest, NoMore, OpenBitString, lead, opening, spelling}
 use Rattle.tlv_walk.specs.Inside.{is_among}
 use Rattle.tlv_walk.specs.WalkerState.{WalkerState}
 use Rattle.tlv_walk.specs.Private.WalkerState.{after_header}
-use Rattle.tlv_walk.specs.Place.{Fits, IsEntry, IsHeadAt, IsOpen, Place}
-use Rattle.tlv_walk.specs.Stack.{Frame, Within, bound_of}
-use Rattle.tlv_walk.specs.Private.Zipper.{BeforeUnused, Between, HasZipper, InContents, InEnd, InHeader, IsPhaseOf, Layer, Tail, Zipper, events_layers, events_tail, frame_at, frames_of, place_in, place_of, spell_layers, spell_tail}
+use Rattle.tlv_walk.specs.Place.{Fits, IsEntry, IsHeaderAt, IsOpen, Place}
+use Rattle.tlv_walk.specs.Stack.{Frame, IsWithin, bound_of}
+use Rattle.tlv_walk.specs.Private.Zipper.{BeforeUnused, Between, HasZipper, InContents, InEnd, InHeader, IsPhaseOf, Layer, Tail, Zipper, events_of_layers, events_of_tail, frame_at, frames_of, place_in, place_of, spelling_of_layers, spelling_of_tail}
 use Rattle.tlv_walk.specs.Private.Steps.{Continues}
 use Rattle.tlv_walk.proofs.WalkerLemmas.Moves.{between_tail, phase_at, spelled_behind, tail_state, past_behind, with_tail}
 use Rattle.tlv_walk.proofs.WalkerLemmas.Places.{place-bound, place-depth, place-inside, place-offset}
@@ -20,10 +20,10 @@ use Rattle.tlv_walk.proofs.WalkerLemmas.Places.{place-bound, place-depth, place-
 -- a walker that stands at a header, or after the octets of one that the reader has
 pub record AtHeader (w : WalkerState) (b : List ℕ) (past : List EventValue) (s : Zipper) (r : HeadReaderState) : Type 0 where
   pub has : HasZipper w b past s
-  pub octets : spell_tail s.tail ≡ r.octets
+  pub octets : spelling_of_tail s.tail ≡ r.octets
   pub offset : r.offset ≡ (place_of w.framing s).at
   pub named : r.named ≡ is_among r.offset w.framing.inside
-  pub quiet : events_tail s.tail ≡ []
+  pub quiet : events_of_tail s.tail ≡ []
   pub stack : w.stack ≡ frames_of w.framing s.layers
 
 pub at_new : (w : WalkerState) (b : List ℕ) (past : List EventValue) (s : Zipper) (r : HeadReaderState) → HasZipper w b past s → w.phase ≡ phase.Between → r.octets ≡ [] → r.offset ≡ w.offset
@@ -72,11 +72,11 @@ pub record Completed (w : WalkerState) (r : HeadReaderState) (t : List ℕ) (h :
   pub offset : h.offset ≡ r.offset
   pub named : h.named ≡ r.named
   pub shallow : holds h ≡ true → length w.stack < 128
-  pub fits : Within (bound_of w.stack) (h.offset + length (octets_of h) + announced_length h.size)
+  pub fits : IsWithin (bound_of w.stack) (h.offset + length (octets_of h) + announced_length h.size)
 
-head_at : (w : WalkerState) (b : List ℕ) (past : List EventValue) (s : Zipper) (r : HeadReaderState) (t : List ℕ) (h : HeaderValue) (k : Bool) → AtHeader w b past s r → Completed w r t h → holds h ≡ k
-    → IsHeadAt (place_of w.framing s) k h
-head_at w b past s r t h k at c e = record {
+is_header_at : (w : WalkerState) (b : List ℕ) (past : List EventValue) (s : Zipper) (r : HeadReaderState) (t : List ℕ) (h : HeaderValue) (k : Bool) → AtHeader w b past s r → Completed w r t h → holds h ≡ k
+    → IsHeaderAt (place_of w.framing s) k h
+is_header_at w b past s r t h k at c e = record {
   valid = c.valid;
   offset = c.offset ∙ at.offset;
   named = c.named ∙ at.named ∙ ap (λ (n : ℕ). is_among n w.framing.inside) at.offset ∙ ap (λ (ns : List ℕ). is_among (place_of w.framing s).at ns) (sym (place-inside w.framing s.layers));
@@ -87,20 +87,20 @@ fits_at : (w : WalkerState) (b : List ℕ) (past : List EventValue) (s : Zipper)
     → Fits (place_of w.framing s) (length (octets_of h) + announced_length h.size)
 fits_at w b past s r t h at c =
     let bound : bound_of w.stack ≡ (place_in w.framing s.layers).bound = ap bound_of at.stack ∙ sym (place-bound w.framing s.layers) in
-    let fits : Within (place_in w.framing s.layers).bound (h.offset + length (octets_of h) + announced_length h.size) = subst (λ (x : Option ℕ). Within x (h.offset + length (octets_of h) + announced_length h.size)) bound c.fits in
-    subst (λ (n : ℕ). Within (place_in w.framing s.layers).bound n) (omega (arith, c.offset, at.offset)) fits
+    let fits : IsWithin (place_in w.framing s.layers).bound (h.offset + length (octets_of h) + announced_length h.size) = subst (λ (x : Option ℕ). IsWithin x (h.offset + length (octets_of h) + announced_length h.size)) bound c.fits in
+    subst (λ (n : ℕ). IsWithin (place_in w.framing s.layers).bound n) (omega (arith, c.offset, at.offset)) fits
 
 entry_at : (w : WalkerState) (b : List ℕ) (past : List EventValue) (s : Zipper) (r : HeadReaderState) (t : List ℕ) (h : HeaderValue) → AtHeader w b past s r → Completed w r t h → holds h ≡ true
     → IsEntry (place_of w.framing s) true h
 entry_at w b past s r t h at c e = record {
-  header = head_at w b past s r t h true at c e;
+  header = is_header_at w b past s r t h true at c e;
   depth = λ _. omega (arith, c.shallow e, place-depth w.framing s.layers, ap length at.stack);
   fits = fits_at w b past s r t h at c;
 }
 
 -- the events so far, and no open end
-quiet_past : (w : WalkerState) (b : List ℕ) (past : List EventValue) (s : Zipper) (r : HeadReaderState) → AtHeader w b past s r → AreEqualJoined past (events_layers s.layers ++ (events s.here ++ []))
-quiet_past w b past s r at = subst (λ (es : List EventValue). AreEqualJoined past (events_layers s.layers ++ (events s.here ++ es))) at.quiet at.has.same_events
+quiet_past : (w : WalkerState) (b : List ℕ) (past : List EventValue) (s : Zipper) (r : HeadReaderState) → AtHeader w b past s r → AreEqualJoined past (events_of_layers s.layers ++ (events s.here ++ []))
+quiet_past w b past s r at = subst (λ (es : List EventValue). AreEqualJoined past (events_of_layers s.layers ++ (events s.here ++ es))) at.quiet at.has.same_events
 
 -- where the header of a walker ends
 header_end : (w : WalkerState) (b : List ℕ) (past : List EventValue) (s : Zipper) (r : HeadReaderState) (t : List ℕ) (h : HeaderValue) → AtHeader w b past s r → Completed w r t h
@@ -115,13 +115,13 @@ pub primitive_state : (w : WalkerState) (b : List ℕ) (past : List EventValue) 
 primitive_state w b past s r t h n at c e size =
     let zero : n ≡ 0 + n = omega arith in
     record {
-      spelled = spelled_behind s.layers s.here (spell_tail s.tail) (octets_of h ++ []) t b (append-nil (octets_of h) ∙ (c.octets ∙ ap (λ (o : List ℕ). o ++ t) (sym at.octets))) at.has.spelled;
+      spelled = spelled_behind s.layers s.here (spelling_of_tail s.tail) (octets_of h ++ []) t b (append-nil (octets_of h) ∙ (c.octets ∙ ap (λ (o : List ℕ). o ++ t) (sym at.octets))) at.has.spelled;
       offset = header_end w b past s r t h at c;
       stack = at.stack;
       layers = at.has.layers;
       here = at.has.here;
       phase = record {
-        header = head_at w b past s r t h false at c e;
+        header = is_header_at w b past s r t h false at c e;
         size = size ∙ ap Definite zero;
         fits = subst (λ (m : ℕ). Fits (place_of w.framing s) (length (octets_of h) + m)) (ap announced_length size ∙ zero) (fits_at w b past s r t h at c);
       };
@@ -130,14 +130,14 @@ primitive_state w b past s r t h n at c e size =
     }
 
 -- a layer more
-layer_spelled : (ls : List Layer) (here : Forest) (h : HeaderValue) (old t b : List ℕ) → old ++ t ≡ opening h → spell_layers ls ++ (spell here ++ old) ≡ b
-    → spell_layers (record { before = here; head = h } ∷ ls) ++ ([] ++ []) ≡ b ++ t
-layer_spelled ls here h old t b e f = append-nil (spell_layers ls ++ (spell here ++ opening h)) ∙ spelled_behind ls here old (opening h) t b (sym e) f
+layer_spelled : (ls : List Layer) (here : Forest) (h : HeaderValue) (old t b : List ℕ) → old ++ t ≡ opening h → spelling_of_layers ls ++ (spelling here ++ old) ≡ b
+    → spelling_of_layers (record { before = here; header = h } ∷ ls) ++ ([] ++ []) ≡ b ++ t
+layer_spelled ls here h old t b e f = append-nil (spelling_of_layers ls ++ (spelling here ++ opening h)) ∙ spelled_behind ls here old (opening h) t b (sym e) f
 
-layer_past : (past : List EventValue) (ls : List Layer) (here : Forest) (h : HeaderValue) (old more : List EventValue) → opening_events h ≡ old ++ more → AreEqualJoined past (events_layers ls ++ (events here ++ old))
-    → AreEqualJoined (past ++ more) (events_layers (record { before = here; head = h } ∷ ls) ++ ([] ++ []))
+layer_past : (past : List EventValue) (ls : List Layer) (here : Forest) (h : HeaderValue) (old more : List EventValue) → opening_events h ≡ old ++ more → AreEqualJoined past (events_of_layers ls ++ (events here ++ old))
+    → AreEqualJoined (past ++ more) (events_of_layers (record { before = here; header = h } ∷ ls) ++ ([] ++ []))
 layer_past past ls here h old more e f =
-    subst (λ (es : List EventValue). AreEqualJoined (past ++ more) es) (sym (append-nil (events_layers ls ++ (events here ++ opening_events h)))) (past_behind past ls here old (opening_events h) more f (ap single_octets e))
+    subst (λ (es : List EventValue). AreEqualJoined (past ++ more) es) (sym (append-nil (events_of_layers ls ++ (events here ++ opening_events h)))) (past_behind past ls here old (opening_events h) more f (ap single_octets e))
 
 -- the event that an element which holds others begins with
 abbrev pub opening_event : HeaderValue → EventValue
@@ -147,9 +147,9 @@ opening_event h = if h.constructed then Open h else Enter h
 pub holding_state : (w : WalkerState) (b : List ℕ) (past : List EventValue) (s : Zipper) (r : HeadReaderState) (t : List ℕ) (h : HeaderValue) (k : ℕ) → AtHeader w b past s r → Completed w r t h
     → holds h ≡ true → lead h ≡ []
     → HasZipper (record (after_header w phase.Between (h.offset + length (octets_of h))) { stack = frame_at (place_of w.framing s) h ∷ w.stack; wrapper_count = k }) (b ++ t) (past ++ opening_event h ∷ [])
-    (record { layers = record { before = s.here; head = h } ∷ s.layers; here = Stop; tail = Between })
+    (record { layers = record { before = s.here; header = h } ∷ s.layers; here = NoMore; tail = Between })
 holding_state w b past s r t h k at c e none = record {
-  spelled = layer_spelled s.layers s.here h (spell_tail s.tail) t b
+  spelled = layer_spelled s.layers s.here h (spelling_of_tail s.tail) t b
       (ap (λ (o : List ℕ). o ++ t) at.octets ∙ (sym c.octets ∙ (sym (append-nil (octets_of h)) ∙ ap (λ (l : List ℕ). octets_of h ++ l) (sym none)))) at.has.spelled;
   offset = header_end w b past s r t h at c;
   stack = ap (λ (fs : List Frame). frame_at (place_of w.framing s) h ∷ fs) at.stack;
@@ -166,7 +166,7 @@ pub lead_state : (w : WalkerState) (b : List ℕ) (past : List EventValue) (s : 
     → HasZipper (record (after_header w phase.BeforeUnused (h.offset + length (octets_of h))) { stack = frame_at (place_of w.framing s) h ∷ w.stack; wrapper_count = k }) (b ++ t) (past ++ Enter h ∷ [])
     (with_tail s (BeforeUnused h))
 lead_state w b past s r t h k at c e one = record {
-  spelled = spelled_behind s.layers s.here (spell_tail s.tail) (octets_of h) t b (c.octets ∙ ap (λ (o : List ℕ). o ++ t) (sym at.octets)) at.has.spelled;
+  spelled = spelled_behind s.layers s.here (spelling_of_tail s.tail) (octets_of h) t b (c.octets ∙ ap (λ (o : List ℕ). o ++ t) (sym at.octets)) at.has.spelled;
   offset = header_end w b past s r t h at c;
   stack = ap (λ (fs : List Frame). frame_at (place_of w.framing s) h ∷ fs) at.stack;
   layers = at.has.layers;
@@ -191,9 +191,9 @@ lead_primitive : (k n : Bool) → lead_by k n ≡ 0 ∷ [] → k ≡ false
 lead_primitive true n e = absurd (cc)
 lead_primitive false n e = refl
 
-unused_state : (w : WalkerState) (b : List ℕ) (past : List EventValue) (s : Zipper) (h : HeaderValue) → HasZipper w b past (with_tail s (BeforeUnused h)) → IsOpen (place_of w.framing s) (Awaiting h)
+unused_state : (w : WalkerState) (b : List ℕ) (past : List EventValue) (s : Zipper) (h : HeaderValue) → HasZipper w b past (with_tail s (BeforeUnused h)) → IsOpen (place_of w.framing s) (OpenBitString h)
     → HasZipper (record w { phase = phase.Between; offset = w.offset + 1; events = w.events + 1 }) (b ++ 0 ∷ []) (past ++ Unused ∷ [])
-    (record { layers = record { before = s.here; head = h } ∷ s.layers; here = Stop; tail = Between })
+    (record { layers = record { before = s.here; header = h } ∷ s.layers; here = NoMore; tail = Between })
 unused_state w b past s h has a =
     let k : h.constructed ≡ false = lead_primitive h.constructed (eqb h.number 3) a.1 in
     record {
@@ -221,13 +221,13 @@ yields_unused w e = record {
 
 -- more octets of a header
 pub front_state : (w : WalkerState) (b : List ℕ) (past : List EventValue) (s : Zipper) (r q : HeadReaderState) (t : List ℕ) → AtHeader w b past s r → q.octets ≡ r.octets ++ t → q.offset ≡ r.offset
-    → q.named ≡ r.named → (q.octets ≡ [] → ⊥) → IsFront q.octets → Within (bound_of w.stack) (q.offset + length q.octets)
+    → q.named ≡ r.named → (q.octets ≡ [] → ⊥) → IsFront q.octets → IsWithin (bound_of w.stack) (q.offset + length q.octets)
     → HasZipper (record w { phase = phase.InHeader q; offset = q.offset + length q.octets; has_element = true }) (b ++ t) (past ++ []) (with_tail s (InHeader q.octets))
 front_state w b past s r q t at o f n some front fits =
     let bound : bound_of w.stack ≡ (place_in w.framing s.layers).bound = ap bound_of at.stack ∙ sym (place-bound w.framing s.layers) in
     let place : q.offset ≡ (place_of w.framing s).at = f ∙ at.offset in
     record {
-      spelled = spelled_behind s.layers s.here (spell_tail s.tail) q.octets t b (o ∙ ap (λ (x : List ℕ). x ++ t) (sym at.octets)) at.has.spelled;
+      spelled = spelled_behind s.layers s.here (spelling_of_tail s.tail) q.octets t b (o ∙ ap (λ (x : List ℕ). x ++ t) (sym at.octets)) at.has.spelled;
       offset = omega (arith, f, at.offset, ap length o, ap length at.octets, length-append r.octets t, length-append b t, at.has.offset, place-offset w b past s at.has);
       stack = at.stack;
       layers = at.has.layers;
@@ -239,7 +239,7 @@ front_state w b past s r q t at o f n some front fits =
         (
           some,
           front,
-          subst (λ (m : ℕ). Within (place_in w.framing s.layers).bound (m + length q.octets)) place (subst (λ (x : Option ℕ). Within x (q.offset + length q.octets)) bound fits),
+          subst (λ (m : ℕ). IsWithin (place_in w.framing s.layers).bound (m + length q.octets)) place (subst (λ (x : Option ℕ). IsWithin x (q.offset + length q.octets)) bound fits),
         ),
       );
       same_events = past_behind past s.layers s.here [] [] [] (quiet_past w b past s r at) refl;

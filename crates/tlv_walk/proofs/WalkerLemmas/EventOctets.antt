@@ -11,10 +11,10 @@ use Rattle.tlv_walk.specs.Phase.{Phase}
 use Rattle.tlv_walk.specs.Phase as phase
 use Rattle.tlv_walk.specs.DriveJob.{event_octets}
 use Rattle.tlv_walk.specs.Events.{AreEqualJoined, Begin, Bytes, Close, End, Enter, EventValue, Leave, Open, Pad, Unused, closing_event, end_offset, events, opening_events, single_octets}
-use Rattle.tlv_walk.specs.Forest.{Forest, Stop, Fill, Whole, Closed, Partial, Entered, Awaiting, Begun, Zero, end_octets, extent, is_complete, lead, opening, spell}
+use Rattle.tlv_walk.specs.Forest.{Forest, NoMore, PaddingOctet, Primitive, Holder, OpenPrimitive, OpenHolder, OpenBitString, OpenHeader, OpenEndOctets, end_octets, extent, is_complete, lead, opening, spelling}
 use Rattle.tlv_walk.specs.WalkerState.{IsAfterEvent, WalkerState}
-use Rattle.tlv_walk.specs.Place.{IsHeadAt, IsOpen, Place, place_after, place_of_children}
-use Rattle.tlv_walk.specs.Private.Zipper.{AreLayers, BeforeUnused, Between, HasZipper, InContents, InEnd, InHeader, IsPhaseOf, Layer, Tail, Zipper, events_layers, events_tail, events_zipper, place_in, place_of, spell_layers, spell_tail}
+use Rattle.tlv_walk.specs.Place.{IsHeaderAt, IsOpen, Place, place_after, place_of_children}
+use Rattle.tlv_walk.specs.Private.Zipper.{AreLayers, BeforeUnused, Between, HasZipper, InContents, InEnd, InHeader, IsPhaseOf, Layer, Tail, Zipper, events_of_layers, events_of_tail, events_of_zipper, place_in, place_of, spelling_of_layers, spelling_of_tail}
 use Rattle.tlv_walk.specs.Stands.{Stands}
 use Rattle.tlv_walk.proofs.EventLemmas.Joined.{apart-from_joined}
 
@@ -74,11 +74,11 @@ octets_close : (size : Size) (at : ℕ) → event_octets (Close (end_offset size
 octets_close (Definite n) at = refl
 octets_close Indefinite at = refl
 
-octets_closes : (p : Place) (h : HeaderValue) (inside : Forest) → IsHeadAt p true h → event_octets (closing_event h inside) ≡ end_octets h.size
+octets_closes : (p : Place) (h : HeaderValue) (inside : Forest) → IsHeaderAt p true h → event_octets (closing_event h inside) ≡ end_octets h.size
 octets_closes p h inside i = elim (cases_Bool h.constructed) [
-  | inl c ↦ ap event_octets (ap (λ (k : Bool). if k then Close (end_offset h.size (h.offset + length (opening h) + length (spell inside))) else Leave) c) ∙ octets_close h.size _
+  | inl c ↦ ap event_octets (ap (λ (k : Bool). if k then Close (end_offset h.size (h.offset + length (opening h) + length (spelling inside))) else Leave) c) ∙ octets_close h.size _
   | inr c ↦
-      ap event_octets (ap (λ (k : Bool). if k then Close (end_offset h.size (h.offset + length (opening h) + length (spell inside))) else Leave) c)
+      ap event_octets (ap (λ (k : Bool). if k then Close (end_offset h.size (h.offset + length (opening h) + length (spelling inside))) else Leave) c)
       ∙ sym (no_end_octets h.constructed h.size i.valid.allowed c)
 ]
 
@@ -86,39 +86,39 @@ octets_append : (xs ys : List EventValue) → flat_map event_octets (xs ++ ys) �
 octets_append xs ys = flat_map-append event_octets xs ys
 
 -- of whole elements
-octets_whole : (p : Place) (f : Forest) → IsOpen p f → is_complete f ≡ true → flat_map event_octets (events f) ≡ spell f
-octets_whole p Stop o e = refl
-octets_whole p (Fill rest) o e = ap (λ (l : List ℕ). 0 ∷ l) (octets_whole (place_after p 1) rest o.1 e)
-octets_whole p (Whole h c rest) o e = ap (λ (l : List ℕ). octets_of h ++ (c ++ l)) (octets_whole (place_after p (length (octets_of h) + length c)) rest o.1 e)
-octets_whole p (Closed h inside rest) o e =
+octets_whole : (p : Place) (f : Forest) → IsOpen p f → is_complete f ≡ true → flat_map event_octets (events f) ≡ spelling f
+octets_whole p NoMore o e = refl
+octets_whole p (PaddingOctet rest) o e = ap (λ (l : List ℕ). 0 ∷ l) (octets_whole (place_after p 1) rest o.1 e)
+octets_whole p (Primitive h c rest) o e = ap (λ (l : List ℕ). octets_of h ++ (c ++ l)) (octets_whole (place_after p (length (octets_of h) + length c)) rest o.1 e)
+octets_whole p (Holder h inside rest) o e =
     octets_append (opening_events h) (events inside ++ closing_event h inside ∷ events rest)
     ∙ ap (λ (l : List ℕ). l ++ flat_map event_octets (events inside ++ closing_event h inside ∷ events rest)) (octets_opens h)
     ∙ ap (λ (l : List ℕ). opening h ++ l) (
     octets_append (events inside) (closing_event h inside ∷ events rest)
     ∙ ap (λ (l : List ℕ). l ++ flat_map event_octets (closing_event h inside ∷ events rest)) (octets_whole (place_of_children p h) inside o.1 o.0.1)
-    ∙ ap (λ (l : List ℕ). spell inside ++ (l ++ flat_map event_octets (events rest))) (octets_closes p h inside o.0.0.header)
-    ∙ ap (λ (l : List ℕ). spell inside ++ (end_octets h.size ++ l)) (octets_whole (place_after p (extent h inside)) rest o.2 e)
+    ∙ ap (λ (l : List ℕ). spelling inside ++ (l ++ flat_map event_octets (events rest))) (octets_closes p h inside o.0.0.header)
+    ∙ ap (λ (l : List ℕ). spelling inside ++ (end_octets h.size ++ l)) (octets_whole (place_after p (extent h inside)) rest o.2 e)
     )
-octets_whole p (Partial h c) o e = absurd (true≢false (sym e))
-octets_whole p (Entered h inside) o e = absurd (true≢false (sym e))
-octets_whole p (Awaiting h) o e = absurd (true≢false (sym e))
-octets_whole p (Begun octets) o e = absurd (true≢false (sym e))
-octets_whole p Zero o e = absurd (true≢false (sym e))
+octets_whole p (OpenPrimitive h c) o e = absurd (true≢false (sym e))
+octets_whole p (OpenHolder h inside) o e = absurd (true≢false (sym e))
+octets_whole p (OpenBitString h) o e = absurd (true≢false (sym e))
+octets_whole p (OpenHeader octets) o e = absurd (true≢false (sym e))
+octets_whole p OpenEndOctets o e = absurd (true≢false (sym e))
 
 -- ---- of what a walker stands for
 
-octets_layers : (w : Framing) (ls : List Layer) → AreLayers w ls → flat_map event_octets (events_layers ls) ≡ spell_layers ls
+octets_layers : (w : Framing) (ls : List Layer) → AreLayers w ls → flat_map event_octets (events_of_layers ls) ≡ spelling_of_layers ls
 octets_layers w [] a = refl
 octets_layers w (l ∷ ls) a =
-    octets_append (events_layers ls) (events l.before ++ opening_events l.head)
-    ∙ ap (λ (t : List ℕ). t ++ flat_map event_octets (events l.before ++ opening_events l.head)) (octets_layers w ls a.0)
-    ∙ ap (λ (t : List ℕ). spell_layers ls ++ t) (
-    octets_append (events l.before) (opening_events l.head)
-    ∙ ap (λ (t : List ℕ). t ++ flat_map event_octets (opening_events l.head)) (octets_whole (place_in w ls) l.before a.1.is_open a.1.whole)
-    ∙ ap (λ (t : List ℕ). spell l.before ++ t) (octets_opens l.head)
+    octets_append (events_of_layers ls) (events l.before ++ opening_events l.header)
+    ∙ ap (λ (t : List ℕ). t ++ flat_map event_octets (events l.before ++ opening_events l.header)) (octets_layers w ls a.0)
+    ∙ ap (λ (t : List ℕ). spelling_of_layers ls ++ t) (
+    octets_append (events l.before) (opening_events l.header)
+    ∙ ap (λ (t : List ℕ). t ++ flat_map event_octets (opening_events l.header)) (octets_whole (place_in w ls) l.before a.1.is_open a.1.whole)
+    ∙ ap (λ (t : List ℕ). spelling l.before ++ t) (octets_opens l.header)
     )
 
-octets_tail : (f : Phase) (t : Tail) (p : Place) → IsPhaseOf f t p → IsAfterEvent f → flat_map event_octets (events_tail t) ≡ spell_tail t
+octets_tail : (f : Phase) (t : Tail) (p : Place) → IsPhaseOf f t p → IsAfterEvent f → flat_map event_octets (events_of_tail t) ≡ spelling_of_tail t
 octets_tail phase.Between Between p i k = refl
 octets_tail (phase.InHeader r) (InHeader octets) p i k = absurd k
 octets_tail (phase.InContents left) (InContents h c) p i k = ap (λ (l : List ℕ). octets_of h ++ l) (append-nil c)
@@ -131,12 +131,12 @@ pub stands-past_octets : (w : WalkerState) (b : List ℕ) (past : List EventValu
 stands-past_octets w b past st k =
     let s : Zipper = st.private_state.state in
     let h : HasZipper w b past s = st.private_state.has_state in
-    octets_joined past (events_zipper s) h.same_events
-    ∙ octets_append (events_layers s.layers) (events s.here ++ events_tail s.tail)
-    ∙ ap (λ (t : List ℕ). t ++ flat_map event_octets (events s.here ++ events_tail s.tail)) (octets_layers w.framing s.layers h.layers)
-    ∙ ap (λ (t : List ℕ). spell_layers s.layers ++ t) (
-    octets_append (events s.here) (events_tail s.tail)
-    ∙ ap (λ (t : List ℕ). t ++ flat_map event_octets (events_tail s.tail)) (octets_whole (place_in w.framing s.layers) s.here h.here.is_open h.here.whole)
-    ∙ ap (λ (t : List ℕ). spell s.here ++ t) (octets_tail w.phase s.tail (place_of w.framing s) h.phase k)
+    octets_joined past (events_of_zipper s) h.same_events
+    ∙ octets_append (events_of_layers s.layers) (events s.here ++ events_of_tail s.tail)
+    ∙ ap (λ (t : List ℕ). t ++ flat_map event_octets (events s.here ++ events_of_tail s.tail)) (octets_layers w.framing s.layers h.layers)
+    ∙ ap (λ (t : List ℕ). spelling_of_layers s.layers ++ t) (
+    octets_append (events s.here) (events_of_tail s.tail)
+    ∙ ap (λ (t : List ℕ). t ++ flat_map event_octets (events_of_tail s.tail)) (octets_whole (place_in w.framing s.layers) s.here h.here.is_open h.here.whole)
+    ∙ ap (λ (t : List ℕ). spelling s.here ++ t) (octets_tail w.phase s.tail (place_of w.framing s) h.phase k)
     )
     ∙ h.spelled

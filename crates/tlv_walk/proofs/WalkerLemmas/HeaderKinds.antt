@@ -12,13 +12,13 @@ use Rattle.tlv_walk.specs.declared.event.HeaderKind.TheVariants as kind
 use Rattle.tlv_walk.specs.Phase.{Phase}
 use Rattle.tlv_walk.specs.Phase as phase
 use Rattle.tlv_walk.specs.Events.{Begin, Enter, EventValue, Open}
-use Rattle.tlv_walk.specs.Forest.{Stop, lead}
+use Rattle.tlv_walk.specs.Forest.{NoMore, lead}
 use Rattle.tlv_walk.specs.WalkerState.{WalkerState}
 use Rattle.tlv_walk.specs.Private.Stack.{frame_with}
 use Rattle.tlv_walk.specs.Private.WalkerState.{CanEnter, Enters, after_header, next_wrapper, wrappers_after}
 use Rattle.tlv_walk.specs.Wrappers.{wrapper_offsets}
 use Rattle.tlv_walk.specs.Inside.{is_among}
-use Rattle.tlv_walk.specs.Stack.{Frame, Within, bound_of}
+use Rattle.tlv_walk.specs.Stack.{Frame, IsWithin, bound_of}
 use Rattle.tlv_walk.specs.Private.Steps.{Continues}
 use Rattle.tlv_head.specs.ReadHeader.{BeginsWithFields}
 use Rattle.tlv_head.specs.Refusal.{BeginsWith}
@@ -64,7 +64,7 @@ or-right a b e f = ap (λ (x : Bool). x || b) e ∙ f
 
 -- the state inside an element that has just begun
 abbrev inside_state : Zipper → HeaderValue → Zipper
-inside_state s h = record { layers = record { before = s.here; head = h } ∷ s.layers; here = Stop; tail = Between }
+inside_state s h = record { layers = record { before = s.here; header = h } ∷ s.layers; here = NoMore; tail = Between }
 
 constructed_enters : (w : WalkerState) (b : List ℕ) (past : List EventValue) (s : Zipper) (r : HeadReaderState) (t : List ℕ) (h : HeaderValue) → AtHeader w b past s r → Completed w r t h → h.constructed ≡ true
     → (u : Zipper) × HasZipper (entered_machine w h phase.Between w.wrapper_count) (b ++ t) (past ++ Open h ∷ []) u
@@ -129,7 +129,7 @@ enters_found w v f o at kind.Wrapper e = ap (λ (m : WalkerState). m.wrapper_cou
 -- octets that begin with a header, at a walker between elements
 pub fast_enters : (w v : WalkerState) (piece : List ℕ) (named : Bool) (f : HeaderFields) (count : ℕ) (o : List ℕ) (k : HeaderKind) → w.phase ≡ phase.Between
     → BeginsWithFields piece w.offset named f count → o ≡ take count piece → named ≡ is_among w.offset w.framing.inside
-    → (holds (header_with f o) ≡ true → length w.stack < 128) → Within (bound_of w.stack) (f.offset + length o + announced_length f.size)
+    → (holds (header_with f o) ≡ true → length w.stack < 128) → IsWithin (bound_of w.stack) (f.offset + length o + announced_length f.size)
     → Enters w v f (f.offset + length o) k → Continues w v o (event_of k (header_with f o) ∷ [])
 fast_enters w v piece named f count o k e begins front name shallow fits enter =
     let h : HeaderValue = header_with f o in
@@ -142,7 +142,7 @@ fast_enters w v piece named f count o k e begins front name shallow fits enter =
       offset = begins'.offset;
       named = begins'.named;
       shallow = shallow;
-      fits = subst (λ (x : List ℕ). Within (bound_of w.stack) (f.offset + length x + announced_length f.size)) (sym whole) fits;
+      fits = subst (λ (x : List ℕ). IsWithin (bound_of w.stack) (f.offset + length x + announced_length f.size)) (sym whole) fits;
     } in
     record {
       framing = enters_framing w v f (f.offset + length o) k enter;
@@ -155,7 +155,7 @@ fast_enters w v piece named f count o k e begins front name shallow fits enter =
 -- such a header may stand there
 pub fast_may_enter : (w : WalkerState) (piece : List ℕ) (named : Bool) (f : HeaderFields) (count : ℕ) (o : List ℕ) → BeginsWithFields piece w.offset named f count → o ≡ take count piece
     → w.events + length w.stack ≤ w.offset → w.offset + length piece ≤ 2 ^ 40 → (holds (header_with f o) ≡ true → length w.stack < 128)
-    → Within (bound_of w.stack) (f.offset + length o + announced_length f.size) → CanEnter w (header_with f o)
+    → IsWithin (bound_of w.stack) (f.offset + length o + announced_length f.size) → CanEnter w (header_with f o)
 fast_may_enter w piece named f count o begins front fewer limit shallow fits =
     let h : HeaderValue = header_with f o in
     let whole : octets_of h ≡ o = take-append-drop f.id_len o in
@@ -166,7 +166,7 @@ fast_may_enter w piece named f count o begins front fewer limit shallow fits =
       fewer = omega (arith, there);
       limit = omega (arith, there, ap length whole, ap length front, length-take count piece);
       shallow = shallow;
-      fits = subst (λ (x : List ℕ). Within (bound_of w.stack) (f.offset + length x + announced_length f.size)) (sym whole) fits;
+      fits = subst (λ (x : List ℕ). IsWithin (bound_of w.stack) (f.offset + length x + announced_length f.size)) (sym whole) fits;
     }
 
 -- a constructed header begins a constructed element

@@ -13,13 +13,13 @@ use Rattle.tlv_head.specs.Push.{Completes, IsRefusedPush}
 use Rattle.tlv_head.proofs.Front.{header-two}
 use Rattle.tlv_walk.specs.Phase as phase
 use Rattle.tlv_walk.specs.Ending.{IsEnding, IsFault, fault, no_room, overrun, refused_octet, too_deep}
-use Rattle.tlv_walk.specs.Forest.{Begun}
+use Rattle.tlv_walk.specs.Forest.{OpenHeader}
 use Rattle.tlv_walk.specs.Events.{EventValue}
 use Rattle.tlv_walk.specs.Inside.{is_among}
 use Rattle.tlv_walk.specs.WalkerState.{WalkerState}
-use Rattle.tlv_walk.specs.Place.{Fits, IsHeadAt, Place}
+use Rattle.tlv_walk.specs.Place.{Fits, IsHeaderAt, Place}
 use Rattle.tlv_walk.specs.Private.ReadsOn.{HandsOver}
-use Rattle.tlv_walk.specs.Stack.{Frame, Within, bound_of}
+use Rattle.tlv_walk.specs.Stack.{Frame, IsWithin, bound_of}
 use Rattle.tlv_walk.specs.Private.Stack.{left_to}
 use Rattle.tlv_walk.specs.Private.Zipper.{HasZipper, InHeader, Zipper, place_of}
 use Rattle.tlv_walk.specs.Private.Steps.{RefusesOctet}
@@ -61,7 +61,7 @@ refused-some code r x room depth k some e = refused-behind r.octets x code k.1 e
 -- ---- what a reader refuses is a fault there
 
 -- the contents end past the bound
-past_bound : (size : Size) (b : Option ℕ) (n m : ℕ) → (ContentsFit size (left_to b n) → ⊥) → n + 1 + announced_length size ≤ m → Within b m → ⊥
+past_bound : (size : Size) (b : Option ℕ) (n m : ℕ) → (ContentsFit size (left_to b n) → ⊥) → n + 1 + announced_length size ≤ m → IsWithin b m → ⊥
 past_bound (Definite k) None n m past h f = past tt
 past_bound Indefinite None n m past h f = past tt
 past_bound (Definite k) (Some b) n m past h f = past (omega arith)
@@ -73,10 +73,10 @@ pub record IsReader (p : Place) (q : HeadReaderState) (room : Option ℕ) (depth
   pub named : q.named ≡ is_among p.at p.inside
   pub depths : depth ≡ p.depth
   pub left : room ≡ left_to p.bound (p.at + length q.octets)
-  pub within : Within p.bound (p.at + length q.octets)
+  pub within : IsWithin p.bound (p.at + length q.octets)
 
 -- a header that its octets make
-header_there : (p : Place) (q : HeadReaderState) (room : Option ℕ) (depth x : ℕ) (h : HeaderValue) (t : Bool) → holds h ≡ t → IsReader p q room depth → Completes q x h → IsHeadAt p t h
+header_there : (p : Place) (q : HeadReaderState) (room : Option ℕ) (depth x : ℕ) (h : HeaderValue) (t : Bool) → holds h ≡ t → IsReader p q room depth → Completes q x h → IsHeaderAt p t h
 header_there p q room depth x h t e k c = record { valid = c.valid; offset = c.offset ∙ k.offset; named = c.named ∙ k.named; form = e }
 
 -- there is room
@@ -84,7 +84,7 @@ room_there : (p : Place) (q : HeadReaderState) (room : Option ℕ) (depth : ℕ)
 room_there p q room depth k some = left_some p.bound (p.at + length q.octets) (p.at + (length q.octets + 1)) (λ e. some (k.left ∙ e)) (omega arith)
 
 -- each cause of a reader is a line of the faults
-pub refused_fault : (p : Place) (q : HeadReaderState) (room : Option ℕ) (depth x : ℕ) (code : FaultCode) → IsReader p q room depth → IsRefusedPush code q x room depth → IsFault p x (Begun q.octets) code
+pub refused_fault : (p : Place) (q : HeadReaderState) (room : Option ℕ) (depth x : ℕ) (code : FaultCode) → IsReader p q room depth → IsRefusedPush code q x room depth → IsFault p x (OpenHeader q.octets) code
 refused_fault p q room depth x Overrun k (inl none) =
     no_room (left_none p.bound (p.at + length q.octets) (p.at + (length q.octets + 1)) (sym k.left ∙ none) (omega arith))
 refused_fault p q room depth x Overrun k (inr past) =
@@ -117,7 +117,7 @@ reader_there w b past s q depth e has d =
 
 -- the octet that its reader refuses
 pub refuses_header : (w u : WalkerState) (r q : HeadReaderState) (before after rest : List ℕ) (x depth at : ℕ) (f : Fault) → HandsOver w u r → HasTaken r q before after → after ≡ x ∷ rest
-    → Within (bound_of u.stack) at → q.offset + length q.octets ≡ at → depth ≡ length u.stack
+    → IsWithin (bound_of u.stack) at → q.offset + length q.octets ≡ at → depth ≡ length u.stack
     → (q.octets ≡ [] → left_to (bound_of u.stack) at ≢ Some 0) → IsRefusedPush f.code q x (left_to (bound_of u.stack) at) depth → f.offset ≡ q.offset + length q.octets
     → RefusesOctet w before after f
 refuses_header w u r q before after rest x depth at f over k e within place deep room refused there =
@@ -128,13 +128,13 @@ refuses_header w u r q before after rest x depth at f over k e within place deep
       before_is = k.piece ∙ ap (λ (l : List ℕ). k.taken ++ l) e;
       after_is = e;
       refuses = λ b past s has.
-          let t : TakenState w u q k.taken b past = taken_state w u r q before after over k some (subst (Within (bound_of u.stack)) (sym place) within) b past s has in
+          let t : TakenState w u q k.taken b past = taken_state w u r q before after over k some (subst (IsWithin (bound_of u.stack)) (sym place) within) b past s has in
           let has' : HasZipper (in_header w q) (b ++ k.taken) past (with_tail t.state (InHeader q.octets)) =
           subst (λ (es : List EventValue). HasZipper (in_header w q) (b ++ k.taken) es (with_tail t.state (InHeader q.octets))) (append-nil past) t.has in
           let same : u.stack ≡ w.stack = ap (λ (m : WalkerState). m.stack) t.same in
           let left : left_to (bound_of u.stack) at ≡ left_to (bound_of w.stack) (q.offset + length q.octets) =
           ap (λ (fs : List Frame). left_to (bound_of fs) at) same ∙ ap (left_to (bound_of w.stack)) (sym place) in
-          let faulty : IsFault (place_of w.framing t.state) x (Begun q.octets) f.code =
+          let faulty : IsFault (place_of w.framing t.state) x (OpenHeader q.octets) f.code =
           refused_fault _ q _ depth x f.code (reader_there (in_header w q) (b ++ k.taken) past t.state q depth refl has' (deep ∙ ap length same))
           (subst (λ (o : Option ℕ). IsRefusedPush f.code q x o depth) left refused) in record {
             walker = in_header w q;

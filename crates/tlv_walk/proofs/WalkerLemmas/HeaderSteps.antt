@@ -20,7 +20,7 @@ use Rattle.tlv_walk.specs.WalkerState.{WalkerState}
 use Rattle.tlv_walk.specs.Private.WalkerState.{CanEnter, Enters, wrappers_after}
 use Rattle.tlv_walk.specs.Wrappers.{wrapper_offsets}
 use Rattle.tlv_walk.specs.Private.ReadsOn.{CompletesHeader, HandsOver, YieldsHeader}
-use Rattle.tlv_walk.specs.Stack.{Within, bound_of}
+use Rattle.tlv_walk.specs.Stack.{IsWithin, bound_of}
 use Rattle.tlv_walk.specs.Private.Stack.{left_to}
 use Rattle.tlv_walk.specs.Private.Zipper.{Between, HasZipper, InHeader, IsPhaseOf, Zipper, place_of}
 use Rattle.tlv_walk.specs.Private.Steps.{Continues, YieldsEvent}
@@ -88,10 +88,10 @@ pub record TakenState (w u : WalkerState) (q : HeadReaderState) (t b : List ℕ)
   pub same : u ≡ record w { phase = phase.Between; has_element = true }
 
 pub taken_state : (w u : WalkerState) (r q : HeadReaderState) (before after : List ℕ) → HandsOver w u r → (k : HasTaken r q before after) → (q.octets ≡ [] → ⊥)
-    → Within (bound_of u.stack) (q.offset + length q.octets) → (b : List ℕ) (past : List EventValue) (s : Zipper) → HasZipper w b past s → TakenState w u q k.taken b past
+    → IsWithin (bound_of u.stack) (q.offset + length q.octets) → (b : List ℕ) (past : List EventValue) (s : Zipper) → HasZipper w b past s → TakenState w u q k.taken b past
 taken_state w u r q before after over k some fits b past s has =
     let h = handed w u r over b past s has in
-    let within : Within (bound_of w.stack) (q.offset + length q.octets) = subst (λ (m : WalkerState). Within (bound_of m.stack) (q.offset + length q.octets)) h.2 fits in
+    let within : IsWithin (bound_of w.stack) (q.offset + length q.octets) = subst (λ (m : WalkerState). IsWithin (bound_of m.stack) (q.offset + length q.octets)) h.2 fits in
     record { state = h.0; has = front_state w b past h.0 r q k.taken h.1 k.octets k.offset k.named some (front_taken k.front) within; same = h.2 }
   where
     front_taken : (q.octets ≡ r.octets) ⊎ IsFront q.octets → IsFront q.octets
@@ -109,12 +109,12 @@ handed_wrappers w u r (inr h) = ap (λ (m : WalkerState). m.wrapper_count) h.1
 
 -- the piece is used up inside a header
 pub yields_unfinished : (w u : WalkerState) (r q : HeadReaderState) (before : List ℕ) (at : ℕ) → HandsOver w u r → HasTaken r q before [] → (q.octets ≡ [] → ⊥) → q.offset + length q.octets ≡ at
-    → Within (bound_of u.stack) at → Continues w (record u { phase = phase.InHeader q; offset = at }) before []
+    → IsWithin (bound_of u.stack) at → Continues w (record u { phase = phase.InHeader q; offset = at }) before []
 yields_unfinished w u r q before at over k some e fits = record {
   framing = handed_framing w u r over;
   found = handed_wrappers w u r over;
   goes = λ b past s has.
-      let t : TakenState w u q k.taken b past = taken_state w u r q before [] over k some (subst (Within (bound_of u.stack)) (sym e) fits) b past s has in
+      let t : TakenState w u q k.taken b past = taken_state w u r q before [] over k some (subst (IsWithin (bound_of u.stack)) (sym e) fits) b past s has in
       let new : in_header w q ≡ record u { phase = phase.InHeader q; offset = at } =
       ap (λ (n : ℕ). record w { phase = phase.InHeader q; offset = n; has_element = true }) e ∙ ap (λ (m : WalkerState). record m { phase = phase.InHeader q; offset = at }) (sym t.same) in
       let all : k.taken ≡ before = sym (k.piece ∙ append-nil k.taken) in (
@@ -171,7 +171,7 @@ first_octet [] h = absurd (omega arith)
 first_octet (x ∷ p) h = ap (λ (l : List ℕ). x ∷ l) (sym (take_all (length (x ∷ p) - 1) p (omega arith)))
 
 -- an octet below the bound
-pub within_next : (b : Option ℕ) (n : ℕ) → Within b n → left_to b n ≢ Some 0 → Within b (n + 1)
+pub within_next : (b : Option ℕ) (n : ℕ) → IsWithin b n → left_to b n ≢ Some 0 → IsWithin b (n + 1)
 within_next None n h some = tt
 within_next (Some m) n h some = elim (cases_eq m n) [
   | inl e ↦ let z : m - n ≡ 0 = omega arith in absurd (some (ap Some z))
@@ -179,7 +179,7 @@ within_next (Some m) n h some = elim (cases_eq m n) [
 ]
 
 -- contents that fit after it
-within_announced : (size : Size) (b : Option ℕ) (n : ℕ) → ContentsFit size (left_to b n) → Within b (n + 1 + announced_length size)
+within_announced : (size : Size) (b : Option ℕ) (n : ℕ) → ContentsFit size (left_to b n) → IsWithin b (n + 1 + announced_length size)
 within_announced (Definite k) None n h = tt
 within_announced (Definite k) (Some m) n h = omega (arith, h)
 within_announced Indefinite None n h = tt
@@ -195,7 +195,7 @@ whole_enters u q x depth at h fewer place limit deep c f =
       fewer = omega (arith, c.offset);
       limit = omega arith;
       shallow = λ e. subst (λ (n : ℕ). n < 128) deep (f.shallow e);
-      fits = subst (λ (n : ℕ). Within (bound_of u.stack) (n + announced_length h.size)) (sym end) (within_announced h.size (bound_of u.stack) at f.within);
+      fits = subst (λ (n : ℕ). IsWithin (bound_of u.stack) (n + announced_length h.size)) (sym end) (within_announced h.size (bound_of u.stack) at f.within);
     }
 
 -- and the walker yields it

@@ -7,20 +7,20 @@ use Rattle.tlv_head.specs.Header.{HeaderValue, octets_of}
 use Rattle.tlv_walk.specs.Phase.{Phase}
 use Rattle.tlv_walk.specs.Phase as phase
 use Rattle.tlv_walk.specs.Events.{AreEqualJoined, Begin, Bytes, End, EventValue, events, single_octets}
-use Rattle.tlv_walk.specs.Forest.{Forest, Stop, Fill, Whole, Closed, Partial, Entered, Awaiting, Begun, Zero, has_element, is_complete, spell}
+use Rattle.tlv_walk.specs.Forest.{Forest, NoMore, PaddingOctet, Primitive, Holder, OpenPrimitive, OpenHolder, OpenBitString, OpenHeader, OpenEndOctets, has_element, is_complete, spelling}
 use Rattle.tlv_walk.specs.declared.framing.Framing.{Framing}
 use Rattle.tlv_walk.specs.WalkerState.{WalkerState}
 use Rattle.tlv_walk.specs.Private.WalkerState.{next_wrapper, wrappers_after}
 use Rattle.tlv_walk.specs.Wrappers.{wrapper_offsets}
 use Rattle.tlv_walk.proofs.EventLemmas.Wrappers.{enters-append}
 use Rattle.tlv_walk.specs.Place.{Fits, IsOpen, Place, is_indefinite, place_after}
-use Rattle.tlv_walk.specs.Stack.{Frame, IsInIndefinite, Within, bound_of}
-use Rattle.tlv_walk.specs.Private.Zipper.{AreWhole, BeforeUnused, Between, HasZipper, InContents, InEnd, InHeader, IsContents, IsPhaseOf, Layer, Tail, Zipper, begins_among, events_layers, frames_of, place_in, place_of, spell_layers}
+use Rattle.tlv_walk.specs.Stack.{Frame, IsInIndefinite, IsWithin, bound_of}
+use Rattle.tlv_walk.specs.Private.Zipper.{AreWhole, BeforeUnused, Between, HasZipper, InContents, InEnd, InHeader, IsContents, IsPhaseOf, Layer, Tail, Zipper, begins_among, events_of_layers, frames_of, place_in, place_of, spelling_of_layers}
 use Rattle.tlv_walk.specs.Private.Steps.{Continues}
 use Rattle.tlv_walk.proofs.EventLemmas.Joined.{apart-before, apart-from_joined, apart-more, joined-from_apart}
 use Rattle.tlv_walk.proofs.GrammarLemmas.Spellings.{append_assoc-3}
 use Rattle.tlv_walk.proofs.WalkerLemmas.Places.{indefinite-size, place-offset}
-use Rattle.tlv_walk.proofs.WalkerLemmas.Zipper.{behind, open-behind, spell-behind, whole-behind}
+use Rattle.tlv_walk.proofs.WalkerLemmas.Zipper.{behind, open-behind, spelling-behind, whole-behind}
 use Rattle.tlv_walk.proofs.WalkerLemmas.ZipperEvents.{events-behind}
 
 -- events yielded one after another
@@ -53,45 +53,45 @@ continues_both u v w s t d e f g = record {
 }
 
 -- the events of a state, if the open end goes on
-pub past_behind : (past : List EventValue) (ls : List Layer) (here : Forest) (old new more : List EventValue) → AreEqualJoined past (events_layers ls ++ (events here ++ old))
-    → single_octets new ≡ single_octets (old ++ more) → AreEqualJoined (past ++ more) (events_layers ls ++ (events here ++ new))
+pub past_behind : (past : List EventValue) (ls : List Layer) (here : Forest) (old new more : List EventValue) → AreEqualJoined past (events_of_layers ls ++ (events here ++ old))
+    → single_octets new ≡ single_octets (old ++ more) → AreEqualJoined (past ++ more) (events_of_layers ls ++ (events here ++ new))
 past_behind past ls here old new more h e =
-    past_more past (events_layers ls ++ (events here ++ old)) more (events_layers ls ++ (events here ++ new)) h
-    (apart-more (events_layers ls) (events here ++ new) (events here ++ old) more (apart-more (events here) new old more e))
+    past_more past (events_of_layers ls ++ (events here ++ old)) more (events_of_layers ls ++ (events here ++ new)) h
+    (apart-more (events_of_layers ls) (events here ++ new) (events here ++ old) more (apart-more (events here) new old more e))
 
 -- its octets likewise
-pub spelled_behind : (ls : List Layer) (here : Forest) (old new t b : List ℕ) → new ≡ old ++ t → spell_layers ls ++ (spell here ++ old) ≡ b
-    → spell_layers ls ++ (spell here ++ new) ≡ b ++ t
+pub spelled_behind : (ls : List Layer) (here : Forest) (old new t b : List ℕ) → new ≡ old ++ t → spelling_of_layers ls ++ (spelling here ++ old) ≡ b
+    → spelling_of_layers ls ++ (spelling here ++ new) ≡ b ++ t
 spelled_behind ls here old new t b e f =
-    ap (λ (s : List ℕ). spell_layers ls ++ (spell here ++ s)) e ∙ (sym (append_assoc-3 (spell_layers ls) (spell here) old t) ∙ ap (λ (s : List ℕ). s ++ t) f)
+    ap (λ (s : List ℕ). spelling_of_layers ls ++ (spelling here ++ s)) e ∙ (sym (append_assoc-3 (spelling_of_layers ls) (spelling here) old t) ∙ ap (λ (s : List ℕ). s ++ t) f)
 
 -- the same, if the open end is whole now
-pub past_whole : (past : List EventValue) (ls : List Layer) (here new : Forest) (old more : List EventValue) → is_complete here ≡ true → AreEqualJoined past (events_layers ls ++ (events here ++ old))
-    → single_octets (events new) ≡ single_octets (old ++ more) → AreEqualJoined (past ++ more) (events_layers ls ++ (events (behind here new) ++ []))
+pub past_whole : (past : List EventValue) (ls : List Layer) (here new : Forest) (old more : List EventValue) → is_complete here ≡ true → AreEqualJoined past (events_of_layers ls ++ (events here ++ old))
+    → single_octets (events new) ≡ single_octets (old ++ more) → AreEqualJoined (past ++ more) (events_of_layers ls ++ (events (behind here new) ++ []))
 past_whole past ls here new old more whole h e =
-    subst (λ (es : List EventValue). AreEqualJoined (past ++ more) (events_layers ls ++ es)) (sym (append-nil (events (behind here new)) ∙ events-behind here new whole))
+    subst (λ (es : List EventValue). AreEqualJoined (past ++ more) (events_of_layers ls ++ es)) (sym (append-nil (events (behind here new)) ∙ events-behind here new whole))
     (past_behind past ls here old (events new) more h e)
 
-pub spelled_whole : (ls : List Layer) (here more : Forest) (old t b : List ℕ) → is_complete here ≡ true → spell more ≡ old ++ t → spell_layers ls ++ (spell here ++ old) ≡ b
-    → spell_layers ls ++ (spell (behind here more) ++ []) ≡ b ++ t
+pub spelled_whole : (ls : List Layer) (here more : Forest) (old t b : List ℕ) → is_complete here ≡ true → spelling more ≡ old ++ t → spelling_of_layers ls ++ (spelling here ++ old) ≡ b
+    → spelling_of_layers ls ++ (spelling (behind here more) ++ []) ≡ b ++ t
 spelled_whole ls here more old t b whole e f =
-    ap (λ (s : List ℕ). spell_layers ls ++ s) (append-nil (spell (behind here more)) ∙ spell-behind here more whole) ∙ spelled_behind ls here old (spell more) t b e f
+    ap (λ (s : List ℕ). spelling_of_layers ls ++ s) (append-nil (spelling (behind here more)) ∙ spelling-behind here more whole) ∙ spelled_behind ls here old (spelling more) t b e f
 
 -- whole elements, and then one more
-pub are_whole : (p : Place) (here more : Forest) → AreWhole p here → IsOpen (place_after p (length (spell here))) more → is_complete more ≡ true → AreWhole p (behind here more)
+pub are_whole : (p : Place) (here more : Forest) → AreWhole p here → IsOpen (place_after p (length (spelling here))) more → is_complete more ≡ true → AreWhole p (behind here more)
 are_whole p here more h o w = record { is_open = open-behind p here more h o; whole = whole-behind here more h.whole ∙ w }
 
 -- an element came
 pub element-either : (f g : Forest) → is_complete f ≡ true → has_element (behind f g) ≡ (has_element f || has_element g)
-element-either Stop g e = refl
-element-either (Fill rest) g e = element-either rest g e
-element-either (Whole h c rest) g e = refl
-element-either (Closed h inside rest) g e = refl
-element-either (Partial h c) g e = absurd (cc)
-element-either (Entered h inside) g e = absurd (cc)
-element-either (Awaiting h) g e = absurd (cc)
-element-either (Begun octets) g e = absurd (cc)
-element-either Zero g e = absurd (cc)
+element-either NoMore g e = refl
+element-either (PaddingOctet rest) g e = element-either rest g e
+element-either (Primitive h c rest) g e = refl
+element-either (Holder h inside rest) g e = refl
+element-either (OpenPrimitive h c) g e = absurd (cc)
+element-either (OpenHolder h inside) g e = absurd (cc)
+element-either (OpenBitString h) g e = absurd (cc)
+element-either (OpenHeader octets) g e = absurd (cc)
+element-either OpenEndOctets g e = absurd (cc)
 
 pub began : (ls : List Layer) (here more : Forest) → is_complete here ≡ true → has_element more ≡ true → begins_among ls (behind here more) ≡ true
 began [] here more w e = element-either here more w ∙ (ap (λ (k : Bool). has_element here || k) e ∙ or-true (has_element here))
@@ -154,20 +154,20 @@ yields_contents w left t n e most len =
 -- the end of a primitive
 end_state : (w : WalkerState) (b : List ℕ) (past : List EventValue) (s : Zipper) (h : HeaderValue) (c : List ℕ) → HasZipper w b past (with_tail s (InContents h c)) → w.phase ≡ phase.InContents 0
     → HasZipper (record w { phase = phase.Between; events = w.events + 1 }) (b ++ []) (past ++ End ∷ [])
-    (record { layers = s.layers; here = behind s.here (Whole h c Stop); tail = Between })
+    (record { layers = s.layers; here = behind s.here (Primitive h c NoMore); tail = Between })
 end_state w b past s h c has e =
     let p : Place = place_of w.framing s in
     let k : IsContents p h c 0 = phase_at w b past _ _ e has in
     let same : length c + 0 ≡ length c = omega arith in
     record {
-      spelled = spelled_whole s.layers s.here (Whole h c Stop) (octets_of h ++ c) [] b has.here.whole (ap (λ (x : List ℕ). octets_of h ++ x) (append-nil c) ∙ sym (append-nil (octets_of h ++ c))) has.spelled;
+      spelled = spelled_whole s.layers s.here (Primitive h c NoMore) (octets_of h ++ c) [] b has.here.whole (ap (λ (x : List ℕ). octets_of h ++ x) (append-nil c) ∙ sym (append-nil (octets_of h ++ c))) has.spelled;
       offset = omega (arith, has.offset, ap length (append-nil b));
       stack = has.stack;
       layers = has.layers;
-      here = are_whole _ s.here (Whole h c Stop) has.here ((record { header = k.header; depth = λ e. absurd (cc (e)); fits = subst (λ (n : ℕ). Fits p (length (octets_of h) + n)) same k.fits }, k.size ∙ ap Definite same), tt) refl;
+      here = are_whole _ s.here (Primitive h c NoMore) has.here ((record { header = k.header; depth = λ e. absurd (cc (e)); fits = subst (λ (n : ℕ). Fits p (length (octets_of h) + n)) same k.fits }, k.size ∙ ap Definite same), tt) refl;
       phase = tt;
-      same_events = past_whole past s.layers s.here (Whole h c Stop) (Begin h ∷ Bytes c ∷ []) (End ∷ []) has.here.whole has.same_events refl;
-      element = has.element ∙ sym (began s.layers s.here (Whole h c Stop) has.here.whole refl);
+      same_events = past_whole past s.layers s.here (Primitive h c NoMore) (Begin h ∷ Bytes c ∷ []) (End ∷ []) has.here.whole has.same_events refl;
+      element = has.element ∙ sym (began s.layers s.here (Primitive h c NoMore) has.here.whole refl);
     }
 
 pub yields_end : (w : WalkerState) → w.phase ≡ phase.InContents 0 → Continues w (record w { phase = phase.Between; events = w.events + 1 }) [] (End ∷ [])
@@ -200,11 +200,11 @@ with_layers s ls t = record { layers = ls; here = s.here; tail = t }
 
 -- the innermost element closes
 abbrev pub closed_here : Layer → Forest → Forest
-closed_here l inside = behind l.before (Closed l.head inside Stop)
+closed_here l inside = behind l.before (Holder l.header inside NoMore)
 
 -- the first of the end-of-contents octets
 zero_state : (w : WalkerState) (b : List ℕ) (past : List EventValue) (s : Zipper) (l : Layer) (ls : List Layer)
-    → HasZipper w b past (record { layers = l ∷ ls; here = s.here; tail = Between }) → l.head.size ≡ Indefinite → Fits (place_after (place_in w.framing (l ∷ ls)) (length (spell s.here))) 1
+    → HasZipper w b past (record { layers = l ∷ ls; here = s.here; tail = Between }) → l.header.size ≡ Indefinite → Fits (place_after (place_in w.framing (l ∷ ls)) (length (spelling s.here))) 1
     → HasZipper (record w { phase = phase.InEnd; offset = w.offset + 1 }) (b ++ 0 ∷ []) (past ++ []) (record { layers = l ∷ ls; here = s.here; tail = InEnd })
 zero_state w b past s l ls has e f = record {
   spelled = spelled_behind (l ∷ ls) s.here [] (0 ∷ []) (0 ∷ []) b refl has.spelled;
@@ -217,7 +217,7 @@ zero_state w b past s l ls has e f = record {
   element = has.element;
 }
 
-pub yields_zero : (w : WalkerState) → w.phase ≡ phase.Between → IsInIndefinite w.stack → Within (bound_of w.stack) (w.offset + 1)
+pub yields_zero : (w : WalkerState) → w.phase ≡ phase.Between → IsInIndefinite w.stack → IsWithin (bound_of w.stack) (w.offset + 1)
     → Continues w (record w { phase = phase.InEnd; offset = w.offset + 1 }) (0 ∷ []) []
 yields_zero w e i f = record {
   framing = refl;
@@ -229,15 +229,15 @@ yields_zero w e i f = record {
 }
   where
     zero_from : (w : WalkerState) (b : List ℕ) (past : List EventValue) (s : Zipper) (ls : List Layer) → s.layers ≡ ls → HasZipper w b past (with_layers s ls Between) → IsInIndefinite w.stack
-        → Within (bound_of w.stack) (w.offset + 1) → (t : Zipper) × HasZipper (record w { phase = phase.InEnd; offset = w.offset + 1 }) (b ++ 0 ∷ []) (past ++ []) t
+        → IsWithin (bound_of w.stack) (w.offset + 1) → (t : Zipper) × HasZipper (record w { phase = phase.InEnd; offset = w.offset + 1 }) (b ++ 0 ∷ []) (past ++ []) t
     zero_from w b past s [] q has i f = absurd (subst IsInIndefinite has.stack i)
     zero_from w b past s (l ∷ ls) q has i f =
         let inside : IsInIndefinite (frames_of w.framing (l ∷ ls)) = subst IsInIndefinite has.stack i in
-        let fits : Within (place_in w.framing (l ∷ ls)).bound (w.offset + 1) = subst (λ (fs : List Frame). Within (bound_of fs) (w.offset + 1)) has.stack f in
+        let fits : IsWithin (place_in w.framing (l ∷ ls)).bound (w.offset + 1) = subst (λ (fs : List Frame). IsWithin (bound_of fs) (w.offset + 1)) has.stack f in
         let at : w.offset ≡ (place_of w.framing (with_layers s (l ∷ ls) Between)).at + 0 = place-offset w b past _ has in (
           _,
-          zero_state w b past s l ls has (indefinite-size l.head.size _ inside)
-              (subst (λ (n : ℕ). Within (place_in w.framing (l ∷ ls)).bound n) (omega (arith, at)) fits),
+          zero_state w b past s l ls has (indefinite-size l.header.size _ inside)
+              (subst (λ (n : ℕ). IsWithin (place_in w.framing (l ∷ ls)).bound n) (omega (arith, at)) fits),
         )
 
 -- all contents that are to come, and the end

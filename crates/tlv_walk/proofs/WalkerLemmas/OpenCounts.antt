@@ -4,7 +4,7 @@ use Rattle.std.proofs.lemmas.Bool.{true≢false}
 use Rattle.tlv_walk.specs.Stack.{Frame}
 use Rattle.tlv_walk.specs.declared.framing.Framing.{Framing}
 use Rattle.tlv_walk.specs.Events.{EventValue}
-use Rattle.tlv_walk.specs.Forest.{Forest, Stop, Fill, Whole, Closed, Partial, Entered, Awaiting, Begun, Zero, is_complete}
+use Rattle.tlv_walk.specs.Forest.{Forest, NoMore, PaddingOctet, Primitive, Holder, OpenPrimitive, OpenHolder, OpenBitString, OpenHeader, OpenEndOctets, is_complete}
 use Rattle.tlv_walk.specs.WalkerState.{WalkerState}
 use Rattle.tlv_walk.specs.Private.WalkerState.{EventWaits}
 use Rattle.tlv_walk.specs.OpenCount.{open_count}
@@ -15,21 +15,21 @@ use Rattle.tlv_walk.proofs.WalkerLemmas.Zipper.{behind, reading_of, within}
 
 -- after whole elements as many are open as of the others
 pub count-behind : (f g : Forest) → is_complete f ≡ true → open_count (behind f g) ≡ open_count g
-count-behind Stop g e = refl
-count-behind (Fill rest) g e = count-behind rest g e
-count-behind (Whole h c rest) g e = count-behind rest g e
-count-behind (Closed h inside rest) g e = count-behind rest g e
-count-behind (Partial h c) g e = absurd (true≢false (sym e))
-count-behind (Entered h inside) g e = absurd (true≢false (sym e))
-count-behind (Awaiting h) g e = absurd (true≢false (sym e))
-count-behind (Begun octets) g e = absurd (true≢false (sym e))
-count-behind Zero g e = absurd (true≢false (sym e))
+count-behind NoMore g e = refl
+count-behind (PaddingOctet rest) g e = count-behind rest g e
+count-behind (Primitive h c rest) g e = count-behind rest g e
+count-behind (Holder h inside rest) g e = count-behind rest g e
+count-behind (OpenPrimitive h c) g e = absurd (true≢false (sym e))
+count-behind (OpenHolder h inside) g e = absurd (true≢false (sym e))
+count-behind (OpenBitString h) g e = absurd (true≢false (sym e))
+count-behind (OpenHeader octets) g e = absurd (true≢false (sym e))
+count-behind OpenEndOctets g e = absurd (true≢false (sym e))
 
 -- each layer is open
 pub count-within : (w : Framing) (ls : List Layer) (f : Forest) → AreLayers w ls → open_count (within ls f) ≡ length ls + open_count f
 count-within w [] f a = omega arith
 count-within w (l ∷ ls) f a =
-    omega (arith, count-within w ls (behind l.before (Entered l.head f)) a.0, count-behind l.before (Entered l.head f) a.1.whole)
+    omega (arith, count-within w ls (behind l.before (OpenHolder l.header f)) a.0, count-behind l.before (OpenHolder l.header f) a.1.whole)
 
 -- each layer has a frame
 length-frames : (w : Framing) (ls : List Layer) → length (frames_of w ls) ≡ length ls

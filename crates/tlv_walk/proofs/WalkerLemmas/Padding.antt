@@ -4,7 +4,7 @@ use Rattle.std.proofs.lemmas.List.Elements.{All-head, All-tail}
 use Rattle.tlv_walk.specs.Phase.{Phase}
 use Rattle.tlv_walk.specs.Phase as phase
 use Rattle.tlv_walk.specs.Events.{EventValue, Pad, events, single_octets}
-use Rattle.tlv_walk.specs.Forest.{Forest, Stop, Fill, has_element, is_complete, spell}
+use Rattle.tlv_walk.specs.Forest.{Forest, NoMore, PaddingOctet, has_element, is_complete, spelling}
 use Rattle.tlv_walk.specs.WalkerState.{WalkerState}
 use Rattle.tlv_walk.specs.Place.{IsOpen, Place, place_after}
 use Rattle.tlv_walk.specs.Private.Zipper.{Between, HasZipper, IsPhaseOf, Layer, Zipper, place_in, place_of}
@@ -14,13 +14,13 @@ use Rattle.tlv_walk.proofs.WalkerLemmas.Zipper.{behind}
 
 -- octets 00 between encodings
 abbrev pub fills : List ℕ → Forest
-fills [] = Stop
-fills (x ∷ xs) = Fill (fills xs)
+fills [] = NoMore
+fills (x ∷ xs) = PaddingOctet (fills xs)
 
-spell-fills : (t : List ℕ) → All (λ x. x ≡ 0) t → spell (fills t) ≡ t
-spell-fills [] z = refl
-spell-fills (x ∷ t) z =
-    ap (λ (s : List ℕ). 0 ∷ s) (spell-fills t (All-tail (λ x. x ≡ 0) x t z)) ∙ ap (λ (y : ℕ). y ∷ t) (sym (All-head (λ x. x ≡ 0) x t z))
+spelling-fills : (t : List ℕ) → All (λ x. x ≡ 0) t → spelling (fills t) ≡ t
+spelling-fills [] z = refl
+spelling-fills (x ∷ t) z =
+    ap (λ (s : List ℕ). 0 ∷ s) (spelling-fills t (All-tail (λ x. x ≡ 0) x t z)) ∙ ap (λ (y : ℕ). y ∷ t) (sym (All-head (λ x. x ≡ 0) x t z))
 
 events-fills : (t : List ℕ) → All (λ x. x ≡ 0) t → single_octets (events (fills t)) ≡ map (λ x. Pad (x ∷ [])) t
 events-fills [] z = refl
@@ -47,7 +47,7 @@ or-false false = refl
 pad_state : (w : WalkerState) (b : List ℕ) (past : List EventValue) (s : Zipper) (t : List ℕ) → HasZipper w b past (with_layers s [] Between) → w.phase ≡ phase.Between → w.framing.padding ≡ true → All (λ x. x ≡ 0) t
     → HasZipper (record w { offset = w.offset + length t; events = w.events + 1 }) (b ++ t) (past ++ Pad t ∷ []) (record { layers = []; here = behind s.here (fills t); tail = Between })
 pad_state w b past s t has e padding zeros = record {
-  spelled = spelled_whole [] s.here (fills t) [] t b has.here.whole (spell-fills t zeros) has.spelled;
+  spelled = spelled_whole [] s.here (fills t) [] t b has.here.whole (spelling-fills t zeros) has.spelled;
   offset = omega (arith, has.offset, length-append b t);
   stack = has.stack;
   layers = tt;

@@ -15,7 +15,7 @@ use Rattle.tlv_walk.specs.Phase.{Phase}
 use Rattle.tlv_walk.specs.Phase as phase
 use Rattle.tlv_walk.specs.Private.WalkerState.{CanPass, after_header, header_at}
 use Rattle.tlv_walk.specs.Private.Steps.{Continues}
-use Rattle.tlv_walk.specs.Stack.{Within, bound_of}
+use Rattle.tlv_walk.specs.Stack.{IsWithin, bound_of}
 use Rattle.tlv_walk.proofs.WalkerLemmas.HeaderKinds.{fast_enters}
 use Rattle.tlv_walk.proofs.WalkerLemmas.Moves.{continues_both, yields_passed}
 
@@ -61,7 +61,7 @@ yields_header w piece p can =
     ap₂ (λ (c n : Bool). c || is_wrapper n f.class c f.number f.size) can.primitive can.begins.begins.named in
     let end : w.offset + p.octets ≡ f.offset + length o + announced_length f.size = omega (arith, can.begins.begins.offset, can.octets, length-take-le p.header piece can.begins.within) in
     fast_enters w _ piece false f p.header o kind.Primitive can.phase can.begins refl (sym can.unnamed) (λ e. absurd (true≢false (sym e ∙ form)))
-    (subst (Within (bound_of w.stack)) end can.fits) (form, refl)
+    (subst (IsWithin (bound_of w.stack)) end can.fits) (form, refl)
 
 pub yields_primitive : (w : WalkerState) (piece : List ℕ) (p : WholePrimitive) (n : ℕ) → CanPass w piece p
     → Continues w (passed w p n) (take p.octets piece) (whole_events (header_at p piece) (take p.octets piece))

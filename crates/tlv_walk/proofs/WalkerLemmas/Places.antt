@@ -4,16 +4,16 @@ use Rattle.tlv_head.specs.declared.header.Size.{Size}
 use Rattle.tlv_head.specs.declared.header.Size.TheVariants.{Definite, Indefinite}
 use Rattle.tlv_walk.specs.declared.framing.Framing.{Framing}
 use Rattle.tlv_walk.specs.Events.{EventValue}
-use Rattle.tlv_walk.specs.Forest.{opening, spell}
+use Rattle.tlv_walk.specs.Forest.{opening, spelling}
 use Rattle.tlv_walk.specs.WalkerState.{WalkerState}
 use Rattle.tlv_walk.specs.Private.Stack.{bound_in}
 use Rattle.tlv_walk.specs.Stack.{bound_of}
-use Rattle.tlv_walk.specs.Private.Zipper.{HasZipper, Layer, Zipper, frames_of, place_in, place_of, spell_layers, spell_tail}
+use Rattle.tlv_walk.specs.Private.Zipper.{HasZipper, Layer, Zipper, frames_of, place_in, place_of, spelling_of_layers, spelling_of_tail}
 
-pub place-at : (w : Framing) (ls : List Layer) → (place_in w ls).at ≡ length (spell_layers ls)
+pub place-at : (w : Framing) (ls : List Layer) → (place_in w ls).at ≡ length (spelling_of_layers ls)
 place-at w [] = refl
 place-at w (l ∷ ls) =
-    omega (arith, place-at w ls, length-append (spell_layers ls) (spell l.before ++ opening l.head), length-append (spell l.before) (opening l.head))
+    omega (arith, place-at w ls, length-append (spelling_of_layers ls) (spelling l.before ++ opening l.header), length-append (spelling l.before) (opening l.header))
 
 pub place-bound : (w : Framing) (ls : List Layer) → (place_in w ls).bound ≡ bound_of (frames_of w ls)
 place-bound w [] = refl
@@ -28,9 +28,9 @@ place-depth w [] = refl
 place-depth w (l ∷ ls) = omega (arith, place-depth w ls)
 
 -- if nothing is open after the whole elements, the walker stands there
-pub place-offset : (w : WalkerState) (b : List ℕ) (past : List EventValue) (s : Zipper) → HasZipper w b past s → w.offset ≡ (place_of w.framing s).at + length (spell_tail s.tail)
+pub place-offset : (w : WalkerState) (b : List ℕ) (past : List EventValue) (s : Zipper) → HasZipper w b past s → w.offset ≡ (place_of w.framing s).at + length (spelling_of_tail s.tail)
 place-offset w b past s has =
-    omega (arith, has.offset, ap length has.spelled, place-at w.framing s.layers, length-append (spell_layers s.layers) (spell s.here ++ spell_tail s.tail), length-append (spell s.here) (spell_tail s.tail))
+    omega (arith, has.offset, ap length has.spelled, place-at w.framing s.layers, length-append (spelling_of_layers s.layers) (spelling s.here ++ spelling_of_tail s.tail), length-append (spelling s.here) (spelling_of_tail s.tail))
 
 pub indefinite-size : (s : Size) (start : ℕ) → bound_in s start None ≡ None → s ≡ Indefinite
 indefinite-size (Definite n) start e = absurd (cc)

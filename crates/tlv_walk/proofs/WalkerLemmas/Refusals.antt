@@ -11,7 +11,7 @@ use Rattle.tlv_walk.specs.Ending.{IsEnding, IsFault, bad_end, bad_inside, fault,
 use Rattle.tlv_walk.specs.Events.{EventValue}
 use Rattle.tlv_walk.specs.WalkerState.{WalkerState}
 use Rattle.tlv_walk.specs.Private.WalkerState.{EventWaits, EventWaitsIn, fault_at}
-use Rattle.tlv_walk.specs.Stack.{IsFilled, IsInIndefinite, Within, bound_of}
+use Rattle.tlv_walk.specs.Stack.{IsFilled, IsInIndefinite, IsWithin, bound_of}
 use Rattle.tlv_walk.specs.Private.Stack.{left_to, room_in}
 use Rattle.tlv_walk.specs.Private.Zipper.{BeforeUnused, Between, HasZipper, InEnd, Layer, Zipper, frames_of, place_in, place_of}
 use Rattle.tlv_walk.specs.Private.Steps.{RefusesOctet}
@@ -21,13 +21,13 @@ use Rattle.tlv_walk.proofs.WalkerLemmas.Places.{place-bound, place-offset}
 use Rattle.tlv_walk.proofs.WalkerLemmas.ZipperEndings.{forest_of, state-fault}
 use Rattle.tlv_walk.proofs.WalkerLemmas.Zipper.{place-indefinite}
 
--- if no octet is left to the bound, an octet more passes it
-pub left_none : (b : Option ℕ) (n m : ℕ) → left_to b n ≡ Some 0 → n < m → Within b m → ⊥
+-- if there is no room before the bound, an octet more passes it
+pub left_none : (b : Option ℕ) (n m : ℕ) → left_to b n ≡ Some 0 → n < m → IsWithin b m → ⊥
 left_none None n m e h f = absurd (cc)
 left_none (Some k) n m e h f = let z : k - n ≡ 0 = cc in omega arith
 
 -- if room is left an octet more does not
-pub left_some : (b : Option ℕ) (n m : ℕ) → (left_to b n ≡ Some 0 → ⊥) → m ≤ n + 1 → Within b m
+pub left_some : (b : Option ℕ) (n m : ℕ) → (left_to b n ≡ Some 0 → ⊥) → m ≤ n + 1 → IsWithin b m
 left_some None n m f h = tt
 left_some (Some k) n m f h = let apart : k - n ≡ 0 → ⊥ = λ z. f (ap Some z) in omega arith
 
@@ -71,7 +71,7 @@ bound_there : (w : WalkerState) (b : List ℕ) (past : List EventValue) (s : Zip
 bound_there w b past s has stack = ap bound_of stack ∙ sym (place-bound w.framing s.layers)
 
 -- the bound is reached before the end-of-contents octets
-pub refuses_missing : (w : WalkerState) (x : ℕ) (rest : List ℕ) → w.phase ≡ phase.Between → (IsFilled w.stack w.offset → ⊥) → IsInIndefinite w.stack → Within (bound_of w.stack) w.offset → room_in w.stack w.offset ≡ Some 0
+pub refuses_missing : (w : WalkerState) (x : ℕ) (rest : List ℕ) → w.phase ≡ phase.Between → (IsFilled w.stack w.offset → ⊥) → IsInIndefinite w.stack → IsWithin (bound_of w.stack) w.offset → room_in w.stack w.offset ≡ Some 0
     → RefusesOctet w (x ∷ rest) (x ∷ rest) (fault_at MissingEnd w.offset)
 refuses_missing w x rest e unfilled inside within room = refuses_here w x rest MissingEnd (idle_at w phase.Between e unfilled) (λ b past s has.
     let t = between_tail s.tail _ (phase_at w b past s _ e has) in
@@ -112,7 +112,7 @@ refuses_stray_front w piece some zero e unfilled outside padding =
     (refuses_stray w (drop 1 piece) e unfilled outside padding))
 
 -- the second of the end-of-contents octets
-pub refuses_second_missing : (w : WalkerState) (x : ℕ) (rest : List ℕ) → w.phase ≡ phase.InEnd → Within (bound_of w.stack) w.offset → room_in w.stack w.offset ≡ Some 0
+pub refuses_second_missing : (w : WalkerState) (x : ℕ) (rest : List ℕ) → w.phase ≡ phase.InEnd → IsWithin (bound_of w.stack) w.offset → room_in w.stack w.offset ≡ Some 0
     → RefusesOctet w (x ∷ rest) (x ∷ rest) (fault_at MissingEnd w.offset)
 refuses_second_missing w x rest e within room = refuses_here w x rest MissingEnd (idle_at w phase.InEnd e (λ k. k)) (λ b past s has.
     let t = lone_tail s.tail _ (phase_at w b past s _ e has) in

@@ -6,49 +6,49 @@ use Rattle.tlv_head.specs.declared.header.Size.TheVariants.{Definite, Indefinite
 use Rattle.tlv_head.specs.Header.{HeaderValue, announced_length, octets_of}
 use Rattle.tlv_walk.specs.declared.framing.Framing.{Framing}
 use Rattle.tlv_walk.specs.Ending.{tip}
-use Rattle.tlv_walk.specs.Forest.{Awaiting, Begun, Closed, Entered, Fill, Forest, Partial, Stop, Whole, Zero, contents_length, end_octets, extent, has_element, is_complete, opening, spell}
+use Rattle.tlv_walk.specs.Forest.{Forest, Holder, NoMore, OpenBitString, OpenEndOctets, OpenHeader, OpenHolder, OpenPrimitive, PaddingOctet, Primitive, contents_length, end_octets, extent, has_element, is_complete, opening, spelling}
 use Rattle.tlv_walk.specs.Place.{Fits, IsOpen, Place, is_indefinite, place_after, top_place}
 use Rattle.tlv_walk.proofs.GrammarLemmas.Lengths.{LacksOctets}
 use Rattle.tlv_walk.specs.Private.Stack.{bound_in}
 use Rattle.tlv_walk.specs.Stack.{IsInIndefinite, bound_of}
-use Rattle.tlv_walk.specs.Private.Zipper.{AreLayers, AreWhole, BeforeUnused, Between, InContents, InEnd, InHeader, Layer, Tail, Zipper, frames_of, place_in, spell_layers}
+use Rattle.tlv_walk.specs.Private.Zipper.{AreLayers, AreWhole, BeforeUnused, Between, InContents, InEnd, InHeader, Layer, Tail, Zipper, frames_of, place_in, spelling_of_layers}
 use Rattle.tlv_walk.proofs.GrammarLemmas.Bounds.{fits-inside}
 use Rattle.tlv_walk.proofs.GrammarLemmas.PushSteps.{is_filled}
 use Rattle.tlv_walk.proofs.GrammarLemmas.Spellings.{append_assoc-3, append_assoc-4, length-closed, length-whole}
 
 -- whole elements, and then others
 abbrev pub behind : Forest → Forest → Forest
-behind Stop f = f
-behind (Fill rest) f = Fill (behind rest f)
-behind (Whole h c rest) f = Whole h c (behind rest f)
-behind (Closed h inside rest) f = Closed h inside (behind rest f)
-behind (Partial h c) f = Partial h c
-behind (Entered h inside) f = Entered h inside
-behind (Awaiting h) f = Awaiting h
-behind (Begun octets) f = Begun octets
-behind Zero f = Zero
+behind NoMore f = f
+behind (PaddingOctet rest) f = PaddingOctet (behind rest f)
+behind (Primitive h c rest) f = Primitive h c (behind rest f)
+behind (Holder h inside rest) f = Holder h inside (behind rest f)
+behind (OpenPrimitive h c) f = OpenPrimitive h c
+behind (OpenHolder h inside) f = OpenHolder h inside
+behind (OpenBitString h) f = OpenBitString h
+behind (OpenHeader octets) f = OpenHeader octets
+behind OpenEndOctets f = OpenEndOctets
 
 -- elements in the innermost open one
 abbrev pub within : List Layer → Forest → Forest
 within [] f = f
-within (l ∷ ls) f = within ls (behind l.before (Entered l.head f))
+within (l ∷ ls) f = within ls (behind l.before (OpenHolder l.header f))
 
 -- the same, where each element that is filled ends
 abbrev pub settled : List Layer → Forest → Forest
 settled [] f = f
-settled (l ∷ ls) f = cond (is_filled l.head f) (settled ls (behind l.before (Closed l.head f Stop))) (within (l ∷ ls) f)
+settled (l ∷ ls) f = cond (is_filled l.header f) (settled ls (behind l.before (Holder l.header f NoMore))) (within (l ∷ ls) f)
 
 abbrev pub primitive_in : List Layer → Forest → HeaderValue → List ℕ → Bool → Forest
-primitive_in ls here h c true = settled ls (behind here (Whole h c Stop))
-primitive_in ls here h c false = within ls (behind here (Partial h c))
+primitive_in ls here h c true = settled ls (behind here (Primitive h c NoMore))
+primitive_in ls here h c false = within ls (behind here (OpenPrimitive h c))
 
 -- what a state has been read as
 abbrev pub reading_in : List Layer → Forest → Tail → Forest
 reading_in ls here Between = settled ls here
 reading_in ls here (InContents h c) = primitive_in ls here h c (eqb (length c) (announced_length h.size))
-reading_in ls here (BeforeUnused h) = within ls (behind here (Awaiting h))
-reading_in ls here (InHeader octets) = within ls (behind here (Begun octets))
-reading_in ls here InEnd = within ls (behind here Zero)
+reading_in ls here (BeforeUnused h) = within ls (behind here (OpenBitString h))
+reading_in ls here (InHeader octets) = within ls (behind here (OpenHeader octets))
+reading_in ls here InEnd = within ls (behind here OpenEndOctets)
 
 abbrev pub reading_of : Zipper → Forest
 reading_of s = reading_in s.layers s.here s.tail
@@ -70,107 +70,107 @@ open-after p m n k g e w = subst (λ (q : Place). IsOpen q g) (sym (after-after 
 -- ---- whole elements, and then others
 
 -- their octets
-pub spell-behind : (f g : Forest) → is_complete f ≡ true → spell (behind f g) ≡ spell f ++ spell g
-spell-behind Stop g e = refl
-spell-behind (Fill rest) g e = ap (λ (t : List ℕ). 0 ∷ t) (spell-behind rest g e)
-spell-behind (Whole h c rest) g e =
-    ap (λ (t : List ℕ). octets_of h ++ (c ++ t)) (spell-behind rest g e) ∙ sym (append_assoc-3 (octets_of h) c (spell rest) (spell g))
-spell-behind (Closed h inside rest) g e =
-    ap (λ (t : List ℕ). opening h ++ (spell inside ++ (end_octets h.size ++ t))) (spell-behind rest g e)
-    ∙ sym (append_assoc-4 (opening h) (spell inside) (end_octets h.size) (spell rest) (spell g))
-spell-behind (Partial h c) g e = absurd (true≢false (sym e))
-spell-behind (Entered h inside) g e = absurd (true≢false (sym e))
-spell-behind (Awaiting h) g e = absurd (true≢false (sym e))
-spell-behind (Begun octets) g e = absurd (true≢false (sym e))
-spell-behind Zero g e = absurd (true≢false (sym e))
+pub spelling-behind : (f g : Forest) → is_complete f ≡ true → spelling (behind f g) ≡ spelling f ++ spelling g
+spelling-behind NoMore g e = refl
+spelling-behind (PaddingOctet rest) g e = ap (λ (t : List ℕ). 0 ∷ t) (spelling-behind rest g e)
+spelling-behind (Primitive h c rest) g e =
+    ap (λ (t : List ℕ). octets_of h ++ (c ++ t)) (spelling-behind rest g e) ∙ sym (append_assoc-3 (octets_of h) c (spelling rest) (spelling g))
+spelling-behind (Holder h inside rest) g e =
+    ap (λ (t : List ℕ). opening h ++ (spelling inside ++ (end_octets h.size ++ t))) (spelling-behind rest g e)
+    ∙ sym (append_assoc-4 (opening h) (spelling inside) (end_octets h.size) (spelling rest) (spelling g))
+spelling-behind (OpenPrimitive h c) g e = absurd (true≢false (sym e))
+spelling-behind (OpenHolder h inside) g e = absurd (true≢false (sym e))
+spelling-behind (OpenBitString h) g e = absurd (true≢false (sym e))
+spelling-behind (OpenHeader octets) g e = absurd (true≢false (sym e))
+spelling-behind OpenEndOctets g e = absurd (true≢false (sym e))
 
 -- nothing is open if nothing of the others is
 pub whole-behind : (f g : Forest) → is_complete f ≡ true → is_complete (behind f g) ≡ is_complete g
-whole-behind Stop g e = refl
-whole-behind (Fill rest) g e = whole-behind rest g e
-whole-behind (Whole h c rest) g e = whole-behind rest g e
-whole-behind (Closed h inside rest) g e = whole-behind rest g e
-whole-behind (Partial h c) g e = absurd (true≢false (sym e))
-whole-behind (Entered h inside) g e = absurd (true≢false (sym e))
-whole-behind (Awaiting h) g e = absurd (true≢false (sym e))
-whole-behind (Begun octets) g e = absurd (true≢false (sym e))
-whole-behind Zero g e = absurd (true≢false (sym e))
+whole-behind NoMore g e = refl
+whole-behind (PaddingOctet rest) g e = whole-behind rest g e
+whole-behind (Primitive h c rest) g e = whole-behind rest g e
+whole-behind (Holder h inside rest) g e = whole-behind rest g e
+whole-behind (OpenPrimitive h c) g e = absurd (true≢false (sym e))
+whole-behind (OpenHolder h inside) g e = absurd (true≢false (sym e))
+whole-behind (OpenBitString h) g e = absurd (true≢false (sym e))
+whole-behind (OpenHeader octets) g e = absurd (true≢false (sym e))
+whole-behind OpenEndOctets g e = absurd (true≢false (sym e))
 
 -- an octet of an element is there if one of theirs or of the others' is
 pub element-behind : (f g : Forest) → has_element (behind f g) ≡ (has_element f || has_element g)
-element-behind Stop g = refl
-element-behind (Fill rest) g = element-behind rest g
-element-behind (Whole h c rest) g = refl
-element-behind (Closed h inside rest) g = refl
-element-behind (Partial h c) g = refl
-element-behind (Entered h inside) g = refl
-element-behind (Awaiting h) g = refl
-element-behind (Begun octets) g = refl
-element-behind Zero g = refl
+element-behind NoMore g = refl
+element-behind (PaddingOctet rest) g = element-behind rest g
+element-behind (Primitive h c rest) g = refl
+element-behind (Holder h inside rest) g = refl
+element-behind (OpenPrimitive h c) g = refl
+element-behind (OpenHolder h inside) g = refl
+element-behind (OpenBitString h) g = refl
+element-behind (OpenHeader octets) g = refl
+element-behind OpenEndOctets g = refl
 
 -- they are open if the others are, after them
-pub open-behind : (p : Place) (f g : Forest) → AreWhole p f → IsOpen (place_after p (length (spell f))) g → IsOpen p (behind f g)
-open-behind p Stop g a w = subst (λ (q : Place). IsOpen q g) (after-none p) w
-open-behind p (Fill rest) g a w =
-    (a.is_open.0, open-behind (place_after p 1) rest g (record { is_open = a.is_open.1; whole = a.whole }) (open-after p 1 (length (spell rest)) _ g (omega arith) w))
-open-behind p (Whole h c rest) g a w = (
+pub open-behind : (p : Place) (f g : Forest) → AreWhole p f → IsOpen (place_after p (length (spelling f))) g → IsOpen p (behind f g)
+open-behind p NoMore g a w = subst (λ (q : Place). IsOpen q g) (after-none p) w
+open-behind p (PaddingOctet rest) g a w =
+    (a.is_open.0, open-behind (place_after p 1) rest g (record { is_open = a.is_open.1; whole = a.whole }) (open-after p 1 (length (spelling rest)) _ g (omega arith) w))
+open-behind p (Primitive h c rest) g a w = (
   a.is_open.0,
   open-behind (place_after p (length (octets_of h) + length c)) rest g (record { is_open = a.is_open.1; whole = a.whole })
-      (open-after p (length (octets_of h) + length c) (length (spell rest)) _ g (sym (length-whole h c rest)) w),
+      (open-after p (length (octets_of h) + length c) (length (spelling rest)) _ g (sym (length-whole h c rest)) w),
 )
-open-behind p (Closed h inside rest) g a w = (
+open-behind p (Holder h inside rest) g a w = (
   a.is_open.0,
   a.is_open.1,
   open-behind (place_after p (extent h inside)) rest g (record { is_open = a.is_open.2; whole = a.whole })
-      (open-after p (extent h inside) (length (spell rest)) _ g (sym (length-closed h inside rest)) w),
+      (open-after p (extent h inside) (length (spelling rest)) _ g (sym (length-closed h inside rest)) w),
 )
-open-behind p (Partial h c) g a w = absurd (true≢false (sym a.whole))
-open-behind p (Entered h inside) g a w = absurd (true≢false (sym a.whole))
-open-behind p (Awaiting h) g a w = absurd (true≢false (sym a.whole))
-open-behind p (Begun octets) g a w = absurd (true≢false (sym a.whole))
-open-behind p Zero g a w = absurd (true≢false (sym a.whole))
+open-behind p (OpenPrimitive h c) g a w = absurd (true≢false (sym a.whole))
+open-behind p (OpenHolder h inside) g a w = absurd (true≢false (sym a.whole))
+open-behind p (OpenBitString h) g a w = absurd (true≢false (sym a.whole))
+open-behind p (OpenHeader octets) g a w = absurd (true≢false (sym a.whole))
+open-behind p OpenEndOctets g a w = absurd (true≢false (sym a.whole))
 
 -- a tip by either way to the place
 tip-after : (p : Place) (m n k : ℕ) (g : Forest) → m + n ≡ k → tip (place_after (place_after p m) n) g ≡ tip (place_after p k) g
 tip-after p m n k g e = ap (λ (q : Place). tip q g) (after-after p m n k e)
 
 -- the open end is that of the others
-pub tip-behind : (p : Place) (f g : Forest) → is_complete f ≡ true → tip p (behind f g) ≡ tip (place_after p (length (spell f))) g
-tip-behind p Stop g e = ap (λ (q : Place). tip q g) (sym (after-none p))
-tip-behind p (Fill rest) g e = tip-behind (place_after p 1) rest g e ∙ tip-after p 1 (length (spell rest)) _ g (omega arith)
-tip-behind p (Whole h c rest) g e =
-    tip-behind (place_after p (length (octets_of h) + length c)) rest g e ∙ tip-after p (length (octets_of h) + length c) (length (spell rest)) _ g (sym (length-whole h c rest))
-tip-behind p (Closed h inside rest) g e =
-    tip-behind (place_after p (extent h inside)) rest g e ∙ tip-after p (extent h inside) (length (spell rest)) _ g (sym (length-closed h inside rest))
-tip-behind p (Partial h c) g e = absurd (true≢false (sym e))
-tip-behind p (Entered h inside) g e = absurd (true≢false (sym e))
-tip-behind p (Awaiting h) g e = absurd (true≢false (sym e))
-tip-behind p (Begun octets) g e = absurd (true≢false (sym e))
-tip-behind p Zero g e = absurd (true≢false (sym e))
+pub tip-behind : (p : Place) (f g : Forest) → is_complete f ≡ true → tip p (behind f g) ≡ tip (place_after p (length (spelling f))) g
+tip-behind p NoMore g e = ap (λ (q : Place). tip q g) (sym (after-none p))
+tip-behind p (PaddingOctet rest) g e = tip-behind (place_after p 1) rest g e ∙ tip-after p 1 (length (spelling rest)) _ g (omega arith)
+tip-behind p (Primitive h c rest) g e =
+    tip-behind (place_after p (length (octets_of h) + length c)) rest g e ∙ tip-after p (length (octets_of h) + length c) (length (spelling rest)) _ g (sym (length-whole h c rest))
+tip-behind p (Holder h inside rest) g e =
+    tip-behind (place_after p (extent h inside)) rest g e ∙ tip-after p (extent h inside) (length (spelling rest)) _ g (sym (length-closed h inside rest))
+tip-behind p (OpenPrimitive h c) g e = absurd (true≢false (sym e))
+tip-behind p (OpenHolder h inside) g e = absurd (true≢false (sym e))
+tip-behind p (OpenBitString h) g e = absurd (true≢false (sym e))
+tip-behind p (OpenHeader octets) g e = absurd (true≢false (sym e))
+tip-behind p OpenEndOctets g e = absurd (true≢false (sym e))
 
 -- no others
-pub behind-none : (f : Forest) → behind f Stop ≡ f
-behind-none Stop = refl
-behind-none (Fill rest) = ap Fill (behind-none rest)
-behind-none (Whole h c rest) = ap (Whole h c) (behind-none rest)
-behind-none (Closed h inside rest) = ap (Closed h inside) (behind-none rest)
-behind-none (Partial h c) = refl
-behind-none (Entered h inside) = refl
-behind-none (Awaiting h) = refl
-behind-none (Begun octets) = refl
-behind-none Zero = refl
+pub behind-none : (f : Forest) → behind f NoMore ≡ f
+behind-none NoMore = refl
+behind-none (PaddingOctet rest) = ap PaddingOctet (behind-none rest)
+behind-none (Primitive h c rest) = ap (Primitive h c) (behind-none rest)
+behind-none (Holder h inside rest) = ap (Holder h inside) (behind-none rest)
+behind-none (OpenPrimitive h c) = refl
+behind-none (OpenHolder h inside) = refl
+behind-none (OpenBitString h) = refl
+behind-none (OpenHeader octets) = refl
+behind-none OpenEndOctets = refl
 
 -- after whole elements the open end is between them and the next
-pub tip-whole : (p : Place) (f : Forest) → is_complete f ≡ true → tip p f ≡ (place_after p (length (spell f)), Stop)
-tip-whole p f e = ap (λ (g : Forest). tip p g) (sym (behind-none f)) ∙ tip-behind p f Stop e
+pub tip-whole : (p : Place) (f : Forest) → is_complete f ≡ true → tip p f ≡ (place_after p (length (spelling f)), NoMore)
+tip-whole p f e = ap (λ (g : Forest). tip p g) (sym (behind-none f)) ∙ tip-behind p f NoMore e
 
 -- ---- where the elements in the innermost open element begin
 
 -- after the octets of the layers
-pub place-at : (w : Framing) (ls : List Layer) → (place_in w ls).at ≡ length (spell_layers ls)
+pub place-at : (w : Framing) (ls : List Layer) → (place_in w ls).at ≡ length (spelling_of_layers ls)
 place-at w [] = refl
 place-at w (l ∷ ls) =
-    omega (arith, place-at w ls, length-append (spell_layers ls) (spell l.before ++ opening l.head), length-append (spell l.before) (opening l.head))
+    omega (arith, place-at w ls, length-append (spelling_of_layers ls) (spelling l.before ++ opening l.header), length-append (spelling l.before) (opening l.header))
 
 -- in as many elements as there are layers
 pub place-depth : (w : Framing) (ls : List Layer) → (place_in w ls).depth ≡ length ls
@@ -190,7 +190,7 @@ indefinite-endless Indefinite start = (λ e. refl, λ e. refl)
 -- in an element of indefinite length if the innermost frame's is
 pub place-indefinite : (w : Framing) (ls : List Layer) → ((place_in w ls).indefinite ≡ true) ↔ IsInIndefinite (frames_of w ls)
 place-indefinite w [] = (λ e. absurd (true≢false (sym e)), λ e. absurd e)
-place-indefinite w (l ∷ ls) = indefinite-endless l.head.size _
+place-indefinite w (l ∷ ls) = indefinite-endless l.header.size _
 
 -- with padding if there is some at the top, and there alone
 pub place-padding-top : (w : Framing) → (place_in w []).padding ≡ w.padding
@@ -207,22 +207,22 @@ place-inside w (l ∷ ls) = place-inside w ls
 -- not past the bound
 pub layers-fit : (w : Framing) (ls : List Layer) → AreLayers w ls → Fits (place_in w ls) 0
 layers-fit w [] a = tt
-layers-fit w (l ∷ ls) a = fits-inside (place_after (place_in w ls) (length (spell l.before))) l.head a.2.header.form a.2.fits
+layers-fit w (l ∷ ls) a = fits-inside (place_after (place_in w ls) (length (spelling l.before))) l.header a.2.header.form a.2.fits
 
 -- ---- elements in the innermost open one
 
 -- their octets, after those of the layers
-pub spell-within : (w : Framing) (ls : List Layer) (f : Forest) → AreLayers w ls → spell (within ls f) ≡ spell_layers ls ++ spell f
-spell-within w [] f a = refl
-spell-within w (l ∷ ls) f a =
-    spell-within w ls (behind l.before (Entered l.head f)) a.0
-    ∙ ap (λ (t : List ℕ). spell_layers ls ++ t) (spell-behind l.before (Entered l.head f) a.1.whole ∙ sym (append_assoc (spell l.before) (opening l.head) (spell f)))
-    ∙ sym (append_assoc (spell_layers ls) (spell l.before ++ opening l.head) (spell f))
+pub spelling-within : (w : Framing) (ls : List Layer) (f : Forest) → AreLayers w ls → spelling (within ls f) ≡ spelling_of_layers ls ++ spelling f
+spelling-within w [] f a = refl
+spelling-within w (l ∷ ls) f a =
+    spelling-within w ls (behind l.before (OpenHolder l.header f)) a.0
+    ∙ ap (λ (t : List ℕ). spelling_of_layers ls ++ t) (spelling-behind l.before (OpenHolder l.header f) a.1.whole ∙ sym (append_assoc (spelling l.before) (opening l.header) (spelling f)))
+    ∙ sym (append_assoc (spelling_of_layers ls) (spelling l.before ++ opening l.header) (spelling f))
 
 -- if they are whole, contents octets of the innermost open element are lacking
 abbrev pub HasRoomIn : List Layer → Forest → Type 0
 HasRoomIn [] f = Unit {0}
-HasRoomIn (l ∷ ls) f = is_complete f ≡ true → LacksOctets l.head.size (contents_length l.head f)
+HasRoomIn (l ∷ ls) f = is_complete f ≡ true → LacksOctets l.header.size (contents_length l.header f)
 
 -- if something is open, none need be lacking
 pub room-if_open : (ls : List Layer) (f : Forest) → is_complete f ≡ false → HasRoomIn ls f
@@ -233,16 +233,16 @@ room-if_open (l ∷ ls) f e = λ whole. absurd (true≢false (sym whole ∙ e))
 pub open-within : (w : Framing) (ls : List Layer) (f : Forest) → AreLayers w ls → IsOpen (place_in w ls) f → HasRoomIn ls f → IsOpen (top_place w) (within ls f)
 open-within w [] f a v r = v
 open-within w (l ∷ ls) f a v r =
-    open-within w ls (behind l.before (Entered l.head f)) a.0
-    (open-behind (place_in w ls) l.before (Entered l.head f) a.1 ((a.2, r), v))
-    (room-if_open ls _ (whole-behind l.before (Entered l.head f) a.1.whole))
+    open-within w ls (behind l.before (OpenHolder l.header f)) a.0
+    (open-behind (place_in w ls) l.before (OpenHolder l.header f) a.1 ((a.2, r), v))
+    (room-if_open ls _ (whole-behind l.before (OpenHolder l.header f) a.1.whole))
 
 -- the open end is theirs
 pub tip-within : (w : Framing) (ls : List Layer) (f : Forest) → AreLayers w ls → tip (top_place w) (within ls f) ≡ tip (place_in w ls) f
 tip-within w [] f a = refl
-tip-within w (l ∷ ls) f a = tip-within w ls (behind l.before (Entered l.head f)) a.0 ∙ tip-behind (place_in w ls) l.before (Entered l.head f) a.1.whole
+tip-within w (l ∷ ls) f a = tip-within w ls (behind l.before (OpenHolder l.header f)) a.0 ∙ tip-behind (place_in w ls) l.before (OpenHolder l.header f) a.1.whole
 
 -- inside a layer something is open
 pub whole-within : (w : Framing) (ls : List Layer) (f : Forest) → AreLayers w ls → (ls ≡ [] → is_complete f ≡ false) → is_complete (within ls f) ≡ false
 whole-within w [] f a e = e refl
-whole-within w (l ∷ ls) f a e = whole-within w ls (behind l.before (Entered l.head f)) a.0 (λ _. whole-behind l.before (Entered l.head f) a.1.whole)
+whole-within w (l ∷ ls) f a e = whole-within w ls (behind l.before (OpenHolder l.header f)) a.0 (λ _. whole-behind l.before (OpenHolder l.header f) a.1.whole)

@@ -9,11 +9,11 @@ use Rattle.tlv_walk.specs.Phase.{Phase}
 use Rattle.tlv_walk.specs.Phase as phase
 use Rattle.tlv_walk.specs.Ending.{IsEnding, IsFault, done, empty, fault, short, tip}
 use Rattle.tlv_walk.specs.Events.{EventValue}
-use Rattle.tlv_walk.specs.Forest.{Forest, Stop, Partial, Awaiting, Begun, Zero, has_element, is_complete, spell}
+use Rattle.tlv_walk.specs.Forest.{Forest, NoMore, OpenPrimitive, OpenBitString, OpenHeader, OpenEndOctets, has_element, is_complete, spelling}
 use Rattle.tlv_walk.specs.WalkerState.{WalkerState}
 use Rattle.tlv_walk.specs.Private.WalkerState.{EventWaits, EventWaitsIn}
 use Rattle.tlv_walk.specs.Place.{Place, top_place}
-use Rattle.tlv_walk.specs.Private.Zipper.{BeforeUnused, Between, HasZipper, InContents, InEnd, InHeader, IsPhaseOf, Layer, Tail, Zipper, begins_element, frames_of, place_in, place_of, spell_tail, stack_of}
+use Rattle.tlv_walk.specs.Private.Zipper.{BeforeUnused, Between, HasZipper, InContents, InEnd, InHeader, IsPhaseOf, Layer, Tail, Zipper, begins_element, frames_of, place_in, place_of, spelling_of_tail, stack_of}
 use Rattle.tlv_walk.proofs.GrammarLemmas.Endings.{halt-ending}
 use Rattle.tlv_walk.proofs.GrammarLemmas.Faults.{fault-refused}
 use Rattle.tlv_walk.proofs.GrammarLemmas.PushSteps.{Spells}
@@ -24,11 +24,11 @@ use Rattle.tlv_walk.proofs.WalkerLemmas.Zipper.{behind, behind-none, reading_in,
 
 -- what is open after the whole elements, as a forest: of a primitive, one that lacks contents octets
 abbrev pub forest_of : Tail → Forest
-forest_of Between = Stop
-forest_of (InContents h c) = Partial h c
-forest_of (BeforeUnused h) = Awaiting h
-forest_of (InHeader octets) = Begun octets
-forest_of InEnd = Zero
+forest_of Between = NoMore
+forest_of (InContents h c) = OpenPrimitive h c
+forest_of (BeforeUnused h) = OpenBitString h
+forest_of (InHeader octets) = OpenHeader octets
+forest_of InEnd = OpenEndOctets
 
 -- the whole elements end at the offset: no element is filled there
 filled-at : (w : Framing) (ls : List Layer) (here : Forest) (at : ℕ) → at ≡ end_in w ls here + 0 → (EventWaitsIn phase.Between (frames_of w ls) at → ⊥) → EventWaitsIn phase.Between (frames_of w ls) (end_in w ls here) → ⊥
@@ -36,7 +36,7 @@ filled-at w ls here at e n f = let there : end_in w ls here ≡ at = omega arith
 
 -- if nothing is waiting, no element has ended
 reading-within : (w : Framing) (ls : List Layer) (here : Forest) (f : Phase) (t : Tail) (at : ℕ) → IsPhaseOf f t (place_behind w ls here)
-    → at ≡ (place_behind w ls here).at + length (spell_tail t) → (EventWaitsIn f (stack_of w ls (place_behind w ls here) t) at → ⊥)
+    → at ≡ (place_behind w ls here).at + length (spelling_of_tail t) → (EventWaitsIn f (stack_of w ls (place_behind w ls here) t) at → ⊥)
     → reading_in ls here t ≡ within ls (behind here (forest_of t))
 reading-within w ls here phase.Between Between at j e n =
     settled-within w ls here (filled-at w ls here at e n) ∙ ap (within ls) (sym (behind-none here))
@@ -101,7 +101,7 @@ outermost-element w ls here t j e = absurd j
 record IsOutermost (w : WalkerState) (b : List ℕ) (s : Zipper) : Type 0 where
   reading : reading_of s ≡ s.here
   element : has_element s.here ≡ w.has_element
-  spelled : spell (reading_of s) ≡ b
+  spelled : spelling (reading_of s) ≡ b
 
 -- it is the whole elements there
 state-outermost : (w : WalkerState) (b : List ℕ) (past : List EventValue) (s : Zipper) → HasZipper w b past s → w.phase ≡ phase.Between → w.stack ≡ [] → IsOutermost w b s

@@ -6,9 +6,9 @@ use Rattle.tlv_head.specs.declared.header.Size.TheVariants.{Definite, Indefinite
 use Rattle.tlv_head.specs.Header.{HeaderValue}
 use Rattle.tlv_walk.specs.declared.framing.Framing.{Framing}
 use Rattle.tlv_walk.specs.Events.{Begin, Bytes, Close, End, EventValue, Leave, Pad, closing_event, end_offset, events, opening_events}
-use Rattle.tlv_walk.specs.Forest.{Awaiting, Begun, Closed, Entered, Fill, Forest, Partial, Stop, Whole, Zero, contents_length, end_octets, is_complete, spell}
+use Rattle.tlv_walk.specs.Forest.{Forest, Holder, NoMore, OpenBitString, OpenEndOctets, OpenHeader, OpenHolder, OpenPrimitive, PaddingOctet, Primitive, contents_length, end_octets, is_complete, spelling}
 use Rattle.tlv_walk.specs.Stands.{ending_event, ending_events}
-use Rattle.tlv_walk.specs.Private.Zipper.{AreLayers, AreWhole, Layer, events_layers, frame_at, frames_of, place_in}
+use Rattle.tlv_walk.specs.Private.Zipper.{AreLayers, AreWhole, Layer, events_of_layers, frame_at, frames_of, place_in}
 use Rattle.tlv_walk.proofs.WalkerLemmas.ZipperWrappers.{wrappers_layers}
 use Rattle.tlv_walk.specs.Place.{Place, place_after}
 use Rattle.tlv_walk.specs.Wrappers.{wrapper_at, wrappers}
@@ -21,51 +21,51 @@ use Rattle.tlv_walk.proofs.WalkerLemmas.Zipper.{behind, settled, within}
 
 -- their events
 pub events-behind : (f g : Forest) → is_complete f ≡ true → events (behind f g) ≡ events f ++ events g
-events-behind Stop g e = refl
-events-behind (Fill rest) g e = ap (λ (t : List EventValue). Pad (0 ∷ []) ∷ t) (events-behind rest g e)
-events-behind (Whole h c rest) g e = ap (λ (t : List EventValue). Begin h ∷ Bytes c ∷ End ∷ t) (events-behind rest g e)
-events-behind (Closed h inside rest) g e =
+events-behind NoMore g e = refl
+events-behind (PaddingOctet rest) g e = ap (λ (t : List EventValue). Pad (0 ∷ []) ∷ t) (events-behind rest g e)
+events-behind (Primitive h c rest) g e = ap (λ (t : List EventValue). Begin h ∷ Bytes c ∷ End ∷ t) (events-behind rest g e)
+events-behind (Holder h inside rest) g e =
     ap (λ (t : List EventValue). opening_events h ++ (events inside ++ closing_event h inside ∷ t)) (events-behind rest g e)
     ∙ ap (λ (t : List EventValue). opening_events h ++ t) (sym (append_assoc (events inside) (closing_event h inside ∷ events rest) (events g)))
     ∙ sym (append_assoc (opening_events h) (events inside ++ closing_event h inside ∷ events rest) (events g))
-events-behind (Partial h c) g e = absurd (true≢false (sym e))
-events-behind (Entered h inside) g e = absurd (true≢false (sym e))
-events-behind (Awaiting h) g e = absurd (true≢false (sym e))
-events-behind (Begun octets) g e = absurd (true≢false (sym e))
-events-behind Zero g e = absurd (true≢false (sym e))
+events-behind (OpenPrimitive h c) g e = absurd (true≢false (sym e))
+events-behind (OpenHolder h inside) g e = absurd (true≢false (sym e))
+events-behind (OpenBitString h) g e = absurd (true≢false (sym e))
+events-behind (OpenHeader octets) g e = absurd (true≢false (sym e))
+events-behind OpenEndOctets g e = absurd (true≢false (sym e))
 
 -- their wrappers
 pub wrappers-behind : (f g : Forest) → is_complete f ≡ true → wrappers (behind f g) ≡ wrappers f ++ wrappers g
-wrappers-behind Stop g e = refl
-wrappers-behind (Fill rest) g e = wrappers-behind rest g e
-wrappers-behind (Whole h c rest) g e = wrappers-behind rest g e
-wrappers-behind (Closed h inside rest) g e =
+wrappers-behind NoMore g e = refl
+wrappers-behind (PaddingOctet rest) g e = wrappers-behind rest g e
+wrappers-behind (Primitive h c rest) g e = wrappers-behind rest g e
+wrappers-behind (Holder h inside rest) g e =
     ap (λ (t : List ℕ). wrapper_at h ++ (wrappers inside ++ t)) (wrappers-behind rest g e)
     ∙ ap (λ (t : List ℕ). wrapper_at h ++ t) (sym (append_assoc (wrappers inside) (wrappers rest) (wrappers g)))
     ∙ sym (append_assoc (wrapper_at h) (wrappers inside ++ wrappers rest) (wrappers g))
-wrappers-behind (Partial h c) g e = absurd (true≢false (sym e))
-wrappers-behind (Entered h inside) g e = absurd (true≢false (sym e))
-wrappers-behind (Awaiting h) g e = absurd (true≢false (sym e))
-wrappers-behind (Begun octets) g e = absurd (true≢false (sym e))
-wrappers-behind Zero g e = absurd (true≢false (sym e))
+wrappers-behind (OpenPrimitive h c) g e = absurd (true≢false (sym e))
+wrappers-behind (OpenHolder h inside) g e = absurd (true≢false (sym e))
+wrappers-behind (OpenBitString h) g e = absurd (true≢false (sym e))
+wrappers-behind (OpenHeader octets) g e = absurd (true≢false (sym e))
+wrappers-behind OpenEndOctets g e = absurd (true≢false (sym e))
 
 -- ---- elements in the innermost open one
 
 -- their events, after those of the layers
-pub events-within : (w : Framing) (ls : List Layer) (f : Forest) → AreLayers w ls → events (within ls f) ≡ events_layers ls ++ events f
+pub events-within : (w : Framing) (ls : List Layer) (f : Forest) → AreLayers w ls → events (within ls f) ≡ events_of_layers ls ++ events f
 events-within w [] f a = refl
 events-within w (l ∷ ls) f a =
-    events-within w ls (behind l.before (Entered l.head f)) a.0
-    ∙ ap (λ (t : List EventValue). events_layers ls ++ t) (events-behind l.before (Entered l.head f) a.1.whole ∙ sym (append_assoc (events l.before) (opening_events l.head) (events f)))
-    ∙ sym (append_assoc (events_layers ls) (events l.before ++ opening_events l.head) (events f))
+    events-within w ls (behind l.before (OpenHolder l.header f)) a.0
+    ∙ ap (λ (t : List EventValue). events_of_layers ls ++ t) (events-behind l.before (OpenHolder l.header f) a.1.whole ∙ sym (append_assoc (events l.before) (opening_events l.header) (events f)))
+    ∙ sym (append_assoc (events_of_layers ls) (events l.before ++ opening_events l.header) (events f))
 
 -- their wrappers, after those of the layers
 pub wrappers-within : (w : Framing) (ls : List Layer) (f : Forest) → AreLayers w ls → wrappers (within ls f) ≡ wrappers_layers ls ++ wrappers f
 wrappers-within w [] f a = refl
 wrappers-within w (l ∷ ls) f a =
-    wrappers-within w ls (behind l.before (Entered l.head f)) a.0
-    ∙ ap (λ (t : List ℕ). wrappers_layers ls ++ t) (wrappers-behind l.before (Entered l.head f) a.1.whole ∙ sym (append_assoc (wrappers l.before) (wrapper_at l.head) (wrappers f)))
-    ∙ sym (append_assoc (wrappers_layers ls) (wrappers l.before ++ wrapper_at l.head) (wrappers f))
+    wrappers-within w ls (behind l.before (OpenHolder l.header f)) a.0
+    ∙ ap (λ (t : List ℕ). wrappers_layers ls ++ t) (wrappers-behind l.before (OpenHolder l.header f) a.1.whole ∙ sym (append_assoc (wrappers l.before) (wrapper_at l.header) (wrappers f)))
+    ∙ sym (append_assoc (wrappers_layers ls) (wrappers l.before ++ wrapper_at l.header) (wrappers f))
 
 -- ---- whole elements in the innermost open one, where each element that is filled ends
 
@@ -87,32 +87,32 @@ regroup-end around before start inside ends c d e = rw e (simp append_assoc)
 
 -- their events, after those of the layers, and then the ends of the elements that are filled
 pub events-settled : (w : Framing) (ls : List Layer) (f : Forest) → AreLayers w ls → AreWhole (place_in w ls) f
-    → events (settled ls f) ≡ (events_layers ls ++ events f) ++ ending_events (end_in w ls f) (frames_of w ls)
+    → events (settled ls f) ≡ (events_of_layers ls ++ events f) ++ ending_events (end_in w ls f) (frames_of w ls)
 events-settled w [] f a i = sym (append-nil (events f))
-events-settled w (l ∷ ls) f a i = elim (cases_Bool (is_filled l.head f)) [
+events-settled w (l ∷ ls) f a i = elim (cases_Bool (is_filled l.header f)) [
   | inl e ↦
       let d : IsEnded w l ls f = filled-ended w l ls f a i e in
-      let r : events (settled ls (behind l.before (Closed l.head f Stop))) ≡ (events_layers ls ++ events (behind l.before (Closed l.head f Stop))) ++ ending_events (end_in w ls (behind l.before (Closed l.head f Stop))) (frames_of w ls) =
-      events-settled w ls (behind l.before (Closed l.head f Stop)) a.0 d.are_whole in
-      let s : (events_layers ls ++ events (behind l.before (Closed l.head f Stop))) ++ ending_events (end_in w ls (behind l.before (Closed l.head f Stop))) (frames_of w ls)
-      ≡ (events_layers ls ++ (events l.before ++ (opening_events l.head ++ (events f ++ closing_event l.head f ∷ [])))) ++ ending_events (end_in w (l ∷ ls) f) (frames_of w ls) =
-      ap (λ (t : List EventValue). (events_layers ls ++ t) ++ ending_events (end_in w ls (behind l.before (Closed l.head f Stop))) (frames_of w ls)) (events-behind l.before (Closed l.head f Stop) a.1.whole)
-      ∙ ap (λ (n : ℕ). (events_layers ls ++ (events l.before ++ (opening_events l.head ++ (events f ++ closing_event l.head f ∷ [])))) ++ ending_events n (frames_of w ls)) d.same_end in
+      let r : events (settled ls (behind l.before (Holder l.header f NoMore))) ≡ (events_of_layers ls ++ events (behind l.before (Holder l.header f NoMore))) ++ ending_events (end_in w ls (behind l.before (Holder l.header f NoMore))) (frames_of w ls) =
+      events-settled w ls (behind l.before (Holder l.header f NoMore)) a.0 d.are_whole in
+      let s : (events_of_layers ls ++ events (behind l.before (Holder l.header f NoMore))) ++ ending_events (end_in w ls (behind l.before (Holder l.header f NoMore))) (frames_of w ls)
+      ≡ (events_of_layers ls ++ (events l.before ++ (opening_events l.header ++ (events f ++ closing_event l.header f ∷ [])))) ++ ending_events (end_in w (l ∷ ls) f) (frames_of w ls) =
+      ap (λ (t : List EventValue). (events_of_layers ls ++ t) ++ ending_events (end_in w ls (behind l.before (Holder l.header f NoMore))) (frames_of w ls)) (events-behind l.before (Holder l.header f NoMore) a.1.whole)
+      ∙ ap (λ (n : ℕ). (events_of_layers ls ++ (events l.before ++ (opening_events l.header ++ (events f ++ closing_event l.header f ∷ [])))) ++ ending_events n (frames_of w ls)) d.same_end in
       rw (e, end-filled w l ls f i.whole ∙ e)
-      (r ∙ s ∙ regroup-end (events_layers ls) (events l.before) (opening_events l.head) (events f) (ending_events (end_in w (l ∷ ls) f) (frames_of w ls)) _ _ (closes-filled (place_after (place_in w ls) (length (spell l.before))) l.head f e))
+      (r ∙ s ∙ regroup-end (events_of_layers ls) (events l.before) (opening_events l.header) (events f) (ending_events (end_in w (l ∷ ls) f) (frames_of w ls)) _ _ (closes-filled (place_after (place_in w ls) (length (spelling l.before))) l.header f e))
   | inr e ↦ rw (e, end-filled w l ls f i.whole ∙ e) (events-within w (l ∷ ls) f a ∙ sym (append-nil _))
 ]
 
 -- their wrappers, after those of the layers
 pub wrappers-settled : (w : Framing) (ls : List Layer) (f : Forest) → AreLayers w ls → AreWhole (place_in w ls) f → wrappers (settled ls f) ≡ wrappers_layers ls ++ wrappers f
 wrappers-settled w [] f a i = refl
-wrappers-settled w (l ∷ ls) f a i = elim (cases_Bool (is_filled l.head f)) [
+wrappers-settled w (l ∷ ls) f a i = elim (cases_Bool (is_filled l.header f)) [
   | inl e ↦
       let d : IsEnded w l ls f = filled-ended w l ls f a i e in
-      let r : wrappers (settled ls (behind l.before (Closed l.head f Stop))) ≡ wrappers_layers ls ++ wrappers (behind l.before (Closed l.head f Stop)) =
-      wrappers-settled w ls (behind l.before (Closed l.head f Stop)) a.0 d.are_whole in
-      let s : wrappers_layers ls ++ (wrappers l.before ++ (wrapper_at l.head ++ (wrappers f ++ []))) ≡ (wrappers_layers ls ++ (wrappers l.before ++ wrapper_at l.head)) ++ wrappers f =
+      let r : wrappers (settled ls (behind l.before (Holder l.header f NoMore))) ≡ wrappers_layers ls ++ wrappers (behind l.before (Holder l.header f NoMore)) =
+      wrappers-settled w ls (behind l.before (Holder l.header f NoMore)) a.0 d.are_whole in
+      let s : wrappers_layers ls ++ (wrappers l.before ++ (wrapper_at l.header ++ (wrappers f ++ []))) ≡ (wrappers_layers ls ++ (wrappers l.before ++ wrapper_at l.header)) ++ wrappers f =
       rw (append-nil (wrappers f)) (simp append_assoc) in
-      rw e (r ∙ ap (λ (t : List ℕ). wrappers_layers ls ++ t) (wrappers-behind l.before (Closed l.head f Stop) a.1.whole) ∙ s)
+      rw e (r ∙ ap (λ (t : List ℕ). wrappers_layers ls ++ t) (wrappers-behind l.before (Holder l.header f NoMore) a.1.whole) ∙ s)
   | inr e ↦ rw e (wrappers-within w (l ∷ ls) f a)
 ]

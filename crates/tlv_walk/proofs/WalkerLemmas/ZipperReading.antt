@@ -8,13 +8,13 @@ use Rattle.tlv_walk.specs.declared.framing.Framing.{Framing}
 use Rattle.tlv_walk.specs.Phase.{Phase}
 use Rattle.tlv_walk.specs.Phase as phase
 use Rattle.tlv_walk.specs.Events.{AreEqualJoined, Begin, Bytes, End, EventValue, events, single_octets}
-use Rattle.tlv_walk.specs.Forest.{Forest, Stop, Whole, Partial, Awaiting, Begun, Zero, is_complete, spell}
+use Rattle.tlv_walk.specs.Forest.{Forest, NoMore, Primitive, OpenPrimitive, OpenBitString, OpenHeader, OpenEndOctets, is_complete, spelling}
 use Rattle.tlv_walk.specs.WalkerState.{WalkerState, new_walker}
 use Rattle.tlv_walk.specs.Private.WalkerState.{wrappers_after}
 use Rattle.tlv_walk.specs.Place.{IsOpen, Place, place_after, top_place}
 use Rattle.tlv_walk.specs.Reading.{IsReading}
 use Rattle.tlv_walk.specs.Stands.{Stands, ending_events, waiting_events, waiting_events_in}
-use Rattle.tlv_walk.specs.Private.Zipper.{AreLayers, AreWhole, BeforeUnused, Between, HasZipper, InContents, InEnd, InHeader, IsContents, IsPhaseOf, Layer, Tail, Zipper, events_layers, events_tail, events_zipper, frames_of, place_in, place_of, spell_layers, spell_tail, spell_zipper, stack_of}
+use Rattle.tlv_walk.specs.Private.Zipper.{AreLayers, AreWhole, BeforeUnused, Between, HasZipper, InContents, InEnd, InHeader, IsContents, IsPhaseOf, Layer, Tail, Zipper, events_of_layers, events_of_tail, events_of_zipper, frames_of, place_in, place_of, spelling_of_layers, spelling_of_tail, spelling_of_zipper, stack_of}
 use Rattle.tlv_walk.proofs.WalkerLemmas.ZipperWrappers.{wrappers_layers, wrappers_tail, wrappers_zipper}
 use Rattle.tlv_walk.specs.Inside.{CanName}
 use Rattle.tlv_walk.specs.Wrappers.{wrapper_offsets, wrappers}
@@ -23,32 +23,32 @@ use Rattle.tlv_walk.proofs.GrammarLemmas.Bounds.{within-le}
 use Rattle.tlv_walk.proofs.GrammarLemmas.PushSteps.{Spells}
 use Rattle.tlv_walk.proofs.GrammarLemmas.Readings.{Going, run-reading}
 use Rattle.tlv_walk.proofs.GrammarLemmas.Settled.{end_in, settled-spells}
-use Rattle.tlv_walk.proofs.WalkerLemmas.Zipper.{behind, open-behind, open-within, place-at, reading_in, reading_of, room-if_open, settled, spell-behind, spell-within, whole-behind, within}
+use Rattle.tlv_walk.proofs.WalkerLemmas.Zipper.{behind, open-behind, open-within, place-at, reading_in, reading_of, room-if_open, settled, spelling-behind, spelling-within, whole-behind, within}
 use Rattle.tlv_walk.proofs.WalkerLemmas.ZipperEvents.{events-behind, events-settled, events-within, wrappers-behind, wrappers-settled, wrappers-within}
 
 -- after the whole elements of the innermost open one
 abbrev pub place_behind : Framing → List Layer → Forest → Place
-place_behind w ls here = place_after (place_in w ls) (length (spell here))
+place_behind w ls here = place_after (place_in w ls) (length (spelling here))
 
 -- the place after whole elements is where they end
-pub behind-end : (w : Framing) (ls : List Layer) (here g : Forest) → is_complete here ≡ true → end_in w ls (behind here g) ≡ (place_behind w ls here).at + length (spell g)
-behind-end w ls here g e = omega (arith, ap length (spell-behind here g e), length-append (spell here) (spell g))
+pub behind-end : (w : Framing) (ls : List Layer) (here g : Forest) → is_complete here ≡ true → end_in w ls (behind here g) ≡ (place_behind w ls here).at + length (spelling g)
+behind-end w ls here g e = omega (arith, ap length (spelling-behind here g e), length-append (spelling here) (spelling g))
 
 -- ---- whole elements, and then an open end
 
 -- they are open, with these octets
 open-spells : (w : Framing) (ls : List Layer) (here g : Forest) → AreLayers w ls → AreWhole (place_in w ls) here → IsOpen (place_behind w ls here) g → is_complete g ≡ false
-    → Spells (top_place w) (spell_layers ls ++ (spell here ++ spell g)) (within ls (behind here g))
+    → Spells (top_place w) (spelling_of_layers ls ++ (spelling here ++ spelling g)) (within ls (behind here g))
 open-spells w ls here g a i v e = record {
   is_open = open-within w ls (behind here g) a (open-behind (place_in w ls) here g i v) (room-if_open ls (behind here g) (whole-behind here g i.whole ∙ e));
-  spelled = spell-within w ls (behind here g) a ∙ ap (λ (t : List ℕ). spell_layers ls ++ t) (spell-behind here g i.whole);
+  spelled = spelling-within w ls (behind here g) a ∙ ap (λ (t : List ℕ). spelling_of_layers ls ++ t) (spelling-behind here g i.whole);
 }
 
 -- they have these events
 open-events : (w : Framing) (ls : List Layer) (here g : Forest) → AreLayers w ls → AreWhole (place_in w ls) here
-    → (events_layers ls ++ (events here ++ events g)) ++ [] ≡ events (within ls (behind here g))
+    → (events_of_layers ls ++ (events here ++ events g)) ++ [] ≡ events (within ls (behind here g))
 open-events w ls here g a i =
-    append-nil _ ∙ sym (events-within w ls (behind here g) a ∙ ap (λ (t : List EventValue). events_layers ls ++ t) (events-behind here g i.whole))
+    append-nil _ ∙ sym (events-within w ls (behind here g) a ∙ ap (λ (t : List EventValue). events_of_layers ls ++ t) (events-behind here g i.whole))
 
 -- and these wrappers
 open-wrappers : (w : Framing) (ls : List Layer) (here g : Forest) → AreLayers w ls → AreWhole (place_in w ls) here
@@ -63,19 +63,19 @@ more-whole w ls here g i j = record { is_open = open-behind (place_in w ls) here
 
 -- they are open, with these octets
 whole-spells : (w : Framing) (ls : List Layer) (here g : Forest) → AreLayers w ls → AreWhole (place_in w ls) here → AreWhole (place_behind w ls here) g
-    → Spells (top_place w) (spell_layers ls ++ (spell here ++ spell g)) (settled ls (behind here g))
+    → Spells (top_place w) (spelling_of_layers ls ++ (spelling here ++ spelling g)) (settled ls (behind here g))
 whole-spells w ls here g a i j =
-    let r : Spells (top_place w) (spell_layers ls ++ spell (behind here g)) (settled ls (behind here g)) = settled-spells w ls (behind here g) a (more-whole w ls here g i j) in
-    record { is_open = r.is_open; spelled = r.spelled ∙ ap (λ (t : List ℕ). spell_layers ls ++ t) (spell-behind here g i.whole) }
+    let r : Spells (top_place w) (spelling_of_layers ls ++ spelling (behind here g)) (settled ls (behind here g)) = settled-spells w ls (behind here g) a (more-whole w ls here g i j) in
+    record { is_open = r.is_open; spelled = r.spelled ∙ ap (λ (t : List ℕ). spelling_of_layers ls ++ t) (spelling-behind here g i.whole) }
 
 -- they have these events, and then the ends of the elements that are filled
 whole-events : (w : Framing) (ls : List Layer) (here g : Forest) (at : ℕ) → AreLayers w ls → AreWhole (place_in w ls) here → AreWhole (place_behind w ls here) g
-    → at ≡ (place_behind w ls here).at + length (spell g)
-    → events (settled ls (behind here g)) ≡ (events_layers ls ++ (events here ++ events g)) ++ ending_events at (frames_of w ls)
+    → at ≡ (place_behind w ls here).at + length (spelling g)
+    → events (settled ls (behind here g)) ≡ (events_of_layers ls ++ (events here ++ events g)) ++ ending_events at (frames_of w ls)
 whole-events w ls here g at a i j e =
     events-settled w ls (behind here g) a (more-whole w ls here g i j)
-    ∙ ap (λ (t : List EventValue). (events_layers ls ++ t) ++ ending_events (end_in w ls (behind here g)) (frames_of w ls)) (events-behind here g i.whole)
-    ∙ ap (λ (n : ℕ). (events_layers ls ++ (events here ++ events g)) ++ ending_events n (frames_of w ls)) (behind-end w ls here g i.whole ∙ sym e)
+    ∙ ap (λ (t : List EventValue). (events_of_layers ls ++ t) ++ ending_events (end_in w ls (behind here g)) (frames_of w ls)) (events-behind here g i.whole)
+    ∙ ap (λ (n : ℕ). (events_of_layers ls ++ (events here ++ events g)) ++ ending_events n (frames_of w ls)) (behind-end w ls here g i.whole ∙ sym e)
 
 -- and these wrappers
 whole-wrappers : (w : Framing) (ls : List Layer) (here g : Forest) → AreLayers w ls → AreWhole (place_in w ls) here → AreWhole (place_behind w ls here) g
@@ -86,13 +86,13 @@ whole-wrappers w ls here g a i j =
 -- ---- a primitive
 
 -- with all its contents octets it is whole
-contents-whole : (p : Place) (h : HeaderValue) (c : List ℕ) (left : ℕ) → IsContents p h c left → left ≡ 0 → AreWhole p (Whole h c Stop)
+contents-whole : (p : Place) (h : HeaderValue) (c : List ℕ) (left : ℕ) → IsContents p h c left → left ≡ 0 → AreWhole p (Primitive h c NoMore)
 contents-whole p h c left i e =
     let size : length c + left ≡ length c = omega arith in
     record { is_open = ((record { header = i.header; depth = λ e. absurd (cc (e)); fits = rw size at i.fits }, i.size ∙ ap Definite size), tt); whole = refl }
 
 -- else it lacks contents octets
-contents-partial : (p : Place) (h : HeaderValue) (c : List ℕ) (left : ℕ) → IsContents p h c left → (left ≡ 0 → ⊥) → IsOpen p (Partial h c)
+contents-partial : (p : Place) (h : HeaderValue) (c : List ℕ) (left : ℕ) → IsContents p h c left → (left ≡ 0 → ⊥) → IsOpen p (OpenPrimitive h c)
 contents-partial p h c left i n = (
   record { header = i.header; depth = λ e. absurd (cc (e)); fits = within-le p.bound _ _ (omega (arith, ap announced_length i.size)) i.fits },
   omega (arith, ap announced_length i.size),
@@ -113,9 +113,9 @@ contents-less p h c left i n =
 abbrev pub IsTailAt : Place → Tail → Type 0
 IsTailAt p Between = Unit {0}
 IsTailAt p (InContents h c) = (left : ℕ) × IsContents p h c left
-IsTailAt p (BeforeUnused h) = IsOpen p (Awaiting h)
-IsTailAt p (InHeader octets) = IsOpen p (Begun octets)
-IsTailAt p InEnd = IsOpen p Zero
+IsTailAt p (BeforeUnused h) = IsOpen p (OpenBitString h)
+IsTailAt p (InHeader octets) = IsOpen p (OpenHeader octets)
+IsTailAt p InEnd = IsOpen p OpenEndOctets
 
 -- the phase says so
 pub phase-tail : (f : Phase) (t : Tail) (p : Place) → IsPhaseOf f t p → IsTailAt p t
@@ -128,33 +128,33 @@ phase-tail f t p i = absurd i
 
 -- what a state has been read as is open, with the state's octets
 reading-spells : (w : Framing) (ls : List Layer) (here : Forest) (t : Tail) → AreLayers w ls → AreWhole (place_in w ls) here → IsTailAt (place_behind w ls here) t
-    → Spells (top_place w) (spell_layers ls ++ (spell here ++ spell_tail t)) (reading_in ls here t)
+    → Spells (top_place w) (spelling_of_layers ls ++ (spelling here ++ spelling_of_tail t)) (reading_in ls here t)
 reading-spells w ls here Between a i j =
-    let r : Spells (top_place w) (spell_layers ls ++ spell here) (settled ls here) = settled-spells w ls here a i in
-    record { is_open = r.is_open; spelled = r.spelled ∙ ap (λ (t : List ℕ). spell_layers ls ++ t) (sym (append-nil (spell here))) }
+    let r : Spells (top_place w) (spelling_of_layers ls ++ spelling here) (settled ls here) = settled-spells w ls here a i in
+    record { is_open = r.is_open; spelled = r.spelled ∙ ap (λ (t : List ℕ). spelling_of_layers ls ++ t) (sym (append-nil (spelling here))) }
 reading-spells w ls here (InContents h c) a i j = elim (cases_eq j.0 0) [
   | inl z ↦
-      let r : Spells (top_place w) (spell_layers ls ++ (spell here ++ (octets_of h ++ (c ++ [])))) (settled ls (behind here (Whole h c Stop))) =
-      whole-spells w ls here (Whole h c Stop) a i (contents-whole _ h c j.0 j.1 z) in
+      let r : Spells (top_place w) (spelling_of_layers ls ++ (spelling here ++ (octets_of h ++ (c ++ [])))) (settled ls (behind here (Primitive h c NoMore))) =
+      whole-spells w ls here (Primitive h c NoMore) a i (contents-whole _ h c j.0 j.1 z) in
       rw (contents-all _ h c j.0 j.1 z)
-      (record { is_open = r.is_open; spelled = r.spelled ∙ ap (λ (t : List ℕ). spell_layers ls ++ (spell here ++ (octets_of h ++ t))) (append-nil c) })
-  | inr n ↦ rw (contents-less _ h c j.0 j.1 n) (open-spells w ls here (Partial h c) a i (contents-partial _ h c j.0 j.1 n) refl)
+      (record { is_open = r.is_open; spelled = r.spelled ∙ ap (λ (t : List ℕ). spelling_of_layers ls ++ (spelling here ++ (octets_of h ++ t))) (append-nil c) })
+  | inr n ↦ rw (contents-less _ h c j.0 j.1 n) (open-spells w ls here (OpenPrimitive h c) a i (contents-partial _ h c j.0 j.1 n) refl)
 ]
-reading-spells w ls here (BeforeUnused h) a i j = open-spells w ls here (Awaiting h) a i j refl
-reading-spells w ls here (InHeader octets) a i j = open-spells w ls here (Begun octets) a i j refl
-reading-spells w ls here InEnd a i j = open-spells w ls here Zero a i j refl
+reading-spells w ls here (BeforeUnused h) a i j = open-spells w ls here (OpenBitString h) a i j refl
+reading-spells w ls here (InHeader octets) a i j = open-spells w ls here (OpenHeader octets) a i j refl
+reading-spells w ls here InEnd a i j = open-spells w ls here OpenEndOctets a i j refl
 
 -- its wrappers are the state's
 reading-wrappers : (w : Framing) (ls : List Layer) (here : Forest) (t : Tail) → AreLayers w ls → AreWhole (place_in w ls) here → IsTailAt (place_behind w ls here) t
     → wrappers (reading_in ls here t) ≡ wrappers_layers ls ++ (wrappers here ++ wrappers_tail t)
 reading-wrappers w ls here Between a i j = wrappers-settled w ls here a i ∙ ap (λ (t : List ℕ). wrappers_layers ls ++ t) (sym (append-nil (wrappers here)))
 reading-wrappers w ls here (InContents h c) a i j = elim (cases_eq j.0 0) [
-  | inl z ↦ rw (contents-all _ h c j.0 j.1 z) (whole-wrappers w ls here (Whole h c Stop) a i (contents-whole _ h c j.0 j.1 z))
-  | inr n ↦ rw (contents-less _ h c j.0 j.1 n) (open-wrappers w ls here (Partial h c) a i)
+  | inl z ↦ rw (contents-all _ h c j.0 j.1 z) (whole-wrappers w ls here (Primitive h c NoMore) a i (contents-whole _ h c j.0 j.1 z))
+  | inr n ↦ rw (contents-less _ h c j.0 j.1 n) (open-wrappers w ls here (OpenPrimitive h c) a i)
 ]
-reading-wrappers w ls here (BeforeUnused h) a i j = open-wrappers w ls here (Awaiting h) a i
-reading-wrappers w ls here (InHeader octets) a i j = open-wrappers w ls here (Begun octets) a i
-reading-wrappers w ls here InEnd a i j = open-wrappers w ls here Zero a i
+reading-wrappers w ls here (BeforeUnused h) a i j = open-wrappers w ls here (OpenBitString h) a i
+reading-wrappers w ls here (InHeader octets) a i j = open-wrappers w ls here (OpenHeader octets) a i
+reading-wrappers w ls here InEnd a i j = open-wrappers w ls here OpenEndOctets a i
 
 -- a primitive's end, yielded after what has been yielded of it
 contents-end : (around before ends : List EventValue) (h : HeaderValue) (c : List ℕ)
@@ -163,8 +163,8 @@ contents-end around before ends h c = simp append_assoc
 
 -- its events are the state's, and then those waiting
 reading-events : (w : Framing) (ls : List Layer) (here : Forest) (f : Phase) (t : Tail) (at : ℕ) → AreLayers w ls → AreWhole (place_in w ls) here → IsPhaseOf f t (place_behind w ls here)
-    → at ≡ (place_behind w ls here).at + length (spell_tail t)
-    → (events_layers ls ++ (events here ++ events_tail t)) ++ waiting_events_in f (stack_of w ls (place_behind w ls here) t) at ≡ events (reading_in ls here t)
+    → at ≡ (place_behind w ls here).at + length (spelling_of_tail t)
+    → (events_of_layers ls ++ (events here ++ events_of_tail t)) ++ waiting_events_in f (stack_of w ls (place_behind w ls here) t) at ≡ events (reading_in ls here t)
 reading-events w ls here phase.Between Between at a i j e =
     let there : at ≡ end_in w ls here = omega arith in
     rw (append-nil (events here), there) (sym (events-settled w ls here a i))
@@ -172,25 +172,25 @@ reading-events w ls here (phase.InContents left) (InContents h c) at a i j e = e
   | inl z ↦
       let there : at ≡ (place_behind w ls here).at + length (octets_of h ++ (c ++ [])) = e ∙ ap (λ (t : List ℕ). (place_behind w ls here).at + length (octets_of h ++ t)) (sym (append-nil c)) in
       rw (contents-all _ h c left j z, eq-eqb left 0 z)
-      (contents-end (events_layers ls) (events here) (ending_events at (frames_of w ls)) h c ∙ sym (whole-events w ls here (Whole h c Stop) at a i (contents-whole _ h c left j z) there))
-  | inr n ↦ rw (contents-less _ h c left j n, ne_eqb left 0 n) (open-events w ls here (Partial h c) a i)
+      (contents-end (events_of_layers ls) (events here) (ending_events at (frames_of w ls)) h c ∙ sym (whole-events w ls here (Primitive h c NoMore) at a i (contents-whole _ h c left j z) there))
+  | inr n ↦ rw (contents-less _ h c left j n, ne_eqb left 0 n) (open-events w ls here (OpenPrimitive h c) a i)
 ]
-reading-events w ls here (phase.InHeader r) (InHeader octets) at a i j e = open-events w ls here (Begun octets) a i
-reading-events w ls here phase.BeforeUnused (BeforeUnused h) at a i j e = open-events w ls here (Awaiting h) a i
-reading-events w ls here phase.InEnd InEnd at a i j e = open-events w ls here Zero a i
+reading-events w ls here (phase.InHeader r) (InHeader octets) at a i j e = open-events w ls here (OpenHeader octets) a i
+reading-events w ls here phase.BeforeUnused (BeforeUnused h) at a i j e = open-events w ls here (OpenBitString h) a i
+reading-events w ls here phase.InEnd InEnd at a i j e = open-events w ls here OpenEndOctets a i
 reading-events w ls here f t at a i j e = absurd j
 
 -- ---- of a walker
 
 -- the walker has taken the octets up to the open end, and those of what is open
-pub state-offset : (w : WalkerState) (b : List ℕ) (past : List EventValue) (s : Zipper) → HasZipper w b past s → w.offset ≡ (place_of w.framing s).at + length (spell_tail s.tail)
+pub state-offset : (w : WalkerState) (b : List ℕ) (past : List EventValue) (s : Zipper) → HasZipper w b past s → w.offset ≡ (place_of w.framing s).at + length (spelling_of_tail s.tail)
 state-offset w b past s h =
-    omega (arith, h.offset, ap length h.spelled, place-at w.framing s.layers, length-append (spell_layers s.layers) (spell s.here ++ spell_tail s.tail), length-append (spell s.here) (spell_tail s.tail))
+    omega (arith, h.offset, ap length h.spelled, place-at w.framing s.layers, length-append (spelling_of_layers s.layers) (spelling s.here ++ spelling_of_tail s.tail), length-append (spelling s.here) (spelling_of_tail s.tail))
 
 -- what its state has been read as is open, with the octets taken
 pub state-spells : (w : WalkerState) (b : List ℕ) (past : List EventValue) (s : Zipper) → HasZipper w b past s → Spells (top_place w.framing) b (reading_of s)
 state-spells w b past s h =
-    let r : Spells (top_place w.framing) (spell_zipper s) (reading_of s) =
+    let r : Spells (top_place w.framing) (spelling_of_zipper s) (reading_of s) =
     reading-spells w.framing s.layers s.here s.tail h.layers h.here (phase-tail w.phase s.tail (place_of w.framing s) h.phase) in
     record { is_open = r.is_open; spelled = r.spelled ∙ h.spelled }
 
@@ -201,11 +201,11 @@ state-reading w b past s h = run-reading w.framing (Going (reading_of s)) b (sta
 -- what was yielded and what is waiting are its events
 pub state-events : (w : WalkerState) (b : List ℕ) (past : List EventValue) (s : Zipper) → HasZipper w b past s → AreEqualJoined (past ++ waiting_events w) (events (reading_of s))
 state-events w b past s h =
-    let all : events_zipper s ++ waiting_events w ≡ events (reading_of s) =
-    ap (λ (stack : List Frame). events_zipper s ++ waiting_events_in w.phase stack w.offset) h.stack
+    let all : events_of_zipper s ++ waiting_events w ≡ events (reading_of s) =
+    ap (λ (stack : List Frame). events_of_zipper s ++ waiting_events_in w.phase stack w.offset) h.stack
     ∙ reading-events w.framing s.layers s.here w.phase s.tail w.offset h.layers h.here h.phase (state-offset w b past s h) in
     joined-from_apart (past ++ waiting_events w) (events (reading_of s))
-    (apart-before past (events_zipper s) (waiting_events w) (apart-from_joined past (events_zipper s) h.same_events) ∙ ap single_octets all)
+    (apart-before past (events_of_zipper s) (waiting_events w) (apart-from_joined past (events_of_zipper s) h.same_events) ∙ ap single_octets all)
 
 -- its wrappers are those of the state
 pub state-wrappers : (w : WalkerState) (b : List ℕ) (past : List EventValue) (s : Zipper) → HasZipper w b past s → wrappers (reading_of s) ≡ wrappers_zipper s
@@ -218,7 +218,7 @@ stands w b past s h n k =
 
 -- the state of a new walker: nothing is open, and nothing came
 abbrev pub new_state : Zipper
-new_state = record { layers = []; here = Stop; tail = Between }
+new_state = record { layers = []; here = NoMore; tail = Between }
 
 -- a new walker has it
 pub state-new : (framing : Framing) → HasZipper (new_walker framing) [] [] new_state

@@ -6,7 +6,7 @@ use Rattle.tlv_walk.specs.Private.Zipper.{BeforeUnused, Between, InContents, InE
 -- the wrappers
 abbrev pub wrappers_layers : List Layer → List ℕ
 wrappers_layers [] = []
-wrappers_layers (l ∷ ls) = wrappers_layers ls ++ (wrappers l.before ++ wrapper_at l.head)
+wrappers_layers (l ∷ ls) = wrappers_layers ls ++ (wrappers l.before ++ wrapper_at l.header)
 
 abbrev pub wrappers_tail : Tail → List ℕ
 wrappers_tail Between = []

@@ -18,7 +18,7 @@ use Rattle.tlv_head.specs.declared.header.HeaderFields.{HeaderFields}
 use Rattle.tlv_walk.specs.declared.walker.quick.WholePrimitive.{WholePrimitive}
 use Rattle.tlv_walk.specs.Inside.{is_among}
 use Rattle.tlv_walk.specs.Phase.{Phase, Between, InHeader, InContents, BeforeUnused, InEnd, Failed}
-use Rattle.tlv_walk.specs.Stack.{Frame, IsFilled, Within, bound_of}
+use Rattle.tlv_walk.specs.Stack.{Frame, IsFilled, IsWithin, bound_of}
 use Rattle.tlv_walk.specs.Private.Stack.{frame_with, room_in}
 use Rattle.tlv_walk.specs.WalkerState.{HasOctets, IsAfterEvent, WalkerState}
 
@@ -131,7 +131,7 @@ pub record CanEnter (w : WalkerState) (h : HeaderValue) : Type 0 where
   pub fewer : w.events + length w.stack ≤ h.offset
   pub limit : h.offset + length (octets_of h) ≤ 2 ^ 40
   pub shallow : holds h ≡ true → length w.stack < 128
-  pub fits : Within (bound_of w.stack) (h.offset + length (octets_of h) + announced_length h.size)
+  pub fits : IsWithin (bound_of w.stack) (h.offset + length (octets_of h) + announced_length h.size)
 
 abbrev pub fault_at : FaultCode → ℕ → FaultOf
 fault_at code offset = record { code = code; offset = offset }
@@ -166,7 +166,7 @@ pub record CanPass (w : WalkerState) (piece : List ℕ) (p : WholePrimitive) : T
   pub primitive : p.fields.constructed ≡ false
   pub octets : p.octets ≡ p.header + announced_length p.fields.size
   pub within : p.octets ≤ length piece
-  pub fits : Within (bound_of w.stack) (w.offset + p.octets)
+  pub fits : IsWithin (bound_of w.stack) (w.offset + p.octets)
 
 -- its header
 abbrev pub header_at : WholePrimitive → List ℕ → HeaderValue

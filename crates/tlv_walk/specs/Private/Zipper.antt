@@ -7,26 +7,26 @@ use Rattle.tlv_walk.specs.declared.framing.Framing.{Framing}
 use Rattle.tlv_walk.specs.Phase.{Phase}
 use Rattle.tlv_walk.specs.Phase as phase
 use Rattle.tlv_walk.specs.Events.{AreEqualJoined, Begin, Bytes, Enter, EventValue, events, opening_events}
-use Rattle.tlv_walk.specs.Forest.{Forest, Awaiting, Begun, Zero, has_element, is_complete, opening, spell}
+use Rattle.tlv_walk.specs.Forest.{Forest, OpenBitString, OpenHeader, OpenEndOctets, has_element, is_complete, opening, spelling}
 use Rattle.tlv_walk.specs.Inside.{CanName, is_among}
 use Rattle.tlv_walk.specs.WalkerState.{WalkerState}
 use Rattle.tlv_walk.specs.Private.WalkerState.{wrappers_after}
 use Rattle.tlv_walk.specs.Private.Stack.{frame_with}
-use Rattle.tlv_walk.specs.Place.{Fits, IsEntry, IsHeadAt, IsOpen, Place, place_after, place_of_children, top_place}
+use Rattle.tlv_walk.specs.Place.{Fits, IsEntry, IsHeaderAt, IsOpen, Place, place_after, place_of_children, top_place}
 use Rattle.tlv_walk.specs.Wrappers.{wrapper_offsets}
 
 -- an open element that holds others, and the whole elements before it in the element around it
 pub record Layer : Type 0 where
   pub before : Forest
-  pub head : HeaderValue
+  pub header : HeaderValue
 
 -- what is open after the whole elements of the innermost open element
 pub data Tail : Type 0 where
   Between : Tail
   -- contents octets so far, which may be all: the end is then still to be yielded
-  InContents : (head : HeaderValue) (contents : List ℕ) → Tail
+  InContents : (header : HeaderValue) (contents : List ℕ) → Tail
   -- a wrapping BIT STRING without its first contents octet
-  BeforeUnused : (head : HeaderValue) → Tail
+  BeforeUnused : (header : HeaderValue) → Tail
   -- the front of a header
   InHeader : (octets : List ℕ) → Tail
   -- the first of the end-of-contents octets
@@ -42,11 +42,11 @@ pub record Zipper : Type 0 where
 -- where the elements in the innermost open element begin
 abbrev pub place_in : Framing → List Layer → Place
 place_in w [] = top_place w
-place_in w (l ∷ ls) = place_of_children (place_after (place_in w ls) (length (spell l.before))) l.head
+place_in w (l ∷ ls) = place_of_children (place_after (place_in w ls) (length (spelling l.before))) l.header
 
 -- after the whole elements there
 abbrev pub place_of : Framing → Zipper → Place
-place_of w s = place_after (place_in w s.layers) (length (spell s.here))
+place_of w s = place_after (place_in w s.layers) (length (spelling s.here))
 
 -- whole elements are there, and nothing is open
 pub record AreWhole (p : Place) (f : Forest) : Type 0 where
@@ -58,11 +58,11 @@ abbrev pub AreLayers : Framing → List Layer → Type 0
 AreLayers w [] = Unit {0}
 AreLayers w (l ∷ ls) =
     AreLayers w ls × AreWhole (place_in w ls) l.before
-    × IsEntry (place_after (place_in w ls) (length (spell l.before))) true l.head
+    × IsEntry (place_after (place_in w ls) (length (spelling l.before))) true l.header
 
 -- 8.1.3.3: a primitive of which so many contents octets are still to come
 pub record IsContents (p : Place) (h : HeaderValue) (c : List ℕ) (left : ℕ) : Type 0 where
-  pub header : IsHeadAt p false h
+  pub header : IsHeaderAt p false h
   pub size : h.size ≡ Definite (length c + left)
   pub fits : Fits p (length (octets_of h) + (length c + left))
 
@@ -72,7 +72,7 @@ frame_at p h = frame_with (p.at + length (octets_of h)) p.bound h.size h.constru
 
 abbrev pub frames_of : Framing → List Layer → List Frame
 frames_of w [] = []
-frames_of w (l ∷ ls) = frame_at (place_after (place_in w ls) (length (spell l.before))) l.head ∷ frames_of w ls
+frames_of w (l ∷ ls) = frame_at (place_after (place_in w ls) (length (spelling l.before))) l.header ∷ frames_of w ls
 
 -- the frames of a state: a wrapping BIT STRING has one before its first contents octet
 abbrev pub stack_of : Framing → List Layer → Place → Tail → List Frame
@@ -86,41 +86,41 @@ stack_of w ls p InEnd = frames_of w ls
 abbrev pub IsPhaseOf : Phase → Tail → Place → Type 0
 IsPhaseOf phase.Between Between p = Unit {0}
 IsPhaseOf (phase.InHeader r) (InHeader octets) p =
-    (r.octets ≡ octets) × (r.offset ≡ p.at) × (r.named ≡ is_among p.at p.inside) × IsOpen p (Begun octets)
+    (r.octets ≡ octets) × (r.offset ≡ p.at) × (r.named ≡ is_among p.at p.inside) × IsOpen p (OpenHeader octets)
 IsPhaseOf (phase.InContents left) (InContents h c) p = IsContents p h c left
-IsPhaseOf phase.BeforeUnused (BeforeUnused h) p = IsOpen p (Awaiting h)
-IsPhaseOf phase.InEnd InEnd p = IsOpen p Zero
+IsPhaseOf phase.BeforeUnused (BeforeUnused h) p = IsOpen p (OpenBitString h)
+IsPhaseOf phase.InEnd InEnd p = IsOpen p OpenEndOctets
 IsPhaseOf f t p = ⊥
 
 -- the octets
-abbrev pub spell_layers : List Layer → List ℕ
-spell_layers [] = []
-spell_layers (l ∷ ls) = spell_layers ls ++ (spell l.before ++ opening l.head)
+abbrev pub spelling_of_layers : List Layer → List ℕ
+spelling_of_layers [] = []
+spelling_of_layers (l ∷ ls) = spelling_of_layers ls ++ (spelling l.before ++ opening l.header)
 
-abbrev pub spell_tail : Tail → List ℕ
-spell_tail Between = []
-spell_tail (InContents h c) = octets_of h ++ c
-spell_tail (BeforeUnused h) = octets_of h
-spell_tail (InHeader octets) = octets
-spell_tail InEnd = 0 ∷ []
+abbrev pub spelling_of_tail : Tail → List ℕ
+spelling_of_tail Between = []
+spelling_of_tail (InContents h c) = octets_of h ++ c
+spelling_of_tail (BeforeUnused h) = octets_of h
+spelling_of_tail (InHeader octets) = octets
+spelling_of_tail InEnd = 0 ∷ []
 
-abbrev pub spell_zipper : Zipper → List ℕ
-spell_zipper s = spell_layers s.layers ++ (spell s.here ++ spell_tail s.tail)
+abbrev pub spelling_of_zipper : Zipper → List ℕ
+spelling_of_zipper s = spelling_of_layers s.layers ++ (spelling s.here ++ spelling_of_tail s.tail)
 
 -- the events yielded: of a primitive and of an element that is filled, not yet the end
-abbrev pub events_layers : List Layer → List EventValue
-events_layers [] = []
-events_layers (l ∷ ls) = events_layers ls ++ (events l.before ++ opening_events l.head)
+abbrev pub events_of_layers : List Layer → List EventValue
+events_of_layers [] = []
+events_of_layers (l ∷ ls) = events_of_layers ls ++ (events l.before ++ opening_events l.header)
 
-abbrev pub events_tail : Tail → List EventValue
-events_tail Between = []
-events_tail (InContents h c) = Begin h ∷ Bytes c ∷ []
-events_tail (BeforeUnused h) = Enter h ∷ []
-events_tail (InHeader octets) = []
-events_tail InEnd = []
+abbrev pub events_of_tail : Tail → List EventValue
+events_of_tail Between = []
+events_of_tail (InContents h c) = Begin h ∷ Bytes c ∷ []
+events_of_tail (BeforeUnused h) = Enter h ∷ []
+events_of_tail (InHeader octets) = []
+events_of_tail InEnd = []
 
-abbrev pub events_zipper : Zipper → List EventValue
-events_zipper s = events_layers s.layers ++ (events s.here ++ events_tail s.tail)
+abbrev pub events_of_zipper : Zipper → List EventValue
+events_of_zipper s = events_of_layers s.layers ++ (events s.here ++ events_of_tail s.tail)
 
 -- an octet of an element came
 abbrev pub begins_among : List Layer → Forest → Bool
@@ -136,13 +136,13 @@ begins_element layers here InEnd = true
 
 -- the walker has this zipper: octets so far, frames, phase and counts are the zipper's
 pub record HasZipper (w : WalkerState) (b : List ℕ) (past : List EventValue) (s : Zipper) : Type 0 where
-  pub spelled : spell_zipper s ≡ b
+  pub spelled : spelling_of_zipper s ≡ b
   pub offset : w.offset ≡ length b
   pub stack : w.stack ≡ stack_of w.framing s.layers (place_of w.framing s) s.tail
   pub layers : AreLayers w.framing s.layers
   pub here : AreWhole (place_in w.framing s.layers) s.here
   pub phase : IsPhaseOf w.phase s.tail (place_of w.framing s)
-  pub same_events : AreEqualJoined past (events_zipper s)
+  pub same_events : AreEqualJoined past (events_of_zipper s)
   pub element : w.has_element ≡ begins_element s.layers s.here s.tail
 
 -- what proofs keep of a walker that stands for these octets and events: a state that it has, and the wrappers that it

@@ -8,7 +8,7 @@ ghost use Rattle.tlv_walk.specs.Inside.{is_among};
 ghost use Rattle.tlv_walk.specs.WalkerState.{HasOctets};
 ghost use Rattle.tlv_walk.specs.Private.WalkerState.{CanBegin, CanEnter, CanRead, CanReadOn, Enters, Steps, StepsAtOnce, YieldsAt, next_wrapper};
 ghost use Rattle.tlv_walk.specs.Private.ReadsOn.{YieldsFrom, YieldsHeader};
-ghost use Rattle.tlv_walk.specs.Stack.{Within, bound_of};
+ghost use Rattle.tlv_walk.specs.Stack.{IsWithin, bound_of};
 ghost use Rattle.tlv_walk.specs.HasRead.{event_value};
 ghost use Rattle.tlv_walk.specs.Private.Steps.{YieldsAtOnce, YieldsStep};
 
@@ -191,7 +191,7 @@ impl Walker {
         requires length { announced_length fields.now.size < 2 ^ 40 }
         ensures shallow { IsTrue result → holds (header_with fields.now octets.now) ≡ true
             → length self.now.stack < 128 }
-        ensures fits { IsTrue result → Within (bound_of self.now.stack)
+        ensures fits { IsTrue result → IsWithin (bound_of self.now.stack)
             (fields.now.offset + length octets.now + announced_length fields.now.size) }
     {
         if self.stack.len() == 128 && (fields.constructed || fields.wraps()) {

@@ -10,5 +10,5 @@ returns c =
     rw (← c.self.view_is)
     (passes _ _ h c.args.contents.now c.requires
     (sym c.frame-frame.ensures.segments ∙ plain.segments (search rules))
-    (sym (c.frame-frame.ensures.notes c.self.inside.rules h) ∙ plain.notes (search rules) usual)
+    (sym (c.frame-frame.ensures.findings c.self.inside.rules h) ∙ plain.findings (search rules) usual)
     (c.is_clear.ensures.contents (search rules)) refl)

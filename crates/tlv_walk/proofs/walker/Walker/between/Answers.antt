@@ -1,6 +1,6 @@
 use Rattle.std.proofs.Common.{◌≡◌, ℕ, ◌+◌, ◌-◌, List, ◌∷◌, length, take, drop, refl, sym, subst, inl, arith, rules}
 use Rattle.std.proofs.lemmas.Grind.{common_steps}
-use Rattle.tlv_walk.specs.Stack.{Within, bound_of}
+use Rattle.tlv_walk.specs.Stack.{IsWithin, bound_of}
 use Rattle.tlv_walk.specs.Private.Steps.{YieldsStep}
 use Rattle.tlv_walk.proofs.WalkerLemmas.AfterFirstZero.{room_more, step_behind}
 use Rattle.tlv_walk.proofs.WalkerLemmas.Moves.{yields_zero}
@@ -14,7 +14,7 @@ returns-then-eq-clause-yields c =
 
 pub returns-then-indefinite-2-clause-yields : goal.returns-then-indefinite-2-clause-yields
 returns-then-indefinite-2-clause-yields c =
-    let room : Within (bound_of c.self.inside.stack) (c.self.inside.offset + 1) = elim c.else-indefinite.branch [
+    let room : IsWithin (bound_of c.self.inside.stack) (c.self.inside.offset + 1) = elim c.else-indefinite.branch [
       | else-indefinite-via-then-indefinite+else-eq w ↦ room_more _ _ (search rules) (search rules)
       | else-indefinite-via-else-indefinite w ↦ absurd (search rules)
     ] in

@@ -3,7 +3,7 @@ use Rattle.tlv_head.specs.HeadReaderState.{HeadReaderState}
 use Rattle.tlv_head.specs.Push.{FitsThere, IsRefusedPush}
 use Rattle.tlv_walk.specs.WalkerState.{WalkerState}
 use Rattle.tlv_walk.specs.Private.ReadsOn.{HandsOver}
-use Rattle.tlv_walk.specs.Stack.{Within, bound_of}
+use Rattle.tlv_walk.specs.Stack.{IsWithin, bound_of}
 use Rattle.tlv_walk.specs.Private.Stack.{left_to}
 use Rattle.tlv_walk.specs.HasRead.{event_value}
 use Rattle.tlv_walk.specs.WalkerFields.{walker_state_of}
@@ -52,7 +52,7 @@ returns-in-Refused-clause-yields c = λ w over.
     let bound : c.bound-bound.result ≡ bound_of c.args.self.now.stack = c.bound-bound.ensures ∙ ap (λ (m : WalkerState). bound_of m.stack) c.self.view_is in
     let left : left_to c.bound-bound.result c.loop-piece.offset ≡ left_to (bound_of c.args.self.now.stack) c.loop-piece.offset = ap (λ (b : Option ℕ). left_to b c.loop-piece.offset) bound in
     inl (refuses_header w c.args.self.now c.args.reader c.loop-piece.reader c.args.piece.now.now c.loop-piece.piece.now _ x c.len-depth.result c.loop-piece.offset c.in-Refused.fault over i.read
-    (first_octet c.loop-piece.piece.now c.in-len1-up.len_at_least) (subst (λ (b : Option ℕ). Within b c.loop-piece.offset) bound i.within) i.place
+    (first_octet c.loop-piece.piece.now c.in-len1-up.len_at_least) (subst (λ (b : Option ℕ). IsWithin b c.loop-piece.offset) bound i.within) i.place
     (c.len-depth.ensures.value ∙ ap (λ (m : WalkerState). length m.stack) c.self.view_is)
     (λ none e. give_room c.loop-piece.reader.octets c.loop-piece.piece.now (left_to c.bound-bound.result c.loop-piece.offset) i.first none (left ∙ e))
     (subst (λ (o : Option ℕ). IsRefusedPush c.in-Refused.fault.code c.loop-piece.reader x o c.len-depth.result) (c.room_to.ensures ∙ left) a.0) a.1)
@@ -65,7 +65,7 @@ returns-clause-yields c = λ w over.
     let bound : c.bound-bound.result ≡ bound_of c.self-2.inside.stack = c.bound-bound.ensures ∙ ap (λ (m : WalkerState). bound_of m.stack) (c.self.view_is ∙ sym same) in
     yields_unfinished w (walker_state_of c.self-2.inside) c.args.reader c.loop-piece.reader c.args.piece.now.now c.loop-piece.offset (subst (λ (m : WalkerState). HandsOver w m c.args.reader) (sym same) over)
     (subst (HasTaken c.args.reader c.loop-piece.reader c.args.piece.now.now) used i.read) (give_some c.loop-piece.reader.octets c.loop-piece.piece.now _ i.first used) i.place
-    (subst (λ (b : Option ℕ). Within b c.loop-piece.offset) bound i.within)
+    (subst (λ (b : Option ℕ). IsWithin b c.loop-piece.offset) bound i.within)
 
 pub returns-in-Refused-clause-steps : goal.returns-in-Refused-clause-steps
 returns-in-Refused-clause-steps c = search rules

@@ -1,5 +1,5 @@
 use Rattle.std.proofs.Common.{◌≡◌, ◌+◌, false, length}
-use Rattle.tlv_walk.specs.Stack.{Within}
+use Rattle.tlv_walk.specs.Stack.{IsWithin}
 use Rattle.tlv_walk.specs.Private.Stack.{left_to}
 use Rattle.tlv_walk.proofs.WalkerLemmas.HeaderSteps.{CanGive, HasTaken}
 use Rattle.tlv_walk.proofs.walker.Walker.read_on.Given as goal
@@ -11,7 +11,7 @@ invariant-loop-piece l = record {
   start : l.reader.offset ≡ l.fn.reader.offset;
   place : l.reader.offset + length l.reader.octets ≡ l.offset;
   taken : l.offset + length l.piece.now ≡ l.fn.self.offset + length l.fn.piece.now;
-  within : Within l.bound l.offset;
+  within : IsWithin l.bound l.offset;
   read : HasTaken l.fn.reader l.reader l.fn.piece.now l.piece.now;
   first : CanGive l.reader.octets l.piece.now (left_to l.bound l.offset);
 }

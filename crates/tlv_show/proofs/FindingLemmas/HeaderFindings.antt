@@ -15,7 +15,7 @@ use Rattle.tlv_show.specs.declared.rules.Rules.{Rules}
 use Rattle.tlv_show.specs.declared.rules.Rules.TheVariants.{Ber, Der, Cer}
 use Rattle.tlv_show.specs.Conditions.{first_length, has_high_form, has_long_form, follows_unused_bits, header_conditions, is_not_full, leading_bits}
 use Rattle.tlv_show.proofs.FindingLemmas.SegmentType.{segment_type}
-use Rattle.tlv_show.specs.FinderState.{end_notes, header_notes}
+use Rattle.tlv_show.specs.FinderState.{end_findings_in, header_findings_in}
 use Rattle.tlv_show.specs.Found.{header_findings, shows}
 use Rattle.tlv_show.specs.Site.{Site, in_bit_string, in_string}
 use Rattle.tlv_show.proofs.FindingLemmas.SiteWords.{is_held_by}
@@ -89,7 +89,7 @@ rows_by unused other inner short h =
     ∷ []
 
 noted-by : (rules : Rules) (w : SiblingFrame) (h : HeaderValue)
-    → shown rules (rows_by (w.has_segments && w.has_bits && w.is_unused) (w.has_segments && not (is_a (if w.has_bits then bit_string else octet_string) h)) (h.constructed && w.has_segments) (w.has_segments && w.is_not_full) h) ≡ header_notes rules w h
+    → shown rules (rows_by (w.has_segments && w.has_bits && w.is_unused) (w.has_segments && not (is_a (if w.has_bits then bit_string else octet_string) h)) (h.constructed && w.has_segments) (w.has_segments && w.is_not_full) h) ≡ header_findings_in rules w h
 noted-by Ber w h =
     seven
     (finding_if (has_high_form h && nat_lt h.number 31) B01)
@@ -136,7 +136,7 @@ both-once : (a b : Bool) → (a && (a && b)) ≡ (a && b)
 both-once true b = refl
 both-once false b = refl
 
-pub header-same : (rules : Rules) (w : SiblingFrame) (s : Site) (h : HeaderValue) → Knows w s → header_notes rules w h ≡ header_findings rules s h
+pub header-same : (rules : Rules) (w : SiblingFrame) (s : Site) (h : HeaderValue) → Knows w s → header_findings_in rules w h ≡ header_findings rules s h
 header-same rules w s h k =
     let unused : ((w.has_segments && w.has_bits) && w.is_unused) ≡ (in_bit_string s && follows_unused_bits s.before) =
     ap₂ (λ (a b : Bool). (a && b) && w.is_unused) k.segments k.bits ∙ ap (λ (a : Bool). (in_string s && in_bit_string s) && a) k.unused ∙ in-bits s.holder (follows_unused_bits s.before) in
@@ -175,7 +175,7 @@ end-by Cer true b all empty sum =
     ap (λ (t : Bool). finding_if (all && t) C05 ++ finding_if empty C06) (capped n (sum n) (small b))
     ∙ ap (λ (l : List Finding). finding_if (all && nat_le (n + sum n) 1000) C05 ++ l) (sym (append-nil (finding_if empty C06)))
 
-pub ends-are : (rules : Rules) (w : SiblingFrame) → end_notes rules w ≡ ends_by rules w.has_segments w.has_bits w.all_primitive w.octets w.is_empty
+pub ends-are : (rules : Rules) (w : SiblingFrame) → end_findings_in rules w ≡ ends_by rules w.has_segments w.has_bits w.all_primitive w.octets w.is_empty
 ends-are Ber w = refl
 ends-are Der w = refl
 ends-are Cer w = refl

@@ -2,7 +2,7 @@ use Rattle.std.proofs.Common.{◌≡◌, ◌≤◌, length, take}
 use Rattle.std.specs.List.{filter}
 use Rattle.tlv_value.specs.CheckState.{findings_in}
 use Rattle.tlv_show.specs.Found.{shows}
-use Rattle.tlv_show.proofs.contents_findings.note_contents.Given as goal
+use Rattle.tlv_show.proofs.contents_findings.add_contents_findings.Given as goal
 
 abbrev pub invariant-loop-finding : goal.invariant-loop-finding
 invariant-loop-finding l = record {

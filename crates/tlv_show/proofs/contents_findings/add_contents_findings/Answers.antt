@@ -4,8 +4,8 @@ use Rattle.std.proofs.lemmas.List.Elements.{filter-append}
 use Rattle.std.specs.List.{filter}
 use Rattle.tlv_value.specs.declared.finding.Finding.{Finding}
 use Rattle.tlv_show.specs.Found.{shows}
-use Rattle.tlv_show.proofs.contents_findings.note_contents.Goals as goal
-use Rattle.tlv_show.proofs.contents_findings.note_contents.Goals.{then-is_shown, else-is_shown}
+use Rattle.tlv_show.proofs.contents_findings.add_contents_findings.Goals as goal
+use Rattle.tlv_show.proofs.contents_findings.add_contents_findings.Goals.{then-is_shown, else-is_shown}
 
 -- one finding more is looked at
 module _ (test : Finding → Bool) (l old : List Finding) (i : ℕ) (x : Finding) (h : i < length l) (e : old ≡ filter test (take i l)) where
