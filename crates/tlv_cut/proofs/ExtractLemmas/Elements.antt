@@ -17,7 +17,7 @@ use Rattle.tlv_cut.specs.ExtractText.{element_at, element_text, octets_so_far}
 use Rattle.tlv_cut.specs.ExtractStep.{ExtractState, begin_step, extract_step, has_found, new_extract, outer_octets}
 use Rattle.tlv_cut.proofs.ExtractLemmas.Contents.{put_step}
 use Rattle.tlv_cut.proofs.ExtractLemmas.Inside.{made_from, IsPassedOn, whole_inside_passed_on}
-use Rattle.tlv_cut.proofs.ExtractLemmas.Inside.{made_from-begins, events-closed, made_from-closes, state_inside}
+use Rattle.tlv_cut.proofs.ExtractLemmas.Inside.{made_from-begins, events-holder, made_from-closes, state_inside}
 use Rattle.tlv_cut.proofs.ExtractLemmas.Inside.{made_from-opens, then_more, passed_on}
 
 module _ (n : ℕ) (only : Bool) where
@@ -96,10 +96,10 @@ module _ (n : ℕ) (only : Bool) where
   other_begins h e = ap (begins h) e
 
   -- the element wanted, from its header to its end
-  made_from-whole : (h : HeaderValue) (c : List ℕ) → (h.offset == n) ≡ true
+  made_from-primitive : (h : HeaderValue) (c : List ℕ) → (h.offset == n) ≡ true
       → made_from before (Begin h ∷ Bytes c ∷ End ∷ [])
       ≡ finish_step ((outer_octets only (octets_of h) ++ c) ++ outer_octets only [])
-  made_from-whole h c e =
+  made_from-primitive h c e =
       then_more before (state_inside n only 0) (outer_octets only (octets_of h) ++ c) (Begin h ∷ Bytes c ∷ [])
       (End ∷ [])
       (made_from-begins before (state_inside n only 0) (outer_octets only (octets_of h)) h c (wanted_begins h e))
@@ -113,12 +113,12 @@ module _ (n : ℕ) (only : Bool) where
       → made_from before (opening_events h ++ es) ≡ made_from before es
   opens_other h es e = then_more before before [] (opening_events h) es (made_from-opens before before [] h (other_begins h e))
 
-  made_from-closed : (h : HeaderValue) (inside : Forest) → (h.offset == n) ≡ true → AllowsSize h.constructed h.size
+  made_from-holder : (h : HeaderValue) (inside : Forest) → (h.offset == n) ≡ true → AllowsSize h.constructed h.size
       → is_complete inside ≡ true → IsPassedOn n only 0 inside
       → made_from before (opening_events h ++ (events inside ++ closing_event h inside ∷ []))
       ≡ finish_step ((outer_octets only (octets_of h) ++ lead h) ++
       (octets_so_far inside ++ outer_octets only (end_octets h.size)))
-  made_from-closed h inside e allowed whole k =
+  made_from-holder h inside e allowed whole k =
       then_more before (state_inside n only 0) (outer_octets only (octets_of h) ++ lead h) (opening_events h)
       (events inside ++ closing_event h inside ∷ []) (opens_wanted h e)
       ∙ ap (λ (t : Effect ExtractState). record t { put = (outer_octets only (octets_of h) ++ lead h) ++ t.put })
@@ -137,10 +137,10 @@ module _ (n : ℕ) (only : Bool) where
       by true = append-nil c
       by false = append_assoc (octets_of h) c []
 
-  closed_octets : (h : HeaderValue) (inside : Forest)
+  holder_octets : (h : HeaderValue) (inside : Forest)
       → (outer_octets only (octets_of h) ++ lead h) ++ (octets_so_far inside ++ outer_octets only (end_octets h.size))
       ≡ element_text only (Holder h inside NoMore)
-  closed_octets h inside = by only
+  holder_octets h inside = by only
     where
       by : (k : Bool)
           → (outer_octets k (octets_of h) ++ lead h) ++ (octets_so_far inside ++ outer_octets k (end_octets h.size))
@@ -148,24 +148,24 @@ module _ (n : ℕ) (only : Bool) where
       by true = ap (λ (l : List ℕ). lead h ++ l) (append-nil (octets_so_far inside))
       by false = ap (λ (l : List ℕ). opening h ++ (octets_so_far inside ++ l)) (sym (append-nil (end_octets h.size)))
 
-  partial_octets : (h : HeaderValue) (c : List ℕ) → outer_octets only (octets_of h) ++ c ≡ element_text only (OpenPrimitive h c)
-  partial_octets h c = by only
+  open_primitive_octets : (h : HeaderValue) (c : List ℕ) → outer_octets only (octets_of h) ++ c ≡ element_text only (OpenPrimitive h c)
+  open_primitive_octets h c = by only
     where
       by : (k : Bool) → outer_octets k (octets_of h) ++ c ≡ element_text k (OpenPrimitive h c)
       by true = refl
       by false = refl
 
-  entered_octets : (h : HeaderValue) (inside : Forest)
+  open_holder_octets : (h : HeaderValue) (inside : Forest)
       → (outer_octets only (octets_of h) ++ lead h) ++ octets_so_far inside ≡ element_text only (OpenHolder h inside)
-  entered_octets h inside = by only
+  open_holder_octets h inside = by only
     where
       by : (k : Bool)
           → (outer_octets k (octets_of h) ++ lead h) ++ octets_so_far inside ≡ element_text k (OpenHolder h inside)
       by true = refl
       by false = refl
 
-  awaiting_octets : (h : HeaderValue) → outer_octets only (octets_of h) ≡ element_text only (OpenBitString h)
-  awaiting_octets h = by only
+  open_bit_string_octets : (h : HeaderValue) → outer_octets only (octets_of h) ≡ element_text only (OpenBitString h)
+  open_bit_string_octets h = by only
     where
       by : (k : Bool) → outer_octets k (octets_of h) ≡ element_text k (OpenBitString h)
       by true = refl
@@ -242,7 +242,7 @@ module _ (n : ℕ) (only : Bool) where
   makes_text p (Primitive h c rest) v deep =
       let es = Begin h ∷ Bytes c ∷ End ∷ [] in
       choose (h.offset == n) (Some (Primitive h c NoMore)) (element_at n rest) (made_from before (es ++ events rest))
-      (λ e. whole_text (Primitive h c NoMore) _ _ refl (whole_octets h c) (enough es (events rest) _ (made_from-whole h c e)))
+      (λ e. whole_text (Primitive h c NoMore) _ _ refl (whole_octets h c) (enough es (events rest) _ (made_from-primitive h c e)))
       (λ e. subst (IsTextOf (element_at n rest))
       (sym (then_more before before [] (Begin h ∷ Bytes c ∷ []) (End ∷ events rest)
       (made_from-begins before before [] h c (other_begins h e))))
@@ -253,9 +253,9 @@ module _ (n : ℕ) (only : Bool) where
       (made_from before (events (Holder h inside rest)))
       (λ e.
       let k = passed_on n only (place_of_children p h) 0 inside v.1 (omega arith) (omega (arith, (v.0.0.depth refl))) in
-      let all = enough es (events rest) _ (made_from-closed h inside e v.0.0.header.valid.allowed v.0.1 k) in
-      whole_text (Holder h inside NoMore) _ _ refl (closed_octets h inside)
-      (ap (made_from before) (events-closed h inside rest) ∙ all))
+      let all = enough es (events rest) _ (made_from-holder h inside e v.0.0.header.valid.allowed v.0.1 k) in
+      whole_text (Holder h inside NoMore) _ _ refl (holder_octets h inside)
+      (ap (made_from before) (events-holder h inside rest) ∙ all))
       (λ e. passed_by p h inside rest v e (makes_text (place_of_children p h) inside v.1 (omega (arith, (v.0.0.depth refl))))
       (makes_text (place_after p (extent h inside)) rest v.2 deep))
   makes_text p (OpenPrimitive h c) v deep =
@@ -264,7 +264,7 @@ module _ (n : ℕ) (only : Bool) where
       (λ e.
       let all =
       made_from-begins before (state_inside n only 0) (outer_octets only (octets_of h)) h c (wanted_begins h e) in
-      open_text (OpenPrimitive h c) _ refl (ap (λ (t : Effect ExtractState). t.put) all ∙ partial_octets h c)
+      open_text (OpenPrimitive h c) _ refl (ap (λ (t : Effect ExtractState). t.put) all ∙ open_primitive_octets h c)
       (ap (λ (t : Effect ExtractState). t.goes) all)
       (ap (λ (t : Effect ExtractState). has_found t.state) all))
       (λ e. missed _ (made_from-begins before before [] h c (other_begins h e)))
@@ -278,7 +278,7 @@ module _ (n : ℕ) (only : Bool) where
       (events inside) (opens_wanted h e) in
       open_text (OpenHolder h inside) _ refl
       (ap (λ (t : Effect ExtractState). t.put) all
-      ∙ ap (λ (l : List ℕ). (outer_octets only (octets_of h) ++ lead h) ++ l) k.put ∙ entered_octets h inside)
+      ∙ ap (λ (l : List ℕ). (outer_octets only (octets_of h) ++ lead h) ++ l) k.put ∙ open_holder_octets h inside)
       (ap (λ (t : Effect ExtractState). t.goes) all ∙ k.goes)
       (ap (λ (t : Effect ExtractState). has_found t.state) all ∙ k.found))
       (λ e. subst (IsTextOf (element_at n inside)) (sym (opens_other h (events inside) e))
@@ -287,7 +287,7 @@ module _ (n : ℕ) (only : Bool) where
       choose (h.offset == n) (Some (OpenBitString h)) None (made_from before (Enter h ∷ []))
       (λ e.
       let all = followed-one extract_step before (Enter h) ∙ wanted_begins h e in
-      open_text (OpenBitString h) _ refl (ap (λ (t : Effect ExtractState). t.put) all ∙ awaiting_octets h)
+      open_text (OpenBitString h) _ refl (ap (λ (t : Effect ExtractState). t.put) all ∙ open_bit_string_octets h)
       (ap (λ (t : Effect ExtractState). t.goes) all)
       (ap (λ (t : Effect ExtractState). has_found t.state) all))
       (λ e. missed _ (followed-one extract_step before (Enter h) ∙ other_begins h e))

@@ -130,10 +130,10 @@ module _ (n : ℕ) where
   in_rest p q f rest e o all at r =
       further p q f rest e o [] (all ∙ ap (λ (l : List ℕ). o ++ l) (sym (append-nil (spelling rest)))) at r
 
-  closed_parts : (h : HeaderValue) (inside : Forest)
+  holder_parts : (h : HeaderValue) (inside : Forest)
       → octets_so_far (Holder h inside NoMore)
       ≡ octets_of h ++ (contents_so_far (Holder h inside NoMore) ++ end_octets h.size)
-  closed_parts h inside =
+  holder_parts h inside =
       let e = end_octets h.size in
       append_assoc (octets_of h) (lead h) (octets_so_far inside ++ (e ++ []))
       ∙ ap (λ (l : List ℕ). octets_of h ++ (lead h ++ (octets_so_far inside ++ l))) (append-nil e)
@@ -164,7 +164,7 @@ module _ (n : ℕ) where
       first p true h f (Holder h inside NoMore) (spelling rest) v.0.0.header is
       (ap (λ (k : List ℕ). opening h ++ (k ++ (e ++ spelling rest))) (i.all v.0.1)
       ∙ sym (append_assoc-4 (opening h) (octets_so_far inside) e [] (spelling rest)))
-      (closed_parts h inside))
+      (holder_parts h inside))
       (λ _ some.
       first_there p f (element_at n inside) (element_at n rest) d
       (λ some. further p (place_of_children p h) f inside d (opening h) (e ++ spelling rest) refl refl

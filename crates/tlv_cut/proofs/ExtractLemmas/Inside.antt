@@ -73,9 +73,9 @@ made_from-closes s h inside allowed =
     followed-one extract_step s (closing_event h inside) ∙ closes_by h.constructed h.size s _ allowed
 
 -- the events of an element that has ended, and of what follows it
-pub events-closed : (h : HeaderValue) (inside rest : Forest)
+pub events-holder : (h : HeaderValue) (inside rest : Forest)
     → events (Holder h inside rest) ≡ (opening_events h ++ (events inside ++ closing_event h inside ∷ [])) ++ events rest
-events-closed h inside rest =
+events-holder h inside rest =
     sym (append_assoc (opening_events h) (events inside ++ closing_event h inside ∷ []) (events rest)
     ∙ ap (λ (l : List EventValue). opening_events h ++ l) (append_assoc (events inside) (closing_event h inside ∷ []) (events rest)))
 
@@ -129,11 +129,11 @@ module _ (n : ℕ) (only : Bool) where
       (made_from-begins (state_inside level) (state_inside (suc level)) (octets_of h) h c (one_more level h low))
       ∙ ap (put_step (state_inside level)) (append-nil (octets_of h ++ c))
 
-  closed_passed_on : (level : ℕ) (h : HeaderValue) (inside : Forest) → level ≤ 128 → AllowsSize h.constructed h.size
+  holder_passed_on : (level : ℕ) (h : HeaderValue) (inside : Forest) → level ≤ 128 → AllowsSize h.constructed h.size
       → is_complete inside ≡ true → IsPassedOn (suc level) inside
       → made_from (state_inside level) (opening_events h ++ (events inside ++ closing_event h inside ∷ []))
       ≡ put_step (state_inside level) (opening h ++ (octets_so_far inside ++ end_octets h.size))
-  closed_passed_on level h inside low allowed whole k =
+  holder_passed_on level h inside low allowed whole k =
       then_more (state_inside level) (state_inside (suc level)) (opening h) (opening_events h)
       (events inside ++ closing_event h inside ∷ [])
       (made_from-opens (state_inside level) (state_inside (suc level)) (octets_of h) h
@@ -160,8 +160,8 @@ module _ (n : ℕ) (only : Bool) where
       passed_on (place_of_children p h) (suc level) inside v.1 (omega (arith, low)) (omega (arith, (v.0.0.depth refl))) in
       passed_on_after level (opening_events h ++ (events inside ++ closing_event h inside ∷ []))
       (opening h ++ (octets_so_far inside ++ end_octets h.size)) (Holder h inside rest) rest
-      (closed_passed_on level h inside (omega (arith, low, deep)) v.0.0.header.valid.allowed v.0.1 i)
-      (events-closed h inside rest)
+      (holder_passed_on level h inside (omega (arith, low, deep)) v.0.0.header.valid.allowed v.0.1 i)
+      (events-holder h inside rest)
       (append_assoc (opening h) (octets_so_far inside ++ end_octets h.size) (octets_so_far rest)
       ∙ ap (λ (l : List ℕ). opening h ++ l)
       (append_assoc (octets_so_far inside) (end_octets h.size) (octets_so_far rest))) refl

@@ -64,19 +64,19 @@ no_lead h e =
     sym (ap (λ (k : Bool). indefinite_octets h ++ lead_by k (eqb h.number 3)) e ∙ append-nil (indefinite_octets h))
 
 -- the octets of an element that holds these, and of what follows it
-closed_spelled : (constructed : Bool) (h : HeaderValue) (inside rest : Forest) → h.constructed ≡ constructed
+holder_spelled : (constructed : Bool) (h : HeaderValue) (inside rest : Forest) → h.constructed ≡ constructed
     → opening_by constructed h ++ (spelling inside ++ (end_by constructed ++ spelling rest))
     ≡ spelling (if constructed then Holder (indefinite_header h) inside rest else Primitive h (lead h ++ spelling inside) rest)
-closed_spelled true h inside rest e = ap (λ (l : List ℕ). l ++ (spelling inside ++ (0 ∷ 0 ∷ spelling rest))) (no_lead h e)
-closed_spelled false h inside rest e =
+holder_spelled true h inside rest e = ap (λ (l : List ℕ). l ++ (spelling inside ++ (0 ∷ 0 ∷ spelling rest))) (no_lead h e)
+holder_spelled false h inside rest e =
     append_assoc (octets_of h) (lead h) (spelling inside ++ spelling rest)
     ∙ ap (λ (l : List ℕ). octets_of h ++ l) (sym (append_assoc (lead h) (spelling inside) (spelling rest)))
 
-entered_spelled : (constructed : Bool) (h : HeaderValue) (inside : Forest) → h.constructed ≡ constructed
+open_holder_spelled : (constructed : Bool) (h : HeaderValue) (inside : Forest) → h.constructed ≡ constructed
     → opening_by constructed h ++ spelling inside
     ≡ spelling (if constructed then OpenHolder (indefinite_header h) inside else OpenPrimitive h (lead h ++ spelling inside))
-entered_spelled true h inside e = ap (λ (l : List ℕ). l ++ spelling inside) (no_lead h e)
-entered_spelled false h inside e = append_assoc (octets_of h) (lead h) (spelling inside)
+open_holder_spelled true h inside e = ap (λ (l : List ℕ). l ++ spelling inside) (no_lead h e)
+open_holder_spelled false h inside e = append_assoc (octets_of h) (lead h) (spelling inside)
 
 -- what is put for the events of elements
 pub events_text-events : (f : Forest) → events_text (events f) ≡ indef_text f
@@ -89,12 +89,12 @@ events_text-events (Holder h inside rest) =
     (events_text-append (events inside) (closing_event h inside ∷ events rest)
     ∙ ap₂ (λ (k l : List ℕ). k ++ l) (events_text-events inside)
     (ap₂ (λ (k l : List ℕ). k ++ l) (closes_put h inside) (events_text-events rest)))
-    ∙ closed_spelled h.constructed h (with_indefinite_lengths inside) (with_indefinite_lengths rest) refl
+    ∙ holder_spelled h.constructed h (with_indefinite_lengths inside) (with_indefinite_lengths rest) refl
 events_text-events (OpenPrimitive h c) = ap (λ (l : List ℕ). octets_of h ++ l) (append-nil c)
 events_text-events (OpenHolder h inside) =
     events_text-append (opening_events h) (events inside)
     ∙ ap₂ (λ (k l : List ℕ). k ++ l) (opens_put h) (events_text-events inside)
-    ∙ entered_spelled h.constructed h (with_indefinite_lengths inside) refl
+    ∙ open_holder_spelled h.constructed h (with_indefinite_lengths inside) refl
 events_text-events (OpenBitString h) = append-nil (octets_of h)
 events_text-events (OpenHeader octets) = refl
 events_text-events OpenEndOctets = refl

@@ -50,31 +50,31 @@ spelling-with_offsets_from at OpenEndOctets = refl
 abbrev StaysAnywhere : Forest → Type 0
 StaysAnywhere f = (at : ℕ) → with_indefinite_lengths (with_offsets_from at f) ≡ with_offsets_from at f
 
-closed_stays : (constructed : Bool) (h : HeaderValue) (inside rest : Forest) → h.constructed ≡ constructed
+holder_stays : (constructed : Bool) (h : HeaderValue) (inside rest : Forest) → h.constructed ≡ constructed
     → StaysAnywhere inside → StaysAnywhere rest
     → StaysAnywhere (if constructed then Holder (indefinite_header h) inside rest else Primitive h
     (lead h ++ spelling inside) rest)
-closed_stays true h inside rest e i r at =
+holder_stays true h inside rest e i r at =
     let g = record (indefinite_header h) { offset = at } in
     let inner = with_offsets_from (at + length (opening g)) inside in
     let others = with_offsets_from (at + extent g inside) rest in
     ap (λ (k : Bool). if k then Holder g (with_indefinite_lengths inner) (with_indefinite_lengths others) else Primitive g
     (lead g ++ spelling (with_indefinite_lengths inner)) (with_indefinite_lengths others)) e
     ∙ ap₂ (λ (j k : Forest). Holder g j k) (i (at + length (opening g))) (r (at + extent g inside))
-closed_stays false h inside rest e i r at =
+holder_stays false h inside rest e i r at =
     let c = lead h ++ spelling inside in
     ap (λ (f : Forest). Primitive (record h { offset = at }) c f) (r (at + (length (octets_of h) + length c)))
 
-entered_stays : (constructed : Bool) (h : HeaderValue) (inside : Forest) → h.constructed ≡ constructed
+open_holder_stays : (constructed : Bool) (h : HeaderValue) (inside : Forest) → h.constructed ≡ constructed
     → StaysAnywhere inside
     → StaysAnywhere (if constructed then OpenHolder (indefinite_header h) inside else OpenPrimitive h (lead h ++ spelling inside))
-entered_stays true h inside e i at =
+open_holder_stays true h inside e i at =
     let g = record (indefinite_header h) { offset = at } in
     let inner = with_offsets_from (at + length (opening g)) inside in
     ap (λ (k : Bool). if k then OpenHolder g (with_indefinite_lengths inner) else OpenPrimitive g
     (lead g ++ spelling (with_indefinite_lengths inner))) e
     ∙ ap (λ (f : Forest). OpenHolder g f) (i (at + length (opening g)))
-entered_stays false h inside e i at = refl
+open_holder_stays false h inside e i at = refl
 
 stays : (f : Forest) → StaysAnywhere (with_indefinite_lengths f)
 stays NoMore at = refl
@@ -82,10 +82,10 @@ stays (PaddingOctet rest) at = ap (λ (f : Forest). PaddingOctet f) (stays rest 
 stays (Primitive h c rest) at =
     ap (λ (f : Forest). Primitive (record h { offset = at }) c f) (stays rest (at + (length (octets_of h) + length c)))
 stays (Holder h inside rest) at =
-    closed_stays h.constructed h (with_indefinite_lengths inside) (with_indefinite_lengths rest) refl (stays inside)
+    holder_stays h.constructed h (with_indefinite_lengths inside) (with_indefinite_lengths rest) refl (stays inside)
     (stays rest) at
 stays (OpenPrimitive h c) at = refl
-stays (OpenHolder h inside) at = entered_stays h.constructed h (with_indefinite_lengths inside) refl (stays inside) at
+stays (OpenHolder h inside) at = open_holder_stays h.constructed h (with_indefinite_lengths inside) refl (stays inside) at
 stays (OpenBitString h) at = refl
 stays (OpenHeader octets) at = refl
 stays OpenEndOctets at = refl

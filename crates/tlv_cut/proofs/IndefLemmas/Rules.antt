@@ -29,17 +29,17 @@ is_whole-with_offsets_from at (OpenHeader octets) = refl
 is_whole-with_offsets_from at OpenEndOctets = refl
 
 -- and with indefinite lengths
-closed_whole : (constructed : Bool) (h : HeaderValue) (c : List ℕ) (inside rest : Forest) → is_complete rest ≡ true
+holder_whole : (constructed : Bool) (h : HeaderValue) (c : List ℕ) (inside rest : Forest) → is_complete rest ≡ true
     → is_complete (if constructed then Holder (indefinite_header h) inside rest else Primitive h c rest) ≡ true
-closed_whole true h c inside rest e = e
-closed_whole false h c inside rest e = e
+holder_whole true h c inside rest e = e
+holder_whole false h c inside rest e = e
 
 is_whole-with_indefinite_lengths : (f : Forest) → is_complete f ≡ true → is_complete (with_indefinite_lengths f) ≡ true
 is_whole-with_indefinite_lengths NoMore e = refl
 is_whole-with_indefinite_lengths (PaddingOctet rest) e = is_whole-with_indefinite_lengths rest e
 is_whole-with_indefinite_lengths (Primitive h c rest) e = is_whole-with_indefinite_lengths rest e
 is_whole-with_indefinite_lengths (Holder h inside rest) e =
-    closed_whole h.constructed h _ (with_indefinite_lengths inside) (with_indefinite_lengths rest)
+    holder_whole h.constructed h _ (with_indefinite_lengths inside) (with_indefinite_lengths rest)
     (is_whole-with_indefinite_lengths rest e)
 is_whole-with_indefinite_lengths (OpenPrimitive h c) e = absurd (cc)
 is_whole-with_indefinite_lengths (OpenHolder h inside) e = absurd (cc)
@@ -52,11 +52,11 @@ pub whole : (at : ℕ) (f : Forest) → is_complete f ≡ true
 whole at f e = is_whole-with_offsets_from at (with_indefinite_lengths f) ∙ is_whole-with_indefinite_lengths f e
 
 -- if there is an element, there is one with indefinite lengths too
-closed_some : (constructed : Bool) (at : ℕ) (h : HeaderValue) (c : List ℕ) (inside rest : Forest)
+holder_some : (constructed : Bool) (at : ℕ) (h : HeaderValue) (c : List ℕ) (inside rest : Forest)
     → has_element (with_offsets_from at
     (if constructed then Holder (indefinite_header h) inside rest else Primitive h c rest)) ≡ true
-closed_some true at h c inside rest = refl
-closed_some false at h c inside rest = refl
+holder_some true at h c inside rest = refl
+holder_some false at h c inside rest = refl
 
 pub some : (at : ℕ) (f : Forest) → is_complete f ≡ true → has_element f ≡ true
     → has_element (with_offsets_from at (with_indefinite_lengths f)) ≡ true
@@ -64,7 +64,7 @@ some at NoMore w e = e
 some at (PaddingOctet rest) w e = some (at + 1) rest w e
 some at (Primitive h c rest) w e = refl
 some at (Holder h inside rest) w e =
-    closed_some h.constructed at h _ (with_indefinite_lengths inside) (with_indefinite_lengths rest)
+    holder_some h.constructed at h _ (with_indefinite_lengths inside) (with_indefinite_lengths rest)
 some at (OpenPrimitive h c) w e = absurd (cc)
 some at (OpenHolder h inside) w e = absurd (cc)
 some at (OpenBitString h) w e = absurd (cc)
@@ -143,19 +143,19 @@ follows q h at inside rest v =
     (sym (spelling-with_offsets_from at inside)) v
 
 -- what `with_indefinite_lengths` makes of a constructed element keeps the rules that it keeps with an indefinite length
-made_closed : (q : Place) (h : HeaderValue) (inside rest : Forest) → h.constructed ≡ true
+made_holder : (q : Place) (h : HeaderValue) (inside rest : Forest) → h.constructed ≡ true
     → IsOpen q (with_offsets_from q.at
     (Holder (indefinite_header h) (with_indefinite_lengths inside) (with_indefinite_lengths rest)))
     → IsOpen q (with_offsets_from q.at (with_indefinite_lengths (Holder h inside rest)))
-made_closed q h inside rest e v =
+made_holder q h inside rest e v =
     let one = Holder (indefinite_header h) (with_indefinite_lengths inside) (with_indefinite_lengths rest) in
     let other = Primitive h (lead h ++ spelling (with_indefinite_lengths inside)) (with_indefinite_lengths rest) in
     subst (λ (k : Bool). IsOpen q (with_offsets_from q.at (if k then one else other))) (sym e) v
 
-made_entered : (q : Place) (h : HeaderValue) (inside : Forest) → h.constructed ≡ true
+made_open_holder : (q : Place) (h : HeaderValue) (inside : Forest) → h.constructed ≡ true
     → IsOpen q (with_offsets_from q.at (OpenHolder (indefinite_header h) (with_indefinite_lengths inside)))
     → IsOpen q (with_offsets_from q.at (with_indefinite_lengths (OpenHolder h inside)))
-made_entered q h inside e v =
+made_open_holder q h inside e v =
     let one = OpenHolder (indefinite_header h) (with_indefinite_lengths inside) in
     let other = OpenPrimitive h (lead h ++ spelling (with_indefinite_lengths inside)) in
     subst (λ (k : Bool). IsOpen q (with_offsets_from q.at (if k then one else other))) (sym e) v
@@ -184,7 +184,7 @@ is_open p q (Holder h inside rest) k v =
     let header = heading_at q h in
     let at = q.at + length (opening header) in
     let n = extent header (with_indefinite_lengths inside) in
-    made_closed q h inside rest (constructed_at p h k.names v.0.0.header) (
+    made_holder q h inside rest (constructed_at p h k.names v.0.0.header) (
       (
         record {
           header = constructed_header p q h k v.0.0.header;
@@ -209,7 +209,7 @@ is_open p q (OpenPrimitive h c) k v = (
 )
 is_open p q (OpenHolder h inside) k v =
     let header = heading_at q h in
-    made_entered q h inside (constructed_at p h k.names v.0.0.header) (
+    made_open_holder q h inside (constructed_at p h k.names v.0.0.header) (
       (
         record {
           header = constructed_header p q h k v.0.0.header;

@@ -15,7 +15,7 @@ use Rattle.tlv_walk.specs.Events.{Begin, Bytes, End, EventValue, Pad, closing_ev
 use Rattle.tlv_walk.specs.Follow.{Effect, effect_of}
 use Rattle.tlv_walk.specs.Forest.{Forest, NoMore, PaddingOctet, Primitive, Holder, OpenPrimitive, OpenHolder, OpenBitString, OpenHeader, OpenEndOctets, end_octets, extent, is_complete, lead, opening, spelling}
 use Rattle.tlv_walk.specs.Place.{IsOpen, Place, place_after, place_of_children}
-use Rattle.tlv_walk.proofs.GrammarLemmas.Spellings.{length-closed, length-whole}
+use Rattle.tlv_walk.proofs.GrammarLemmas.Spellings.{length-holder, length-primitive}
 use Rattle.tlv_show.specs.declared.frames.SiblingFrame.{SiblingFrame}
 use Rattle.tlv_show.specs.declared.rules.Rules.{Rules}
 use Rattle.tlv_show.specs.declared.finding_lines.Style.TheVariants.{Dump}
@@ -143,9 +143,9 @@ module _ (style : Layout) (names : Table) (rules : Rules) where
       let u : Bool = has_unused_bits (check_after (new_check h) c) in
       let known : Knows (behind_primitive rules w h c) (site_after s h c) =
       subst (λ (x : Bool). Knows (frame_after w x (announced_length h.size) u) (site_after s h c)) (ap not form) (knows-behind w s (site_after s h c) h (first_octet c) u k.0 refl refl (unused-of h c form)) in
-      let t = shows_forest q holder (Sibling h (first_octet c)) (behind_primitive rules w h c) outer rest v.1 (omega (arith, b, length-whole h c rest)) (known, k.1, k.2) in
+      let t = shows_forest q holder (Sibling h (first_octet c)) (behind_primitive rules w h c) outer rest v.1 (omega (arith, b, length-primitive h c rest)) (known, k.1, k.2) in
       let all = λ (n : ℕ). behind-shown p q (is_padding before) w outer n (behind_contents rules w h c n) (behind_primitive rules w h c) holder (Sibling h (first_octet c)) (Begin h ∷ Bytes c ∷ End ∷ []) _ rest refl
-      (primitive-shown p (is_padding before) w outer n h c v.0.0.header.offset size (omega (arith, b, length-whole h c rest))) t in
+      (primitive-shown p (is_padding before) w outer n h c v.0.0.header.offset size (omega (arith, b, length-primitive h c rest))) t in
       let others : List Item = items rules (site_after s h c) rest in
       record {
         text = λ n.
@@ -157,7 +157,7 @@ module _ (style : Layout) (names : Table) (rules : Rules) where
             let r = t.stands (behind_contents rules w h c n) e in (
               r.0,
               ap (λ (x : Effect DumpState). x.state) (all n) ∙ r.1
-                  ∙ ap (λ (at : ℕ). pair (lines_at style names p.depth at (padded_behind style names false rest)) (standing rules (noted_all (behind_primitive rules w h c) rest) outer r.0)) (omega (arith, length-whole h c rest)),
+                  ∙ ap (λ (at : ℕ). pair (lines_at style names p.depth at (padded_behind style names false rest)) (standing rules (noted_all (behind_primitive rules w h c) rest) outer r.0)) (omega (arith, length-primitive h c rest)),
             );
       }
     where
@@ -167,7 +167,7 @@ module _ (style : Layout) (names : Table) (rules : Rules) where
       let s : Site = site p holder before in
       let q : Place = place_after p (extent h inside) in
       let i_place : Place = place_of_children p h in
-      let size = length-closed h inside rest in
+      let size = length-holder h inside rest in
       let i = shows_forest i_place (Some h) Start (frame_under w h) (w ∷ outer) inside v.1 (omega (arith, b, size)) (knows-inside w s h, omega (arith, k.1), λ e. absurd (cc (e))) in
       let t = shows_forest q holder (Sibling h None) (frame_after w (is_primitive h) (announced_length h.size) false) outer rest v.2 (omega (arith, b, size))
       (knows-behind w s (site_after_holder s h inside) h None false k.0 refl refl refl, k.1, k.2) in

@@ -17,7 +17,7 @@ use Rattle.tlv_walk.specs.Forest.{Forest, NoMore, PaddingOctet, Primitive, Holde
 use Rattle.tlv_walk.specs.Place.{IsOpen, Place, place_after, place_of_children, top_place}
 use Rattle.tlv_walk.specs.Reading.{IsReading}
 use Rattle.tlv_walk.proofs.GrammarLemmas.PopHeaders.{header-length}
-use Rattle.tlv_walk.proofs.GrammarLemmas.Spellings.{length-closed, length-opening, length-whole}
+use Rattle.tlv_walk.proofs.GrammarLemmas.Spellings.{length-holder, length-opening, length-primitive}
 use Rattle.tlv_show.specs.declared.frames.SiblingFrame.{SiblingFrame}
 use Rattle.tlv_show.specs.declared.rules.Rules.{Rules}
 use Rattle.tlv_show.specs.declared.finding_lines.Style.TheVariants.{Check}
@@ -158,7 +158,7 @@ module _ (rules : Rules) where
       let inner : List Item = findings_at s.level h.offset (contents_findings rules h c) ++ items rules (site_after s h c) rest in
       let b = few-at s.level h.offset (contents_findings rules h c) (items rules (site_after s h c) rest) 15 _ (few-contents h c) r in
       let a = few-at s.level h.offset (header_findings rules s h) (PrimitiveLines s.level h c ∷ inner) 14 _ (few-header s h) b in
-      omega (arith, a, header-length h v.0.0.header.valid, length-whole h c rest)
+      omega (arith, a, header-length h v.0.0.header.valid, length-primitive h c rest)
   few p s (Holder h inside rest) v =
       let i = few (place_of_children p h) (site_of_children s h) inside v.1 in
       let r = few (place_after p (extent h inside)) (site_after_holder s h inside) rest v.2 in
@@ -166,7 +166,7 @@ module _ (rules : Rules) where
       let b = few-at s.level h.offset (end_findings rules h (headers inside)) (items rules (site_after_holder s h inside) rest) 2 _ (few-end h inside) r in
       let m = few-both (items rules (site_of_children s h) inside) (ClosingLine s.level (end_place h inside) ∷ last) _ _ i b in
       let a = few-at s.level h.offset (header_findings rules s h) (OpeningLine s.level h ∷ (items rules (site_of_children s h) inside ++ ClosingLine s.level (end_place h inside) ∷ last)) 14 _ (few-header s h) m in
-      omega (arith, a, header-length h v.0.0.header.valid, length-closed h inside rest, length-opening h)
+      omega (arith, a, header-length h v.0.0.header.valid, length-holder h inside rest, length-opening h)
     where
       few-both : (xs ys : List Item) (n m : ℕ) → length (only xs) ≤ n → length (only ys) ≤ m → length (only (xs ++ ys)) ≤ n + m
       few-both xs ys n m e f = omega (arith, e, f, ap length (filter-append is_finding xs ys), length-append (only xs) (only ys))

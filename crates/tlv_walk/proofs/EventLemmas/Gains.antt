@@ -48,10 +48,10 @@ step-brings (Ended g) = refl
 step-brings (Refused code) = tt
 
 -- after the first of the end-of-contents octets nothing is brought
-zero-brings : (a b : Bool) → Brings [] (cond a (cond b (Ended NoMore) (Refused BadEnd)) (Refused MissingEnd))
-zero-brings true true = refl
-zero-brings true false = tt
-zero-brings false b = tt
+end_octets-brings : (a b : Bool) → Brings [] (cond a (cond b (Ended NoMore) (Refused BadEnd)) (Refused MissingEnd))
+end_octets-brings true true = refl
+end_octets-brings true false = tt
+end_octets-brings false b = tt
 
 -- events that a step brings are brought after others
 follow-brings : (f : Forest → Forest) (before old new : List EventValue) (s : Step) → ((g : Forest) → events (f g) ≡ before ++ events g) → Brings (old ++ new) s
@@ -61,31 +61,31 @@ follow-brings f before old new (Ended g) split e = ap single_octets (split g) �
 follow-brings f before old new (Refused code) split e = tt
 
 -- a contents octet of a primitive brings that octet, and the end after the last
-partial-brings : (h : HeaderValue) (c : List ℕ) (x : ℕ) → Brings (events (OpenPrimitive h c) ++ Bytes (x ∷ []) ∷ cond (eqb (length (c ++ x ∷ [])) (announced_length h.size)) (End ∷ []) []) (Grown (primitive_so_far h (c ++ x ∷ [])))
-partial-brings h c x = elim (cases_Bool (eqb (length (c ++ x ∷ [])) (announced_length h.size))) [
+open_primitive-brings : (h : HeaderValue) (c : List ℕ) (x : ℕ) → Brings (events (OpenPrimitive h c) ++ Bytes (x ∷ []) ∷ cond (eqb (length (c ++ x ∷ [])) (announced_length h.size)) (End ∷ []) []) (Grown (primitive_so_far h (c ++ x ∷ [])))
+open_primitive-brings h c x = elim (cases_Bool (eqb (length (c ++ x ∷ [])) (announced_length h.size))) [
   | inl full ↦ rw (full, map_push (λ x. Bytes (x ∷ [])) c x, append_assoc (bytes_apart c) (Bytes (x ∷ []) ∷ []) (End ∷ []))
   | inr less ↦ rw (less, map_push (λ x. Bytes (x ∷ [])) c x, append-nil (bytes_apart c ++ Bytes (x ∷ []) ∷ []))
 ]
 
 -- an element that holds others ends with its last
-closed-brings : (h : HeaderValue) (old new : List EventValue) (g : Forest) → single_octets (events g) ≡ single_octets (old ++ new)
+holder-brings : (h : HeaderValue) (old new : List EventValue) (g : Forest) → single_octets (events g) ≡ single_octets (old ++ new)
     → single_octets (events (Holder h g NoMore)) ≡ single_octets ((opening_events h ++ old) ++ (new ++ closing_event h g ∷ []))
-closed-brings h old new g e =
+holder-brings h old new g e =
     apart-more (opening_events h) (events g ++ closing_event h g ∷ []) old (new ++ closing_event h g ∷ [])
     (apart-before (events g) (old ++ new) (closing_event h g ∷ []) e ∙ ap single_octets (append_assoc old new (closing_event h g ∷ [])))
 
 -- an element that holds others brings what they bring, and its end after the last
-entered-brings : (h : HeaderValue) (old new : List EventValue) (g : Forest) → single_octets (events g) ≡ single_octets (old ++ new)
+holder_so_far-brings : (h : HeaderValue) (old new : List EventValue) (g : Forest) → single_octets (events g) ≡ single_octets (old ++ new)
     → single_octets (events (holder_so_far h g)) ≡ single_octets ((opening_events h ++ old) ++ (new ++ closing h (Grown g)))
-entered-brings h old new g e = elim (cases_Bool (is_filled h g)) [
-  | inl full ↦ rw full (closed-brings h old new g e)
+holder_so_far-brings h old new g e = elim (cases_Bool (is_filled h g)) [
+  | inl full ↦ rw full (holder-brings h old new g e)
   | inr less ↦ rw (less, append-nil new) (apart-more (opening_events h) (events g) old new e)
 ]
 
 -- a step of what an element holds
 settle-brings : (h : HeaderValue) (old new : List EventValue) (s : Step) → Brings (old ++ new) s → Brings ((opening_events h ++ old) ++ (new ++ closing h s)) (settle h s)
-settle-brings h old new (Grown g) e = entered-brings h old new g e
-settle-brings h old new (Ended g) e = closed-brings h old new g e
+settle-brings h old new (Grown g) e = holder_so_far-brings h old new g e
+settle-brings h old new (Ended g) e = holder-brings h old new g e
 settle-brings h old new (Refused code) e = tt
 
 -- a wrapping BIT STRING begins with its header and the octet before what it holds
@@ -94,10 +94,10 @@ waiting-opens h true c e = let none : List ℕ = [] in let e' : none ≡ 0 ∷ [
 waiting-opens h false c e = rw (e, c)
 
 -- the first contents octet of a wrapping BIT STRING
-awaiting-brings : (h : HeaderValue) (x : ℕ) → lead h ≡ 0 ∷ [] → Brings (Enter h ∷ cond (eqb x 0) (Unused ∷ closing h (Grown NoMore)) []) (cond (eqb x 0) (Grown (holder_so_far h NoMore)) (Refused BadInside))
-awaiting-brings h x e = elim (cases_Bool (eqb x 0)) [
+open_bit_string-brings : (h : HeaderValue) (x : ℕ) → lead h ≡ 0 ∷ [] → Brings (Enter h ∷ cond (eqb x 0) (Unused ∷ closing h (Grown NoMore)) []) (cond (eqb x 0) (Grown (holder_so_far h NoMore)) (Refused BadInside))
+open_bit_string-brings h x e = elim (cases_Bool (eqb x 0)) [
   | inl z ↦ rw z
-      (entered-brings h [] [] NoMore refl
+      (holder_so_far-brings h [] [] NoMore refl
       ∙ ap (λ (t : List EventValue). single_octets ((t ++ []) ++ closing h (Grown NoMore))) (waiting-opens h h.constructed refl e))
   | inr nz ↦ rw nz tt
 ]
@@ -115,8 +115,8 @@ push-brings p (Holder h inside rest) x w =
     let brings : Brings ((before ++ events rest) ++ gained p (Holder h inside rest) x) (push p (Holder h inside rest) x) =
     follow-brings (Holder h inside) before (events rest) _ _ split (push-brings (place_after p (extent h inside)) rest x w.2) in
     subst (λ (es : List EventValue). Brings (es ++ gained p (Holder h inside rest) x) (push p (Holder h inside rest) x)) (sym (split rest)) brings
-push-brings p (OpenPrimitive h c) x w = partial-brings h c x
+push-brings p (OpenPrimitive h c) x w = open_primitive-brings h c x
 push-brings p (OpenHolder h inside) x w = settle-brings h (events inside) _ _ (push-brings (place_of_children p h) inside x w.1)
-push-brings p (OpenBitString h) x w = awaiting-brings h x w.1
+push-brings p (OpenBitString h) x w = open_bit_string-brings h x w.1
 push-brings p (OpenHeader o) x w = step-brings (push p (OpenHeader o) x)
-push-brings p OpenEndOctets x w = zero-brings (fits p 2) (eqb x 0)
+push-brings p OpenEndOctets x w = end_octets-brings (fits p 2) (eqb x 0)

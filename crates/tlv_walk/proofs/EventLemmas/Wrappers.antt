@@ -10,7 +10,7 @@ use Rattle.tlv_walk.specs.Place.{IsHeaderAt, IsOpen, Place, place_after, place_o
 use Rattle.tlv_walk.specs.Events.{Begin, Bytes, Close, End, Enter, EventValue, Leave, Open, Pad, Unused, closing_event, events, opening_events, single_octets}
 use Rattle.tlv_walk.specs.Wrappers.{wrapper_at, wrapper_offsets, wrappers}
 use Rattle.tlv_walk.proofs.GrammarLemmas.Bounds.{fits}
-use Rattle.tlv_walk.proofs.GrammarLemmas.Spellings.{length-closed, length-opening, length-whole}
+use Rattle.tlv_walk.proofs.GrammarLemmas.Spellings.{length-holder, length-opening, length-primitive}
 use Rattle.tlv_walk.proofs.GrammarLemmas.PushSteps.{Step, Grown, Ended, Refused, Spells, begin, element_begun, holder_so_far, is_filled, holder_begun, origin, primitive_so_far, push, zero_between}
 use Rattle.tlv_walk.proofs.GrammarLemmas.Push.{push-sound}
 use Rattle.tlv_walk.proofs.GrammarLemmas.PopHeaders.{header-length}
@@ -129,33 +129,33 @@ closing-none h (Ended g) = enters-closes h g []
 closing-none h (Refused code) = refl
 
 -- an element that holds none yet, by its contents octets
-entered-few : (h : HeaderValue) → EntersFew (events (holder_so_far h NoMore))
-entered-few h = elim (cases_Bool (is_filled h NoMore)) [
+holder_so_far-few : (h : HeaderValue) → EntersFew (events (holder_so_far h NoMore))
+holder_so_far-few h = elim (cases_Bool (is_filled h NoMore)) [
   | inl e ↦ rw e (omega (arith, wrapper-few h, ap length (enters-opens h (closing_event h NoMore ∷ [])), length-append (wrapper_at h) (wrapper_offsets (closing_event h NoMore ∷ [])), ap length (enters-closes h NoMore [])))
   | inr e ↦ rw e (omega (arith, wrapper-few h, ap length (enters-opens h []), length-append {A = ℕ} (wrapper_at h) []))
 ]
 
 -- an element that holds none yet
-opened-few : (h : HeaderValue) (l : List ℕ) → EntersFew (events (holder_begun h l))
-opened-few h [] = entered-few h
-opened-few h (x ∷ l) = omega arith
+holder_begun-few : (h : HeaderValue) (l : List ℕ) → EntersFew (events (holder_begun h l))
+holder_begun-few h [] = holder_so_far-few h
+holder_begun-few h (x ∷ l) = omega arith
 
 -- a primitive
-partial-none : (h : HeaderValue) (c : List ℕ) → EntersFew (events (primitive_so_far h c))
-partial-none h c = elim (cases_Bool (eqb (length c) (announced_length h.size))) [
+primitive_so_far-none : (h : HeaderValue) (c : List ℕ) → EntersFew (events (primitive_so_far h c))
+primitive_so_far-none h c = elim (cases_Bool (eqb (length c) (announced_length h.size))) [
   | inl e ↦ rw e (omega arith)
   | inr e ↦ rw e (omega arith)
 ]
 
 -- a header alone
-begun-few : (h : HeaderValue) (k : Bool) → EntersFew (events (element_begun k h))
-begun-few h true = opened-few h (lead h)
-begun-few h false = partial-none h []
+element_begun-few : (h : HeaderValue) (k : Bool) → EntersFew (events (element_begun k h))
+element_begun-few h true = holder_begun-few h (lead h)
+element_begun-few h false = primitive_so_far-none h []
 
 -- a header that is complete
 complete-few : (p : Place) (h : HeaderValue) (deep room : Bool) → EntersFew (step_events (cond deep (Refused TooDeep) (cond room (Grown (element_begun (holds h) h)) (Refused Overrun))))
 complete-few p h true room = omega arith
-complete-few p h false true = begun-few h (holds h)
+complete-few p h false true = element_begun-few h (holds h)
 complete-few p h false false = omega arith
 
 -- octets of a header, by what they say
@@ -238,11 +238,11 @@ pub wrappers-rise : (p : Place) (f : Forest) → IsOpen p f → Rise p.at (p.at 
 wrappers-rise p NoMore w = omega arith
 wrappers-rise p (PaddingOctet rest) w = rise-within _ _ _ _ (wrappers rest) (omega arith) (omega arith) (wrappers-rise (place_after p 1) rest w.1)
 wrappers-rise p (Primitive h c rest) w =
-    rise-within _ _ _ _ (wrappers rest) (omega arith) (omega (arith, length-whole h c rest))
+    rise-within _ _ _ _ (wrappers rest) (omega arith) (omega (arith, length-primitive h c rest))
     (wrappers-rise (place_after p (length (octets_of h) + length c)) rest w.1)
 wrappers-rise p (Holder h inside rest) w =
     let two : 2 ≤ length (octets_of h) = header-length h w.0.0.header.valid in
-    let size : length (spelling (Holder h inside rest)) ≡ extent h inside + length (spelling rest) = length-closed h inside rest in
+    let size : length (spelling (Holder h inside rest)) ≡ extent h inside + length (spelling rest) = length-holder h inside rest in
     rise-append p.at (p.at + length (opening h)) _ (wrapper_at h) (wrappers inside ++ wrappers rest)
     (wrapper-rises p.at (p.at + length (opening h)) h w.0.0.header.offset (omega (arith, length-opening h)))
     (rise-append (p.at + length (opening h)) (p.at + extent h inside) _ (wrappers inside) (wrappers rest)

@@ -7,18 +7,18 @@ use Rattle.tlv_walk.specs.Forest.{Forest, Holder, NoMore, OpenBitString, OpenEnd
 use Rattle.tlv_walk.specs.Place.{Fits, IsEntry, IsHeaderAt, IsOpen, Place, is_indefinite, place_after, place_of_children}
 use Rattle.tlv_walk.proofs.GrammarLemmas.Lengths.{LacksOctets}
 use Rattle.tlv_walk.proofs.GrammarLemmas.Bounds.{IsEndless, IsFull, definite-length, fits-inside, fits-within, has_length, indefinite-endless, lacks-length, length-full, within-lacks, within-le}
-use Rattle.tlv_walk.proofs.GrammarLemmas.Spellings.{append_assoc-3, append_assoc-4, length-closed, length-opening, length-whole}
+use Rattle.tlv_walk.proofs.GrammarLemmas.Spellings.{append_assoc-3, append_assoc-4, length-holder, length-opening, length-primitive}
 use Rattle.tlv_walk.proofs.GrammarLemmas.PushSteps.{IsWholeHolder, IsWholePrimitive, Grown, Ended, holder_so_far, follow, is_filled, primitive_so_far, push, settle}
 use Rattle.tlv_walk.proofs.GrammarLemmas.Push.{reaches, size-definite}
-use Rattle.tlv_walk.proofs.GrammarLemmas.PopHeaders.{back, Popped, header-popped, opened-popped, lead-popped, front-popped, is_nil, is_push}
+use Rattle.tlv_walk.proofs.GrammarLemmas.PopHeaders.{back, Popped, header-popped, holder_begun-popped, lead-popped, front-popped, is_nil, is_push}
 
 -- a primitive with all its contents octets
-partial-whole : (h : HeaderValue) (c : List ℕ) → h.size ≡ Definite (length c) → primitive_so_far h c ≡ Primitive h c NoMore
-partial-whole h c e = rw (eq-eqb (length c) (announced_length h.size) (sym (ap announced_length e)))
+primitive_so_far-whole : (h : HeaderValue) (c : List ℕ) → h.size ≡ Definite (length c) → primitive_so_far h c ≡ Primitive h c NoMore
+primitive_so_far-whole h c e = rw (eq-eqb (length c) (announced_length h.size) (sym (ap announced_length e)))
 
 -- a primitive that lacks contents octets
-partial-partial : (h : HeaderValue) (c : List ℕ) (n : ℕ) → h.size ≡ Definite n → length c < n → primitive_so_far h c ≡ OpenPrimitive h c
-partial-partial h c n e less =
+primitive_so_far-open : (h : HeaderValue) (c : List ℕ) (n : ℕ) → h.size ≡ Definite n → length c < n → primitive_so_far h c ≡ OpenPrimitive h c
+primitive_so_far-open h c n e less =
     let all : announced_length h.size ≡ n = ap announced_length e in
     rw (ne_eqb (length c) (announced_length h.size) (λ z. omega arith))
 
@@ -48,20 +48,20 @@ primitive-popped p h c n g header e most f same spelled = elim (back c) [
 ]
 
 -- a whole primitive is popped
-whole-popped : (p : Place) (h : HeaderValue) (c : List ℕ) → IsWholePrimitive p h c → Popped p (Primitive h c NoMore)
-whole-popped p h c w =
-    primitive-popped p h c (length c) (Primitive h c NoMore) w.0.header w.1 (omega arith) w.0.fits (partial-whole h c w.1) (ap (λ (t : List ℕ). octets_of h ++ t) (append-nil c))
+whole_primitive-popped : (p : Place) (h : HeaderValue) (c : List ℕ) → IsWholePrimitive p h c → Popped p (Primitive h c NoMore)
+whole_primitive-popped p h c w =
+    primitive-popped p h c (length c) (Primitive h c NoMore) w.0.header w.1 (omega arith) w.0.fits (primitive_so_far-whole h c w.1) (ap (λ (t : List ℕ). octets_of h ++ t) (append-nil c))
 
 -- a primitive that lacks contents octets is popped
-partial-popped : (p : Place) (h : HeaderValue) (c : List ℕ) → IsOpen p (OpenPrimitive h c) → Popped p (OpenPrimitive h c)
-partial-popped p h c w =
+open_primitive-popped : (p : Place) (h : HeaderValue) (c : List ℕ) → IsOpen p (OpenPrimitive h c) → Popped p (OpenPrimitive h c)
+open_primitive-popped p h c w =
     let n : (n : ℕ) × (h.size ≡ Definite n) = size-definite h w.0.header.valid w.0.header.form in
     let all : announced_length h.size ≡ n.0 = ap announced_length n.1 in
-    primitive-popped p h c n.0 (OpenPrimitive h c) w.0.header n.1 (omega (arith, w.1)) (within-le p.bound _ _ (omega arith) w.0.fits) (partial-partial h c n.0 n.1 (omega (arith, w.1))) refl
+    primitive-popped p h c n.0 (OpenPrimitive h c) w.0.header n.1 (omega (arith, w.1)) (within-le p.bound _ _ (omega arith) w.0.fits) (primitive_so_far-open h c n.0 n.1 (omega (arith, w.1))) refl
 
 -- an element that lacks contents octets has not ended
-lacking-entered : (h : HeaderValue) (f : Forest) → (is_complete f ≡ true → LacksOctets h.size (contents_length h f)) → holder_so_far h f ≡ OpenHolder h f
-lacking-entered h f lacks = elim (cases_Bool (is_complete f)) [
+holder_so_far-open : (h : HeaderValue) (f : Forest) → (is_complete f ≡ true → LacksOctets h.size (contents_length h f)) → holder_so_far h f ≡ OpenHolder h f
+holder_so_far-open h f lacks = elim (cases_Bool (is_complete f)) [
   | inl e ↦ rw (e, lacks-length h.size (contents_length h f) (lacks e))
   | inr e ↦ rw e
 ]
@@ -88,51 +88,51 @@ settled p h inside g entry w (inr q) same spelled = record {
 }
 
 -- whole elements, and after them the first of the end-of-contents octets
-abbrev zeroed : Forest → Forest
-zeroed NoMore = OpenEndOctets
-zeroed (PaddingOctet rest) = PaddingOctet (zeroed rest)
-zeroed (Primitive h c rest) = Primitive h c (zeroed rest)
-zeroed (Holder h inside rest) = Holder h inside (zeroed rest)
-zeroed (OpenPrimitive h c) = OpenPrimitive h c
-zeroed (OpenHolder h inside) = OpenHolder h inside
-zeroed (OpenBitString h) = OpenBitString h
-zeroed (OpenHeader o) = OpenHeader o
-zeroed OpenEndOctets = OpenEndOctets
+abbrev with_first_end_octet : Forest → Forest
+with_first_end_octet NoMore = OpenEndOctets
+with_first_end_octet (PaddingOctet rest) = PaddingOctet (with_first_end_octet rest)
+with_first_end_octet (Primitive h c rest) = Primitive h c (with_first_end_octet rest)
+with_first_end_octet (Holder h inside rest) = Holder h inside (with_first_end_octet rest)
+with_first_end_octet (OpenPrimitive h c) = OpenPrimitive h c
+with_first_end_octet (OpenHolder h inside) = OpenHolder h inside
+with_first_end_octet (OpenBitString h) = OpenBitString h
+with_first_end_octet (OpenHeader o) = OpenHeader o
+with_first_end_octet OpenEndOctets = OpenEndOctets
 
 -- g is f with the first of the end-of-contents octets, and the second ends f
-record IsZeroed (p : Place) (f g : Forest) : Type 0 where
+record HasFirstEndOctet (p : Place) (f g : Forest) : Type 0 where
   is_open : IsOpen p g
   spelled : spelling g ≡ spelling f ++ 0 ∷ []
   pushed : push p g 0 ≡ Ended f
 
 -- whole elements in an element of indefinite length are so
-is-zeroed : (p : Place) (f : Forest) → IsOpen p f → is_complete f ≡ true → p.indefinite ≡ true → Fits p (length (spelling f) + 2) → IsZeroed p f (zeroed f)
-is-zeroed p NoMore w whole i f =
+has-first_end_octet : (p : Place) (f : Forest) → IsOpen p f → is_complete f ≡ true → p.indefinite ≡ true → Fits p (length (spelling f) + 2) → HasFirstEndOctet p f (with_first_end_octet f)
+has-first_end_octet p NoMore w whole i f =
     record { is_open = (i, within-le p.bound _ _ (omega arith) f); spelled = refl; pushed = rw (fits-within p.bound (p.at + 2) f) }
-is-zeroed p (PaddingOctet rest) w whole i f = absurd (true≢false (sym i ∙ w.0.1))
-is-zeroed p (Primitive h c rest) w whole i f =
-    let r : IsZeroed (place_after p (length (octets_of h) + length c)) rest (zeroed rest) =
-    is-zeroed (place_after p (length (octets_of h) + length c)) rest w.1 whole i
-    (within-le p.bound _ _ (omega (arith, length-whole h c rest)) f) in
+has-first_end_octet p (PaddingOctet rest) w whole i f = absurd (true≢false (sym i ∙ w.0.1))
+has-first_end_octet p (Primitive h c rest) w whole i f =
+    let r : HasFirstEndOctet (place_after p (length (octets_of h) + length c)) rest (with_first_end_octet rest) =
+    has-first_end_octet (place_after p (length (octets_of h) + length c)) rest w.1 whole i
+    (within-le p.bound _ _ (omega (arith, length-primitive h c rest)) f) in
     record {
       is_open = (w.0, r.is_open);
       spelled = rw (r.spelled, append_assoc-3 (octets_of h) c (spelling rest) (0 ∷ []));
       pushed = ap (follow (Primitive h c)) r.pushed;
     }
-is-zeroed p (Holder h inside rest) w whole i f =
-    let r : IsZeroed (place_after p (extent h inside)) rest (zeroed rest) =
-    is-zeroed (place_after p (extent h inside)) rest w.2 whole i
-    (within-le p.bound _ _ (omega (arith, length-closed h inside rest)) f) in
+has-first_end_octet p (Holder h inside rest) w whole i f =
+    let r : HasFirstEndOctet (place_after p (extent h inside)) rest (with_first_end_octet rest) =
+    has-first_end_octet (place_after p (extent h inside)) rest w.2 whole i
+    (within-le p.bound _ _ (omega (arith, length-holder h inside rest)) f) in
     record {
       is_open = (w.0, w.1, r.is_open);
       spelled = rw (r.spelled, append_assoc-4 (opening h) (spelling inside) (end_octets h.size) (spelling rest) (0 ∷ []));
       pushed = ap (follow (Holder h inside)) r.pushed;
     }
-is-zeroed p (OpenPrimitive h c) w whole i f = absurd (cc)
-is-zeroed p (OpenHolder h inside) w whole i f = absurd (cc)
-is-zeroed p (OpenBitString h) w whole i f = absurd (cc)
-is-zeroed p (OpenHeader o) w whole i f = absurd (cc)
-is-zeroed p OpenEndOctets w whole i f = absurd (cc)
+has-first_end_octet p (OpenPrimitive h c) w whole i f = absurd (cc)
+has-first_end_octet p (OpenHolder h inside) w whole i f = absurd (cc)
+has-first_end_octet p (OpenBitString h) w whole i f = absurd (cc)
+has-first_end_octet p (OpenHeader o) w whole i f = absurd (cc)
+has-first_end_octet p OpenEndOctets w whole i f = absurd (cc)
 
 -- an element of indefinite length is popped by the second of its end-of-contents octets
 endless-popped : (p : Place) (h : HeaderValue) (inside : Forest) → is_indefinite h.size ≡ true → IsWholeHolder p h inside → IsOpen (place_of_children p h) inside → Popped p (Holder h inside NoMore)
@@ -140,9 +140,9 @@ endless-popped p h inside i w v =
     let e : IsEndless h.size (p.at + length (octets_of h)) p.bound (contents_length h inside) = indefinite-endless h.size _ p.bound _ i in
     let two : length (end_octets h.size) ≡ 2 = ap length e.ends in
     let f : Fits (place_of_children p h) (length (spelling inside) + 2) = rw e.bound (within-le p.bound _ _ (omega arith) w.0.fits) in
-    let r : IsZeroed (place_of_children p h) inside (zeroed inside) = is-zeroed (place_of_children p h) inside v w.1 i f in
+    let r : HasFirstEndOctet (place_of_children p h) inside (with_first_end_octet inside) = has-first_end_octet (place_of_children p h) inside v w.1 i f in
     record {
-      from = OpenHolder h (zeroed inside);
+      from = OpenHolder h (with_first_end_octet inside);
       last = 0;
       is_open = (
         (record { header = w.0.header; depth = w.0.depth; fits = within-le p.bound _ _ (omega (arith, e.none, length-opening h)) w.0.fits }, λ _. e.lacks _),
@@ -166,16 +166,16 @@ definite-popped p h inside i w v below =
     (ap (λ (t : List ℕ). opening h ++ (spelling inside ++ (t ++ []))) full.ends ∙ ap (λ (t : List ℕ). opening h ++ t) (append-nil (spelling inside)))
 
 -- an element that holds others and has ended is popped
-closed-popped : (p : Place) (h : HeaderValue) (inside : Forest) → IsWholeHolder p h inside → IsOpen (place_of_children p h) inside → (inside ≡ NoMore) ⊎ Popped (place_of_children p h) inside
+holder-popped : (p : Place) (h : HeaderValue) (inside : Forest) → IsWholeHolder p h inside → IsOpen (place_of_children p h) inside → (inside ≡ NoMore) ⊎ Popped (place_of_children p h) inside
     → Popped p (Holder h inside NoMore)
-closed-popped p h inside w v below = elim (cases_Bool (is_indefinite h.size)) [
+holder-popped p h inside w v below = elim (cases_Bool (is_indefinite h.size)) [
   | inl i ↦ endless-popped p h inside i w v
   | inr i ↦ definite-popped p h inside i w v below
 ]
 
 -- padding is popped
-fill-popped : (p : Place) → IsOpen p (PaddingOctet NoMore) → Popped p (PaddingOctet NoMore)
-fill-popped p w = record { from = NoMore; last = 0; is_open = tt; spelled = refl; pushed = rw (fits-within p.bound (p.at + 1) w.0.2, w.0.1, w.0.0) }
+padding-popped : (p : Place) → IsOpen p (PaddingOctet NoMore) → Popped p (PaddingOctet NoMore)
+padding-popped p w = record { from = NoMore; last = 0; is_open = tt; spelled = refl; pushed = rw (fits-within p.bound (p.at + 1) w.0.2, w.0.1, w.0.0) }
 
 -- what follows an element is popped: so are both
 followed : (p q : Place) (f : Forest → Forest) (o : List ℕ) (rest : Forest) → (r : Popped q rest) → IsOpen p (f r.from) → ((g : Forest) → spelling (f g) ≡ o ++ spelling g)
@@ -192,21 +192,21 @@ followed p q f o rest r w spelled pushed = record {
 pub pop : (p : Place) (g : Forest) → IsOpen p g → (g ≡ NoMore) ⊎ Popped p g
 pop p NoMore w = inl refl
 pop p (PaddingOctet rest) w = inr (elim (pop (place_after p 1) rest w.1) [
-  | inl e ↦ rw e (fill-popped p (w.0, tt))
+  | inl e ↦ rw e (padding-popped p (w.0, tt))
   | inr r ↦ followed p (place_after p 1) PaddingOctet (0 ∷ []) rest r (w.0, r.is_open) (λ g. refl) (λ x. refl)
 ])
 pop p (Primitive h c rest) w = inr (elim (pop (place_after p (length (octets_of h) + length c)) rest w.1) [
-  | inl e ↦ rw e (whole-popped p h c w.0)
+  | inl e ↦ rw e (whole_primitive-popped p h c w.0)
   | inr r ↦ followed p _ (Primitive h c) (octets_of h ++ c) rest r (w.0, r.is_open) (λ g. sym (append_assoc (octets_of h) c (spelling g))) (λ x. refl)
 ])
 pop p (Holder h inside rest) w = inr (elim (pop (place_after p (extent h inside)) rest w.2) [
-  | inl e ↦ rw e (closed-popped p h inside w.0 w.1 (pop (place_of_children p h) inside w.1))
+  | inl e ↦ rw e (holder-popped p h inside w.0 w.1 (pop (place_of_children p h) inside w.1))
   | inr r ↦ followed p _ (Holder h inside) (opening h ++ (spelling inside ++ end_octets h.size)) rest r (w.0, w.1, r.is_open)
       (λ g. sym (append_assoc-3 (opening h) (spelling inside) (end_octets h.size) (spelling g))) (λ x. refl)
 ])
-pop p (OpenPrimitive h c) w = inr (partial-popped p h c w)
-pop p (OpenHolder h inside) w = inr (settled p h inside (OpenHolder h inside) w.0.0 w.1 (pop (place_of_children p h) inside w.1) (lacking-entered h inside w.0.1) refl)
-pop p (OpenBitString h) w = inr (opened-popped p h (0 ∷ []) w.1 w.0)
+pop p (OpenPrimitive h c) w = inr (open_primitive-popped p h c w)
+pop p (OpenHolder h inside) w = inr (settled p h inside (OpenHolder h inside) w.0.0 w.1 (pop (place_of_children p h) inside w.1) (holder_so_far-open h inside w.0.1) refl)
+pop p (OpenBitString h) w = inr (holder_begun-popped p h (0 ∷ []) w.1 w.0)
 pop p (OpenHeader o) w = inr (elim (back o) [
   | is_nil e ↦ absurd (w.0 e)
   | is_push ys y e ↦ rw e (front-popped p ys y (rw e at w.1) (rw e at w.2))

@@ -11,7 +11,7 @@ use Rattle.tlv_walk.specs.Forest.{Forest, NoMore, OpenBitString, OpenHeader, lea
 use Rattle.tlv_walk.specs.Place.{Fits, IsEntry, IsHeaderAt, IsOpen, Place}
 use Rattle.tlv_walk.proofs.GrammarLemmas.Bounds.{fits-within, lead-zero, within-le}
 use Rattle.tlv_walk.proofs.GrammarLemmas.PushSteps.{Grown, begin, complete, element_begun, holder_begun, holder_so_far, origin, push}
-use Rattle.tlv_walk.proofs.GrammarLemmas.Push.{begun-sound, entered-sound}
+use Rattle.tlv_walk.proofs.GrammarLemmas.Push.{element_begun-sound, holder_so_far-sound}
 
 -- a list is empty, or has a last element
 pub data Back (o : List ℕ) : Type 0 where
@@ -78,8 +78,8 @@ pub push-front : (p : Place) (o : List ℕ) (x : ℕ) → IsFront (o ++ x ∷ []
 push-front p o x front f = push-scan p o x _ f refl ∙ begin-more p (o ++ x ∷ []) _ (more-from_front (origin p) (o ++ x ∷ []) front)
 
 -- a header that may stand there is a forest
-pub complete-begun : (p : Place) (h : HeaderValue) (k : Bool) → holds h ≡ k → (k && leb 128 p.depth) ≡ false → Fits p (length (octets_of h) + announced_length h.size) → complete p h ≡ Grown (element_begun k h)
-complete-begun p h k e d f = rw (e, d, fits-within p.bound _ f)
+pub complete-element_begun : (p : Place) (h : HeaderValue) (k : Bool) → holds h ≡ k → (k && leb 128 p.depth) ≡ false → Fits p (length (octets_of h) + announced_length h.size) → complete p h ≡ Grown (element_begun k h)
+complete-element_begun p h k e d f = rw (e, d, fits-within p.bound _ f)
 
 -- a header that stands there begins there
 pub header-origin : (p : Place) (k : Bool) (h : HeaderValue) → IsHeaderAt p k h → origin_of h ≡ origin p
@@ -100,28 +100,28 @@ header-popped p h k header d f = elim (back (octets_of h)) [
           record { head = h; more = x ∷ []; valid = header.valid; proper = λ z. omega (arith, ap length z); front = sym e },
           within-le p.bound _ _ (omega arith) f,
         );
-        spelled = (begun-sound p h k header d f).spelled ∙ e;
+        spelled = (element_begun-sound p h k header d f).spelled ∙ e;
         pushed = push-header p h o x header.valid (header-origin p k h header) e (within-le p.bound _ _ (omega arith) f)
-            ∙ complete-begun p h k header.form d f;
+            ∙ complete-element_begun p h k header.form d f;
       }
 ]
 
 -- an element that holds none yet is popped by the last octet of its header
-pub opened-popped : (p : Place) (h : HeaderValue) (l : List ℕ) → lead h ≡ l → IsEntry p true h → Popped p (holder_begun h l)
-opened-popped p h l e entry =
+pub holder_begun-popped : (p : Place) (h : HeaderValue) (l : List ℕ) → lead h ≡ l → IsEntry p true h → Popped p (holder_begun h l)
+holder_begun-popped p h l e entry =
     let r : Popped p (holder_begun h (lead h)) = header-popped p h true entry.header (lt-leb 128 p.depth (entry.depth refl)) entry.fits in
     rw (ap (holder_begun h) e) at r
 
 -- an element that holds none yet
 pub lead-popped : (p : Place) (h : HeaderValue) (l : List ℕ) → lead h ≡ l → IsEntry p true h → Popped p (holder_so_far h NoMore)
-lead-popped p h [] e entry = opened-popped p h [] e entry
+lead-popped p h [] e entry = holder_begun-popped p h [] e entry
 lead-popped p h (x ∷ xs) e entry =
     let one : lead h ≡ 0 ∷ [] = lead-zero h x xs e in
     record {
       from = OpenBitString h;
       last = 0;
       is_open = (entry, one);
-      spelled = (entered-sound p h NoMore entry tt).spelled ∙ append-nil (opening h) ∙ ap (λ (t : List ℕ). octets_of h ++ t) one;
+      spelled = (holder_so_far-sound p h NoMore entry tt).spelled ∙ append-nil (opening h) ∙ ap (λ (t : List ℕ). octets_of h ++ t) one;
       pushed = refl;
     }
 

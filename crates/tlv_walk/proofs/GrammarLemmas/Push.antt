@@ -12,13 +12,13 @@ use Rattle.tlv_walk.specs.Forest.{Forest, Holder, NoMore, OpenBitString, OpenEnd
 use Rattle.tlv_walk.specs.Place.{Fits, IsEntry, IsHeaderAt, IsOpen, Place, place_after, place_of_children}
 use Rattle.tlv_walk.proofs.GrammarLemmas.Lengths.{LacksOctets}
 use Rattle.tlv_walk.proofs.GrammarLemmas.Bounds.{IsEndless, IsFull, fits, fits-inside, has_length, indefinite-endless, lead-zero, length-full, length-lacks, within-fits, within-le, within-outside}
-use Rattle.tlv_walk.proofs.GrammarLemmas.Spellings.{append_assoc-3, append_assoc-4, length-closed, length-opening, length-whole}
+use Rattle.tlv_walk.proofs.GrammarLemmas.Spellings.{append_assoc-3, append_assoc-4, length-holder, length-opening, length-primitive}
 use Rattle.tlv_walk.proofs.GrammarLemmas.PushSteps.{IsWholePrimitive, IsWholeHolder, Step, origin, is_filled, holder_so_far, primitive_so_far, holder_begun, element_begun, complete, begin, zero_between, follow, settle, push, Spells, IsStep, Grown, Ended, Refused}
 
 -- if what an element holds ends within the bound inside, the element so far ends within that outside
-reaches-entered : (p : Place) (h : HeaderValue) (inside : Forest) → Fits p (length (octets_of h) + announced_length h.size) → Fits (place_of_children p h) (length (spelling inside))
+reaches-open_holder : (p : Place) (h : HeaderValue) (inside : Forest) → Fits p (length (octets_of h) + announced_length h.size) → Fits (place_of_children p h) (length (spelling inside))
     → Fits p (length (opening h ++ spelling inside))
-reaches-entered p h inside f g =
+reaches-open_holder p h inside f g =
     let size : length (opening h ++ spelling inside) ≡ length (octets_of h) + (length (lead h) + length (spelling inside)) = omega (arith, length-append (opening h) (spelling inside), length-opening h) in
     within-le p.bound _ _ (omega arith)
     (within-outside h.size (p.at + length (octets_of h)) p.bound (length (lead h) + length (spelling inside)) (within-le p.bound _ _ (omega arith) f)
@@ -29,14 +29,14 @@ pub reaches : (p : Place) (f : Forest) → Fits p 0 → IsOpen p f → Fits p (l
 reaches p NoMore z w = z
 reaches p (PaddingOctet rest) z w = within-le p.bound _ _ (omega arith) (reaches (place_after p 1) rest (within-le p.bound _ _ (omega arith) w.0.2) w.1)
 reaches p (Primitive h c rest) z w =
-    within-le p.bound _ _ (omega (arith, length-whole h c rest))
+    within-le p.bound _ _ (omega (arith, length-primitive h c rest))
     (reaches (place_after p (length (octets_of h) + length c)) rest (within-le p.bound _ _ (omega arith) w.0.0.fits) w.1)
 reaches p (Holder h inside rest) z w =
-    within-le p.bound _ _ (omega (arith, length-closed h inside rest))
+    within-le p.bound _ _ (omega (arith, length-holder h inside rest))
     (reaches (place_after p (extent h inside)) rest (within-le p.bound _ _ (omega arith) w.0.0.fits) w.2)
 reaches p (OpenPrimitive h c) z w = within-le p.bound _ _ (omega (arith, length-append (octets_of h) c, w.1)) w.0.fits
 reaches p (OpenHolder h inside) z w =
-    reaches-entered p h inside w.0.0.fits (reaches (place_of_children p h) inside (fits-inside p h w.0.0.header.form w.0.0.fits) w.1)
+    reaches-open_holder p h inside w.0.0.fits (reaches (place_of_children p h) inside (fits-inside p h w.0.0.header.form w.0.0.fits) w.1)
 reaches p (OpenBitString h) z w = within-le p.bound _ _ (omega arith) w.0.fits
 reaches p (OpenHeader o) z w = w.2
 reaches p OpenEndOctets z w = w.1
@@ -57,9 +57,9 @@ pub size-definite : (h : HeaderValue) → IsHeader h → holds h ≡ false → (
 size-definite h valid e = definite-primitive h.constructed h.size (not-holding h.constructed (wraps h) e) valid.allowed
 
 -- contents octets of a primitive, no more than announced
-partial-sound : (p : Place) (h : HeaderValue) (c : List ℕ) (n : ℕ) → IsHeaderAt p false h → h.size ≡ Definite n → length c ≤ n → Fits p (length (octets_of h) + n)
+primitive_so_far-sound : (p : Place) (h : HeaderValue) (c : List ℕ) (n : ℕ) → IsHeaderAt p false h → h.size ≡ Definite n → length c ≤ n → Fits p (length (octets_of h) + n)
     → Spells p (octets_of h ++ c) (primitive_so_far h c)
-partial-sound p h c n header e most f =
+primitive_so_far-sound p h c n header e most f =
     let all : announced_length h.size ≡ n = ap announced_length e in
     elim (cases_eq (length c) n) [
       | inl full ↦ rw (eq-eqb (length c) (announced_length h.size) (full ∙ sym all)) (record {
@@ -73,9 +73,9 @@ partial-sound p h c n header e most f =
     ]
 
 -- an element that holds others, with all its contents octets by its definite length
-pub closed-sound : (p : Place) (h : HeaderValue) (g : Forest) → IsEntry p true h → IsOpen (place_of_children p h) g → is_complete g ≡ true → IsFull h.size (contents_length h g)
+pub holder-sound : (p : Place) (h : HeaderValue) (g : Forest) → IsEntry p true h → IsOpen (place_of_children p h) g → is_complete g ≡ true → IsFull h.size (contents_length h g)
     → Spells p (opening h ++ spelling g) (Holder h g NoMore)
-closed-sound p h g entry w whole full =
+holder-sound p h g entry w whole full =
     let none : length (end_octets h.size) ≡ 0 = ap length full.ends in
     record {
       is_open = (
@@ -97,32 +97,32 @@ unfilled-lacks p h g e whole there =
     length-lacks h.size (p.at + length (octets_of h)) p.bound _ (within-le (place_of_children p h).bound _ _ (omega (arith, length-opening h)) there) short
 
 -- what an element holds is open: so is the element
-pub entered-sound : (p : Place) (h : HeaderValue) (g : Forest) → IsEntry p true h → IsOpen (place_of_children p h) g → Spells p (opening h ++ spelling g) (holder_so_far h g)
-entered-sound p h g entry w = elim (cases_Bool (is_filled h g)) [
+pub holder_so_far-sound : (p : Place) (h : HeaderValue) (g : Forest) → IsEntry p true h → IsOpen (place_of_children p h) g → Spells p (opening h ++ spelling g) (holder_so_far h g)
+holder_so_far-sound p h g entry w = elim (cases_Bool (is_filled h g)) [
   | inl e ↦
       let parts : (is_complete g ≡ true) × (has_length h.size (contents_length h g) ≡ true) = and_parts _ _ e in
-      rw e (closed-sound p h g entry w parts.0 (length-full h.size _ parts.1))
+      rw e (holder-sound p h g entry w parts.0 (length-full h.size _ parts.1))
   | inr e ↦
       let there : Fits (place_of_children p h) (length (spelling g)) = reaches (place_of_children p h) g (fits-inside p h entry.header.form entry.fits) w in
       rw e (record { is_open = ((entry, λ whole. unfilled-lacks p h g e whole there), w); spelled = refl })
 ]
 
 -- an element that holds none yet
-opened-sound : (p : Place) (h : HeaderValue) (l : List ℕ) → lead h ≡ l → IsEntry p true h → Spells p (octets_of h) (holder_begun h l)
-opened-sound p h [] e entry =
-    let r : Spells p (opening h ++ []) (holder_so_far h NoMore) = entered-sound p h NoMore entry tt in
+holder_begun-sound : (p : Place) (h : HeaderValue) (l : List ℕ) → lead h ≡ l → IsEntry p true h → Spells p (octets_of h) (holder_begun h l)
+holder_begun-sound p h [] e entry =
+    let r : Spells p (opening h ++ []) (holder_so_far h NoMore) = holder_so_far-sound p h NoMore entry tt in
     let none : opening h ++ [] ≡ octets_of h = append-nil (opening h) ∙ ap (λ (t : List ℕ). octets_of h ++ t) e ∙ append-nil (octets_of h) in
     record { is_open = r.is_open; spelled = r.spelled ∙ none }
-opened-sound p h (x ∷ xs) e entry = record { is_open = (entry, lead-zero h x xs e); spelled = refl }
+holder_begun-sound p h (x ∷ xs) e entry = record { is_open = (entry, lead-zero h x xs e); spelled = refl }
 
 -- a header where one may stand is an open forest
-pub begun-sound : (p : Place) (h : HeaderValue) (k : Bool) → IsHeaderAt p k h → (k && leb 128 p.depth) ≡ false → Fits p (length (octets_of h) + announced_length h.size)
+pub element_begun-sound : (p : Place) (h : HeaderValue) (k : Bool) → IsHeaderAt p k h → (k && leb 128 p.depth) ≡ false → Fits p (length (octets_of h) + announced_length h.size)
     → Spells p (octets_of h) (element_begun k h)
-begun-sound p h true header d f = opened-sound p h (lead h) refl (record { header = header; depth = λ _. leb-false 128 p.depth d; fits = f })
-begun-sound p h false header d f =
+element_begun-sound p h true header d f = holder_begun-sound p h (lead h) refl (record { header = header; depth = λ _. leb-false 128 p.depth d; fits = f })
+element_begun-sound p h false header d f =
     let n : (n : ℕ) × (h.size ≡ Definite n) = size-definite h header.valid header.form in
     let f' : Fits p (length (octets_of h) + n.0) = rw (ap announced_length n.1) at f in
-    rw (append-nil (octets_of h)) at (partial-sound p h [] n.0 header n.1 (omega arith) f')
+    rw (append-nil (octets_of h)) at (primitive_so_far-sound p h [] n.0 header n.1 (omega arith) f')
 
 -- a header that is complete
 complete-sound : (p : Place) (h : HeaderValue) → IsHeader h → origin_of h ≡ origin p → IsStep p (octets_of h) (complete p h)
@@ -131,7 +131,7 @@ complete-sound p h valid at =
     elim (cases_Bool (holds h && leb 128 p.depth)) [
       | inl deep ↦ rw deep tt
       | inr room ↦ elim (cases_Bool (fits p (length (octets_of h) + announced_length h.size))) [
-        | inl f ↦ rw (room, f) (begun-sound p h (holds h) header room (within-fits p.bound _ f))
+        | inl f ↦ rw (room, f) (element_begun-sound p h (holds h) header room (within-fits p.bound _ f))
         | inr f ↦ rw (room, f) tt
       ]
     ]
@@ -170,8 +170,8 @@ zero-sound p false true e d f = record { is_open = ((d, e, f), tt); spelled = re
 zero-sound p false false e d f = tt
 
 -- between encodings
-stop-step : (p : Place) (x : ℕ) → x < 256 → IsStep p (x ∷ []) (push p NoMore x)
-stop-step p x h = elim (cases_Bool (fits p 1)) [
+no_more-step : (p : Place) (x : ℕ) → x < 256 → IsStep p (x ∷ []) (push p NoMore x)
+no_more-step p x h = elim (cases_Bool (fits p 1)) [
   | inl f ↦ elim (cases_eq x 0) [
     | inl z ↦ rw (f, eq-eqb x 0 z, z) (zero-sound p p.indefinite p.padding refl refl (within-fits p.bound _ f))
     | inr nz ↦ rw (f, ne_eqb x 0 nz)
@@ -183,8 +183,8 @@ stop-step p x h = elim (cases_Bool (fits p 1)) [
 ]
 
 -- after the first of the end-of-contents octets
-zero-step : (p : Place) (x : ℕ) → p.indefinite ≡ true → IsStep p (0 ∷ x ∷ []) (push p OpenEndOctets x)
-zero-step p x i = elim (cases_Bool (fits p 2)) [
+end_octets-step : (p : Place) (x : ℕ) → p.indefinite ≡ true → IsStep p (0 ∷ x ∷ []) (push p OpenEndOctets x)
+end_octets-step p x i = elim (cases_Bool (fits p 2)) [
   | inl f ↦ elim (cases_eq x 0) [
     | inl z ↦ rw (f, eq-eqb x 0 z, z) (record { is_open = tt; whole = refl; indefinite = i; spelled = refl; fits = within-fits p.bound _ f })
     | inr nz ↦ rw (f, ne_eqb x 0 nz) tt
@@ -193,60 +193,60 @@ zero-step p x i = elim (cases_Bool (fits p 2)) [
 ]
 
 -- inside the contents of a primitive
-partial-step : (p : Place) (h : HeaderValue) (c : List ℕ) (x : ℕ) → IsOpen p (OpenPrimitive h c) → IsStep p ((octets_of h ++ c) ++ x ∷ []) (push p (OpenPrimitive h c) x)
-partial-step p h c x w =
+open_primitive-step : (p : Place) (h : HeaderValue) (c : List ℕ) (x : ℕ) → IsOpen p (OpenPrimitive h c) → IsStep p ((octets_of h ++ c) ++ x ∷ []) (push p (OpenPrimitive h c) x)
+open_primitive-step p h c x w =
     let n : (n : ℕ) × (h.size ≡ Definite n) = size-definite h w.0.header.valid w.0.header.form in
     let all : announced_length h.size ≡ n.0 = ap announced_length n.1 in
     rw (append_assoc (octets_of h) c (x ∷ []))
-    (partial-sound p h (c ++ x ∷ []) n.0 w.0.header n.1 (omega (arith, length-append c (x ∷ []), w.1)) (within-le p.bound _ _ (omega arith) w.0.fits))
+    (primitive_so_far-sound p h (c ++ x ∷ []) n.0 w.0.header n.1 (omega (arith, length-append c (x ∷ []), w.1)) (within-le p.bound _ _ (omega arith) w.0.fits))
 
 -- before the first contents octet of a wrapping BIT STRING
-awaiting-step : (p : Place) (h : HeaderValue) (x : ℕ) → IsOpen p (OpenBitString h) → IsStep p (octets_of h ++ x ∷ []) (push p (OpenBitString h) x)
-awaiting-step p h x w = elim (cases_eq x 0) [
+open_bit_string-step : (p : Place) (h : HeaderValue) (x : ℕ) → IsOpen p (OpenBitString h) → IsStep p (octets_of h ++ x ∷ []) (push p (OpenBitString h) x)
+open_bit_string-step p h x w = elim (cases_eq x 0) [
   | inl z ↦
-      let r : Spells p (opening h ++ []) (holder_so_far h NoMore) = entered-sound p h NoMore w.0 tt in
+      let r : Spells p (opening h ++ []) (holder_so_far h NoMore) = holder_so_far-sound p h NoMore w.0 tt in
       rw (eq-eqb x 0 z, z) (record { is_open = r.is_open; spelled = r.spelled ∙ append-nil (opening h) ∙ ap (λ (t : List ℕ). octets_of h ++ t) w.1 })
   | inr nz ↦ rw (ne_eqb x 0 nz) tt
 ]
 
 -- a step of what follows padding
-fill-step : (p : Place) (o : List ℕ) (s : Step) → (p.padding ≡ true) × (p.indefinite ≡ false) × Fits p 1 → IsStep (place_after p 1) o s → IsStep p (0 ∷ o) (follow PaddingOctet s)
-fill-step p o (Grown g) w r = record { is_open = (w, r.is_open); spelled = ap (λ (t : List ℕ). 0 ∷ t) r.spelled }
-fill-step p o (Ended g) w r = absurd (true≢false (sym r.indefinite ∙ w.1))
-fill-step p o (Refused code) w r = tt
+padding-step : (p : Place) (o : List ℕ) (s : Step) → (p.padding ≡ true) × (p.indefinite ≡ false) × Fits p 1 → IsStep (place_after p 1) o s → IsStep p (0 ∷ o) (follow PaddingOctet s)
+padding-step p o (Grown g) w r = record { is_open = (w, r.is_open); spelled = ap (λ (t : List ℕ). 0 ∷ t) r.spelled }
+padding-step p o (Ended g) w r = absurd (true≢false (sym r.indefinite ∙ w.1))
+padding-step p o (Refused code) w r = tt
 
 -- a step of what follows a primitive
-whole-step : (p : Place) (h : HeaderValue) (c o : List ℕ) (s : Step) → IsWholePrimitive p h c → IsStep (place_after p (length (octets_of h) + length c)) o s
+primitive-step : (p : Place) (h : HeaderValue) (c o : List ℕ) (s : Step) → IsWholePrimitive p h c → IsStep (place_after p (length (octets_of h) + length c)) o s
     → IsStep p (octets_of h ++ (c ++ o)) (follow (Primitive h c) s)
-whole-step p h c o (Grown g) w r = record { is_open = (w, r.is_open); spelled = ap (λ (t : List ℕ). octets_of h ++ (c ++ t)) r.spelled }
-whole-step p h c o (Ended g) w r = record {
+primitive-step p h c o (Grown g) w r = record { is_open = (w, r.is_open); spelled = ap (λ (t : List ℕ). octets_of h ++ (c ++ t)) r.spelled }
+primitive-step p h c o (Ended g) w r = record {
   is_open = (w, r.is_open);
   whole = r.whole;
   indefinite = r.indefinite;
   spelled = append_assoc-3 (octets_of h) c (spelling g) (0 ∷ 0 ∷ []) ∙ ap (λ (t : List ℕ). octets_of h ++ (c ++ t)) r.spelled;
-  fits = within-le p.bound _ _ (omega (arith, length-whole h c g)) r.fits;
+  fits = within-le p.bound _ _ (omega (arith, length-primitive h c g)) r.fits;
 }
-whole-step p h c o (Refused code) w r = tt
+primitive-step p h c o (Refused code) w r = tt
 
 -- a step of what follows an element that holds others
-closed-step : (p : Place) (h : HeaderValue) (inside : Forest) (o : List ℕ) (s : Step) → IsWholeHolder p h inside → IsOpen (place_of_children p h) inside → IsStep (place_after p (extent h inside)) o s
+holder-step : (p : Place) (h : HeaderValue) (inside : Forest) (o : List ℕ) (s : Step) → IsWholeHolder p h inside → IsOpen (place_of_children p h) inside → IsStep (place_after p (extent h inside)) o s
     → IsStep p (opening h ++ (spelling inside ++ (end_octets h.size ++ o))) (follow (Holder h inside) s)
-closed-step p h inside o (Grown g) w v r = record { is_open = (w, v, r.is_open); spelled = ap (λ (t : List ℕ). opening h ++ (spelling inside ++ (end_octets h.size ++ t))) r.spelled }
-closed-step p h inside o (Ended g) w v r = record {
+holder-step p h inside o (Grown g) w v r = record { is_open = (w, v, r.is_open); spelled = ap (λ (t : List ℕ). opening h ++ (spelling inside ++ (end_octets h.size ++ t))) r.spelled }
+holder-step p h inside o (Ended g) w v r = record {
   is_open = (w, v, r.is_open);
   whole = r.whole;
   indefinite = r.indefinite;
   spelled = append_assoc-4 (opening h) (spelling inside) (end_octets h.size) (spelling g) (0 ∷ 0 ∷ []) ∙ ap (λ (t : List ℕ). opening h ++ (spelling inside ++ (end_octets h.size ++ t))) r.spelled;
-  fits = within-le p.bound _ _ (omega (arith, length-closed h inside g)) r.fits;
+  fits = within-le p.bound _ _ (omega (arith, length-holder h inside g)) r.fits;
 }
-closed-step p h inside o (Refused code) w v r = tt
+holder-step p h inside o (Refused code) w v r = tt
 
 -- a step of what an element holds
-entered-step : (p : Place) (h : HeaderValue) (o : List ℕ) (s : Step) → IsEntry p true h → IsStep (place_of_children p h) o s → IsStep p (opening h ++ o) (settle h s)
-entered-step p h o (Grown g) entry r =
-    let e : Spells p (opening h ++ spelling g) (holder_so_far h g) = entered-sound p h g entry r.is_open in
+open_holder-step : (p : Place) (h : HeaderValue) (o : List ℕ) (s : Step) → IsEntry p true h → IsStep (place_of_children p h) o s → IsStep p (opening h ++ o) (settle h s)
+open_holder-step p h o (Grown g) entry r =
+    let e : Spells p (opening h ++ spelling g) (holder_so_far h g) = holder_so_far-sound p h g entry r.is_open in
     record { is_open = e.is_open; spelled = e.spelled ∙ ap (λ (t : List ℕ). opening h ++ t) r.spelled }
-entered-step p h o (Ended g) entry r =
+open_holder-step p h o (Ended g) entry r =
     let e : IsEndless h.size (p.at + length (octets_of h)) p.bound (contents_length h g) = indefinite-endless h.size _ p.bound _ r.indefinite in
     let two : length (end_octets h.size) ≡ 2 = ap length e.ends in
     record {
@@ -261,22 +261,22 @@ entered-step p h o (Ended g) entry r =
       );
       spelled = ap (λ (t : List ℕ). opening h ++ (spelling g ++ (t ++ []))) e.ends ∙ ap (λ (t : List ℕ). opening h ++ t) r.spelled;
     }
-entered-step p h o (Refused code) entry r = tt
+open_holder-step p h o (Refused code) entry r = tt
 
 -- a step of an open forest is right: the forest that it gives is open, and spells the octet too
 pub push-sound : (p : Place) (f : Forest) (x : ℕ) → x < 256 → IsOpen p f → IsStep p (spelling f ++ x ∷ []) (push p f x)
-push-sound p NoMore x h w = stop-step p x h
-push-sound p (PaddingOctet rest) x h w = fill-step p _ _ w.0 (push-sound (place_after p 1) rest x h w.1)
+push-sound p NoMore x h w = no_more-step p x h
+push-sound p (PaddingOctet rest) x h w = padding-step p _ _ w.0 (push-sound (place_after p 1) rest x h w.1)
 push-sound p (Primitive header c rest) x h w =
     rw (append_assoc-3 (octets_of header) c (spelling rest) (x ∷ []))
-    (whole-step p header c _ _ w.0 (push-sound (place_after p (length (octets_of header) + length c)) rest x h w.1))
+    (primitive-step p header c _ _ w.0 (push-sound (place_after p (length (octets_of header) + length c)) rest x h w.1))
 push-sound p (Holder header inside rest) x h w =
     rw (append_assoc-4 (opening header) (spelling inside) (end_octets header.size) (spelling rest) (x ∷ []))
-    (closed-step p header inside _ _ w.0 w.1 (push-sound (place_after p (extent header inside)) rest x h w.2))
-push-sound p (OpenPrimitive header c) x h w = partial-step p header c x w
+    (holder-step p header inside _ _ w.0 w.1 (push-sound (place_after p (extent header inside)) rest x h w.2))
+push-sound p (OpenPrimitive header c) x h w = open_primitive-step p header c x w
 push-sound p (OpenHolder header inside) x h w =
     rw (append_assoc (opening header) (spelling inside) (x ∷ []))
-    (entered-step p header _ _ w.0.0 (push-sound (place_of_children p header) inside x h w.1))
-push-sound p (OpenBitString header) x h w = awaiting-step p header x w
+    (open_holder-step p header _ _ w.0.0 (push-sound (place_of_children p header) inside x h w.1))
+push-sound p (OpenBitString header) x h w = open_bit_string-step p header x w
 push-sound p (OpenHeader o) x h w = front-step p o x h w.1
-push-sound p OpenEndOctets x h w = zero-step p x w.0
+push-sound p OpenEndOctets x h w = end_octets-step p x w.0

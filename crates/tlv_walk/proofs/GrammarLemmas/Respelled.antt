@@ -13,7 +13,7 @@ use Rattle.tlv_walk.specs.Reading.{IsSound}
 use Rattle.tlv_walk.specs.Wrappers.{wrappers}
 use Rattle.tlv_walk.proofs.GrammarLemmas.Alike.{AreRegular}
 use Rattle.tlv_walk.proofs.GrammarLemmas.PopHeaders.{header-length}
-use Rattle.tlv_walk.proofs.GrammarLemmas.Spellings.{length-closed, length-opening, length-whole}
+use Rattle.tlv_walk.proofs.GrammarLemmas.Spellings.{length-holder, length-opening, length-primitive}
 use Rattle.tlv_walk.proofs.GrammarLemmas.ShortHeaders.{Octets, header_of, octets-in, header-valid, header-shortest, octets-for, header-some, size-for, size-below, size-form, size-length, allows-size, lead-for, lead-short, own, own-there, own-apart, in-first, in-second, in-third, not-holding, Holds, holds-again, moved}
 
 -- a place of the same rules, whatever is named
@@ -89,8 +89,8 @@ joins constructed inner others begins count far rest some on inner_behind inner_
 }
 
 module _ (form : Bool → Bool) (definite : form false ≡ false) where
-  spelling-fill : (p : Place) (rest : Forest) → p.padding ≡ true → Spelling form (place_after p 1) rest → Spelling form p (PaddingOctet rest)
-  spelling-fill p rest allowed r = record {
+  spelling-padding : (p : Place) (rest : Forest) → p.padding ≡ true → Spelling form (place_after p 1) rest → Spelling form p (PaddingOctet rest)
+  spelling-padding p rest allowed r = record {
     octets = 0 ∷ r.octets;
     names = λ at. r.names (at + 1);
     short = omega (arith, r.short);
@@ -109,9 +109,9 @@ module _ (form : Bool → Bool) (definite : form false ≡ false) where
         };
   }
 
-  spelling-whole : (p : Place) (h : HeaderValue) (c : List ℕ) (rest : Forest) → h.constructed ≡ false → IsHeader h → (o : Octets h false (Definite (length c)))
+  spelling-primitive : (p : Place) (h : HeaderValue) (c : List ℕ) (rest : Forest) → h.constructed ≡ false → IsHeader h → (o : Octets h false (Definite (length c)))
       → Spelling form (place_after p (length (octets_of h) + length c)) rest → Spelling form p (Primitive h c rest)
-  spelling-whole p h c rest primitive valid o r =
+  spelling-primitive p h c rest primitive valid o r =
       let header : List ℕ = octets-in h false (Definite (length c)) o in
       let total : length (header ++ (c ++ r.octets)) ≡ length header + (length c + length r.octets) =
       omega (arith, length-append header (c ++ r.octets), length-append c r.octets) in
@@ -130,7 +130,7 @@ module _ (form : Bool → Bool) (definite : form false ≡ false) where
               o.few_lengths,
               r.short,
               total,
-              length-whole h c rest,
+              length-primitive h c rest,
               length-append h.identifier h.lengths,
               length-append o.identifier.octets o.lengths.octets,
             );
@@ -158,12 +158,12 @@ module _ (form : Bool → Bool) (definite : form false ≡ false) where
             };
       }
 
-  spelling-closed : (p : Place) (h : HeaderValue) (inside rest : Forest) (constructed : Bool) → h.constructed ≡ constructed → IsHeader h → p.depth < 128
+  spelling-holder : (p : Place) (h : HeaderValue) (inside rest : Forest) (constructed : Bool) → h.constructed ≡ constructed → IsHeader h → p.depth < 128
       → (held : Spelling form (place_of_children p h) inside)
       → Holds h constructed (form constructed) (length held.octets)
       → (o : Octets h constructed (size-for (form constructed) (length (lead-for constructed h.number) + length held.octets)))
       → Spelling form (place_after p (extent h inside)) rest → Spelling form p (Holder h inside rest)
-  spelling-closed p h inside rest constructed is valid few held holding o r =
+  spelling-holder p h inside rest constructed is valid few held holding o r =
       let first : List ℕ = lead-for constructed h.number in
       let m : ℕ = length first + length held.octets in
       let size : Size = size-for (form constructed) m in
@@ -193,7 +193,7 @@ module _ (form : Bool → Bool) (definite : form false ≡ false) where
               r.short,
               total,
               lead_is,
-              length-closed h inside rest,
+              length-holder h inside rest,
               length-opening h,
               length-append h.identifier h.lengths,
               length-append (octets-in h constructed size o) first,
@@ -241,16 +241,16 @@ module _ (form : Bool → Bool) (definite : form false ≡ false) where
     names_within = λ at i more. refl;
     there = λ q like agrees. record { forest = NoMore; alike = nothing; sound = tt; regular = tt; spelled = refl; names_are = refl };
   }
-  respelled p (PaddingOctet rest) few u low = spelling-fill p rest u.0 (respelled (place_after p 1) rest (omega (arith, few)) u.1 low)
+  respelled p (PaddingOctet rest) few u low = spelling-padding p rest u.0 (respelled (place_after p 1) rest (omega (arith, few)) u.1 low)
   respelled p (Primitive h c rest) few u low =
-      let count : length (spelling (Primitive h c rest)) ≡ length (octets_of h) + length c + length (spelling rest) = length-whole h c rest in
+      let count : length (spelling (Primitive h c rest)) ≡ length (octets_of h) + length c + length (spelling rest) = length-primitive h c rest in
       let primitive : h.constructed ≡ false = not-holding h.constructed (is_wrapper h.named h.class h.constructed h.number h.size) u.0.form in
       let o : Octets h false (Definite (length c)) =
       octets-for h false (Definite (length c)) (moved h.class h.constructed false h.number h.identifier primitive u.0.valid.identifier)
       (subst (λ (k : Bool). leading_octet h.class k h.number ≢ 0) primitive low.0) refl (omega (arith, count, few)) in
-      spelling-whole p h c rest primitive u.0.valid o (respelled (place_after p (length (octets_of h) + length c)) rest (omega (arith, count, few)) u.2 low.1)
+      spelling-primitive p h c rest primitive u.0.valid o (respelled (place_after p (length (octets_of h) + length c)) rest (omega (arith, count, few)) u.2 low.1)
   respelled p (Holder h inside rest) few u low =
-      let count : length (spelling (Holder h inside rest)) ≡ extent h inside + length (spelling rest) = length-closed h inside rest in
+      let count : length (spelling (Holder h inside rest)) ≡ extent h inside + length (spelling rest) = length-holder h inside rest in
       let begins : length (opening h) ≡ length (octets_of h) + length (lead h) = length-opening h in
       let some : 2 ≤ length (octets_of h) = header-length h u.0.valid in
       let held : Spelling form (place_of_children p h) inside = respelled (place_of_children p h) inside (omega (arith, count, few)) u.3 low.0 in
@@ -263,7 +263,7 @@ module _ (form : Bool → Bool) (definite : form false ≡ false) where
       octets-for h h.constructed (size-for (form h.constructed) m) u.0.valid.identifier holding.nonzero
       (allows-size h.constructed (form h.constructed) m primitive)
       (size-below (form h.constructed) m below) in
-      spelling-closed p h inside rest h.constructed refl u.0.valid u.2 held holding o (respelled (place_after p (extent h inside)) rest (omega (arith, count, few)) u.4 low.1)
+      spelling-holder p h inside rest h.constructed refl u.0.valid u.2 held holding o (respelled (place_after p (extent h inside)) rest (omega (arith, count, few)) u.4 low.1)
   respelled p (OpenPrimitive h c) few u low = absurd u
   respelled p (OpenHolder h inside) few u low = absurd u
   respelled p (OpenBitString h) few u low = absurd u

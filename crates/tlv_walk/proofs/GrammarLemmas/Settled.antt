@@ -13,7 +13,7 @@ use Rattle.tlv_walk.specs.Private.Zipper.{AreLayers, AreWhole, Layer, frames_of,
 use Rattle.tlv_walk.specs.Stands.{is_end}
 use Rattle.tlv_walk.proofs.GrammarLemmas.Bounds.{IsFull, fits-inside, has_length, length-full}
 use Rattle.tlv_walk.proofs.GrammarLemmas.PushSteps.{Spells, is_filled}
-use Rattle.tlv_walk.proofs.GrammarLemmas.Push.{closed-sound, reaches, unfilled-lacks}
+use Rattle.tlv_walk.proofs.GrammarLemmas.Push.{holder-sound, reaches, unfilled-lacks}
 use Rattle.tlv_walk.proofs.GrammarLemmas.Spellings.{length-opening}
 use Rattle.tlv_walk.proofs.WalkerLemmas.Zipper.{behind, open-behind, open-within, settled, spelling-behind, spelling-within, whole-behind, within}
 
@@ -37,7 +37,7 @@ filled-full h f e =
 pub filled-ended : (w : Framing) (l : Layer) (ls : List Layer) (f : Forest) → AreLayers w (l ∷ ls) → AreWhole (place_in w (l ∷ ls)) f → is_filled l.header f ≡ true → IsEnded w l ls f
 filled-ended w l ls f a i e =
     let p : Place = place_after (place_in w ls) (length (spelling l.before)) in
-    let c : Spells p (opening l.header ++ spelling f) (Holder l.header f NoMore) = closed-sound p l.header f a.2 i.is_open i.whole (filled-full l.header f e) in
+    let c : Spells p (opening l.header ++ spelling f) (Holder l.header f NoMore) = holder-sound p l.header f a.2 i.is_open i.whole (filled-full l.header f e) in
     let s : spelling (behind l.before (Holder l.header f NoMore)) ≡ spelling l.before ++ (opening l.header ++ spelling f) =
     spelling-behind l.before (Holder l.header f NoMore) a.1.whole ∙ ap (λ (t : List ℕ). spelling l.before ++ t) c.spelled in
     record {

@@ -7,7 +7,7 @@ use Rattle.tlv_walk.specs.Place.{Fits, IsOpen, Place, place_after, place_of_chil
 use Rattle.tlv_walk.proofs.GrammarLemmas.Lengths.{HasLength}
 use Rattle.tlv_walk.specs.Reading.{IsSound}
 use Rattle.tlv_walk.proofs.GrammarLemmas.Bounds.{filled-within, within-le}
-use Rattle.tlv_walk.proofs.GrammarLemmas.Spellings.{length-closed, length-opening, length-whole}
+use Rattle.tlv_walk.proofs.GrammarLemmas.Spellings.{length-holder, length-opening, length-primitive}
 
 -- nothing is open in sound elements
 pub sound-whole : (p : Place) (f : Forest) → IsSound p f → is_complete f ≡ true
@@ -36,14 +36,14 @@ sound-open p (PaddingOctet rest) d z s = (
   sound-open (place_after p 1) rest d (within-le p.bound _ _ (omega arith) z) s.1,
 )
 sound-open p (Primitive h c rest) d z s = (
-  (record { header = s.0; depth = λ e. absurd (cc (e)); fits = within-le p.bound _ _ (omega (arith, length-whole h c rest)) z }, s.1),
-  sound-open (place_after p (length (octets_of h) + length c)) rest d (within-le p.bound _ _ (omega (arith, length-whole h c rest)) z) s.2,
+  (record { header = s.0; depth = λ e. absurd (cc (e)); fits = within-le p.bound _ _ (omega (arith, length-primitive h c rest)) z }, s.1),
+  sound-open (place_after p (length (octets_of h) + length c)) rest d (within-le p.bound _ _ (omega (arith, length-primitive h c rest)) z) s.2,
 )
 sound-open p (Holder h inside rest) d z s =
-    let f : Fits p (extent h inside) = within-le p.bound _ _ (omega (arith, length-closed h inside rest)) z in (
+    let f : Fits p (extent h inside) = within-le p.bound _ _ (omega (arith, length-holder h inside rest)) z in (
       (record { header = s.0; depth = λ _. s.2; fits = f }, sound-whole (place_of_children p h) inside s.3, s.1),
       sound-open (place_of_children p h) inside (λ e. absurd (cc)) (fits-contents p h inside s.1 f) s.3,
-      sound-open (place_after p (extent h inside)) rest d (within-le p.bound _ _ (omega (arith, length-closed h inside rest)) z) s.4,
+      sound-open (place_after p (extent h inside)) rest d (within-le p.bound _ _ (omega (arith, length-holder h inside rest)) z) s.4,
     )
 sound-open p (OpenPrimitive h c) d z s = absurd s
 sound-open p (OpenHolder h inside) d z s = absurd s

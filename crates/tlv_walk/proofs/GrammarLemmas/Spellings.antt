@@ -8,12 +8,12 @@ pub length-opening : (h : HeaderValue) → length (opening h) ≡ length (octets
 length-opening h = length-append (octets_of h) (lead h)
 
 -- a primitive, and what follows it
-pub length-whole : (h : HeaderValue) (c : List ℕ) (rest : Forest) → length (spelling (Primitive h c rest)) ≡ length (octets_of h) + length c + length (spelling rest)
-length-whole h c rest = omega (arith, length-append (octets_of h) (c ++ spelling rest), length-append c (spelling rest))
+pub length-primitive : (h : HeaderValue) (c : List ℕ) (rest : Forest) → length (spelling (Primitive h c rest)) ≡ length (octets_of h) + length c + length (spelling rest)
+length-primitive h c rest = omega (arith, length-append (octets_of h) (c ++ spelling rest), length-append c (spelling rest))
 
 -- an element that holds others, and what follows it
-pub length-closed : (h : HeaderValue) (inside rest : Forest) → length (spelling (Holder h inside rest)) ≡ extent h inside + length (spelling rest)
-length-closed h inside rest =
+pub length-holder : (h : HeaderValue) (inside rest : Forest) → length (spelling (Holder h inside rest)) ≡ extent h inside + length (spelling rest)
+length-holder h inside rest =
     omega (arith, length-append (opening h) (spelling inside ++ (end_octets h.size ++ spelling rest)), length-append (spelling inside) (end_octets h.size ++ spelling rest), length-append (end_octets h.size) (spelling rest))
 
 -- octets after a list of three pieces are after the last of them

@@ -6,7 +6,7 @@ use Rattle.tlv_walk.specs.Forest.{Forest, Holder, NoMore, OpenBitString, OpenEnd
 use Rattle.tlv_walk.specs.Place.{Fits, IsOpen, Place, place_after, place_of_children}
 use Rattle.tlv_walk.specs.Ending.{tip}
 use Rattle.tlv_walk.proofs.GrammarLemmas.Bounds.{fits-inside, lacks-within, within-le}
-use Rattle.tlv_walk.proofs.GrammarLemmas.Spellings.{length-closed, length-opening, length-whole}
+use Rattle.tlv_walk.proofs.GrammarLemmas.Spellings.{length-holder, length-opening, length-primitive}
 use Rattle.tlv_walk.proofs.GrammarLemmas.PushSteps.{Step, Grown, Ended, Refused, follow, push, settle}
 
 -- the code of a refusal
@@ -68,9 +68,9 @@ tip-fact p NoMore z r w = (z, λ i. r i refl)
 tip-fact p (PaddingOctet rest) z r w =
     tip-fact (place_after p 1) rest (within-le p.bound _ _ (omega arith) w.0.2) (room-after p 1 rest (PaddingOctet rest) (omega arith) (λ t. t) r) w.1
 tip-fact p (Primitive h c rest) z r w =
-    tip-fact (place_after p (length (octets_of h) + length c)) rest (within-le p.bound _ _ (omega arith) w.0.0.fits) (room-after p _ rest (Primitive h c rest) (length-whole h c rest) (λ t. t) r) w.1
+    tip-fact (place_after p (length (octets_of h) + length c)) rest (within-le p.bound _ _ (omega arith) w.0.0.fits) (room-after p _ rest (Primitive h c rest) (length-primitive h c rest) (λ t. t) r) w.1
 tip-fact p (Holder h inside rest) z r w =
-    tip-fact (place_after p (extent h inside)) rest (within-le p.bound _ _ (omega arith) w.0.0.fits) (room-after p _ rest (Holder h inside rest) (length-closed h inside rest) (λ t. t) r) w.2
+    tip-fact (place_after p (extent h inside)) rest (within-le p.bound _ _ (omega arith) w.0.0.fits) (room-after p _ rest (Holder h inside rest) (length-holder h inside rest) (λ t. t) r) w.2
 tip-fact p (OpenPrimitive h c) z r w = tt
 tip-fact p (OpenHolder h inside) z r w =
     tip-fact (place_of_children p h) inside (fits-inside p h w.0.0.header.form w.0.0.fits) (room-inside p h inside w) w.1

@@ -42,14 +42,14 @@ frame_there w b past s r t h at c =
     ∙ ap (λ (x : Option ℕ). frame_with (h.offset + length (octets_of h)) x h.size h.constructed) (place-bound w.framing s.layers ∙ ap bound_of (sym at.stack))
 
 -- an element that holds others, with the frame that the walker pushes
-abbrev entered_machine : WalkerState → HeaderValue → Phase → ℕ → WalkerState
-entered_machine w h f k =
+abbrev machine_in_element : WalkerState → HeaderValue → Phase → ℕ → WalkerState
+machine_in_element w h f k =
     record (after_header w f (h.offset + length (octets_of h))) { stack = frame_with (h.offset + length (octets_of h)) (bound_of w.stack) h.size h.constructed ∷ w.stack; wrapper_count = k }
 
 -- the state is that of a walker which pushed the frame
 pushed : (w : WalkerState) (b : List ℕ) (past : List EventValue) (s : Zipper) (r : HeadReaderState) (t : List ℕ) (h : HeaderValue) (f : Phase) (k : ℕ) (e : EventValue) (u : Zipper) → AtHeader w b past s r → Completed w r t h
     → HasZipper (record (after_header w f (h.offset + length (octets_of h))) { stack = frame_at (place_of w.framing s) h ∷ w.stack; wrapper_count = k }) (b ++ t) (past ++ e ∷ []) u
-    → HasZipper (entered_machine w h f k) (b ++ t) (past ++ e ∷ []) u
+    → HasZipper (machine_in_element w h f k) (b ++ t) (past ++ e ∷ []) u
 pushed w b past s r t h f k e u at c has =
     subst (λ (x : Frame). HasZipper (record (after_header w f (h.offset + length (octets_of h))) { stack = x ∷ w.stack; wrapper_count = k }) (b ++ t) (past ++ e ∷ []) u) (frame_there w b past s r t h at c) has
 
@@ -67,7 +67,7 @@ abbrev inside_state : Zipper → HeaderValue → Zipper
 inside_state s h = record { layers = record { before = s.here; header = h } ∷ s.layers; here = NoMore; tail = Between }
 
 constructed_enters : (w : WalkerState) (b : List ℕ) (past : List EventValue) (s : Zipper) (r : HeadReaderState) (t : List ℕ) (h : HeaderValue) → AtHeader w b past s r → Completed w r t h → h.constructed ≡ true
-    → (u : Zipper) × HasZipper (entered_machine w h phase.Between w.wrapper_count) (b ++ t) (past ++ Open h ∷ []) u
+    → (u : Zipper) × HasZipper (machine_in_element w h phase.Between w.wrapper_count) (b ++ t) (past ++ Open h ∷ []) u
 constructed_enters w b past s r t h at c k =
     let none : lead h ≡ [] = lead_at h true (eqb h.number 3) k refl in
     let has = holding_state w b past s r t h w.wrapper_count at c (or-left h.constructed _ k) none in (
@@ -78,7 +78,7 @@ constructed_enters w b past s r t h at c k =
     )
 
 wrapper_enters : (w : WalkerState) (b : List ℕ) (past : List EventValue) (s : Zipper) (r : HeadReaderState) (t : List ℕ) (h : HeaderValue) (n : ℕ) → AtHeader w b past s r → Completed w r t h → h.constructed ≡ false → holds h ≡ true
-    → (bits : Bool) → eqb h.number 3 ≡ bits → (u : Zipper) × HasZipper (entered_machine w h (if bits then phase.BeforeUnused else phase.Between) n) (b ++ t) (past ++ Enter h ∷ []) u
+    → (bits : Bool) → eqb h.number 3 ≡ bits → (u : Zipper) × HasZipper (machine_in_element w h (if bits then phase.BeforeUnused else phase.Between) n) (b ++ t) (past ++ Enter h ∷ []) u
 wrapper_enters w b past s r t h n at c k hold true bits =
     let one : lead h ≡ 0 ∷ [] = lead_at h false true k bits in
     (_, pushed w b past s r t h phase.BeforeUnused n (Enter h) _ at c (lead_state w b past s r t h n at c hold one))

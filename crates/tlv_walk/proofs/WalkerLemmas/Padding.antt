@@ -13,48 +13,48 @@ use Rattle.tlv_walk.proofs.WalkerLemmas.Moves.{are_whole, element-either, betwee
 use Rattle.tlv_walk.proofs.WalkerLemmas.Zipper.{behind}
 
 -- octets 00 between encodings
-abbrev pub fills : List ℕ → Forest
-fills [] = NoMore
-fills (x ∷ xs) = PaddingOctet (fills xs)
+abbrev pub padding_octets : List ℕ → Forest
+padding_octets [] = NoMore
+padding_octets (x ∷ xs) = PaddingOctet (padding_octets xs)
 
-spelling-fills : (t : List ℕ) → All (λ x. x ≡ 0) t → spelling (fills t) ≡ t
-spelling-fills [] z = refl
-spelling-fills (x ∷ t) z =
-    ap (λ (s : List ℕ). 0 ∷ s) (spelling-fills t (All-tail (λ x. x ≡ 0) x t z)) ∙ ap (λ (y : ℕ). y ∷ t) (sym (All-head (λ x. x ≡ 0) x t z))
+spelling-padding_octets : (t : List ℕ) → All (λ x. x ≡ 0) t → spelling (padding_octets t) ≡ t
+spelling-padding_octets [] z = refl
+spelling-padding_octets (x ∷ t) z =
+    ap (λ (s : List ℕ). 0 ∷ s) (spelling-padding_octets t (All-tail (λ x. x ≡ 0) x t z)) ∙ ap (λ (y : ℕ). y ∷ t) (sym (All-head (λ x. x ≡ 0) x t z))
 
-events-fills : (t : List ℕ) → All (λ x. x ≡ 0) t → single_octets (events (fills t)) ≡ map (λ x. Pad (x ∷ [])) t
-events-fills [] z = refl
-events-fills (x ∷ t) z =
-    ap (λ (es : List EventValue). Pad (0 ∷ []) ∷ es) (events-fills t (All-tail (λ x. x ≡ 0) x t z))
+events-padding_octets : (t : List ℕ) → All (λ x. x ≡ 0) t → single_octets (events (padding_octets t)) ≡ map (λ x. Pad (x ∷ [])) t
+events-padding_octets [] z = refl
+events-padding_octets (x ∷ t) z =
+    ap (λ (es : List EventValue). Pad (0 ∷ []) ∷ es) (events-padding_octets t (All-tail (λ x. x ≡ 0) x t z))
     ∙ ap (λ (y : ℕ). Pad (y ∷ []) ∷ map (λ x. Pad (x ∷ [])) t) (sym (All-head (λ x. x ≡ 0) x t z))
 
-whole-fills : (t : List ℕ) → is_complete (fills t) ≡ true
-whole-fills [] = refl
-whole-fills (x ∷ t) = whole-fills t
+whole-padding_octets : (t : List ℕ) → is_complete (padding_octets t) ≡ true
+whole-padding_octets [] = refl
+whole-padding_octets (x ∷ t) = whole-padding_octets t
 
-element-fills : (t : List ℕ) → has_element (fills t) ≡ false
-element-fills [] = refl
-element-fills (x ∷ t) = element-fills t
+element-padding_octets : (t : List ℕ) → has_element (padding_octets t) ≡ false
+element-padding_octets [] = refl
+element-padding_octets (x ∷ t) = element-padding_octets t
 
-open-fills : (p : Place) (t : List ℕ) → p.padding ≡ true → p.indefinite ≡ false → p.bound ≡ None → IsOpen p (fills t)
-open-fills p [] a d n = tt
-open-fills p (x ∷ t) a d n = ((a, d, rw n tt), open-fills (place_after p 1) t a d n)
+open-padding_octets : (p : Place) (t : List ℕ) → p.padding ≡ true → p.indefinite ≡ false → p.bound ≡ None → IsOpen p (padding_octets t)
+open-padding_octets p [] a d n = tt
+open-padding_octets p (x ∷ t) a d n = ((a, d, rw n tt), open-padding_octets (place_after p 1) t a d n)
 
 or-false : (k : Bool) → (k || false) ≡ k
 or-false true = refl
 or-false false = refl
 
 pad_state : (w : WalkerState) (b : List ℕ) (past : List EventValue) (s : Zipper) (t : List ℕ) → HasZipper w b past (with_layers s [] Between) → w.phase ≡ phase.Between → w.framing.padding ≡ true → All (λ x. x ≡ 0) t
-    → HasZipper (record w { offset = w.offset + length t; events = w.events + 1 }) (b ++ t) (past ++ Pad t ∷ []) (record { layers = []; here = behind s.here (fills t); tail = Between })
+    → HasZipper (record w { offset = w.offset + length t; events = w.events + 1 }) (b ++ t) (past ++ Pad t ∷ []) (record { layers = []; here = behind s.here (padding_octets t); tail = Between })
 pad_state w b past s t has e padding zeros = record {
-  spelled = spelled_whole [] s.here (fills t) [] t b has.here.whole (spelling-fills t zeros) has.spelled;
+  spelled = spelled_whole [] s.here (padding_octets t) [] t b has.here.whole (spelling-padding_octets t zeros) has.spelled;
   offset = omega (arith, has.offset, length-append b t);
   stack = has.stack;
   layers = tt;
-  here = are_whole (place_in w.framing []) s.here (fills t) has.here (open-fills _ t padding refl refl) (whole-fills t);
-  phase = subst (λ (f : Phase). IsPhaseOf f Between (place_of w.framing (record { layers = []; here = behind s.here (fills t); tail = Between }))) (sym e) tt;
-  same_events = past_whole past [] s.here (fills t) [] (Pad t ∷ []) has.here.whole has.same_events (events-fills t zeros ∙ sym (append-nil (map (λ x. Pad (x ∷ [])) t)));
-  element = has.element ∙ sym (element-either s.here (fills t) has.here.whole ∙ (ap (λ (k : Bool). has_element s.here || k) (element-fills t) ∙ or-false (has_element s.here)));
+  here = are_whole (place_in w.framing []) s.here (padding_octets t) has.here (open-padding_octets _ t padding refl refl) (whole-padding_octets t);
+  phase = subst (λ (f : Phase). IsPhaseOf f Between (place_of w.framing (record { layers = []; here = behind s.here (padding_octets t); tail = Between }))) (sym e) tt;
+  same_events = past_whole past [] s.here (padding_octets t) [] (Pad t ∷ []) has.here.whole has.same_events (events-padding_octets t zeros ∙ sym (append-nil (map (λ x. Pad (x ∷ [])) t)));
+  element = has.element ∙ sym (element-either s.here (padding_octets t) has.here.whole ∙ (ap (λ (k : Bool). has_element s.here || k) (element-padding_octets t) ∙ or-false (has_element s.here)));
 }
 
 pad_from : (w : WalkerState) (b : List ℕ) (past : List EventValue) (s : Zipper) (t : List ℕ) (ls : List Layer) → HasZipper w b past (with_layers s ls Between) → w.phase ≡ phase.Between → w.stack ≡ [] → w.framing.padding ≡ true → All (λ x. x ≡ 0) t

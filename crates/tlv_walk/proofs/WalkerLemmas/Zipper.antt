@@ -14,7 +14,7 @@ use Rattle.tlv_walk.specs.Stack.{IsInIndefinite, bound_of}
 use Rattle.tlv_walk.specs.Private.Zipper.{AreLayers, AreWhole, BeforeUnused, Between, InContents, InEnd, InHeader, Layer, Tail, Zipper, frames_of, place_in, spelling_of_layers}
 use Rattle.tlv_walk.proofs.GrammarLemmas.Bounds.{fits-inside}
 use Rattle.tlv_walk.proofs.GrammarLemmas.PushSteps.{is_filled}
-use Rattle.tlv_walk.proofs.GrammarLemmas.Spellings.{append_assoc-3, append_assoc-4, length-closed, length-whole}
+use Rattle.tlv_walk.proofs.GrammarLemmas.Spellings.{append_assoc-3, append_assoc-4, length-holder, length-primitive}
 
 -- whole elements, and then others
 abbrev pub behind : Forest → Forest → Forest
@@ -116,13 +116,13 @@ open-behind p (PaddingOctet rest) g a w =
 open-behind p (Primitive h c rest) g a w = (
   a.is_open.0,
   open-behind (place_after p (length (octets_of h) + length c)) rest g (record { is_open = a.is_open.1; whole = a.whole })
-      (open-after p (length (octets_of h) + length c) (length (spelling rest)) _ g (sym (length-whole h c rest)) w),
+      (open-after p (length (octets_of h) + length c) (length (spelling rest)) _ g (sym (length-primitive h c rest)) w),
 )
 open-behind p (Holder h inside rest) g a w = (
   a.is_open.0,
   a.is_open.1,
   open-behind (place_after p (extent h inside)) rest g (record { is_open = a.is_open.2; whole = a.whole })
-      (open-after p (extent h inside) (length (spelling rest)) _ g (sym (length-closed h inside rest)) w),
+      (open-after p (extent h inside) (length (spelling rest)) _ g (sym (length-holder h inside rest)) w),
 )
 open-behind p (OpenPrimitive h c) g a w = absurd (true≢false (sym a.whole))
 open-behind p (OpenHolder h inside) g a w = absurd (true≢false (sym a.whole))
@@ -139,9 +139,9 @@ pub tip-behind : (p : Place) (f g : Forest) → is_complete f ≡ true → tip p
 tip-behind p NoMore g e = ap (λ (q : Place). tip q g) (sym (after-none p))
 tip-behind p (PaddingOctet rest) g e = tip-behind (place_after p 1) rest g e ∙ tip-after p 1 (length (spelling rest)) _ g (omega arith)
 tip-behind p (Primitive h c rest) g e =
-    tip-behind (place_after p (length (octets_of h) + length c)) rest g e ∙ tip-after p (length (octets_of h) + length c) (length (spelling rest)) _ g (sym (length-whole h c rest))
+    tip-behind (place_after p (length (octets_of h) + length c)) rest g e ∙ tip-after p (length (octets_of h) + length c) (length (spelling rest)) _ g (sym (length-primitive h c rest))
 tip-behind p (Holder h inside rest) g e =
-    tip-behind (place_after p (extent h inside)) rest g e ∙ tip-after p (extent h inside) (length (spelling rest)) _ g (sym (length-closed h inside rest))
+    tip-behind (place_after p (extent h inside)) rest g e ∙ tip-after p (extent h inside) (length (spelling rest)) _ g (sym (length-holder h inside rest))
 tip-behind p (OpenPrimitive h c) g e = absurd (true≢false (sym e))
 tip-behind p (OpenHolder h inside) g e = absurd (true≢false (sym e))
 tip-behind p (OpenBitString h) g e = absurd (true≢false (sym e))

@@ -92,8 +92,8 @@ contents-whole p h c left i e =
     record { is_open = ((record { header = i.header; depth = λ e. absurd (cc (e)); fits = rw size at i.fits }, i.size ∙ ap Definite size), tt); whole = refl }
 
 -- else it lacks contents octets
-contents-partial : (p : Place) (h : HeaderValue) (c : List ℕ) (left : ℕ) → IsContents p h c left → (left ≡ 0 → ⊥) → IsOpen p (OpenPrimitive h c)
-contents-partial p h c left i n = (
+contents-open_primitive : (p : Place) (h : HeaderValue) (c : List ℕ) (left : ℕ) → IsContents p h c left → (left ≡ 0 → ⊥) → IsOpen p (OpenPrimitive h c)
+contents-open_primitive p h c left i n = (
   record { header = i.header; depth = λ e. absurd (cc (e)); fits = within-le p.bound _ _ (omega (arith, ap announced_length i.size)) i.fits },
   omega (arith, ap announced_length i.size),
 )
@@ -138,7 +138,7 @@ reading-spells w ls here (InContents h c) a i j = elim (cases_eq j.0 0) [
       whole-spells w ls here (Primitive h c NoMore) a i (contents-whole _ h c j.0 j.1 z) in
       rw (contents-all _ h c j.0 j.1 z)
       (record { is_open = r.is_open; spelled = r.spelled ∙ ap (λ (t : List ℕ). spelling_of_layers ls ++ (spelling here ++ (octets_of h ++ t))) (append-nil c) })
-  | inr n ↦ rw (contents-less _ h c j.0 j.1 n) (open-spells w ls here (OpenPrimitive h c) a i (contents-partial _ h c j.0 j.1 n) refl)
+  | inr n ↦ rw (contents-less _ h c j.0 j.1 n) (open-spells w ls here (OpenPrimitive h c) a i (contents-open_primitive _ h c j.0 j.1 n) refl)
 ]
 reading-spells w ls here (BeforeUnused h) a i j = open-spells w ls here (OpenBitString h) a i j refl
 reading-spells w ls here (InHeader octets) a i j = open-spells w ls here (OpenHeader octets) a i j refl
