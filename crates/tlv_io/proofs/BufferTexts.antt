@@ -6,7 +6,7 @@ use Rattle.std.proofs.lemmas.List.{drop-drop, length-replicate, length-take-le, 
 use Rattle.hex.specs.Hex.{encode_lower, lower_digits}
 use Rattle.hex.proofs.HexLemmas.{length-encode_with}
 use Rattle.itoa.proofs.Decimal.{length_one, length_step_wide}
-use Rattle.tlv_io.specs.LineTexts.{right, spaced_pairs, spaces}
+use Rattle.tlv_io.specs.LineTexts.{right_aligned, spaced_pairs, spaces}
 
 -- ---- texts that were added
 
@@ -42,7 +42,7 @@ text_written new front text rest start n kept written e =
 
 -- spaces were written to so many places, and then a text to their right end
 pub right_written : (old new tail text rest pad : List ℕ) (at start places : ℕ) → at ≤ length old → length text ≤ places → start + length text ≡ at + places → pad ≡ spaces places
-    → take start new ≡ take start (take at old ++ (pad ++ tail)) → drop start new ≡ text ++ rest → take (at + places) new ≡ take at old ++ right places text
+    → take start new ≡ take start (take at old ++ (pad ++ tail)) → drop start new ≡ text ++ rest → take (at + places) new ≡ take at old ++ right_aligned places text
 right_written old new tail text rest pad at start places within short e is kept written =
     let left : ℕ = places - length text in
     let from : start ≡ at + left = omega (arith, e, short) in
@@ -52,7 +52,7 @@ right_written old new tail text rest pad at start places within short e is kept 
     text_written new (take at old ++ spaces left) text rest start (at + places) front written (sym e) ∙ append_assoc (take at old) (spaces left) text
 
 -- a long text stands as it is
-pub right_long : (places : ℕ) (text : List ℕ) → places ≤ length text → right places text ≡ text
+pub right_long : (places : ℕ) (text : List ℕ) → places ≤ length text → right_aligned places text ≡ text
 right_long places text long = let none : places - length text ≡ 0 = omega (arith, long) in ap (λ (n : ℕ). spaces n ++ text) none
 
 -- ---- spaces
@@ -80,7 +80,7 @@ spaces_of_more count done to more e = sym (take-take count done to more) ∙ ap 
 
 -- a text was written to the right end of so many spaces
 pub right_end : (old new front text tail : List ℕ) (start places : ℕ) → old ≡ front ++ (spaces places ++ tail) → length text ≤ places → start + length text ≡ length front + places
-    → take start new ≡ take start old → drop start new ≡ text ++ drop (length front + places) old → new ≡ front ++ (right places text ++ tail)
+    → take start new ≡ take start old → drop start new ≡ text ++ drop (length front + places) old → new ≡ front ++ (right_aligned places text ++ tail)
 right_end old new front text tail start places is short e kept written =
     let left : ℕ = places - length text in
     let from : start ≡ length front + left = omega (arith, e, short) in
@@ -96,11 +96,11 @@ right_end old new front text tail start places is short e kept written =
     ∙ ap (λ (l : List ℕ). front ++ l) (sym (append_assoc (spaces left) text tail))
 
 -- a text that is not too long takes so many places
-right-size : (places : ℕ) (text : List ℕ) → length text ≤ places → length (right places text) ≡ places
+right-size : (places : ℕ) (text : List ℕ) → length text ≤ places → length (right_aligned places text) ≡ places
 right-size places text short = omega (arith, length-append (spaces (places - length text)) text, length-replicate {A = ℕ} (places - length text) 32)
 
 -- and a number 20 at most
-pub right-short : (places n : ℕ) → places ≤ 20 → n < 2 ^ 64 → length (right places (decimal n)) ≤ 20
+pub right-short : (places n : ℕ) → places ≤ 20 → n < 2 ^ 64 → length (right_aligned places (decimal n)) ≤ 20
 right-short places n few fits =
     omega (arith, length-append (spaces (places - length (decimal n))) (decimal n), length-replicate {A = ℕ} (places - length (decimal n)) 32, length-decimal-le 20 n (omega arith) (omega arith) fits)
 
@@ -113,14 +113,14 @@ blank_columns front tail at size =
 module _ (old first tail : List ℕ) (at : ℕ) (within : at ≤ length old) (short : length first ≤ 8) where
   -- what stands before the second column
   abbrev pub front_column : List ℕ
-  front_column = take at old ++ (right 8 first ++ 32 ∷ [])
+  front_column = take at old ++ (right_aligned 8 first ++ 32 ∷ [])
 
   -- and both columns
   abbrev pub columns_of : List ℕ → List ℕ
-  columns_of second = right 8 first ++ 32 ∷ [] ++ second ++ 58 ∷ 32 ∷ []
+  columns_of second = right_aligned 8 first ++ 32 ∷ [] ++ second ++ 58 ∷ 32 ∷ []
 
   pub front-size : length front_column ≡ at + 9
-  front-size = omega (arith, length-append (take at old) (right 8 first ++ 32 ∷ []), length-take-le at old within, length-append (right 8 first) (32 ∷ []), right-size 8 first short)
+  front-size = omega (arith, length-append (take at old) (right_aligned 8 first ++ 32 ∷ []), length-take-le at old within, length-append (right_aligned 8 first) (32 ∷ []), right-size 8 first short)
 
   -- spaces and a colon stand there, and an offset was written to them
   pub offset_written : (pad mid : List ℕ) (start : ℕ) → pad ≡ spaces 17 → start + length first ≡ at + 8
@@ -133,8 +133,8 @@ module _ (old first tail : List ℕ) (at : ℕ) (within : at ≤ length old) (sh
       let is = ap (λ (l : List ℕ). set (take at old ++ (l ++ tail)) (at + 15) 58) blank ∙ blank_columns (take at old) tail at size in
       right_end there mid (take at old) first more start 8 is short (omega (arith, e, size)) kept
       (written ∙ ap (λ (n : ℕ). first ++ drop (n + 8) there) (sym size))
-      ∙ ap (λ (l : List ℕ). take at old ++ l) (sym (append_assoc (right 8 first) (32 ∷ []) (spaces 6 ++ 58 ∷ 32 ∷ tail)))
-      ∙ sym (append_assoc (take at old) (right 8 first ++ 32 ∷ []) (spaces 6 ++ 58 ∷ 32 ∷ tail))
+      ∙ ap (λ (l : List ℕ). take at old ++ l) (sym (append_assoc (right_aligned 8 first) (32 ∷ []) (spaces 6 ++ 58 ∷ 32 ∷ tail)))
+      ∙ sym (append_assoc (take at old) (right_aligned 8 first ++ 32 ∷ []) (spaces 6 ++ 58 ∷ 32 ∷ tail))
 
   -- both columns are there
   pub columns_there : (new second : List ℕ) → length second ≡ 6 → new ≡ front_column ++ (second ++ 58 ∷ 32 ∷ tail)
@@ -143,21 +143,21 @@ module _ (old first tail : List ℕ) (at : ℕ) (within : at ≤ length old) (sh
       let whole : List ℕ = take at old ++ columns_of second in
       let same : new ≡ whole ++ tail = is ∙ simp append_assoc refl in
       let size : length (columns_of second) ≡ 17 =
-      omega (arith, length-append (right 8 first ++ 32 ∷ [] ++ second) (58 ∷ 32 ∷ []), length-append (right 8 first ++ 32 ∷ []) second, length-append (right 8 first) (32 ∷ []), right-size 8 first short, six) in
+      omega (arith, length-append (right_aligned 8 first ++ 32 ∷ [] ++ second) (58 ∷ 32 ∷ []), length-append (right_aligned 8 first ++ 32 ∷ []) second, length-append (right_aligned 8 first) (32 ∷ []), right-size 8 first short, six) in
       let all : length whole ≡ at + 17 = omega (arith, length-append (take at old) (columns_of second), length-take-le at old within, size) in
       ap₂ take (sym all) same ∙ take-append_seam whole tail
 
   -- a size was written after the offset
   pub size_written : (mid new text : List ℕ) (start : ℕ) → mid ≡ front_column ++ (spaces 6 ++ 58 ∷ 32 ∷ tail) → length text ≤ 6 → start + length text ≡ at + 15
       → take start new ≡ take start mid → drop start new ≡ text ++ drop (at + 15) mid
-      → take (at + 17) new ≡ take at old ++ columns_of (right 6 text)
+      → take (at + 17) new ≡ take at old ++ columns_of (right_aligned 6 text)
   size_written mid new text start is few e kept written =
-      columns_there new (right 6 text) (right-size 6 text few)
+      columns_there new (right_aligned 6 text) (right-size 6 text few)
       (right_end mid new front_column text (58 ∷ 32 ∷ tail) start 6 is few (omega (arith, e, front-size)) kept (written ∙ ap (λ (n : ℕ). text ++ drop n mid) (omega (arith, front-size))))
 
   -- a word was written after the offset
   pub word_written : (mid there word : List ℕ) → mid ≡ front_column ++ (spaces 6 ++ 58 ∷ 32 ∷ tail) → length word ≡ 6 → there ≡ word
-      → take (at + 17) (take (at + 9) mid ++ (there ++ drop (at + 15 - (at + 9)) (drop (at + 9) mid))) ≡ take at old ++ columns_of (right 6 word)
+      → take (at + 17) (take (at + 9) mid ++ (there ++ drop (at + 15 - (at + 9)) (drop (at + 9) mid))) ≡ take at old ++ columns_of (right_aligned 6 word)
   word_written mid there word is six same =
       let after : List ℕ = spaces 6 ++ 58 ∷ 32 ∷ tail in
       let front : take (at + 9) mid ≡ front_column = ap₂ take (sym front-size) is ∙ take-append_seam front_column after in
@@ -183,7 +183,7 @@ digits_of_power k n fits from to = sym (by k n (omega arith) from to)
         omega (arith, length_step_wide n (omega (arith, power_some k, from)) fits, by k (n / 10) (omega arith) (omega (arith, from)) (omega (arith, to)))
 
 -- a number of at least this power of ten has more digits
-pub long_number : (k n : ℕ) → n < 2 ^ 64 → 10 ^ k ≤ n → right k (decimal n) ≡ decimal n
+pub long_number : (k n : ℕ) → n < 2 ^ 64 → 10 ^ k ≤ n → right_aligned k (decimal n) ≡ decimal n
 long_number k n fits from = right_long k (decimal n) (by k n (omega arith) from)
   where
     by : (k n : ℕ) → n < 2 ^ 128 → 10 ^ k ≤ n → k ≤ length (decimal n)

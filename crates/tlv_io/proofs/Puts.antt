@@ -74,12 +74,6 @@ front_all xs = record { rest = []; is = append-nil xs }
 pub front_first : (xs ys : List ℕ) → IsFront xs (xs ++ ys)
 front_first xs ys = record { rest = ys; is = refl }
 
-pub front_after : (xs ys zs : List ℕ) → IsFront ys zs → IsFront (xs ++ ys) (xs ++ zs)
-front_after xs ys zs f = record { rest = f.rest; is = append_assoc xs ys f.rest ∙ ap (λ (l : List ℕ). xs ++ l) f.is }
-
-pub front_within : (xs ys zs : List ℕ) → IsFront xs ys → IsFront xs (ys ++ zs)
-front_within xs ys zs f = record { rest = f.rest ++ zs; is = sym (append_assoc xs f.rest zs) ∙ ap (λ (l : List ℕ). l ++ zs) f.is }
-
 module _ {D : Type 0} (state_of : D → DrainState) where
   module _ {T U E : Type 0} where
     -- octets were put, and then others
