@@ -46,7 +46,11 @@ impl Model for ReadLog {
 
     ghost Value = { Reads };
 
-    ghost view = { λ log. record { reads = log.reads; last = last_read log.last; failures = log.failures } };
+    ghost view = { λ log. record {
+      reads = log.reads;
+      last = last_read log.last;
+      failures = log.failures;
+    } };
 }
 
 impl ReadLog {

@@ -62,7 +62,10 @@ impl<W: Write + Drop> WriteDrain<W> {
 }
 
 impl<W: Write + Drop> Drain for WriteDrain<W> {
-    ghost state = { λ drain. record { octets = W.contents drain.writer; failures = drain.failures } };
+    ghost state = { λ drain. record {
+      octets = W.contents drain.writer;
+      failures = drain.failures;
+    } };
 
     fn write(&mut self, from: &[u8]) -> Result<usize, WriteFault> {
         match self.writer.write(from) {

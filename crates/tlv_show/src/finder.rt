@@ -173,7 +173,8 @@ impl Finder {
     fn header(&mut self, header: &Header) -> bool
         ensures { ReportsFindings
             (with_findings self.old.state (length self.old.state.outer) header.now.offset
-            (header_findings_in self.old.state.rules self.old.state.frame header.now)) self.new result }
+            (header_findings_in self.old.state.rules self.old.state.frame header.now))
+            self.new result }
     {
         if is_plain(self.rules, self.holders.frame(), header) {
             return false;
@@ -185,7 +186,8 @@ impl Finder {
     /// Looks for all that may be found with a header.
     #[inline(always)]
     fn look(&mut self, header: &Header)
-        ensures { self.new ≡ with_findings self.old.state (length self.old.state.outer) header.now.offset
+        ensures { self.new
+            ≡ with_findings self.old.state (length self.old.state.outer) header.now.offset
             (header_findings_in self.old.state.rules self.old.state.frame header.now) }
     {
         let level = self.holders.level();
@@ -289,8 +291,10 @@ impl Finder {
     /// Finds what is to be found with the end of an element that held segments.
     #[inline(never)]
     fn look_at_end(&mut self, closed: &SiblingFrame) -> bool
-        ensures { ReportsFindings (with_findings self.old.state (length self.old.state.outer) closed.now.at
-            (end_findings_in self.old.state.rules closed.now)) self.new result }
+        ensures { ReportsFindings
+            (with_findings self.old.state (length self.old.state.outer) closed.now.at
+            (end_findings_in self.old.state.rules closed.now))
+            self.new result }
     {
         self.last.restart(self.holders.level(), closed.at);
         add_end_findings(self.rules, closed, &mut self.last.findings);

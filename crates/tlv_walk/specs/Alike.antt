@@ -12,8 +12,8 @@ pub data AreAlike : Forest → Forest → Type 0 where
   padding : (f g : Forest) → AreAlike f g → AreAlike (PaddingOctet f) (PaddingOctet g)
   primitives : (h k : HeaderValue) (contents : List ℕ) (f g : Forest) → HaveOneTag h k → AreAlike f g
       → AreAlike (Primitive h contents f) (Primitive k contents g)
-  holders : (h k : HeaderValue) (children within f g : Forest) → HaveOneTag h k → AreAlike children within → AreAlike f g
-      → AreAlike (Holder h children f) (Holder k within g)
+  holders : (h k : HeaderValue) (children within f g : Forest) → HaveOneTag h k → AreAlike children within
+      → AreAlike f g → AreAlike (Holder h children f) (Holder k within g)
 
 -- no primitive of the elements is the universal 0, whose low form would be the octet 00 of end-of-contents octets
 abbrev pub HaveLowForms : Forest → Type 0

@@ -94,7 +94,8 @@ IsOpen p (OpenPrimitive h c) = IsEntry p false h × (length c < announced_length
 -- 8.1.4: an element that holds others and has not ended: if what it holds is whole, and the length is
 -- definite, contents octets are lacking
 IsOpen p (OpenHolder h children) =
-    (IsEntry p true h × (is_complete children ≡ true → IfSome (definite_length h.size) (λ n. contents_length h children < n)))
+    (IsEntry p true h
+    × (is_complete children ≡ true → IfSome (definite_length h.size) (λ n. contents_length h children < n)))
     × IsOpen (place_of_children p h) children
 -- 8.6.2.2: a wrapping BIT STRING of which the header alone is there
 IsOpen p (OpenBitString h) = IsEntry p true h × (lead h ≡ 0 ∷ [])

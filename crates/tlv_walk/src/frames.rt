@@ -59,7 +59,9 @@ impl<T: Copy + Default> Frames<T> {
     /// Takes the innermost one away, and returns it. If there is none, nothing changes.
     #[inline(always)]
     pub fn pop(&mut self) -> Option<T>
-        ensures { MatchOption result ((self.old ≡ []) × (self.new ≡ [])) (λ frame. self.old ≡ frame ∷ self.new) }
+        ensures { MatchOption result
+            ((self.old ≡ []) × (self.new ≡ []))
+            (λ frame. self.old ≡ frame ∷ self.new) }
     {
         self.outermost_first.pop()
     }

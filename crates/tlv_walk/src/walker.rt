@@ -125,7 +125,8 @@ impl Walker {
     /// The first of the named offsets at which no string was found whose contents are encodings.
     pub fn unused(&self) -> Option<u64>
         ensures value { result ≡ first_without_string_in self.now }
-        ensures first { IfRead self.now (λ b f. result ≡ first_without_string self.now.framing.inside f) }
+        ensures first { IfRead self.now
+            (λ b f. result ≡ first_without_string self.now.framing.inside f) }
     {
         self.framing.inside.get(self.wrapper_count)
     }
