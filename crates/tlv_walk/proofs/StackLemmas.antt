@@ -6,7 +6,7 @@ use Rattle.tlv_walk.specs.declared.stack.Holder.{Holder}
 use Rattle.tlv_walk.specs.declared.stack.Holder.TheVariants.{Input, Definite, Indefinite, Wrapper}
 use Rattle.tlv_walk.specs.Stack.{Frame, IsFilled, IsInIndefinite, IsInWrapper, IsWithin, bound_of}
 use Rattle.tlv_walk.specs.Private.Stack.{frame_inside}
-use Rattle.tlv_walk.specs.Private.FrameFields.{AreHolders, HasEnd, bound_from, end_from, frame_from, frames_from, wraps_from}
+use Rattle.tlv_walk.specs.Private.FrameFields.{AreHolders, HasEnd, bound_from, end_from, frames_from, wraps_from}
 
 -- one frame more
 
