@@ -199,8 +199,8 @@ module _ (job : Job ReportValue) (stays : Stays job)
         let given : List ℕ = octets_given x.pieces in
         let before : List ℕ = concat x.pieces.pieces in
         let left = left_of old.left new.left octets given known x.pieces.consumed in
-        let behind = fails (x.failures ∙ ap next_count quiet ∙ one_failure) in
-        let none : left.0 ≡ [] = at_end new.left left.0 left.1 behind.1 in
+        let after = fails (x.failures ∙ ap next_count quiet ∙ one_failure) in
+        let none : left.0 ≡ [] = at_end new.left left.0 left.1 after.1 in
         let last : x.pieces.last ≡ [] = failed_none new.last x.pieces.last (returns job given x.reading new (Err ReadFailed) x.comes) x.pieces.gave_last in
         let given_before : given ≡ before = ap (λ (l : List ℕ). before ++ l) last ∙ append-nil before in
         let is_given : octets ≡ given = left.2 ∙ ap (λ (l : List ℕ). given ++ l) none ∙ append-nil given in
@@ -210,7 +210,7 @@ module _ (job : Job ReportValue) (stays : Stays job)
         (subst (λ (o : List ℕ). IsReading job.framing (take job.limit o) x.reading) (sym is_given) x.is_reading)
         (subst (WantMore job) (sym seen_is) x.wants_more)
         (all_sent (job.text x.reading) x.sends)
-        (λ (made : CommandResult) y apart. broken apart behind.0 few)
+        (λ (made : CommandResult) y apart. broken apart after.0 few)
 
     run_long : Runs job old new from to (Err InputTooLong) → RunsOctets job octets read_fails room written (device_report InputTooLong)
     run_long x =

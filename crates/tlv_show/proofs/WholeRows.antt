@@ -240,8 +240,8 @@ two-top-strings : checked plain Cer (4 ∷ 0 ∷ 4 ∷ 0 ∷ []) ≡ says 0 []
 two-top-strings = refl
 
 -- 23 0a 23 04 03 02 01 00 03 02 00 ff
-behind-a-constructed-segment : checked plain Ber (35 ∷ 10 ∷ 35 ∷ 4 ∷ 3 ∷ 2 ∷ 1 ∷ 0 ∷ 3 ∷ 2 ∷ 0 ∷ 255 ∷ []) ≡ says 0 []
-behind-a-constructed-segment = refl
+after-a-constructed-segment : checked plain Ber (35 ∷ 10 ∷ 35 ∷ 4 ∷ 3 ∷ 2 ∷ 1 ∷ 0 ∷ 3 ∷ 2 ∷ 0 ∷ 255 ∷ []) ≡ says 0 []
+after-a-constructed-segment = refl
 
 -- 24 80 24 80 03 00 00 00 00 00
 deep-levels : dumped plain full Cer (36 ∷ 128 ∷ 36 ∷ 128 ∷ 3 ∷ 0 ∷ 0 ∷ 0 ∷ 0 ∷ 0 ∷ [])
@@ -271,10 +271,10 @@ unfolding digits
 first-segment = refl
 
 -- 30 03 02 01 05 00 30 80 05 00 00 00 00
-padding-behind-holders : dumped padded full Ber (48 ∷ 3 ∷ 2 ∷ 1 ∷ 5 ∷ 0 ∷ 48 ∷ 128 ∷ 5 ∷ 0 ∷ 0 ∷ 0 ∷ 0 ∷ [])
+padding-after-holders : dumped padded full Ber (48 ∷ 3 ∷ 2 ∷ 1 ∷ 5 ∷ 0 ∷ 48 ∷ 128 ∷ 5 ∷ 0 ∷ 0 ∷ 0 ∷ 0 ∷ [])
     ≡ says 0 (codes "       0      3: SEQUENCE {" ∷ codes "       2      1:   INTEGER 5" ∷ codes "                 }" ∷ codes "       5    pad: padding" ∷ codes "       6  indef: SEQUENCE {" ∷ codes "       8      0:   NULL" ∷ codes "      10    end: }" ∷ codes "      12    pad: padding" ∷ [])
 unfolding digits encode_with
-padding-behind-holders = refl
+padding-after-holders = refl
 
 -- 23 04 03 02
 wrapped-awaiting : dumped (naming 2) full Ber (35 ∷ 4 ∷ 3 ∷ 2 ∷ []) ≡ says 0 (codes "       0      4: BIT STRING {" ∷ codes "       2      2:   BIT STRING wraps {" ∷ [])

@@ -35,9 +35,9 @@ use Rattle.tlv_show.proofs.FindingLemmas.SitesAfter.{site_after, site_after_hold
 use Rattle.tlv_show.proofs.FindingLemmas.SiteWords.{first_octet}
 use Rattle.tlv_show.specs.Texts.{item_text}
 use Rattle.tlv_show.proofs.DumpLemmas.DumpSteps.{all_on}
-use Rattle.tlv_show.proofs.DumpLemmas.DumpTexts.{at_level, closer_shown, fill_shown, holder_shown, no_padding, padded_behind, part_shown, primitive_shown, standing as lines_at}
-use Rattle.tlv_show.proofs.FindingLemmas.FinderFolds.{at-under, knows-behind, knows-inside, knows-padding, not-constructed, noted_all, unused-of}
-use Rattle.tlv_show.proofs.FindingLemmas.FinderItems.{behind_contents, behind_end, behind_header, behind_primitive, closed-find, opened-find, primitive-find, standing}
+use Rattle.tlv_show.proofs.DumpLemmas.DumpTexts.{at_level, closer_shown, fill_shown, holder_shown, no_padding, later_padded, part_shown, primitive_shown, standing as lines_at}
+use Rattle.tlv_show.proofs.FindingLemmas.FinderFolds.{at-under, knows-after, knows-inside, knows-padding, not-constructed, noted_all, unused-of}
+use Rattle.tlv_show.proofs.FindingLemmas.FinderItems.{after_contents, after_end, later_header, after_primitive, closed-find, opened-find, primitive-find, standing}
 use Rattle.tlv_show.proofs.FindingLemmas.HeaderFindings.{Knows, header-same}
 use Rattle.tlv_show.proofs.DumpLemmas.DumpEvents.{pair, shows, then_shown, texts, opens-by, closes-by, primitive-by, part-by}
 
@@ -74,15 +74,15 @@ module _ (style : Layout) (names : Table) (rules : Rules) where
     pub text : (n : ℕ) → (effect_of dump_step (start p (is_padding before) w outer n) (events f)).put ≡ texts_of (items rules (site p holder before) f)
     pub stands : (n : ℕ) → is_complete f ≡ true → (m : ℕ)
         × ((effect_of dump_step (start p (is_padding before) w outer n) (events f)).state
-        ≡ pair (lines_at style names p.depth (p.at + length (spelling f)) (padded_behind style names (is_padding before) f)) (standing rules (noted_all w f) outer m))
+        ≡ pair (lines_at style names p.depth (p.at + length (spelling f)) (later_padded style names (is_padding before) f)) (standing rules (noted_all w f) outer m))
 
   -- elements after what was shown
-  behind-shown : (p q : Place) (padded : Bool) (w : SiblingFrame) (outer : List SiblingFrame) (n m : ℕ) (v : SiblingFrame) (holder : Option HeaderValue) (before : Before) (es : List EventValue) (put : List ℕ) (rest : Forest)
+  shown-after : (p q : Place) (padded : Bool) (w : SiblingFrame) (outer : List SiblingFrame) (n m : ℕ) (v : SiblingFrame) (holder : Option HeaderValue) (before : Before) (es : List EventValue) (put : List ℕ) (rest : Forest)
       → q.depth ≡ p.depth
       → effect_of dump_step (start p padded w outer n) es ≡ shows (start q (is_padding before) v outer m) put → IsShown q holder before v outer rest
       → effect_of dump_step (start p padded w outer n) (es ++ events rest)
       ≡ record (effect_of dump_step (start q (is_padding before) v outer m) (events rest)) { put = put ++ texts_of (items rules (site q holder before) rest) }
-  behind-shown p q padded w outer n m v holder before es put rest d e t =
+  shown-after p q padded w outer n m v holder before es put rest d e t =
       then_shown (start p padded w outer n) (start q (is_padding before) v outer m) put es (events rest) e
       ∙ ap (λ (l : List ℕ). record (effect_of dump_step (start q (is_padding before) v outer m) (events rest)) { put = put ++ l }) (t.text m)
 
@@ -93,7 +93,7 @@ module _ (style : Layout) (names : Table) (rules : Rules) where
   opened-shown : (p : Place) (holder : Option HeaderValue) (before : Before) (w : SiblingFrame) (outer : List SiblingFrame) (n : ℕ) (h : HeaderValue) → Known p holder before w outer
       → h.offset ≡ p.at → p.depth < 128 → p.at + length (opening h) ≤ 2 ^ 64 - 1
       → effect_of dump_step (start p (is_padding before) w outer n) (opening_events h)
-      ≡ shows (start (place_of_children p h) false (frame_under w h) (w ∷ outer) (behind_header rules w h n)) (styled_lines (Dump style.pure) (length outer) h.offset (header_findings_in rules w h) ++ holder_line (at_level style names p.depth) h)
+      ≡ shows (start (place_of_children p h) false (frame_under w h) (w ∷ outer) (later_header rules w h n)) (styled_lines (Dump style.pure) (length outer) h.offset (header_findings_in rules w h) ++ holder_line (at_level style names p.depth) h)
   opened-shown p holder before w outer n h k there low far =
       opens-by (lines_at style names p.depth p.at (is_padding before)) (standing rules w outer n) h h.constructed (h.number == 3)
       ∙ ap₂ (λ (d : Effect LinesState) (f : FinderValue). shows (pair d.state f.state) (texts style f ++ d.put))
@@ -104,7 +104,7 @@ module _ (style : Layout) (names : Table) (rules : Rules) where
   primitive-shown : (p : Place) (padded : Bool) (w : SiblingFrame) (outer : List SiblingFrame) (n : ℕ) (h : HeaderValue) (c : List ℕ) → h.offset ≡ p.at → announced_length h.size ≡ length c
       → p.at + (length (octets_of h) + length c) ≤ 2 ^ 64 - 1
       → effect_of dump_step (start p padded w outer n) (Begin h ∷ Bytes c ∷ End ∷ [])
-      ≡ shows (start (place_after p (length (octets_of h) + length c)) false (behind_primitive rules w h c) outer (behind_contents rules w h c n))
+      ≡ shows (start (place_after p (length (octets_of h) + length c)) false (after_primitive rules w h c) outer (after_contents rules w h c n))
       (styled_lines (Dump style.pure) (length outer) h.offset (header_findings_in rules w h) ++ (whole_lines (finite.get names) h (at_level style names p.depth) c ++ styled_lines (Dump style.pure) (length outer) h.offset (contents_findings rules h c)))
   primitive-shown p padded w outer n h c there size far =
       primitive-by (lines_at style names p.depth p.at padded) (standing rules w outer n) h c
@@ -123,12 +123,12 @@ module _ (style : Layout) (names : Table) (rules : Rules) where
       let t = shows_forest (place_after p 1) holder Padding w outer rest v.1 (omega (arith, b)) (knows-padding w s k.0 (k.2 v.0.0), k.1, k.2) in
       let one : (n : ℕ) → effect_of dump_step (start p (is_padding before) w outer n) (Pad (0 ∷ []) ∷ []) ≡ shows (start (place_after p 1) true w outer n) (if is_padding before then [] else padding_line (at_level style names p.depth) p.at) =
       λ n. ap (λ (d : Effect LinesState). shows (pair d.state (standing rules w outer n)) d.put) (fill_shown style names p.depth p.at (is_padding before) (omega (arith, b))) in
-      let all = λ (n : ℕ). behind-shown p (place_after p 1) (is_padding before) w outer n n w holder Padding (Pad (0 ∷ []) ∷ []) (if is_padding before then [] else padding_line (at_level style names p.depth) p.at) rest refl (one n) t in
+      let all = λ (n : ℕ). shown-after p (place_after p 1) (is_padding before) w outer n n w holder Padding (Pad (0 ∷ []) ∷ []) (if is_padding before then [] else padding_line (at_level style names p.depth) p.at) rest refl (one n) t in
       record {
         text = λ n. ap (λ (x : Effect DumpState). x.put) (all n) ∙ pads (is_padding before) p.depth p.at (items rules (site_after_padding s) rest);
         stands = λ n e.
             let r = t.stands n e in
-            (r.0, ap (λ (x : Effect DumpState). x.state) (all n) ∙ r.1 ∙ ap (λ (at : ℕ). pair (lines_at style names p.depth at (padded_behind style names true rest)) (standing rules (noted_all w rest) outer r.0)) (omega arith));
+            (r.0, ap (λ (x : Effect DumpState). x.state) (all n) ∙ r.1 ∙ ap (λ (at : ℕ). pair (lines_at style names p.depth at (later_padded style names true rest)) (standing rules (noted_all w rest) outer r.0)) (omega arith));
       }
     where
       pads : (k : Bool) (level at : ℕ) (l : List Item)
@@ -141,10 +141,10 @@ module _ (style : Layout) (names : Table) (rules : Rules) where
       let size : announced_length h.size ≡ length c = ap announced_length v.0.1 in
       let form : h.constructed ≡ false = not-constructed h.constructed (wraps h) v.0.0.header.form in
       let u : Bool = has_unused_bits (check_after (new_check h) c) in
-      let known : Knows (behind_primitive rules w h c) (site_after s h c) =
-      subst (λ (x : Bool). Knows (frame_after w x (announced_length h.size) u) (site_after s h c)) (ap not form) (knows-behind w s (site_after s h c) h (first_octet c) u k.0 refl refl (unused-of h c form)) in
-      let t = shows_forest q holder (Sibling h (first_octet c)) (behind_primitive rules w h c) outer rest v.1 (omega (arith, b, length-primitive h c rest)) (known, k.1, k.2) in
-      let all = λ (n : ℕ). behind-shown p q (is_padding before) w outer n (behind_contents rules w h c n) (behind_primitive rules w h c) holder (Sibling h (first_octet c)) (Begin h ∷ Bytes c ∷ End ∷ []) _ rest refl
+      let known : Knows (after_primitive rules w h c) (site_after s h c) =
+      subst (λ (x : Bool). Knows (frame_after w x (announced_length h.size) u) (site_after s h c)) (ap not form) (knows-after w s (site_after s h c) h (first_octet c) u k.0 refl refl (unused-of h c form)) in
+      let t = shows_forest q holder (Sibling h (first_octet c)) (after_primitive rules w h c) outer rest v.1 (omega (arith, b, length-primitive h c rest)) (known, k.1, k.2) in
+      let all = λ (n : ℕ). shown-after p q (is_padding before) w outer n (after_contents rules w h c n) (after_primitive rules w h c) holder (Sibling h (first_octet c)) (Begin h ∷ Bytes c ∷ End ∷ []) _ rest refl
       (primitive-shown p (is_padding before) w outer n h c v.0.0.header.offset size (omega (arith, b, length-primitive h c rest))) t in
       let others : List Item = items rules (site_after s h c) rest in
       record {
@@ -154,10 +154,10 @@ module _ (style : Layout) (names : Table) (rules : Rules) where
             ∙ found-first (length outer) p.depth h.offset (header_findings_in rules w h) (header_findings rules s h) _ (PrimitiveLines p.depth h c ∷ (findings_at p.depth h.offset (contents_findings rules h c) ++ others)) k.1 (header-same rules w s h k.0)
             (ap (λ (l : List ℕ). whole_lines (finite.get names) h (at_level style names p.depth) c ++ l) (found-first (length outer) p.depth h.offset (contents_findings rules h c) (contents_findings rules h c) (texts_of others) others k.1 refl refl));
         stands = λ n e.
-            let r = t.stands (behind_contents rules w h c n) e in (
+            let r = t.stands (after_contents rules w h c n) e in (
               r.0,
               ap (λ (x : Effect DumpState). x.state) (all n) ∙ r.1
-                  ∙ ap (λ (at : ℕ). pair (lines_at style names p.depth at (padded_behind style names false rest)) (standing rules (noted_all (behind_primitive rules w h c) rest) outer r.0)) (omega (arith, length-primitive h c rest)),
+                  ∙ ap (λ (at : ℕ). pair (lines_at style names p.depth at (later_padded style names false rest)) (standing rules (noted_all (after_primitive rules w h c) rest) outer r.0)) (omega (arith, length-primitive h c rest)),
             );
       }
     where
@@ -170,7 +170,7 @@ module _ (style : Layout) (names : Table) (rules : Rules) where
       let size = length-holder h inside rest in
       let i = shows_forest i_place (Some h) Start (frame_under w h) (w ∷ outer) inside v.1 (omega (arith, b, size)) (knows-inside w s h, omega (arith, k.1), λ e. absurd (cc (e))) in
       let t = shows_forest q holder (Sibling h None) (frame_after w (is_primitive h) (announced_length h.size) false) outer rest v.2 (omega (arith, b, size))
-      (knows-behind w s (site_after_holder s h inside) h None false k.0 refl refl refl, k.1, k.2) in
+      (knows-after w s (site_after_holder s h inside) h None false k.0 refl refl refl, k.1, k.2) in
       let end : ℕ = p.at + length (opening h) + length (spelling inside) in
       let line : List ℕ = holder_line (at_level style names p.depth) h in
       let close : List ℕ = close_line (at_level style names p.depth) (end_place h inside) in
@@ -178,15 +178,15 @@ module _ (style : Layout) (names : Table) (rules : Rules) where
       let last : List ℕ = styled_lines (Dump style.pure) (length outer) h.offset (end_findings rules h (headers inside)) in
       let held : List ℕ = texts_of (items rules (site_of_children s h) inside) in
       let closes-shown : (m : ℕ) → effect_of dump_step (pair (lines_at style names (p.depth + 1) end false) (standing rules (noted_all (frame_under w h) inside) (w ∷ outer) m)) (closing_event h inside ∷ [])
-      ≡ shows (start q false (frame_after w (is_primitive h) (announced_length h.size) false) outer (behind_end rules h inside m)) (close ++ last) =
+      ≡ shows (start q false (frame_after w (is_primitive h) (announced_length h.size) false) outer (after_end rules h inside m)) (close ++ last) =
       λ m.
       closes-by (lines_at style names (p.depth + 1) end false) (standing rules (noted_all (frame_under w h) inside) (w ∷ outer) m) (end_offset h.size (h.offset + length (opening h) + length (spelling inside))) h.constructed
       ∙ ap₂ (λ (d : Effect LinesState) (f : FinderValue). shows (pair d.state f.state) (d.put ++ texts style f))
       (closer_shown style names p.depth end h inside (omega (arith, v.0.0.header.offset)) v.0.0.header.valid.allowed (omega (arith, b, size)))
       (closed-find rules i_place w outer m h inside v.1 v.0.1)
-      ∙ ap (λ (l : List ℕ). shows (pair (lines_at style names p.depth (end + length (end_octets h.size)) false) (standing rules (frame_after w (is_primitive h) (announced_length h.size) false) outer (behind_end rules h inside m))) (close ++ l))
+      ∙ ap (λ (l : List ℕ). shows (pair (lines_at style names p.depth (end + length (end_octets h.size)) false) (standing rules (frame_after w (is_primitive h) (announced_length h.size) false) outer (after_end rules h inside m))) (close ++ l))
       (at-under rules i_place w h inside v.1 v.0.1 (styled_lines (Dump style.pure) (length outer)) (λ at. refl))
-      ∙ ap (λ (at : ℕ). shows (pair (lines_at style names p.depth at false) (standing rules (frame_after w (is_primitive h) (announced_length h.size) false) outer (behind_end rules h inside m))) (close ++ last)) (omega arith) in
+      ∙ ap (λ (at : ℕ). shows (pair (lines_at style names p.depth at false) (standing rules (frame_after w (is_primitive h) (announced_length h.size) false) outer (after_end rules h inside m))) (close ++ last)) (omega arith) in
       let held-shown : (m : ℕ) → (r : ℕ) × (effect_of dump_step (start i_place false (frame_under w h) (w ∷ outer) m) (events inside)
       ≡ shows (pair (lines_at style names (p.depth + 1) end false) (standing rules (noted_all (frame_under w h) inside) (w ∷ outer) r)) held) =
       λ m.
@@ -198,9 +198,9 @@ module _ (style : Layout) (names : Table) (rules : Rules) where
       let element : (n : ℕ) → (m : ℕ) × (effect_of dump_step (start p (is_padding before) w outer n) (opening_events h ++ (events inside ++ closing_event h inside ∷ []))
       ≡ shows (start q false (frame_after w (is_primitive h) (announced_length h.size) false) outer m) ((first ++ line) ++ (held ++ (close ++ last)))) =
       λ n.
-      let a : ℕ = behind_header rules w h n in
+      let a : ℕ = later_header rules w h n in
       let r = held-shown a in (
-        behind_end rules h inside r.0,
+        after_end rules h inside r.0,
         then_shown (start p (is_padding before) w outer n) (start i_place false (frame_under w h) (w ∷ outer) a) (first ++ line) (opening_events h) (events inside ++ closing_event h inside ∷ [])
             (opened-shown p holder before w outer n h k v.0.0.header.offset (v.0.0.depth refl) (omega (arith, b, size)))
             ∙ ap (λ (x : Effect DumpState). record x { put = (first ++ line) ++ x.put })
@@ -212,7 +212,7 @@ module _ (style : Layout) (names : Table) (rules : Rules) where
       append_assoc (opening_events h) (events inside ++ closing_event h inside ∷ []) (events rest) ∙ ap (λ (l : List EventValue). opening_events h ++ l) (append_assoc (events inside) (closing_event h inside ∷ []) (events rest)) in
       let all = λ (n : ℕ).
       ap (effect_of dump_step (start p (is_padding before) w outer n)) (sym joined)
-      ∙ behind-shown p q (is_padding before) w outer n (element n).0 (frame_after w (is_primitive h) (announced_length h.size) false) holder (Sibling h None) es ((first ++ line) ++ (held ++ (close ++ last))) rest refl (element n).1 t in
+      ∙ shown-after p q (is_padding before) w outer n (element n).0 (frame_after w (is_primitive h) (announced_length h.size) false) holder (Sibling h None) es ((first ++ line) ++ (held ++ (close ++ last))) rest refl (element n).1 t in
       let others : List Item = items rules (site_after_holder s h inside) rest in
       let closing : List Item = ClosingLine p.depth (end_place h inside) ∷ (findings_at p.depth h.offset (end_findings rules h (headers inside)) ++ others) in
       record {
@@ -227,7 +227,7 @@ module _ (style : Layout) (names : Table) (rules : Rules) where
             let r = t.stands (element n).0 e in (
               r.0,
               ap (λ (x : Effect DumpState). x.state) (all n) ∙ r.1
-                  ∙ ap (λ (at : ℕ). pair (lines_at style names p.depth at (padded_behind style names false rest)) (standing rules (noted_all (frame_after w (is_primitive h) (announced_length h.size) false) rest) outer r.0)) (omega (arith, size)),
+                  ∙ ap (λ (at : ℕ). pair (lines_at style names p.depth at (later_padded style names false rest)) (standing rules (noted_all (frame_after w (is_primitive h) (announced_length h.size) false) rest) outer r.0)) (omega (arith, size)),
             );
       }
     where
@@ -253,9 +253,9 @@ module _ (style : Layout) (names : Table) (rules : Rules) where
       record {
         text = λ n.
             ap (λ (x : Effect DumpState). x.put)
-            (then_shown (start p (is_padding before) w outer n) (start (place_of_children p h) false (frame_under w h) (w ∷ outer) (behind_header rules w h n)) (first ++ line) (opening_events h) (events inside)
+            (then_shown (start p (is_padding before) w outer n) (start (place_of_children p h) false (frame_under w h) (w ∷ outer) (later_header rules w h n)) (first ++ line) (opening_events h) (events inside)
             (opened-shown p holder before w outer n h k v.0.0.header.offset (v.0.0.depth refl) (omega (arith, b, size))))
-            ∙ ap (λ (l : List ℕ). (first ++ line) ++ l) (i.text (behind_header rules w h n))
+            ∙ ap (λ (l : List ℕ). (first ++ line) ++ l) (i.text (later_header rules w h n))
             ∙ append_assoc first line (texts_of (items rules (site_of_children s h) inside))
             ∙ found-first (length outer) p.depth h.offset (header_findings_in rules w h) (header_findings rules s h) _ (OpeningLine p.depth h ∷ items rules (site_of_children s h) inside) k.1 (header-same rules w s h k.0) refl;
         stands = λ n e. absurd (cc (e));

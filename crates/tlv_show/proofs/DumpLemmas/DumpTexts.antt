@@ -23,7 +23,7 @@ use Rattle.tlv_show.specs.LinesStep.{LinesState, lines_effect, lines_step, offse
 use Rattle.tlv_show.specs.EndPlace.{end_place}
 use Rattle.tlv_show.specs.Lines.{close_line, opening_line, padding_line}
 use Rattle.tlv_show.proofs.DumpLemmas.HolderLine.{holder_line}
-use Rattle.tlv_show.proofs.DumpLemmas.Dumped.{behind_put, dumped_bytes, rested-new}
+use Rattle.tlv_show.proofs.DumpLemmas.Dumped.{after_put, dumped_bytes, rested-new}
 use Rattle.tlv_show.proofs.DumpLemmas.Always.{all_on}
 
 -- offsets do not stop below 2^64
@@ -64,7 +64,7 @@ primitives_shown s h c size =
     let place_after : LinesState = record (past_header s h) { offset = offset_after (past_header s h).offset (length c); value = None } in
     let took = take-all (announced_length h.size) c (omega (arith, size)) in
     let none : announced_length h.size - length c ≡ 0 = omega (arith, size) in
-    ap (λ (k : Effect LinesState). behind_put (begin_lines t) (if_on k.goes k (λ w. effect_of lines_step w (End ∷ [])))) (dumped_bytes u c (λ e. rested-new h s.layout))
+    ap (λ (k : Effect LinesState). after_put (begin_lines t) (if_on k.goes k (λ w. effect_of lines_step w (End ∷ [])))) (dumped_bytes u c (λ e. rested-new h s.layout))
     ∙ ap (λ (l : List ℕ). lines_effect place_after (begin_lines t ++ (contents_lines t l ++ ((if eqb (announced_length h.size - length l) 0 then end_lines (finite.get s.names) (text_after t l) else []) ++ [])))) took
     ∙ ap (λ (n : ℕ). lines_effect place_after (begin_lines t ++ (contents_lines t c ++ ((if eqb n 0 then end_lines (finite.get s.names) (text_after t c) else []) ++ [])))) none
     ∙ ap (lines_effect place_after) (whole_shown (finite.get s.names) h s.layout c (sym size))
@@ -99,7 +99,7 @@ module _ (style : Layout) (names : Table) where
       → (effect_of lines_step (standing level at padded) (Begin h ∷ Bytes c ∷ [])).put ≡ open_lines h (at_level level) c
   part_shown level at padded h c size =
       let t : TextState = new_text h (at_level level) in
-      ap (λ (k : Effect LinesState). (behind_put (begin_lines t) (if_on k.goes k (λ w. effect_of lines_step w []))).put) (dumped_bytes (begun_in level at padded h) c (λ e. rested-new h (at_level level)))
+      ap (λ (k : Effect LinesState). (after_put (begin_lines t) (if_on k.goes k (λ w. effect_of lines_step w []))).put) (dumped_bytes (begun_in level at padded h) c (λ e. rested-new h (at_level level)))
       ∙ ap (λ (l : List ℕ). begin_lines t ++ (contents_lines t l ++ [])) (take-all (announced_length h.size) c size)
       ∙ ap (λ (l : List ℕ). begin_lines t ++ l) (append-nil (contents_lines t c))
       ∙ sym (open-lines h (at_level level) c)
@@ -155,19 +155,19 @@ module _ (style : Layout) (names : Table) where
   -- ---- elements
 
   -- whether padding stands at their end
-  abbrev pub padded_behind : Bool → Forest → Bool
-  padded_behind padded NoMore = padded
-  padded_behind padded (PaddingOctet rest) = padded_behind true rest
-  padded_behind padded (Primitive h c rest) = padded_behind false rest
-  padded_behind padded (Holder h inside rest) = padded_behind false rest
-  padded_behind padded (OpenPrimitive h c) = false
-  padded_behind padded (OpenHolder h inside) = false
-  padded_behind padded (OpenBitString h) = false
-  padded_behind padded (OpenHeader octets) = padded
-  padded_behind padded OpenEndOctets = padded
+  abbrev pub later_padded : Bool → Forest → Bool
+  later_padded padded NoMore = padded
+  later_padded padded (PaddingOctet rest) = later_padded true rest
+  later_padded padded (Primitive h c rest) = later_padded false rest
+  later_padded padded (Holder h inside rest) = later_padded false rest
+  later_padded padded (OpenPrimitive h c) = false
+  later_padded padded (OpenHolder h inside) = false
+  later_padded padded (OpenBitString h) = false
+  later_padded padded (OpenHeader octets) = padded
+  later_padded padded OpenEndOctets = padded
 
   -- inside an element there is none
-  pub no_padding : (p : Place) (f : Forest) → p.padding ≡ false → IsOpen p f → padded_behind false f ≡ false
+  pub no_padding : (p : Place) (f : Forest) → p.padding ≡ false → IsOpen p f → later_padded false f ≡ false
   no_padding p NoMore e v = refl
   no_padding p (PaddingOctet rest) e v = absurd (true≢false (sym v.0.0 ∙ e))
   no_padding p (Primitive h c rest) e v = no_padding (place_after p (length (octets_of h) + length c)) rest e v.1

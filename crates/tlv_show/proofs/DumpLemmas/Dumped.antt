@@ -60,8 +60,8 @@ rested-new h layout =
     take-of-none n = grind (arith, common_steps)
 
 -- what more octets come to, if what went before put this
-abbrev pub behind_put : List ℕ → Effect LinesState → Effect LinesState
-behind_put put u = record { state = u.state; put = put ++ u.put; goes = u.goes }
+abbrev pub after_put : List ℕ → Effect LinesState → Effect LinesState
+after_put put u = record { state = u.state; put = put ++ u.put; goes = u.goes }
 
 -- a dump of contents: the offset after them, what is reported of the primitive, and what is put
 abbrev pub of_bytes : LinesState → ℕ → Option TextState → List ℕ → Effect LinesState
@@ -75,7 +75,7 @@ dumped_bytes s [] rested =
     ∙ ap₂ (λ (v : Option TextState) (put : List ℕ). of_bytes s (offset_after s.offset 0) v put) (sym r.0) (sym r.1)
 dumped_bytes s (x ∷ xs) rested =
     let j = value-join s.value (x ∷ []) xs in
-    ap (behind_put (value_contents_lines s.value (x ∷ []))) (dumped_bytes (lines_octet_step s x).state xs (λ e. rested-after s.value x))
+    ap (after_put (value_contents_lines s.value (x ∷ []))) (dumped_bytes (lines_octet_step s x).state xs (λ e. rested-after s.value x))
     ∙ ap (λ (n : ℕ). of_bytes s n (value_after (value_after s.value (x ∷ [])) xs) (value_contents_lines s.value (x ∷ []) ++ value_contents_lines (value_after s.value (x ∷ [])) xs))
     (further-more s.offset 1 (length xs) ∙ ap (offset_after s.offset) (omega arith))
     ∙ ap₂ (λ (v : Option TextState) (put : List ℕ). of_bytes s (offset_after s.offset (length (x ∷ xs))) v put) j.0 (sym j.1)
@@ -106,7 +106,7 @@ first_by : (s : LinesState) (offset : ℕ) (in_padding : Bool) (xs : List ℕ) �
 first_by s offset true xs some e = absurd (cc)
 first_by s offset false [] some e = absurd (omega (arith, some))
 first_by s offset false (x ∷ xs) some e =
-    ap (behind_put (padding_line s.layout offset)) (more_pad s (offset_after offset 1) xs)
+    ap (after_put (padding_line s.layout offset)) (more_pad s (offset_after offset 1) xs)
     ∙ ap (λ (o : ℕ). lines_effect (padded_at s o true) (padding_line s.layout offset ++ [])) (further-more offset 1 (length xs) ∙ ap (offset_after offset) (omega arith))
     ∙ ap (lines_effect (padded_at s (offset_after offset (length (x ∷ xs))) true)) (append-nil (padding_line s.layout offset))
 

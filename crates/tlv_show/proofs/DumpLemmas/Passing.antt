@@ -23,7 +23,7 @@ use Rattle.tlv_show.specs.Private.FinderState.{PassesOrStays, PassesPrimitive, f
 use Rattle.tlv_show.specs.Private.UsualTypes.{IsUsual}
 use Rattle.tlv_show.specs.Found.{shows}
 use Rattle.tlv_show.proofs.FindingLemmas.CheckLaws.{each-found}
-use Rattle.tlv_show.proofs.FindingLemmas.FinderItems.{behind_primitive, primitive-find, standing}
+use Rattle.tlv_show.proofs.FindingLemmas.FinderItems.{after_primitive, primitive-find, standing}
 
 -- ---- a finder
 
@@ -43,23 +43,23 @@ outside : (w : SiblingFrame) (size : ℕ) (unused : Bool) → w.has_segments ≡
 outside w size unused e = ap (λ (b : Bool). if b then frame_after_segment w true size unused else w) e
 
 -- after a primitive with which nothing is found, outside of strings
-abbrev behind : FinderState → FinderState
-behind s = record s { value = None }
+abbrev after : FinderState → FinderState
+after s = record s { value = None }
 
 pub passed : (s : FinderState) (h : HeaderValue) (c : List ℕ) → announced_length h.size ≡ length c → s.frame.has_segments ≡ false
     → header_findings_in s.rules s.frame h ≡ [] → findings_on_contents h c ≡ []
-    → finder_whole_step s h c ≡ record { state = behind s; level = length s.outer; at = h.offset; found = [] }
+    → finder_whole_step s h c ≡ record { state = after s; level = length s.outer; at = h.offset; found = [] }
 passed s h c size w header contents =
     let at : SiblingFrame → ℕ → List Finding → FinderValue = λ (f : SiblingFrame) (n : ℕ) (fs : List Finding). record { state = standing s.rules f s.outer (count_up n (length fs)); level = length s.outer; at = h.offset; found = fs } in
     primitive-find s.rules s.frame s.outer s.count h c (sym size)
-    ∙ ap (λ (fs : List Finding). at (behind_primitive s.rules s.frame h c) (count_up s.count (length (header_findings_in s.rules s.frame h))) (filter (shows s.rules) fs)) contents
-    ∙ ap (λ (fs : List Finding). at (behind_primitive s.rules s.frame h c) (count_up s.count (length fs)) []) header
+    ∙ ap (λ (fs : List Finding). at (after_primitive s.rules s.frame h c) (count_up s.count (length (header_findings_in s.rules s.frame h))) (filter (shows s.rules) fs)) contents
+    ∙ ap (λ (fs : List Finding). at (after_primitive s.rules s.frame h c) (count_up s.count (length fs)) []) header
     ∙ ap (λ (f : SiblingFrame). at f (count_up s.count 0) []) (outside s.frame _ _ w)
     ∙ ap (λ (n : ℕ). record { state = standing s.rules s.frame s.outer n; level = length s.outer; at = h.offset; found = [] }) (none-counted (count_up s.count 0) ∙ none-counted s.count)
 
 pub passes : (old new : FinderValue) (h : HeaderValue) (c : List ℕ) → announced_length h.size ≡ length c → old.state.frame.has_segments ≡ false
     → header_findings_in old.state.rules old.state.frame h ≡ [] → findings_on_contents h c ≡ []
-    → new ≡ with_state (behind old.state) old → PassesPrimitive old new h c
+    → new ≡ with_state (after old.state) old → PassesPrimitive old new h c
 passes old new h c size w header contents e =
     let all = passed old.state h c size w header contents in
     record {

@@ -130,10 +130,10 @@ held-few rules (row ∷ rows) = let e = one-few row.0 (held-few rules rows) in o
 module _ (rules : Rules) where
   few-at : (level at : ℕ) (fs : List Finding) (rest : List Item) (n m : ℕ) → length fs ≤ n → length (only rest) ≤ m → length (only (findings_at level at fs ++ rest)) ≤ n + m
   few-at level at [] rest n m e f = omega (arith, e, f)
-  few-at level at (x ∷ fs) rest n m e f = let g = few-behind (few-at level at fs rest (n - 1) m (omega (arith, e)) f) in omega (arith, g)
+  few-at level at (x ∷ fs) rest n m e f = let g = few-after (few-at level at fs rest (n - 1) m (omega (arith, e)) f) in omega (arith, g)
     where
-      few-behind : length (only (findings_at level at fs ++ rest)) ≤ n - 1 + m → length (only (findings_at level at fs ++ rest)) + 1 ≤ n + m
-      few-behind g = omega (arith, g, e)
+      few-after : length (only (findings_at level at fs ++ rest)) ≤ n - 1 + m → length (only (findings_at level at fs ++ rest)) + 1 ≤ n + m
+      few-after g = omega (arith, g, e)
 
   few-pads : (k : Bool) (level at : ℕ) (l : List Item) → length (only ((if k then [] else PaddingLine level at ∷ []) ++ l)) ≡ length (only l)
   few-pads true level at l = refl

@@ -68,9 +68,9 @@ unused-of h (x ∷ c) e =
     let t : eqb (type_number h) bit_string ≡ is_a bit_string h = type-is (is_universal h.class) h.number in
     unused-at (is_a bit_string h) (type_number h) (announced_length h.size) x c t ∙ ap (λ (k : Bool). not k && is_a bit_string h && not (x == 0)) (sym e)
 
-pub knows-behind : (w : SiblingFrame) (s t : Site) (h : HeaderValue) (first : Option ℕ) (unused : Bool) → Knows w s → t.holder ≡ s.holder → t.before ≡ Sibling h first
+pub knows-after : (w : SiblingFrame) (s t : Site) (h : HeaderValue) (first : Option ℕ) (unused : Bool) → Knows w s → t.holder ≡ s.holder → t.before ≡ Sibling h first
     → unused ≡ follows_unused_bits (Sibling h first) → Knows (frame_after w (is_primitive h) (announced_length h.size) unused) t
-knows-behind w s t h first unused k e b u =
+knows-after w s t h first unused k e b u =
     let same : in_string s ≡ in_string t = ap (is_held_by has_segments) (sym e) in
     let bits : w.has_bits ≡ in_bit_string t = k.bits ∙ ap (is_held_by (λ h. has_segments h && is_a bit_string h)) (sym e) in
     by-segments same bits w.has_segments refl

@@ -27,7 +27,7 @@ use Rattle.tlv_show.proofs.FindingLemmas.SitesAfter.{site_after, site_after_hold
 use Rattle.tlv_show.proofs.FindingLemmas.SiteWords.{first_octet}
 use Rattle.tlv_show.specs.Texts.{is_finding}
 use Rattle.tlv_show.proofs.FindingLemmas.CheckLaws.{one-or-more}
-use Rattle.tlv_show.proofs.FindingLemmas.FinderFolds.{at-under, knows-behind, knows-inside, knows-padding, not-constructed, noted-under, noted_all, summed-under, unused-of}
+use Rattle.tlv_show.proofs.FindingLemmas.FinderFolds.{at-under, knows-after, knows-inside, knows-padding, not-constructed, noted-under, noted_all, summed-under, unused-of}
 use Rattle.tlv_show.proofs.FindingLemmas.HeaderFindings.{Knows, header-same}
 
 -- what becomes of a finder, and the items that it reported
@@ -103,14 +103,14 @@ module _ (rules : Rules) where
   abbrev pub standing : SiblingFrame → List SiblingFrame → ℕ → FinderState
   standing w outer n = record { rules = rules; frame = w; outer = outer; value = None; count = n }
 
-  abbrev pub behind_header : SiblingFrame → HeaderValue → ℕ → ℕ
-  behind_header w h n = count_up n (length (header_findings_in rules w h))
+  abbrev pub later_header : SiblingFrame → HeaderValue → ℕ → ℕ
+  later_header w h n = count_up n (length (header_findings_in rules w h))
 
   -- ---- an element that holds others begins
 
   pub opened-find : (w : SiblingFrame) (outer : List SiblingFrame) (n : ℕ) (h : HeaderValue) → length outer < 128
       → finder_open_step (standing w outer n) h
-      ≡ record { state = standing (frame_under w h) (w ∷ outer) (behind_header w h n); level = length outer; at = h.offset; found = header_findings_in rules w h }
+      ≡ record { state = standing (frame_under w h) (w ∷ outer) (later_header w h n); level = length outer; at = h.offset; found = header_findings_in rules w h }
   opened-find w outer n h few =
       let yes : nat_lt (length outer) 128 ≡ true = grind (arith, nat_tests) in
       rw yes refl
@@ -122,7 +122,7 @@ module _ (rules : Rules) where
   opened-by s h false false es = refl
 
   pub opened : (w : SiblingFrame) (outer : List SiblingFrame) (n : ℕ) (h : HeaderValue) (es : List EventValue) → length outer < 128
-      → run (standing w outer n) (opening_events h ++ es) ≡ then_found (findings_at (length outer) h.offset (header_findings_in rules w h)) (run (standing (frame_under w h) (w ∷ outer) (behind_header w h n)) es)
+      → run (standing w outer n) (opening_events h ++ es) ≡ then_found (findings_at (length outer) h.offset (header_findings_in rules w h)) (run (standing (frame_under w h) (w ∷ outer) (later_header w h n)) es)
   opened w outer n h es few =
       opened-by (standing w outer n) h h.constructed (h.number == 3) es
       ∙ ap (λ (f : FinderValue). then_found (found_items f) (run f.state es)) (opened-find w outer n h few)
@@ -133,52 +133,52 @@ module _ (rules : Rules) where
   closed-by s at true es = refl
   closed-by s at false es = refl
 
-  abbrev pub behind_end : HeaderValue → Forest → ℕ → ℕ
-  behind_end h inside n = count_up n (length (end_findings rules h (headers inside)))
+  abbrev pub after_end : HeaderValue → Forest → ℕ → ℕ
+  after_end h inside n = count_up n (length (end_findings rules h (headers inside)))
 
   pub closed : (p : Place) (w : SiblingFrame) (outer : List SiblingFrame) (n : ℕ) (h : HeaderValue) (inside : Forest) (es : List EventValue) → IsOpen p inside → is_complete inside ≡ true
       → run (standing (noted_all (frame_under w h) inside) (w ∷ outer) n) (closing_event h inside ∷ es)
-      ≡ then_found (findings_at (length outer) h.offset (end_findings rules h (headers inside))) (run (standing (frame_after w (is_primitive h) (announced_length h.size) false) outer (behind_end h inside n)) es)
+      ≡ then_found (findings_at (length outer) h.offset (end_findings rules h (headers inside))) (run (standing (frame_after w (is_primitive h) (announced_length h.size) false) outer (after_end h inside n)) es)
   closed p w outer n h inside es v whole =
       let f : SiblingFrame = noted_all (frame_under w h) inside in
       closed-by (standing f (w ∷ outer) n) (end_offset h.size (h.offset + length (opening h) + length (spelling inside))) h.constructed es
       ∙ ap (λ (fs : List Finding). then_found (findings_at (length outer) f.at fs) (run (standing (frame_after w f.is_primitive f.size false) outer (count_up n (length fs))) es)) (summed-under rules p w h inside v whole)
-      ∙ ap₂ (λ (put : List Item) (t : SiblingFrame). then_found put (run (standing t outer (behind_end h inside n)) es)) (at-under rules p w h inside v whole (findings_at (length outer)) (λ at. refl)) (noted-under w h inside)
+      ∙ ap₂ (λ (put : List Item) (t : SiblingFrame). then_found put (run (standing t outer (after_end h inside n)) es)) (at-under rules p w h inside v whole (findings_at (length outer)) (λ at. refl)) (noted-under w h inside)
 
   -- ---- a primitive
 
-  abbrev pub behind_primitive : SiblingFrame → HeaderValue → List ℕ → SiblingFrame
-  behind_primitive w h c = frame_after w true (announced_length h.size) (has_unused_bits (check_after (new_check h) c))
+  abbrev pub after_primitive : SiblingFrame → HeaderValue → List ℕ → SiblingFrame
+  after_primitive w h c = frame_after w true (announced_length h.size) (has_unused_bits (check_after (new_check h) c))
 
-  abbrev pub behind_contents : SiblingFrame → HeaderValue → List ℕ → ℕ → ℕ
-  behind_contents w h c n = count_up (behind_header w h n) (length (contents_findings rules h c))
+  abbrev pub after_contents : SiblingFrame → HeaderValue → List ℕ → ℕ → ℕ
+  after_contents w h c n = count_up (later_header w h n) (length (contents_findings rules h c))
 
   pub primitive : (w : SiblingFrame) (outer : List SiblingFrame) (n : ℕ) (h : HeaderValue) (c : List ℕ) (es : List EventValue) → length c ≡ announced_length h.size
       → run (standing w outer n) (Begin h ∷ Bytes c ∷ End ∷ es)
       ≡ then_found (findings_at (length outer) h.offset (header_findings_in rules w h))
-      (then_found (findings_at (length outer) h.offset (contents_findings rules h c)) (run (standing (behind_primitive w h c) outer (behind_contents w h c n)) es))
+      (then_found (findings_at (length outer) h.offset (contents_findings rules h c)) (run (standing (after_primitive w h c) outer (after_contents w h c n)) es))
   primitive w outer n h c es e =
       let put : List Item = findings_at (length outer) h.offset (header_findings_in rules w h) in
-      let s : FinderState = standing w outer (behind_header w h n) in
+      let s : FinderState = standing w outer (later_header w h n) in
       ap (λ (u : FinderState). then_found put (then_found [] (run u (End ∷ es)))) (took s h.offset h c (omega (arith, e)))
-      ∙ ap (λ (fs : List Finding). then_found put (then_found (findings_at (length outer) h.offset fs) (run (standing (behind_primitive w h c) outer (count_up (behind_header w h n) (length fs))) es))) (ended rules h c e)
+      ∙ ap (λ (fs : List Finding). then_found put (then_found (findings_at (length outer) h.offset fs) (run (standing (after_primitive w h c) outer (count_up (later_header w h n) (length fs))) es))) (ended rules h c e)
 
   -- ---- what a finder makes of each end by itself
 
   pub closed-find : (p : Place) (w : SiblingFrame) (outer : List SiblingFrame) (n : ℕ) (h : HeaderValue) (inside : Forest) → IsOpen p inside → is_complete inside ≡ true
       → finder_close_step (standing (noted_all (frame_under w h) inside) (w ∷ outer) n)
-      ≡ record { state = standing (frame_after w (is_primitive h) (announced_length h.size) false) outer (behind_end h inside n); level = length outer; at = (noted_all (frame_under w h) inside).at; found = end_findings rules h (headers inside) }
+      ≡ record { state = standing (frame_after w (is_primitive h) (announced_length h.size) false) outer (after_end h inside n); level = length outer; at = (noted_all (frame_under w h) inside).at; found = end_findings rules h (headers inside) }
   closed-find p w outer n h inside v whole =
       let f : SiblingFrame = noted_all (frame_under w h) inside in
       ap (λ (gs : List Finding). record { state = standing (frame_after w f.is_primitive f.size false) outer (count_up n (length gs)); level = length outer; at = f.at; found = gs }) (summed-under rules p w h inside v whole)
-      ∙ ap (λ (t : SiblingFrame). record { state = standing t outer (behind_end h inside n); level = length outer; at = f.at; found = end_findings rules h (headers inside) }) (noted-under w h inside)
+      ∙ ap (λ (t : SiblingFrame). record { state = standing t outer (after_end h inside n); level = length outer; at = f.at; found = end_findings rules h (headers inside) }) (noted-under w h inside)
 
   pub primitive-find : (w : SiblingFrame) (outer : List SiblingFrame) (n : ℕ) (h : HeaderValue) (c : List ℕ) → length c ≡ announced_length h.size
       → finder_end_step (finder_bytes_step (finder_begin_step (standing w outer n) h).state c)
-      ≡ record { state = standing (behind_primitive w h c) outer (behind_contents w h c n); level = length outer; at = h.offset; found = contents_findings rules h c }
+      ≡ record { state = standing (after_primitive w h c) outer (after_contents w h c n); level = length outer; at = h.offset; found = contents_findings rules h c }
   primitive-find w outer n h c e =
-      ap finder_end_step (took (standing w outer (behind_header w h n)) h.offset h c (omega (arith, e)))
-      ∙ ap (λ (fs : List Finding). record { state = standing (behind_primitive w h c) outer (count_up (behind_header w h n) (length fs)); level = length outer; at = h.offset; found = fs }) (ended rules h c e)
+      ap finder_end_step (took (standing w outer (later_header w h n)) h.offset h c (omega (arith, e)))
+      ∙ ap (λ (fs : List Finding). record { state = standing (after_primitive w h c) outer (count_up (later_header w h n) (length fs)); level = length outer; at = h.offset; found = fs }) (ended rules h c e)
 
   -- ---- elements
 
@@ -211,32 +211,32 @@ module _ (rules : Rules) where
       let size : length c ≡ announced_length h.size = sym (ap announced_length v.0.1) in
       let form : h.constructed ≡ false = not-constructed h.constructed (wraps h) v.0.0.header.form in
       let u : Bool = has_unused_bits (check_after (new_check h) c) in
-      let known : Knows (behind_primitive w h c) (site_after s h c) =
-      subst (λ (b : Bool). Knows (frame_after w b (announced_length h.size) u) (site_after s h c)) (ap not form) (knows-behind w s (site_after s h c) h (first_octet c) u k refl refl (unused-of h c form)) in
-      let r = finds_forest (place_after p (length (octets_of h) + length c)) (site_after s h c) (behind_primitive w h c) outer rest v.1 known l d free in
+      let known : Knows (after_primitive w h c) (site_after s h c) =
+      subst (λ (b : Bool). Knows (frame_after w b (announced_length h.size) u) (site_after s h c)) (ap not form) (knows-after w s (site_after s h c) h (first_octet c) u k refl refl (unused-of h c form)) in
+      let r = finds_forest (place_after p (length (octets_of h) + length c)) (site_after s h c) (after_primitive w h c) outer rest v.1 known l d free in
       record {
         put = λ n.
             ap (λ (t : Step). t.put) (primitive w outer n h c (events rest) size)
             ∙ header-items s w outer h _ (PrimitiveLines s.level h c ∷ (findings_at s.level h.offset (contents_findings rules h c) ++ items rules (site_after s h c) rest)) k l
-            (more-items s outer h.offset (contents_findings rules h c) _ (items rules (site_after s h c) rest) l (r.put (behind_contents w h c n)));
+            (more-items s outer h.offset (contents_findings rules h c) _ (items rules (site_after s h c) rest) l (r.put (after_contents w h c n)));
         stands = λ n e.
-            let t = r.stands (behind_contents w h c n) e in
+            let t = r.stands (after_contents w h c n) e in
             (t.0, ap (λ (x : Step). x.state) (primitive w outer n h c (events rest) size) ∙ t.1);
       }
   finds_forest p s w outer (Holder h inside rest) v k l d free =
       let i = finds_forest (place_of_children p h) (site_of_children s h) (frame_under w h) (w ∷ outer) inside v.1 (knows-inside w s h) (omega (arith, l)) (omega (arith, d)) (λ e. absurd (cc (e))) in
       let r = finds_forest (place_after p (extent h inside)) (site_after_holder s h inside) (frame_after w (is_primitive h) (announced_length h.size) false) outer rest v.2
-      (knows-behind w s (site_after_holder s h inside) h None false k refl refl refl) l d free in
+      (knows-after w s (site_after_holder s h inside) h None false k refl refl refl) l d free in
       let few : length outer < 128 = omega (arith, l, d, (v.0.0.depth refl)) in
       let es : List EventValue = closing_event h inside ∷ events rest in
       let all : (n : ℕ) → (m : ℕ) × (run (standing w outer n) (events (Holder h inside rest))
       ≡ then_found (findings_at (length outer) h.offset (header_findings_in rules w h)) (then_found (only (items rules (site_of_children s h) inside))
       (then_found (findings_at (length outer) h.offset (end_findings rules h (headers inside))) (run (standing (frame_after w (is_primitive h) (announced_length h.size) false) outer m) (events rest))))) =
       λ n.
-      let a : ℕ = behind_header w h n in
+      let a : ℕ = later_header w h n in
       let t = i.stands a v.0.1 in
       let put : List Item = findings_at (length outer) h.offset (header_findings_in rules w h) in (
-        behind_end h inside t.0,
+        after_end h inside t.0,
         opened w outer n h (events inside ++ es) few
             ∙ ap (then_found put)
             (run-more (standing (frame_under w h) (w ∷ outer) a) (events inside) es
@@ -267,7 +267,7 @@ module _ (rules : Rules) where
       record {
         put = λ n.
             ap (λ (t : Step). t.put) (opened w outer n h (events inside) few)
-            ∙ header-items s w outer h _ (OpeningLine s.level h ∷ items rules (site_of_children s h) inside) k l (i.put (behind_header w h n));
+            ∙ header-items s w outer h _ (OpeningLine s.level h ∷ items rules (site_of_children s h) inside) k l (i.put (later_header w h n));
         stands = λ n e. absurd (cc (e));
       }
   finds_forest p s w outer (OpenBitString h) v k l d free = record {

@@ -133,8 +133,8 @@ pub equal-joined : (xs ys : List EventValue) → AreEqualJoined xs ys ↔ (singl
 equal-joined xs ys = (apart-from_joined xs ys, joined-from_apart xs ys)
 
 -- events that are equal apart, after the same events
-pub apart-behind : (xs ys zs : List EventValue) → single_octets ys ≡ single_octets zs → single_octets (xs ++ ys) ≡ single_octets (xs ++ zs)
-apart-behind xs ys zs e = apart-append xs ys ∙ ap (λ (t : List EventValue). single_octets xs ++ t) e ∙ sym (apart-append xs zs)
+pub apart-after : (xs ys zs : List EventValue) → single_octets ys ≡ single_octets zs → single_octets (xs ++ ys) ≡ single_octets (xs ++ zs)
+apart-after xs ys zs e = apart-append xs ys ∙ ap (λ (t : List EventValue). single_octets xs ++ t) e ∙ sym (apart-append xs zs)
 
 -- events that are equal apart, before the same events
 pub apart-before : (xs ys zs : List EventValue) → single_octets xs ≡ single_octets ys → single_octets (xs ++ zs) ≡ single_octets (ys ++ zs)
@@ -142,4 +142,4 @@ apart-before xs ys zs e = apart-append xs zs ∙ ap (λ (t : List EventValue). t
 
 -- new events after some, and so after all
 pub apart-more : (xs ys zs new : List EventValue) → single_octets ys ≡ single_octets (zs ++ new) → single_octets (xs ++ ys) ≡ single_octets ((xs ++ zs) ++ new)
-apart-more xs ys zs new e = apart-behind xs ys (zs ++ new) e ∙ sym (ap single_octets (append_assoc xs zs new))
+apart-more xs ys zs new e = apart-after xs ys (zs ++ new) e ∙ sym (ap single_octets (append_assoc xs zs new))

@@ -18,8 +18,8 @@ pub record GoesOn (xs ys : List EventValue) : Type 0 where
   pub more : single_octets ys ≡ single_octets (xs ++ others)
 
 -- events that go on, and go on further
-goes-on-behind : (xs ys zs new : List EventValue) → GoesOn xs ys → single_octets zs ≡ single_octets (ys ++ new) → GoesOn xs zs
-goes-on-behind xs ys zs new r e = record {
+goes-on-after : (xs ys zs new : List EventValue) → GoesOn xs ys → single_octets zs ≡ single_octets (ys ++ new) → GoesOn xs zs
+goes-on-after xs ys zs new r e = record {
   others = r.others ++ new;
   more = e ∙ apart-before ys (xs ++ r.others) new r.more ∙ ap single_octets (append_assoc xs r.others new);
 }
@@ -37,7 +37,7 @@ forest-goes_on p (suc n) f g t l w v e = elim (back t) [
       let q : PoppedBy p g (spelling f ++ ys) y = popped-by p g (spelling f ++ ys) y v e' in
       let brings : Brings (events q.popped.from ++ gained p q.popped.from q.popped.last) (Grown g) =
       rw (q.popped.pushed) at (push-brings p q.popped.from q.popped.last q.popped.is_open) in
-      goes-on-behind (events f) (events q.popped.from) (events g) (gained p q.popped.from q.popped.last)
+      goes-on-after (events f) (events q.popped.from) (events g) (gained p q.popped.from q.popped.last)
       (forest-goes_on p n f q.popped.from ys (omega (arith, ap length z, length-append ys (y ∷ []))) w q.popped.is_open q.spelled) brings
 ]
 

@@ -40,8 +40,8 @@ among_rise least end n (at ∷ ats) r e = elim (cases_eq n at) [
 ]
 
 -- counting goes on after the first of the list
-next-behind : (n : ℕ) (ns : List ℕ) (k at : ℕ) → next_wrapper (n ∷ ns) (suc k) at ≡ suc (next_wrapper ns k at)
-next-behind n ns k at = by (slice_get ns k)
+next-after : (n : ℕ) (ns : List ℕ) (k at : ℕ) → next_wrapper (n ∷ ns) (suc k) at ≡ suc (next_wrapper ns k at)
+next-after n ns k at = by (slice_get ns k)
   where
     by : (o : Option ℕ) → option_map_or (λ m. if eqb m at then suc k + 1 else suc k) o (suc k) ≡ suc (option_map_or (λ m. if eqb m at then k + 1 else k) o k)
     by None = refl
@@ -50,9 +50,9 @@ next-behind n ns k at = by (slice_get ns k)
       | inr e ↦ rw e refl
     ]
 
-found-behind : (n : ℕ) (ns : List ℕ) (k : ℕ) (ats : List ℕ) → wrappers_after (n ∷ ns) (suc k) ats ≡ suc (wrappers_after ns k ats)
-found-behind n ns k [] = refl
-found-behind n ns k (at ∷ ats) = ap (λ (j : ℕ). wrappers_after (n ∷ ns) j ats) (next-behind n ns k at) ∙ found-behind n ns (next_wrapper ns k at) ats
+found-after : (n : ℕ) (ns : List ℕ) (k : ℕ) (ats : List ℕ) → wrappers_after (n ∷ ns) (suc k) ats ≡ suc (wrappers_after ns k ats)
+found-after n ns k [] = refl
+found-after n ns k (at ∷ ats) = ap (λ (j : ℕ). wrappers_after (n ∷ ns) j ats) (next-after n ns k at) ∙ found-after n ns (next_wrapper ns k at) ats
 
 none_there : (k : ℕ) → slice_get {X = ℕ} [] k ≡ None
 none_there k = refl
@@ -64,7 +64,7 @@ first-found (n ∷ ns) [] least low end r q = refl
 first-found (n ∷ ns) (at ∷ ats) least low end r q = elim (cases_eq n at) [
   | inl same ↦
       ap (λ (k : Bool). slice_get (n ∷ ns) (wrappers_after (n ∷ ns) (if k then 1 else 0) ats)) (eq-eqb n at same)
-      ∙ ap (slice_get (n ∷ ns)) (found-behind n ns 0 ats)
+      ∙ ap (slice_get (n ∷ ns)) (found-after n ns 0 ats)
       ∙ first-found ns ats (n + 1) (at + 1) end r.2 q.1
       ∙ sym (first_other-larger (n + 1) at ns ats (omega (arith, same)) r.2)
       ∙ ap (λ (k : Bool). if not k then Some n else first_other ns (at ∷ ats)) (sym (ap (λ (m : ℕ). is_among n (m ∷ ats)) (sym same) ∙ is_first n ats))

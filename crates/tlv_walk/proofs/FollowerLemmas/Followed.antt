@@ -34,11 +34,11 @@ module _ {S : Type 0} where
 
   if_on-assoc : (go : Go) (t : Effect S) (f g : S → Effect S) → go ≡ t.goes
       → if_on go t (λ u. if_on (f u).goes (f u) g) ≡ if_on (if_on go t f).goes (if_on go t f) g
-  if_on-assoc On t f g e = behind (f t.state) (f t.state).goes
+  if_on-assoc On t f g e = after (f t.state) (f t.state).goes
     where
-      behind : (m : Effect S) (go : Go) → and_then t (λ u. if_on go m g) ≡ if_on go (and_then t (λ u. m)) g
-      behind m On = sym (and_then-assoc t (λ u. m) g)
-      behind m Enough = refl
+      after : (m : Effect S) (go : Go) → and_then t (λ u. if_on go m g) ≡ if_on go (and_then t (λ u. m)) g
+      after m On = sym (and_then-assoc t (λ u. m) g)
+      after m Enough = refl
   if_on-assoc Enough t f g e = ap (λ (go : Go). if_on go t g) e
 
 on_is_not_enough : On ≡ Enough → ⊥
@@ -117,8 +117,8 @@ module _ {S : Type 0} (next : S → EventValue → Effect S) where
       by step Enough k h = refl
 
   -- events after one event may be others that are followed alike
-  behind : (s : S) (e : EventValue) (es fs : List EventValue) → ((u : S) → effect_of next u es ≡ effect_of next u fs) → effect_of next s (e ∷ es) ≡ effect_of next s (e ∷ fs)
-  behind s e es fs h = if_on-alike (next s e).goes (next s e) (λ u. effect_of next u es) (λ u. effect_of next u fs) (h (next s e).state)
+  after : (s : S) (e : EventValue) (es fs : List EventValue) → ((u : S) → effect_of next u es ≡ effect_of next u fs) → effect_of next s (e ∷ es) ≡ effect_of next s (e ∷ fs)
+  after s e es fs h = if_on-alike (next s e).goes (next s e) (λ u. effect_of next u es) (λ u. effect_of next u fs) (h (next s e).state)
 
   -- octets in parts: `part` is `Bytes` or `Pad`
   module _ (part : List ℕ → EventValue) (joins : Joins next part) (rests : Rests next part) (go_on : GoesOn next part) where
@@ -170,15 +170,15 @@ module _ {S : Type 0} (next : S → EventValue → Effect S)
   -- joining changes nothing that is made
   pub followed-joined : (s : S) (es : List EventValue) → effect_of next s (joined_events es) ≡ effect_of next s es
   followed-joined s [] = refl
-  followed-joined s (Bytes b ∷ es) = followed-with_bytes s b (joined_events es) ∙ behind next s (Bytes b) (joined_events es) es (λ u. followed-joined u es)
-  followed-joined s (Pad b ∷ es) = followed-with_pad s b (joined_events es) ∙ behind next s (Pad b) (joined_events es) es (λ u. followed-joined u es)
-  followed-joined s (Open h ∷ es) = behind next s (Open h) (joined_events es) es (λ u. followed-joined u es)
-  followed-joined s (Begin h ∷ es) = behind next s (Begin h) (joined_events es) es (λ u. followed-joined u es)
-  followed-joined s (End ∷ es) = behind next s End (joined_events es) es (λ u. followed-joined u es)
-  followed-joined s (Close o ∷ es) = behind next s (Close o) (joined_events es) es (λ u. followed-joined u es)
-  followed-joined s (Enter h ∷ es) = behind next s (Enter h) (joined_events es) es (λ u. followed-joined u es)
-  followed-joined s (Unused ∷ es) = behind next s Unused (joined_events es) es (λ u. followed-joined u es)
-  followed-joined s (Leave ∷ es) = behind next s Leave (joined_events es) es (λ u. followed-joined u es)
+  followed-joined s (Bytes b ∷ es) = followed-with_bytes s b (joined_events es) ∙ after next s (Bytes b) (joined_events es) es (λ u. followed-joined u es)
+  followed-joined s (Pad b ∷ es) = followed-with_pad s b (joined_events es) ∙ after next s (Pad b) (joined_events es) es (λ u. followed-joined u es)
+  followed-joined s (Open h ∷ es) = after next s (Open h) (joined_events es) es (λ u. followed-joined u es)
+  followed-joined s (Begin h ∷ es) = after next s (Begin h) (joined_events es) es (λ u. followed-joined u es)
+  followed-joined s (End ∷ es) = after next s End (joined_events es) es (λ u. followed-joined u es)
+  followed-joined s (Close o ∷ es) = after next s (Close o) (joined_events es) es (λ u. followed-joined u es)
+  followed-joined s (Enter h ∷ es) = after next s (Enter h) (joined_events es) es (λ u. followed-joined u es)
+  followed-joined s (Unused ∷ es) = after next s Unused (joined_events es) es (λ u. followed-joined u es)
+  followed-joined s (Leave ∷ es) = after next s Leave (joined_events es) es (λ u. followed-joined u es)
 
   -- events that are equal joined make the same
   pub followed-alike : (s : S) (es fs : List EventValue) → AreEqualJoined es fs → effect_of next s es ≡ effect_of next s fs

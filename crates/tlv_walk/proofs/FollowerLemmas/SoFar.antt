@@ -46,8 +46,8 @@ given_octets (gave n) piece a = All-take (λ x. x < 256) n piece a
 given_octets failed piece a = All-nil (λ x. x < 256)
 
 -- of octets after others as many as the limit leaves
-pub limit_behind : (limit : ℕ) (b r : List ℕ) → length b ≤ limit → b ++ take (limit - length b) r ≡ take limit (b ++ r)
-limit_behind limit b r h = sym (take-append-add b r (limit - length b)) ∙ ap (λ (k : ℕ). take k (b ++ r)) (omega (arith, h))
+pub limit_after : (limit : ℕ) (b r : List ℕ) → length b ≤ limit → b ++ take (limit - length b) r ≡ take limit (b ++ r)
+limit_after limit b r h = sym (take-append-add b r (limit - length b)) ∙ ap (λ (k : ℕ). take k (b ++ r)) (omega (arith, h))
 
 -- ---- what is kept of events
 

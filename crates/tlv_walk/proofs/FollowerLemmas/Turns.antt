@@ -39,7 +39,7 @@ use Rattle.tlv_walk.proofs.FollowerLemmas.Following.{walked_goes_on}
 use Rattle.tlv_io.proofs.Puts.{puts_failed_last, puts_then_as, sends_err, sends_flushed, sends_ok, sends_puts}
 use Rattle.tlv_walk.proofs.GrammarLemmas.PushSteps.{Spells}
 use Rattle.tlv_walk.proofs.GrammarLemmas.Readings.{reading-longer, reading-unique}
-use Rattle.tlv_walk.proofs.FollowerLemmas.SoFar.{limit_behind}
+use Rattle.tlv_walk.proofs.FollowerLemmas.SoFar.{limit_after}
 use Rattle.tlv_walk.proofs.WalkerLemmas.ZipperReading.{state-reading, state-spells}
 use Rattle.tlv_walk.proofs.WalkerLemmas.EventOctets.{stands-past_octets}
 use Rattle.tlv_walk.proofs.EventLemmas.Unused.{stands-entered, stands_unused}
@@ -256,7 +256,7 @@ module _ {S D : Type 0} (next : S → EventValue → Effect S) (before after : T
       ap (λ (o : List ℕ). b ++ o) (
       is_piece ∙ ap (λ (k : ℕ). take k p) is_m ∙ taken_within limit at n p ∙ ap (λ (k : ℕ). take (limit - k) (take n p)) st.private_state.has_state.offset
       ∙ ap (λ (o : List ℕ). take (limit - length b) o) (sym is_r)
-      ) ∙ limit_behind limit b r (omega (arith, st.private_state.has_state.offset, below))
+      ) ∙ limit_after limit b r (omega (arith, st.private_state.has_state.offset, below))
 
   -- the reading of these
   read : (f : Forest) × IsReading before.walker.framing (b ++ piece) f

@@ -22,8 +22,8 @@ pub record IsLike (p q : Place) : Type 0 where
   pub depth : q.depth ≡ p.depth
 
 -- no offset in the lists is below where they stand
-abbrev pub AreBehind : (ℕ → List ℕ) → Type 0
-AreBehind names = (at i : ℕ) → i < at → is_among i (names at) ≡ false
+abbrev pub ComeAfter : (ℕ → List ℕ) → Type 0
+ComeAfter names = (at i : ℕ) → i < at → is_among i (names at) ≡ false
 
 -- nor past so many octets from there
 abbrev pub AreWithin : (ℕ → List ℕ) → ℕ → Type 0
@@ -47,7 +47,7 @@ pub record Spelling (form : Bool → Bool) (p : Place) (f : Forest) : Type 0 whe
   pub octets : List ℕ
   pub names : ℕ → List ℕ
   pub short : length octets ≤ 4 * length (spelling f)
-  pub names_behind : AreBehind names
+  pub names_after : ComeAfter names
   pub names_within : AreWithin names (length octets)
   pub there : (q : Place) → IsLike p q → Agrees q (names q.at) (length octets) → SpelledAt form q f octets (names q.at)
 
@@ -58,7 +58,7 @@ joined constructed inner others begins far at = own constructed at ++ (inner (at
 
 -- if it holds `count` octets, and `rest` octets are after it
 record Joins (constructed : Bool) (inner others : ℕ → List ℕ) (begins count far rest : ℕ) : Type 0 where
-  pub behind : AreBehind (joined constructed inner others begins far)
+  pub after : ComeAfter (joined constructed inner others begins far)
   pub within : AreWithin (joined constructed inner others begins far) (far + rest)
   pub of_own : (at : ℕ) → is_among at (joined constructed inner others begins far at) ≡ not constructed
   pub of_inner : (at i : ℕ) → at + begins ≤ i → i < at + begins + count
@@ -66,23 +66,23 @@ record Joins (constructed : Bool) (inner others : ℕ → List ℕ) (begins coun
   pub of_others : (at i : ℕ) → at + far ≤ i → is_among i (joined constructed inner others begins far at) ≡ is_among i (others (at + far))
 
 joins : (constructed : Bool) (inner others : ℕ → List ℕ) (begins count far rest : ℕ) → 1 ≤ begins → begins + count ≤ far
-    → AreBehind inner → AreWithin inner count → AreBehind others → AreWithin others rest → Joins constructed inner others begins count far rest
-joins constructed inner others begins count far rest some on inner_behind inner_within others_behind others_within = record {
-  behind = λ at i less.
+    → ComeAfter inner → AreWithin inner count → ComeAfter others → AreWithin others rest → Joins constructed inner others begins count far rest
+joins constructed inner others begins count far rest some on inner_after inner_within others_after others_within = record {
+  after = λ at i less.
       in-third i (own constructed at) (inner (at + begins)) (others (at + far)) (own-apart constructed at i (λ e. omega (arith, less, e)))
-      (inner_behind (at + begins) i (omega (arith, less)))
-      ∙ others_behind (at + far) i (omega (arith, less));
+      (inner_after (at + begins) i (omega (arith, less)))
+      ∙ others_after (at + far) i (omega (arith, less));
   within = λ at i more.
       in-third i (own constructed at) (inner (at + begins)) (others (at + far)) (own-apart constructed at i (λ e. omega (arith, more, e, some, on)))
       (inner_within (at + begins) i (omega (arith, more, on)))
       ∙ others_within (at + far) i (omega (arith, more));
   of_own = λ at.
-      in-first at (own constructed at) (inner (at + begins)) (others (at + far)) (inner_behind (at + begins) at (omega (arith, some)))
-      (others_behind (at + far) at (omega (arith, some, on)))
+      in-first at (own constructed at) (inner (at + begins)) (others (at + far)) (inner_after (at + begins) at (omega (arith, some)))
+      (others_after (at + far) at (omega (arith, some, on)))
       ∙ own-there constructed at;
   of_inner = λ at i least most.
       in-second i (own constructed at) (inner (at + begins)) (others (at + far)) (own-apart constructed at i (λ e. omega (arith, least, some, e)))
-      (others_behind (at + far) i (omega (arith, most, on)));
+      (others_after (at + far) i (omega (arith, most, on)));
   of_others = λ at i least.
       in-third i (own constructed at) (inner (at + begins)) (others (at + far)) (own-apart constructed at i (λ e. omega (arith, least, some, on, e)))
       (inner_within (at + begins) i (omega (arith, least, on)));
@@ -94,7 +94,7 @@ module _ (form : Bool → Bool) (definite : form false ≡ false) where
     octets = 0 ∷ r.octets;
     names = λ at. r.names (at + 1);
     short = omega (arith, r.short);
-    names_behind = λ at i less. r.names_behind (at + 1) i (omega (arith, less));
+    names_after = λ at i less. r.names_after (at + 1) i (omega (arith, less));
     names_within = λ at i more. r.names_within (at + 1) i (omega (arith, more));
     there = λ q like agrees.
         let t : SpelledAt form (place_after q 1) rest r.octets (r.names (q.at + 1)) =
@@ -134,7 +134,7 @@ module _ (form : Bool → Bool) (definite : form false ≡ false) where
               length-append h.identifier h.lengths,
               length-append o.identifier.octets o.lengths.octets,
             );
-        names_behind = λ at i less. r.names_behind (at + (length header + length c)) i (omega (arith, less));
+        names_after = λ at i less. r.names_after (at + (length header + length c)) i (omega (arith, less));
         names_within = λ at i more. r.names_within (at + (length header + length c)) i (omega (arith, more, total));
         there = λ q like agrees.
             let k : HeaderValue = header_of h false false (Definite (length c)) o q.at in
@@ -143,7 +143,7 @@ module _ (form : Bool → Bool) (definite : form false ≡ false) where
             r.there (place_after q (length header + length c)) (record { padding = like.padding; depth = like.depth })
             (λ i least most. agrees i (omega (arith, least)) (omega (arith, most, total))) in
             let unnamed : is_among q.at q.inside ≡ false =
-            agrees q.at (omega arith) (omega (arith, total, some)) ∙ r.names_behind next q.at (omega (arith, some)) in
+            agrees q.at (omega arith) (omega (arith, total, some)) ∙ r.names_after next q.at (omega (arith, some)) in
             record {
               forest = Primitive k c t.forest;
               alike = primitives h k c rest t.forest (record { class = refl; constructed = primitive; number = refl }) t.alike;
@@ -175,7 +175,7 @@ module _ (form : Bool → Bool) (definite : form false ≡ false) where
       let far : ℕ = length begins + (length held.octets + length ends) in
       let joint : Joins constructed held.names r.names (length begins) (length held.octets) far (length r.octets) =
       joins constructed held.names r.names (length begins) (length held.octets) far (length r.octets) some (omega arith)
-      held.names_behind held.names_within r.names_behind r.names_within in
+      held.names_after held.names_within r.names_after r.names_within in
       let lead_is : length first ≡ length (lead h) = ap (λ (k : Bool). length (lead-for k h.number)) (sym is) in
       record {
         octets = begins ++ (held.octets ++ (ends ++ r.octets));
@@ -199,7 +199,7 @@ module _ (form : Bool → Bool) (definite : form false ≡ false) where
               length-append (octets-in h constructed size o) first,
               length-append o.identifier.octets o.lengths.octets,
             );
-        names_behind = joint.behind;
+        names_after = joint.after;
         names_within = λ at i more. joint.within at i (omega (arith, more, total));
         there = λ q like agrees.
             let k : HeaderValue = header_of h (not constructed) constructed size o q.at in
@@ -237,7 +237,7 @@ module _ (form : Bool → Bool) (definite : form false ≡ false) where
     octets = [];
     names = λ at. [];
     short = omega arith;
-    names_behind = λ at i less. refl;
+    names_after = λ at i less. refl;
     names_within = λ at i more. refl;
     there = λ q like agrees. record { forest = NoMore; alike = nothing; sound = tt; regular = tt; spelled = refl; names_are = refl };
   }

@@ -15,7 +15,7 @@ use Rattle.tlv_walk.proofs.GrammarLemmas.Bounds.{IsFull, fits-inside, has_length
 use Rattle.tlv_walk.proofs.GrammarLemmas.PushSteps.{Spells, is_filled}
 use Rattle.tlv_walk.proofs.GrammarLemmas.Push.{holder-sound, reaches, unfilled-lacks}
 use Rattle.tlv_walk.proofs.GrammarLemmas.Spellings.{length-opening}
-use Rattle.tlv_walk.proofs.WalkerLemmas.Zipper.{behind, open-behind, open-within, settled, spelling-behind, spelling-within, whole-behind, within}
+use Rattle.tlv_walk.proofs.WalkerLemmas.Zipper.{followed_by, open-followed_by, open-within, settled, spelling-followed_by, spelling-within, whole-followed_by, within}
 
 -- where the whole elements end that stand there, and before that
 abbrev pub end_in : Framing → List Layer → Forest → ℕ
@@ -23,9 +23,9 @@ end_in w ls f = (place_in w ls).at + length (spelling f)
 
 -- an element that is filled, and what is before it, are whole elements around it, with the octets of both
 pub record IsEnded (w : Framing) (l : Layer) (ls : List Layer) (f : Forest) : Type 0 where
-  pub are_whole : AreWhole (place_in w ls) (behind l.before (Holder l.header f NoMore))
-  pub spelled : spelling (behind l.before (Holder l.header f NoMore)) ≡ spelling l.before ++ (opening l.header ++ spelling f)
-  pub same_end : end_in w ls (behind l.before (Holder l.header f NoMore)) ≡ end_in w (l ∷ ls) f
+  pub are_whole : AreWhole (place_in w ls) (followed_by l.before (Holder l.header f NoMore))
+  pub spelled : spelling (followed_by l.before (Holder l.header f NoMore)) ≡ spelling l.before ++ (opening l.header ++ spelling f)
+  pub same_end : end_in w ls (followed_by l.before (Holder l.header f NoMore)) ≡ end_in w (l ∷ ls) f
 
 -- what is filled has all its contents octets
 pub filled-full : (h : HeaderValue) (f : Forest) → is_filled h f ≡ true → IsFull h.size (contents_length h f)
@@ -38,10 +38,10 @@ pub filled-ended : (w : Framing) (l : Layer) (ls : List Layer) (f : Forest) → 
 filled-ended w l ls f a i e =
     let p : Place = place_after (place_in w ls) (length (spelling l.before)) in
     let c : Spells p (opening l.header ++ spelling f) (Holder l.header f NoMore) = holder-sound p l.header f a.2 i.is_open i.whole (filled-full l.header f e) in
-    let s : spelling (behind l.before (Holder l.header f NoMore)) ≡ spelling l.before ++ (opening l.header ++ spelling f) =
-    spelling-behind l.before (Holder l.header f NoMore) a.1.whole ∙ ap (λ (t : List ℕ). spelling l.before ++ t) c.spelled in
+    let s : spelling (followed_by l.before (Holder l.header f NoMore)) ≡ spelling l.before ++ (opening l.header ++ spelling f) =
+    spelling-followed_by l.before (Holder l.header f NoMore) a.1.whole ∙ ap (λ (t : List ℕ). spelling l.before ++ t) c.spelled in
     record {
-      are_whole = record { is_open = open-behind (place_in w ls) l.before (Holder l.header f NoMore) a.1 c.is_open; whole = whole-behind l.before (Holder l.header f NoMore) a.1.whole };
+      are_whole = record { is_open = open-followed_by (place_in w ls) l.before (Holder l.header f NoMore) a.1 c.is_open; whole = whole-followed_by l.before (Holder l.header f NoMore) a.1.whole };
       spelled = s;
       same_end = omega (arith, ap length s, length-append (spelling l.before) (opening l.header ++ spelling f), length-append (opening l.header) (spelling f));
     }
@@ -60,8 +60,8 @@ settled-spells w [] f a i = record { is_open = i.is_open; spelled = refl }
 settled-spells w (l ∷ ls) f a i = elim (cases_Bool (is_filled l.header f)) [
   | inl e ↦
       let d : IsEnded w l ls f = filled-ended w l ls f a i e in
-      let r : Spells (top_place w) (spelling_of_layers ls ++ spelling (behind l.before (Holder l.header f NoMore))) (settled ls (behind l.before (Holder l.header f NoMore))) =
-      settled-spells w ls (behind l.before (Holder l.header f NoMore)) a.0 d.are_whole in
+      let r : Spells (top_place w) (spelling_of_layers ls ++ spelling (followed_by l.before (Holder l.header f NoMore))) (settled ls (followed_by l.before (Holder l.header f NoMore))) =
+      settled-spells w ls (followed_by l.before (Holder l.header f NoMore)) a.0 d.are_whole in
       let s : spelling_of_layers ls ++ (spelling l.before ++ (opening l.header ++ spelling f)) ≡ (spelling_of_layers ls ++ (spelling l.before ++ opening l.header)) ++ spelling f =
       ap (λ (t : List ℕ). spelling_of_layers ls ++ t) (sym (append_assoc (spelling l.before) (opening l.header) (spelling f))) ∙ sym (append_assoc (spelling_of_layers ls) (spelling l.before ++ opening l.header) (spelling f)) in
       rw e (record { is_open = r.is_open; spelled = r.spelled ∙ ap (λ (t : List ℕ). spelling_of_layers ls ++ t) d.spelled ∙ s })

@@ -17,12 +17,12 @@ use Rattle.tlv_walk.specs.Private.Steps.{Continues, RefusesOctet, YieldsEvent, Y
 use Rattle.tlv_walk.proofs.WalkerLemmas.Moves.{continues_both}
 
 module _ (old mid new : WalkerState) (x : ℕ) (first : Continues old mid (x ∷ []) []) (same : mid.framing ≡ old.framing) (kept : mid.stack ≡ old.stack) where
-  event_behind : (rest after : List ℕ) (e : EventValue) → YieldsEvent mid new rest after e → YieldsEvent old new (x ∷ rest) after e
-  event_behind rest after e t =
+  event_after : (rest after : List ℕ) (e : EventValue) → YieldsEvent mid new rest after e → YieldsEvent old new (x ∷ rest) after e
+  event_after rest after e t =
       record { taken = x ∷ t.taken; piece = ap (λ (o : List ℕ). x ∷ o) t.piece; continues = continues_both old mid new (x ∷ []) t.taken [] (e ∷ []) first t.continues }
 
-  refused_behind : (rest after : List ℕ) (f : Fault) → RefusesOctet mid rest after f → RefusesOctet old (x ∷ rest) after f
-  refused_behind rest after f r = record {
+  refused_after : (rest after : List ℕ) (f : Fault) → RefusesOctet mid rest after f → RefusesOctet old (x ∷ rest) after f
+  refused_after rest after f r = record {
     taken = x ∷ r.taken;
     octet = r.octet;
     rest = r.rest;
@@ -45,14 +45,14 @@ module _ (old mid new : WalkerState) (x : ℕ) (first : Continues old mid (x ∷
         };
   }
 
-  fault_behind : (rest after : List ℕ) (f : Fault) → mid.phase ≡ phase.InEnd → YieldsFault mid new rest after f → YieldsFault old new (x ∷ rest) after f
-  fault_behind rest after f z (inl r) = inl (refused_behind rest after f r)
-  fault_behind rest after f z (inr r) = absurd (cc (z, r.failed))
+  fault_after : (rest after : List ℕ) (f : Fault) → mid.phase ≡ phase.InEnd → YieldsFault mid new rest after f → YieldsFault old new (x ∷ rest) after f
+  fault_after rest after f z (inl r) = inl (refused_after rest after f r)
+  fault_after rest after f z (inr r) = absurd (cc (z, r.failed))
 
-  pub step_behind : (rest after : List ℕ) (m : Step) → mid.phase ≡ phase.InEnd → YieldsStep mid new rest after m → YieldsStep old new (x ∷ rest) after m
-  step_behind rest after (step.Event e) z t = event_behind rest after (event_value e) t
-  step_behind rest after step.NeedMore z t = continues_both old mid new (x ∷ []) rest [] [] first t
-  step_behind rest after (step.Fault f) z t = fault_behind rest after f z t
+  pub step_after : (rest after : List ℕ) (m : Step) → mid.phase ≡ phase.InEnd → YieldsStep mid new rest after m → YieldsStep old new (x ∷ rest) after m
+  step_after rest after (step.Event e) z t = event_after rest after (event_value e) t
+  step_after rest after step.NeedMore z t = continues_both old mid new (x ∷ []) rest [] [] first t
+  step_after rest after (step.Fault f) z t = fault_after rest after f z t
 
 -- there is room for an octet before the bound
 pub room_more : (b : Option ℕ) (n : ℕ) → IsWithin b n → (left_to b n ≡ Some 0 → ⊥) → IsWithin b (n + 1)

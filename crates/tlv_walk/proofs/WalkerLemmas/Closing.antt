@@ -22,8 +22,8 @@ use Rattle.tlv_walk.specs.Stands.{ending_event}
 use Rattle.tlv_walk.proofs.WalkerLemmas.Moves.{began, between_tail, closed_here, continues_both, lone_tail, phase_at, tail_state, yields_zero, past_more, with_layers, with_tail}
 use Rattle.tlv_walk.proofs.WalkerLemmas.Places.{definite-size, place-offset}
 use Rattle.tlv_walk.proofs.GrammarLemmas.Spellings.{length-opening}
-use Rattle.tlv_walk.proofs.WalkerLemmas.Zipper.{open-behind, spelling-behind, whole-behind}
-use Rattle.tlv_walk.proofs.WalkerLemmas.ZipperEvents.{events-behind}
+use Rattle.tlv_walk.proofs.WalkerLemmas.Zipper.{open-followed_by, spelling-followed_by, whole-followed_by}
+use Rattle.tlv_walk.proofs.WalkerLemmas.ZipperEvents.{events-followed_by}
 
 regroup : (a b c d e t : List ℕ) → a ++ ((b ++ (c ++ (d ++ ((e ++ t) ++ [])))) ++ []) ≡ ((a ++ (b ++ c)) ++ (d ++ e)) ++ t
 regroup a b c d e t = simp (append_assoc, append-nil) refl
@@ -31,7 +31,7 @@ regroup a b c d e t = simp (append_assoc, append-nil) refl
 spelled_closed : (ls : List Layer) (l : Layer) (here : Forest) (old t b : List ℕ) → is_complete l.before ≡ true → old ++ t ≡ end_octets l.header.size
     → spelling_of_layers (l ∷ ls) ++ (spelling here ++ old) ≡ b → spelling_of_layers ls ++ (spelling (closed_here l here) ++ []) ≡ b ++ t
 spelled_closed ls l here old t b whole e f =
-    ap (λ (s : List ℕ). spelling_of_layers ls ++ (s ++ [])) (spelling-behind l.before (Holder l.header here NoMore) whole)
+    ap (λ (s : List ℕ). spelling_of_layers ls ++ (s ++ [])) (spelling-followed_by l.before (Holder l.header here NoMore) whole)
     ∙ ap (λ (s : List ℕ). spelling_of_layers ls ++ ((spelling l.before ++ (opening l.header ++ (spelling here ++ (s ++ [])))) ++ [])) (sym e)
     ∙ regroup (spelling_of_layers ls) (spelling l.before) (opening l.header) (spelling here) old t
     ∙ ap (λ (s : List ℕ). s ++ t) f
@@ -43,16 +43,16 @@ past_closed : (past : List EventValue) (ls : List Layer) (l : Layer) (here : For
     → AreEqualJoined (past ++ closing_event l.header here ∷ []) (events_of_layers ls ++ (events (closed_here l here) ++ []))
 past_closed past ls l here whole h =
     past_more past (events_of_layers (l ∷ ls) ++ (events here ++ [])) (closing_event l.header here ∷ []) (events_of_layers ls ++ (events (closed_here l here) ++ [])) h
-    (ap single_octets (ap (λ (es : List EventValue). events_of_layers ls ++ (es ++ [])) (events-behind l.before (Holder l.header here NoMore) whole)
+    (ap single_octets (ap (λ (es : List EventValue). events_of_layers ls ++ (es ++ [])) (events-followed_by l.before (Holder l.header here NoMore) whole)
     ∙ regroup_past (events_of_layers ls) (events l.before) (opening_events l.header) (events here) (closing_event l.header here)))
 
 closed_whole : (w : WalkerState) (l : Layer) (ls : List Layer) (here : Forest) → AreWhole (place_in w.framing ls) l.before → IsEntry (place_after (place_in w.framing ls) (length (spelling l.before))) true l.header
     → AreWhole (place_in w.framing (l ∷ ls)) here → HasLength l.header.size (contents_length l.header here) → Fits (place_after (place_in w.framing ls) (length (spelling l.before))) (extent l.header here)
     → AreWhole (place_in w.framing ls) (closed_here l here)
 closed_whole w l ls here before entry inside filled fits = record {
-  is_open = open-behind (place_in w.framing ls) l.before (Holder l.header here NoMore) before
+  is_open = open-followed_by (place_in w.framing ls) l.before (Holder l.header here NoMore) before
       ((record { header = entry.header; depth = entry.depth; fits = fits }, inside.whole, filled), inside.is_open, tt);
-  whole = whole-behind l.before (Holder l.header here NoMore) before.whole;
+  whole = whole-followed_by l.before (Holder l.header here NoMore) before.whole;
 }
 
 -- the state of a walker whose innermost element ends with these octets

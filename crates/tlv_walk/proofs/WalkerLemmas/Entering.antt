@@ -14,7 +14,7 @@ use Rattle.tlv_walk.specs.Place.{Fits, IsEntry, IsHeaderAt, IsOpen, Place}
 use Rattle.tlv_walk.specs.Stack.{Frame, IsWithin, bound_of}
 use Rattle.tlv_walk.specs.Private.Zipper.{BeforeUnused, Between, HasZipper, InContents, InEnd, InHeader, IsPhaseOf, Layer, Tail, Zipper, events_of_layers, events_of_tail, frame_at, frames_of, place_in, place_of, spelling_of_layers, spelling_of_tail}
 use Rattle.tlv_walk.specs.Private.Steps.{Continues}
-use Rattle.tlv_walk.proofs.WalkerLemmas.Moves.{between_tail, phase_at, spelled_behind, tail_state, past_behind, with_tail}
+use Rattle.tlv_walk.proofs.WalkerLemmas.Moves.{between_tail, phase_at, spelled_after, tail_state, past_after, with_tail}
 use Rattle.tlv_walk.proofs.WalkerLemmas.Places.{place-bound, place-depth, place-inside, place-offset}
 
 -- a walker that stands at a header, or after the octets of one that the reader has
@@ -115,7 +115,7 @@ pub primitive_state : (w : WalkerState) (b : List ℕ) (past : List EventValue) 
 primitive_state w b past s r t h n at c e size =
     let zero : n ≡ 0 + n = omega arith in
     record {
-      spelled = spelled_behind s.layers s.here (spelling_of_tail s.tail) (octets_of h ++ []) t b (append-nil (octets_of h) ∙ (c.octets ∙ ap (λ (o : List ℕ). o ++ t) (sym at.octets))) at.has.spelled;
+      spelled = spelled_after s.layers s.here (spelling_of_tail s.tail) (octets_of h ++ []) t b (append-nil (octets_of h) ∙ (c.octets ∙ ap (λ (o : List ℕ). o ++ t) (sym at.octets))) at.has.spelled;
       offset = header_end w b past s r t h at c;
       stack = at.stack;
       layers = at.has.layers;
@@ -125,19 +125,19 @@ primitive_state w b past s r t h n at c e size =
         size = size ∙ ap Definite zero;
         fits = subst (λ (m : ℕ). Fits (place_of w.framing s) (length (octets_of h) + m)) (ap announced_length size ∙ zero) (fits_at w b past s r t h at c);
       };
-      same_events = past_behind past s.layers s.here [] (Begin h ∷ Bytes [] ∷ []) (Begin h ∷ []) (quiet_past w b past s r at) refl;
+      same_events = past_after past s.layers s.here [] (Begin h ∷ Bytes [] ∷ []) (Begin h ∷ []) (quiet_past w b past s r at) refl;
       element = refl;
     }
 
 -- a layer more
 layer_spelled : (ls : List Layer) (here : Forest) (h : HeaderValue) (old t b : List ℕ) → old ++ t ≡ opening h → spelling_of_layers ls ++ (spelling here ++ old) ≡ b
     → spelling_of_layers (record { before = here; header = h } ∷ ls) ++ ([] ++ []) ≡ b ++ t
-layer_spelled ls here h old t b e f = append-nil (spelling_of_layers ls ++ (spelling here ++ opening h)) ∙ spelled_behind ls here old (opening h) t b (sym e) f
+layer_spelled ls here h old t b e f = append-nil (spelling_of_layers ls ++ (spelling here ++ opening h)) ∙ spelled_after ls here old (opening h) t b (sym e) f
 
 layer_past : (past : List EventValue) (ls : List Layer) (here : Forest) (h : HeaderValue) (old more : List EventValue) → opening_events h ≡ old ++ more → AreEqualJoined past (events_of_layers ls ++ (events here ++ old))
     → AreEqualJoined (past ++ more) (events_of_layers (record { before = here; header = h } ∷ ls) ++ ([] ++ []))
 layer_past past ls here h old more e f =
-    subst (λ (es : List EventValue). AreEqualJoined (past ++ more) es) (sym (append-nil (events_of_layers ls ++ (events here ++ opening_events h)))) (past_behind past ls here old (opening_events h) more f (ap single_octets e))
+    subst (λ (es : List EventValue). AreEqualJoined (past ++ more) es) (sym (append-nil (events_of_layers ls ++ (events here ++ opening_events h)))) (past_after past ls here old (opening_events h) more f (ap single_octets e))
 
 -- the event that an element which holds others begins with
 abbrev pub opening_event : HeaderValue → EventValue
@@ -166,13 +166,13 @@ pub lead_state : (w : WalkerState) (b : List ℕ) (past : List EventValue) (s : 
     → HasZipper (record (after_header w phase.BeforeUnused (h.offset + length (octets_of h))) { stack = frame_at (place_of w.framing s) h ∷ w.stack; wrapper_count = k }) (b ++ t) (past ++ Enter h ∷ [])
     (with_tail s (BeforeUnused h))
 lead_state w b past s r t h k at c e one = record {
-  spelled = spelled_behind s.layers s.here (spelling_of_tail s.tail) (octets_of h) t b (c.octets ∙ ap (λ (o : List ℕ). o ++ t) (sym at.octets)) at.has.spelled;
+  spelled = spelled_after s.layers s.here (spelling_of_tail s.tail) (octets_of h) t b (c.octets ∙ ap (λ (o : List ℕ). o ++ t) (sym at.octets)) at.has.spelled;
   offset = header_end w b past s r t h at c;
   stack = ap (λ (fs : List Frame). frame_at (place_of w.framing s) h ∷ fs) at.stack;
   layers = at.has.layers;
   here = at.has.here;
   phase = (entry_at w b past s r t h at c e, one);
-  same_events = past_behind past s.layers s.here [] (Enter h ∷ []) (Enter h ∷ []) (quiet_past w b past s r at) refl;
+  same_events = past_after past s.layers s.here [] (Enter h ∷ []) (Enter h ∷ []) (quiet_past w b past s r at) refl;
   element = refl;
 }
 
@@ -227,7 +227,7 @@ front_state w b past s r q t at o f n some front fits =
     let bound : bound_of w.stack ≡ (place_in w.framing s.layers).bound = ap bound_of at.stack ∙ sym (place-bound w.framing s.layers) in
     let place : q.offset ≡ (place_of w.framing s).at = f ∙ at.offset in
     record {
-      spelled = spelled_behind s.layers s.here (spelling_of_tail s.tail) q.octets t b (o ∙ ap (λ (x : List ℕ). x ++ t) (sym at.octets)) at.has.spelled;
+      spelled = spelled_after s.layers s.here (spelling_of_tail s.tail) q.octets t b (o ∙ ap (λ (x : List ℕ). x ++ t) (sym at.octets)) at.has.spelled;
       offset = omega (arith, f, at.offset, ap length o, ap length at.octets, length-append r.octets t, length-append b t, at.has.offset, place-offset w b past s at.has);
       stack = at.stack;
       layers = at.has.layers;
@@ -242,6 +242,6 @@ front_state w b past s r q t at o f n some front fits =
           subst (λ (m : ℕ). IsWithin (place_in w.framing s.layers).bound (m + length q.octets)) place (subst (λ (x : Option ℕ). IsWithin x (q.offset + length q.octets)) bound fits),
         ),
       );
-      same_events = past_behind past s.layers s.here [] [] [] (quiet_past w b past s r at) refl;
+      same_events = past_after past s.layers s.here [] [] [] (quiet_past w b past s r at) refl;
       element = refl;
     }

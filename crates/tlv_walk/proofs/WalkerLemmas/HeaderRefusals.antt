@@ -44,11 +44,11 @@ completes-two r x h c e =
     omega (arith, ap length one)
 
 -- what is refused for the octets of a header has octets before it
-refused-behind : (o : List ℕ) (x : ℕ) (code : FaultCode) → IsRefusedOctet o x code → o ≡ [] → ⊥
-refused-behind o x code (tag_too_long c k ds each eight octets flag) e = let z : [] ≡ _ ∷ _ = sym e ∙ octets in absurd (cc)
-refused-behind o x code (reserved_length c k n i ones) e = identifier-nil c k n o i e
-refused-behind o x code (indefinite_primitive c n i mark) e = identifier-nil c false n o i e
-refused-behind o x code (length_too_large c k n i ds left id each octets few many nonzero) e =
+refused-after : (o : List ℕ) (x : ℕ) (code : FaultCode) → IsRefusedOctet o x code → o ≡ [] → ⊥
+refused-after o x code (tag_too_long c k ds each eight octets flag) e = let z : [] ≡ _ ∷ _ = sym e ∙ octets in absurd (cc)
+refused-after o x code (reserved_length c k n i ones) e = identifier-nil c k n o i e
+refused-after o x code (indefinite_primitive c n i mark) e = identifier-nil c false n o i e
+refused-after o x code (length_too_large c k n i ds left id each octets few many nonzero) e =
     omega (arith, ap length (sym e ∙ octets), length-append i ((128 + (length ds + left)) ∷ ds))
 
 -- so a refusal has octets before it, or no room
@@ -56,7 +56,7 @@ pub refused-some : (code : FaultCode) (r : HeadReaderState) (x : ℕ) (room : Op
 refused-some Overrun r x room depth (inl none) some e = some none
 refused-some Overrun r x room depth (inr past) some e = completes-two r x past.1.head past.1.completes e
 refused-some TooDeep r x room depth k some e = completes-two r x k.1.head k.1.completes e
-refused-some code r x room depth k some e = refused-behind r.octets x code k.1 e
+refused-some code r x room depth k some e = refused-after r.octets x code k.1 e
 
 -- ---- what a reader refuses is a fault there
 

@@ -139,9 +139,9 @@ completed_without w u r t h e can makes =
     record { valid = can'.valid; octets = makes.octets; offset = makes.offset; named = makes.named; shallow = can'.shallow; fits = can'.fits }
 
 -- so it yields a header with the fields that were entered
-yields_behind : (u new : WalkerState) (f : HeaderFields) (o : List ℕ) (at : ℕ) (k : HeaderKind) → CanEnter u (header_with f o) → at ≡ f.offset + length (octets_of (header_with f o)) → Enters u new f at k
+yields_after : (u new : WalkerState) (f : HeaderFields) (o : List ℕ) (at : ℕ) (k : HeaderKind) → CanEnter u (header_with f o) → at ≡ f.offset + length (octets_of (header_with f o)) → Enters u new f at k
     → YieldsHeader u new (header_with f o) (event_of k (header_with f o))
-yields_behind u new f o at k can e does w r t over makes = record {
+yields_after u new f o at k can e does w r t over makes = record {
   framing = enters_framing u new f at k does ∙ handed_framing w u r over;
   found =
       enters_found u new f o at k does
@@ -156,7 +156,7 @@ pub yields_header : (u new : WalkerState) (f : HeaderFields) (h : HeaderValue) (
     → YieldsHeader u new h (event_of k h)
 yields_header u new f h at k can same e enter =
     subst (λ (g : HeaderValue). YieldsHeader u new g (event_of k g)) same
-    (yields_behind u new f (octets_of h) at k (subst (CanEnter u) (sym same) can) (e ∙ ap (λ (g : HeaderValue). f.offset + length (octets_of g)) (sym same)) enter)
+    (yields_after u new f (octets_of h) at k (subst (CanEnter u) (sym same) can) (e ∙ ap (λ (g : HeaderValue). f.offset + length (octets_of g)) (sym same)) enter)
 
 -- ---- the octet that a reader is given
 

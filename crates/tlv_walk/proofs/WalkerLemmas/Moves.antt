@@ -20,8 +20,8 @@ use Rattle.tlv_walk.specs.Private.Steps.{Continues}
 use Rattle.tlv_walk.proofs.EventLemmas.Joined.{apart-before, apart-from_joined, apart-more, joined-from_apart}
 use Rattle.tlv_walk.proofs.GrammarLemmas.Spellings.{append_assoc-3}
 use Rattle.tlv_walk.proofs.WalkerLemmas.Places.{indefinite-size, place-offset}
-use Rattle.tlv_walk.proofs.WalkerLemmas.Zipper.{behind, open-behind, spelling-behind, whole-behind}
-use Rattle.tlv_walk.proofs.WalkerLemmas.ZipperEvents.{events-behind}
+use Rattle.tlv_walk.proofs.WalkerLemmas.Zipper.{followed_by, open-followed_by, spelling-followed_by, whole-followed_by}
+use Rattle.tlv_walk.proofs.WalkerLemmas.ZipperEvents.{events-followed_by}
 
 -- events yielded one after another
 pub past_more : (past es new es' : List EventValue) → AreEqualJoined past es → single_octets es' ≡ single_octets (es ++ new) → AreEqualJoined (past ++ new) es'
@@ -53,36 +53,36 @@ continues_both u v w s t d e f g = record {
 }
 
 -- the events of a state, if the open end goes on
-pub past_behind : (past : List EventValue) (ls : List Layer) (here : Forest) (old new more : List EventValue) → AreEqualJoined past (events_of_layers ls ++ (events here ++ old))
+pub past_after : (past : List EventValue) (ls : List Layer) (here : Forest) (old new more : List EventValue) → AreEqualJoined past (events_of_layers ls ++ (events here ++ old))
     → single_octets new ≡ single_octets (old ++ more) → AreEqualJoined (past ++ more) (events_of_layers ls ++ (events here ++ new))
-past_behind past ls here old new more h e =
+past_after past ls here old new more h e =
     past_more past (events_of_layers ls ++ (events here ++ old)) more (events_of_layers ls ++ (events here ++ new)) h
     (apart-more (events_of_layers ls) (events here ++ new) (events here ++ old) more (apart-more (events here) new old more e))
 
 -- its octets likewise
-pub spelled_behind : (ls : List Layer) (here : Forest) (old new t b : List ℕ) → new ≡ old ++ t → spelling_of_layers ls ++ (spelling here ++ old) ≡ b
+pub spelled_after : (ls : List Layer) (here : Forest) (old new t b : List ℕ) → new ≡ old ++ t → spelling_of_layers ls ++ (spelling here ++ old) ≡ b
     → spelling_of_layers ls ++ (spelling here ++ new) ≡ b ++ t
-spelled_behind ls here old new t b e f =
+spelled_after ls here old new t b e f =
     ap (λ (s : List ℕ). spelling_of_layers ls ++ (spelling here ++ s)) e ∙ (sym (append_assoc-3 (spelling_of_layers ls) (spelling here) old t) ∙ ap (λ (s : List ℕ). s ++ t) f)
 
 -- the same, if the open end is whole now
 pub past_whole : (past : List EventValue) (ls : List Layer) (here new : Forest) (old more : List EventValue) → is_complete here ≡ true → AreEqualJoined past (events_of_layers ls ++ (events here ++ old))
-    → single_octets (events new) ≡ single_octets (old ++ more) → AreEqualJoined (past ++ more) (events_of_layers ls ++ (events (behind here new) ++ []))
+    → single_octets (events new) ≡ single_octets (old ++ more) → AreEqualJoined (past ++ more) (events_of_layers ls ++ (events (followed_by here new) ++ []))
 past_whole past ls here new old more whole h e =
-    subst (λ (es : List EventValue). AreEqualJoined (past ++ more) (events_of_layers ls ++ es)) (sym (append-nil (events (behind here new)) ∙ events-behind here new whole))
-    (past_behind past ls here old (events new) more h e)
+    subst (λ (es : List EventValue). AreEqualJoined (past ++ more) (events_of_layers ls ++ es)) (sym (append-nil (events (followed_by here new)) ∙ events-followed_by here new whole))
+    (past_after past ls here old (events new) more h e)
 
 pub spelled_whole : (ls : List Layer) (here more : Forest) (old t b : List ℕ) → is_complete here ≡ true → spelling more ≡ old ++ t → spelling_of_layers ls ++ (spelling here ++ old) ≡ b
-    → spelling_of_layers ls ++ (spelling (behind here more) ++ []) ≡ b ++ t
+    → spelling_of_layers ls ++ (spelling (followed_by here more) ++ []) ≡ b ++ t
 spelled_whole ls here more old t b whole e f =
-    ap (λ (s : List ℕ). spelling_of_layers ls ++ s) (append-nil (spelling (behind here more)) ∙ spelling-behind here more whole) ∙ spelled_behind ls here old (spelling more) t b e f
+    ap (λ (s : List ℕ). spelling_of_layers ls ++ s) (append-nil (spelling (followed_by here more)) ∙ spelling-followed_by here more whole) ∙ spelled_after ls here old (spelling more) t b e f
 
 -- whole elements, and then one more
-pub are_whole : (p : Place) (here more : Forest) → AreWhole p here → IsOpen (place_after p (length (spelling here))) more → is_complete more ≡ true → AreWhole p (behind here more)
-are_whole p here more h o w = record { is_open = open-behind p here more h o; whole = whole-behind here more h.whole ∙ w }
+pub are_whole : (p : Place) (here more : Forest) → AreWhole p here → IsOpen (place_after p (length (spelling here))) more → is_complete more ≡ true → AreWhole p (followed_by here more)
+are_whole p here more h o w = record { is_open = open-followed_by p here more h o; whole = whole-followed_by here more h.whole ∙ w }
 
 -- an element came
-pub element-either : (f g : Forest) → is_complete f ≡ true → has_element (behind f g) ≡ (has_element f || has_element g)
+pub element-either : (f g : Forest) → is_complete f ≡ true → has_element (followed_by f g) ≡ (has_element f || has_element g)
 element-either NoMore g e = refl
 element-either (PaddingOctet rest) g e = element-either rest g e
 element-either (Primitive h c rest) g e = refl
@@ -93,7 +93,7 @@ element-either (OpenBitString h) g e = absurd (cc)
 element-either (OpenHeader octets) g e = absurd (cc)
 element-either OpenEndOctets g e = absurd (cc)
 
-pub began : (ls : List Layer) (here more : Forest) → is_complete here ≡ true → has_element more ≡ true → begins_among ls (behind here more) ≡ true
+pub began : (ls : List Layer) (here more : Forest) → is_complete here ≡ true → has_element more ≡ true → begins_among ls (followed_by here more) ≡ true
 began [] here more w e = element-either here more w ∙ (ap (λ (k : Bool). has_element here || k) e ∙ or-true (has_element here))
 began (l ∷ ls) here more w e = refl
 
@@ -123,7 +123,7 @@ contents_state w b past s h c t left has e most =
     let k : IsContents (place_of w.framing s) h c left = phase_at w b past _ _ e has in
     let same : length c + left ≡ length (c ++ t) + (left - length t) = omega (arith, length-append c t) in
     record {
-      spelled = spelled_behind s.layers s.here (octets_of h ++ c) _ t b (sym (append_assoc (octets_of h) c t)) has.spelled;
+      spelled = spelled_after s.layers s.here (octets_of h ++ c) _ t b (sym (append_assoc (octets_of h) c t)) has.spelled;
       offset = omega (arith, has.offset, length-append b t);
       stack = has.stack;
       layers = has.layers;
@@ -133,7 +133,7 @@ contents_state w b past s h c t left has e most =
         size = k.size ∙ ap Definite same;
         fits = subst (λ (n : ℕ). Fits (place_of w.framing s) (length (octets_of h) + n)) same k.fits;
       };
-      same_events = past_behind past s.layers s.here (Begin h ∷ Bytes c ∷ []) (Begin h ∷ Bytes (c ++ t) ∷ []) (Bytes t ∷ []) has.same_events (bytes_more h c t);
+      same_events = past_after past s.layers s.here (Begin h ∷ Bytes c ∷ []) (Begin h ∷ Bytes (c ++ t) ∷ []) (Bytes t ∷ []) has.same_events (bytes_more h c t);
       element = has.element;
     }
   where
@@ -154,7 +154,7 @@ yields_contents w left t n e most len =
 -- the end of a primitive
 end_state : (w : WalkerState) (b : List ℕ) (past : List EventValue) (s : Zipper) (h : HeaderValue) (c : List ℕ) → HasZipper w b past (with_tail s (InContents h c)) → w.phase ≡ phase.InContents 0
     → HasZipper (record w { phase = phase.Between; events = w.events + 1 }) (b ++ []) (past ++ End ∷ [])
-    (record { layers = s.layers; here = behind s.here (Primitive h c NoMore); tail = Between })
+    (record { layers = s.layers; here = followed_by s.here (Primitive h c NoMore); tail = Between })
 end_state w b past s h c has e =
     let p : Place = place_of w.framing s in
     let k : IsContents p h c 0 = phase_at w b past _ _ e has in
@@ -200,20 +200,20 @@ with_layers s ls t = record { layers = ls; here = s.here; tail = t }
 
 -- the innermost element closes
 abbrev pub closed_here : Layer → Forest → Forest
-closed_here l inside = behind l.before (Holder l.header inside NoMore)
+closed_here l inside = followed_by l.before (Holder l.header inside NoMore)
 
 -- the first of the end-of-contents octets
 zero_state : (w : WalkerState) (b : List ℕ) (past : List EventValue) (s : Zipper) (l : Layer) (ls : List Layer)
     → HasZipper w b past (record { layers = l ∷ ls; here = s.here; tail = Between }) → l.header.size ≡ Indefinite → Fits (place_after (place_in w.framing (l ∷ ls)) (length (spelling s.here))) 1
     → HasZipper (record w { phase = phase.InEnd; offset = w.offset + 1 }) (b ++ 0 ∷ []) (past ++ []) (record { layers = l ∷ ls; here = s.here; tail = InEnd })
 zero_state w b past s l ls has e f = record {
-  spelled = spelled_behind (l ∷ ls) s.here [] (0 ∷ []) (0 ∷ []) b refl has.spelled;
+  spelled = spelled_after (l ∷ ls) s.here [] (0 ∷ []) (0 ∷ []) b refl has.spelled;
   offset = omega (arith, has.offset, length-append b (0 ∷ []));
   stack = has.stack;
   layers = has.layers;
   here = has.here;
   phase = (ap is_indefinite e, f);
-  same_events = past_behind past (l ∷ ls) s.here [] [] [] has.same_events refl;
+  same_events = past_after past (l ∷ ls) s.here [] [] [] has.same_events refl;
   element = has.element;
 }
 

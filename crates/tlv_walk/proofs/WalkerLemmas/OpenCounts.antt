@@ -11,25 +11,25 @@ use Rattle.tlv_walk.specs.OpenCount.{open_count}
 use Rattle.tlv_walk.specs.Place.{Place}
 use Rattle.tlv_walk.specs.Private.Zipper.{AreLayers, BeforeUnused, Between, HasZipper, InContents, InEnd, InHeader, Layer, Tail, Zipper, frames_of, place_of, stack_of}
 use Rattle.tlv_walk.proofs.WalkerLemmas.ZipperEndings.{forest_of, state-within}
-use Rattle.tlv_walk.proofs.WalkerLemmas.Zipper.{behind, reading_of, within}
+use Rattle.tlv_walk.proofs.WalkerLemmas.Zipper.{followed_by, reading_of, within}
 
 -- after whole elements as many are open as of the others
-pub count-behind : (f g : Forest) → is_complete f ≡ true → open_count (behind f g) ≡ open_count g
-count-behind NoMore g e = refl
-count-behind (PaddingOctet rest) g e = count-behind rest g e
-count-behind (Primitive h c rest) g e = count-behind rest g e
-count-behind (Holder h inside rest) g e = count-behind rest g e
-count-behind (OpenPrimitive h c) g e = absurd (true≢false (sym e))
-count-behind (OpenHolder h inside) g e = absurd (true≢false (sym e))
-count-behind (OpenBitString h) g e = absurd (true≢false (sym e))
-count-behind (OpenHeader octets) g e = absurd (true≢false (sym e))
-count-behind OpenEndOctets g e = absurd (true≢false (sym e))
+pub count-after : (f g : Forest) → is_complete f ≡ true → open_count (followed_by f g) ≡ open_count g
+count-after NoMore g e = refl
+count-after (PaddingOctet rest) g e = count-after rest g e
+count-after (Primitive h c rest) g e = count-after rest g e
+count-after (Holder h inside rest) g e = count-after rest g e
+count-after (OpenPrimitive h c) g e = absurd (true≢false (sym e))
+count-after (OpenHolder h inside) g e = absurd (true≢false (sym e))
+count-after (OpenBitString h) g e = absurd (true≢false (sym e))
+count-after (OpenHeader octets) g e = absurd (true≢false (sym e))
+count-after OpenEndOctets g e = absurd (true≢false (sym e))
 
 -- each layer is open
 pub count-within : (w : Framing) (ls : List Layer) (f : Forest) → AreLayers w ls → open_count (within ls f) ≡ length ls + open_count f
 count-within w [] f a = omega arith
 count-within w (l ∷ ls) f a =
-    omega (arith, count-within w ls (behind l.before (OpenHolder l.header f)) a.0, count-behind l.before (OpenHolder l.header f) a.1.whole)
+    omega (arith, count-within w ls (followed_by l.before (OpenHolder l.header f)) a.0, count-after l.before (OpenHolder l.header f) a.1.whole)
 
 -- each layer has a frame
 length-frames : (w : Framing) (ls : List Layer) → length (frames_of w ls) ≡ length ls
@@ -49,5 +49,5 @@ pub state-depth : (w : WalkerState) (b : List ℕ) (past : List EventValue) (s :
 state-depth w b past s h n =
     ap (λ (stack : List Frame). length stack) h.stack
     ∙ length-stack w.framing s.layers (place_of w.framing s) s.tail
-    ∙ sym (ap open_count (state-within w b past s h n) ∙ count-within w.framing s.layers (behind s.here (forest_of s.tail)) h.layers
-    ∙ ap (λ (k : ℕ). length s.layers + k) (count-behind s.here (forest_of s.tail) h.here.whole))
+    ∙ sym (ap open_count (state-within w b past s h n) ∙ count-within w.framing s.layers (followed_by s.here (forest_of s.tail)) h.layers
+    ∙ ap (λ (k : ℕ). length s.layers + k) (count-after s.here (forest_of s.tail) h.here.whole))

@@ -10,7 +10,7 @@ use Rattle.tlv_walk.specs.Place.{IsOpen, Place, place_after}
 use Rattle.tlv_walk.specs.Private.Zipper.{Between, HasZipper, IsPhaseOf, Layer, Zipper, place_in, place_of}
 use Rattle.tlv_walk.specs.Private.Steps.{Continues}
 use Rattle.tlv_walk.proofs.WalkerLemmas.Moves.{are_whole, element-either, between_tail, phase_at, spelled_whole, tail_state, past_whole, with_layers}
-use Rattle.tlv_walk.proofs.WalkerLemmas.Zipper.{behind}
+use Rattle.tlv_walk.proofs.WalkerLemmas.Zipper.{followed_by}
 
 -- octets 00 between encodings
 abbrev pub padding_octets : List ℕ → Forest
@@ -45,14 +45,14 @@ or-false true = refl
 or-false false = refl
 
 pad_state : (w : WalkerState) (b : List ℕ) (past : List EventValue) (s : Zipper) (t : List ℕ) → HasZipper w b past (with_layers s [] Between) → w.phase ≡ phase.Between → w.framing.padding ≡ true → All (λ x. x ≡ 0) t
-    → HasZipper (record w { offset = w.offset + length t; events = w.events + 1 }) (b ++ t) (past ++ Pad t ∷ []) (record { layers = []; here = behind s.here (padding_octets t); tail = Between })
+    → HasZipper (record w { offset = w.offset + length t; events = w.events + 1 }) (b ++ t) (past ++ Pad t ∷ []) (record { layers = []; here = followed_by s.here (padding_octets t); tail = Between })
 pad_state w b past s t has e padding zeros = record {
   spelled = spelled_whole [] s.here (padding_octets t) [] t b has.here.whole (spelling-padding_octets t zeros) has.spelled;
   offset = omega (arith, has.offset, length-append b t);
   stack = has.stack;
   layers = tt;
   here = are_whole (place_in w.framing []) s.here (padding_octets t) has.here (open-padding_octets _ t padding refl refl) (whole-padding_octets t);
-  phase = subst (λ (f : Phase). IsPhaseOf f Between (place_of w.framing (record { layers = []; here = behind s.here (padding_octets t); tail = Between }))) (sym e) tt;
+  phase = subst (λ (f : Phase). IsPhaseOf f Between (place_of w.framing (record { layers = []; here = followed_by s.here (padding_octets t); tail = Between }))) (sym e) tt;
   same_events = past_whole past [] s.here (padding_octets t) [] (Pad t ∷ []) has.here.whole has.same_events (events-padding_octets t zeros ∙ sym (append-nil (map (λ x. Pad (x ∷ [])) t)));
   element = has.element ∙ sym (element-either s.here (padding_octets t) has.here.whole ∙ (ap (λ (k : Bool). has_element s.here || k) (element-padding_octets t) ∙ or-false (has_element s.here)));
 }

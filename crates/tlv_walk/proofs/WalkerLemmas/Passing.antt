@@ -31,12 +31,12 @@ contents_length : (w : WalkerState) (piece : List ℕ) (p : WholePrimitive) → 
 contents_length w piece p can =
     length-take-le (announced_length p.fields.size) (drop p.header piece) (omega (arith, can.octets, can.within, length-drop p.header piece))
 
-contents_behind : (f : HeaderFields) (o c : List ℕ) → contents_in (header_with f o) (o ++ c) ≡ c
-contents_behind f o c = ap (λ (l : List ℕ). drop (length l) (o ++ c)) (take-append-drop f.id_len o) ∙ drop-append_seam o c
+contents_after : (f : HeaderFields) (o c : List ℕ) → contents_in (header_with f o) (o ++ c) ≡ c
+contents_after f o c = ap (λ (l : List ℕ). drop (length l) (o ++ c)) (take-append-drop f.id_len o) ∙ drop-append_seam o c
 
 contents_whole : (w : WalkerState) (piece : List ℕ) (p : WholePrimitive) → CanPass w piece p → contents_in (header_at p piece) (take p.octets piece) ≡ contents_at p piece
 contents_whole w piece p can =
-    ap (contents_in (header_at p piece)) (whole_octets w piece p can) ∙ contents_behind p.fields (take p.header piece) (contents_at p piece)
+    ap (contents_in (header_at p piece)) (whole_octets w piece p can) ∙ contents_after p.fields (take p.header piece) (contents_at p piece)
 
 -- all of its octets are there
 pub is_complete : (w : WalkerState) (piece : List ℕ) (p : WholePrimitive) → CanPass w piece p → IsWholeElement (header_at p piece) (take p.octets piece)

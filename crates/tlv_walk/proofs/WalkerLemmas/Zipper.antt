@@ -17,38 +17,38 @@ use Rattle.tlv_walk.proofs.GrammarLemmas.PushSteps.{is_filled}
 use Rattle.tlv_walk.proofs.GrammarLemmas.Spellings.{append_assoc-3, append_assoc-4, length-holder, length-primitive}
 
 -- whole elements, and then others
-abbrev pub behind : Forest → Forest → Forest
-behind NoMore f = f
-behind (PaddingOctet rest) f = PaddingOctet (behind rest f)
-behind (Primitive h c rest) f = Primitive h c (behind rest f)
-behind (Holder h inside rest) f = Holder h inside (behind rest f)
-behind (OpenPrimitive h c) f = OpenPrimitive h c
-behind (OpenHolder h inside) f = OpenHolder h inside
-behind (OpenBitString h) f = OpenBitString h
-behind (OpenHeader octets) f = OpenHeader octets
-behind OpenEndOctets f = OpenEndOctets
+abbrev pub followed_by : Forest → Forest → Forest
+followed_by NoMore f = f
+followed_by (PaddingOctet rest) f = PaddingOctet (followed_by rest f)
+followed_by (Primitive h c rest) f = Primitive h c (followed_by rest f)
+followed_by (Holder h inside rest) f = Holder h inside (followed_by rest f)
+followed_by (OpenPrimitive h c) f = OpenPrimitive h c
+followed_by (OpenHolder h inside) f = OpenHolder h inside
+followed_by (OpenBitString h) f = OpenBitString h
+followed_by (OpenHeader octets) f = OpenHeader octets
+followed_by OpenEndOctets f = OpenEndOctets
 
 -- elements in the innermost open one
 abbrev pub within : List Layer → Forest → Forest
 within [] f = f
-within (l ∷ ls) f = within ls (behind l.before (OpenHolder l.header f))
+within (l ∷ ls) f = within ls (followed_by l.before (OpenHolder l.header f))
 
 -- the same, where each element that is filled ends
 abbrev pub settled : List Layer → Forest → Forest
 settled [] f = f
-settled (l ∷ ls) f = cond (is_filled l.header f) (settled ls (behind l.before (Holder l.header f NoMore))) (within (l ∷ ls) f)
+settled (l ∷ ls) f = cond (is_filled l.header f) (settled ls (followed_by l.before (Holder l.header f NoMore))) (within (l ∷ ls) f)
 
 abbrev pub primitive_in : List Layer → Forest → HeaderValue → List ℕ → Bool → Forest
-primitive_in ls here h c true = settled ls (behind here (Primitive h c NoMore))
-primitive_in ls here h c false = within ls (behind here (OpenPrimitive h c))
+primitive_in ls here h c true = settled ls (followed_by here (Primitive h c NoMore))
+primitive_in ls here h c false = within ls (followed_by here (OpenPrimitive h c))
 
 -- what a state has been read as
 abbrev pub reading_in : List Layer → Forest → Tail → Forest
 reading_in ls here Between = settled ls here
 reading_in ls here (InContents h c) = primitive_in ls here h c (eqb (length c) (announced_length h.size))
-reading_in ls here (BeforeUnused h) = within ls (behind here (OpenBitString h))
-reading_in ls here (InHeader octets) = within ls (behind here (OpenHeader octets))
-reading_in ls here InEnd = within ls (behind here OpenEndOctets)
+reading_in ls here (BeforeUnused h) = within ls (followed_by here (OpenBitString h))
+reading_in ls here (InHeader octets) = within ls (followed_by here (OpenHeader octets))
+reading_in ls here InEnd = within ls (followed_by here OpenEndOctets)
 
 abbrev pub reading_of : Zipper → Forest
 reading_of s = reading_in s.layers s.here s.tail
@@ -70,99 +70,99 @@ open-after p m n k g e w = subst (λ (q : Place). IsOpen q g) (sym (after-after 
 -- ---- whole elements, and then others
 
 -- their octets
-pub spelling-behind : (f g : Forest) → is_complete f ≡ true → spelling (behind f g) ≡ spelling f ++ spelling g
-spelling-behind NoMore g e = refl
-spelling-behind (PaddingOctet rest) g e = ap (λ (t : List ℕ). 0 ∷ t) (spelling-behind rest g e)
-spelling-behind (Primitive h c rest) g e =
-    ap (λ (t : List ℕ). octets_of h ++ (c ++ t)) (spelling-behind rest g e) ∙ sym (append_assoc-3 (octets_of h) c (spelling rest) (spelling g))
-spelling-behind (Holder h inside rest) g e =
-    ap (λ (t : List ℕ). opening h ++ (spelling inside ++ (end_octets h.size ++ t))) (spelling-behind rest g e)
+pub spelling-followed_by : (f g : Forest) → is_complete f ≡ true → spelling (followed_by f g) ≡ spelling f ++ spelling g
+spelling-followed_by NoMore g e = refl
+spelling-followed_by (PaddingOctet rest) g e = ap (λ (t : List ℕ). 0 ∷ t) (spelling-followed_by rest g e)
+spelling-followed_by (Primitive h c rest) g e =
+    ap (λ (t : List ℕ). octets_of h ++ (c ++ t)) (spelling-followed_by rest g e) ∙ sym (append_assoc-3 (octets_of h) c (spelling rest) (spelling g))
+spelling-followed_by (Holder h inside rest) g e =
+    ap (λ (t : List ℕ). opening h ++ (spelling inside ++ (end_octets h.size ++ t))) (spelling-followed_by rest g e)
     ∙ sym (append_assoc-4 (opening h) (spelling inside) (end_octets h.size) (spelling rest) (spelling g))
-spelling-behind (OpenPrimitive h c) g e = absurd (true≢false (sym e))
-spelling-behind (OpenHolder h inside) g e = absurd (true≢false (sym e))
-spelling-behind (OpenBitString h) g e = absurd (true≢false (sym e))
-spelling-behind (OpenHeader octets) g e = absurd (true≢false (sym e))
-spelling-behind OpenEndOctets g e = absurd (true≢false (sym e))
+spelling-followed_by (OpenPrimitive h c) g e = absurd (true≢false (sym e))
+spelling-followed_by (OpenHolder h inside) g e = absurd (true≢false (sym e))
+spelling-followed_by (OpenBitString h) g e = absurd (true≢false (sym e))
+spelling-followed_by (OpenHeader octets) g e = absurd (true≢false (sym e))
+spelling-followed_by OpenEndOctets g e = absurd (true≢false (sym e))
 
 -- nothing is open if nothing of the others is
-pub whole-behind : (f g : Forest) → is_complete f ≡ true → is_complete (behind f g) ≡ is_complete g
-whole-behind NoMore g e = refl
-whole-behind (PaddingOctet rest) g e = whole-behind rest g e
-whole-behind (Primitive h c rest) g e = whole-behind rest g e
-whole-behind (Holder h inside rest) g e = whole-behind rest g e
-whole-behind (OpenPrimitive h c) g e = absurd (true≢false (sym e))
-whole-behind (OpenHolder h inside) g e = absurd (true≢false (sym e))
-whole-behind (OpenBitString h) g e = absurd (true≢false (sym e))
-whole-behind (OpenHeader octets) g e = absurd (true≢false (sym e))
-whole-behind OpenEndOctets g e = absurd (true≢false (sym e))
+pub whole-followed_by : (f g : Forest) → is_complete f ≡ true → is_complete (followed_by f g) ≡ is_complete g
+whole-followed_by NoMore g e = refl
+whole-followed_by (PaddingOctet rest) g e = whole-followed_by rest g e
+whole-followed_by (Primitive h c rest) g e = whole-followed_by rest g e
+whole-followed_by (Holder h inside rest) g e = whole-followed_by rest g e
+whole-followed_by (OpenPrimitive h c) g e = absurd (true≢false (sym e))
+whole-followed_by (OpenHolder h inside) g e = absurd (true≢false (sym e))
+whole-followed_by (OpenBitString h) g e = absurd (true≢false (sym e))
+whole-followed_by (OpenHeader octets) g e = absurd (true≢false (sym e))
+whole-followed_by OpenEndOctets g e = absurd (true≢false (sym e))
 
 -- an octet of an element is there if one of theirs or of the others' is
-pub element-behind : (f g : Forest) → has_element (behind f g) ≡ (has_element f || has_element g)
-element-behind NoMore g = refl
-element-behind (PaddingOctet rest) g = element-behind rest g
-element-behind (Primitive h c rest) g = refl
-element-behind (Holder h inside rest) g = refl
-element-behind (OpenPrimitive h c) g = refl
-element-behind (OpenHolder h inside) g = refl
-element-behind (OpenBitString h) g = refl
-element-behind (OpenHeader octets) g = refl
-element-behind OpenEndOctets g = refl
+pub element-after : (f g : Forest) → has_element (followed_by f g) ≡ (has_element f || has_element g)
+element-after NoMore g = refl
+element-after (PaddingOctet rest) g = element-after rest g
+element-after (Primitive h c rest) g = refl
+element-after (Holder h inside rest) g = refl
+element-after (OpenPrimitive h c) g = refl
+element-after (OpenHolder h inside) g = refl
+element-after (OpenBitString h) g = refl
+element-after (OpenHeader octets) g = refl
+element-after OpenEndOctets g = refl
 
 -- they are open if the others are, after them
-pub open-behind : (p : Place) (f g : Forest) → AreWhole p f → IsOpen (place_after p (length (spelling f))) g → IsOpen p (behind f g)
-open-behind p NoMore g a w = subst (λ (q : Place). IsOpen q g) (after-none p) w
-open-behind p (PaddingOctet rest) g a w =
-    (a.is_open.0, open-behind (place_after p 1) rest g (record { is_open = a.is_open.1; whole = a.whole }) (open-after p 1 (length (spelling rest)) _ g (omega arith) w))
-open-behind p (Primitive h c rest) g a w = (
+pub open-followed_by : (p : Place) (f g : Forest) → AreWhole p f → IsOpen (place_after p (length (spelling f))) g → IsOpen p (followed_by f g)
+open-followed_by p NoMore g a w = subst (λ (q : Place). IsOpen q g) (after-none p) w
+open-followed_by p (PaddingOctet rest) g a w =
+    (a.is_open.0, open-followed_by (place_after p 1) rest g (record { is_open = a.is_open.1; whole = a.whole }) (open-after p 1 (length (spelling rest)) _ g (omega arith) w))
+open-followed_by p (Primitive h c rest) g a w = (
   a.is_open.0,
-  open-behind (place_after p (length (octets_of h) + length c)) rest g (record { is_open = a.is_open.1; whole = a.whole })
+  open-followed_by (place_after p (length (octets_of h) + length c)) rest g (record { is_open = a.is_open.1; whole = a.whole })
       (open-after p (length (octets_of h) + length c) (length (spelling rest)) _ g (sym (length-primitive h c rest)) w),
 )
-open-behind p (Holder h inside rest) g a w = (
+open-followed_by p (Holder h inside rest) g a w = (
   a.is_open.0,
   a.is_open.1,
-  open-behind (place_after p (extent h inside)) rest g (record { is_open = a.is_open.2; whole = a.whole })
+  open-followed_by (place_after p (extent h inside)) rest g (record { is_open = a.is_open.2; whole = a.whole })
       (open-after p (extent h inside) (length (spelling rest)) _ g (sym (length-holder h inside rest)) w),
 )
-open-behind p (OpenPrimitive h c) g a w = absurd (true≢false (sym a.whole))
-open-behind p (OpenHolder h inside) g a w = absurd (true≢false (sym a.whole))
-open-behind p (OpenBitString h) g a w = absurd (true≢false (sym a.whole))
-open-behind p (OpenHeader octets) g a w = absurd (true≢false (sym a.whole))
-open-behind p OpenEndOctets g a w = absurd (true≢false (sym a.whole))
+open-followed_by p (OpenPrimitive h c) g a w = absurd (true≢false (sym a.whole))
+open-followed_by p (OpenHolder h inside) g a w = absurd (true≢false (sym a.whole))
+open-followed_by p (OpenBitString h) g a w = absurd (true≢false (sym a.whole))
+open-followed_by p (OpenHeader octets) g a w = absurd (true≢false (sym a.whole))
+open-followed_by p OpenEndOctets g a w = absurd (true≢false (sym a.whole))
 
 -- a tip by either way to the place
 tip-after : (p : Place) (m n k : ℕ) (g : Forest) → m + n ≡ k → tip (place_after (place_after p m) n) g ≡ tip (place_after p k) g
 tip-after p m n k g e = ap (λ (q : Place). tip q g) (after-after p m n k e)
 
 -- the open end is that of the others
-pub tip-behind : (p : Place) (f g : Forest) → is_complete f ≡ true → tip p (behind f g) ≡ tip (place_after p (length (spelling f))) g
-tip-behind p NoMore g e = ap (λ (q : Place). tip q g) (sym (after-none p))
-tip-behind p (PaddingOctet rest) g e = tip-behind (place_after p 1) rest g e ∙ tip-after p 1 (length (spelling rest)) _ g (omega arith)
-tip-behind p (Primitive h c rest) g e =
-    tip-behind (place_after p (length (octets_of h) + length c)) rest g e ∙ tip-after p (length (octets_of h) + length c) (length (spelling rest)) _ g (sym (length-primitive h c rest))
-tip-behind p (Holder h inside rest) g e =
-    tip-behind (place_after p (extent h inside)) rest g e ∙ tip-after p (extent h inside) (length (spelling rest)) _ g (sym (length-holder h inside rest))
-tip-behind p (OpenPrimitive h c) g e = absurd (true≢false (sym e))
-tip-behind p (OpenHolder h inside) g e = absurd (true≢false (sym e))
-tip-behind p (OpenBitString h) g e = absurd (true≢false (sym e))
-tip-behind p (OpenHeader octets) g e = absurd (true≢false (sym e))
-tip-behind p OpenEndOctets g e = absurd (true≢false (sym e))
+pub tip-followed_by : (p : Place) (f g : Forest) → is_complete f ≡ true → tip p (followed_by f g) ≡ tip (place_after p (length (spelling f))) g
+tip-followed_by p NoMore g e = ap (λ (q : Place). tip q g) (sym (after-none p))
+tip-followed_by p (PaddingOctet rest) g e = tip-followed_by (place_after p 1) rest g e ∙ tip-after p 1 (length (spelling rest)) _ g (omega arith)
+tip-followed_by p (Primitive h c rest) g e =
+    tip-followed_by (place_after p (length (octets_of h) + length c)) rest g e ∙ tip-after p (length (octets_of h) + length c) (length (spelling rest)) _ g (sym (length-primitive h c rest))
+tip-followed_by p (Holder h inside rest) g e =
+    tip-followed_by (place_after p (extent h inside)) rest g e ∙ tip-after p (extent h inside) (length (spelling rest)) _ g (sym (length-holder h inside rest))
+tip-followed_by p (OpenPrimitive h c) g e = absurd (true≢false (sym e))
+tip-followed_by p (OpenHolder h inside) g e = absurd (true≢false (sym e))
+tip-followed_by p (OpenBitString h) g e = absurd (true≢false (sym e))
+tip-followed_by p (OpenHeader octets) g e = absurd (true≢false (sym e))
+tip-followed_by p OpenEndOctets g e = absurd (true≢false (sym e))
 
 -- no others
-pub behind-none : (f : Forest) → behind f NoMore ≡ f
-behind-none NoMore = refl
-behind-none (PaddingOctet rest) = ap PaddingOctet (behind-none rest)
-behind-none (Primitive h c rest) = ap (Primitive h c) (behind-none rest)
-behind-none (Holder h inside rest) = ap (Holder h inside) (behind-none rest)
-behind-none (OpenPrimitive h c) = refl
-behind-none (OpenHolder h inside) = refl
-behind-none (OpenBitString h) = refl
-behind-none (OpenHeader octets) = refl
-behind-none OpenEndOctets = refl
+pub followed_by-none : (f : Forest) → followed_by f NoMore ≡ f
+followed_by-none NoMore = refl
+followed_by-none (PaddingOctet rest) = ap PaddingOctet (followed_by-none rest)
+followed_by-none (Primitive h c rest) = ap (Primitive h c) (followed_by-none rest)
+followed_by-none (Holder h inside rest) = ap (Holder h inside) (followed_by-none rest)
+followed_by-none (OpenPrimitive h c) = refl
+followed_by-none (OpenHolder h inside) = refl
+followed_by-none (OpenBitString h) = refl
+followed_by-none (OpenHeader octets) = refl
+followed_by-none OpenEndOctets = refl
 
 -- after whole elements the open end is between them and the next
 pub tip-whole : (p : Place) (f : Forest) → is_complete f ≡ true → tip p f ≡ (place_after p (length (spelling f)), NoMore)
-tip-whole p f e = ap (λ (g : Forest). tip p g) (sym (behind-none f)) ∙ tip-behind p f NoMore e
+tip-whole p f e = ap (λ (g : Forest). tip p g) (sym (followed_by-none f)) ∙ tip-followed_by p f NoMore e
 
 -- ---- where the elements in the innermost open element begin
 
@@ -215,8 +215,8 @@ layers-fit w (l ∷ ls) a = fits-inside (place_after (place_in w ls) (length (sp
 pub spelling-within : (w : Framing) (ls : List Layer) (f : Forest) → AreLayers w ls → spelling (within ls f) ≡ spelling_of_layers ls ++ spelling f
 spelling-within w [] f a = refl
 spelling-within w (l ∷ ls) f a =
-    spelling-within w ls (behind l.before (OpenHolder l.header f)) a.0
-    ∙ ap (λ (t : List ℕ). spelling_of_layers ls ++ t) (spelling-behind l.before (OpenHolder l.header f) a.1.whole ∙ sym (append_assoc (spelling l.before) (opening l.header) (spelling f)))
+    spelling-within w ls (followed_by l.before (OpenHolder l.header f)) a.0
+    ∙ ap (λ (t : List ℕ). spelling_of_layers ls ++ t) (spelling-followed_by l.before (OpenHolder l.header f) a.1.whole ∙ sym (append_assoc (spelling l.before) (opening l.header) (spelling f)))
     ∙ sym (append_assoc (spelling_of_layers ls) (spelling l.before ++ opening l.header) (spelling f))
 
 -- if they are whole, contents octets of the innermost open element are lacking
@@ -233,16 +233,16 @@ room-if_open (l ∷ ls) f e = λ whole. absurd (true≢false (sym whole ∙ e))
 pub open-within : (w : Framing) (ls : List Layer) (f : Forest) → AreLayers w ls → IsOpen (place_in w ls) f → HasRoomIn ls f → IsOpen (top_place w) (within ls f)
 open-within w [] f a v r = v
 open-within w (l ∷ ls) f a v r =
-    open-within w ls (behind l.before (OpenHolder l.header f)) a.0
-    (open-behind (place_in w ls) l.before (OpenHolder l.header f) a.1 ((a.2, r), v))
-    (room-if_open ls _ (whole-behind l.before (OpenHolder l.header f) a.1.whole))
+    open-within w ls (followed_by l.before (OpenHolder l.header f)) a.0
+    (open-followed_by (place_in w ls) l.before (OpenHolder l.header f) a.1 ((a.2, r), v))
+    (room-if_open ls _ (whole-followed_by l.before (OpenHolder l.header f) a.1.whole))
 
 -- the open end is theirs
 pub tip-within : (w : Framing) (ls : List Layer) (f : Forest) → AreLayers w ls → tip (top_place w) (within ls f) ≡ tip (place_in w ls) f
 tip-within w [] f a = refl
-tip-within w (l ∷ ls) f a = tip-within w ls (behind l.before (OpenHolder l.header f)) a.0 ∙ tip-behind (place_in w ls) l.before (OpenHolder l.header f) a.1.whole
+tip-within w (l ∷ ls) f a = tip-within w ls (followed_by l.before (OpenHolder l.header f)) a.0 ∙ tip-followed_by (place_in w ls) l.before (OpenHolder l.header f) a.1.whole
 
 -- inside a layer something is open
 pub whole-within : (w : Framing) (ls : List Layer) (f : Forest) → AreLayers w ls → (ls ≡ [] → is_complete f ≡ false) → is_complete (within ls f) ≡ false
 whole-within w [] f a e = e refl
-whole-within w (l ∷ ls) f a e = whole-within w ls (behind l.before (OpenHolder l.header f)) a.0 (λ _. whole-behind l.before (OpenHolder l.header f) a.1.whole)
+whole-within w (l ∷ ls) f a e = whole-within w ls (followed_by l.before (OpenHolder l.header f)) a.0 (λ _. whole-followed_by l.before (OpenHolder l.header f) a.1.whole)

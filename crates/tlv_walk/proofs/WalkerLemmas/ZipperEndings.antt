@@ -19,8 +19,8 @@ use Rattle.tlv_walk.proofs.GrammarLemmas.Faults.{fault-refused}
 use Rattle.tlv_walk.proofs.GrammarLemmas.PushSteps.{Spells}
 use Rattle.tlv_walk.proofs.GrammarLemmas.Readings.{IsHalt}
 use Rattle.tlv_walk.proofs.GrammarLemmas.Settled.{end_in, settled-within}
-use Rattle.tlv_walk.proofs.WalkerLemmas.ZipperReading.{contents-less, place_behind, state-offset, state-reading, state-spells}
-use Rattle.tlv_walk.proofs.WalkerLemmas.Zipper.{behind, behind-none, reading_in, reading_of, tip-behind, tip-within, whole-behind, whole-within, within}
+use Rattle.tlv_walk.proofs.WalkerLemmas.ZipperReading.{contents-less, later_place, state-offset, state-reading, state-spells}
+use Rattle.tlv_walk.proofs.WalkerLemmas.Zipper.{followed_by, followed_by-none, reading_in, reading_of, tip-followed_by, tip-within, whole-followed_by, whole-within, within}
 
 -- what is open after the whole elements, as a forest: of a primitive, one that lacks contents octets
 abbrev pub forest_of : Tail → Forest
@@ -35,11 +35,11 @@ filled-at : (w : Framing) (ls : List Layer) (here : Forest) (at : ℕ) → at �
 filled-at w ls here at e n f = let there : end_in w ls here ≡ at = omega arith in n (subst (λ (k : ℕ). EventWaitsIn phase.Between (frames_of w ls) k) there f)
 
 -- if nothing is waiting, no element has ended
-reading-within : (w : Framing) (ls : List Layer) (here : Forest) (f : Phase) (t : Tail) (at : ℕ) → IsPhaseOf f t (place_behind w ls here)
-    → at ≡ (place_behind w ls here).at + length (spelling_of_tail t) → (EventWaitsIn f (stack_of w ls (place_behind w ls here) t) at → ⊥)
-    → reading_in ls here t ≡ within ls (behind here (forest_of t))
+reading-within : (w : Framing) (ls : List Layer) (here : Forest) (f : Phase) (t : Tail) (at : ℕ) → IsPhaseOf f t (later_place w ls here)
+    → at ≡ (later_place w ls here).at + length (spelling_of_tail t) → (EventWaitsIn f (stack_of w ls (later_place w ls here) t) at → ⊥)
+    → reading_in ls here t ≡ within ls (followed_by here (forest_of t))
 reading-within w ls here phase.Between Between at j e n =
-    settled-within w ls here (filled-at w ls here at e n) ∙ ap (within ls) (sym (behind-none here))
+    settled-within w ls here (filled-at w ls here at e n) ∙ ap (within ls) (sym (followed_by-none here))
 reading-within w ls here (phase.InContents left) (InContents h c) at j e n = rw (contents-less _ h c left j n) refl
 reading-within w ls here (phase.InHeader r) (InHeader octets) at j e n = refl
 reading-within w ls here phase.BeforeUnused (BeforeUnused h) at j e n = refl
@@ -47,7 +47,7 @@ reading-within w ls here phase.InEnd InEnd at j e n = refl
 reading-within w ls here f t at j e n = absurd j
 
 -- so what a walker with nothing waiting has read is its layers, its whole elements and what is open
-pub state-within : (w : WalkerState) (b : List ℕ) (past : List EventValue) (s : Zipper) → HasZipper w b past s → (EventWaits w → ⊥) → reading_of s ≡ within s.layers (behind s.here (forest_of s.tail))
+pub state-within : (w : WalkerState) (b : List ℕ) (past : List EventValue) (s : Zipper) → HasZipper w b past s → (EventWaits w → ⊥) → reading_of s ≡ within s.layers (followed_by s.here (forest_of s.tail))
 state-within w b past s h n =
     reading-within w.framing s.layers s.here w.phase s.tail w.offset h.phase (state-offset w b past s h)
     (λ i. n (subst (λ (stack : List Frame). EventWaitsIn w.phase stack w.offset) (sym h.stack) i))
@@ -67,8 +67,8 @@ pub state-tip : (w : WalkerState) (b : List ℕ) (past : List EventValue) (s : Z
     → tip (top_place w.framing) (reading_of s) ≡ (place_of w.framing s, forest_of s.tail)
 state-tip w b past s h n =
     ap (λ (f : Forest). tip (top_place w.framing) f) (state-within w b past s h n)
-    ∙ tip-within w.framing s.layers (behind s.here (forest_of s.tail)) h.layers
-    ∙ tip-behind (place_in w.framing s.layers) s.here (forest_of s.tail) h.here.whole
+    ∙ tip-within w.framing s.layers (followed_by s.here (forest_of s.tail)) h.layers
+    ∙ tip-followed_by (place_in w.framing s.layers) s.here (forest_of s.tail) h.here.whole
     ∙ tip-tail (place_of w.framing s) s.tail
 
 -- an octet with a fault of the list at the open end gives the ending, whatever follows
@@ -84,14 +84,14 @@ state-fault w b past s x rest code h n k =
 -- ---- the end of the input
 
 -- outside all elements that hold others, between encodings, the whole elements are the reading
-outermost-reading : (w : Framing) (ls : List Layer) (here : Forest) (t : Tail) → IsPhaseOf phase.Between t (place_behind w ls here) → stack_of w ls (place_behind w ls here) t ≡ []
+outermost-reading : (w : Framing) (ls : List Layer) (here : Forest) (t : Tail) → IsPhaseOf phase.Between t (later_place w ls here) → stack_of w ls (later_place w ls here) t ≡ []
     → reading_in ls here t ≡ here
 outermost-reading w [] here Between j e = refl
 outermost-reading w (l ∷ ls) here Between j e = absurd (cc)
 outermost-reading w ls here t j e = absurd j
 
 -- there an octet of an element came if one is in the reading
-outermost-element : (w : Framing) (ls : List Layer) (here : Forest) (t : Tail) → IsPhaseOf phase.Between t (place_behind w ls here) → stack_of w ls (place_behind w ls here) t ≡ []
+outermost-element : (w : Framing) (ls : List Layer) (here : Forest) (t : Tail) → IsPhaseOf phase.Between t (later_place w ls here) → stack_of w ls (later_place w ls here) t ≡ []
     → begins_element ls here t ≡ has_element here
 outermost-element w [] here Between j e = refl
 outermost-element w (l ∷ ls) here Between j e = absurd (cc)
@@ -130,8 +130,8 @@ state-empty w b past s h e none no_element =
     empty (reading_of s) (state-reading w b past s h) o.spelled (ap has_element o.reading ∙ o.element ∙ no_element)
 
 -- elsewhere something is open: an element that holds others, or what is after the whole elements
-open-elsewhere : (w : Framing) (ls : List Layer) (here : Forest) (f : Phase) (t : Tail) → IsPhaseOf f t (place_behind w ls here)
-    → (f ≡ phase.Between → stack_of w ls (place_behind w ls here) t ≡ [] → ⊥) → ls ≡ [] → is_complete (forest_of t) ≡ false
+open-elsewhere : (w : Framing) (ls : List Layer) (here : Forest) (f : Phase) (t : Tail) → IsPhaseOf f t (later_place w ls here)
+    → (f ≡ phase.Between → stack_of w ls (later_place w ls here) t ≡ [] → ⊥) → ls ≡ [] → is_complete (forest_of t) ≡ false
 open-elsewhere w ls here phase.Between Between j n e = absurd (n refl (ap (frames_of w) e))
 open-elsewhere w ls here (phase.InHeader r) (InHeader octets) j n e = refl
 open-elsewhere w ls here (phase.InContents left) (InContents h c) j n e = refl
@@ -144,7 +144,7 @@ pub state-short : (w : WalkerState) (b : List ℕ) (past : List EventValue) (s :
     → IsEnding w.framing b (fault Short (length b))
 state-short w b past s h n outside =
     let r : Spells (top_place w.framing) b (reading_of s) = state-spells w b past s h in
-    let part : is_complete (within s.layers (behind s.here (forest_of s.tail))) ≡ false =
-    whole-within w.framing s.layers (behind s.here (forest_of s.tail)) h.layers
-    (λ e. whole-behind s.here (forest_of s.tail) h.here.whole ∙ open-elsewhere w.framing s.layers s.here w.phase s.tail h.phase (λ p q. outside p (h.stack ∙ q)) e) in
+    let part : is_complete (within s.layers (followed_by s.here (forest_of s.tail))) ≡ false =
+    whole-within w.framing s.layers (followed_by s.here (forest_of s.tail)) h.layers
+    (λ e. whole-followed_by s.here (forest_of s.tail) h.here.whole ∙ open-elsewhere w.framing s.layers s.here w.phase s.tail h.phase (λ p q. outside p (h.stack ∙ q)) e) in
     short (reading_of s) (state-reading w b past s h) r.spelled (ap is_complete (state-within w b past s h n) ∙ part)

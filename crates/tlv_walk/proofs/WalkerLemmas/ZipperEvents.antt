@@ -15,39 +15,39 @@ use Rattle.tlv_walk.specs.Wrappers.{wrapper_at, wrappers}
 use Rattle.tlv_walk.proofs.GrammarLemmas.Bounds.{IsFull}
 use Rattle.tlv_walk.proofs.GrammarLemmas.PushSteps.{is_filled}
 use Rattle.tlv_walk.proofs.GrammarLemmas.Settled.{IsEnded, end_in, end-filled, filled-ended, filled-full}
-use Rattle.tlv_walk.proofs.WalkerLemmas.Zipper.{behind, settled, within}
+use Rattle.tlv_walk.proofs.WalkerLemmas.Zipper.{followed_by, settled, within}
 
 -- ---- whole elements, and then others
 
 -- their events
-pub events-behind : (f g : Forest) → is_complete f ≡ true → events (behind f g) ≡ events f ++ events g
-events-behind NoMore g e = refl
-events-behind (PaddingOctet rest) g e = ap (λ (t : List EventValue). Pad (0 ∷ []) ∷ t) (events-behind rest g e)
-events-behind (Primitive h c rest) g e = ap (λ (t : List EventValue). Begin h ∷ Bytes c ∷ End ∷ t) (events-behind rest g e)
-events-behind (Holder h inside rest) g e =
-    ap (λ (t : List EventValue). opening_events h ++ (events inside ++ closing_event h inside ∷ t)) (events-behind rest g e)
+pub events-followed_by : (f g : Forest) → is_complete f ≡ true → events (followed_by f g) ≡ events f ++ events g
+events-followed_by NoMore g e = refl
+events-followed_by (PaddingOctet rest) g e = ap (λ (t : List EventValue). Pad (0 ∷ []) ∷ t) (events-followed_by rest g e)
+events-followed_by (Primitive h c rest) g e = ap (λ (t : List EventValue). Begin h ∷ Bytes c ∷ End ∷ t) (events-followed_by rest g e)
+events-followed_by (Holder h inside rest) g e =
+    ap (λ (t : List EventValue). opening_events h ++ (events inside ++ closing_event h inside ∷ t)) (events-followed_by rest g e)
     ∙ ap (λ (t : List EventValue). opening_events h ++ t) (sym (append_assoc (events inside) (closing_event h inside ∷ events rest) (events g)))
     ∙ sym (append_assoc (opening_events h) (events inside ++ closing_event h inside ∷ events rest) (events g))
-events-behind (OpenPrimitive h c) g e = absurd (true≢false (sym e))
-events-behind (OpenHolder h inside) g e = absurd (true≢false (sym e))
-events-behind (OpenBitString h) g e = absurd (true≢false (sym e))
-events-behind (OpenHeader octets) g e = absurd (true≢false (sym e))
-events-behind OpenEndOctets g e = absurd (true≢false (sym e))
+events-followed_by (OpenPrimitive h c) g e = absurd (true≢false (sym e))
+events-followed_by (OpenHolder h inside) g e = absurd (true≢false (sym e))
+events-followed_by (OpenBitString h) g e = absurd (true≢false (sym e))
+events-followed_by (OpenHeader octets) g e = absurd (true≢false (sym e))
+events-followed_by OpenEndOctets g e = absurd (true≢false (sym e))
 
 -- their wrappers
-pub wrappers-behind : (f g : Forest) → is_complete f ≡ true → wrappers (behind f g) ≡ wrappers f ++ wrappers g
-wrappers-behind NoMore g e = refl
-wrappers-behind (PaddingOctet rest) g e = wrappers-behind rest g e
-wrappers-behind (Primitive h c rest) g e = wrappers-behind rest g e
-wrappers-behind (Holder h inside rest) g e =
-    ap (λ (t : List ℕ). wrapper_at h ++ (wrappers inside ++ t)) (wrappers-behind rest g e)
+pub wrappers-followed_by : (f g : Forest) → is_complete f ≡ true → wrappers (followed_by f g) ≡ wrappers f ++ wrappers g
+wrappers-followed_by NoMore g e = refl
+wrappers-followed_by (PaddingOctet rest) g e = wrappers-followed_by rest g e
+wrappers-followed_by (Primitive h c rest) g e = wrappers-followed_by rest g e
+wrappers-followed_by (Holder h inside rest) g e =
+    ap (λ (t : List ℕ). wrapper_at h ++ (wrappers inside ++ t)) (wrappers-followed_by rest g e)
     ∙ ap (λ (t : List ℕ). wrapper_at h ++ t) (sym (append_assoc (wrappers inside) (wrappers rest) (wrappers g)))
     ∙ sym (append_assoc (wrapper_at h) (wrappers inside ++ wrappers rest) (wrappers g))
-wrappers-behind (OpenPrimitive h c) g e = absurd (true≢false (sym e))
-wrappers-behind (OpenHolder h inside) g e = absurd (true≢false (sym e))
-wrappers-behind (OpenBitString h) g e = absurd (true≢false (sym e))
-wrappers-behind (OpenHeader octets) g e = absurd (true≢false (sym e))
-wrappers-behind OpenEndOctets g e = absurd (true≢false (sym e))
+wrappers-followed_by (OpenPrimitive h c) g e = absurd (true≢false (sym e))
+wrappers-followed_by (OpenHolder h inside) g e = absurd (true≢false (sym e))
+wrappers-followed_by (OpenBitString h) g e = absurd (true≢false (sym e))
+wrappers-followed_by (OpenHeader octets) g e = absurd (true≢false (sym e))
+wrappers-followed_by OpenEndOctets g e = absurd (true≢false (sym e))
 
 -- ---- elements in the innermost open one
 
@@ -55,16 +55,16 @@ wrappers-behind OpenEndOctets g e = absurd (true≢false (sym e))
 pub events-within : (w : Framing) (ls : List Layer) (f : Forest) → AreLayers w ls → events (within ls f) ≡ events_of_layers ls ++ events f
 events-within w [] f a = refl
 events-within w (l ∷ ls) f a =
-    events-within w ls (behind l.before (OpenHolder l.header f)) a.0
-    ∙ ap (λ (t : List EventValue). events_of_layers ls ++ t) (events-behind l.before (OpenHolder l.header f) a.1.whole ∙ sym (append_assoc (events l.before) (opening_events l.header) (events f)))
+    events-within w ls (followed_by l.before (OpenHolder l.header f)) a.0
+    ∙ ap (λ (t : List EventValue). events_of_layers ls ++ t) (events-followed_by l.before (OpenHolder l.header f) a.1.whole ∙ sym (append_assoc (events l.before) (opening_events l.header) (events f)))
     ∙ sym (append_assoc (events_of_layers ls) (events l.before ++ opening_events l.header) (events f))
 
 -- their wrappers, after those of the layers
 pub wrappers-within : (w : Framing) (ls : List Layer) (f : Forest) → AreLayers w ls → wrappers (within ls f) ≡ wrappers_layers ls ++ wrappers f
 wrappers-within w [] f a = refl
 wrappers-within w (l ∷ ls) f a =
-    wrappers-within w ls (behind l.before (OpenHolder l.header f)) a.0
-    ∙ ap (λ (t : List ℕ). wrappers_layers ls ++ t) (wrappers-behind l.before (OpenHolder l.header f) a.1.whole ∙ sym (append_assoc (wrappers l.before) (wrapper_at l.header) (wrappers f)))
+    wrappers-within w ls (followed_by l.before (OpenHolder l.header f)) a.0
+    ∙ ap (λ (t : List ℕ). wrappers_layers ls ++ t) (wrappers-followed_by l.before (OpenHolder l.header f) a.1.whole ∙ sym (append_assoc (wrappers l.before) (wrapper_at l.header) (wrappers f)))
     ∙ sym (append_assoc (wrappers_layers ls) (wrappers l.before ++ wrapper_at l.header) (wrappers f))
 
 -- ---- whole elements in the innermost open one, where each element that is filled ends
@@ -92,11 +92,11 @@ events-settled w [] f a i = sym (append-nil (events f))
 events-settled w (l ∷ ls) f a i = elim (cases_Bool (is_filled l.header f)) [
   | inl e ↦
       let d : IsEnded w l ls f = filled-ended w l ls f a i e in
-      let r : events (settled ls (behind l.before (Holder l.header f NoMore))) ≡ (events_of_layers ls ++ events (behind l.before (Holder l.header f NoMore))) ++ ending_events (end_in w ls (behind l.before (Holder l.header f NoMore))) (frames_of w ls) =
-      events-settled w ls (behind l.before (Holder l.header f NoMore)) a.0 d.are_whole in
-      let s : (events_of_layers ls ++ events (behind l.before (Holder l.header f NoMore))) ++ ending_events (end_in w ls (behind l.before (Holder l.header f NoMore))) (frames_of w ls)
+      let r : events (settled ls (followed_by l.before (Holder l.header f NoMore))) ≡ (events_of_layers ls ++ events (followed_by l.before (Holder l.header f NoMore))) ++ ending_events (end_in w ls (followed_by l.before (Holder l.header f NoMore))) (frames_of w ls) =
+      events-settled w ls (followed_by l.before (Holder l.header f NoMore)) a.0 d.are_whole in
+      let s : (events_of_layers ls ++ events (followed_by l.before (Holder l.header f NoMore))) ++ ending_events (end_in w ls (followed_by l.before (Holder l.header f NoMore))) (frames_of w ls)
       ≡ (events_of_layers ls ++ (events l.before ++ (opening_events l.header ++ (events f ++ closing_event l.header f ∷ [])))) ++ ending_events (end_in w (l ∷ ls) f) (frames_of w ls) =
-      ap (λ (t : List EventValue). (events_of_layers ls ++ t) ++ ending_events (end_in w ls (behind l.before (Holder l.header f NoMore))) (frames_of w ls)) (events-behind l.before (Holder l.header f NoMore) a.1.whole)
+      ap (λ (t : List EventValue). (events_of_layers ls ++ t) ++ ending_events (end_in w ls (followed_by l.before (Holder l.header f NoMore))) (frames_of w ls)) (events-followed_by l.before (Holder l.header f NoMore) a.1.whole)
       ∙ ap (λ (n : ℕ). (events_of_layers ls ++ (events l.before ++ (opening_events l.header ++ (events f ++ closing_event l.header f ∷ [])))) ++ ending_events n (frames_of w ls)) d.same_end in
       rw (e, end-filled w l ls f i.whole ∙ e)
       (r ∙ s ∙ regroup-end (events_of_layers ls) (events l.before) (opening_events l.header) (events f) (ending_events (end_in w (l ∷ ls) f) (frames_of w ls)) _ _ (closes-filled (place_after (place_in w ls) (length (spelling l.before))) l.header f e))
@@ -109,10 +109,10 @@ wrappers-settled w [] f a i = refl
 wrappers-settled w (l ∷ ls) f a i = elim (cases_Bool (is_filled l.header f)) [
   | inl e ↦
       let d : IsEnded w l ls f = filled-ended w l ls f a i e in
-      let r : wrappers (settled ls (behind l.before (Holder l.header f NoMore))) ≡ wrappers_layers ls ++ wrappers (behind l.before (Holder l.header f NoMore)) =
-      wrappers-settled w ls (behind l.before (Holder l.header f NoMore)) a.0 d.are_whole in
+      let r : wrappers (settled ls (followed_by l.before (Holder l.header f NoMore))) ≡ wrappers_layers ls ++ wrappers (followed_by l.before (Holder l.header f NoMore)) =
+      wrappers-settled w ls (followed_by l.before (Holder l.header f NoMore)) a.0 d.are_whole in
       let s : wrappers_layers ls ++ (wrappers l.before ++ (wrapper_at l.header ++ (wrappers f ++ []))) ≡ (wrappers_layers ls ++ (wrappers l.before ++ wrapper_at l.header)) ++ wrappers f =
       rw (append-nil (wrappers f)) (simp append_assoc) in
-      rw e (r ∙ ap (λ (t : List ℕ). wrappers_layers ls ++ t) (wrappers-behind l.before (Holder l.header f NoMore) a.1.whole) ∙ s)
+      rw e (r ∙ ap (λ (t : List ℕ). wrappers_layers ls ++ t) (wrappers-followed_by l.before (Holder l.header f NoMore) a.1.whole) ∙ s)
   | inr e ↦ rw e (wrappers-within w (l ∷ ls) f a)
 ]

@@ -23,65 +23,65 @@ use Rattle.tlv_walk.proofs.GrammarLemmas.Bounds.{within-le}
 use Rattle.tlv_walk.proofs.GrammarLemmas.PushSteps.{Spells}
 use Rattle.tlv_walk.proofs.GrammarLemmas.Readings.{Going, run-reading}
 use Rattle.tlv_walk.proofs.GrammarLemmas.Settled.{end_in, settled-spells}
-use Rattle.tlv_walk.proofs.WalkerLemmas.Zipper.{behind, open-behind, open-within, place-at, reading_in, reading_of, room-if_open, settled, spelling-behind, spelling-within, whole-behind, within}
-use Rattle.tlv_walk.proofs.WalkerLemmas.ZipperEvents.{events-behind, events-settled, events-within, wrappers-behind, wrappers-settled, wrappers-within}
+use Rattle.tlv_walk.proofs.WalkerLemmas.Zipper.{followed_by, open-followed_by, open-within, place-at, reading_in, reading_of, room-if_open, settled, spelling-followed_by, spelling-within, whole-followed_by, within}
+use Rattle.tlv_walk.proofs.WalkerLemmas.ZipperEvents.{events-followed_by, events-settled, events-within, wrappers-followed_by, wrappers-settled, wrappers-within}
 
 -- after the whole elements of the innermost open one
-abbrev pub place_behind : Framing → List Layer → Forest → Place
-place_behind w ls here = place_after (place_in w ls) (length (spelling here))
+abbrev pub later_place : Framing → List Layer → Forest → Place
+later_place w ls here = place_after (place_in w ls) (length (spelling here))
 
 -- the place after whole elements is where they end
-pub behind-end : (w : Framing) (ls : List Layer) (here g : Forest) → is_complete here ≡ true → end_in w ls (behind here g) ≡ (place_behind w ls here).at + length (spelling g)
-behind-end w ls here g e = omega (arith, ap length (spelling-behind here g e), length-append (spelling here) (spelling g))
+pub followed_by-end : (w : Framing) (ls : List Layer) (here g : Forest) → is_complete here ≡ true → end_in w ls (followed_by here g) ≡ (later_place w ls here).at + length (spelling g)
+followed_by-end w ls here g e = omega (arith, ap length (spelling-followed_by here g e), length-append (spelling here) (spelling g))
 
 -- ---- whole elements, and then an open end
 
 -- they are open, with these octets
-open-spells : (w : Framing) (ls : List Layer) (here g : Forest) → AreLayers w ls → AreWhole (place_in w ls) here → IsOpen (place_behind w ls here) g → is_complete g ≡ false
-    → Spells (top_place w) (spelling_of_layers ls ++ (spelling here ++ spelling g)) (within ls (behind here g))
+open-spells : (w : Framing) (ls : List Layer) (here g : Forest) → AreLayers w ls → AreWhole (place_in w ls) here → IsOpen (later_place w ls here) g → is_complete g ≡ false
+    → Spells (top_place w) (spelling_of_layers ls ++ (spelling here ++ spelling g)) (within ls (followed_by here g))
 open-spells w ls here g a i v e = record {
-  is_open = open-within w ls (behind here g) a (open-behind (place_in w ls) here g i v) (room-if_open ls (behind here g) (whole-behind here g i.whole ∙ e));
-  spelled = spelling-within w ls (behind here g) a ∙ ap (λ (t : List ℕ). spelling_of_layers ls ++ t) (spelling-behind here g i.whole);
+  is_open = open-within w ls (followed_by here g) a (open-followed_by (place_in w ls) here g i v) (room-if_open ls (followed_by here g) (whole-followed_by here g i.whole ∙ e));
+  spelled = spelling-within w ls (followed_by here g) a ∙ ap (λ (t : List ℕ). spelling_of_layers ls ++ t) (spelling-followed_by here g i.whole);
 }
 
 -- they have these events
 open-events : (w : Framing) (ls : List Layer) (here g : Forest) → AreLayers w ls → AreWhole (place_in w ls) here
-    → (events_of_layers ls ++ (events here ++ events g)) ++ [] ≡ events (within ls (behind here g))
+    → (events_of_layers ls ++ (events here ++ events g)) ++ [] ≡ events (within ls (followed_by here g))
 open-events w ls here g a i =
-    append-nil _ ∙ sym (events-within w ls (behind here g) a ∙ ap (λ (t : List EventValue). events_of_layers ls ++ t) (events-behind here g i.whole))
+    append-nil _ ∙ sym (events-within w ls (followed_by here g) a ∙ ap (λ (t : List EventValue). events_of_layers ls ++ t) (events-followed_by here g i.whole))
 
 -- and these wrappers
 open-wrappers : (w : Framing) (ls : List Layer) (here g : Forest) → AreLayers w ls → AreWhole (place_in w ls) here
-    → wrappers (within ls (behind here g)) ≡ wrappers_layers ls ++ (wrappers here ++ wrappers g)
-open-wrappers w ls here g a i = wrappers-within w ls (behind here g) a ∙ ap (λ (t : List ℕ). wrappers_layers ls ++ t) (wrappers-behind here g i.whole)
+    → wrappers (within ls (followed_by here g)) ≡ wrappers_layers ls ++ (wrappers here ++ wrappers g)
+open-wrappers w ls here g a i = wrappers-within w ls (followed_by here g) a ∙ ap (λ (t : List ℕ). wrappers_layers ls ++ t) (wrappers-followed_by here g i.whole)
 
 -- ---- whole elements, and then others that are whole
 
 -- all are whole
-more-whole : (w : Framing) (ls : List Layer) (here g : Forest) → AreWhole (place_in w ls) here → AreWhole (place_behind w ls here) g → AreWhole (place_in w ls) (behind here g)
-more-whole w ls here g i j = record { is_open = open-behind (place_in w ls) here g i j.is_open; whole = whole-behind here g i.whole ∙ j.whole }
+more-whole : (w : Framing) (ls : List Layer) (here g : Forest) → AreWhole (place_in w ls) here → AreWhole (later_place w ls here) g → AreWhole (place_in w ls) (followed_by here g)
+more-whole w ls here g i j = record { is_open = open-followed_by (place_in w ls) here g i j.is_open; whole = whole-followed_by here g i.whole ∙ j.whole }
 
 -- they are open, with these octets
-whole-spells : (w : Framing) (ls : List Layer) (here g : Forest) → AreLayers w ls → AreWhole (place_in w ls) here → AreWhole (place_behind w ls here) g
-    → Spells (top_place w) (spelling_of_layers ls ++ (spelling here ++ spelling g)) (settled ls (behind here g))
+whole-spells : (w : Framing) (ls : List Layer) (here g : Forest) → AreLayers w ls → AreWhole (place_in w ls) here → AreWhole (later_place w ls here) g
+    → Spells (top_place w) (spelling_of_layers ls ++ (spelling here ++ spelling g)) (settled ls (followed_by here g))
 whole-spells w ls here g a i j =
-    let r : Spells (top_place w) (spelling_of_layers ls ++ spelling (behind here g)) (settled ls (behind here g)) = settled-spells w ls (behind here g) a (more-whole w ls here g i j) in
-    record { is_open = r.is_open; spelled = r.spelled ∙ ap (λ (t : List ℕ). spelling_of_layers ls ++ t) (spelling-behind here g i.whole) }
+    let r : Spells (top_place w) (spelling_of_layers ls ++ spelling (followed_by here g)) (settled ls (followed_by here g)) = settled-spells w ls (followed_by here g) a (more-whole w ls here g i j) in
+    record { is_open = r.is_open; spelled = r.spelled ∙ ap (λ (t : List ℕ). spelling_of_layers ls ++ t) (spelling-followed_by here g i.whole) }
 
 -- they have these events, and then the ends of the elements that are filled
-whole-events : (w : Framing) (ls : List Layer) (here g : Forest) (at : ℕ) → AreLayers w ls → AreWhole (place_in w ls) here → AreWhole (place_behind w ls here) g
-    → at ≡ (place_behind w ls here).at + length (spelling g)
-    → events (settled ls (behind here g)) ≡ (events_of_layers ls ++ (events here ++ events g)) ++ ending_events at (frames_of w ls)
+whole-events : (w : Framing) (ls : List Layer) (here g : Forest) (at : ℕ) → AreLayers w ls → AreWhole (place_in w ls) here → AreWhole (later_place w ls here) g
+    → at ≡ (later_place w ls here).at + length (spelling g)
+    → events (settled ls (followed_by here g)) ≡ (events_of_layers ls ++ (events here ++ events g)) ++ ending_events at (frames_of w ls)
 whole-events w ls here g at a i j e =
-    events-settled w ls (behind here g) a (more-whole w ls here g i j)
-    ∙ ap (λ (t : List EventValue). (events_of_layers ls ++ t) ++ ending_events (end_in w ls (behind here g)) (frames_of w ls)) (events-behind here g i.whole)
-    ∙ ap (λ (n : ℕ). (events_of_layers ls ++ (events here ++ events g)) ++ ending_events n (frames_of w ls)) (behind-end w ls here g i.whole ∙ sym e)
+    events-settled w ls (followed_by here g) a (more-whole w ls here g i j)
+    ∙ ap (λ (t : List EventValue). (events_of_layers ls ++ t) ++ ending_events (end_in w ls (followed_by here g)) (frames_of w ls)) (events-followed_by here g i.whole)
+    ∙ ap (λ (n : ℕ). (events_of_layers ls ++ (events here ++ events g)) ++ ending_events n (frames_of w ls)) (followed_by-end w ls here g i.whole ∙ sym e)
 
 -- and these wrappers
-whole-wrappers : (w : Framing) (ls : List Layer) (here g : Forest) → AreLayers w ls → AreWhole (place_in w ls) here → AreWhole (place_behind w ls here) g
-    → wrappers (settled ls (behind here g)) ≡ wrappers_layers ls ++ (wrappers here ++ wrappers g)
+whole-wrappers : (w : Framing) (ls : List Layer) (here g : Forest) → AreLayers w ls → AreWhole (place_in w ls) here → AreWhole (later_place w ls here) g
+    → wrappers (settled ls (followed_by here g)) ≡ wrappers_layers ls ++ (wrappers here ++ wrappers g)
 whole-wrappers w ls here g a i j =
-    wrappers-settled w ls (behind here g) a (more-whole w ls here g i j) ∙ ap (λ (t : List ℕ). wrappers_layers ls ++ t) (wrappers-behind here g i.whole)
+    wrappers-settled w ls (followed_by here g) a (more-whole w ls here g i j) ∙ ap (λ (t : List ℕ). wrappers_layers ls ++ t) (wrappers-followed_by here g i.whole)
 
 -- ---- a primitive
 
@@ -127,14 +127,14 @@ phase-tail phase.InEnd InEnd p i = i
 phase-tail f t p i = absurd i
 
 -- what a state has been read as is open, with the state's octets
-reading-spells : (w : Framing) (ls : List Layer) (here : Forest) (t : Tail) → AreLayers w ls → AreWhole (place_in w ls) here → IsTailAt (place_behind w ls here) t
+reading-spells : (w : Framing) (ls : List Layer) (here : Forest) (t : Tail) → AreLayers w ls → AreWhole (place_in w ls) here → IsTailAt (later_place w ls here) t
     → Spells (top_place w) (spelling_of_layers ls ++ (spelling here ++ spelling_of_tail t)) (reading_in ls here t)
 reading-spells w ls here Between a i j =
     let r : Spells (top_place w) (spelling_of_layers ls ++ spelling here) (settled ls here) = settled-spells w ls here a i in
     record { is_open = r.is_open; spelled = r.spelled ∙ ap (λ (t : List ℕ). spelling_of_layers ls ++ t) (sym (append-nil (spelling here))) }
 reading-spells w ls here (InContents h c) a i j = elim (cases_eq j.0 0) [
   | inl z ↦
-      let r : Spells (top_place w) (spelling_of_layers ls ++ (spelling here ++ (octets_of h ++ (c ++ [])))) (settled ls (behind here (Primitive h c NoMore))) =
+      let r : Spells (top_place w) (spelling_of_layers ls ++ (spelling here ++ (octets_of h ++ (c ++ [])))) (settled ls (followed_by here (Primitive h c NoMore))) =
       whole-spells w ls here (Primitive h c NoMore) a i (contents-whole _ h c j.0 j.1 z) in
       rw (contents-all _ h c j.0 j.1 z)
       (record { is_open = r.is_open; spelled = r.spelled ∙ ap (λ (t : List ℕ). spelling_of_layers ls ++ (spelling here ++ (octets_of h ++ t))) (append-nil c) })
@@ -145,7 +145,7 @@ reading-spells w ls here (InHeader octets) a i j = open-spells w ls here (OpenHe
 reading-spells w ls here InEnd a i j = open-spells w ls here OpenEndOctets a i j refl
 
 -- its wrappers are the state's
-reading-wrappers : (w : Framing) (ls : List Layer) (here : Forest) (t : Tail) → AreLayers w ls → AreWhole (place_in w ls) here → IsTailAt (place_behind w ls here) t
+reading-wrappers : (w : Framing) (ls : List Layer) (here : Forest) (t : Tail) → AreLayers w ls → AreWhole (place_in w ls) here → IsTailAt (later_place w ls here) t
     → wrappers (reading_in ls here t) ≡ wrappers_layers ls ++ (wrappers here ++ wrappers_tail t)
 reading-wrappers w ls here Between a i j = wrappers-settled w ls here a i ∙ ap (λ (t : List ℕ). wrappers_layers ls ++ t) (sym (append-nil (wrappers here)))
 reading-wrappers w ls here (InContents h c) a i j = elim (cases_eq j.0 0) [
@@ -162,15 +162,15 @@ contents-end : (around before ends : List EventValue) (h : HeaderValue) (c : Lis
 contents-end around before ends h c = simp append_assoc
 
 -- its events are the state's, and then those waiting
-reading-events : (w : Framing) (ls : List Layer) (here : Forest) (f : Phase) (t : Tail) (at : ℕ) → AreLayers w ls → AreWhole (place_in w ls) here → IsPhaseOf f t (place_behind w ls here)
-    → at ≡ (place_behind w ls here).at + length (spelling_of_tail t)
-    → (events_of_layers ls ++ (events here ++ events_of_tail t)) ++ waiting_events_in f (stack_of w ls (place_behind w ls here) t) at ≡ events (reading_in ls here t)
+reading-events : (w : Framing) (ls : List Layer) (here : Forest) (f : Phase) (t : Tail) (at : ℕ) → AreLayers w ls → AreWhole (place_in w ls) here → IsPhaseOf f t (later_place w ls here)
+    → at ≡ (later_place w ls here).at + length (spelling_of_tail t)
+    → (events_of_layers ls ++ (events here ++ events_of_tail t)) ++ waiting_events_in f (stack_of w ls (later_place w ls here) t) at ≡ events (reading_in ls here t)
 reading-events w ls here phase.Between Between at a i j e =
     let there : at ≡ end_in w ls here = omega arith in
     rw (append-nil (events here), there) (sym (events-settled w ls here a i))
 reading-events w ls here (phase.InContents left) (InContents h c) at a i j e = elim (cases_eq left 0) [
   | inl z ↦
-      let there : at ≡ (place_behind w ls here).at + length (octets_of h ++ (c ++ [])) = e ∙ ap (λ (t : List ℕ). (place_behind w ls here).at + length (octets_of h ++ t)) (sym (append-nil c)) in
+      let there : at ≡ (later_place w ls here).at + length (octets_of h ++ (c ++ [])) = e ∙ ap (λ (t : List ℕ). (later_place w ls here).at + length (octets_of h ++ t)) (sym (append-nil c)) in
       rw (contents-all _ h c left j z, eq-eqb left 0 z)
       (contents-end (events_of_layers ls) (events here) (ending_events at (frames_of w ls)) h c ∙ sym (whole-events w ls here (Primitive h c NoMore) at a i (contents-whole _ h c left j z) there))
   | inr n ↦ rw (contents-less _ h c left j n, ne_eqb left 0 n) (open-events w ls here (OpenPrimitive h c) a i)

@@ -2,7 +2,7 @@ use Rattle.std.proofs.Common.{◌≡◌, ℕ, ◌+◌, ◌-◌, List, ◌∷◌,
 use Rattle.std.proofs.lemmas.Grind.{common_steps}
 use Rattle.tlv_walk.specs.Stack.{IsWithin, bound_of}
 use Rattle.tlv_walk.specs.Private.Steps.{YieldsStep}
-use Rattle.tlv_walk.proofs.WalkerLemmas.AfterFirstZero.{room_more, step_behind}
+use Rattle.tlv_walk.proofs.WalkerLemmas.AfterFirstZero.{room_more, step_after}
 use Rattle.tlv_walk.proofs.WalkerLemmas.Moves.{yields_zero}
 use Rattle.tlv_walk.proofs.walker.Walker.between.Goals.{else-indefinite-via-then-indefinite+else-eq, else-indefinite-via-else-indefinite}
 use Rattle.tlv_walk.proofs.WalkerLemmas.Refusals.{refuses_front, refuses_missing, refuses_stray_front}
@@ -20,7 +20,7 @@ returns-then-indefinite-2-clause-yields c =
     ] in
     let piece : c.args.piece.now.now ≡ 0 ∷ take (length c.args.piece.now.now - 1) (drop 1 c.args.piece.now.now) = grind (arith, common_steps) in
     subst (λ (o : List ℕ). YieldsStep c.args.self.now c.second_zero.new.self o c.second_zero.new.piece.now c.second_zero.result) (sym piece)
-    (step_behind _ _ _ 0 (rw (← c.self.view_is) (yields_zero _ (search rules) (search rules) room)) (search rules) (search rules) _ _ _ refl c.second_zero.ensures.yields)
+    (step_after _ _ _ 0 (rw (← c.self.view_is) (yields_zero _ (search rules) (search rules) room)) (search rules) (search rules) _ _ _ refl c.second_zero.ensures.yields)
 
 pub returns-clause-yields : goal.returns-clause-yields
 returns-clause-yields c =
