@@ -1,3 +1,4 @@
 pub mod FullRows
 pub mod OneCut
+pub mod FilledRows
 pub mod RowSteps

@@ -6,5 +6,4 @@ pub mod ObjectLines
 pub mod Plain
 pub mod Room
 pub mod Rows
-pub mod RowSteps
 pub mod PrimitiveLines

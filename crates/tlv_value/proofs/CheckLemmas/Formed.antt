@@ -10,7 +10,7 @@ use Rattle.tlv_io.specs.Cuts.{last_rows}
 use Rattle.tlv_value.specs.declared.kind.Kind.TheVariants.{Utf8}
 use Rattle.tlv_value.specs.CheckState.{all_utf8}
 use Rattle.tlv_value.specs.Private.Room.{HaveRoom, has_room, utf8_length}
-use Rattle.tlv_value.specs.Private.RowSteps.{row_begun, rows_filled}
+use Rattle.tlv_value.proofs.RowLemmas.FilledRows.{row_begun, rows_filled}
 use Rattle.tlv_value.specs.Rows.{full_rows, open_row, rows_of}
 use Rattle.tlv_value.proofs.TextLemmas.Arcs.{and_right}
 use Rattle.tlv_value.proofs.RowLemmas.OneCut.{cut-parts}

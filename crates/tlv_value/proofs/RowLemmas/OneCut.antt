@@ -13,7 +13,7 @@ use Rattle.tlv_value.specs.Cuts.{character_length, row_size}
 use Rattle.tlv_value.specs.Laws.{RowsHaveOneCut}
 use Rattle.tlv_value.specs.OpenRow.{IsOpenRow}
 use Rattle.tlv_value.specs.Private.Room.{HaveRoom}
-use Rattle.tlv_value.specs.Private.RowSteps.{row_begun, rows_filled}
+use Rattle.tlv_value.proofs.RowLemmas.FilledRows.{row_begun, rows_filled}
 use Rattle.tlv_value.specs.Rows.{cut_of_contents, full_rows, full_rows_in, one_fits, open_row, open_row_in, rows_of}
 use Rattle.tlv_value.proofs.RowLemmas.RowSteps.{IsFilled, begun-open, keep, none-open, open-room, steps-join, turn}
 

@@ -3,7 +3,7 @@ use Rattle.std.specs.Prelude.{◌&&◌}
 use Rattle.tlv_value.specs.declared.kind.Kind.TheVariants.{Utf8}
 use Rattle.tlv_value.specs.CheckState.{all_utf8}
 use Rattle.tlv_value.specs.OpenRow.{IsOpenRow}
-use Rattle.tlv_value.specs.Private.RowSteps.{row_begun, rows_filled}
+use Rattle.tlv_value.proofs.RowLemmas.FilledRows.{row_begun, rows_filled}
 use Rattle.tlv_value.specs.Rows.{full_rows, open_row}
 use Rattle.tlv_value.proofs.check.rows.take_rows.Given as goal
 

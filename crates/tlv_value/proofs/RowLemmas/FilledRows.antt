@@ -1,4 +1,4 @@
--- Rows of contents, octet by octet, as private functions fill them: proofs join them to the rows of the cut.
+-- Rows of contents as they fill, octet by octet, joined elsewhere to the rows of the cut.
 use Rattle.std.specs.Prelude.{List, ℕ}
 use Rattle.tlv_io.proofs.CutOf.{row_begun_by, rows_filled_by}
 use Rattle.tlv_value.specs.declared.kind.Kind.{Kind}
