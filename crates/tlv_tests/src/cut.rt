@@ -1,5 +1,5 @@
 //! The calls of `tlv_cut` by themselves: what they write and return.
-use crate::expect::expect_eq;
+use crate::expect::{expect, expect_eq};
 use std::process::Abort;
 use tlv_cut::{Cut, Extract, Indef, extract, indef};
 use tlv_walk::{DeviceFault, Ending, Follow, Framing, MemDrain, MemSource, drive};
@@ -24,8 +24,15 @@ fn writes<F: Follow>(follower: &mut F, written: &[u8]) -> bool {
 #[test]
 fn followers_write_by_themselves(rt: HostRuntime) {
     let mut follower = Extract::new(2, true);
-    assert!(rt; !follower.found() && writes(&mut follower, b"\x05") && follower.found());
-    assert!(rt; writes(&mut Indef::new(), INDEFINITE));
+    expect(&rt, !follower.found(), "nothing is found at first");
+    expect(
+        &rt,
+        writes(&mut follower, b"\x05"),
+        "the contents are written",
+    );
+    expect(&rt, follower.found(), "the element is found");
+    let is_written = writes(&mut Indef::new(), INDEFINITE);
+    expect(&rt, is_written, "the indefinite form is written");
 }
 
 /// Expects the extract of the element at the offset to write these octets and return this.
@@ -44,19 +51,20 @@ fn expect_extract(
     expect_eq(rt, cut, wanted);
 }
 
+/// Expects the extract of the element at the offset to write these octets, and to find the element or not.
+fn expect_element(rt: &impl Abort, offset: u64, found: bool, written: &[u8]) {
+    let wanted = Cut {
+        ending: Ending::Done,
+        found,
+    };
+    expect_extract(rt, offset, None, written, Ok(wanted));
+}
+
 #[test]
 fn elements_are_extracted(rt: HostRuntime) {
-    for (offset, found, written) in [
-        (0, true, INPUT),
-        (2, true, b"\x02\x01\x05"),
-        (3, false, b""),
-    ] {
-        let wanted = Cut {
-            ending: Ending::Done,
-            found,
-        };
-        expect_extract(&rt, offset, None, written, Ok(wanted));
-    }
+    expect_element(&rt, 0, true, INPUT);
+    expect_element(&rt, 2, true, b"\x02\x01\x05");
+    expect_element(&rt, 3, false, b"");
     expect_extract(&rt, 2, Some(1), b"\x02\x01", Err(DeviceFault::ReadFailed));
 }
 

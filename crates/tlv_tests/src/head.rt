@@ -6,13 +6,19 @@ mod texts;
 ghost use Rattle.std.specs.Prelude.{◌≤◌};
 
 use self::octets::{OFFSET, Place, REFUSALS, Refusal, SHAPES, Shape, TOP};
+use crate::expect::{expect, expect_eq, expect_eq_of, expect_of};
 use std::process::Abort;
 use tlv_head::{Class, Fault, FaultCode, Head, HeadReader, Header, Size, read_header, read_short};
 
 /// The header with which the octets begin, and its octets.
-fn front_header(octets: &[u8]) -> Option<Header> {
-    let (fields, count) = read_header(OFFSET, false, octets)?;
+fn header_of(named: bool, octets: &[u8]) -> Option<Header> {
+    let (fields, count) = read_header(OFFSET, named, octets)?;
     Some(Header::new(&fields, &octets[..count]))
+}
+
+/// The same of an offset that is not named.
+fn front_header(octets: &[u8]) -> Option<Header> {
+    header_of(false, octets)
 }
 
 /// What the octets of a header, or a front of one, come to: the first result that is not More.
@@ -73,7 +79,12 @@ fn expect_shape(rt: &impl Abort, found: &Option<Header>, shape: &Shape<'_>) {
         Some(header) => is_of_shape(header, shape),
         None => false,
     };
-    assert!(rt; is_read, "{:?}", shape.octets);
+    expect_of(
+        rt,
+        shape.octets,
+        is_read,
+        "they are read as the header that they are",
+    );
 }
 
 /// Octet by octet, and all at once; with room for the contents, and without a bound.
@@ -114,7 +125,15 @@ fn is_read_if_short(shape: &Shape<'_>) -> bool {
 
 /// Expects no header to be read at once.
 fn expect_no_short(rt: &impl Abort, octets: &[u8]) {
-    assert!(rt; read_short(OFFSET, false, octets).is_none(), "{octets:?}");
+    let is_none = read_short(OFFSET, false, octets).is_none();
+    expect_of(rt, octets, is_none, "no header is read at once");
+}
+
+/// The same of each front of these octets.
+fn expect_no_short_fronts(rt: &impl Abort, octets: &[u8]) {
+    for i in 0..octets.len() {
+        expect_no_short(rt, &octets[..i]);
+    }
 }
 
 /// A header of at most three identifier and three length octets is read at once, no longer one is, no front of one, and
@@ -122,14 +141,18 @@ fn expect_no_short(rt: &impl Abort, octets: &[u8]) {
 #[test]
 fn short_headers_are_read_at_once(rt: HostRuntime) {
     for shape in &SHAPES {
-        assert!(rt; is_read_if_short(shape), "{:?}", shape.octets);
-        for i in 0..shape.octets.len() {
-            expect_no_short(&rt, &shape.octets[..i]);
-        }
+        let is_right = is_read_if_short(shape);
+        expect_of(
+            &rt,
+            shape.octets,
+            is_right,
+            "they are read at once if they are short",
+        );
+        expect_no_short_fronts(&rt, shape.octets);
     }
     // Four identifier octets, and four length octets.
     for octets in [b"\x1f\x81\x80\x01\x00".as_slice(), b"\x04\x83\x00\x00\x01"] {
-        assert!(rt; front_header(octets).is_some());
+        expect(&rt, front_header(octets).is_some(), "a header is read");
         expect_no_short(&rt, octets);
     }
     for refusal in &REFUSALS {
@@ -140,15 +163,25 @@ fn short_headers_are_read_at_once(rt: HostRuntime) {
     expect_no_short(&rt, b"\x00\x00");
 }
 
-/// An octet before the last is taken, and makes no header.
+/// Expects an octet before the last to be taken, and to make no header.
+fn expect_unfinished_fronts(rt: &impl Abort, octets: &[u8]) {
+    for count in 0..octets.len() {
+        let front = &octets[..count];
+        let unfinished = matches!(read(front, TOP), Head::More);
+        expect_of(rt, front, unfinished, "each octet is taken");
+        expect_of(
+            rt,
+            front,
+            front_header(front).is_none(),
+            "they are no header",
+        );
+    }
+}
+
 #[test]
 fn fronts_are_unfinished(rt: HostRuntime) {
     for shape in &SHAPES {
-        for count in 0..shape.octets.len() {
-            let front = &shape.octets[..count];
-            let unfinished = matches!(read(front, TOP), Head::More);
-            assert!(rt; unfinished && front_header(front).is_none(), "{:?}", front);
-        }
+        expect_unfinished_fronts(&rt, shape.octets);
     }
 }
 
@@ -167,7 +200,21 @@ fn is_refused(refusal: &Refusal) -> bool {
 #[test]
 fn octets_are_refused(rt: HostRuntime) {
     for refusal in &REFUSALS {
-        assert!(rt; is_refused(refusal), "{:?}", refusal.octets);
+        let is_right = is_refused(refusal);
+        expect_of(
+            &rt,
+            refusal.octets,
+            is_right,
+            "the last octet is refused for its code",
+        );
+    }
+}
+
+/// Whether the octets begin with a header that has these octets.
+fn has_octets(octets: &[u8], raw: &[u8]) -> bool {
+    match front_header(octets) {
+        Some(header) => header.raw() == raw,
+        None => false,
     }
 }
 
@@ -176,14 +223,16 @@ fn octets_are_refused(rt: HostRuntime) {
 fn headers_begin_octets(rt: HostRuntime) {
     for refusal in &REFUSALS {
         let found = front_header(refusal.octets).is_some();
-        assert!(rt; found == refusal.is_header, "{:?}", refusal.octets);
+        expect_eq_of(&rt, refusal.octets, found, refusal.is_header);
     }
-    assert!(rt; front_header(b"\x00\x00").is_none());
-    let is_front = match front_header(b"\x04\x81\x03\xaa\xbb\xcc\x05") {
-        Some(header) => header.raw() == b"\x04\x81\x03".as_slice(),
-        None => false,
-    };
-    assert!(rt; is_front);
+    let is_none = front_header(b"\x00\x00").is_none();
+    expect(&rt, is_none, "end-of-contents octets are no header");
+    let is_front = has_octets(b"\x04\x81\x03\xaa\xbb\xcc\x05", b"\x04\x81\x03");
+    expect(
+        &rt,
+        is_front,
+        "the header has the octets up to its contents",
+    );
 }
 
 /// The longest header has ten identifier octets and 127 length octets.
@@ -206,19 +255,25 @@ fn the_longest_header_is_read(rt: HostRuntime) {
     expect_shape(&rt, &front_header(&octets), &shape);
 }
 
+/// A primitive's header with 126 length octets, of which the one with this index is 01 and the others are 00.
+fn long_length(index: u8) -> [u8; 128] {
+    let mut octets = [0; 128];
+    octets[..2].copy_from_slice(b"\x04\xfe");
+    if let Some(octet) = octets.get_mut(usize::from(index)) {
+        *octet = 1;
+    }
+    octets
+}
+
 /// Of 126 length octets the sixth from the last may not be other than 00.
 #[test]
 fn a_long_length_is_refused_early(rt: HostRuntime) {
-    let mut octets = [0; 128];
-    octets[..2].copy_from_slice(b"\x04\xfe");
-    octets[122] = 1;
     let fault = Fault {
         code: FaultCode::LengthTooLarge,
         offset: 222,
     };
-    assert!(rt; refused(&octets, TOP) == Some(fault));
-    octets[122] = 0;
-    octets[123] = 1;
+    expect_eq(&rt, refused(&long_length(122), TOP), Some(fault));
+    let octets = long_length(123);
     let shape = Shape {
         octets: &octets,
         class: Class::Universal,
@@ -230,24 +285,37 @@ fn a_long_length_is_refused_early(rt: HostRuntime) {
     expect_shape(&rt, &whole(&octets, TOP), &shape);
 }
 
-/// A refused octet is not taken, and another may come in its place.
-#[test]
-fn a_refusal_leaves_the_reader(rt: HostRuntime) {
+/// A refused octet is not taken, and another may come in its place. `None` if one of these is not refused, or another is.
+fn refusals_and_header() -> Option<(Fault, Fault, Header)> {
     let mut reader = HeadReader::new(OFFSET, false);
-    assert!(rt; !reader.done() && matches!(reader.push(0x04, None, 0), Head::More));
+    if reader.done() || !matches!(reader.push(0x04, None, 0), Head::More) {
+        return None;
+    }
     let Head::Refused(indefinite) = reader.push(0x80, None, 0) else {
-        panic!(rt; "not refused");
+        return None;
     };
     let Head::Refused(reserved) = reader.push(0xff, None, 0) else {
-        panic!(rt; "not refused");
+        return None;
     };
-    let is_left = !reader.done()
-        && indefinite.code == FaultCode::IndefinitePrimitive
-        && reserved.code == FaultCode::ReservedLength
-        && [indefinite.offset, reserved.offset] == [101, 101];
-    assert!(rt; is_left);
+    if reader.done() {
+        return None;
+    }
     let Head::Whole(header) = reader.push(0x00, None, 0) else {
-        panic!(rt; "no header");
+        return None;
     };
-    assert!(rt; reader.done() && header.raw() == b"\x04\x00".as_slice());
+    if !reader.done() {
+        return None;
+    }
+    Some((indefinite, reserved, header))
+}
+
+#[test]
+fn a_refusal_leaves_the_reader(rt: HostRuntime) {
+    let Some((indefinite, reserved, header)) = refusals_and_header() else {
+        panic!(rt; "two octets are refused, and the others taken");
+    };
+    expect_eq(&rt, indefinite.code, FaultCode::IndefinitePrimitive);
+    expect_eq(&rt, reserved.code, FaultCode::ReservedLength);
+    expect_eq(&rt, [indefinite.offset, reserved.offset], [101, 101]);
+    expect_eq(&rt, header.raw(), b"\x04\x00".as_slice());
 }

@@ -4,12 +4,12 @@ ghost use Rattle.tlv_walk.specs.Stands.{CanTake};
 
 use crate::expect::expect_eq;
 use std::process::Abort;
-use tlv_walk::{Follow, MemDrain, MemSource, Turn, Walker, turn};
+use tlv_walk::{DeviceFault, Follow, MemDrain, MemSource, Turn, Walker, turn};
 
 /// As many octets as the inputs of these tests have.
 pub(crate) const LENGTH: u64 = 11;
 
-/// Follows one read, after which more is to be read.
+/// Follows one read, after which more is to be read, and these octets are written.
 pub(crate) fn expect_again<F: Follow>(
     rt: &impl Abort,
     walker: &mut Walker,
@@ -18,6 +18,7 @@ pub(crate) fn expect_again<F: Follow>(
     drain: &mut MemDrain<'_>,
     piece: &mut [u8],
     limit: u64,
+    written: &[u8],
 )
     requires piece { (0 < length piece.old) × (length piece.old ≤ 4096) }
     requires limit { limit ≤ 2 ^ 40 }
@@ -29,6 +30,31 @@ pub(crate) fn expect_again<F: Follow>(
     let Ok(Turn::Again) = turn(walker, follower, source, drain, piece, limit) else {
         panic!(rt; "more is to be read");
     };
+    expect_written(rt, drain, written);
+}
+
+/// Makes a read that fails, after which these octets are still what is written.
+pub(crate) fn expect_failure<F: Follow>(
+    rt: &impl Abort,
+    walker: &mut Walker,
+    follower: &mut F,
+    source: &mut MemSource<'_>,
+    drain: &mut MemDrain<'_>,
+    piece: &mut [u8],
+    limit: u64,
+    written: &[u8],
+)
+    requires piece { (0 < length piece.old) × (length piece.old ≤ 4096) }
+    requires limit { limit ≤ 2 ^ 40 }
+    requires taken { walker.old.offset ≤ limit }
+    requires ready { CanTake walker.old }
+    ensures taken { walker.new.offset ≤ limit }
+    ensures ready { CanTake walker.new }
+{
+    let Err(DeviceFault::ReadFailed) = turn(walker, follower, source, drain, piece, limit) else {
+        panic!(rt; "the read fails");
+    };
+    expect_written(rt, drain, written);
 }
 
 /// Expects the drain to have taken these octets.

@@ -1,14 +1,27 @@
 //! Runs that are handed no memory.
 use crate::expect::expect_eq_of;
+use std::process::Abort;
 use tlv_run::{Command, run};
 use tlv_show::{Options, Rules};
 use tlv_value::Names;
 use tlv_walk::{Framing, MemDrain, MemSource};
 
+/// A SEQUENCE that holds an INTEGER.
+const INPUT: &[u8] = b"\x30\x03\x02\x01\x05";
+
+/// Runs the command over the input, and expects these octets to be written and this status.
+fn expect_run(rt: &impl Abort, command: &Command, written: &[u8], status: u8) {
+    let mut room = [0; 128];
+    let mut source = MemSource::new(INPUT, &[], None);
+    let mut drain = MemDrain::new(&mut room, 4096);
+    let report = run(command, &Names::empty(), &mut source, &mut drain);
+    expect_eq_of(rt, "written", drain.written(), written);
+    expect_eq_of(rt, "status", report.status, status);
+}
+
 /// No request for memory is made here but what a run would make: `rt try --test --fail-alloc 1` refuses the first.
 #[test]
 fn runs_take_no_memory(rt: HostRuntime) {
-    let input = b"\x30\x03\x02\x01\x05";
     let dump = Command::Dump {
         options: Options {
             rules: Rules::Ber,
@@ -43,11 +56,6 @@ fn runs_take_no_memory(rt: HostRuntime) {
         (extract, b"\x02\x01\x05", 0),
         (indef, b"\x30\x80\x02\x01\x05\x00\x00", 0),
     ] {
-        let mut room = [0; 128];
-        let mut source = MemSource::new(input, &[], None);
-        let mut drain = MemDrain::new(&mut room, 4096);
-        let report = run(&command, &Names::empty(), &mut source, &mut drain);
-        expect_eq_of(&rt, "written", drain.written(), written);
-        expect_eq_of(&rt, "status", report.status, status);
+        expect_run(&rt, &command, written, status);
     }
 }

@@ -186,8 +186,8 @@ fn expect_turns(rt: &impl Abort, first: u64) {
         &mut drain,
         &mut piece,
         LENGTH,
+        lines_with(first),
     );
-    expect_written(rt, &drain, lines_with(first));
     expect_again(
         rt,
         &mut walker,
@@ -196,8 +196,8 @@ fn expect_turns(rt: &impl Abort, first: u64) {
         &mut drain,
         &mut piece,
         LENGTH,
+        lines_with(11),
     );
-    expect_written(rt, &drain, lines_with(11));
 }
 
 /// The same in each cut into two pieces.

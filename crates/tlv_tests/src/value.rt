@@ -18,6 +18,7 @@ mod unused;
 
 ghost use Rattle.std.specs.Prelude.{◌≡◌, ◌+◌, ◌≤◌, None, Some, bytes_eq, codes, if◌then◌else◌, length};
 
+use crate::expect::expect_of;
 use std::process::Abort;
 use tlv_head::{Header, Size, read_header};
 use tlv_value::{Layout, NameTable, ValueText};
@@ -167,7 +168,13 @@ fn expect_lines_named<N: NameTable>(
     let mut room = [0; 1024];
     for cut in 0..element.len() {
         let count = show(element, 0, layout, names, cut_at(cut), &mut room);
-        assert!(rt; are_shown(&room, count, lines), "cut at {cut}: {:?}", lines);
+        let is_right = are_shown(&room, count, lines);
+        expect_of(
+            rt,
+            (cut, lines),
+            is_right,
+            "they are shown if it is cut there",
+        );
     }
     let octets = Pieces {
         first: 0,
@@ -175,5 +182,10 @@ fn expect_lines_named<N: NameTable>(
         most: 7,
     };
     let count = show(element, 0, layout, names, octets, &mut room);
-    assert!(rt; are_shown(&room, count, lines), "by octets: {:?}", lines);
+    expect_of(
+        rt,
+        lines,
+        are_shown(&room, count, lines),
+        "they are shown octet by octet",
+    );
 }

@@ -18,6 +18,7 @@ mod turns;
 use self::fault_rows::{ENDED, REFUSED};
 use self::lines::Lines;
 use self::rows::{ENCODINGS, Row, WRAPPED};
+use crate::expect::{expect, expect_eq_of};
 use std::alloc::Global;
 use std::process::Abort;
 use std::test::Fail;
@@ -110,8 +111,8 @@ fn expect_walk(
         reads.limit.min(INPUT_LIMIT),
         &framing_of(rt, row),
     );
-    let is_outcome = drain.written() == outcome.written && result == outcome.result;
-    assert!(rt; is_outcome, "{}: {:?}", row.name, result);
+    expect_eq_of(rt, row.name, result, outcome.result);
+    expect_eq_of(rt, row.name, drain.written(), outcome.written);
 }
 
 /// Expects the row's own outcome.

@@ -1,10 +1,15 @@
 //! What a whole header says, and what is made of it.
 use super::octets::{OFFSET, SHAPES, Shape};
-use super::{front_header, is_of_shape};
-use crate::expect::expect_eq;
-use tlv_head::{Header, HeaderFields, Size, read_header, spell_indefinite};
+use super::{front_header, header_of, is_of_shape};
+use crate::expect::{expect_eq, expect_eq_of, expect_of};
+use tlv_head::{Header, HeaderFields, Size, spell_indefinite};
 
-/// The octets after the first of the identifier and of the length.
+/// The octets after the first of the identifier and of the length, if the octets begin with a header.
+fn second_octets(octets: &[u8]) -> Option<(u8, u8)> {
+    let header = front_header(octets)?;
+    Some((header.number_octet(), header.length_octet()))
+}
+
 #[test]
 fn headers_give_their_second_octets(rt: HostRuntime) {
     for (octets, number, length) in [
@@ -12,12 +17,7 @@ fn headers_give_their_second_octets(rt: HostRuntime) {
         (b"\x04\x82\x03\xe8".as_slice(), 0, 3),
         (b"\x1f\x85\x06\x81\x80".as_slice(), 0x85, 0x80),
     ] {
-        let Some((fields, count)) = read_header(OFFSET, false, octets) else {
-            panic!(rt; "{octets:?} begins with no header");
-        };
-        let header = Header::new(&fields, &octets[..count]);
-        let seconds = (header.number_octet(), header.length_octet());
-        assert!(rt; seconds == (number, length), "{seconds:?} of {octets:?}");
+        expect_eq_of(&rt, octets, second_octets(octets), Some((number, length)));
     }
 }
 
@@ -32,18 +32,35 @@ fn are_of_shape(fields: &HeaderFields, shape: &Shape<'_>) -> bool {
         && fields.id_len == shape.id_len
 }
 
+/// Whether the header says what the shape says, and gives its identifier and its fields.
+fn gives_shape(header: &Header, shape: &Shape<'_>) -> bool {
+    is_of_shape(header, shape)
+        && shape.octets.get(..usize::from(shape.id_len)) == Some(header.identifier())
+        && are_of_shape(&header.fields(), shape)
+}
+
+/// Whether the octets of the shape begin with a header, if the offset is named, that gives what the shape says.
+fn makes_header(shape: &Shape<'_>) -> bool {
+    match header_of(true, shape.octets) {
+        Some(header) => gives_shape(&header, shape),
+        None => false,
+    }
+}
+
 /// A header is made of fields and octets, and gives the fields again.
 #[test]
 fn fields_make_headers(rt: HostRuntime) {
     for shape in &SHAPES {
-        let Some((fields, count)) = read_header(OFFSET, true, shape.octets) else {
-            panic!(rt; "{:?} begins with no header", shape.octets);
-        };
-        let header = Header::new(&fields, &shape.octets[..count]);
-        let is_made = is_of_shape(&header, shape)
-            && shape.octets.get(..usize::from(shape.id_len)) == Some(header.identifier())
-            && are_of_shape(&header.fields(), shape);
-        assert!(rt; is_made, "{:?} of {:?}", header, shape.octets);
+        let is_made = makes_header(shape);
+        expect_of(&rt, shape.octets, is_made, "the header is of its fields");
+    }
+}
+
+/// Whether the octets begin with a header of a constructed element, which becomes this one of indefinite length.
+fn becomes(octets: &[u8], want: &[u8]) -> bool {
+    match front_header(octets) {
+        Some(header) if header.constructed => spell_indefinite(&header).as_slice() == want,
+        _ => false,
     }
 }
 
@@ -58,21 +75,20 @@ fn lengths_become_indefinite(rt: HostRuntime) {
             b"\xff\xff\xff\xff\xff\xff\xff\xff\xff\x7f\x80",
         ),
     ] {
-        let Some(header) = front_header(octets) else {
-            panic!(rt; "{:?} begins with no header", octets);
-        };
-        assert!(rt; header.constructed);
-        assert!(rt;
-            spell_indefinite(&header).as_slice() == want,
-            "of {octets:?}"
-        );
+        let is_right = becomes(octets, want);
+        expect_of(&rt, octets, is_right, "the length becomes indefinite");
     }
+}
+
+/// Whether the header with which the octets begin wraps, if there is one and its offset is named, or is not.
+fn wraps(named: bool, octets: &[u8]) -> Option<bool> {
+    Some(header_of(named, octets)?.wraps())
 }
 
 /// Named primitives of universal 4, and of universal 3 with contents.
 #[test]
 fn strings_wrap(rt: HostRuntime) {
-    for (octets, wraps) in [
+    for (octets, want) in [
         (b"\x04\x00".as_slice(), true),
         (b"\x04\x05", true),
         (b"\x1f\x04\x02", true),
@@ -86,14 +102,8 @@ fn strings_wrap(rt: HostRuntime) {
         (b"\x0c\x05", false),
         (b"\x30\x05", false),
     ] {
-        let Some((named, _)) = read_header(OFFSET, true, octets) else {
-            panic!(rt; "{:?} begins with no header", octets);
-        };
-        let unnamed_wraps = match front_header(octets) {
-            Some(unnamed) => unnamed.wraps(),
-            None => true,
-        };
-        assert!(rt; named.wraps() == wraps && !unnamed_wraps, "{:?}", octets);
+        expect_eq_of(&rt, octets, wraps(true, octets), Some(want));
+        expect_eq_of(&rt, octets, wraps(false, octets), Some(false));
     }
 }
 

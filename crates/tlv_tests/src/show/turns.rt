@@ -49,8 +49,8 @@ fn expect_reads(rt: &impl Abort, limit: u64)
         &mut drain,
         &mut piece,
         limit,
+        &text[..33],
     );
-    expect_written(rt, &drain, &text[..33]);
     expect_again(
         rt,
         &mut walker,
@@ -59,8 +59,8 @@ fn expect_reads(rt: &impl Abort, limit: u64)
         &mut drain,
         &mut piece,
         limit,
+        &text[..74],
     );
-    expect_written(rt, &drain, &text[..74]);
     expect_again(
         rt,
         &mut walker,
@@ -69,8 +69,8 @@ fn expect_reads(rt: &impl Abort, limit: u64)
         &mut drain,
         &mut piece,
         limit,
+        text,
     );
-    expect_written(rt, &drain, text);
     let end = turn(
         &mut walker,
         &mut dump,

@@ -1,6 +1,6 @@
 //! What is found on contents, whatever pieces they come in.
 use super::found_rows::{BITS, Found, NUMBERS, OBJECTS, STRINGS, TIMES};
-use crate::expect::expect_eq;
+use crate::expect::{expect_eq, expect_of};
 use arrayvec::ArrayVec;
 use std::process::Abort;
 use tlv_head::{Header, Size, read_header};
@@ -60,19 +60,16 @@ fn are_found(found: Option<ArrayVec<Finding, 16>>, findings: &[Finding]) -> bool
 fn expect_findings(rt: &impl Abort, rows: &[Found<'_>]) {
     for row in rows {
         for cut in 0..row.element.len() {
-            let found = check(row.element, cut);
-            assert!(rt;
-                are_found(found, row.findings),
-                "cut at {cut}: {:?}",
-                row.element
+            let is_right = are_found(check(row.element, cut), row.findings);
+            expect_of(
+                rt,
+                (cut, row.element),
+                is_right,
+                "it is found if it is cut there",
             );
         }
-        let found = check_octets(row.element);
-        assert!(rt;
-            are_found(found, row.findings),
-            "by octets: {:?}",
-            row.element
-        );
+        let is_right = are_found(check_octets(row.element), row.findings);
+        expect_of(rt, row.element, is_right, "it is found octet by octet");
     }
 }
 
@@ -86,10 +83,8 @@ fn contents_are_checked(rt: HostRuntime) {
 /// The texts of a finding.
 #[test]
 fn wordings(rt: HostRuntime) {
-    assert!(rt;
-        Finding::B08.code() == b"B08".as_slice()
-            && Finding::B08.text() == b"integer is padded".as_slice()
-    );
+    expect_eq(&rt, Finding::B08.code(), b"B08".as_slice());
+    expect_eq(&rt, Finding::B08.text(), b"integer is padded".as_slice());
 }
 
 /// The words of a finding, with spaces after them.

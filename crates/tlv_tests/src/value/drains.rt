@@ -1,5 +1,6 @@
 //! Drains without room.
 use super::{OneName, PLAIN};
+use crate::expect::{expect, expect_eq, expect_of};
 use tlv_head::{Header, Size, read_header};
 use tlv_value::ValueText;
 use tlv_walk::{MemDrain, Out};
@@ -62,6 +63,21 @@ const LINES: &[u8] = b"       0     17: INTEGER
                    00
 ";
 
+/// The call at which a write failed, if one did, of so many letters and the lines, and whether the drain has then as much
+/// of them as there is room for.
+fn failing_call_in(room: &mut [u8], letters: usize) -> (Option<Call>, bool) {
+    let size = room.len();
+    let mut drain = MemDrain::new(room, 100);
+    let at = failing_call(INTEGER, letters, &mut drain);
+    let written = drain.written();
+    let all = letters.saturating_add(LINES.len());
+    let is_right = match at {
+        None => written.len() == all,
+        Some(_) => written.len() == size && size < all,
+    };
+    (at, is_right && is_front(written, letters, LINES))
+}
+
 /// An `Out` holds 4096 octets, and hands them to the drain before a line if room for fewer than 1024
 /// is left. So it depends on how many were put before, which call fails. Whichever it is, the drain
 /// has then as much of what was put as it has room for. A full row needs less room than the line before
@@ -73,21 +89,40 @@ fn drains_without_room(rt: HostRuntime) {
     for i in 0..140 {
         let letters = if i < 130 { 2960 + i } else { 3960 + i };
         for size in [0, 1, 2959, 3010, 3060, 3072, 3110, 4095, 4150, 4300] {
-            let mut drain = MemDrain::new(&mut room[..size], 100);
-            let at = failing_call(INTEGER, letters, &mut drain);
-            let written = drain.written();
-            let all = letters + LINES.len();
-            let is_right = match at {
-                None => written.len() == all,
-                Some(call) => {
-                    seen[call as usize] = true;
-                    written.len() == size && size < all
-                }
-            };
-            assert!(rt; is_right && is_front(written, letters, LINES));
+            let (at, is_right) = failing_call_in(&mut room[..size], letters);
+            expect_of(
+                &rt,
+                (letters, size),
+                is_right,
+                "the drain has what it has room for",
+            );
+            if let Some(call) = at {
+                seen[call as usize] = true;
+            }
         }
     }
-    assert!(rt; seen == [true, true, false, true, true]);
+    expect_eq(&rt, seen, [true, true, false, true, true]);
+}
+
+/// Whether the octets of the element fail to be written into so little room where they should, and what there is room for
+/// is written.
+fn fails_in(room: &mut [u8], element: &[u8], whole: &[u8]) -> bool {
+    let size = room.len();
+    let mut drain = MemDrain::new(room, 4096);
+    let is_right = match failing_call(element, 0, &mut drain) {
+        Some(Call::Bytes) => size < 8070,
+        Some(Call::Flush) => size >= 8070,
+        _ => false,
+    };
+    let written = drain.written();
+    is_right && written.len() == size && whole.starts_with(written)
+}
+
+/// Whether the element is written into the room, and fills it.
+fn fills(room: &mut [u8], element: &[u8]) -> bool {
+    let size = room.len();
+    let mut drain = MemDrain::new(room, 4096);
+    failing_call(element, 0, &mut drain).is_none() && drain.written().len() == size
 }
 
 /// The rows of one piece may be more than an `Out` holds. It hands them to the drain with the contents when it has
@@ -101,17 +136,15 @@ fn rows_without_room(rt: HostRuntime) {
     element[3] = 0xd0;
     // The line has 30 octets, and 125 rows have 67 each.
     let mut room = [0; 8405];
-    let mut whole = MemDrain::new(&mut room, 4096);
-    assert!(rt; failing_call(&element, 0, &mut whole).is_none() && whole.written().len() == 8405);
+    expect(&rt, fills(&mut room, &element), "the lines fill the room");
     let mut short = [0; 8405];
     for i in 0..124 {
-        let mut drain = MemDrain::new(&mut short[..68 * i], 4096);
-        let is_right = match failing_call(&element, 0, &mut drain) {
-            Some(Call::Bytes) => 68 * i < 8070,
-            Some(Call::Flush) => 68 * i >= 8070,
-            _ => false,
-        };
-        let written = drain.written();
-        assert!(rt; is_right && written.len() == 68 * i && whole.written().starts_with(written));
+        let is_right = fails_in(&mut short[..68 * i], &element, &room);
+        expect_of(
+            &rt,
+            68 * i,
+            is_right,
+            "so many octets are written before a write fails",
+        );
     }
 }

@@ -1,4 +1,5 @@
 //! Decimal numbers, dotted texts and times.
+use crate::expect::{expect_eq_of, expect_of};
 use arrayvec::ArrayVec;
 use tlv_value::{decimal_of, dotted_of, general_canonical, general_ok, utc_canonical, utc_ok};
 
@@ -17,8 +18,14 @@ fn decimals(rt: HostRuntime) {
         (&least, Some(i128::MIN)),
         (&[0; 17], None),
     ] {
-        assert!(rt; decimal_of(contents) == want, "{:?}", contents);
+        expect_eq_of(&rt, contents, decimal_of(contents), want);
     }
+}
+
+/// Whether the dotted text of these contents is the one that is wanted, or there is none if that is empty.
+fn is_dotted(contents: &[u8], relative: bool, text: &mut ArrayVec<u8, 320>, want: &str) -> bool {
+    let is_there = dotted_of(contents, relative, text);
+    text.as_slice() == want.as_bytes() && is_there != want.is_empty()
 }
 
 /// Where there is no text, none is left of what was there before.
@@ -47,10 +54,24 @@ fn dotted_texts(rt: HostRuntime) {
         (&too_large, true, ""),
         (&[0x01; 65], true, ""),
     ] {
-        let is_there = dotted_of(contents, relative, &mut text);
-        let is_right = text.as_slice() == want.as_bytes() && is_there != want.is_empty();
-        assert!(rt; is_right, "{:?}", contents);
+        let is_right = is_dotted(contents, relative, &mut text, want);
+        expect_of(
+            &rt,
+            contents,
+            is_right,
+            "their text is the one that is wanted",
+        );
     }
+}
+
+/// Whether a UTCTime is one of the grammar, and whether it is canonical.
+fn utc(octets: &[u8]) -> (bool, bool) {
+    (utc_ok(octets), utc_canonical(octets))
+}
+
+/// The same of a GeneralizedTime.
+fn general(octets: &[u8]) -> (bool, bool) {
+    (general_ok(octets), general_canonical(octets))
 }
 
 #[test]
@@ -61,9 +82,7 @@ fn times(rt: HostRuntime) {
         ("910506244540Z", true, false),
         ("9113062345Z", false, false),
     ] {
-        let octets = time.as_bytes();
-        let is_right = utc_ok(octets) == of_grammar && utc_canonical(octets) == is_canonical;
-        assert!(rt; is_right, "{time}");
+        expect_eq_of(&rt, time, utc(time.as_bytes()), (of_grammar, is_canonical));
     }
     for (time, of_grammar, is_canonical) in [
         ("1992072213", true, false),
@@ -74,9 +93,11 @@ fn times(rt: HostRuntime) {
         ("19920722132100.50Z", true, false),
         ("19920721240000Z", true, false),
     ] {
-        let octets = time.as_bytes();
-        let is_right = general_ok(octets) == of_grammar
-            && general_canonical(octets) == is_canonical;
-        assert!(rt; is_right, "{time}");
+        expect_eq_of(
+            &rt,
+            time,
+            general(time.as_bytes()),
+            (of_grammar, is_canonical),
+        );
     }
 }

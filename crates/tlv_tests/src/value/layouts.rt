@@ -2,17 +2,24 @@
 use super::number_rows::LARGE_NUMBERS;
 use super::object_rows::LARGE_ARCS;
 use super::{OneName, PLAIN, are_shown, cut_at, expect_lines, expect_lines_named, show};
+use crate::expect::expect_of;
+use std::alloc::Global;
 use tlv_value::{Layout, Names};
 use tlv_walk::MemSource;
 
 /// What stands for the rows that are left out.
 const DOTS: &str = "                   ...";
 
+/// The table of a file with one name.
+fn one_name(alloc: Global) -> Option<Names> {
+    let mut source = MemSource::new(b"1.2.840 us\n", &[], None);
+    Names::read(alloc, &mut source).ok()
+}
+
 /// An object identifier has its name after it. A relative one has none, though its dotted text may be a name's.
 #[test]
 fn names_of_a_file_are_shown(rt: HostRuntime) {
-    let mut source = MemSource::new(b"1.2.840 us\n", &[], None);
-    let Ok(names) = Names::read(rt.alloc(), &mut source) else {
+    let Some(names) = one_name(rt.alloc()) else {
         panic!(rt; "names");
     };
     for (element, line) in [
@@ -55,7 +62,7 @@ fn places(rt: HostRuntime) {
     ] {
         let layout = Layout { level, ..PLAIN };
         let count = show(element, offset, layout, &OneName, cut_at(0), &mut room);
-        assert!(rt; are_shown(&room, count, &[line]), "{line}");
+        expect_of(&rt, line, are_shown(&room, count, &[line]), "it is shown");
     }
 }
 

@@ -1,5 +1,6 @@
 //! A primitive in pieces and at once, and the parts of a line.
 use super::{OneName, PLAIN};
+use crate::expect::{expect, expect_eq};
 use tlv_head::{Class, Header, read_header};
 use tlv_value::{Layout, ValueText, begin_blank, begin_word, put_whole, write_tag};
 use tlv_walk::{Held, MemDrain, Out};
@@ -36,35 +37,43 @@ fn put_five_whole(header: &Header, drain: &mut MemDrain<'_>) -> Option<()> {
     out.flush().ok()
 }
 
+/// Whether the line that is written in pieces is the one that is wanted.
+fn is_five(header: &Header) -> bool {
+    let mut room = [0; 64];
+    let mut drain = MemDrain::new(&mut room, 64);
+    let mut text = ValueText::new(header, PLAIN);
+    let is_put = put_five(&mut text, &mut drain).is_some();
+    is_put && drain.written() == b"       5      1: INTEGER 5\n".as_slice()
+}
+
+/// The same of the line that is written at once.
+fn is_five_whole(header: &Header) -> bool {
+    let mut room = [0; 64];
+    let mut drain = MemDrain::new(&mut room, 64);
+    let is_put = put_five_whole(header, &mut drain).is_some();
+    is_put && drain.written() == b"       5      1: INTEGER 5\n".as_slice()
+}
+
 #[test]
 fn a_primitive_is_written_in_pieces_and_at_once(rt: HostRuntime) {
     let Some(header) = header_at(5, b"\x02\x01") else {
         panic!(rt; "header");
     };
-    let mut room = [0; 64];
-    let mut drain = MemDrain::new(&mut room, 64);
-    let mut text = ValueText::new(&header, PLAIN);
-    assert!(rt; put_five(&mut text, &mut drain).is_some());
-    assert!(rt; drain.written() == b"       5      1: INTEGER 5\n".as_slice());
-    let mut room = [0; 64];
-    let mut drain = MemDrain::new(&mut room, 64);
-    assert!(rt; put_five_whole(&header, &mut drain).is_some());
-    assert!(rt; drain.written() == b"       5      1: INTEGER 5\n".as_slice());
+    expect(&rt, is_five(&header), "its line is written in pieces");
+    expect(&rt, is_five_whole(&header), "its line is written at once");
 }
 
 #[test]
 fn lines_are_made(rt: HostRuntime) {
     let layout = Layout { level: 1, ..PLAIN };
     let mut held = Held::new();
-    assert!(rt; held.as_slice().is_empty());
+    expect(&rt, held.as_slice().is_empty(), "nothing is held at first");
     begin_word(&mut held, layout, 11, b"   end");
     held.add(b"}\n");
     begin_blank(&mut held, layout);
     write_tag(&mut held, Class::Context, 5);
     write_tag(&mut held, Class::Universal, 4);
     write_tag(&mut held, Class::Universal, 15);
-    assert!(rt;
-        held.as_slice()
-            == b"      11    end:   }\n                   [5]OCTET STRING[UNIVERSAL 15]".as_slice()
-    );
+    let want = b"      11    end:   }\n                   [5]OCTET STRING[UNIVERSAL 15]";
+    expect_eq(&rt, held.as_slice(), want.as_slice());
 }

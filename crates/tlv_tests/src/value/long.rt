@@ -1,5 +1,6 @@
 //! A long value.
 use super::{OneName, PLAIN, Pieces, are_lines, cut_at, show};
+use crate::expect::expect_of;
 
 /// 64 letters in quotation marks, after the columns of a row.
 const ROW: &str =
@@ -44,10 +45,20 @@ fn letters_are_shown(rt: HostRuntime) {
             most: 7,
         };
         let count = show(&element, 0, PLAIN, &OneName, pieces, &mut room);
-        assert!(rt; are_shown(&room, count));
+        expect_of(
+            &rt,
+            (first, size),
+            are_shown(&room, count),
+            "letters are shown",
+        );
     }
     for i in 0..127 {
         let count = show(&element, 0, PLAIN, &OneName, cut_at(65 * i), &mut room);
-        assert!(rt; are_shown(&room, count));
+        expect_of(
+            &rt,
+            65 * i,
+            are_shown(&room, count),
+            "letters are shown if cut there",
+        );
     }
 }

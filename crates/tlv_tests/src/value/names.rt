@@ -1,4 +1,5 @@
 //! Names files and what they come to, reads that fail, and memory that is refused.
+use crate::expect::{expect, expect_eq_of, expect_of};
 use linked_list_allocator::LocalHeap;
 use std::alloc::Global;
 use std::test::Fail;
@@ -52,7 +53,7 @@ fn lines_are_refused(rt: HostRuntime) {
         (&past_cr, Some(NamesFault::TooLarge)),
         (&named, Some(NamesFault::TooLarge)),
     ] {
-        assert!(rt; refusal(rt.alloc(), octets) == want, "{:?}", octets);
+        expect_eq_of(&rt, octets, refusal(rt.alloc(), octets), want);
     }
 }
 
@@ -86,31 +87,56 @@ fn names_are_found(rt: HostRuntime) {
         (file, &[30], b"2.5.4", None),
         (&line, &[], b"2.5", Some(&name)),
     ] {
-        assert!(rt;
-            is_named(rt.alloc(), octets, cuts, dotted, name),
-            "{:?}",
-            dotted
+        let is_right = is_named(rt.alloc(), octets, cuts, dotted, name);
+        expect_of(
+            &rt,
+            dotted,
+            is_right,
+            "it has the name that the file gives it, or none",
         );
     }
-    assert!(rt; Names::empty().get(b"2.5.4.3").is_none());
+    let is_none = Names::empty().get(b"2.5.4.3").is_none();
+    expect(&rt, is_none, "an empty table has no name");
+}
+
+/// Why a names file of so many empty lines is refused, if it is.
+fn refusal_of_lines(alloc: Global, count: usize) -> Result<Option<NamesFault>, Fail> {
+    let octets = Vec::from_elem(alloc, b'\n', count)?;
+    Ok(refusal(alloc, octets.as_slice()))
+}
+
+/// Why a names file of 65,536 entries and these lines is refused, if it is.
+fn refusal_of_entries(alloc: Global, lines: &str) -> Result<Option<NamesFault>, Fail> {
+    let mut text = String::new(alloc);
+    for number in 0..65_536u32 {
+        text.push_str(&format!(in alloc; "2.{number} x\n")?)?;
+    }
+    text.push_str(lines)?;
+    Ok(refusal(alloc, text.as_bytes()))
 }
 
 /// Files have 1,048,576 octets, and tables 65,536 entries.
 #[test]
 fn files_and_tables_have_limits(rt: HostRuntime) -> Result<(), Fail> {
-    let octets = Vec::from_elem(rt.alloc(), b'\n', 1_048_577)?;
-    let (within, _) = octets.split_at(1_048_576);
-    assert!(rt;
-        refusal(rt.alloc(), within).is_none()
-            && refusal(rt.alloc(), octets.as_slice()) == Some(NamesFault::TooLarge)
+    let alloc = rt.alloc();
+    let largest = refusal_of_lines(alloc, 1_048_576)?;
+    expect_eq_of(&rt, "the largest file", largest, None);
+    let too_large = refusal_of_lines(alloc, 1_048_577)?;
+    expect_eq_of(
+        &rt,
+        "a file that is too large",
+        too_large,
+        Some(NamesFault::TooLarge),
     );
-    let mut text = String::new(rt.alloc());
-    for number in 0..65_536u32 {
-        text.push_str(&format!(in rt.alloc(); "2.{number} x\n")?)?;
-    }
-    assert!(rt; refusal(rt.alloc(), text.as_bytes()).is_none());
-    text.push_str("# x\n2.65536 x\n")?;
-    assert!(rt; refusal(rt.alloc(), text.as_bytes()) == Some(NamesFault::TooLarge));
+    let fullest = refusal_of_entries(alloc, "")?;
+    expect_eq_of(&rt, "the fullest table", fullest, None);
+    let too_full = refusal_of_entries(alloc, "# x\n2.65536 x\n")?;
+    expect_eq_of(
+        &rt,
+        "a table that is too full",
+        too_full,
+        Some(NamesFault::TooLarge),
+    );
     Ok(())
 }
 
@@ -119,11 +145,16 @@ fn files_and_tables_have_limits(rt: HostRuntime) -> Result<(), Fail> {
 fn reads_fail(rt: HostRuntime) {
     for failing in 0..24 {
         let fault = refusal_of(rt.alloc(), FILE, &[1; 24], Some(failing));
-        assert!(rt; fault == Some(NamesFault::ReadFailed));
+        expect_eq_of(&rt, failing, fault, Some(NamesFault::ReadFailed));
     }
-    assert!(rt;
-        refusal_of(rt.alloc(), FILE, &[1; 24], Some(24)).is_none()
-            && refusal_of(rt.alloc(), b"1.40 x", &[3], Some(1)) == Some(NamesFault::ReadFailed)
+    let last = refusal_of(rt.alloc(), FILE, &[1; 24], Some(24));
+    expect_eq_of(&rt, "a read after the end", last, None);
+    let first = refusal_of(rt.alloc(), b"1.40 x", &[3], Some(1));
+    expect_eq_of(
+        &rt,
+        "a line that is refused",
+        first,
+        Some(NamesFault::ReadFailed),
     );
 }
 
@@ -149,5 +180,9 @@ fn growths_are_refused(rt: HostRuntime) {
         refused |= !fits;
         found |= fits;
     }
-    assert!(rt; refused && found);
+    expect(
+        &rt,
+        refused && found,
+        "memory is refused at some sizes and found at others",
+    );
 }

@@ -1,5 +1,7 @@
 //! A check of which the type and the size are given.
+use crate::expect::expect_eq_of;
 use arrayvec::ArrayVec;
+use std::process::Abort;
 use tlv_value::{Finding, ValueCheck};
 
 /// What is found on the whole contents of a primitive of the type with this universal number.
@@ -9,12 +11,16 @@ fn found_on(number: u64, contents: &[u8]) -> ArrayVec<Finding, 16> {
     check.end()
 }
 
+/// Expects these findings.
+fn expect_found(rt: &impl Abort, number: u64, contents: &[u8], findings: &[Finding]) {
+    let found = found_on(number, contents);
+    expect_eq_of(rt, (number, contents), found.as_slice(), findings);
+}
+
 #[test]
 fn a_type_and_a_size_are_enough(rt: HostRuntime) {
-    assert!(rt;
-        found_on(1, &[2]).as_slice() == [Finding::S02].as_slice()
-            && found_on(2, &[]).as_slice() == [Finding::B07].as_slice()
-            && found_on(2, &[5]).is_empty()
-            && found_on(4, &[2]).is_empty()
-    );
+    expect_found(&rt, 1, &[2], &[Finding::S02]);
+    expect_found(&rt, 2, &[], &[Finding::B07]);
+    expect_found(&rt, 2, &[5], &[]);
+    expect_found(&rt, 4, &[2], &[]);
 }

@@ -1,4 +1,5 @@
 //! Unused bits of a BIT STRING.
+use crate::expect::expect_eq_of;
 use tlv_head::{Header, read_header};
 use tlv_value::ValueCheck;
 
@@ -46,10 +47,11 @@ fn has_unused_bits(element: &[u8]) -> Option<bool> {
 #[test]
 fn unused_bits(rt: HostRuntime) {
     for row in &ROWS {
-        assert!(rt;
-            has_unused_bits(row.element) == Some(row.unused),
-            "{:?}",
-            row.element
+        expect_eq_of(
+            &rt,
+            row.element,
+            has_unused_bits(row.element),
+            Some(row.unused),
         );
     }
 }

@@ -1,36 +1,43 @@
 //! Offsets that may be named, and framings.
 use super::lines::Lines;
-use crate::expect::expect_eq;
+use crate::expect::{expect, expect_eq, expect_eq_of};
 use std::process::Abort;
 use tlv_walk::{Ending, Framing, Inside, MemDrain, MemSource, Run, Walker, drive};
 
 /// The largest offset that may be named.
 const LARGEST: u64 = 1_099_511_627_776;
 
+/// Expects these offsets to be named, or not.
+fn expect_named(rt: &impl Abort, offsets: &[u64], are_named: bool) {
+    expect_eq_of(rt, offsets, Inside::new(offsets).is_some(), are_named);
+}
+
 #[test]
 fn sixteen_rising_offsets_are_named(rt: HostRuntime) {
-    assert!(rt; Inside::new(&[]).is_some());
-    assert!(rt; Inside::new(&[0]).is_some());
-    assert!(rt; Inside::new(&[0, 1, LARGEST]).is_some());
-    assert!(rt;
-        Inside::new(&[0, 1, 2, 3, 4, 5, 6, 7, 8, 9, 10, 11, 12, 13, 14, LARGEST]).is_some()
+    expect_named(&rt, &[], true);
+    expect_named(&rt, &[0], true);
+    expect_named(&rt, &[0, 1, LARGEST], true);
+    expect_named(
+        &rt,
+        &[0, 1, 2, 3, 4, 5, 6, 7, 8, 9, 10, 11, 12, 13, 14, LARGEST],
+        true,
     );
 }
 
 #[test]
 fn other_offsets_are_not_named(rt: HostRuntime) {
     let many = [0, 1, 2, 3, 4, 5, 6, 7, 8, 9, 10, 11, 12, 13, 14, 15, 16];
-    assert!(rt; Inside::new(&many).is_none());
-    assert!(rt; Inside::new(&[3, 3]).is_none());
-    assert!(rt; Inside::new(&[5, 3]).is_none());
-    assert!(rt; Inside::new(&[LARGEST.saturating_add(1)]).is_none());
-    assert!(rt; Inside::new(&[0, u64::MAX]).is_none());
+    expect_named(&rt, &many, false);
+    expect_named(&rt, &[3, 3], false);
+    expect_named(&rt, &[5, 3], false);
+    expect_named(&rt, &[LARGEST.saturating_add(1)], false);
+    expect_named(&rt, &[0, u64::MAX], false);
 }
 
 #[test]
 fn a_plain_framing_names_nothing(rt: HostRuntime) {
     let plain = Framing::plain();
-    assert!(rt; !plain.padding);
+    expect(&rt, !plain.padding, "padding is not allowed");
     expect_eq(&rt, Walker::new(&plain).unused(), None);
     let none = Framing {
         inside: Inside::none(),

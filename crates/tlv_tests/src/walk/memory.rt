@@ -1,5 +1,5 @@
 //! A source and a drain over memory.
-use crate::expect::expect_eq;
+use crate::expect::{expect, expect_eq, expect_of};
 use tlv_walk::{Drain, MemDrain, MemSource, ReadFault, Source, WriteFault};
 
 #[test]
@@ -11,7 +11,7 @@ fn source_gives_pieces(rt: HostRuntime) {
     for want in [b"ab".as_slice(), b"c", b"defg", b"hi", b"", b""] {
         let got = source.read(&mut to);
         expect_eq(&rt, got, Ok(want.len()));
-        assert!(rt; to.starts_with(want));
+        expect_of(&rt, want, to.starts_with(want), "they are read");
     }
 }
 
@@ -22,7 +22,11 @@ fn source_fails_once(rt: HostRuntime) {
     expect_eq(&rt, source.read(&mut to), Ok(4));
     expect_eq(&rt, source.read(&mut to), Err(ReadFault));
     expect_eq(&rt, source.read(&mut to), Ok(2));
-    assert!(rt; to.starts_with(b"ef"));
+    expect(
+        &rt,
+        to.starts_with(b"ef"),
+        "the octets after the failure are read",
+    );
 }
 
 #[test]

@@ -1,4 +1,5 @@
 //! Room that an `Out` makes for what comes next.
+use crate::expect::expect_eq;
 use tlv_walk::{MemDrain, Out};
 
 /// Puts these octets, makes room for a line, and returns how many octets are held then.
@@ -22,10 +23,14 @@ fn room_is_made_if_a_line_may_lack_it(rt: HostRuntime) {
     let octets = [b'x'; 3073];
     let mut room = [0; 4096];
     let mut drain = MemDrain::new(&mut room, 4096);
-    assert!(rt; held_before_a_line(&octets[..3072], &mut drain) == Some(3072));
-    assert!(rt; drain.written().is_empty());
-    assert!(rt; held_before_a_line(&octets, &mut drain) == Some(0));
-    assert!(rt; drain.written().len() == 3073);
+    expect_eq(
+        &rt,
+        held_before_a_line(&octets[..3072], &mut drain),
+        Some(3072),
+    );
+    expect_eq(&rt, drain.written().len(), 0);
+    expect_eq(&rt, held_before_a_line(&octets, &mut drain), Some(0));
+    expect_eq(&rt, drain.written().len(), 3073);
 }
 
 #[test]
@@ -33,8 +38,8 @@ fn room_is_made_for_as_many_octets_as_are_wanted(rt: HostRuntime) {
     let octets = [b'x'; 4001];
     let mut room = [0; 4096];
     let mut drain = MemDrain::new(&mut room, 4096);
-    assert!(rt; held_before_96(&octets[..4000], &mut drain) == Some(4000));
-    assert!(rt; drain.written().is_empty());
-    assert!(rt; held_before_96(&octets, &mut drain) == Some(0));
-    assert!(rt; drain.written().len() == 4001);
+    expect_eq(&rt, held_before_96(&octets[..4000], &mut drain), Some(4000));
+    expect_eq(&rt, drain.written().len(), 0);
+    expect_eq(&rt, held_before_96(&octets, &mut drain), Some(0));
+    expect_eq(&rt, drain.written().len(), 4001);
 }

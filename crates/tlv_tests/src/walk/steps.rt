@@ -1,6 +1,6 @@
 //! Steps of a walker.
 use super::rows::fault;
-use crate::expect::expect_eq;
+use crate::expect::{expect, expect_eq};
 use std::process::Abort;
 use tlv_head::{Fault, FaultCode, Header, read_header};
 use tlv_walk::{Ending, Event, Framing, Inside, Step, Walker};
@@ -63,7 +63,7 @@ fn expect_state(
 fn expect_need(rt: &impl Abort, walker: &mut Walker, octets: &[u8]) {
     let mut piece = octets;
     expect_step(rt, walker, &mut piece, &Step::NeedMore);
-    assert!(rt; piece.is_empty());
+    expect(rt, piece.is_empty(), "the piece is taken whole");
 }
 
 #[test]
@@ -182,7 +182,7 @@ fn a_string_wraps(rt: HostRuntime) {
     expect_eq(&rt, walker.unused(), Some(0));
     let mut piece: &[u8] = b"\x03\x03\x00\x05\x00";
     let string = header(&rt, 0, true, b"\x03\x03");
-    assert!(rt; string.wraps());
+    expect(&rt, string.wraps(), "the string wraps");
     expect_event(&rt, &mut walker, &mut piece, Event::Enter(string));
     expect_eq(&rt, walker.unused(), Some(7));
     expect_state(&rt, &walker, 2, 1, 1, false);

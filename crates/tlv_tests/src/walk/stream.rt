@@ -1,5 +1,5 @@
 //! A reader as a source, and a writer as a drain.
-use crate::expect::expect_eq;
+use crate::expect::{expect, expect_eq};
 use std::io::{self, ErrorKind, Read, Write};
 use tlv_walk::{Drain, ReadFault, ReadSource, Source, WriteDrain, WriteFault};
 
@@ -50,7 +50,7 @@ fn interrupted_read_fails(rt: HostRuntime) {
     let mut to = [0; 4];
     expect_eq(&rt, source.read(&mut to), Err(ReadFault));
     expect_eq(&rt, source.read(&mut to), Ok(3));
-    assert!(rt; to.starts_with(b"abc"));
+    expect(&rt, to.starts_with(b"abc"), "all octets are read");
     expect_eq(&rt, source.read(&mut to), Ok(0));
 }
 

@@ -1,8 +1,8 @@
 //! Reads that are followed one by one.
 use super::lines::Lines;
 use crate::expect::expect_eq;
-use crate::reads::{LENGTH, expect_again, expect_written};
-use tlv_walk::{DeviceFault, Ending, Framing, MemDrain, MemSource, Run, Turn, Walker, turn};
+use crate::reads::{LENGTH, expect_again, expect_failure, expect_written};
+use tlv_walk::{Ending, Framing, MemDrain, MemSource, Run, Turn, Walker, turn};
 
 /// A constructed string of definite length.
 const INPUT: &[u8] = b"\x3a\x09\x04\x03\x4a\x6f\x6e\x04\x02\x65\x73";
@@ -27,8 +27,8 @@ fn turns_follow_one_read_each(rt: HostRuntime) {
         &mut drain,
         &mut piece,
         LENGTH,
+        &TEXT[..33],
     );
-    expect_written(&rt, &drain, &TEXT[..33]);
     expect_again(
         &rt,
         &mut walker,
@@ -37,8 +37,8 @@ fn turns_follow_one_read_each(rt: HostRuntime) {
         &mut drain,
         &mut piece,
         LENGTH,
+        &TEXT[..47],
     );
-    expect_written(&rt, &drain, &TEXT[..47]);
     expect_again(
         &rt,
         &mut walker,
@@ -47,8 +47,8 @@ fn turns_follow_one_read_each(rt: HostRuntime) {
         &mut drain,
         &mut piece,
         LENGTH,
+        TEXT,
     );
-    expect_written(&rt, &drain, TEXT);
     let end = turn(
         &mut walker,
         &mut lines,
@@ -84,20 +84,19 @@ fn a_turn_after_a_failed_read_goes_on(rt: HostRuntime) {
         &mut drain,
         &mut piece,
         LENGTH,
+        &TEXT[..36],
     );
-    expect_written(&rt, &drain, &TEXT[..36]);
-    let Err(DeviceFault::ReadFailed) = turn(
+    expect_failure(
+        &rt,
         &mut walker,
         &mut lines,
         &mut source,
         &mut drain,
         &mut piece,
         LENGTH,
-    ) else {
-        panic!(rt; "the read fails");
-    };
-    expect_written(&rt, &drain, &TEXT[..36]);
-    assert_eq!(rt; walker.offset(), 5);
+        &TEXT[..36],
+    );
+    expect_eq(&rt, walker.offset(), 5);
     expect_again(
         &rt,
         &mut walker,
@@ -106,6 +105,6 @@ fn a_turn_after_a_failed_read_goes_on(rt: HostRuntime) {
         &mut drain,
         &mut piece,
         LENGTH,
+        TEXT,
     );
-    expect_written(&rt, &drain, TEXT);
 }
