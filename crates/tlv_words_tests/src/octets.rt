@@ -28,6 +28,7 @@ fn expect<const N: usize>(
 }
 
 /// An input, the pieces it comes in, and whether a read fails after it.
+#[derive(Clone, Copy)]
 struct Given<'a> {
     input: &'a [u8],
     cuts: &'a [u64],
