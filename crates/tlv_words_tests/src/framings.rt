@@ -30,24 +30,30 @@ static FRAMED: [Framed<'static>; 9] = [
     ("extract --padding --offset 0", &[], true),
 ];
 
+/// The framing that the command has, if it may name strings.
+fn framing_of(command: &Command) -> Option<&Framing> {
+    match command {
+        Command::Dump { options, .. } => Some(&options.framing),
+        Command::Check { framing, .. } => Some(framing),
+        Command::Extract { framing, .. } => Some(framing),
+        Command::Indef { .. } => None,
+    }
+}
+
+/// The framing as it is shown for debugging.
+fn shown(alloc: Global, framing: &Framing) -> Result<String, Fail> {
+    Ok(format!(in alloc; "{framing:?}")?)
+}
+
 /// Expects the words to have an input read so. Both are compared as they are shown for debugging.
 fn expect_framing(rt: &impl Abort, alloc: Global, row: &Framed<'_>) -> Result<(), Fail> {
     let (list, offsets, padding) = *row;
-    let Some(inside) = Inside::new(offsets) else {
-        panic!(rt; "{list:?}: offsets");
-    };
-    let wanted = Framing { inside, padding };
     let command = command_for(alloc, list)?;
-    let got = match &command {
-        Command::Dump { options, .. } => &options.framing,
-        Command::Check { framing, .. } => framing,
-        Command::Extract { framing, .. } => framing,
-        Command::Indef { .. } => {
-            panic!(rt; "{list:?}: indef names no strings");
-        }
+    let (Some(inside), Some(framing)) = (Inside::new(offsets), framing_of(&command)) else {
+        panic!(rt; "{list:?}: no offsets, or a command that names no strings");
     };
-    let got = format!(in alloc; "{got:?}")?;
-    let wanted = format!(in alloc; "{wanted:?}")?;
+    let got = shown(alloc, framing)?;
+    let wanted = shown(alloc, &Framing { inside, padding })?;
     expect_eq(rt, list, got.as_str(), wanted.as_str());
     Ok(())
 }
