@@ -6,7 +6,7 @@ use crate::table::tables;
 use std::alloc::Global;
 use std::process::Abort;
 use std::test::Fail;
-use tlv_run::{Command, Shown, run_octets};
+use tlv_run::{Shown, run_octets};
 use tlv_value::Names;
 
 /// Expects these octets, this status and this message.
@@ -25,34 +25,6 @@ fn expect<const N: usize>(
         message.as_bytes(),
     );
     expect_eq(rt, "status", shown.report.status, status);
-}
-
-/// An input, the pieces it comes in, and whether a read fails after it.
-#[derive(Clone, Copy)]
-struct Given<'a> {
-    input: &'a [u8],
-    cuts: &'a [u64],
-    read_fails: bool,
-}
-
-/// Runs the command with room for `N` octets, and expects these octets, this status and this message.
-fn expect_run<const N: usize>(
-    rt: &impl Abort,
-    command: &Command,
-    given: &Given<'_>,
-    written: &[u8],
-    status: u8,
-    message: &str,
-) {
-    let shown = run_octets::<N>(
-        command,
-        &Names::empty(),
-        given.input,
-        given.cuts,
-        given.read_fails,
-    );
-    expect(rt, &shown, written, status, message);
-    expect_eq(rt, "findings", shown.report.findings, 0);
 }
 
 /// Expects what the case says of its input in these pieces, or a failed write if its output is longer than the room.
@@ -122,25 +94,15 @@ static BROKEN: [Broken<'static>; 6] = [
     ("extract --offset 0", b"\x05\x00", b"\x05\x00", 0, ""),
 ];
 
-/// Runs the words over the input, whole and in single octets.
-fn expect_broken(rt: &impl Abort, alloc: Global, broken: &Broken<'_>) -> Result<(), Fail> {
-    let (list, input, written, status, message) = *broken;
-    let command = command_for(alloc, list)?;
-    for cuts in [&[], ONES.as_slice()] {
-        let given = Given {
-            input,
-            cuts,
-            read_fails: true,
-        };
-        expect_run::<256>(rt, &command, &given, written, status, message);
-    }
-    Ok(())
-}
-
 #[test]
 fn octets_before_a_failed_read_are_shown(rt: HostRuntime) -> Result<(), Fail> {
-    for broken in &BROKEN {
-        expect_broken(&rt, rt.alloc(), broken)?;
+    for (list, input, written, status, message) in BROKEN {
+        let command = command_for(rt.alloc(), list)?;
+        for cuts in [&[], ONES.as_slice()] {
+            let shown = run_octets::<256>(&command, &Names::empty(), input, cuts, true);
+            expect(&rt, &shown, written, status, message);
+            expect_eq(&rt, list, shown.report.findings, 0);
+        }
     }
     Ok(())
 }
@@ -148,18 +110,19 @@ fn octets_before_a_failed_read_are_shown(rt: HostRuntime) -> Result<(), Fail> {
 /// There is room for the first of nine octets, for all of them, and for one more.
 #[test]
 fn octets_past_the_room_are_not_written(rt: HostRuntime) -> Result<(), Fail> {
+    let input = b"\x30\x05\x02\x03\x01\x02\x03";
     let output = b"\x30\x80\x02\x03\x01\x02\x03\x00\x00";
     let command = command_for(rt.alloc(), "indef")?;
+    let names = Names::empty();
     for cuts in [&[], ONES.as_slice()] {
-        let given = Given {
-            input: b"\x30\x05\x02\x03\x01\x02\x03",
-            cuts,
-            read_fails: false,
-        };
-        expect_run::<0>(&rt, &command, &given, b"", 3, WRITE_FAILED);
-        expect_run::<8>(&rt, &command, &given, &output[..8], 3, WRITE_FAILED);
-        expect_run::<9>(&rt, &command, &given, output, 0, "");
-        expect_run::<10>(&rt, &command, &given, output, 0, "");
+        let none = run_octets::<0>(&command, &names, input, cuts, false);
+        expect(&rt, &none, b"", 3, WRITE_FAILED);
+        let front = run_octets::<8>(&command, &names, input, cuts, false);
+        expect(&rt, &front, &output[..8], 3, WRITE_FAILED);
+        let all = run_octets::<9>(&command, &names, input, cuts, false);
+        expect(&rt, &all, output, 0, "");
+        let more = run_octets::<10>(&command, &names, input, cuts, false);
+        expect(&rt, &more, output, 0, "");
     }
     Ok(())
 }
@@ -167,17 +130,16 @@ fn octets_past_the_room_are_not_written(rt: HostRuntime) -> Result<(), Fail> {
 /// There is room for a line without its line feed, and for all of it. Then a write fails, or none.
 #[test]
 fn room_for_the_output_is_enough(rt: HostRuntime) -> Result<(), Fail> {
+    let input = b"\x05\x00";
     let output = b"       0      0: NULL\n";
     let command = command_for(rt.alloc(), "dump")?;
+    let names = Names::empty();
     for cuts in [&[], ONES.as_slice()] {
         for (read_fails, status, message) in [(false, 0, ""), (true, 3, READ_FAILED)] {
-            let given = Given {
-                input: b"\x05\x00",
-                cuts,
-                read_fails,
-            };
-            expect_run::<21>(&rt, &command, &given, &output[..21], 3, WRITE_FAILED);
-            expect_run::<22>(&rt, &command, &given, output, status, message);
+            let front = run_octets::<21>(&command, &names, input, cuts, read_fails);
+            expect(&rt, &front, &output[..21], 3, WRITE_FAILED);
+            let all = run_octets::<22>(&command, &names, input, cuts, read_fails);
+            expect(&rt, &all, output, status, message);
         }
     }
     Ok(())
@@ -187,11 +149,7 @@ fn room_for_the_output_is_enough(rt: HostRuntime) -> Result<(), Fail> {
 #[test]
 fn no_output_needs_no_room(rt: HostRuntime) -> Result<(), Fail> {
     let command = command_for(rt.alloc(), "check")?;
-    let given = Given {
-        input: b"\x05\x00",
-        cuts: &[],
-        read_fails: false,
-    };
-    expect_run::<0>(&rt, &command, &given, b"", 0, "");
+    let shown = run_octets::<0>(&command, &Names::empty(), b"\x05\x00", &[], false);
+    expect(&rt, &shown, b"", 0, "");
     Ok(())
 }
