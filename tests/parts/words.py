@@ -4,7 +4,7 @@ import os
 import re
 
 TACTIC = re.compile(r"\b(?:omega|grind|search|simp|cc|ground|assumption)\b")
-DEFINITION = re.compile(r"^(\s*)(?:abbrev )?pub (?:(record|data) )?([A-Za-z_][\w'-]*)")
+DEFINITION = re.compile(r"^(\s*)(?:(?:abbrev|unfoldable) )?pub (?:(record|data) )?([A-Za-z_◌][\w'◌-]*)")
 
 
 def definitions(text):

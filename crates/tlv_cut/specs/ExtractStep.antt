@@ -38,26 +38,26 @@ abbrev pub outer_octets : Bool → List ℕ → List ℕ
 outer_octets contents_only octets = if contents_only then [] else octets
 
 -- these octets are put, and the walk is at this position
-abbrev pub step_to : ExtractState → Position → List ℕ → Go → Effect ExtractState
-step_to s position octets goes =
+abbrev pub extract_step_to : ExtractState → Position → List ℕ → Go → Effect ExtractState
+extract_step_to s position octets goes =
     record { state = record s { position = position }; put = octets; goes = goes }
 
 -- an element begins at this offset, with these octets for its header: the one wanted, one that it holds, or
 -- another. The count of those that it holds stops at 255
-abbrev pub begin_step_at : ExtractState → ℕ → List ℕ → Effect ExtractState
-begin_step_at s offset octets = at s.position
+abbrev pub extract_begin_step_at : ExtractState → ℕ → List ℕ → Effect ExtractState
+extract_begin_step_at s offset octets = at s.position
   where
     at : Position → Effect ExtractState
     at Before =
         if offset == s.offset
-        then step_to s (Inside 0) (outer_octets s.contents_only octets) On
+        then extract_step_to s (Inside 0) (outer_octets s.contents_only octets) On
         else no_effect s
-    at (Inside level) = step_to s (Inside (min (level + 1) 255)) octets On
+    at (Inside level) = extract_step_to s (Inside (min (level + 1) 255)) octets On
     at After = no_effect s
 
 -- the element with this header begins
-abbrev pub begin_step : ExtractState → HeaderValue → Effect ExtractState
-begin_step s h = begin_step_at s h.offset (octets_of h)
+abbrev pub extract_begin_step : ExtractState → HeaderValue → Effect ExtractState
+extract_begin_step s h = extract_begin_step_at s h.offset (octets_of h)
 
 -- of octets that come at this position, those of the element wanted
 abbrev pub wanted_octets : Position → List ℕ → List ℕ
@@ -66,32 +66,32 @@ wanted_octets (Inside level) octets = octets
 wanted_octets After octets = []
 
 -- a contents octet comes
-abbrev pub octet_step : ExtractState → ℕ → Effect ExtractState
-octet_step s x = record { state = s; put = wanted_octets s.position (x ∷ []); goes = On }
+abbrev pub extract_octet_step : ExtractState → ℕ → Effect ExtractState
+extract_octet_step s x = record { state = s; put = wanted_octets s.position (x ∷ []); goes = On }
 
 -- contents octets come
-abbrev pub contents_step : ExtractState → List ℕ → Effect ExtractState
-contents_step s octets = each_octet octet_step s octets
+abbrev pub extract_contents_step : ExtractState → List ℕ → Effect ExtractState
+extract_contents_step s octets = each_octet extract_octet_step s octets
 
 -- an element ends, with these end-of-contents octets
-abbrev pub end_step : ExtractState → List ℕ → Effect ExtractState
-end_step s octets = at s.position
+abbrev pub extract_end_step : ExtractState → List ℕ → Effect ExtractState
+extract_end_step s octets = at s.position
   where
     at : Position → Effect ExtractState
     at Before = no_effect s
-    at (Inside zero) = step_to s After (outer_octets s.contents_only octets) Enough
-    at (Inside (suc level)) = step_to s (Inside level) octets On
+    at (Inside zero) = extract_step_to s After (outer_octets s.contents_only octets) Enough
+    at (Inside (suc level)) = extract_step_to s (Inside level) octets On
     at After = no_effect s
 
 -- an event comes
 abbrev pub extract_step : ExtractState → EventValue → Effect ExtractState
-extract_step s (Open h) = begin_step s h
-extract_step s (Begin h) = begin_step s h
-extract_step s (Enter h) = begin_step s h
-extract_step s (Bytes octets) = contents_step s octets
-extract_step s Unused = octet_step s 0
-extract_step s (Close None) = end_step s []
-extract_step s (Close (Some at)) = end_step s (0 ∷ 0 ∷ [])
-extract_step s End = end_step s []
-extract_step s Leave = end_step s []
+extract_step s (Open h) = extract_begin_step s h
+extract_step s (Begin h) = extract_begin_step s h
+extract_step s (Enter h) = extract_begin_step s h
+extract_step s (Bytes octets) = extract_contents_step s octets
+extract_step s Unused = extract_octet_step s 0
+extract_step s (Close None) = extract_end_step s []
+extract_step s (Close (Some at)) = extract_end_step s (0 ∷ 0 ∷ [])
+extract_step s End = extract_end_step s []
+extract_step s Leave = extract_end_step s []
 extract_step s (Pad octets) = no_effect s

@@ -1,6 +1,6 @@
 -- What an `Indef` makes of events.
 use Rattle.std.specs.Prelude.{ℕ, if◌then◌else◌, List, [], ◌∷◌}
-use Rattle.tlv_head.specs.Header.{indefinite_octets, octets_of}
+use Rattle.tlv_head.specs.Header.{spell_indefinite, octets_of}
 use Rattle.tlv_walk.specs.declared.follow.Go.TheVariants.{On}
 use Rattle.tlv_walk.specs.Events.{Begin, Bytes, Close, End, Enter, EventValue, Leave, Open, Pad, Unused}
 use Rattle.tlv_walk.specs.Follow.{Effect}
@@ -15,7 +15,7 @@ new_indef = record {}
 -- the octets that it puts for an event. The header of a primitive stays as it is, whichever event
 -- comes with it
 abbrev pub indef_event_text : EventValue → List ℕ
-indef_event_text (Open h) = if h.constructed then indefinite_octets h else octets_of h
+indef_event_text (Open h) = if h.constructed then spell_indefinite h else octets_of h
 indef_event_text (Begin h) = octets_of h
 indef_event_text (Bytes octets) = octets
 indef_event_text End = []

@@ -2,8 +2,8 @@
 ghost use Rattle.std.specs.Prelude.{◌≡◌};
 ghost use Rattle.tlv_walk.specs.Follow.{HasEffect};
 ghost use Rattle.tlv_io.specs.Out.{Puts};
-ghost use Rattle.tlv_cut.specs.ExtractStep.{begin_step_at, contents_step, end_step};
-ghost use Rattle.tlv_cut.specs.ExtractStep.{has_found, new_extract, octet_step};
+ghost use Rattle.tlv_cut.specs.ExtractStep.{extract_begin_step_at, extract_contents_step, extract_end_step};
+ghost use Rattle.tlv_cut.specs.ExtractStep.{has_found, new_extract, extract_octet_step};
 
 use std::marker::Model;
 use tlv_head::{Header, HeaderFields};
@@ -70,9 +70,10 @@ impl Extract {
         octets: &[u8],
         out: &mut Out<'_, D>,
     ) -> Result<Go, WriteFault>
-        ensures state { HasEffect (begin_step_at self.old offset octets.now) self.new result }
+        ensures state { HasEffect
+            (extract_begin_step_at self.old offset octets.now) self.new result }
         ensures puts { Puts D.state out.old out.new
-            (begin_step_at self.old offset octets.now).put result }
+            (extract_begin_step_at self.old offset octets.now).put result }
     {
         match self.position {
             Position::Before if offset == self.offset => {
@@ -92,8 +93,9 @@ impl Extract {
 
     /// Contents octets come.
     fn contents<D: Drain>(&self, octets: &[u8], out: &mut Out<'_, D>) -> Result<Go, WriteFault>
-        ensures state { HasEffect (contents_step self.now octets.now) self.now result }
-        ensures puts { Puts D.state out.old out.new (contents_step self.now octets.now).put result }
+        ensures state { HasEffect (extract_contents_step self.now octets.now) self.now result }
+        ensures puts { Puts D.state out.old out.new
+            (extract_contents_step self.now octets.now).put result }
     {
         self.put_contents(octets, out)?;
         Ok(Go::On)
@@ -101,7 +103,8 @@ impl Extract {
 
     /// Puts these contents octets if they come inside the element wanted.
     fn put_contents<D: Drain>(&self, octets: &[u8], out: &mut Out<'_, D>) -> Result<(), WriteFault>
-        ensures { Puts D.state out.old out.new (contents_step self.now octets.now).put result }
+        ensures { Puts D.state out.old out.new
+            (extract_contents_step self.now octets.now).put result }
     {
         match self.position {
             Position::Inside(_) => out.put(octets),
@@ -111,8 +114,9 @@ impl Extract {
 
     /// An element ends, with these end-of-contents octets.
     fn end<D: Drain>(&mut self, octets: &[u8], out: &mut Out<'_, D>) -> Result<Go, WriteFault>
-        ensures state { HasEffect (end_step self.old octets.now) self.new result }
-        ensures puts { Puts D.state out.old out.new (end_step self.old octets.now).put result }
+        ensures state { HasEffect (extract_end_step self.old octets.now) self.new result }
+        ensures puts { Puts D.state out.old out.new
+            (extract_end_step self.old octets.now).put result }
     {
         match self.position {
             Position::Inside(0) => {
@@ -139,11 +143,11 @@ impl Follow for Extract {
 
     ghost next = { extract_step };
 
-    ghost bytes_join = { each_octet-joins octet_step };
+    ghost bytes_join = { each_octet-joins extract_octet_step };
 
     ghost bytes_rest = { λ s. refl };
 
-    ghost bytes_go_on = { each_octet-goes_on octet_step };
+    ghost bytes_go_on = { each_octet-goes_on extract_octet_step };
 
     ghost pad_join = { λ s x y. refl };
 

@@ -31,10 +31,10 @@ refused_not_whole : (code : FaultCode) (r : HeadReaderState) (x : ℕ) (room : O
     → Completes r x h → room ≢ Some 0 → FitsThere h room depth → ⊥
 refused_not_whole Overrun r x room depth h p c n f = elim p [
   | inl z ↦ n z
-  | inr q ↦ q.1.past (subst (λ (g : HeaderValue). ContentsFit g.size room) (completes_unique r x h q.1.head c q.1.completes) f.within)
+  | inr q ↦ q.1.past (subst (λ (g : HeaderValue). ContentsFit g.size room) (completes_unique r x h q.1.header c q.1.completes) f.within)
 ]
 refused_not_whole TooDeep r x room depth h p c n f =
-    let s : holds h ≡ true = subst (λ (g : HeaderValue). holds g ≡ true) (completes_unique r x p.1.head h p.1.completes c) p.1.holding in
+    let s : holds h ≡ true = subst (λ (g : HeaderValue). holds g ≡ true) (completes_unique r x p.1.header h p.1.completes c) p.1.holding in
     let k : depth < 128 = f.shallow s in
     omega (arith, p.1.deep)
 refused_not_whole code r x room depth h p c n f = refused_completes_none code r x h p.1 c
@@ -60,7 +60,7 @@ cause code r x room depth p = said p.0 p.1
 
 not_deep_and_past : (r : HeadReaderState) (x : ℕ) (room : Option ℕ) (depth : ℕ) → IsTooDeep r x depth → EndsPast r x room depth → ⊥
 not_deep_and_past r x room depth d p =
-    let s : holds p.head ≡ true = subst (λ (g : HeaderValue). holds g ≡ true) (completes_unique r x d.head p.head d.completes p.completes) d.holding in
+    let s : holds p.header ≡ true = subst (λ (g : HeaderValue). holds g ≡ true) (completes_unique r x d.header p.header d.completes p.completes) d.holding in
     let k : depth < 128 = p.shallow s in
     omega (arith, d.deep)
 
@@ -73,21 +73,21 @@ one_code c d r x room depth (bound z e) (said n p) = absurd (n z)
 one_code c d r x room depth (past n p e) (bound y f) = absurd (n y)
 one_code c d r x room depth (past n p e) (past m q f) = e ∙ sym f
 one_code c d r x room depth (past n p e) (deep m q f) = absurd (not_deep_and_past r x room depth q p)
-one_code c d r x room depth (past n p e) (said m q) = absurd (refused_completes_none d r x p.head q p.completes)
+one_code c d r x room depth (past n p e) (said m q) = absurd (refused_completes_none d r x p.header q p.completes)
 one_code c d r x room depth (deep n p e) (bound y f) = absurd (n y)
 one_code c d r x room depth (deep n p e) (past m q f) = absurd (not_deep_and_past r x room depth p q)
 one_code c d r x room depth (deep n p e) (deep m q f) = e ∙ sym f
-one_code c d r x room depth (deep n p e) (said m q) = absurd (refused_completes_none d r x p.head q p.completes)
+one_code c d r x room depth (deep n p e) (said m q) = absurd (refused_completes_none d r x p.header q p.completes)
 one_code c d r x room depth (said n p) (bound y f) = absurd (n y)
-one_code c d r x room depth (said n p) (past m q f) = absurd (refused_completes_none c r x q.head p q.completes)
-one_code c d r x room depth (said n p) (deep m q f) = absurd (refused_completes_none c r x q.head p q.completes)
+one_code c d r x room depth (said n p) (past m q f) = absurd (refused_completes_none c r x q.header p q.completes)
+one_code c d r x room depth (said n p) (deep m q f) = absurd (refused_completes_none c r x q.header p q.completes)
 one_code c d r x room depth (said n p) (said m q) = one-refusal c d r.octets x p q
 
 refused_no_front : (code : FaultCode) (r : HeadReaderState) (x : ℕ) (room : Option ℕ) (depth : ℕ) → Cause code r x room depth → room ≢ Some 0 → IsFront (r.octets ++ x ∷ []) → ⊥
 refused_no_front code r x room depth (bound z e) n f = n z
-refused_no_front code r x room depth (past m p e) n f = front_not_whole r x p.head f p.completes
-refused_no_front code r x room depth (deep m p e) n f = front_not_whole r x p.head f p.completes
-refused_no_front code r x room depth (said m p) n f = refused-none code r.octets x p f.head f.more f.valid f.front
+refused_no_front code r x room depth (past m p e) n f = front_not_whole r x p.header f p.completes
+refused_no_front code r x room depth (deep m p e) n f = front_not_whole r x p.header f p.completes
+refused_no_front code r x room depth (said m p) n f = refused-none code r.octets x p f.header f.more f.valid f.front
 
 room_left : (size : Size) (room : Option ℕ) → ContentsFit size room → room ≢ Some 0
 room_left (Definite n) room f e = let none : IfSome (Some 0) (λ r. n < r) = subst (λ (o : Option ℕ). IfSome o (λ r. n < r)) e f in omega (arith, none)

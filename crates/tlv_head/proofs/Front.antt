@@ -7,7 +7,7 @@ use Rattle.tlv_head.specs.declared.header.Size.{Size}
 use Rattle.tlv_head.specs.declared.header.Size.TheVariants.{Definite, Indefinite}
 use Rattle.tlv_head.specs.declared.header.HeaderFields.{HeaderFields}
 use Rattle.tlv_head.specs.declared.next_octet.Identifier.{Identifier}
-use Rattle.tlv_head.specs.Fields.{IsHeaderSized, header_with}
+use Rattle.tlv_head.specs.HeaderFields.{IsHeaderSized, header_with}
 use Rattle.tlv_head.specs.declared.next_octet.Part.{Part}
 use Rattle.tlv_head.specs.declared.next_octet.Part.TheVariants.{Start, Number, Length, Digits, Done}
 use Rattle.tlv_head.specs.Header.{HeaderValue, IsHeader, IsIdentifier, IsLength, octets_of}
@@ -47,7 +47,7 @@ header-some h v e =
 pub begun_none : (os : List ℕ) → IsBegun os → (h : HeaderValue) (rest : List ℕ) → IsHeader h → octets_of h ++ rest ≡ os → ⊥
 begun_none os (inl none) h rest v e = header-some h v (front_nil (octets_of h) rest (e ∙ none))
 begun_none os (inr f) h rest v e =
-    no-front h f.head (rest ++ f.more) v f.valid (λ z. f.proper (rest_nil rest f.more z))
+    no-front h f.header (rest ++ f.more) v f.valid (λ z. f.proper (rest_nil rest f.more z))
     (sym (append_assoc (octets_of h) rest f.more) ∙ (ap (λ s. s ++ f.more) e ∙ f.front))
 
 -- the octet at a place, with what is before and after it
@@ -55,12 +55,12 @@ pub around : (xs : List ℕ) (i : ℕ) → i < length xs → xs ≡ (take i xs +
 around xs i h = sym (take-append-drop (i + 1) xs) ∙ ap (λ z. z ++ drop (i + 1) xs) (take_more xs i 0 h)
 
 identifier-some : (c : Class) (k : Bool) (n : ℕ) (i : List ℕ) → IsIdentifier c k n i → 1 ≤ length i
-identifier-some c k n i (inl low) = rw low.octet (omega arith)
-identifier-some c k n i (inr high) = rw high.octet (omega arith)
+identifier-some c k n i (inl low) = rw low.octets_are (omega arith)
+identifier-some c k n i (inr high) = rw high.octets_are (omega arith)
 
 length-some : (s : Size) (l : List ℕ) → IsLength s l → 1 ≤ length l
 length-some (Definite n) l (inl short) = rw short.1 (omega arith)
-length-some (Definite n) l (inr long) = rw long.octet (omega arith)
+length-some (Definite n) l (inr long) = rw long.octets_are (omega arith)
 length-some Indefinite l e = rw e (omega arith)
 
 -- a header has an identifier octet and a length octet at least
@@ -74,20 +74,20 @@ made_sized os f id size m e =
     let few : length m.identifier ≤ 10 = m.identified.few in
     let most : length m.lengths ≤ 127 = m.few in
     let some : 1 ≤ length m.lengths = m.some in
-    let all : length os ≡ length m.identifier + length m.lengths = rw m.octet (length-append m.identifier m.lengths) in
+    let all : length os ≡ length m.identifier + length m.lengths = rw m.octets_are (length-append m.identifier m.lengths) in
     record { identifier = omega (arith, e); few = omega (arith, e); room = omega arith }
 
 pub made_begins : (os rest : List ℕ) (at : ℕ) (named : Bool) (id : Identifier) (size : Size) → MakesHeader id size os
     → BeginsWith (os ++ rest) at named (header_with (record { offset = at; named = named; class = id.class; constructed = id.constructed; number = id.number; size = size; id_len = id.octets }) os)
 made_begins os rest at named id size m =
-    let front : take id.octets os ≡ m.identifier = rw (m.octet, m.identified.count) (take-append_seam m.identifier m.lengths) in
-    let back : drop id.octets os ≡ m.lengths = rw (m.octet, m.identified.count) (drop-append_seam m.identifier m.lengths) in
+    let front : take id.octets os ≡ m.identifier = rw (m.octets_are, m.identified.count) (take-append_seam m.identifier m.lengths) in
+    let back : drop id.octets os ≡ m.lengths = rw (m.octets_are, m.identified.count) (drop-append_seam m.identifier m.lengths) in
     record {
       valid = rw (front, back) (record { identifier = m.identified.identified; lengths = m.sized; allowed = m.allowed });
       offset = refl;
       named = refl;
       rest = rest;
-      octets = rw (front, back, m.octet) refl;
+      octets = rw (front, back, m.octets_are) refl;
     }
 
 -- an identifier, and a length after it
@@ -107,7 +107,7 @@ begins_short os at named id size before count i e l =
       few = omega (arith, l'.few, length-take count (drop before os));
       some = omega (arith, l'.some, l'.within, length-take count (drop before os));
       allowed = l'.allowed;
-      octet = take-add before count os;
+      octets_are = take-add before count os;
     } in
     record {
       within = within;

@@ -4,11 +4,11 @@ use Rattle.std.proofs.lemmas.Bool.{cases_lt, cases_eq, cases_Bool, and_parts, no
 use Rattle.tlv_head.specs.declared.header.Class.{Class}
 use Rattle.tlv_head.specs.Header.{HeaderValue, IsHeader, IsIdentifier, octets_of}
 use Rattle.tlv_head.specs.Laws.{AreHeaderOctets, IsRefusable}
-use Rattle.tlv_head.specs.Refusal.{NoHeaderBeginsWith, IsFront, IsRefusedOctet, indefinite_primitive, length_too_large, reserved_length, tag_too_long}
+use Rattle.tlv_head.specs.Refusal.{CannotBecomeHeader, IsFront, IsRefusedOctet, indefinite_primitive, length_too_large, reserved_length, tag_too_long}
 use Rattle.tlv_head.specs.declared.fault.FaultCode.{FaultCode}
 use Rattle.tlv_head.specs.declared.fault.FaultCode.TheVariants.{StrayEnd, IndefinitePrimitive}
 use Rattle.tlv_head.proofs.Scan.{Scan, Origin, origin_of, start, Fresh, High, Named, Long, Ready, Stuck, Over, leads, class_of, step, scan, scan_from-append, scan_from-past, scan-moved, moved, is_more, more-from_front, no-front, same-header}
-use Rattle.tlv_head.proofs.Meaning.{IsHighState, IsLongState, Reads, reads-step, reads-scan, front-from_more, front-bytes}
+use Rattle.tlv_head.proofs.Meaning.{IsHighState, IsLongState, ReadLogState, reads-step, reads-scan, front-from_more, front-bytes}
 
 -- if two lists are fronts of one list, one of the two is a front of the other
 pub fronts : (a b x y : List ℕ) → a ++ x ≡ b ++ y → ((z : List ℕ) × (a ++ z ≡ b) × (x ≡ z ++ y)) ⊎ ((z : List ℕ) × (b ++ z ≡ a) × (y ≡ z ++ x))
@@ -99,7 +99,7 @@ explains-long at x c k n i m ds o s = ⊎_elim
     (cases_Bool (ltb (length ds + 1) m)))
     (cases_Bool (not (eqb x 0) && ltb (length ds + 5) m))
 
-pub explains : (at : Origin) (x : ℕ) (s : Scan) (o : List ℕ) → is_more s ≡ true → Reads at s o → Explains (step at s x) o x
+pub explains : (at : Origin) (x : ℕ) (s : Scan) (o : List ℕ) → is_more s ≡ true → ReadLogState at s o → Explains (step at s x) o x
 explains at x Fresh o m r = explains-first at x o r
 explains at x (High c k ds) o m r = explains-high at x c k ds o r
 explains at x (Named c k n i) o m r = explains-named at x c k n i o r.0 r.1
@@ -108,7 +108,7 @@ explains at x (Ready h) o m r = absurd (cc)
 explains at x (Stuck code) o m r = absurd (cc)
 explains at x Over o m r = absurd (cc)
 
-pub stuck-none : (at : Origin) (s : Scan) (o : List ℕ) → scan at o ≡ s → is_more s ≡ false → ((h : HeaderValue) → s ≡ Ready h → ⊥) → NoHeaderBeginsWith o
+pub stuck-none : (at : Origin) (s : Scan) (o : List ℕ) → scan at o ≡ s → is_more s ≡ false → ((h : HeaderValue) → s ≡ Ready h → ⊥) → CannotBecomeHeader o
 stuck-none at s o e m n h [] v f =
     let ready : scan at (o ++ []) ≡ Ready (moved at h) = rw f (scan-moved at h v) in
     let ready' : scan at o ≡ Ready (moved at h) = rw append-nil at ready in
@@ -121,9 +121,9 @@ stuck-none at s o e m n h (x ∷ more) v f =
 pub data Next (o : List ℕ) (x : ℕ) : Type 0 where
   continues : IsFront (o ++ x ∷ []) → Next o x
   completes : (h : HeaderValue) → IsHeader h → octets_of h ≡ o ++ x ∷ [] → Next o x
-  refuses : (code : FaultCode) → IsHeadRefusal code o x → NoHeaderBeginsWith (o ++ x ∷ []) → Next o x
+  refuses : (code : FaultCode) → IsHeadRefusal code o x → CannotBecomeHeader (o ++ x ∷ []) → Next o x
 
-next-from : (o : List ℕ) (x : ℕ) (s : Scan) → scan start (o ++ x ∷ []) ≡ s → Reads start s (o ++ x ∷ []) → Explains s o x → Next o x
+next-from : (o : List ℕ) (x : ℕ) (s : Scan) → scan start (o ++ x ∷ []) ≡ s → ReadLogState start s (o ++ x ∷ []) → Explains s o x → Next o x
 next-from o x Fresh e r w = absurd (omega (arith, ap length r, length-append o (x ∷ [])))
 next-from o x (High c k ds) e r w = continues (front-from_more start (High c k ds) _ r (λ z. omega (arith, ap length z, length-append o (x ∷ []))) refl)
 next-from o x (Named c k m i) e r w = continues (front-from_more start (Named c k m i) _ r (λ z. omega (arith, ap length z, length-append o (x ∷ []))) refl)
@@ -132,7 +132,7 @@ next-from o x (Ready h) e r w = completes h r.0 (sym r.1)
 next-from o x (Stuck code) e r w = refuses code w (stuck-none start (Stuck code) _ e refl (λ h z. cc))
 next-from o x Over e r w = absurd w
 
-next-more : (o : List ℕ) (x : ℕ) → x < 256 → is_more (scan start o) ≡ true → Reads start (scan start o) o → Next o x
+next-more : (o : List ℕ) (x : ℕ) → x < 256 → is_more (scan start o) ≡ true → ReadLogState start (scan start o) o → Next o x
 next-more o x h m r = next-from o x (step start (scan start o) x) (scan_from-append start Fresh o (x ∷ [])) (reads-step start x (scan start o) o h r) (explains start x (scan start o) o m r)
 
 pub next : (o : List ℕ) (x : ℕ) → x < 256 → (o ≡ []) ⊎ IsFront o → Next o x
@@ -151,4 +151,4 @@ classified o x first (refuses code r none) = inr (inr (code, refused-octet code 
 
 -- what can go on is no header
 pub front-no_header : (o : List ℕ) (h : HeaderValue) → IsFront o → IsHeader h → octets_of h ≡ o → ⊥
-front-no_header o h f v e = no-front h f.head f.more v f.valid f.proper (rw e f.front)
+front-no_header o h f v e = no-front h f.header f.more v f.valid f.proper (rw e f.front)

@@ -36,14 +36,14 @@ high-leading lead (d ∷ ds) last each below =
 pub leading_bits-zero : (h : HeaderValue) → IsHeader h → 1 < length h.identifier
     → (slice_index h.identifier 1 % 128 == 0) ≡ nat_lt h.number (128 ^ (length h.identifier - 2))
 leading_bits-zero h valid high = elim valid.identifier [
-  | inl low ↦ absurd (omega (arith, ap length low.octet))
-  | inr f ↦ rw (f.value, f.octet) (high-leading (leading_octet h.class h.constructed 31) f.digits f.last f.each f.last_digit)
+  | inl low ↦ absurd (omega (arith, ap length low.octets_are))
+  | inr f ↦ rw (f.value, f.octets_are) (high-leading (leading_octet h.class h.constructed 31) f.digits f.last f.each f.last_digit)
 ]
 
 -- ---- length octets
 
 long-leading : (n : ℕ) (octets : List ℕ) → IsLongForm n octets → (slice_index octets 1 == 0) ≡ nat_lt n (256 ^ (length octets - 2))
-long-leading n octets f = rw (f.value, f.octet) (by-digits f.digits f.each f.some)
+long-leading n octets f = rw (f.value, f.octets_are) (by-digits f.digits f.each f.some)
   where
     by-digits : (ds : List ℕ) → All (λ d. d < 256) ds → 1 ≤ length ds
         → (slice_index ((128 + length ds) ∷ ds) 1 == 0) ≡ nat_lt (value_of 256 ds) (256 ^ (length ((128 + length ds) ∷ ds) - 2))

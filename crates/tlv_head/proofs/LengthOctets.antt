@@ -46,7 +46,7 @@ few-lengths (Definite n) below =
       few = omega (arith, five.count);
       value = sym five.value;
       limit = below;
-      octet = refl;
+      octets_are = refl;
     }) in
     let short : ShortLength (Definite n) = short-length (Definite n) ((128 + length five.digits) ∷ five.digits) valid in
     record {

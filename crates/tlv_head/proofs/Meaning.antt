@@ -31,14 +31,14 @@ pub record IsLongState (c : Class) (k : Bool) (n : ℕ) (i : List ℕ) (m : ℕ)
   pub octets : o ≡ i ++ (128 + m) ∷ ds
 
 -- what the octets are, if they lead to this state
-abbrev pub Reads : Origin → Scan → List ℕ → Type 0
-Reads at Fresh o = o ≡ []
-Reads at (High c k ds) o = IsHighState c k ds o
-Reads at (Named c k n i) o = IsIdentifier c k n i × (o ≡ i)
-Reads at (Long c k n i m ds) o = IsLongState c k n i m ds o
-Reads at (Ready h) o = IsHeader h × (o ≡ octets_of h) × (origin_of h ≡ at)
-Reads at (Stuck code) o = Unit {0}
-Reads at Over o = Unit {0}
+abbrev pub ReadLogState : Origin → Scan → List ℕ → Type 0
+ReadLogState at Fresh o = o ≡ []
+ReadLogState at (High c k ds) o = IsHighState c k ds o
+ReadLogState at (Named c k n i) o = IsIdentifier c k n i × (o ≡ i)
+ReadLogState at (Long c k n i m ds) o = IsLongState c k n i m ds o
+ReadLogState at (Ready h) o = IsHeader h × (o ≡ octets_of h) × (origin_of h ≡ at)
+ReadLogState at (Stuck code) o = Unit {0}
+ReadLogState at Over o = Unit {0}
 
 bits-class_of : (x : ℕ) → x < 4 → class_bits (class_of x) ≡ x
 bits-class_of zero h = refl
@@ -54,22 +54,22 @@ leading-parts x a false e t = omega (arith, ltb-false 31 (x % 64) t)
 leading-of : (x : ℕ) → x < 256 → leading_octet (class_of (x / 64)) (ltb 31 (x % 64)) (x % 32) ≡ x
 leading-of x h = leading-parts x _ (ltb 31 (x % 64)) (bits-class_of (x / 64) (omega arith)) refl
 
-reads-leads : (at : Origin) (x : ℕ) (c : Class) (k : Bool) (low : ℕ) → low < 32 → leading_octet c k low ≡ x → x ≢ 0 → Reads at (leads x c k low) (x ∷ [])
+reads-leads : (at : Origin) (x : ℕ) (c : Class) (k : Bool) (low : ℕ) → low < 32 → leading_octet c k low ≡ x → x ≢ 0 → ReadLogState at (leads x c k low) (x ∷ [])
 reads-leads at x c k low h e nz = ⊎_elim
     (λ (last : low ≡ 31). rw (eq-eqb low 31 last) (record { each = All-nil (λ d. d < 128); few = omega arith; octets = rw (← e, last) }))
-    (λ (other : low ≡ 31 → ⊥). rw (ne_eqb low 31 other) (inl (record { small = omega arith; octet = rw e; nonzero = rw e nz }), refl))
+    (λ (other : low ≡ 31 → ⊥). rw (ne_eqb low 31 other) (inl (record { small = omega arith; octets_are = rw e; nonzero = rw e nz }), refl))
     (cases_eq low 31)
 
-reads-first : (at : Origin) (x : ℕ) → x < 256 → Reads at (step at Fresh x) (x ∷ [])
+reads-first : (at : Origin) (x : ℕ) → x < 256 → ReadLogState at (step at Fresh x) (x ∷ [])
 reads-first at x h = ⊎_elim
     (λ (z : x ≡ 0). rw (eq-eqb x 0 z) tt)
     (λ (nz : x ≡ 0 → ⊥). rw (ne_eqb x 0 nz) (reads-leads at x (class_of (x / 64)) (ltb 31 (x % 64)) (x % 32) (omega arith) (leading-of x h) nz))
     (cases_eq x 0)
 
-reads-high : (at : Origin) (x : ℕ) (c : Class) (k : Bool) (ds o : List ℕ) → x < 256 → IsHighState c k ds o → Reads at (step at (High c k ds) x) (o ++ x ∷ [])
+reads-high : (at : Origin) (x : ℕ) (c : Class) (k : Bool) (ds o : List ℕ) → x < 256 → IsHighState c k ds o → ReadLogState at (step at (High c k ds) x) (o ++ x ∷ [])
 reads-high at x c k ds o h s = ⊎_elim
     (λ (small : x < 128). rw (lt-ltb x 128 small)
-    (inr (record { digits = ds; last = x; each = s.each; last_digit = small; few = s.few; value = refl; octet = refl }), rw s.octets))
+    (inr (record { digits = ds; last = x; each = s.each; last_digit = small; few = s.few; value = refl; octets_are = refl }), rw s.octets))
     (λ (large : 128 ≤ x). ⊎_elim
     (λ (room : length ds < 8). rw (le-ltb x 128 large, lt-ltb (length ds) 8 room)
     (record {
@@ -86,11 +86,11 @@ allows_definite true n = refl
 allows_definite false n = refl
 
 reads-indefinite : (at : Origin) (x : ℕ) (c : Class) (k : Bool) (n : ℕ) (i : List ℕ) → IsIdentifier c k n i → x ≡ 128
-    → Reads at (cond k (Ready (head_of at c k n i Indefinite (x ∷ []))) (Stuck IndefinitePrimitive)) (i ++ x ∷ [])
+    → ReadLogState at (cond k (Ready (head_of at c k n i Indefinite (x ∷ []))) (Stuck IndefinitePrimitive)) (i ++ x ∷ [])
 reads-indefinite at x c true n i id e = (record { identifier = id; lengths = rw e; allowed = refl }, refl, refl)
 reads-indefinite at x c false n i id e = tt
 
-reads-named : (at : Origin) (x : ℕ) (c : Class) (k : Bool) (n : ℕ) (i : List ℕ) → x < 256 → IsIdentifier c k n i → Reads at (step at (Named c k n i) x) (i ++ x ∷ [])
+reads-named : (at : Origin) (x : ℕ) (c : Class) (k : Bool) (n : ℕ) (i : List ℕ) → x < 256 → IsIdentifier c k n i → ReadLogState at (step at (Named c k n i) x) (i ++ x ∷ [])
 reads-named at x c k n i h id = ⊎_elim
     (λ (small : x < 128). rw (lt-ltb x 128 small)
     (record { identifier = id; lengths = inl (small, refl); allowed = allows_definite k x }, refl, refl))
@@ -139,7 +139,7 @@ long-cases x m ds e = ⊎_elim
     (and_cases _ _ e)
 
 reads-long : (at : Origin) (x : ℕ) (c : Class) (k : Bool) (n : ℕ) (i : List ℕ) (m : ℕ) (ds o : List ℕ) → x < 256 → IsLongState c k n i m ds o
-    → Reads at (step at (Long c k n i m ds) x) (o ++ x ∷ [])
+    → ReadLogState at (step at (Long c k n i m ds) x) (o ++ x ∷ [])
 reads-long at x c k n i m ds o h s = ⊎_elim
     (λ (bad : (not (eqb x 0) && ltb (length ds + 5) m) ≡ true). rw bad tt)
     (λ (good : (not (eqb x 0) && ltb (length ds + 5) m) ≡ false).
@@ -163,7 +163,7 @@ reads-long at x c k n i m ds o h s = ⊎_elim
       record {
         identifier = s.identifier;
         allowed = allows_definite k 0;
-        lengths = inr (record { digits = ds ++ x ∷ []; each = All-push (λ d. d < 256) ds x s.each h; some = omega arith; few = omega (arith, s.few); value = refl; limit = omega arith; octet = rw is });
+        lengths = inr (record { digits = ds ++ x ∷ []; each = All-push (λ d. d < 256) ds x s.each h; some = omega arith; few = omega (arith, s.few); value = refl; limit = omega arith; octets_are = rw is });
       },
       rw (s.octets, append_assoc i ((128 + m) ∷ ds) (x ∷ [])),
       refl,
@@ -172,7 +172,7 @@ reads-long at x c k n i m ds o h s = ⊎_elim
     (cases_Bool (not (eqb x 0) && ltb (length ds + 5) m))
 
 -- one more octet
-pub reads-step : (at : Origin) (x : ℕ) (s : Scan) (o : List ℕ) → x < 256 → Reads at s o → Reads at (step at s x) (o ++ x ∷ [])
+pub reads-step : (at : Origin) (x : ℕ) (s : Scan) (o : List ℕ) → x < 256 → ReadLogState at s o → ReadLogState at (step at s x) (o ++ x ∷ [])
 reads-step at x Fresh o h r = rw r (reads-first at x h)
 reads-step at x (High c k ds) o h r = reads-high at x c k ds o h r
 reads-step at x (Named c k n i) o h r = rw (r.1) (reads-named at x c k n i h r.0)
@@ -181,20 +181,20 @@ reads-step at x (Ready head) o h r = tt
 reads-step at x (Stuck code) o h r = tt
 reads-step at x Over o h r = tt
 
-reads-scan_from : (at : Origin) (s : Scan) (o xs : List ℕ) → All (λ x. x < 256) xs → Reads at s o → Reads at (scan_from at s xs) (o ++ xs)
+reads-scan_from : (at : Origin) (s : Scan) (o xs : List ℕ) → All (λ x. x < 256) xs → ReadLogState at s o → ReadLogState at (scan_from at s xs) (o ++ xs)
 reads-scan_from at s o [] each r = rw (append-nil o) r
 reads-scan_from at s o (x ∷ xs) each r =
     rw (append_assoc o (x ∷ []) xs) at
     (reads-scan_from at (step at s x) (o ++ x ∷ []) xs (All-tail (λ x. x < 256) x xs each) (reads-step at x s o (All-head (λ x. x < 256) x xs each) r))
 
 -- octets are what the state that they lead to says
-pub reads-scan : (at : Origin) (xs : List ℕ) → All (λ x. x < 256) xs → Reads at (scan at xs) xs
+pub reads-scan : (at : Origin) (xs : List ℕ) → All (λ x. x < 256) xs → ReadLogState at (scan at xs) xs
 reads-scan at xs each = reads-scan_from at Fresh [] xs each refl
 
 -- identifier octets, or the first of them, are the front of a header: its length may be 0
 named-front : (c : Class) (k : Bool) (n : ℕ) (i o more : List ℕ) → IsIdentifier c k n i → o ≢ [] → o ++ more ≡ i → IsFront o
 named-front c k n i o more id some e = record {
-  head = head_of start c k n i (Definite 0) (0 ∷ []);
+  header = head_of start c k n i (Definite 0) (0 ∷ []);
   more = more ++ 0 ∷ [];
   proper = λ z. omega (arith, ap length z, length-append more (0 ∷ []));
   valid = record { identifier = id; lengths = inl (omega arith, refl); allowed = allows_definite k 0 };
@@ -206,7 +206,7 @@ long-front : (c : Class) (k : Bool) (n : ℕ) (i : List ℕ) (m : ℕ) (ds o : L
 long-front c k n i m ds o some s =
     let total : length (ds ++ replicate (m - length ds) 0) ≡ m = omega (arith, length-append ds (replicate (m - length ds) 0), length-replicate {A = ℕ} (m - length ds) 0, s.short) in
     record {
-      head = head_of start c k n i (Definite (value_of 256 (ds ++ replicate (m - length ds) 0))) ((128 + m) ∷ (ds ++ replicate (m - length ds) 0));
+      header = head_of start c k n i (Definite (value_of 256 (ds ++ replicate (m - length ds) 0))) ((128 + m) ∷ (ds ++ replicate (m - length ds) 0));
       more = replicate (m - length ds) 0;
       proper = λ z. omega (arith, ap length z, length-replicate {A = ℕ} (m - length ds) 0, s.short);
       valid = record {
@@ -219,17 +219,17 @@ long-front c k n i m ds o some s =
           few = omega (arith, s.few);
           value = refl;
           limit = rw (value_of-zeros 256 ds (m - length ds)) s.limit;
-          octet = rw total;
+          octets_are = rw total;
         });
       };
       front = rw (s.octets, append_assoc i ((128 + m) ∷ ds) (replicate (m - length ds) 0));
     }
 
 -- octets after which more are needed are the front of a header
-pub front-from_more : (at : Origin) (s : Scan) (o : List ℕ) → Reads at s o → o ≢ [] → is_more s ≡ true → IsFront o
+pub front-from_more : (at : Origin) (s : Scan) (o : List ℕ) → ReadLogState at s o → o ≢ [] → is_more s ≡ true → IsFront o
 front-from_more at Fresh o r some e = absurd (some r)
 front-from_more at (High c k ds) o r some e =
-    named-front c k _ _ o (0 ∷ []) (inr (record { digits = ds; last = 0; each = r.each; last_digit = omega arith; few = r.few; value = refl; octet = refl })) some (rw r.octets)
+    named-front c k _ _ o (0 ∷ []) (inr (record { digits = ds; last = 0; each = r.each; last_digit = omega arith; few = r.few; value = refl; octets_are = refl })) some (rw r.octets)
 front-from_more at (Named c k n i) o r some e = named-front c k n i o [] r.0 some (append-nil o ∙ r.1)
 front-from_more at (Long c k n i m ds) o r some e = long-front c k n i m ds o some r
 front-from_more at (Ready h) o r some e = absurd (cc)
@@ -250,17 +250,17 @@ leading-byte Private false n h = omega arith
 identifier-bytes : (c : Class) (k : Bool) (n : ℕ) (i : List ℕ) → IsIdentifier c k n i → All (λ x. x < 256) i
 identifier-bytes c k n i (inl low) =
     let small : n < 32 = omega (arith, low.small) in
-    rw low.octet (All-cons (λ x. x < 256) _ [] (leading-byte c k n small) (All-nil (λ x. x < 256)))
+    rw low.octets_are (All-cons (λ x. x < 256) _ [] (leading-byte c k n small) (All-nil (λ x. x < 256)))
 identifier-bytes c k n i (inr high) =
     let small : 31 < 32 = omega arith in
-    rw high.octet (All-cons (λ x. x < 256) _ _ (leading-byte c k 31 small)
+    rw high.octets_are (All-cons (λ x. x < 256) _ _ (leading-byte c k 31 small)
     (All-append (λ x. x < 256) (map (λ d. 128 + d) high.digits) (high.last ∷ [])
     (All-map (λ x. x < 256) (λ d. 128 + d) high.digits (All-weaker (λ d. d < 128) (λ d. 128 + d < 256) (λ d h. omega arith) high.digits high.each))
     (All-cons (λ x. x < 256) high.last [] (omega (arith, high.last_digit)) (All-nil (λ x. x < 256)))))
 
 length-bytes : (s : Size) (l : List ℕ) → IsLength s l → All (λ x. x < 256) l
 length-bytes (Definite n) l (inl short) = rw (short.1) (All-cons (λ x. x < 256) n [] (omega (arith, short.0)) (All-nil (λ x. x < 256)))
-length-bytes (Definite n) l (inr long) = rw long.octet (All-cons (λ x. x < 256) _ _ (omega (arith, long.few)) long.each)
+length-bytes (Definite n) l (inr long) = rw long.octets_are (All-cons (λ x. x < 256) _ _ (omega (arith, long.few)) long.each)
 length-bytes Indefinite l e = rw e (All-cons (λ x. x < 256) 128 [] (omega arith) (All-nil (λ x. x < 256)))
 
 header-bytes : (h : HeaderValue) → IsHeader h → All (λ x. x < 256) (octets_of h)
@@ -271,4 +271,4 @@ All-front : (xs ys : List ℕ) → All (λ x. x < 256) (xs ++ ys) → All (λ x.
 All-front xs ys each k d h = rw (get_or_append_left xs ys d k h) at (each k d (omega (arith, length-append xs ys)))
 
 pub front-bytes : (o : List ℕ) → IsFront o → All (λ x. x < 256) o
-front-bytes o f = All-front o f.more (rw f.front (header-bytes f.head f.valid))
+front-bytes o f = All-front o f.more (rw f.front (header-bytes f.header f.valid))

@@ -6,7 +6,7 @@ use Rattle.tlv_head.specs.declared.header.Class.{Class}
 use Rattle.tlv_head.specs.declared.fault.FaultCode.{FaultCode}
 use Rattle.tlv_head.specs.declared.fault.FaultCode.TheVariants.{TagTooLong, ReservedLength, IndefinitePrimitive, LengthTooLarge}
 use Rattle.tlv_head.specs.Header.{HeaderValue, IsHeader, IsIdentifier, leading_octet, octets_of, with_bit_8}
-use Rattle.tlv_head.specs.Refusal.{NoHeaderBeginsWith, BeginsWithNoHeader, IsFront, IsRefusedOctet, indefinite_primitive, length_too_large, reserved_length, tag_too_long}
+use Rattle.tlv_head.specs.Refusal.{CannotBecomeHeader, BeginsWithNoHeader, IsFront, IsRefusedOctet, indefinite_primitive, length_too_large, reserved_length, tag_too_long}
 use Rattle.tlv_head.proofs.Scan.{Scan, Origin, start, Fresh, High, Named, Long, Ready, Stuck, Over, step, scan_from, scan, scan_from-append, scan_from-over, scan-identifier, scan-moved, moved, step-leading, is_more, more-from_front}
 use Rattle.tlv_head.proofs.Headers.{fronts, stuck-none}
 
@@ -31,11 +31,11 @@ stuck-longer at s o more r = record {
 stuck-last : (at : Origin) (o : List ℕ) (code : FaultCode) → scan at o ≡ Stuck code → IsStuckFrom at Fresh o
 stuck-last at o code e = record { front = o; rest = []; code = code; stuck = e; octets = sym (append-nil o) }
 
-front-none : (o : List ℕ) (code : FaultCode) → scan start o ≡ Stuck code → NoHeaderBeginsWith o
+front-none : (o : List ℕ) (code : FaultCode) → scan start o ≡ Stuck code → CannotBecomeHeader o
 front-none o code e = stuck-none start (Stuck code) o e refl (λ h z. cc)
 
 -- no header begins with such octets
-stuck-begins-none : (o : List ℕ) → IsStuckFrom start Fresh o → NoHeaderBeginsWith o
+stuck-begins-none : (o : List ℕ) → IsStuckFrom start Fresh o → CannotBecomeHeader o
 stuck-begins-none o r = λ h more v e.
     front-none r.front r.code r.stuck h (r.rest ++ more) v (sym (append_assoc r.front r.rest more) ∙ (ap (λ z. z ++ more) (sym r.octets) ∙ e))
 
@@ -160,7 +160,7 @@ refused-stuck_from code o x r = ⊎_elim
     (refused-last start code o x r)
 
 -- no header begins with octets of which the last is refused
-pub refused-none : (code : FaultCode) (o : List ℕ) (x : ℕ) → IsRefusedOctet o x code → NoHeaderBeginsWith (o ++ x ∷ [])
+pub refused-none : (code : FaultCode) (o : List ℕ) (x : ℕ) → IsRefusedOctet o x code → CannotBecomeHeader (o ++ x ∷ [])
 refused-none code o x r = stuck-begins-none (o ++ x ∷ []) (refused-stuck_from code o x r)
 
 -- nor do they begin with one, whatever follows

@@ -9,7 +9,7 @@ use Rattle.tlv_head.specs.declared.header.Class.{Class}
 use Rattle.tlv_head.specs.declared.header.Class.TheVariants.{Universal, Application, Context, Private}
 use Rattle.tlv_head.specs.declared.header.Size.{Size}
 use Rattle.tlv_head.specs.declared.header.Size.TheVariants.{Definite, Indefinite}
-use Rattle.tlv_head.specs.Header.{HeaderValue, IsHeader, IsIdentifier, IsLength, indefinite_octets, is_wrapper, octets_of, with_bit_8}
+use Rattle.tlv_head.specs.Header.{HeaderValue, IsHeader, IsIdentifier, IsLength, spell_indefinite, is_wrapper, octets_of, with_bit_8}
 use Rattle.tlv_head.specs.Refusal.{BeginsWith, IsFront, IsRefusedOctet, tag_too_long, reserved_length, indefinite_primitive, length_too_large}
 use Rattle.tlv_head.specs.Tag.{tag_text}
 
@@ -22,33 +22,33 @@ below base (d ∷ ds) e =
 
 -- 04: OCTET STRING, primitive
 octet-string : IsIdentifier Universal false 4 (0x04 ∷ [])
-octet-string = inl (record { small = lit< tt; octet = refl; nonzero = omega arith })
+octet-string = inl (record { small = lit< tt; octets_are = refl; nonzero = omega arith })
 
 -- 30: SEQUENCE, constructed
 sequence : IsIdentifier Universal true 16 (0x30 ∷ [])
-sequence = inl (record { small = lit< tt; octet = refl; nonzero = omega arith })
+sequence = inl (record { small = lit< tt; octets_are = refl; nonzero = omega arith })
 
 -- 20: an element may have the number 0 if the octet is not 00
 constructed-zero : IsIdentifier Universal true 0 (0x20 ∷ [])
-constructed-zero = inl (record { small = lit< tt; octet = refl; nonzero = omega arith })
+constructed-zero = inl (record { small = lit< tt; octets_are = refl; nonzero = omega arith })
 
 -- 00 is no identifier
 zero-no_identifier : (class : Class) (constructed : Bool) (number : ℕ) → IsIdentifier class constructed number (0x00 ∷ []) → ⊥
-zero-no_identifier class constructed number (inl low) = low.nonzero (cc (low.octet))
+zero-no_identifier class constructed number (inl low) = low.nonzero (cc (low.octets_are))
 zero-no_identifier class constructed number (inr high) =
-    omega (arith, ap length high.octet, length-append (with_bit_8 high.digits) (high.last ∷ []))
+    omega (arith, ap length high.octets_are, length-append (with_bit_8 high.digits) (high.last ∷ []))
 
 -- 1f 02: INTEGER, the number 2 in the high form
 high-integer : IsIdentifier Universal false 2 (0x1f ∷ 0x02 ∷ [])
-high-integer = inr (record { digits = []; last = 2; each = below 128 [] refl; last_digit = lit< tt; few = omega arith; value = refl; octet = refl })
+high-integer = inr (record { digits = []; last = 2; each = below 128 [] refl; last_digit = lit< tt; few = omega arith; value = refl; octets_are = refl })
 
 -- 1f 80 02: the same number after a digit 0
 padded-integer : IsIdentifier Universal false 2 (0x1f ∷ 0x80 ∷ 0x02 ∷ [])
-padded-integer = inr (record { digits = 0 ∷ []; last = 2; each = below 128 (0 ∷ []) refl; last_digit = lit< tt; few = lit≤ tt; value = refl; octet = refl })
+padded-integer = inr (record { digits = 0 ∷ []; last = 2; each = below 128 (0 ∷ []) refl; last_digit = lit< tt; few = lit≤ tt; value = refl; octets_are = refl })
 
 -- 5f 1f: application class, primitive, the number 31
 application-31 : IsIdentifier Application false 31 (0x5f ∷ 0x1f ∷ [])
-application-31 = inr (record { digits = []; last = 31; each = below 128 [] refl; last_digit = lit< tt; few = omega arith; value = refl; octet = refl })
+application-31 = inr (record { digits = []; last = 31; each = below 128 [] refl; last_digit = lit< tt; few = omega arith; value = refl; octets_are = refl })
 
 -- 9f 81, seven 80 and 00: nine subsequent octets, the number 2^56
 nine-octets : IsIdentifier Context false 72057594037927936 (0x9f ∷ 0x81 ∷ 0x80 ∷ 0x80 ∷ 0x80 ∷ 0x80 ∷ 0x80 ∷ 0x80 ∷ 0x80 ∷ 0x00 ∷ [])
@@ -59,7 +59,7 @@ nine-octets = inr (record {
   last_digit = lit< tt;
   few = lit≤ tt;
   value = refl;
-  octet = refl;
+  octets_are = refl;
 })
 
 -- 03: three contents octets, in the short form
@@ -68,11 +68,11 @@ short-3 = inl (lit< tt, refl)
 
 -- 81 03: the same in the long form
 long-3 : IsLength (Definite 3) (0x81 ∷ 0x03 ∷ [])
-long-3 = inr (record { digits = 3 ∷ []; each = below 256 (3 ∷ []) refl; some = lit≤ tt; few = lit≤ tt; value = refl; limit = lit< tt; octet = refl })
+long-3 = inr (record { digits = 3 ∷ []; each = below 256 (3 ∷ []) refl; some = lit≤ tt; few = lit≤ tt; value = refl; limit = lit< tt; octets_are = refl })
 
 -- 82 00 80: 128 contents octets, with a leading 00
 padded-128 : IsLength (Definite 128) (0x82 ∷ 0x00 ∷ 0x80 ∷ [])
-padded-128 = inr (record { digits = 0 ∷ 128 ∷ []; each = below 256 (0 ∷ 128 ∷ []) refl; some = lit≤ tt; few = lit≤ tt; value = refl; limit = lit< tt; octet = refl })
+padded-128 = inr (record { digits = 0 ∷ 128 ∷ []; each = below 256 (0 ∷ 128 ∷ []) refl; some = lit≤ tt; few = lit≤ tt; value = refl; limit = lit< tt; octets_are = refl })
 
 -- 85 and five ff: the largest length
 largest : IsLength (Definite 1099511627775) (0x85 ∷ 0xff ∷ 0xff ∷ 0xff ∷ 0xff ∷ 0xff ∷ [])
@@ -83,7 +83,7 @@ largest = inr (record {
   few = lit≤ tt;
   value = refl;
   limit = lit< tt;
-  octet = refl;
+  octets_are = refl;
 })
 
 -- 80: the indefinite form
@@ -94,7 +94,7 @@ indefinite = refl
 reserved-no_length : (size : Size) (digits : List ℕ) → IsLength size (0xff ∷ digits) → ⊥
 reserved-no_length (Definite n) digits (inl short) = let same : 255 ≡ n = cc (short.1) in omega (arith, short.0)
 reserved-no_length (Definite n) digits (inr long) =
-    let same : 255 ≡ 128 + length long.digits = cc (long.octet) in
+    let same : 255 ≡ 128 + length long.digits = cc (long.octets_are) in
     omega (arith, long.few)
 reserved-no_length Indefinite digits e = omega (arith, ap (λ o. get_or o 0 0) e)
 
@@ -137,7 +137,7 @@ longest-header = record {
     few = lit≤ tt;
     value = refl;
     limit = lit< tt;
-    octet = refl;
+    octets_are = refl;
   });
   allowed = refl;
 }
@@ -170,7 +170,7 @@ refused-padded_length =
 -- 04 85 01: the same octet where four are to follow: with 00 they make a length of 2^32
 front-length : IsFront (0x04 ∷ 0x85 ∷ 0x01 ∷ [])
 front-length = record {
-  head = first Universal false 4 (Definite 4294967296) (0x04 ∷ []) (0x85 ∷ 0x01 ∷ 0x00 ∷ 0x00 ∷ 0x00 ∷ 0x00 ∷ []);
+  header = first Universal false 4 (Definite 4294967296) (0x04 ∷ []) (0x85 ∷ 0x01 ∷ 0x00 ∷ 0x00 ∷ 0x00 ∷ 0x00 ∷ []);
   more = 0x00 ∷ 0x00 ∷ 0x00 ∷ 0x00 ∷ [];
   valid = record {
     identifier = octet-string;
@@ -181,7 +181,7 @@ front-length = record {
       few = lit≤ tt;
       value = refl;
       limit = lit< tt;
-      octet = refl;
+      octets_are = refl;
     });
     allowed = refl;
   };
@@ -192,7 +192,7 @@ front-length = record {
 -- 1f: with 02 01 it is a header
 front-high_form : IsFront (0x1f ∷ [])
 front-high_form = record {
-  head = first Universal false 2 (Definite 1) (0x1f ∷ 0x02 ∷ []) (0x01 ∷ []);
+  header = first Universal false 2 (Definite 1) (0x1f ∷ 0x02 ∷ []) (0x01 ∷ []);
   more = 0x02 ∷ 0x01 ∷ [];
   valid = high-integer_header;
   proper = λ e. cc;
@@ -204,7 +204,7 @@ begins-sequence : BeginsWith (0x30 ∷ 0x80 ∷ 0x00 ∷ 0x00 ∷ []) 0 false (f
 begins-sequence = record { valid = sequence-header; offset = refl; named = refl; rest = 0x00 ∷ 0x00 ∷ []; octets = refl }
 
 -- bf 1f 82 01 00, with the indefinite form
-respelled : indefinite_octets (first Context true 31 (Definite 256) (0xbf ∷ 0x1f ∷ []) (0x82 ∷ 0x01 ∷ 0x00 ∷ [])) ≡ 0xbf ∷ 0x1f ∷ 0x80 ∷ []
+respelled : spell_indefinite (first Context true 31 (Definite 256) (0xbf ∷ 0x1f ∷ []) (0x82 ∷ 0x01 ∷ 0x00 ∷ [])) ≡ 0xbf ∷ 0x1f ∷ 0x80 ∷ []
 respelled = refl
 
 -- 04 00, named: an OCTET STRING wraps encodings, if none

@@ -122,11 +122,11 @@ pub scan-identifier : (at : Origin) (c : Class) (k : Bool) (n : ℕ) (i : List �
 scan-identifier at c k n i (inl low) =
     let small : n < 32 = omega (arith, low.small) in
     let apart : n ≡ 31 → ⊥ = omega (arith, low.small) in
-    rw low.octet (step-leading at c k n small low.nonzero ∙ rw (ne_eqb n 31 apart))
+    rw low.octets_are (step-leading at c k n small low.nonzero ∙ rw (ne_eqb n 31 apart))
 scan-identifier at c k n i (inr high) =
     let nonzero : leading_octet c k 31 ≢ 0 = omega arith in
     let below : 31 < 32 = omega arith in
-    rw (high.octet, high.value)
+    rw (high.octets_are, high.value)
     (ap (λ (s : Scan). scan_from at s (map (λ d. 128 + d) high.digits ++ high.last ∷ [])) (step-leading at c k 31 below nonzero)
     ∙ scan-high at c k [] high.digits high.last high.each high.last_digit (omega (arith, high.few)))
 
@@ -183,7 +183,7 @@ scan-length : (at : Origin) (c : Class) (k : Bool) (n : ℕ) (i : List ℕ) (siz
 scan-length at c k n i (Definite a) l (inl short) allowed = rw (short.1, lt-ltb a 128 short.0)
 scan-length at c k n i (Definite a) l (inr long) allowed =
     let limit : value_of 256 long.digits < 2 ^ 40 = omega (arith, long.limit, long.value) in
-    rw (long.octet, long.value) (scan-digits at c k n i long.digits long.some long.few limit)
+    rw (long.octets_are, long.value) (scan-digits at c k n i long.digits long.some long.few limit)
 scan-length at c true n i Indefinite l e allowed = rw e
 scan-length at c false n i Indefinite l e allowed = absurd (cc (allowed))
 
@@ -241,8 +241,8 @@ more-cases at s xs h some r false e = absurd (scan_from-past at s xs h e some r)
 -- after the front of a header more octets are needed
 pub more-from_front : (at : Origin) (o : List ℕ) → IsFront o → is_more (scan at o) ≡ true
 more-from_front at o f =
-    let whole : scan at (o ++ f.more) ≡ Ready (moved at f.head) = rw f.front (scan-moved at f.head f.valid) in
-    more-cases at (scan at o) f.more (moved at f.head) f.proper (rw (scan_from-append at Fresh o f.more) at whole) (is_more (scan at o)) refl
+    let whole : scan at (o ++ f.more) ≡ Ready (moved at f.header) = rw f.front (scan-moved at f.header f.valid) in
+    more-cases at (scan at o) f.more (moved at f.header) f.proper (rw (scan_from-append at Fresh o f.more) at whole) (is_more (scan at o)) refl
 
 -- a header is no proper front of another
 pub no-front : (h g : HeaderValue) (xs : List ℕ) → IsHeader h → IsHeader g → xs ≢ [] → octets_of h ++ xs ≡ octets_of g → ⊥

@@ -41,24 +41,24 @@ flagged-end (a ∷ ds) (b ∷ es) l m x y h k e =
 -- octets begin with at most one identifier
 one-identifier : (c d : Class) (k j : Bool) (n m : ℕ) (i o x y : List ℕ) → IsIdentifier c k n i → IsIdentifier d j m o → i ++ x ≡ o ++ y → i ≡ o
 one-identifier c d k j n m i o x y (inl p) (inl q) e =
-    let whole : leading_octet c k n ∷ x ≡ leading_octet d j m ∷ y = ap (λ (z : List ℕ). z ++ x) (sym p.octet) ∙ (e ∙ ap (λ (z : List ℕ). z ++ y) q.octet) in
+    let whole : leading_octet c k n ∷ x ≡ leading_octet d j m ∷ y = ap (λ (z : List ℕ). z ++ x) (sym p.octets_are) ∙ (e ∙ ap (λ (z : List ℕ). z ++ y) q.octets_are) in
     let same : leading_octet c k n ≡ leading_octet d j m = cc in
-    p.octet ∙ (ap (λ (u : ℕ). u ∷ []) same ∙ sym q.octet)
+    p.octets_are ∙ (ap (λ (u : ℕ). u ∷ []) same ∙ sym q.octets_are)
 one-identifier c d k j n m i o x y (inl p) (inr q) e =
     let whole : leading_octet c k n ∷ x ≡ leading_octet d j 31 ∷ ((with_bit_8 q.digits ++ q.last ∷ []) ++ y) =
-    ap (λ (z : List ℕ). z ++ x) (sym p.octet) ∙ (e ∙ ap (λ (z : List ℕ). z ++ y) q.octet) in
+    ap (λ (z : List ℕ). z ++ x) (sym p.octets_are) ∙ (e ∙ ap (λ (z : List ℕ). z ++ y) q.octets_are) in
     absurd (forms-apart c d k j n p.small (cc))
 one-identifier c d k j n m i o x y (inr p) (inl q) e =
     let whole : leading_octet d j m ∷ y ≡ leading_octet c k 31 ∷ ((with_bit_8 p.digits ++ p.last ∷ []) ++ x) =
-    ap (λ (z : List ℕ). z ++ y) (sym q.octet) ∙ (sym e ∙ ap (λ (z : List ℕ). z ++ x) p.octet) in
+    ap (λ (z : List ℕ). z ++ y) (sym q.octets_are) ∙ (sym e ∙ ap (λ (z : List ℕ). z ++ x) p.octets_are) in
     absurd (forms-apart d c j k m q.small (cc))
 one-identifier c d k j n m i o x y (inr p) (inr q) e =
     let whole : leading_octet c k 31 ∷ ((with_bit_8 p.digits ++ p.last ∷ []) ++ x) ≡ leading_octet d j 31 ∷ ((with_bit_8 q.digits ++ q.last ∷ []) ++ y) =
-    ap (λ (z : List ℕ). z ++ x) (sym p.octet) ∙ (e ∙ ap (λ (z : List ℕ). z ++ y) q.octet) in
+    ap (λ (z : List ℕ). z ++ x) (sym p.octets_are) ∙ (e ∙ ap (λ (z : List ℕ). z ++ y) q.octets_are) in
     let same : leading_octet c k 31 ≡ leading_octet d j 31 = cc in
     let rest : (with_bit_8 p.digits ++ p.last ∷ []) ++ x ≡ (with_bit_8 q.digits ++ q.last ∷ []) ++ y = cc in
     let digits : with_bit_8 p.digits ++ p.last ∷ [] ≡ with_bit_8 q.digits ++ q.last ∷ [] = flagged-end p.digits q.digits p.last q.last x y p.last_digit q.last_digit rest in
-    p.octet ∙ (ap (λ (u : ℕ). u ∷ (with_bit_8 p.digits ++ p.last ∷ [])) same ∙ (ap (λ (t : List ℕ). leading_octet d j 31 ∷ t) digits ∙ sym q.octet))
+    p.octets_are ∙ (ap (λ (u : ℕ). u ∷ (with_bit_8 p.digits ++ p.last ∷ [])) same ∙ (ap (λ (t : List ℕ). leading_octet d j 31 ∷ t) digits ∙ sym q.octets_are))
 
 -- and it has one form: primitive or constructed
 one-form : (c d : Class) (k j : Bool) (n m : ℕ) (i o : List ℕ) → IsIdentifier c k n i → IsIdentifier d j m o → i ≡ o → k ≡ j
@@ -81,12 +81,12 @@ within-front (a ∷ o) (b ∷ i) x y h e =
 -- there are length octets, and identifier octets
 some-length : (s : Size) (l : List ℕ) → IsLength s l → l ≢ []
 some-length (Definite n) l (inl short) e = omega (arith, ap length (sym short.1 ∙ e))
-some-length (Definite n) l (inr long) e = omega (arith, ap length (sym long.octet ∙ e))
+some-length (Definite n) l (inr long) e = omega (arith, ap length (sym long.octets_are ∙ e))
 some-length Indefinite l q e = omega (arith, ap length (sym q ∙ e))
 
 some-identifier : (c : Class) (k : Bool) (n : ℕ) (i : List ℕ) → IsIdentifier c k n i → i ≢ []
-some-identifier c k n i (inl low) e = omega (arith, ap length (sym low.octet ∙ e))
-some-identifier c k n i (inr high) e = omega (arith, ap length (sym high.octet ∙ e))
+some-identifier c k n i (inl low) e = omega (arith, ap length (sym low.octets_are ∙ e))
+some-identifier c k n i (inr high) e = omega (arith, ap length (sym high.octets_are ∙ e))
 
 snoc≢nil : (os : List ℕ) (x : ℕ) → os ++ x ∷ [] ≢ []
 snoc≢nil [] x e = cc
@@ -122,7 +122,7 @@ pub always-unfinished : (r : Next) (id : Identifier) (o : List ℕ) (x : ℕ) �
     → ((p : Part) → r ≡ Unfinished p → ⊥) → ⊥
 always-unfinished (Unfinished p) id o x h few f not = not p refl
 always-unfinished (Finished d size) id o x h few f not =
-    unended-length id o x d.class d.constructed d.number f.identifier f.lengths h f.identified.identified f.some f.octet
+    unended-length id o x d.class d.constructed d.number f.identifier f.lengths h f.identified.identified f.some f.octets_are
 always-unfinished (Refused code) id o x h few f not = unrefused code id o x h few f
 
 -- what is returned is what the octets are
@@ -144,7 +144,7 @@ carried-on Start id o x h f not = absurd (snoc≢nil o x f)
 carried-on (Number d) id o x h f not = (d, refl, f)
 carried-on (Length d) id o x h f not = absurd (not d refl)
 carried-on (Digits d n left) id o x h f not =
-    absurd (unended-length id o x d.class d.constructed d.number f.identifier _ h f.front.identified (omega arith) f.front.octet)
+    absurd (unended-length id o x d.class d.constructed d.number f.identifier _ h f.front.identified (omega arith) f.front.octets_are)
 carried-on Done id o x h f not = absurd (snoc≢nil o x f)
 
 pub goes-on : (r : Next) (p : Part) (id : Identifier) (o : List ℕ) (x : ℕ) → CarriesNumber id o → MakesNext o x r → r ≡ Unfinished p
@@ -161,7 +161,7 @@ leads-on Start x h not nor = let none : x ∷ [] ≡ [] = h in cc
 leads-on (Number d) x h not nor = nor d refl
 leads-on (Length d) x h not nor = not d refl
 leads-on (Digits d n left) x h not nor =
-    some-identifier d.class d.constructed d.number h.identifier h.front.identified (short_front h.identifier _ _ x h.front.octet)
+    some-identifier d.class d.constructed d.number h.identifier h.front.identified (short_front h.identifier _ _ x h.front.octets_are)
   where
     short_front : (i : List ℕ) (y : ℕ) (l : List ℕ) (x : ℕ) → x ∷ [] ≡ i ++ y ∷ l → i ≡ []
     short_front [] y l x e = refl

@@ -20,7 +20,7 @@ all_digits f = f.digits ++ f.last ∷ []
 count-high : (class : Class) (constructed : Bool) (n : ℕ) (octets : List ℕ) (f : IsHighForm class constructed n octets)
     → length octets ≡ 1 + length (all_digits f)
 count-high class constructed n octets f =
-    omega (arith, ap length f.octet, length-append (with_bit_8 f.digits) (f.last ∷ []), length-append f.digits (f.last ∷ []), length-map f.digits (λ d. 128 + d))
+    omega (arith, ap length f.octets_are, length-append (with_bit_8 f.digits) (f.last ∷ []), length-append f.digits (f.last ∷ []), length-map f.digits (λ d. 128 + d))
 
 each-high : (class : Class) (constructed : Bool) (n : ℕ) (octets : List ℕ) (f : IsHighForm class constructed n octets) → All (λ d. d < 128) (all_digits f)
 each-high class constructed n octets f = All-push (λ d. d < 128) f.digits f.last f.each f.last_digit
@@ -37,14 +37,14 @@ fewest b (x ∷ xs) ys some nonzero v e = fewest-digits b x xs ys some nonzero v
 
 pub identifier-le : (class : Class) (constructed : Bool) (n : ℕ) (xs ys : List ℕ) → IsIdentifier class constructed n xs → IsIdentifier class constructed n ys
     → IsShortestIdentifier n xs → length xs ≤ length ys
-identifier-le class constructed n xs ys (inl f) (inl g) s = omega (arith, ap length f.octet, ap length g.octet)
-identifier-le class constructed n xs ys (inl f) (inr g) s = omega (arith, ap length f.octet, count-high class constructed n ys g)
-identifier-le class constructed n xs ys (inr f) (inl g) s = omega (arith, s.single g.small, ap length g.octet)
+identifier-le class constructed n xs ys (inl f) (inl g) s = omega (arith, ap length f.octets_are, ap length g.octets_are)
+identifier-le class constructed n xs ys (inl f) (inr g) s = omega (arith, ap length f.octets_are, count-high class constructed n ys g)
+identifier-le class constructed n xs ys (inr f) (inl g) s = omega (arith, s.single g.small, ap length g.octets_are)
 identifier-le class constructed n xs ys (inr f) (inr g) s =
     let some : 1 < length xs = omega (arith, count-high class constructed n xs f, length-append f.digits (f.last ∷ [])) in
     let nonzero : slice_index (all_digits f) 0 ≢ 0 =
     λ z. s.leading some
-    (ap (λ (l : List ℕ). slice_index l 1 % 128) f.octet ∙ high-first (leading_octet class constructed 31) f.digits f.last f.each f.last_digit ∙ z) in
+    (ap (λ (l : List ℕ). slice_index l 1 % 128) f.octets_are ∙ high-first (leading_octet class constructed 31) f.digits f.last f.each f.last_digit ∙ z) in
     let fewer : length (all_digits f) ≤ length (all_digits g) =
     fewest 128 (all_digits f) (all_digits g) (lit< tt) nonzero (each-high class constructed n ys g) (sym f.value ∙ g.value) in
     omega (arith, fewer, count-high class constructed n xs f, count-high class constructed n ys g)
@@ -58,16 +58,16 @@ high-same class constructed n xs ys f g e =
     same-digits 128 (all_digits f) (all_digits g) (lit< tt) (each-high class constructed n xs f) (each-high class constructed n ys g) count
     (sym f.value ∙ g.value) in
     let parts : (f.digits ≡ g.digits) × (f.last ≡ g.last) = same_from_push f.digits g.digits f.last g.last digits in
-    f.octet ∙ ap₂ (λ (ds : List ℕ) (last : ℕ). leading_octet class constructed 31 ∷ (with_bit_8 ds ++ last ∷ [])) parts.0 parts.1 ∙ sym g.octet
+    f.octets_are ∙ ap₂ (λ (ds : List ℕ) (last : ℕ). leading_octet class constructed 31 ∷ (with_bit_8 ds ++ last ∷ [])) parts.0 parts.1 ∙ sym g.octets_are
 
 -- the same number of identifier octets
 pub identifier-same : (class : Class) (constructed : Bool) (n : ℕ) (xs ys : List ℕ) → IsIdentifier class constructed n xs → IsIdentifier class constructed n ys
     → length xs ≡ length ys → xs ≡ ys
-identifier-same class constructed n xs ys (inl f) (inl g) e = f.octet ∙ sym g.octet
+identifier-same class constructed n xs ys (inl f) (inl g) e = f.octets_are ∙ sym g.octets_are
 identifier-same class constructed n xs ys (inl f) (inr g) e =
-    absurd (omega (arith, e, ap length f.octet, count-high class constructed n ys g, length-append g.digits (g.last ∷ [])))
+    absurd (omega (arith, e, ap length f.octets_are, count-high class constructed n ys g, length-append g.digits (g.last ∷ [])))
 identifier-same class constructed n xs ys (inr f) (inl g) e =
-    absurd (omega (arith, e, ap length g.octet, count-high class constructed n xs f, length-append f.digits (f.last ∷ [])))
+    absurd (omega (arith, e, ap length g.octets_are, count-high class constructed n xs f, length-append f.digits (f.last ∷ [])))
 identifier-same class constructed n xs ys (inr f) (inr g) e = high-same class constructed n xs ys f g e
 
 -- ---- length octets
@@ -75,24 +75,24 @@ identifier-same class constructed n xs ys (inr f) (inr g) e = high-same class co
 pub length-le : (size : Size) (xs ys : List ℕ) → IsLength size xs → IsLength size ys → IsShortestLength (announced_length size) xs → length xs ≤ length ys
 length-le Indefinite xs ys u v s = omega (arith, ap length u, ap length v)
 length-le (Definite n) xs ys (inl f) (inl g) s = omega (arith, ap length f.1, ap length g.1)
-length-le (Definite n) xs ys (inl f) (inr g) s = omega (arith, ap length f.1, ap length g.octet)
+length-le (Definite n) xs ys (inl f) (inr g) s = omega (arith, ap length f.1, ap length g.octets_are)
 length-le (Definite n) xs ys (inr f) (inl g) s = omega (arith, s.single g.0, ap length g.1)
 length-le (Definite n) xs ys (inr f) (inr g) s =
-    let some : 1 < length xs = omega (arith, ap length f.octet, f.some) in
-    let nonzero : slice_index f.digits 0 ≢ 0 = λ z. s.leading some (ap (λ (l : List ℕ). slice_index l 1) f.octet ∙ z) in
+    let some : 1 < length xs = omega (arith, ap length f.octets_are, f.some) in
+    let nonzero : slice_index f.digits 0 ≢ 0 = λ z. s.leading some (ap (λ (l : List ℕ). slice_index l 1) f.octets_are ∙ z) in
     let fewer : length f.digits ≤ length g.digits = fewest 256 f.digits g.digits (lit< tt) nonzero g.each (sym f.value ∙ g.value) in
-    omega (arith, fewer, ap length f.octet, ap length g.octet)
+    omega (arith, fewer, ap length f.octets_are, ap length g.octets_are)
 
 -- the same number of length octets
 pub length-same : (size : Size) (xs ys : List ℕ) → IsLength size xs → IsLength size ys → length xs ≡ length ys → xs ≡ ys
 length-same Indefinite xs ys u v e = u ∙ sym v
 length-same (Definite n) xs ys (inl f) (inl g) e = f.1 ∙ sym g.1
-length-same (Definite n) xs ys (inl f) (inr g) e = absurd (omega (arith, e, ap length f.1, ap length g.octet, g.some))
-length-same (Definite n) xs ys (inr f) (inl g) e = absurd (omega (arith, e, ap length g.1, ap length f.octet, f.some))
+length-same (Definite n) xs ys (inl f) (inr g) e = absurd (omega (arith, e, ap length f.1, ap length g.octets_are, g.some))
+length-same (Definite n) xs ys (inr f) (inl g) e = absurd (omega (arith, e, ap length g.1, ap length f.octets_are, f.some))
 length-same (Definite n) xs ys (inr f) (inr g) e =
-    let count : length f.digits ≡ length g.digits = omega (arith, e, ap length f.octet, ap length g.octet) in
+    let count : length f.digits ≡ length g.digits = omega (arith, e, ap length f.octets_are, ap length g.octets_are) in
     let digits : f.digits ≡ g.digits = same-digits 256 f.digits g.digits (lit< tt) f.each g.each count (sym f.value ∙ g.value) in
-    f.octet ∙ ap (λ (ds : List ℕ). (128 + length ds) ∷ ds) digits ∙ sym g.octet
+    f.octets_are ∙ ap (λ (ds : List ℕ). (128 + length ds) ∷ ds) digits ∙ sym g.octets_are
 
 -- ---- both
 
@@ -131,12 +131,12 @@ shortest_are_one h g u v tag size s t =
 -- ---- what makes a header as short as it can be
 
 pub identifier-some : (class : Class) (constructed : Bool) (n : ℕ) (octets : List ℕ) → IsIdentifier class constructed n octets → 1 ≤ length octets
-identifier-some class constructed n octets (inl f) = omega (arith, ap length f.octet)
-identifier-some class constructed n octets (inr f) = omega (arith, ap length f.octet)
+identifier-some class constructed n octets (inl f) = omega (arith, ap length f.octets_are)
+identifier-some class constructed n octets (inr f) = omega (arith, ap length f.octets_are)
 
 pub lengths-some : (size : Size) (octets : List ℕ) → IsLength size octets → 1 ≤ length octets
 lengths-some (Definite n) octets (inl f) = omega (arith, ap length f.1)
-lengths-some (Definite n) octets (inr f) = omega (arith, ap length f.octet)
+lengths-some (Definite n) octets (inr f) = omega (arith, ap length f.octets_are)
 lengths-some Indefinite octets v = omega (arith, ap length v)
 
 -- a number that is too small for two octets or more has one

@@ -41,7 +41,7 @@ pub record ShortIdentifier (class : Class) (constructed : Bool) (n : ℕ) : Type
 low-form : (class : Class) (constructed : Bool) (n : ℕ) → n < 31 → leading_octet class constructed n ≢ 0 → ShortIdentifier class constructed n
 low-form class constructed n small nonzero = record {
   octets = leading_octet class constructed n ∷ [];
-  valid = inl (record { small = small; octet = refl; nonzero = nonzero });
+  valid = inl (record { small = small; octets_are = refl; nonzero = nonzero });
   shortest = record { single = λ s. refl; leading = λ more. absurd (omega (arith, more)) };
 }
 
@@ -62,7 +62,7 @@ high-form class constructed n digits last large each below few e =
     let nonzero : slice_index (r.kept ++ last ∷ []) 0 ≢ 0 = first-kept r.kept last n large value r.first in
     record {
       octets = leading_octet class constructed 31 ∷ (with_bit_8 r.kept ++ last ∷ []);
-      valid = inr (record { digits = r.kept; last = last; each = r.each; last_digit = below; few = omega (arith, r.fewer); value = value; octet = refl });
+      valid = inr (record { digits = r.kept; last = last; each = r.each; last_digit = below; few = omega (arith, r.fewer); value = value; octets_are = refl });
       shortest = record {
         single = λ small. absurd (omega (arith, small, large));
         leading = λ more z. nonzero (sym (high-first (leading_octet class constructed 31) r.kept last r.each below) ∙ z);
@@ -108,7 +108,7 @@ long-form n digits large each few limit e =
         few = omega (arith, r.fewer);
         value = value ∙ ap (value_of 256) (append-nil r.kept);
         limit = limit;
-        octet = refl;
+        octets_are = refl;
       });
       shortest = record { single = λ small. absurd (omega (arith, small, large)); leading = λ more z. first.1 z };
     }

@@ -54,7 +54,7 @@ begins_length id octets x h low high = record {
     each = All-nil (λ d. d < 256);
     some = omega arith;
     few = omega arith;
-    octet = (let e : 128 + (0 + (x - 128)) ≡ x = omega arith in rw e refl);
+    octets_are = (let e : 128 + (0 + (x - 128)) ≡ x = omega arith in rw e refl);
   };
   count = h.count;
   few = h.few;
@@ -76,7 +76,7 @@ more_length id n left x r octets h e below zero_or_few rest =
         each = All-push (λ d. d < 256) h.digits x h.front.each below;
         some = omega arith;
         few = omega arith;
-        octet = front-snoc _ _ _ _ _ _ h.front.octet (omega arith);
+        octets_are = front-snoc _ _ _ _ _ _ h.front.octets_are (omega arith);
       };
       count = h.count;
       few = h.few;
@@ -103,12 +103,12 @@ ends_length id n left x r octets h e below zero_or_few rest =
         few = omega arith;
         value = rw (e, h.value) (sym (value_of-snoc 256 h.digits x));
         limit = omega arith;
-        octet = refl;
+        octets_are = refl;
       });
       few = omega arith;
       some = omega arith;
       allowed = allows_definite id.constructed (n * 256 + r);
-      octet = front-snoc _ _ _ _ _ _ h.front.octet (omega arith);
+      octets_are = front-snoc _ _ _ _ _ _ h.front.octets_are (omega arith);
     }
 
 pub more_number : (id : Identifier) (x r : ℕ) (octets : List ℕ) → CarriesNumber id octets → x ≡ 128 + r → r < 128 → id.octets < 9
@@ -120,7 +120,7 @@ more_number id x r octets h e below few =
       digits = h.digits ++ r ∷ [];
       front = record {
         each = All-push (λ d. d < 128) h.digits r h.front.each below;
-        octet = rw (h.front.octet, e, map_push (λ d. 128 + d) h.digits r) refl;
+        octets_are = rw (h.front.octets_are, e, map_push (λ d. 128 + d) h.digits r) refl;
       };
       count = omega arith;
       few = omega arith;
@@ -131,7 +131,7 @@ pub ends_number : (id : Identifier) (x r : ℕ) (octets : List ℕ) → CarriesN
     → CarriesIdentifier (record { class = id.class; constructed = id.constructed; number = id.number * 128 + r; octets = id.octets + 1 }) (octets ++ x ∷ [])
 ends_number id x r octets h e below =
     let count : id.octets ≡ length h.digits + 1 = h.count in
-    let size : length octets ≡ length h.digits + 1 = rw h.front.octet (omega (arith, length-map h.digits (λ d. 128 + d))) in
+    let size : length octets ≡ length h.digits + 1 = rw h.front.octets_are (omega (arith, length-map h.digits (λ d. 128 + d))) in
     let few : length h.digits ≤ 8 = h.few in
     record {
       identified = inr (record {
@@ -141,7 +141,7 @@ ends_number id x r octets h e below =
         last_digit = below;
         few = h.few;
         value = rw (e, h.value) (sym (value_of-snoc 128 h.digits x));
-        octet = rw h.front.octet refl;
+        octets_are = rw h.front.octets_are refl;
       });
       count = omega (arith, length-append octets (x ∷ []));
       few = omega (arith, length-append octets (x ∷ []));
@@ -149,7 +149,7 @@ ends_number id x r octets h e below =
 
 -- a ninth subsequent identifier octet that is not the last
 pub ninth_number : (id : Identifier) (octets : List ℕ) (x : ℕ) → CarriesNumber id octets → 9 ≤ id.octets → 128 ≤ x → IsRefusedOctet octets x TagTooLong
-ninth_number id octets x h many flag = tag_too_long id.class id.constructed h.digits h.front.each (omega (arith, h.few, h.count)) h.front.octet flag
+ninth_number id octets x h many flag = tag_too_long id.class id.constructed h.digits h.front.each (omega (arith, h.few, h.count)) h.front.octets_are flag
 
 -- a first length octet ff
 pub all_ones : (id : Identifier) (octets : List ℕ) (x : ℕ) → CarriesIdentifier id octets → x ≡ 255 → IsRefusedOctet octets x ReservedLength
@@ -162,4 +162,4 @@ unallowed id octets x h form e = indefinite_primitive id.class id.number (subst 
 -- a length octet that makes the length too large
 pub too_large : (id : Identifier) (n left : ℕ) (octets : List ℕ) (x : ℕ) → CarriesLength id n left octets → 6 ≤ left → x ≢ 0 → IsRefusedOctet octets x LengthTooLarge
 too_large id n left octets x h many nonzero =
-    length_too_large id.class id.constructed id.number h.identifier h.digits left h.front.identified h.front.each h.front.octet h.front.few many nonzero
+    length_too_large id.class id.constructed id.number h.identifier h.digits left h.front.identified h.front.each h.front.octets_are h.front.few many nonzero

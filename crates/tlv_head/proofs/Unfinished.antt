@@ -21,13 +21,13 @@ pub length-carried : (p : Part) (os : List ℕ) → Carries p os → length os �
 length-carried Start os h = rw h (omega arith)
 length-carried (Number id) os h =
     let few : length h.digits ≤ 8 = h.few in
-    rw h.front.octet (omega (arith, length-map h.digits (λ d. 128 + d)))
+    rw h.front.octets_are (omega (arith, length-map h.digits (λ d. 128 + d)))
 length-carried (Length id) os h = let few : length os ≤ 10 = h.few in omega arith
 length-carried (Digits id n left) os h =
     let few : length h.identifier ≤ 10 = h.few in
     let some : 1 ≤ left = h.front.some in
     let most : length h.digits + left ≤ 126 = h.front.few in
-    rw h.front.octet (omega (arith, length-append h.identifier ((128 + (length h.digits + left)) ∷ h.digits)))
+    rw h.front.octets_are (omega (arith, length-append h.identifier ((128 + (length h.digits + left)) ∷ h.digits)))
 length-carried Done os h = rw h (omega arith)
 
 -- the header that is made
@@ -52,13 +52,13 @@ made_completes r id size os x m e = record {
   valid = made-valid r.offset r.named id size _ m;
   offset = refl;
   named = refl;
-  octets = sym m.octet ∙ ap (λ s. s ++ x ∷ []) e;
+  octets = sym m.octets_are ∙ ap (λ s. s ++ x ∷ []) e;
 }
 
 pub made_too_deep : (r : HeadReaderState) (id : Identifier) (size : Size) (os : List ℕ) (x depth : ℕ) → MakesHeader id size (os ++ x ∷ []) → os ≡ r.octets
     → (id.constructed || is_wrapper r.named id.class id.constructed id.number size) ≡ true → 128 ≤ depth → IsTooDeep r x depth
 made_too_deep r id size os x depth m e c low = record {
-  head = made r.offset r.named id size (os ++ x ∷ []) m;
+  header = made r.offset r.named id size (os ++ x ∷ []) m;
   completes = made_completes r id size os x m e;
   holding = c;
   deep = low;
@@ -67,7 +67,7 @@ made_too_deep r id size os x depth m e c low = record {
 pub made_ends_past : (r : HeadReaderState) (id : Identifier) (size : Size) (os : List ℕ) (x depth : ℕ) (room : Option ℕ) → MakesHeader id size (os ++ x ∷ []) → os ≡ r.octets
     → ((id.constructed || is_wrapper r.named id.class id.constructed id.number size) ≡ true → depth < 128) → (ContentsFit size room → ⊥) → EndsPast r x room depth
 made_ends_past r id size os x depth room m e c past = record {
-  head = made r.offset r.named id size (os ++ x ∷ []) m;
+  header = made r.offset r.named id size (os ++ x ∷ []) m;
   completes = made_completes r id size os x m e;
   shallow = c;
   past = past;
@@ -87,7 +87,7 @@ pub made_whole : (r : HeadReaderState) (id : Identifier) (size : Size) (os : Lis
     })
 made_whole r id size os x m e =
     let count : id.octets ≡ length m.identifier = m.identified.count in
-    rw (m.octet, count, take-append_seam m.identifier m.lengths, drop-append_seam m.identifier m.lengths) (made_completes r id size os x m e)
+    rw (m.octets_are, count, take-append_seam m.identifier m.lengths, drop-append_seam m.identifier m.lengths) (made_completes r id size os x m e)
 
 cons≢nil : (x : ℕ) (xs : List ℕ) → x ∷ xs ≢ []
 cons≢nil x xs e = cc
@@ -95,7 +95,7 @@ cons≢nil x xs e = cc
 -- octets are the front of a header if they are with a zero after them
 zero_after : (os : List ℕ) → IsFront (os ++ 0 ∷ []) → IsFront os
 zero_after os u = record {
-  head = u.head;
+  header = u.header;
   more = 0 ∷ u.more;
   valid = u.valid;
   proper = cons≢nil 0 u.more;
@@ -104,11 +104,11 @@ zero_after os u = record {
 
 zero_ends : (id : Identifier) (size : Size) (os : List ℕ) → MakesHeader id size (os ++ 0 ∷ []) → IsFront os
 zero_ends id size os m = record {
-  head = made 0 false id size _ m;
+  header = made 0 false id size _ m;
   more = 0 ∷ [];
   valid = made-valid 0 false id size _ m;
   proper = cons≢nil 0 [];
-  front = m.octet;
+  front = m.octets_are;
 }
 
 pub unfinished_identifier : (id : Identifier) (os : List ℕ) → CarriesIdentifier id os → IsFront os
@@ -120,7 +120,7 @@ unfinished_identifier id os h = zero_ends id (Definite 0) os (record {
   few = omega arith;
   some = omega arith;
   allowed = allows_definite id.constructed 0;
-  octet = refl;
+  octets_are = refl;
 })
 
 pub unfinished_number : (id : Identifier) (os : List ℕ) → CarriesNumber id os → IsFront os

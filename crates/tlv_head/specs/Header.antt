@@ -29,7 +29,7 @@ with_bit_8 digits = map (λ d. 128 + d) digits
 -- 8.1.2.2: one octet, for a number up to 30. It is not 00, with which 8.1.5 ends contents
 pub record IsLowForm (class : Class) (constructed : Bool) (number : ℕ) (octets : List ℕ) : Type 0 where
   pub small : number < 31
-  pub octet : octets ≡ leading_octet class constructed number ∷ []
+  pub octets_are : octets ≡ leading_octet class constructed number ∷ []
   pub nonzero : leading_octet class constructed number ≢ 0
 
 -- 8.1.2.4: a first octet with bits 5 to 1 set, then one to nine digits in base 128, with bit 8 set in all but the last
@@ -40,7 +40,7 @@ pub record IsHighForm (class : Class) (constructed : Bool) (number : ℕ) (octet
   pub last_digit : last < 128
   pub few : length digits ≤ 8
   pub value : number ≡ value_of 128 (digits ++ last ∷ [])
-  pub octet : octets ≡ leading_octet class constructed 31 ∷ (with_bit_8 digits ++ last ∷ [])
+  pub octets_are : octets ≡ leading_octet class constructed 31 ∷ (with_bit_8 digits ++ last ∷ [])
 
 -- 8.1.2: identifier octets
 abbrev pub IsIdentifier : Class → Bool → ℕ → List ℕ → Type 0
@@ -55,7 +55,7 @@ pub record IsLongForm (n : ℕ) (octets : List ℕ) : Type 0 where
   pub few : length digits ≤ 126
   pub value : n ≡ value_of 256 digits
   pub limit : n < 2 ^ 40
-  pub octet : octets ≡ (128 + length digits) ∷ digits
+  pub octets_are : octets ≡ (128 + length digits) ∷ digits
 
 -- 8.1.3.3, 8.1.3.6.1: length octets: by 8.1.3.4 one octet below 80, or the long form
 abbrev pub IsLength : Size → List ℕ → Type 0
@@ -114,5 +114,5 @@ abbrev pub holds : HeaderValue → Bool
 holds h = h.constructed || wraps h
 
 -- 8.1.3.6: identifier octets, and the indefinite form
-abbrev pub indefinite_octets : HeaderValue → List ℕ
-indefinite_octets h = h.identifier ++ 128 ∷ []
+abbrev pub spell_indefinite : HeaderValue → List ℕ
+spell_indefinite h = h.identifier ++ 128 ∷ []

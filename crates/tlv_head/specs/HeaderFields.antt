@@ -1,53 +1,40 @@
--- What the fields of a `Header` say.
-use Rattle.std.specs.Prelude.{◌≡◌, take, drop, length, slice_index}
-use Rattle.tlv_head.specs.Fields.{IsHeaderSized}
-use Rattle.tlv_head.specs.Header.{HeaderValue, octets_of}
-use Rattle.tlv_head.specs.declared.header.Header.TheInside.{Inside}
+-- The fields of a header, and its octets.
+use Rattle.std.specs.Prelude.{ℕ, ◌<◌, ◌≤◌, Bool, List, length, take, drop}
 use Rattle.tlv_head.specs.declared.header.HeaderFields.{HeaderFields}
+use Rattle.tlv_head.specs.Header.{HeaderValue, is_wrapper}
 
-abbrev pub header_value_of : Inside → HeaderValue
-header_value_of h = record {
+-- the header with these fields and octets
+abbrev pub header_with : HeaderFields → List ℕ → HeaderValue
+header_with f octets = record {
+  offset = f.offset;
+  named = f.named;
+  class = f.class;
+  constructed = f.constructed;
+  number = f.number;
+  size = f.size;
+  identifier = take f.id_len octets;
+  lengths = drop f.id_len octets;
+}
+
+-- what a header says, without its octets
+abbrev pub fields_of : HeaderValue → HeaderFields
+fields_of h = record {
   offset = h.offset;
   named = h.named;
   class = h.class;
   constructed = h.constructed;
   number = h.number;
   size = h.size;
-  identifier = take h.id_len h.raw.items;
-  lengths = drop h.id_len h.raw.items;
-}
-
--- the header of which contracts see this, as it is stored
-abbrev pub stored_header : HeaderValue → Inside
-stored_header h = record {
-  offset = h.offset;
-  class = h.class;
-  constructed = h.constructed;
-  number = h.number;
-  size = h.size;
-  raw = record { items = octets_of h };
   id_len = length h.identifier;
-  named = h.named;
-  number_octet = slice_index h.identifier 1;
-  length_octet = slice_index h.lengths 1;
 }
 
--- what is said beside the octets
-abbrev pub fields_in : Inside → HeaderFields
-fields_in h = record {
-  offset = h.offset;
-  named = h.named;
-  class = h.class;
-  constructed = h.constructed;
-  number = h.number;
-  size = h.size;
-  id_len = h.id_len;
-}
+-- an element with a header of these fields is a string that wraps encodings
+abbrev pub fields_wrap : HeaderFields → Bool
+fields_wrap f = is_wrapper f.named f.class f.constructed f.number f.size
 
--- by their number the octets may be those of a header with these fields, and the two that are kept beside them are the
--- second ones of the identifier and of the length
-abbrev pub HeaderFieldsAgree : Inside → Type 0
-HeaderFieldsAgree h =
-    IsHeaderSized (fields_in h) h.raw.items
-    × (h.number_octet ≡ slice_index (take h.id_len h.raw.items) 1)
-    × (h.length_octet ≡ slice_index (drop h.id_len h.raw.items) 1)
+-- by their number the octets may be those of a header with these fields: there are at most 137, and the identifier has
+-- at most ten of them, and not all. They need not say the fields
+pub record IsHeaderSized (f : HeaderFields) (octets : List ℕ) : Type 0 where
+  pub identifier : f.id_len < length octets
+  pub few : f.id_len ≤ 10
+  pub room : length octets ≤ 137

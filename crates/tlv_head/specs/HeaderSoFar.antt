@@ -11,7 +11,7 @@ use Rattle.tlv_head.specs.declared.reader.HeadReader.TheInside.{Inside}
 -- 8.1.2.4.2: the high form so far: digits, each with bit 8 set, after the first octet
 pub record IsNumberFront (class : Class) (constructed : Bool) (digits octets : List ℕ) : Type 0 where
   pub each : All (λ d. d < 128) digits
-  pub octet : octets ≡ leading_octet class constructed 31 ∷ with_bit_8 digits
+  pub octets_are : octets ≡ leading_octet class constructed 31 ∷ with_bit_8 digits
 
 -- 8.1.3.5: identifier octets, the first length octet, and digits, of which so many are still to come
 pub record IsLengthFront
@@ -21,7 +21,7 @@ pub record IsLengthFront
   pub each : All (λ d. d < 256) digits
   pub some : 1 ≤ left
   pub few : length digits + left ≤ 126
-  pub octet : octets ≡ identifier ++ (128 + (length digits + left)) ∷ digits
+  pub octets_are : octets ≡ identifier ++ (128 + (length digits + left)) ∷ digits
 
 -- the identifier octets so far are in the high form
 pub record CarriesNumber (id : Identifier) (octets : List ℕ) : Type 0 where

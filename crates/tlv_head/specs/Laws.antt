@@ -7,7 +7,7 @@ use Rattle.tlv_head.specs.HeadReaderState.{HeadReaderState}
 use Rattle.tlv_head.specs.Push.{Pushes}
 use Rattle.tlv_head.specs.declared.header.HeaderFields.{HeaderFields}
 use Rattle.tlv_head.specs.ReadHeader.{BeginsWithFields}
-use Rattle.tlv_head.specs.Refusal.{NoHeaderBeginsWith, BeginsWith, BeginsWithNoHeader, IsFront, IsRefusedOctet}
+use Rattle.tlv_head.specs.Refusal.{CannotBecomeHeader, BeginsWith, BeginsWithNoHeader, IsFront, IsRefusedOctet}
 
 -- two headers with which an input begins at one offset are the same, and so is what follows them
 abbrev pub OctetsBeginOneHeader : Type 0
@@ -21,7 +21,7 @@ HeadersAreNoFronts = (h : HeaderValue) → IsHeader h → IsFront (octets_of h) 
 -- if an octet is refused with F06 to F09, no header begins with the octets up to it, that one included
 abbrev pub RefusalsAreFinal : Type 0
 RefusalsAreFinal = (code : FaultCode) (octets : List ℕ) (x : ℕ) → IsRefusedOctet octets x code
-    → NoHeaderBeginsWith (octets ++ x ∷ [])
+    → CannotBecomeHeader (octets ++ x ∷ [])
 
 -- and no input that goes on after them begins with a header
 abbrev pub RefusedInputsBeginWithNone : Type 0

@@ -1,6 +1,6 @@
 pub mod Header
+pub mod StoredHeader
 pub mod HeaderFields
-pub mod Fields
 pub mod Fault
 pub mod Tag
 pub mod Refusal

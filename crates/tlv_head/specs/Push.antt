@@ -23,14 +23,14 @@ pub record FitsThere (h : HeaderValue) (room : Option ℕ) (depth : ℕ) : Type 
 
 -- F10: the octet completes the header of an element that holds others, inside 128 of them
 pub record IsTooDeep (r : HeadReaderState) (x depth : ℕ) : Type 0 where
-  pub head : HeaderValue
+  pub header : HeaderValue
   pub completes : Completes r x head
   pub holding : holds head ≡ true
   pub deep : 128 ≤ depth
 
 -- F11: the octet completes a header whose contents end past the bound
 pub record EndsPast (r : HeadReaderState) (x : ℕ) (room : Option ℕ) (depth : ℕ) : Type 0 where
-  pub head : HeaderValue
+  pub header : HeaderValue
   pub completes : Completes r x head
   pub shallow : holds head ≡ true → depth < 128
   pub past : ContentsFit head.size room → ⊥

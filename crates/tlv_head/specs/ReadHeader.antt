@@ -1,7 +1,7 @@
 -- What `read_header` and `read_short` return.
 use Rattle.std.specs.Prelude.{◌≡◌, ℕ, ◌+◌, ◌≤◌, Bool, List, ◌++◌, length, take}
 use Rattle.tlv_head.specs.declared.header.HeaderFields.{HeaderFields}
-use Rattle.tlv_head.specs.Fields.{IsHeaderSized, header_with}
+use Rattle.tlv_head.specs.HeaderFields.{IsHeaderSized, header_with}
 use Rattle.tlv_head.specs.Header.{HeaderValue, IsHeader, octets_of}
 use Rattle.tlv_head.specs.Refusal.{BeginsWith}
 

@@ -7,15 +7,15 @@ use Rattle.tlv_head.specs.Header.{HeaderValue, IsHeader, IsIdentifier, leading_o
 
 -- 8.1.2, 8.1.3: octets to which one or more others can be added to make a header
 pub record IsFront (octets : List ℕ) : Type 0 where
-  pub head : HeaderValue
+  pub header : HeaderValue
   pub more : List ℕ
   pub valid : IsHeader head
   pub proper : more ≢ []
   pub front : octets ++ more ≡ octets_of head
 
 -- octets with which no header begins
-abbrev pub NoHeaderBeginsWith : List ℕ → Type 0
-NoHeaderBeginsWith octets = (h : HeaderValue) (more : List ℕ) → IsHeader h → octets ++ more ≡ octets_of h → ⊥
+abbrev pub CannotBecomeHeader : List ℕ → Type 0
+CannotBecomeHeader octets = (h : HeaderValue) (more : List ℕ) → IsHeader h → octets ++ more ≡ octets_of h → ⊥
 
 -- the octets begin with this header, which is at that offset
 pub record BeginsWith (input : List ℕ) (at : ℕ) (is_named : Bool) (h : HeaderValue) : Type 0 where

@@ -39,11 +39,11 @@ pub struct Fault {
 
 impl FaultCode {
     ghost use Rattle.std.specs.Prelude.{◌≡◌, length};
-    ghost use Rattle.tlv_head.specs.Fault.{fault_code};
+    ghost use Rattle.tlv_head.specs.Fault.{fault_name};
 
     /// The three characters that name the code, as `F01`.
     pub fn name(self) -> &'static [u8]
-        ensures name { result.now ≡ fault_code self }
+        ensures name { result.now ≡ fault_name self }
         ensures short { length result.now ≡ 3 }
     {
         match self {

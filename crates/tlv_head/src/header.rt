@@ -77,7 +77,7 @@ impl Model for Header {
 
     ghost Value = { HeaderValue };
 
-    ghost use Rattle.tlv_head.specs.HeaderFields.{HeaderFieldsAgree, header_value_of, stored_header};
+    ghost use Rattle.tlv_head.specs.StoredHeader.{HeaderFieldsAgree, header_value_of, stored_header};
 
     ghost view = { header_value_of };
 
@@ -103,7 +103,7 @@ impl Model for Header {
 
 impl HeaderFields {
     ghost use Rattle.std.specs.Prelude.{◌≡◌};
-    ghost use Rattle.tlv_head.specs.Fields.{fields_wrap};
+    ghost use Rattle.tlv_head.specs.HeaderFields.{fields_wrap};
 
     /// [`Header::wraps`], of the header with these fields.
     pub fn wraps(&self) -> bool
@@ -122,7 +122,7 @@ impl HeaderFields {
 impl Header {
     ghost use Rattle.std.specs.Prelude.{◌≤◌, length, slice_index};
     ghost use Rattle.tlv_head.specs.Header.{octets_of, wraps};
-    ghost use Rattle.tlv_head.specs.Fields.{IsHeaderSized, fields_of, header_with};
+    ghost use Rattle.tlv_head.specs.HeaderFields.{IsHeaderSized, fields_of, header_with};
 
     /// The header with these fields and octets: at most 137, of which at most ten, and not all, are the identifier.
     /// That the octets say these fields is for the caller to see to, as [`read_header`](crate::read_header) does.
@@ -228,7 +228,7 @@ impl Header {
 }
 
 ghost use Rattle.std.specs.Prelude.{◌≡◌, ◌≤◌, drop, eqb, length, slice_index, take, true};
-ghost use Rattle.tlv_head.specs.Header.{announced_length, indefinite_octets, is_wrapper};
+ghost use Rattle.tlv_head.specs.Header.{announced_length, spell_indefinite, is_wrapper};
 
 /// The second octets of an identifier of so many octets and of the length after it, or 0 if there is none.
 pub(crate) fn seconds(id_len: u8, octets: &[u8]) -> (u8, u8)
@@ -274,7 +274,7 @@ pub(crate) fn is_wrapper(
 /// form of the length (8.1.3.6).
 pub fn spell_indefinite(header: &Header) -> ArrayVec<u8, 11>
     requires { header.now.constructed ≡ true }
-    ensures { result.items ≡ indefinite_octets header.now }
+    ensures { result.items ≡ spell_indefinite header.now }
 {
     let mut octets = ArrayVec::new();
     let _ = octets.try_extend_from_slice(header.identifier());

@@ -5,14 +5,14 @@ use Rattle.std.proofs.KnownBytes.{Consumes-nil, Consumes-trans}
 use Rattle.std.specs.Prelude.{All}
 use Rattle.std.specs.Io.KnownBytes.{Consumes}
 use Rattle.std.specs.List.{concat}
-use Rattle.tlv_io.specs.Device.{Last, Pieces, SourceState, failed, gave, next_count}
+use Rattle.tlv_io.specs.Device.{LastReadValue, Pieces, SourceState, failed, gave, next_count}
 
 -- a read that is not the last
 abbrev pub IsPiece : List ℕ → Type 0
 IsPiece octets = (0 < length octets) × (length octets ≤ 4096)
 
 -- the last read gave these octets, or failed and gave none
-abbrev pub GaveLast : Last → List ℕ → Type 0
+abbrev pub GaveLast : LastReadValue → List ℕ → Type 0
 GaveLast last octets = (last ≡ gave (length octets)) ⊎ ((last ≡ failed) × (octets ≡ []))
 
 -- a count after so many more

@@ -5,22 +5,22 @@ use Rattle.std.specs.Io.{ReadsAtMost}
 use Rattle.std.specs.Io.KnownBytes.{Consumes, ReadConsumes, WriteAppends}
 
 -- what the last read gave: a number of octets, or a failure; nothing before the first read
-pub data Last : Type 0 where
-  never : Last
-  gave : ℕ → Last
-  failed : Last
+pub data LastReadValue : Type 0 where
+  never : LastReadValue
+  gave : ℕ → LastReadValue
+  failed : LastReadValue
 
 -- what is kept of reads: how many there were, failed ones too, what the last of them gave, and how many failed
-pub record Reads : Type 0 where
+pub record ReadLogState : Type 0 where
   pub reads : ℕ
-  pub last : Last
+  pub last : LastReadValue
   pub failures : ℕ
 
 -- what a source shows of itself: the octets still to give, if it knows them, and its reads
 pub record SourceState : Type 0 where
   pub left : Option (List ℕ)
   pub reads : ℕ
-  pub last : Last
+  pub last : LastReadValue
   pub failures : ℕ
 
 -- what a drain shows of itself: the octets that it took, if it knows them, and how many writes failed
@@ -44,7 +44,7 @@ module _ {T E : Type 0} where
 
 module _ {E : Type 0} where
   -- what a read with this result gave
-  abbrev pub last_after : Result ℕ E → Last
+  abbrev pub last_after : Result ℕ E → LastReadValue
   last_after (Ok n) = gave n
   last_after (Err e) = failed
 

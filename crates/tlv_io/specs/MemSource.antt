@@ -1,23 +1,23 @@
 -- A source over memory, as contracts see it.
 use Rattle.std.specs.Prelude.{ℕ, List, Option, Some, min, max, length, slice_get}
 use Rattle.std.specs.Option.{option_map_or}
-use Rattle.tlv_io.specs.Device.{Reads, SourceState}
+use Rattle.tlv_io.specs.Device.{ReadLogState, SourceState}
 
 -- what a source over memory has left, where it cuts, the read that is to fail, and what it keeps of its reads
 pub record MemSourceState : Type 0 where
   pub left : List ℕ
   pub cuts : List ℕ
   pub fail_at : Option ℕ
-  pub log : Reads
+  pub log : ReadLogState
 
 -- what it shows of itself
 abbrev pub source_state_of : MemSourceState → SourceState
 source_state_of s = record { left = Some s.left; reads = s.log.reads; last = s.log.last; failures = s.log.failures }
 
 -- of this many octets, as many as read i may give: its cut, at least one, or all of them past the cuts
-abbrev pub cut_to : List ℕ → ℕ → ℕ → ℕ
-cut_to cuts i count = option_map_or (λ cut. min count (max 1 cut)) (slice_get cuts i) count
+abbrev pub cut_count : List ℕ → ℕ → ℕ → ℕ
+cut_count cuts i count = option_map_or (λ cut. min count (max 1 cut)) (slice_get cuts i) count
 
 -- how many octets the next read gives into room for this many
 abbrev pub read_count : MemSourceState → ℕ → ℕ
-read_count source room = min (cut_to source.cuts source.log.reads room) (length source.left)
+read_count source room = min (cut_count source.cuts source.log.reads room) (length source.left)

@@ -15,12 +15,12 @@ pub(crate) const CAPACITY: usize = 4096;
 ///
 /// An `ArrayVec` is filled with blanks when it is cleared, which an [`Out`](crate::Out) would pay for at each flush.
 #[derive(Drop)]
-pub struct Held {
+pub struct HeldOctets {
     len: usize,
     octets: [u8; CAPACITY],
 }
 
-impl Model for Held {
+impl Model for HeldOctets {
     ghost use Rattle.std.specs.Prelude.{◌≤◌, ℕ, List, take};
 
     ghost Value = { List ℕ };
@@ -30,12 +30,12 @@ impl Model for Held {
     ghost invariant = { λ held. held.len ≤ 4096 };
 }
 
-impl Held {
+impl HeldOctets {
     /// No octets.
-    pub fn new() -> Held
+    pub fn new() -> HeldOctets
         ensures { result ≡ [] }
     {
-        Held {
+        HeldOctets {
             len: 0,
             octets: [0; CAPACITY],
         }

@@ -9,7 +9,7 @@ mod out;
 mod source;
 mod stream;
 
-pub use buffer::Held;
+pub use buffer::HeldOctets;
 pub use drain::{Drain, WriteFault};
 pub use memory::{MemDrain, MemSource};
 pub use out::Out;

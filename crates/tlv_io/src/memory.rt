@@ -2,7 +2,7 @@
 
 ghost use Rattle.std.specs.Prelude.{◌≡◌, ◌<◌, ◌≤◌, ◌↔◌, [], IfOk, IsErr, Some, drop, length, max, take};
 ghost use Rattle.tlv_io.specs.Device.{ReadsOnce, WritesOnce, never};
-ghost use Rattle.tlv_io.specs.MemSource.{cut_to, read_count, source_state_of};
+ghost use Rattle.tlv_io.specs.MemSource.{cut_count, read_count, source_state_of};
 
 use crate::drain::{Drain, WriteFault};
 use crate::source::{ReadFault, ReadLog, Source};
@@ -84,7 +84,7 @@ impl Source for MemSource<'_> {
 
 /// How many of `count` octets read `read` may give.
 fn cut_count(cuts: &[u64], read: u64, count: usize) -> usize
-    ensures { result ≡ cut_to cuts.now read count }
+    ensures { result ≡ cut_count cuts.now read count }
 {
     match cuts.get(read as usize) {
         Some(cut) => count.min((*cut).max(1) as usize),

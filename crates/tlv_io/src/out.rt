@@ -4,7 +4,7 @@ ghost use Rattle.std.specs.Prelude.{◌≡◌, ◌≤◌, ◌++◌, [], length, 
 ghost use Rattle.tlv_io.specs.LineTexts.{HasRoomFor};
 ghost use Rattle.tlv_io.specs.Out.{Puts, Sends, held_octets, drain_of};
 
-use crate::buffer::{CAPACITY, Held};
+use crate::buffer::{CAPACITY, HeldOctets};
 use crate::drain::{Drain, WriteFault};
 
 /// Room for the longest line: an element's, at level 255, with 64 octets of contents.
@@ -18,7 +18,7 @@ const LINE: usize = 1024;
 pub struct Out<'d, D> {
     drain: &'d mut D,
     /// The octets that are held. A line is made at their end, after [`Out::make_room`].
-    pub held: Held,
+    pub held: HeldOctets,
 }
 
 impl<'d, D: Drain> Out<'d, D> {
@@ -30,7 +30,7 @@ impl<'d, D: Drain> Out<'d, D> {
     {
         Out {
             drain,
-            held: Held::new(),
+            held: HeldOctets::new(),
         }
     }
 

@@ -41,10 +41,10 @@ pub(crate) struct ReadLog {
 }
 
 impl Model for ReadLog {
-    ghost use Rattle.tlv_io.specs.Device.{Reads};
+    ghost use Rattle.tlv_io.specs.Device.{ReadLogState};
     ghost use Rattle.tlv_io.specs.Private.LastRead.{last_read};
 
-    ghost Value = { Reads };
+    ghost Value = { ReadLogState };
 
     ghost view = { λ log. record {
       reads = log.reads;

@@ -20,7 +20,7 @@ use Rattle.tlv_walk.specs.declared.framing.Framing.{Framing}
 use Rattle.tlv_walk.specs.declared.run.DeviceFault.{DeviceFault}
 use Rattle.tlv_walk.specs.declared.run.DeviceFault.TheVariants.{ReadFailed, WriteFailed, InputTooLong}
 use Rattle.std.specs.List.{concat}
-use Rattle.tlv_io.specs.Device.{DrainState, Last, SourceState, failed, gave, never, new_source, next_count, octets_given}
+use Rattle.tlv_io.specs.Device.{DrainState, LastReadValue, SourceState, failed, gave, never, new_source, next_count, octets_given}
 use Rattle.tlv_walk.specs.Ending.{IsEnding, IsFinalEnding}
 use Rattle.tlv_walk.specs.Forest.{Forest, spelling}
 use Rattle.tlv_walk.specs.Job.{EndsWith, Job, Runs, WantMore}
@@ -83,10 +83,10 @@ front_and_rest : (written sent left text rest longer : List ℕ)
 front_and_rest written sent left text rest longer w t l =
     sym l ∙ ap (λ (xs : List ℕ). xs ++ rest) (sym t) ∙ append_assoc sent left rest ∙ ap (λ (xs : List ℕ). xs ++ (left ++ rest)) (sym w)
 
-pub gave_none : (l : Last) (xs : List ℕ) → l ≡ gave 0 → GaveLast l xs → xs ≡ []
+pub gave_none : (l : LastReadValue) (xs : List ℕ) → l ≡ gave 0 → GaveLast l xs → xs ≡ []
 gave_none l xs e (inr g) = g.1
 gave_none l xs e (inl g) = nothing xs (ap octets_in (sym e ∙ g)) where
-  octets_in : Last → ℕ
+  octets_in : LastReadValue → ℕ
   octets_in never = 0
   octets_in (gave n) = n
   octets_in failed = 0
@@ -95,7 +95,7 @@ gave_none l xs e (inl g) = nothing xs (ap octets_in (sym e ∙ g)) where
   nothing [] e = refl
   nothing (x ∷ xs) e = absurd (cc (e))
 
-failed_none : (l : Last) (xs : List ℕ) → l ≡ failed → GaveLast l xs → xs ≡ []
+failed_none : (l : LastReadValue) (xs : List ℕ) → l ≡ failed → GaveLast l xs → xs ≡ []
 failed_none l xs e (inl g) = absurd (cc)
 failed_none l xs e (inr g) = g.1
 
@@ -267,7 +267,7 @@ spent s zero e = absurd (cc (e))
 spent s (suc n) e = refl
 
 -- and it never gave nothing
-gave_some : (l : Last) → or_failed l ≡ gave 0 → ⊥
+gave_some : (l : LastReadValue) → or_failed l ≡ gave 0 → ⊥
 gave_some never e = cc (e)
 gave_some (gave zero) e = cc (e)
 gave_some (gave (suc n)) e = cc (e)

@@ -2,7 +2,7 @@
 use Rattle.std.specs.Prelude.{◌∷◌, ⊤, ℕ, Bool, ◌==◌, if◌then◌else◌, List, [], ◌++◌, Option, Some, None, Result, Ok, Err, codes, decimal}
 use Rattle.tlv_cut.specs.declared.extract_call.Cut.{Cut}
 use Rattle.tlv_head.specs.declared.fault.Fault.{Fault}
-use Rattle.tlv_head.specs.Fault.{fault_code, fault_text}
+use Rattle.tlv_head.specs.Fault.{fault_name, fault_text}
 use Rattle.tlv_show.specs.declared.outcome.Outcome.{Outcome}
 use Rattle.tlv_value.specs.declared.names.fault.NamesFault.{NamesFault}
 use Rattle.tlv_value.specs.declared.names.fault.NamesFault.TheVariants as names
@@ -33,7 +33,7 @@ report_with status message = record { status = status; findings = 0; message = m
 abbrev pub fault_line : Fault → List ℕ
 fault_line fault =
     codes "fault at " ++ decimal fault.offset ++ codes ": "
-    ++ fault_code fault.code ++ codes " " ++ fault_text fault.code
+    ++ fault_name fault.code ++ codes " " ++ fault_text fault.code
 
 -- a fault takes precedence over what else there is to say
 abbrev pub ending_report : Ending → ReportValue → ReportValue
@@ -76,8 +76,8 @@ device_report WriteFailed = report_with 3 (codes "E2 write failed")
 device_report InputTooLong = report_with 3 (codes "E3 input too long")
 
 -- the file to read does not open
-abbrev pub closed_report : ReportValue
-closed_report = report_with 3 (codes "E5 cannot open the file")
+abbrev pub unopened_report : ReportValue
+unopened_report = report_with 3 (codes "E5 cannot open the file")
 
 abbrev pub report_of : {A : Type 0} → (A → ReportValue) → Result A DeviceFault → ReportValue
 report_of say (Ok a) = say a

@@ -11,8 +11,8 @@ mod runner;
 mod text;
 
 pub use command::Command;
-pub use message::tell;
-pub use octets::{Shown, run_octets};
-pub use report::{Report, closed_report, device_report, names_report};
+pub use message::write_message;
+pub use octets::{OctetsRun, run_octets};
+pub use report::{Report, device_report, names_report, unopened_report};
 pub use runner::run;
 pub use text::Text;

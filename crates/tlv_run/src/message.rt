@@ -9,7 +9,7 @@ use tlv_walk::{Drain, Out, WriteFault};
 
 /// Writes the message with a line feed after it, if there is one, and returns the exit status. A failed write
 /// changes no status.
-pub fn tell<D: Drain>(report: &Report, drain: &mut D) -> u8
+pub fn write_message<D: Drain>(report: &Report, drain: &mut D) -> u8
     ensures status { result ≡ report.now.status }
     ensures writes { WritesMessage (message_line report.now.message.items) (D.state drain.old)
         (D.state drain.new) }

@@ -13,7 +13,7 @@ use tlv_value::Names;
 
 /// What a run over octets in memory wrote, and its report.
 #[derive(Debug, Drop)]
-pub struct Shown<const N: usize> {
+pub struct OctetsRun<const N: usize> {
     pub written: ArrayVec<u8, N>,
     pub report: Report,
 }
@@ -30,7 +30,7 @@ pub fn run_octets<const N: usize>(
     octets: &[u8],
     cuts: &[u64],
     read_fails: bool,
-) -> Shown<N>
+) -> OctetsRun<N>
     ensures { RunsOctets (command_job command.now names.now) octets.now read_fails N
         result.written.items (report_value result.report) }
 {
@@ -46,7 +46,7 @@ fn run_until_failure<const N: usize>(
     names: &Names,
     octets: &[u8],
     cuts: &[u64],
-) -> Shown<N>
+) -> OctetsRun<N>
     ensures { RunsOctets (command_job command.now names.now) octets.now true N
         result.written.items (report_value result.report) }
 {
@@ -58,7 +58,7 @@ fn run_until_failure<const N: usize>(
         &mut room,
     );
     let written = room.into_octets();
-    Shown { written, report }
+    OctetsRun { written, report }
 }
 
 fn run_to_end<const N: usize>(
@@ -66,7 +66,7 @@ fn run_to_end<const N: usize>(
     names: &Names,
     octets: &[u8],
     cuts: &[u64],
-) -> Shown<N>
+) -> OctetsRun<N>
     ensures { RunsOctets (command_job command.now names.now) octets.now false N
         result.written.items (report_value result.report) }
 {
@@ -78,5 +78,5 @@ fn run_to_end<const N: usize>(
         &mut room,
     );
     let written = room.into_octets();
-    Shown { written, report }
+    OctetsRun { written, report }
 }

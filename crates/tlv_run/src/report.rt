@@ -1,6 +1,6 @@
 //! What is reported of a run: the exit status and the message.
 ghost use Rattle.std.specs.Prelude.{◌≡◌, ◌+◌, ◌++◌, ◌≤◌, [], decimal, length};
-ghost use Rattle.tlv_run.specs.Report.{closed_report, device_report, ending_report, fault_line, findings_report, found_report};
+ghost use Rattle.tlv_run.specs.Report.{unopened_report, device_report, ending_report, fault_line, findings_report, found_report};
 ghost use Rattle.tlv_run.specs.Report.{line_with, names_report, report_of, report_of_cut, report_of_indef, report_of_outcome};
 ghost use Rattle.tlv_run.specs.Report.{report_value, report_with, unused_report};
 
@@ -27,7 +27,7 @@ pub struct Report {
 
 impl Report {
     /// A report with this status and this message, of at most 128 octets, and without findings.
-    pub fn saying(status: u8, line: &[u8]) -> Report
+    pub fn with_message(status: u8, line: &[u8]) -> Report
         requires { length line.now ≤ 128 }
         ensures { report_value result ≡ report_with status line.now }
     {
@@ -35,7 +35,7 @@ impl Report {
     }
 
     /// A report with this status, without a message and without findings.
-    pub fn silent(status: u8) -> Report
+    pub fn without_message(status: u8) -> Report
         ensures { report_value result ≡ report_with status [] }
     {
         reporting(status, ArrayVec::new())
@@ -43,7 +43,7 @@ impl Report {
 }
 
 /// The report of a dump or a check: a fault, else an offset without a string, else findings. Their count stays.
-pub(crate) fn shown_report(came: Result<Outcome, DeviceFault>) -> Report
+pub(crate) fn outcome_report(came: Result<Outcome, DeviceFault>) -> Report
     ensures { report_value result ≡ report_of report_of_outcome came }
 {
     match came {
@@ -72,7 +72,7 @@ pub(crate) fn indef_report(came: Result<Ending, DeviceFault>) -> Report
     ensures { report_value result ≡ report_of report_of_indef came }
 {
     match came {
-        Ok(ending) => ending_report(ending, Report::silent(0)),
+        Ok(ending) => ending_report(ending, Report::without_message(0)),
         Err(fault) => device_report(fault),
     }
 }
@@ -82,7 +82,7 @@ fn ending_report(ending: Ending, other: Report) -> Report
     ensures { report_value result ≡ ending_report ending (report_value other) }
 {
     match ending {
-        Ending::Fault(fault) => reporting(2, fault_message(fault)),
+        Ending::Fault(fault) => reporting(2, fault_line(fault)),
         Ending::Done => other,
     }
 }
@@ -100,7 +100,7 @@ fn findings_report(findings: u64) -> Report
     ensures { report_value result ≡ findings_report findings }
 {
     if findings == 0 {
-        Report::silent(0)
+        Report::without_message(0)
     } else {
         reporting(1, numbered(b"findings: ", findings))
     }
@@ -110,7 +110,7 @@ fn found_report(offset: u64, found: bool) -> Report
     ensures { report_value result ≡ found_report offset found }
 {
     if found {
-        Report::silent(0)
+        Report::without_message(0)
     } else {
         reporting(1, numbered(b"E4 no element at offset ", offset))
     }
@@ -121,17 +121,17 @@ pub fn device_report(fault: DeviceFault) -> Report
     ensures { report_value result ≡ device_report fault }
 {
     match fault {
-        DeviceFault::ReadFailed => Report::saying(3, b"E1 read failed"),
-        DeviceFault::WriteFailed => Report::saying(3, b"E2 write failed"),
-        DeviceFault::InputTooLong => Report::saying(3, b"E3 input too long"),
+        DeviceFault::ReadFailed => Report::with_message(3, b"E1 read failed"),
+        DeviceFault::WriteFailed => Report::with_message(3, b"E2 write failed"),
+        DeviceFault::InputTooLong => Report::with_message(3, b"E3 input too long"),
     }
 }
 
 /// The report if the file to read does not open.
-pub fn closed_report() -> Report
-    ensures { report_value result ≡ closed_report }
+pub fn unopened_report() -> Report
+    ensures { report_value result ≡ unopened_report }
 {
-    Report::saying(3, b"E5 cannot open the file")
+    Report::with_message(3, b"E5 cannot open the file")
 }
 
 /// The report if the names file is refused.
@@ -145,9 +145,9 @@ pub fn names_report(fault: NamesFault) -> Report
         ),
         NamesFault::BadName(line) => reporting(4, of_line(b"N2", line, b": no usable name")),
         NamesFault::Repeated(line) => reporting(4, of_line(b"N3", line, b": repeated")),
-        NamesFault::TooLarge => Report::saying(4, b"N4 names file too large"),
-        NamesFault::ReadFailed => Report::saying(4, b"N5 names file not read"),
-        NamesFault::Memory => Report::saying(5, b"N6 out of memory"),
+        NamesFault::TooLarge => Report::with_message(4, b"N4 names file too large"),
+        NamesFault::ReadFailed => Report::with_message(4, b"N5 names file not read"),
+        NamesFault::Memory => Report::with_message(5, b"N6 out of memory"),
     }
 }
 
@@ -197,7 +197,7 @@ fn of_line(code: &[u8], line: u32, what: &[u8]) -> ArrayVec<u8, 128>
     message
 }
 
-fn fault_message(fault: Fault) -> ArrayVec<u8, 128>
+fn fault_line(fault: Fault) -> ArrayVec<u8, 128>
     ensures { result.items ≡ fault_line fault }
 {
     let mut message = numbered(b"fault at ", fault.offset);

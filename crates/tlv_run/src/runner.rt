@@ -4,7 +4,7 @@ ghost use Rattle.tlv_run.specs.Results.{command_job};
 ghost use Rattle.tlv_run.specs.Runs.{RunsAndReports};
 
 use crate::command::Command;
-use crate::report::{Report, cut_report, indef_report, shown_report};
+use crate::report::{Report, cut_report, indef_report, outcome_report};
 use tlv_cut::{extract, indef};
 use tlv_show::{check, dump};
 use tlv_value::Names;
@@ -24,8 +24,8 @@ pub fn run<S: Source, D: Drain>(
         (D.state drain.old) (D.state drain.new) (report_value result) }
 {
     match command {
-        Command::Dump { options, .. } => shown_report(dump(source, drain, options, names)),
-        Command::Check { rules, framing, .. } => shown_report(check(
+        Command::Dump { options, .. } => outcome_report(dump(source, drain, options, names)),
+        Command::Check { rules, framing, .. } => outcome_report(check(
             source, drain, *rules, framing,
         )),
         Command::Extract {

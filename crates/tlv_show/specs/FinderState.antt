@@ -7,14 +7,14 @@ use Rattle.tlv_head.specs.Header.{HeaderValue, announced_length}
 use Rattle.tlv_value.specs.declared.finding.Finding.{Finding}
 use Rattle.tlv_value.specs.declared.finding.Finding.TheVariants.{B01, B02, B03, B04, B05, B16, B17, S01, D01, D02, C01, C02, C03, C04, C05, C06}
 use Rattle.tlv_value.specs.CheckNotes.{finding_if}
-use Rattle.tlv_value.specs.CheckState.{CheckState, check_after, findings_in, has_unused_bits, new_check}
+use Rattle.tlv_value.specs.ValueCheckState.{ValueCheckState, value_check_after, findings_in, has_unused_bits, new_value_check}
 use Rattle.tlv_value.specs.Types.{bit_string, constructed_types, has_segments, is_a, is_one_of, is_primitive, is_string, is_unassigned, octet_string, primitive_types}
 use Rattle.tlv_walk.specs.Place.{is_indefinite}
-use Rattle.tlv_show.specs.declared.frames.SiblingFrame.{SiblingFrame}
+use Rattle.tlv_show.specs.declared.sibling_frame.SiblingFrame.{SiblingFrame}
 use Rattle.tlv_show.specs.declared.rules.Rules.{Rules}
 use Rattle.tlv_show.specs.declared.rules.Rules.TheVariants.{Ber, Der, Cer}
 use Rattle.tlv_show.specs.Conditions.{first_length, has_high_form, has_long_form, leading_bits}
-use Rattle.tlv_show.specs.Found.{shows}
+use Rattle.tlv_show.specs.Found.{is_shown}
 
 -- ---- Frames
 
@@ -110,7 +110,7 @@ end_findings_in Cer w =
 -- the primitive that is open: where it begins, and what is noted of its contents
 pub record OpenValue : Type 0 where
   pub at : ℕ
-  pub check : CheckState
+  pub check : ValueCheckState
 
 pub record FinderState : Type 0 where
   pub rules : Rules
@@ -161,7 +161,7 @@ finder_open_step s h =
 
 -- a primitive begins
 abbrev pub finder_at_value : FinderState → HeaderValue → FinderState
-finder_at_value s h = record s { value = Some (record { at = h.offset; check = new_check h }) }
+finder_at_value s h = record s { value = Some (record { at = h.offset; check = new_value_check h }) }
 
 abbrev pub finder_begin_step : FinderState → HeaderValue → FinderValue
 finder_begin_step s h =
@@ -170,14 +170,14 @@ finder_begin_step s h =
 -- contents octets: no more count than were announced
 abbrev pub open_value_after : Option OpenValue → List ℕ → Option OpenValue
 open_value_after None octets = None
-open_value_after (Some v) octets = Some (record v { check = check_after v.check (take v.check.left octets) })
+open_value_after (Some v) octets = Some (record v { check = value_check_after v.check (take v.check.left octets) })
 
 abbrev pub finder_bytes_step : FinderState → List ℕ → FinderState
 finder_bytes_step s octets = if length octets == 0 then s else record s { value = open_value_after s.value octets }
 
 -- a primitive ends, of which all contents octets have come
-abbrev pub contents_findings_in : Rules → CheckState → List Finding
-contents_findings_in rules t = if t.left == 0 then filter (shows rules) (findings_in t) else []
+abbrev pub contents_findings_in : Rules → ValueCheckState → List Finding
+contents_findings_in rules t = if t.left == 0 then filter (is_shown rules) (findings_in t) else []
 
 abbrev pub finder_after_value : FinderState → OpenValue → FinderState
 finder_after_value s v = record s {

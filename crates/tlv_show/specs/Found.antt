@@ -16,12 +16,12 @@ letters Ber = codes "B"
 letters Der = codes "BSD"
 letters Cer = codes "BSC"
 
-abbrev pub shows : Rules → Finding → Bool
-shows rules finding = list_any (eqb (slice_index (finding_wording finding).0 0)) (letters rules)
+abbrev pub is_shown : Rules → Finding → Bool
+is_shown rules finding = list_any (eqb (slice_index (finding_wording finding).0 0)) (letters rules)
 
 -- what is found in an element by its header, and in a primitive by its contents
 abbrev pub header_findings : Rules → Site → HeaderValue → List Finding
-header_findings rules s h = filter (shows rules) (findings_by (header_conditions s h))
+header_findings rules s h = filter (is_shown rules) (findings_by (header_conditions s h))
 
 abbrev pub contents_findings : Rules → HeaderValue → List ℕ → List Finding
-contents_findings rules h c = filter (shows rules) (findings_on_contents h c)
+contents_findings rules h c = filter (is_shown rules) (findings_on_contents h c)

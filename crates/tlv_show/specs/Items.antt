@@ -8,7 +8,7 @@ use Rattle.tlv_walk.specs.Forest.{Forest, PaddingOctet, Primitive, Holder, OpenP
 use Rattle.tlv_show.specs.declared.rules.Rules.{Rules}
 use Rattle.tlv_show.specs.Conditions.{end_conditions, header_conditions}
 use Rattle.tlv_show.specs.EndPlace.{end_place}
-use Rattle.tlv_show.specs.Found.{shows}
+use Rattle.tlv_show.specs.Found.{is_shown}
 use Rattle.tlv_show.specs.Site.{Padding, Sibling, Site, is_padding, onward, site_of_children}
 
 -- an item, with its level: how many elements hold what it is about
@@ -34,7 +34,7 @@ headers _ = []
 module _ (rules : Rules) where
   -- what is found in an element, in order: of these conditions, what the rules show
   abbrev pub finding_items : Site → HeaderValue → List (Bool × Finding) → List Item
-  finding_items s h conditions = map (FindingAt s.level h.offset) (filter (shows rules) (findings_by conditions))
+  finding_items s h conditions = map (FindingAt s.level h.offset) (filter (is_shown rules) (findings_by conditions))
 
   -- of elements from there on. What is found with the header comes before the element's first line, all else after
   -- its last

@@ -13,7 +13,7 @@ use Rattle.tlv_show.specs.CheckStep.{check_step}
 use Rattle.tlv_show.specs.DumpStep.{new_dump}
 use Rattle.tlv_head.specs.Header.{HeaderValue, announced_length}
 use Rattle.tlv_value.specs.Names.{Table}
-use Rattle.tlv_value.specs.TextState.{whole_lines}
+use Rattle.tlv_value.specs.ValueTextState.{whole_lines}
 use Rattle.tlv_walk.specs.Events.{Begin, Bytes, End, events}
 use Rattle.tlv_walk.specs.Follow.{effect_of}
 use Rattle.tlv_walk.specs.Forest.{Forest}
@@ -26,7 +26,7 @@ use Rattle.tlv_show.specs.declared.finding_lines.Style.TheVariants.{Dump}
 use Rattle.tlv_show.specs.CheckStep.{styled_lines}
 use Rattle.tlv_show.specs.DumpStep.{DumpState, dump_step, finding_lines}
 use Rattle.tlv_show.specs.FinderState.{finder_begin_step}
-use Rattle.tlv_show.specs.Found.{contents_findings, shows}
+use Rattle.tlv_show.specs.Found.{contents_findings, is_shown}
 
 -- the text of a longer input, of no more octets than are dumped, begins with that of the shorter
 abbrev pub DumpsGoOn : Type 0
@@ -86,7 +86,7 @@ ChecksMakeTexts =
 
 -- a finding of BER
 abbrev pub is_basic : Item → Bool
-is_basic (FindingAt level at finding) = shows Ber finding
+is_basic (FindingAt level at finding) = is_shown Ber finding
 is_basic (OpeningLine level h) = false
 is_basic (ClosingLine level offset) = false
 is_basic (PrimitiveLines level h c) = false

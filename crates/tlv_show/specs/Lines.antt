@@ -21,8 +21,8 @@ opening_line layout h word =
     text_line layout (columns h.offset (size_text h.size)) (tag_text h.class h.number ++ word)
 
 -- its end, with the offset of its end-of-contents octets, if it has them
-abbrev pub close_line : Layout → Option ℕ → List ℕ
-close_line layout offset =
+abbrev pub closing_line : Layout → Option ℕ → List ℕ
+closing_line layout offset =
     text_line layout (option_map_or (λ at. columns at (codes "end")) offset no_columns) (codes "}")
 
 abbrev pub padding_line : Layout → ℕ → List ℕ

@@ -4,11 +4,11 @@ use Rattle.std.specs.FinMap as finite
 use Rattle.tlv_head.specs.Header.{HeaderValue, octets_of}
 use Rattle.tlv_value.specs.declared.layout.Layout.{Layout}
 use Rattle.tlv_value.specs.Names.{Table}
-use Rattle.tlv_value.specs.TextState.{TextState, begin_lines, contents_lines, end_lines, new_text, text_after}
+use Rattle.tlv_value.specs.ValueTextState.{ValueTextState, begin_lines, contents_lines, end_lines, new_value_text, value_text_after}
 use Rattle.tlv_walk.specs.declared.follow.Go.TheVariants.{On}
 use Rattle.tlv_walk.specs.Events.{Begin, Bytes, Close, End, Enter, EventValue, Leave, Open, Pad, Unused}
 use Rattle.tlv_walk.specs.Follow.{Effect, each_octet}
-use Rattle.tlv_show.specs.Lines.{close_line, opening_line, padding_line}
+use Rattle.tlv_show.specs.Lines.{closing_line, opening_line, padding_line}
 
 -- what contracts see of the `Lines` of a dump
 pub record LinesState : Type 0 where
@@ -21,7 +21,7 @@ pub record LinesState : Type 0 where
   -- whether the last octets were padding
   pub in_padding : Bool
   -- what is kept of the primitive that is open
-  pub value : Option TextState
+  pub value : Option ValueTextState
 
 -- the lines of a dump before its first event
 abbrev pub new_lines : Layout → Table → LinesState
@@ -54,23 +54,23 @@ lines_open_step s h word =
 -- it ends
 abbrev pub lines_close_step : LinesState → Option ℕ → Effect LinesState
 lines_close_step s None =
-    lines_effect (record s { layout = outer_layout s.layout }) (close_line (outer_layout s.layout) None)
+    lines_effect (record s { layout = outer_layout s.layout }) (closing_line (outer_layout s.layout) None)
 lines_close_step s (Some at) =
     lines_effect (record s { layout = outer_layout s.layout; offset = offset_after at 2 })
-    (close_line (outer_layout s.layout) (Some at))
+    (closing_line (outer_layout s.layout) (Some at))
 
 -- a primitive begins
 abbrev pub lines_begin_step : LinesState → HeaderValue → Effect LinesState
 lines_begin_step s h =
-    lines_effect (record (past_header s h) { value = Some (new_text h s.layout) })
-    (begin_lines (new_text h s.layout))
+    lines_effect (record (past_header s h) { value = Some (new_value_text h s.layout) })
+    (begin_lines (new_value_text h s.layout))
 
 -- contents octets: no more count than were announced
-abbrev pub value_after : Option TextState → List ℕ → Option TextState
+abbrev pub value_after : Option ValueTextState → List ℕ → Option ValueTextState
 value_after None octets = None
-value_after (Some t) octets = Some (text_after t (take t.left octets))
+value_after (Some t) octets = Some (value_text_after t (take t.left octets))
 
-abbrev pub value_contents_lines : Option TextState → List ℕ → List ℕ
+abbrev pub value_contents_lines : Option ValueTextState → List ℕ → List ℕ
 value_contents_lines None octets = []
 value_contents_lines (Some t) octets = contents_lines t (take t.left octets)
 
@@ -81,7 +81,7 @@ lines_octet_step s x =
     (value_contents_lines s.value (x ∷ []))
 
 -- a primitive ends, of which all contents octets have come
-abbrev pub value_end_lines : Table → Option TextState → List ℕ
+abbrev pub value_end_lines : Table → Option ValueTextState → List ℕ
 value_end_lines names None = []
 value_end_lines names (Some t) = if eqb t.left 0 then end_lines (finite.get names) t else []
 

@@ -2,7 +2,7 @@
 use Rattle.std.specs.Prelude.{ℕ, ◌^◌, false, List, flat_map}
 use Rattle.tlv_walk.specs.declared.framing.Framing.{Framing}
 use Rattle.tlv_walk.specs.Job.{Job}
-use Rattle.tlv_walk.specs.Wrappers.{first_without_string}
+use Rattle.tlv_walk.specs.Wrappers.{first_without_wrapper}
 use Rattle.tlv_show.specs.declared.outcome.Outcome.{Outcome}
 use Rattle.tlv_show.specs.declared.rules.Rules.{Rules}
 use Rattle.tlv_show.specs.Items.{Item, items}
@@ -20,6 +20,6 @@ show_job framing rules text_of = record {
   returned = λ f e. record {
     ending = e;
     findings = finding_count rules f;
-    unused = first_without_string framing.inside f;
+    unused = first_without_wrapper framing.inside f;
   };
 }

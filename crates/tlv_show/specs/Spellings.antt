@@ -7,7 +7,7 @@ use Rattle.tlv_value.specs.declared.finding.Finding.{Finding}
 use Rattle.tlv_value.specs.declared.finding.Finding.TheVariants.{B01, B02, S01, D01, C01}
 use Rattle.tlv_walk.specs.declared.ending.Ending.TheVariants.{Done}
 use Rattle.tlv_walk.specs.declared.framing.Framing.{Framing}
-use Rattle.tlv_walk.specs.Alike.{AreAlike, HaveLowForms}
+use Rattle.tlv_walk.specs.Alike.{AreAlike, HaveNoUniversalZero}
 use Rattle.tlv_walk.specs.Ending.{IsEnding}
 use Rattle.tlv_walk.specs.Forest.{Forest}
 use Rattle.tlv_walk.specs.Inside.{CanName}
@@ -54,7 +54,7 @@ OneSpelling =
 abbrev pub SomeSpelling : Type 0
 SomeSpelling =
     (rules : Rules) (framing : Framing) (b : List ℕ) (f : Forest) → rules ≢ Ber → length b ≤ 2 ^ 38
-    → IsEnding framing b Done → IsReading framing b f → HaveLowForms f
+    → IsEnding framing b Done → IsReading framing b f → HaveNoUniversalZero f
     → (c : List ℕ) × (g : Forest)
     × IsWellSpelled rules (record { inside = wrappers g; padding = framing.padding }) c g
     × AreAlike f g

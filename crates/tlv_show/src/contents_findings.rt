@@ -1,8 +1,8 @@
 //! What is found on contents.
 ghost use Rattle.std.specs.List.{filter};
 ghost use Rattle.std.specs.Prelude.{◌≡◌, []};
-ghost use Rattle.tlv_show.specs.Found.{shows};
-ghost use Rattle.tlv_value.specs.CheckState.{findings_in};
+ghost use Rattle.tlv_show.specs.Found.{is_shown};
+ghost use Rattle.tlv_value.specs.ValueCheckState.{findings_in};
 
 use crate::Rules;
 use arrayvec::ArrayVec;
@@ -17,7 +17,7 @@ pub(crate) fn add_contents_findings(
 )
     requires left { check.now.left ≡ 0 }
     requires none { found.old.items ≡ [] }
-    ensures { found.new.items ≡ filter (shows rules) (findings_in check.now) }
+    ensures { found.new.items ≡ filter (is_shown rules) (findings_in check.now) }
 {
     for finding in check.end().as_slice() {
         if is_shown(rules, *finding) {
@@ -28,7 +28,7 @@ pub(crate) fn add_contents_findings(
 
 /// Whether the rules show the finding, by the letter of its code.
 fn is_shown(rules: Rules, finding: Finding) -> bool
-    ensures { result ≡ shows rules finding }
+    ensures { result ≡ is_shown rules finding }
 {
     match finding.code() {
         [letter, ..] => match rules {

@@ -7,9 +7,9 @@ ghost use Rattle.tlv_show.specs.Private.FinderState.{PassesOrStays, ReportsFindi
 
 use crate::Rules;
 use crate::contents_findings::add_contents_findings;
-use crate::frames::SiblingFrame;
 use crate::header_findings::{add_end_findings, add_header_findings, is_plain, is_plain_if_usual};
 use crate::nesting::Nesting;
+use crate::sibling_frame::SiblingFrame;
 use arrayvec::ArrayVec;
 use std::marker::Model;
 use tlv_head::Header;

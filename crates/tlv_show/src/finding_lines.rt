@@ -9,7 +9,7 @@ ghost use Rattle.tlv_show.specs.Texts.{check_finding_line, finding_line};
 
 use crate::finder::Finder;
 use tlv_value::{Finding, Layout, begin_word};
-use tlv_walk::{Drain, Held, Out, WriteFault};
+use tlv_walk::{Drain, HeldOctets, Out, WriteFault};
 
 /// How findings are written.
 #[derive(Clone, Copy)]
@@ -70,7 +70,7 @@ fn put_finding<D: Drain>(
 }
 
 /// Adds the line of a finding in an element at this level and offset.
-fn write_finding(held: &mut Held, style: Style, level: u8, at: u64, finding: Finding)
+fn write_finding(held: &mut HeldOctets, style: Style, level: u8, at: u64, finding: Finding)
     requires { HasRoomFor held.old 1024 }
     ensures { held.new ≡ held.old ++ styled_line style level at finding }
 {
@@ -88,7 +88,7 @@ fn write_finding(held: &mut Held, style: Style, level: u8, at: u64, finding: Fin
 }
 
 /// Adds the line of a finding in a check.
-fn write_listed(held: &mut Held, at: u64, finding: Finding)
+fn write_listed(held: &mut HeldOctets, at: u64, finding: Finding)
     requires { HasRoomFor held.old 1024 }
     ensures { held.new ≡ held.old ++ check_finding_line at finding }
 {
@@ -100,7 +100,7 @@ fn write_listed(held: &mut Held, at: u64, finding: Finding)
 }
 
 /// Adds the line of a finding in a dump; none if first columns are left out.
-fn write_between(held: &mut Held, layout: Layout, at: u64, finding: Finding)
+fn write_between(held: &mut HeldOctets, layout: Layout, at: u64, finding: Finding)
     requires { HasRoomFor held.old 1024 }
     ensures { held.new ≡ held.old ++ finding_line layout at finding }
 {

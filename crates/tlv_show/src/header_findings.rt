@@ -7,11 +7,11 @@ ghost use Rattle.tlv_show.specs.Private.UsualTypes.{IsUsual};
 ghost use Rattle.tlv_show.specs.FinderState.{basic_findings_in, cer_findings_in, der_findings, end_findings_in, header_findings_in, length_findings};
 
 use crate::Rules;
-use crate::frames::SiblingFrame;
 use crate::headers::{
     has_high_form, is_always_constructed, is_always_primitive, is_indefinite, is_length_padded,
     is_segment, is_string, is_unassigned, is_universal, size_of,
 };
+use crate::sibling_frame::SiblingFrame;
 use arrayvec::ArrayVec;
 use tlv_head::{Header, universal};
 use tlv_value::Finding;

@@ -9,16 +9,16 @@ mod dump_call;
 mod dump_follower;
 mod finder;
 mod finding_lines;
-mod frames;
 mod header_findings;
 mod headers;
+mod holder_lines;
 pub mod laws;
 mod line_follower;
-mod lines;
 mod nesting;
 mod options;
 mod outcome;
 mod rules;
+mod sibling_frame;
 
 pub use check_call::check;
 pub use check_follower::Check;

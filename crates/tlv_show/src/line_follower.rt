@@ -8,7 +8,7 @@ ghost use Rattle.tlv_show.specs.LinesStep.{lines_begin_step, lines_close_step, l
 mod whole;
 
 use crate::finding_lines::Style;
-use crate::lines::{put_closing, put_opening, put_padding};
+use crate::holder_lines::{put_closing, put_opening, put_padding};
 use std::marker::Model;
 use tlv_head::Header;
 use tlv_value::{Layout, Names, ValueText};

@@ -6,8 +6,8 @@ ghost use Rattle.tlv_show.specs.FinderState.{frame_after, header_findings_in};
 ghost use Rattle.tlv_show.specs.Private.Nesting.{TakesBack, nesting_inside, nesting_outside, new_nesting, segments_left};
 ghost use Rattle.tlv_show.specs.declared.rules.Rules.{Rules};
 
-use crate::frames::{KeptFrame, SiblingFrame, frame_of, note_element, top};
 use crate::headers::is_string;
+use crate::sibling_frame::{KeptFrame, SiblingFrame, frame_of, note_element, top};
 use std::marker::Model;
 use tlv_head::Header;
 use tlv_walk::Frames;

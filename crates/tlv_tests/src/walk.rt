@@ -31,7 +31,7 @@ const ONES: [u64; 600] = [1; 600];
 
 /// How a source gives its octets, and how many are followed.
 #[derive(Clone, Copy)]
-struct Reads<'a> {
+struct ReadLogState<'a> {
     /// The most octets of each read.
     cuts: &'a [u64],
     /// The read that fails.
@@ -39,7 +39,7 @@ struct Reads<'a> {
     limit: u64,
 }
 
-const WHOLE: Reads<'static> = Reads {
+const WHOLE: ReadLogState<'static> = ReadLogState {
     cuts: &[],
     fail_at: None,
     limit: INPUT_LIMIT,
@@ -99,7 +99,7 @@ fn framing_of(rt: &impl Abort, row: &Row<'_>) -> Framing {
 fn expect_walk(
     rt: &impl Abort,
     row: &Row<'_>,
-    reads: Reads<'_>,
+    reads: ReadLogState<'_>,
     drain: &mut MemDrain<'_>,
     outcome: Outcome<'_>,
 ) {
@@ -116,7 +116,13 @@ fn expect_walk(
 }
 
 /// Expects the row's own outcome.
-fn expect_row(rt: &impl Abort, row: &Row<'_>, text: &[u8], reads: Reads<'_>, room: &mut [u8]) {
+fn expect_row(
+    rt: &impl Abort,
+    row: &Row<'_>,
+    text: &[u8],
+    reads: ReadLogState<'_>,
+    room: &mut [u8],
+) {
     let outcome = Outcome {
         written: text,
         result: Ok(run_of(row)),
@@ -127,13 +133,13 @@ fn expect_row(rt: &impl Abort, row: &Row<'_>, text: &[u8], reads: Reads<'_>, roo
 /// Expects it whole, in single octets, and in every cut into two pieces.
 fn expect_in_pieces(rt: &impl Abort, row: &Row<'_>, text: &[u8], room: &mut [u8]) {
     expect_row(rt, row, text, WHOLE, room);
-    let singly = Reads {
+    let singly = ReadLogState {
         cuts: &ONES,
         ..WHOLE
     };
     expect_row(rt, row, text, singly, room);
     for cut in 1..row.input.len() {
-        let reads = Reads {
+        let reads = ReadLogState {
             cuts: &[cut as u64],
             ..WHOLE
         };
@@ -165,7 +171,7 @@ fn expect_failed_reads(rt: &impl Abort, alloc: Global, rows: &[Row<'_>]) -> Resu
     for row in rows {
         for read in 0..=row.input.len() {
             let text = text_of(alloc, row, read)?;
-            let reads = Reads {
+            let reads = ReadLogState {
                 cuts: &ONES,
                 fail_at: Some(read as u64),
                 ..WHOLE
@@ -203,7 +209,7 @@ fn expect_limits(
     for row in rows {
         for limit in 0..=row.input.len() {
             let text = text_of(alloc, row, limit)?;
-            let reads = Reads {
+            let reads = ReadLogState {
                 cuts,
                 fail_at: None,
                 limit: limit as u64,
@@ -241,7 +247,7 @@ fn expect_too_little_room(
     room: &mut [u8],
 ) {
     assert!(rt; text.len() <= room.len());
-    let reads = Reads { cuts, ..WHOLE };
+    let reads = ReadLogState { cuts, ..WHOLE };
     for size in 0..text.len() {
         let outcome = Outcome {
             written: &text[..size],
@@ -277,7 +283,7 @@ fn writes_fail(rt: HostRuntime) -> Result<(), Fail> {
 /// No read is made after an octet that is refused, and what was read with it is not followed.
 #[test]
 fn nothing_is_read_after_a_fault(rt: HostRuntime) {
-    let reads = Reads {
+    let reads = ReadLogState {
         cuts: &[4],
         fail_at: Some(1),
         limit: INPUT_LIMIT,
@@ -288,7 +294,7 @@ fn nothing_is_read_after_a_fault(rt: HostRuntime) {
 /// What was read before a read that fails is followed, and written.
 #[test]
 fn octets_before_a_failed_read_are_followed(rt: HostRuntime) {
-    let reads = Reads {
+    let reads = ReadLogState {
         cuts: &[4],
         fail_at: Some(1),
         limit: INPUT_LIMIT,

@@ -8,7 +8,7 @@ use Rattle.tlv_value.specs.Arcs.{arcs_of, subidentifiers}
 use Rattle.tlv_value.specs.Checks.{findings_on_contents}
 use Rattle.tlv_value.proofs.CheckLemmas.CheckNotes.{with_tag}
 use Rattle.tlv_value.specs.Kind.{kind_of}
-use Rattle.tlv_value.specs.Number.{number_of}
+use Rattle.tlv_value.specs.Number.{decimal_of}
 use Rattle.tlv_value.specs.Rows.{rows_of}
 use Rattle.tlv_value.specs.Times.{canonical_general_time, canonical_utc_time, general_time, has_form, utc_time}
 use Rattle.tlv_value.specs.Value.{used_digits}
@@ -19,13 +19,13 @@ enumerated = refl
 tagged : kind_of Context 2 ≡ Octets
 tagged = refl
 
-minus-128 : number_of (128 ∷ []) ≡ Some (negsuc 127)
+minus-128 : decimal_of (128 ∷ []) ≡ Some (negsuc 127)
 minus-128 = refl
 
-padded-128 : number_of (0 ∷ 128 ∷ []) ≡ Some (pos 128)
+padded-128 : decimal_of (0 ∷ 128 ∷ []) ≡ Some (pos 128)
 padded-128 = refl
 
-no-number : number_of [] ≡ None
+no-number : decimal_of [] ≡ None
 no-number = refl
 
 -- 1.2.840

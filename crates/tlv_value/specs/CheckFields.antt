@@ -2,10 +2,10 @@
 use Rattle.std.specs.Prelude.{◌<◌, ◌≤◌, ◌∷◌, [], take}
 use Rattle.tlv_value.specs.declared.check.ValueCheck.TheInside.{Inside}
 use Rattle.tlv_value.specs.declared.kind.Kind.TheVariants.{Utf8}
-use Rattle.tlv_value.specs.CheckState.{CheckState}
+use Rattle.tlv_value.specs.ValueCheckState.{ValueCheckState}
 use Rattle.tlv_value.specs.OpenRow.{IsOpenRow}
 
-abbrev pub check_state_of : Inside → CheckState
+abbrev pub check_state_of : Inside → ValueCheckState
 check_state_of t = record {
   number = t.number;
   size = t.size;

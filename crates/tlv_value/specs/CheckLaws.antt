@@ -3,18 +3,19 @@ use Rattle.std.specs.Prelude.{◌≡◌, ◌↔◌, ℕ, true, List, ◌++◌, l
 use Rattle.tlv_head.specs.Header.{HeaderValue, announced_length}
 use Rattle.tlv_value.specs.declared.kind.Kind.TheVariants.{Utf8}
 use Rattle.tlv_value.specs.Checks.{findings_on_contents}
-use Rattle.tlv_value.specs.CheckState.{CheckState, all_utf8, check_after, findings_in, new_check}
+use Rattle.tlv_value.specs.ValueCheckState.{ValueCheckState, all_utf8, value_check_after, findings_in, new_value_check}
 use Rattle.tlv_value.specs.Rows.{rows_of}
 
 -- two pieces, one after the other, are as one
 abbrev pub ChecksJoin : Type 0
-ChecksJoin = (s : CheckState) (x y : List ℕ) → check_after (check_after s x) y ≡ check_after s (x ++ y)
+ChecksJoin = (s : ValueCheckState) (x y : List ℕ)
+    → value_check_after (value_check_after s x) y ≡ value_check_after s (x ++ y)
 
 -- at the end of the contents all findings on them are there, and no others
 abbrev pub FindingsEnd : Type 0
 FindingsEnd =
     (h : HeaderValue) (octets : List ℕ) → length octets ≡ announced_length h.size
-    → findings_in (check_after (new_check h) octets) ≡ findings_on_contents h octets
+    → findings_in (value_check_after (new_value_check h) octets) ≡ findings_on_contents h octets
 
 -- contents are well-formed UTF-8 exactly if each of their rows is
 abbrev pub RowsAreFormed : Type 0

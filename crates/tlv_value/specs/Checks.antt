@@ -12,9 +12,9 @@ use Rattle.tlv_value.specs.Times as times
 use Rattle.tlv_value.specs.Types.{bit_string, boolean, integer_types, is_a, is_one_of, null, object_identifier, object_types, utc_time_type}
 use Rattle.tlv_value.specs.Units.{is_printable}
 
-abbrev pub last_octet_of : ℕ → List ℕ → ℕ
-last_octet_of before [] = before
-last_octet_of before (x ∷ xs) = last_octet_of x xs
+abbrev pub last_octet : ℕ → List ℕ → ℕ
+last_octet before [] = before
+last_octet before (x ∷ xs) = last_octet x xs
 
 -- 8.3.2: the first nine bits are all equal
 abbrev pub is_padded_integer : List ℕ → Bool
@@ -68,7 +68,7 @@ first c = slice_index c 0
 
 -- 8.6.2.2: the number that the unused bits of the last octet make
 abbrev pub unused_bits_value : List ℕ → ℕ
-unused_bits_value c = last_octet_of 0 c % 2 ^ first c
+unused_bits_value c = last_octet 0 c % 2 ^ first c
 
 -- 8.25: a UTCTime or GeneralizedTime of at most 64 octets: of a longer one the form is not looked at
 abbrev pub is_short_time : HeaderValue → List ℕ → Bool
@@ -96,7 +96,7 @@ contents_conditions h c =
     -- 8.19.2, 8.20.2: no subidentifier begins with 80
     ∷ (is_one_of object_types h && is_padded_after 0 c, B11)
     -- 8.19.2, 8.20.2: bit 8 is clear in the last octet of a subidentifier
-    ∷ (is_one_of object_types h && nat_le 128 (last_octet_of 0 c), B12)
+    ∷ (is_one_of object_types h && nat_le 128 (last_octet 0 c), B12)
     -- 8.6.2: a BIT STRING has a first octet, the number of unused bits
     ∷ (is_a bit_string h && length c == 0, B13)
     -- 8.6.2.2: it is at most 7

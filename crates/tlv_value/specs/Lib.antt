@@ -11,13 +11,13 @@ pub mod Units
 pub mod Layout
 pub mod Value
 pub mod KindValues
-pub mod TextState
+pub mod ValueTextState
 pub mod TextFields
 pub mod Laws
 pub mod Types
 pub mod Checks
 pub mod CheckNotes
-pub mod CheckState
+pub mod ValueCheckState
 pub mod CheckFields
 pub mod CheckLaws
 pub mod Names

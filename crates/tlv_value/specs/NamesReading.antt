@@ -1,7 +1,7 @@
 -- What reading a names file from a source comes to.
 use Rattle.std.specs.Prelude.{◌≡◌, ℕ, ◌+◌, ◌<◌, ◌≤◌, ◌⊎◌, List, length, Result, Ok, Err}
 use Rattle.std.specs.Io.KnownBytes.{IsAtEnd}
-use Rattle.tlv_io.specs.Device.{Last, Pieces, SourceState, failed, gave, next_count, octets_given}
+use Rattle.tlv_io.specs.Device.{LastReadValue, Pieces, SourceState, failed, gave, next_count, octets_given}
 use Rattle.tlv_value.specs.Names.{Table, names_of}
 use Rattle.tlv_value.specs.declared.names.fault.NamesFault.{NamesFault}
 use Rattle.tlv_value.specs.declared.names.fault.NamesFault.TheVariants.{BadOid, BadName, Repeated, TooLarge, ReadFailed, Memory}
@@ -12,7 +12,7 @@ IsWholeFile new octets result =
     (new.last ≡ gave 0) × IsAtEnd new.left × (length octets ≤ 1048576) × (names_of octets ≡ result)
 
 -- the last read gave the first octet past the limit
-abbrev pub IsTooLong : Last → List ℕ → Type 0
+abbrev pub IsTooLong : LastReadValue → List ℕ → Type 0
 IsTooLong last octets = (n : ℕ) × (last ≡ gave n) × (1048576 < length octets) × (length octets ≤ 1048576 + n)
 
 -- the result of reading these octets, by what the last read gave and what is left to read

@@ -12,5 +12,6 @@ abbrev pub twos_complement : List ℕ → ℤ
 twos_complement octets = signed_sum (bits_of octets)
 
 -- of 1 to 16 octets
-abbrev pub number_of : List ℕ → Option ℤ
-number_of octets = if nat_le 1 (length octets) && nat_le (length octets) 16 then Some (twos_complement octets) else None
+abbrev pub decimal_of : List ℕ → Option ℤ
+decimal_of octets =
+    if nat_le 1 (length octets) && nat_le (length octets) 16 then Some (twos_complement octets) else None

@@ -4,10 +4,10 @@ use Rattle.tlv_value.specs.declared.kind.Kind.TheVariants.{Bits}
 use Rattle.tlv_value.specs.declared.text.ValueText.TheInside.{Inside}
 use Rattle.tlv_value.specs.Kind.{kind_of}
 use Rattle.tlv_value.specs.OpenRow.{IsOpenRow}
-use Rattle.tlv_value.specs.TextState.{TextState}
+use Rattle.tlv_value.specs.ValueTextState.{ValueTextState}
 use Rattle.tlv_value.specs.Value.{is_long}
 
-abbrev pub text_state_of : Inside → TextState
+abbrev pub text_state_of : Inside → ValueTextState
 text_state_of t = record {
   offset = t.value.offset;
   class = t.value.class;

@@ -1,7 +1,7 @@
 //! What is found on the contents of a primitive.
 ghost use Rattle.std.specs.Prelude.{◌≡◌, ◌+◌, ◌≤◌, ◌&&◌, ℕ, List, length, slice_index};
 ghost use Rattle.tlv_head.specs.Header.{HeaderValue, announced_length};
-ghost use Rattle.tlv_value.specs.CheckState.{check_after, findings_in, has_unused_bits, is_allowed_in, new_check, new_check_of, type_number, with_each, with_front};
+ghost use Rattle.tlv_value.specs.ValueCheckState.{value_check_after, findings_in, has_unused_bits, is_allowed_in, new_value_check, new_check_of, type_number, with_each, with_front};
 ghost use Rattle.tlv_value.specs.Checks.{findings_on_contents, is_padded_integer};
 
 mod characters;
@@ -49,9 +49,9 @@ pub struct ValueCheck {
 }
 
 impl Model for ValueCheck {
-    ghost use Rattle.tlv_value.specs.CheckState.{CheckState};
+    ghost use Rattle.tlv_value.specs.ValueCheckState.{ValueCheckState};
 
-    ghost Value = { CheckState };
+    ghost Value = { ValueCheckState };
 
     ghost use Rattle.tlv_value.specs.CheckFields.{check_state_of, HasOpenRow};
 
@@ -63,9 +63,9 @@ impl Model for ValueCheck {
 impl ValueCheck {
     /// For the primitive with this header, of whose contents no octet has come.
     pub fn new(header: &Header) -> ValueCheck
-        ensures { result ≡ new_check header.now }
+        ensures { result ≡ new_value_check header.now }
     {
-        ValueCheck::of_type(type_of(header), header.size.announced_length())
+        ValueCheck::of_type(type_number(header), header.size.announced_length())
     }
 
     /// For a primitive of the universal type with this number, with so many contents octets, of which none has come.
@@ -91,10 +91,10 @@ impl ValueCheck {
     /// Begins anew, for the primitive with this header.
     #[inline(always)]
     pub fn restart(&mut self, header: &Header)
-        ensures { self.new ≡ new_check header.now }
+        ensures { self.new ≡ new_value_check header.now }
     {
         let size = header.size.announced_length();
-        self.number = type_of(header);
+        self.number = type_number(header);
         self.size = size;
         self.left = size;
         self.known = 0;
@@ -135,7 +135,7 @@ impl ValueCheck {
     #[inline(always)]
     pub fn bytes(&mut self, octets: &[u8])
         requires { length octets.now ≤ self.old.left }
-        ensures state { self.new ≡ check_after self.old octets.now }
+        ensures state { self.new ≡ value_check_after self.old octets.now }
         ensures left { self.new.left + length octets.now ≡ self.old.left }
     {
         self.left -= octets.len() as u64;
@@ -195,7 +195,8 @@ impl ValueCheck {
         requires { self.now.left ≡ 0 }
         ensures found { result.items ≡ findings_in self.now }
         ensures whole { (h : HeaderValue) (c : List ℕ)
-            → self.now ≡ check_after (new_check h) c → length c ≡ announced_length h.size
+            → self.now ≡ value_check_after (new_value_check h) c
+            → length c ≡ announced_length h.size
             → result.items ≡ findings_on_contents h c }
     {
         self.found()
@@ -241,7 +242,7 @@ impl ValueCheck {
 
 /// The universal number of the type. Of another class it is that of OCTET STRING, on whose contents nothing is found.
 #[inline(always)]
-fn type_of(header: &Header) -> u64
+fn type_number(header: &Header) -> u64
     ensures { result ≡ type_number header.now }
 {
     if matches!(header.class, Class::Universal) {

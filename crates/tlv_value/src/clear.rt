@@ -1,7 +1,7 @@
 //! A short look at all of the contents of a primitive.
 ghost use Rattle.std.specs.Prelude.{◌≡◌, ◌%◌, ◌^◌, ◌&&◌, ◌||◌, ◌==◌, [], IsTrue, eqb, false, length, nat_le, nat_lt, not, true};
 ghost use Rattle.tlv_value.specs.CheckNotes.{general_time_findings, utc_time_findings};
-ghost use Rattle.tlv_value.specs.Checks.{findings_on_contents, first, is_padded_after, is_padded_integer, last_octet_of};
+ghost use Rattle.tlv_value.specs.Checks.{findings_on_contents, first, is_padded_after, is_padded_integer, last_octet};
 ghost use Rattle.tlv_value.specs.Private.Checks.{findings_of, universal_header};
 ghost use Rattle.tlv_value.specs.Types.{constructed_types, is_one_of, is_unassigned};
 
@@ -96,7 +96,7 @@ fn has_clear_bits(contents: &[u8]) -> bool
         ≡ false }
     ensures zero { IsTrue result →
         (nat_le 2 (length contents.now) && nat_le (first contents.now) 7
-        && not (last_octet_of 0 contents.now % 2 ^ first contents.now == 0)) ≡ false }
+        && not (last_octet 0 contents.now % 2 ^ first contents.now == 0)) ≡ false }
 {
     match contents {
         [0, ..] => true,
@@ -109,7 +109,7 @@ fn has_clear_bits(contents: &[u8]) -> bool
 #[inline(always)]
 fn are_arcs(contents: &[u8]) -> bool
     ensures begun { IsTrue result → is_padded_after 0 contents.now ≡ false }
-    ensures ended { IsTrue result → nat_le 128 (last_octet_of 0 contents.now) ≡ false }
+    ensures ended { IsTrue result → nat_le 128 (last_octet 0 contents.now) ≡ false }
 {
     last_octet(0, contents) < 128 && !is_padded(0, contents)
 }

@@ -5,7 +5,7 @@ ghost use Rattle.tlv_value.specs.Arcs.{dotted_text, first_arcs, is_finished};
 ghost use Rattle.tlv_value.specs.Private.Arcs.{dotted_arcs, part_text};
 
 use arrayvec::ArrayVec;
-use tlv_io::Held;
+use tlv_io::HeldOctets;
 
 /// Leaves in `to` the arcs of an object identifier in decimal, with dots between them (8.19), or those of a relative
 /// one (8.20). What `to` held before is dropped.
@@ -17,7 +17,7 @@ pub fn dotted_of(contents: &[u8], relative: bool, to: &mut ArrayVec<u8, 320>) ->
     ensures text { to.new.items ≡ unwrap_or (dotted_text relative contents.now) [] }
 {
     to.clear();
-    let mut held = Held::new();
+    let mut held = HeldOctets::new();
     if contents.len() > 64 || !write_dotted(&mut held, contents, relative) {
         return false;
     }
@@ -27,7 +27,7 @@ pub fn dotted_of(contents: &[u8], relative: bool, to: &mut ArrayVec<u8, 320>) ->
 
 /// Adds the dotted text of an object identifier, or of a relative one, after a space. Returns whether there is such a
 /// text. If there is none, nothing is added.
-pub(crate) fn write_dotted(held: &mut Held, contents: &[u8], relative: bool) -> bool
+pub(crate) fn write_dotted(held: &mut HeldOctets, contents: &[u8], relative: bool) -> bool
     requires short { length contents.now ≤ 64 }
     requires room { HasRoomFor held.old 320 }
     ensures exists { result ≡ is_some (dotted_text relative contents.now) }
@@ -65,7 +65,7 @@ pub(crate) fn write_dotted(held: &mut Held, contents: &[u8], relative: bool) -> 
 /// Adds the dotted text of at most nine octets, after a space. Their numbers fit into 64 bits, which saves work at
 /// each octet.
 #[inline(always)]
-fn write_short(held: &mut Held, contents: &[u8], relative: bool)
+fn write_short(held: &mut HeldOctets, contents: &[u8], relative: bool)
     requires finished { is_finished contents.now ≡ true }
     requires short { length contents.now ≤ 9 }
     requires room { HasRoomFor held.old 320 }
@@ -95,15 +95,15 @@ fn is_finished(contents: &[u8]) -> bool
 
 /// Adds the arc or arcs that a subidentifier stands for, after a dot if they are not the first.
 #[inline(always)]
-fn write_arcs(held: &mut Held, number: u128, first: bool, relative: bool)
+fn write_arcs(held: &mut HeldOctets, number: u128, first: bool, relative: bool)
     requires { HasRoomFor held.old 42 }
     ensures { held.new ≡ held.old ++ part_text first relative number }
 {
     if !first {
         held.add(b".");
-        held.wide(number);
+        held.wide_number(number);
     } else if relative {
-        held.wide(number);
+        held.wide_number(number);
     } else {
         write_first_arcs(held, number);
     }
@@ -111,18 +111,18 @@ fn write_arcs(held: &mut Held, number: u128, first: bool, relative: bool)
 
 /// Adds the two arcs that the first subidentifier stands for.
 #[inline(always)]
-fn write_first_arcs(held: &mut Held, number: u128)
+fn write_first_arcs(held: &mut HeldOctets, number: u128)
     requires { HasRoomFor held.old 42 }
     ensures { held.new ≡ held.old ++ dotted_arcs (first_arcs number) }
 {
     if number < 40 {
         held.add(b"0.");
-        held.wide(number);
+        held.wide_number(number);
     } else if number < 80 {
         held.add(b"1.");
-        held.wide(number - 40);
+        held.wide_number(number - 40);
     } else {
         held.add(b"2.");
-        held.wide(number - 80);
+        held.wide_number(number - 80);
     }
 }

@@ -7,11 +7,11 @@ ghost use Rattle.tlv_value.specs.Private.Rows.{row_indent_of};
 
 use crate::Layout;
 use tlv_head::{Class, padded_name};
-use tlv_io::Held;
+use tlv_io::HeldOctets;
 
 /// Begins a line with its first columns, an offset and a length, and its indentation.
 #[inline(always)]
-pub fn begin_sized(held: &mut Held, layout: Layout, offset: u64, size: u64)
+pub fn begin_sized(held: &mut HeldOctets, layout: Layout, offset: u64, size: u64)
     requires { HasRoomFor held.old 592 }
     ensures text { held.new
         ≡ held.old ++ margin layout.pure (columns offset (decimal size)) layout.level }
@@ -23,7 +23,7 @@ pub fn begin_sized(held: &mut Held, layout: Layout, offset: u64, size: u64)
 
 /// Adds first columns with an offset and a length, unless they are left out.
 #[inline(always)]
-fn write_sized(held: &mut Held, pure: bool, offset: u64, size: u64)
+fn write_sized(held: &mut HeldOctets, pure: bool, offset: u64, size: u64)
     requires { HasRoomFor held.old 50 }
     ensures text { held.new ≡ held.old ++ (if pure then [] else columns offset (decimal size)) }
     ensures bound { GrowsBy 43 held.old held.new }
@@ -35,7 +35,7 @@ fn write_sized(held: &mut Held, pure: bool, offset: u64, size: u64)
 
 /// Begins a line with an offset and a word, which takes six places, and its indentation.
 #[inline(always)]
-pub fn begin_word(held: &mut Held, layout: Layout, offset: u64, word: &[u8; 6])
+pub fn begin_word(held: &mut HeldOctets, layout: Layout, offset: u64, word: &[u8; 6])
     requires { HasRoomFor held.old 592 }
     ensures text { held.new
         ≡ held.old ++ margin layout.pure (columns offset word.now) layout.level }
@@ -47,19 +47,19 @@ pub fn begin_word(held: &mut Held, layout: Layout, offset: u64, word: &[u8; 6])
 
 /// Adds first columns with an offset and a word, unless they are left out.
 #[inline(always)]
-fn write_worded(held: &mut Held, pure: bool, offset: u64, word: &[u8; 6])
+fn write_worded(held: &mut HeldOctets, pure: bool, offset: u64, word: &[u8; 6])
     requires { HasRoomFor held.old 50 }
     ensures text { held.new ≡ held.old ++ (if pure then [] else columns offset word.now) }
     ensures bound { GrowsBy 43 held.old held.new }
 {
     if !pure {
-        held.worded(offset, word);
+        held.word_columns(offset, word);
     }
 }
 
 /// Begins a line that has no offset, with its indentation.
 #[inline(always)]
-pub fn begin_blank(held: &mut Held, layout: Layout)
+pub fn begin_blank(held: &mut HeldOctets, layout: Layout)
     requires { HasRoomFor held.old 592 }
     ensures text { held.new ≡ held.old ++ margin layout.pure no_columns layout.level }
     ensures bound { GrowsBy 553 held.old held.new }
@@ -88,7 +88,7 @@ fn blank_columns(pure: bool) -> usize
 
 /// Adds the text of a tag: at most 40 octets.
 #[inline(always)]
-pub fn write_tag(held: &mut Held, class: Class, number: u64)
+pub fn write_tag(held: &mut HeldOctets, class: Class, number: u64)
     requires { HasRoomFor held.old 40 }
     ensures text { held.new ≡ held.old ++ tag_text class number }
     ensures bound { GrowsBy 40 held.old held.new }
@@ -108,7 +108,7 @@ pub fn write_tag(held: &mut Held, class: Class, number: u64)
 
 /// Adds the text of a universal tag: the name of its type, if it has one.
 #[inline(always)]
-fn write_universal(held: &mut Held, number: u64)
+fn write_universal(held: &mut HeldOctets, number: u64)
     requires { HasRoomFor held.old 40 }
     ensures text { held.new ≡ held.old ++ tag_text Class.Universal number }
     ensures bound { GrowsBy 40 held.old held.new }
@@ -122,7 +122,7 @@ fn write_universal(held: &mut Held, number: u64)
 /// Adds the text of a tag that has no name: what begins it, the number and a bracket. What begins it
 /// is the first of 32 octets, so that no copy depends on how many they are.
 #[inline]
-fn write_bracketed(held: &mut Held, front: &[u8; 32], count: usize, number: u64)
+fn write_bracketed(held: &mut HeldOctets, front: &[u8; 32], count: usize, number: u64)
     requires short { count ≤ 16 }
     requires room { HasRoomFor held.old 40 }
     ensures text { held.new ≡ held.old ++ (take count front.now ++ decimal number ++ 93 ∷ []) }
@@ -136,7 +136,7 @@ fn write_bracketed(held: &mut Held, front: &[u8; 32], count: usize, number: u64)
 /// Begins the line of an element with its first columns, its indentation and its tag text.
 #[inline(always)]
 pub fn write_element(
-    held: &mut Held,
+    held: &mut HeldOctets,
     layout: Layout,
     offset: u64,
     class: Class,

@@ -15,7 +15,7 @@ use crate::value::{write_long_bits, write_long_value, write_value};
 use crate::value_lines::{put_object, put_relative};
 use crate::{Layout, NameTable};
 use tlv_head::{Class, Header};
-use tlv_io::{Drain, Held, Out, WriteFault};
+use tlv_io::{Drain, HeldOctets, Out, WriteFault};
 
 /// What a header says of a primitive, and how its lines are laid out.
 #[derive(Clone, Copy)]
@@ -69,7 +69,7 @@ impl Primitive {
 
     /// Begins its line, up to its tag text.
     #[inline(always)]
-    fn write(&self, held: &mut Held)
+    fn write(&self, held: &mut HeldOctets)
         requires { HasRoomFor held.old 640 }
         ensures text { held.new ≡ held.old ++ front_of self.now }
         ensures bound { GrowsBy 593 held.old held.new }
@@ -86,7 +86,7 @@ impl Primitive {
 
     /// Adds its line without a value.
     #[inline(always)]
-    fn write_bare(&self, held: &mut Held)
+    fn write_bare(&self, held: &mut HeldOctets)
         requires { HasRoomFor held.old 1024 }
         ensures { held.new ≡ held.old ++ primitive_line self.now [] }
     {
@@ -95,7 +95,7 @@ impl Primitive {
     }
 
     /// Adds its line with the number of its bits, if it is a long BIT STRING.
-    fn write_bits(&self, held: &mut Held, unused: u8)
+    fn write_bits(&self, held: &mut HeldOctets, unused: u8)
         requires room { HasRoomFor held.old 1024 }
         requires long { 9 < self.now.size }
         ensures { held.new
@@ -109,7 +109,7 @@ impl Primitive {
 
     /// Adds its line, if its value is in rows: with the number of its bits, if it is a BIT STRING.
     #[inline(always)]
-    fn write_long(&self, held: &mut Held, contents: &[u8])
+    fn write_long(&self, held: &mut HeldOctets, contents: &[u8])
         requires room { HasRoomFor held.old 1024 }
         requires long { is_long self.now.kind self.now.size ≡ true }
         ensures { held.new

@@ -3,7 +3,7 @@ ghost use Rattle.std.specs.Prelude.{◌≡◌, ◌+◌, ◌<◌, ◌≤◌, ◌^
 ghost use Rattle.tlv_io.specs.Out.{Puts};
 ghost use Rattle.tlv_value.specs.Kind.{kind_of};
 ghost use Rattle.tlv_value.specs.Private.PrimitiveLines.{new_text_of};
-ghost use Rattle.tlv_value.specs.TextState.{begin_lines, contents_lines, end_lines, new_text, text_after};
+ghost use Rattle.tlv_value.specs.ValueTextState.{begin_lines, contents_lines, end_lines, new_value_text, value_text_after};
 ghost use Rattle.tlv_value.specs.KindValues.{row_octets};
 
 use crate::kind::Kind;
@@ -44,9 +44,9 @@ pub struct ValueText {
 }
 
 impl Model for ValueText {
-    ghost use Rattle.tlv_value.specs.TextState.{TextState};
+    ghost use Rattle.tlv_value.specs.ValueTextState.{ValueTextState};
 
-    ghost Value = { TextState };
+    ghost Value = { ValueTextState };
 
     ghost use Rattle.tlv_value.specs.TextFields.{TextFieldsAgree, text_state_of};
 
@@ -59,7 +59,7 @@ impl ValueText {
     /// For the primitive with this header, of whose contents no octet has come.
     #[inline(always)]
     pub fn new(header: &Header, layout: Layout) -> ValueText
-        ensures { result ≡ new_text header.now layout }
+        ensures { result ≡ new_value_text header.now layout }
     {
         ValueText::of(Primitive::new(header, layout))
     }
@@ -141,7 +141,7 @@ impl ValueText {
     /// `WriteFault` exactly if the drain's failures rose in the call.
     pub fn bytes<D: Drain>(&mut self, octets: &[u8], out: &mut Out<'_, D>) -> Result<(), WriteFault>
         requires { length octets.now ≤ self.old.left }
-        ensures state { OnOk result (self.new ≡ text_after self.old octets.now) }
+        ensures state { OnOk result (self.new ≡ value_text_after self.old octets.now) }
         ensures puts { Puts D.state out.old out.new (contents_lines self.old octets.now) result }
     {
         self.left -= octets.len() as u64;

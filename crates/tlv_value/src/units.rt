@@ -7,13 +7,13 @@ ghost use Rattle.tlv_value.specs.Units.{escaped_number, escaped_octet, is_printa
 
 use crate::kind::Kind;
 use crate::rows::utf8_length;
-use tlv_io::Held;
+use tlv_io::HeldOctets;
 
 /// As many octets as a row of characters has at most.
 const ROW: usize = 64;
 
 /// Adds the characters of a row, of which each octet may take five.
-pub(crate) fn write_characters(held: &mut Held, kind: Kind, row: &[u8])
+pub(crate) fn write_characters(held: &mut HeldOctets, kind: Kind, row: &[u8])
     requires short { length row.now ≤ 64 }
     requires room { HasRoomFor held.old 320 }
     ensures { held.new ≡ held.old ++ flat_map (unit_text kind) (units kind 0 row.now) }
@@ -42,7 +42,7 @@ fn block_of(row: &[u8]) -> [u8; ROW]
 
 /// Adds the units of a row of characters.
 #[inline(never)]
-fn write_units(held: &mut Held, kind: Kind, row: &[u8])
+fn write_units(held: &mut HeldOctets, kind: Kind, row: &[u8])
     ensures { AddsIfRoom held.old held.new (flat_map (unit_text kind) (units kind 0 row.now)) }
 {
     let mut rest = row;
@@ -53,7 +53,7 @@ fn write_units(held: &mut Held, kind: Kind, row: &[u8])
 }
 
 /// Adds the octets in front that are written as they are, or else a unit. Returns how many octets these are.
-fn write_part(held: &mut Held, kind: Kind, octets: &[u8]) -> usize
+fn write_part(held: &mut HeldOctets, kind: Kind, octets: &[u8]) -> usize
     requires { 1 ≤ length octets.now }
     ensures some { 1 ≤ result }
     ensures within { result ≤ length octets.now }
@@ -70,7 +70,7 @@ fn write_part(held: &mut Held, kind: Kind, octets: &[u8]) -> usize
 }
 
 /// Adds a unit: a character, or an octet that belongs to none.
-fn write_unit(held: &mut Held, kind: Kind, unit: &[u8])
+fn write_unit(held: &mut HeldOctets, kind: Kind, unit: &[u8])
     ensures { AddsIfRoom held.old held.new (unit_text kind unit.now) }
 {
     match kind {
@@ -86,7 +86,7 @@ fn write_unit(held: &mut Held, kind: Kind, unit: &[u8])
 }
 
 /// Adds a unit of BMPString.
-fn write_ucs2(held: &mut Held, unit: &[u8])
+fn write_ucs2(held: &mut HeldOctets, unit: &[u8])
     ensures { AddsIfRoom held.old held.new (unit_text Kind.Ucs2 unit.now) }
 {
     match unit {
@@ -98,7 +98,7 @@ fn write_ucs2(held: &mut Held, unit: &[u8])
 }
 
 /// Adds a unit of UniversalString.
-fn write_ucs4(held: &mut Held, unit: &[u8])
+fn write_ucs4(held: &mut HeldOctets, unit: &[u8])
     ensures { AddsIfRoom held.old held.new (unit_text Kind.Ucs4 unit.now) }
 {
     match unit {
@@ -110,7 +110,7 @@ fn write_ucs4(held: &mut Held, unit: &[u8])
 }
 
 /// Adds a unit of UTF8String.
-fn write_utf8(held: &mut Held, unit: &[u8])
+fn write_utf8(held: &mut HeldOctets, unit: &[u8])
     ensures { AddsIfRoom held.old held.new (unit_text Kind.Utf8 unit.now) }
 {
     match unit {
@@ -131,7 +131,7 @@ fn write_utf8(held: &mut Held, unit: &[u8])
 }
 
 /// Adds a character of one octet, or the octet's number.
-fn write_octet(held: &mut Held, octet: u8)
+fn write_octet(held: &mut HeldOctets, octet: u8)
     ensures { AddsIfRoom held.old held.new (octet_text octet) }
 {
     if is_printable(octet) {
@@ -142,7 +142,7 @@ fn write_octet(held: &mut Held, octet: u8)
 }
 
 /// Adds a printable character; a quotation mark or a reverse solidus is after a reverse solidus.
-fn write_printable(held: &mut Held, octet: u8)
+fn write_printable(held: &mut HeldOctets, octet: u8)
     ensures { AddsIfRoom held.old held.new (printable_text octet) }
 {
     if octet == b'"' || octet == b'\\' {
@@ -153,7 +153,7 @@ fn write_printable(held: &mut Held, octet: u8)
 }
 
 /// Adds the number of an octet.
-fn write_escaped_octet(held: &mut Held, octet: u8)
+fn write_escaped_octet(held: &mut HeldOctets, octet: u8)
     ensures { AddsIfRoom held.old held.new (escaped_octet octet) }
 {
     let mut pair = [0; 2];
@@ -163,7 +163,7 @@ fn write_escaped_octet(held: &mut Held, octet: u8)
 }
 
 /// Adds the number that up to four octets make, without leading zeros.
-fn write_escaped_number(held: &mut Held, octets: &[u8])
+fn write_escaped_number(held: &mut HeldOctets, octets: &[u8])
     requires { length octets.now ≤ 4 }
     ensures { AddsIfRoom held.old held.new (escaped_number octets.now) }
 {

@@ -4,20 +4,20 @@ ghost use Rattle.std.specs.Fmt.{signed_decimal};
 ghost use Rattle.tlv_io.specs.LineTexts.{GrowsBy, HasRoomFor};
 ghost use Rattle.tlv_value.specs.Bits.{last_bits};
 ghost use Rattle.tlv_value.specs.KindValues.{bits_value, boolean_value, integer_value, long_text};
-ghost use Rattle.tlv_value.specs.Private.KindValues.{digits_of, joined_pairs, plain_text};
+ghost use Rattle.tlv_value.specs.Private.KindValues.{octet_digits, joined_pairs, plain_text};
 ghost use Rattle.tlv_value.specs.Units.{quoted_text};
 ghost use Rattle.tlv_value.specs.Value.{bit_count, is_long, is_readable, most_on_line, row_text, used_digits};
 
 use crate::decimal::{decimal_of, short_number};
 use crate::kind::Kind;
 use crate::units::write_characters;
-use tlv_io::Held;
+use tlv_io::HeldOctets;
 
 /// A space, a sign, and spaces up to 32 octets.
 const SIGN: &[u8; 32] = b" -                              ";
 
 /// Adds a row of long contents after a space.
-pub(crate) fn write_row(held: &mut Held, kind: Kind, row: &[u8])
+pub(crate) fn write_row(held: &mut HeldOctets, kind: Kind, row: &[u8])
     requires short { length row.now ≤ 64 }
     requires room { HasRoomFor held.old 400 }
     ensures text { held.new ≡ held.old ++ 32 ∷ row_text kind row.now }
@@ -30,7 +30,7 @@ pub(crate) fn write_row(held: &mut Held, kind: Kind, row: &[u8])
 }
 
 /// Adds pairs of digits after a space, and with spaces between them.
-fn write_pairs(held: &mut Held, octets: &[u8])
+fn write_pairs(held: &mut HeldOctets, octets: &[u8])
     requires short { length octets.now ≤ 64 }
     requires room { HasRoomFor held.old 192 }
     ensures { held.new ≡ held.old ++ 32 ∷ joined_pairs octets.now }
@@ -45,7 +45,7 @@ fn write_pairs(held: &mut Held, octets: &[u8])
 
 /// Adds a held value with a space before it, if there is one. An object identifier is shown in hexadecimal.
 #[inline(always)]
-pub(crate) fn write_value(held: &mut Held, kind: Kind, contents: &[u8])
+pub(crate) fn write_value(held: &mut HeldOctets, kind: Kind, contents: &[u8])
     requires short { length contents.now ≤ most_on_line kind }
     requires room { HasRoomFor held.old 400 }
     ensures text { held.new ≡ held.old ++ plain_text kind contents.now }
@@ -62,7 +62,7 @@ pub(crate) fn write_value(held: &mut Held, kind: Kind, contents: &[u8])
 
 /// Adds a row of characters after a space, in quotation marks.
 #[inline(never)]
-fn write_text(held: &mut Held, kind: Kind, row: &[u8])
+fn write_text(held: &mut HeldOctets, kind: Kind, row: &[u8])
     requires short { length row.now ≤ 64 }
     requires room { HasRoomFor held.old 400 }
     ensures { held.new ≡ held.old ++ 32 ∷ quoted_text kind row.now }
@@ -73,7 +73,7 @@ fn write_text(held: &mut Held, kind: Kind, row: &[u8])
 }
 
 /// Adds a BOOLEAN (8.2.2).
-fn write_boolean(held: &mut Held, contents: &[u8])
+fn write_boolean(held: &mut HeldOctets, contents: &[u8])
     requires short { length contents.now ≤ 16 }
     requires room { HasRoomFor held.old 48 }
     ensures { held.new ≡ held.old ++ (boolean_value contents.now).text }
@@ -87,7 +87,7 @@ fn write_boolean(held: &mut Held, contents: &[u8])
 
 /// Adds an INTEGER or ENUMERATED (8.3.3).
 #[inline(always)]
-fn write_integer(held: &mut Held, contents: &[u8])
+fn write_integer(held: &mut HeldOctets, contents: &[u8])
     requires short { length contents.now ≤ 16 }
     requires room { HasRoomFor held.old 48 }
     ensures { held.new ≡ held.old ++ (integer_value contents.now).text }
@@ -103,7 +103,7 @@ fn write_integer(held: &mut Held, contents: &[u8])
 
 /// Adds an INTEGER or ENUMERATED of more than eight octets.
 #[inline(never)]
-fn write_wide_integer(held: &mut Held, contents: &[u8])
+fn write_wide_integer(held: &mut HeldOctets, contents: &[u8])
     requires short { length contents.now ≤ 16 }
     requires room { HasRoomFor held.old 48 }
     ensures { held.new ≡ held.old ++ (integer_value contents.now).text }
@@ -115,19 +115,19 @@ fn write_wide_integer(held: &mut Held, contents: &[u8])
 }
 
 /// Adds a number, after a sign if it is negative.
-fn write_signed(held: &mut Held, number: i128)
+fn write_signed(held: &mut HeldOctets, number: i128)
     requires { HasRoomFor held.old 41 }
     ensures { held.new ≡ held.old ++ signed_decimal number }
 {
     if number < 0 {
         held.add(b"-");
     }
-    held.wide(number.unsigned_abs());
+    held.wide_number(number.unsigned_abs());
 }
 
 /// Adds a BIT STRING (8.6.2).
 #[inline(never)]
-fn write_bits(held: &mut Held, contents: &[u8])
+fn write_bits(held: &mut HeldOctets, contents: &[u8])
     requires short { length contents.now ≤ 9 }
     requires room { HasRoomFor held.old 128 }
     ensures { held.new ≡ held.old ++ (bits_value contents.now).text }
@@ -143,7 +143,7 @@ fn write_bits(held: &mut Held, contents: &[u8])
 
 /// Adds what is on the line of a long value of this size: of a BIT STRING the number of its bits.
 #[inline(always)]
-pub(crate) fn write_long_value(held: &mut Held, kind: Kind, size: u64, contents: &[u8])
+pub(crate) fn write_long_value(held: &mut HeldOctets, kind: Kind, size: u64, contents: &[u8])
     requires long { is_long kind size ≡ true }
     requires room { HasRoomFor held.old 64 }
     ensures text { held.new ≡ held.old ++ long_text kind size contents.now }
@@ -156,7 +156,7 @@ pub(crate) fn write_long_value(held: &mut Held, kind: Kind, size: u64, contents:
 
 /// Adds what is on the line of a long BIT STRING of this size: the number of its bits, if its first contents octet
 /// can be read.
-pub(crate) fn write_long_bits(held: &mut Held, size: u64, unused: u8)
+pub(crate) fn write_long_bits(held: &mut HeldOctets, size: u64, unused: u8)
     requires long { 9 < size }
     requires room { HasRoomFor held.old 64 }
     ensures text { held.new ≡ held.old ++ long_text Kind.Bits size (unused ∷ []) }
@@ -168,19 +168,19 @@ pub(crate) fn write_long_bits(held: &mut Held, size: u64, unused: u8)
 }
 
 /// Adds the number of bits of so many octets.
-fn write_bit_count(held: &mut Held, unused: u8, octets: u64)
+fn write_bit_count(held: &mut HeldOctets, unused: u8, octets: u64)
     requires some { unused ≤ 8 * octets }
     requires room { HasRoomFor held.old 64 }
     ensures text { held.new ≡ held.old ++ 32 ∷ bit_count unused octets }
     ensures bound { GrowsBy 45 held.old held.new }
 {
     held.add(b" ");
-    held.wide(8 * u128::from(octets) - u128::from(unused));
+    held.wide_number(8 * u128::from(octets) - u128::from(unused));
     held.add(b" bits");
 }
 
 /// Adds the bits of octets, without those that are not used, after a space if there are any.
-fn write_bit_digits(held: &mut Held, unused: u8, octets: &[u8])
+fn write_bit_digits(held: &mut HeldOctets, unused: u8, octets: &[u8])
     requires unused { unused ≤ 7 }
     requires short { length octets.now ≤ 8 }
     requires room { HasRoomFor held.old 65 }
@@ -206,7 +206,7 @@ fn is_readable(unused: u8, octets: usize) -> bool
 
 /// The bits of an octet as digits, the most significant first.
 fn octet_digits(octet: u8) -> [u8; 8]
-    ensures { result ≡ digits_of (last_bits 8 octet) }
+    ensures { result ≡ octet_digits (last_bits 8 octet) }
 {
     [
         b'0' + octet / 128 % 2,

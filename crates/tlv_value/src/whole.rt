@@ -8,7 +8,7 @@ ghost use Rattle.tlv_value.specs.Kind.{kind_of};
 ghost use Rattle.tlv_value.specs.KindValues.{long_text, row_octets};
 ghost use Rattle.tlv_value.specs.Private.PrimitiveLines.{lines_in_steps, new_text_of, primitive_line};
 ghost use Rattle.tlv_value.specs.Rows.{rows_of};
-ghost use Rattle.tlv_value.specs.TextState.{row_lines, whole_lines};
+ghost use Rattle.tlv_value.specs.ValueTextState.{row_lines, whole_lines};
 ghost use Rattle.tlv_value.specs.Value.{is_long};
 
 use crate::kind::Kind;

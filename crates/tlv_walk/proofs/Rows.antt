@@ -4,7 +4,7 @@ use Rattle.tlv_head.specs.declared.fault.FaultCode.TheVariants.{Empty, Short, St
 use Rattle.tlv_walk.specs.declared.ending.Ending.TheVariants.{Done}
 use Rattle.tlv_walk.specs.declared.framing.Framing.{Framing}
 use Rattle.tlv_walk.specs.Ending.{fault}
-use Rattle.tlv_walk.specs.Wrappers.{first_without_string, wrappers}
+use Rattle.tlv_walk.specs.Wrappers.{first_without_wrapper, wrappers}
 use Rattle.tlv_walk.proofs.GrammarLemmas.Readings.{reading}
 use Rattle.tlv_walk.proofs.GrammarLemmas.Endings.{ending}
 
@@ -42,7 +42,7 @@ wrapped-octets = refl
 wrapped-octets-wrapper : wrappers (reading wrapping (4 ∷ 2 ∷ 5 ∷ 0 ∷ [])) ≡ 0 ∷ []
 wrapped-octets-wrapper = refl
 
-wrapped-octets-other : first_without_string (0 ∷ 5 ∷ []) (reading wrapping (4 ∷ 2 ∷ 5 ∷ 0 ∷ [])) ≡ Some 5
+wrapped-octets-other : first_without_wrapper (0 ∷ 5 ∷ []) (reading wrapping (4 ∷ 2 ∷ 5 ∷ 0 ∷ [])) ≡ Some 5
 wrapped-octets-other = refl
 
 wrapped-bits : ending wrapping (3 ∷ 3 ∷ 0 ∷ 5 ∷ 0 ∷ []) ≡ Done

@@ -2,8 +2,8 @@
 use Rattle.std.proofs.Common.{◌≡◌, ◌≢◌, ◌⊎◌, inl, inr, ◌↔◌, ℕ, suc, ◌-◌, ◌^◌, ◌≤◌, Bool, true, false, eqb, if◌then◌else◌, List, [], ◌∷◌, length, Option, Some, None, refl, sym, ap, ap₂, ◌∙◌, arith, eqb-true, ne_eqb}
 use Rattle.std.proofs.lemmas.Bool.{false_from_ne_true}
 use Rattle.tlv_walk.specs.declared.stack.Frame.{Frame as Kept}
-use Rattle.tlv_walk.specs.declared.stack.Holder.{Holder}
-use Rattle.tlv_walk.specs.declared.stack.Holder.TheVariants.{Input, Definite, Indefinite, Wrapper}
+use Rattle.tlv_walk.specs.declared.stack.FrameKind.{FrameKind}
+use Rattle.tlv_walk.specs.declared.stack.FrameKind.TheVariants.{Input, Definite, Indefinite, Wrapper}
 use Rattle.tlv_walk.specs.Stack.{Frame, IsFilled, IsInIndefinite, IsInWrapper, IsWithin, bound_of}
 use Rattle.tlv_walk.specs.Private.Stack.{frame_inside}
 use Rattle.tlv_walk.specs.Private.FrameFields.{AreHolders, HasEnd, bound_from, end_from, frames_from, wraps_from}
@@ -43,56 +43,56 @@ within_bound n end most = within_at n end (eqb n (2 ^ 64 - 1)) refl most
 
 -- what the innermost element is
 
-wraps_alone : (h : Holder) → wraps_from h ≡ true → h ≡ Wrapper
+wraps_alone : (h : FrameKind) → wraps_from h ≡ true → h ≡ Wrapper
 wraps_alone Input e = absurd (cc)
 wraps_alone Definite e = absurd (cc)
 wraps_alone Indefinite e = absurd (cc)
 wraps_alone Wrapper e = refl
 
 pub in_wrapper : (i : Kept) (fs : List Kept) → AreHolders i fs
-    → IsInWrapper (frames_from i fs) ↔ (i.holder ≡ Wrapper)
+    → IsInWrapper (frames_from i fs) ↔ (i.kind ≡ Wrapper)
 in_wrapper i [] h = ((λ x. absurd x), (λ e. let is_input = h.0 in absurd (cc)))
-in_wrapper i (f ∷ fs) h = (wraps_alone i.holder, λ e. ap wraps_from e)
+in_wrapper i (f ∷ fs) h = (wraps_alone i.kind, λ e. ap wraps_from e)
 
-endless_alone : (h : Holder) (n : ℕ) → HasEnd h n → end_from h n ≡ None → h ≡ Indefinite
+endless_alone : (h : FrameKind) (n : ℕ) → HasEnd h n → end_from h n ≡ None → h ≡ Indefinite
 endless_alone Input n h e = absurd h
 endless_alone Definite n h e = absurd (cc (some_bound n h))
 endless_alone Indefinite n h e = refl
 endless_alone Wrapper n h e = absurd (cc (some_bound n h))
 
 pub in_indefinite : (i : Kept) (fs : List Kept) → AreHolders i fs
-    → IsInIndefinite (frames_from i fs) ↔ (i.holder ≡ Indefinite)
+    → IsInIndefinite (frames_from i fs) ↔ (i.kind ≡ Indefinite)
 in_indefinite i [] h = ((λ x. absurd x), (λ e. let is_input = h.0 in absurd (cc)))
-in_indefinite i (f ∷ fs) h = (endless_alone i.holder i.bound h.0, λ e. ap (λ (k : Holder). end_from k i.bound) e)
+in_indefinite i (f ∷ fs) h = (endless_alone i.kind i.bound h.0, λ e. ap (λ (k : FrameKind). end_from k i.bound) e)
 
-end_alone : (h : Holder) (n at : ℕ) → HasEnd h n → end_from h n ≡ Some at
+end_alone : (h : FrameKind) (n at : ℕ) → HasEnd h n → end_from h n ≡ Some at
     → (n ≡ at) × ((h ≡ Definite) ⊎ (h ≡ Wrapper))
 end_alone Input n at h e = absurd h
 end_alone Definite n at h e = let s = some_bound n h in (cc, inl refl)
 end_alone Indefinite n at h e = absurd (cc)
 end_alone Wrapper n at h e = let s = some_bound n h in (cc, inr refl)
 
-ends_there : (h : Holder) (n : ℕ) → HasEnd h n → (h ≡ Definite) ⊎ (h ≡ Wrapper) → end_from h n ≡ Some n
+ends_there : (h : FrameKind) (n : ℕ) → HasEnd h n → (h ≡ Definite) ⊎ (h ≡ Wrapper) → end_from h n ≡ Some n
 ends_there Input n h k = absurd h
 ends_there Definite n h k = some_bound n h
 ends_there Indefinite n h (inl e) = absurd (cc)
 ends_there Indefinite n h (inr e) = absurd (cc)
 ends_there Wrapper n h k = some_bound n h
 
-input_endless : (h : Holder) → h ≡ Input → (h ≡ Definite) ⊎ (h ≡ Wrapper) → ⊥
+input_endless : (h : FrameKind) → h ≡ Input → (h ≡ Definite) ⊎ (h ≡ Wrapper) → ⊥
 input_endless h is_input (inl e) = cc
 input_endless h is_input (inr e) = cc
 
 pub is_filled : (i : Kept) (fs : List Kept) (at : ℕ) → AreHolders i fs
-    → IsFilled (frames_from i fs) at ↔ ((i.bound ≡ at) × ((i.holder ≡ Definite) ⊎ (i.holder ≡ Wrapper)))
-is_filled i [] at h = ((λ x. absurd x), (λ k. input_endless i.holder h.0 k.1))
-is_filled i (f ∷ fs) at h = (end_alone i.holder i.bound at h.0, λ k. ends_there i.holder i.bound h.0 k.1 ∙ ap Some k.0)
+    → IsFilled (frames_from i fs) at ↔ ((i.bound ≡ at) × ((i.kind ≡ Definite) ⊎ (i.kind ≡ Wrapper)))
+is_filled i [] at h = ((λ x. absurd x), (λ k. input_endless i.kind h.0 k.1))
+is_filled i (f ∷ fs) at h = (end_alone i.kind i.bound at h.0, λ k. ends_there i.kind i.bound h.0 k.1 ∙ ap Some k.0)
 
 -- an element of the indefinite length is opened inside the innermost one
 
 pub more_indefinite : (i : Kept) (fs : List Kept) (now : List Frame) (end : Option ℕ) (wrapper : Bool)
     → AreHolders i fs → frames_from i fs ≡ now → end ≡ None → (wrapper ≡ true → end ≢ None)
-    → frames_from (record { bound = i.bound; holder = Indefinite }) (i ∷ fs) ≡ frame_inside now end wrapper ∷ now
+    → frames_from (record { bound = i.bound; kind = Indefinite }) (i ∷ fs) ≡ frame_inside now end wrapper ∷ now
 more_indefinite i fs now end wrapper h shown e definite =
     let plain : false ≡ wrapper = sym (false_from_ne_true wrapper (λ w. definite w e)) in
     let bound : bound_from i.bound ≡ bound_of now = sym (bound-frames i fs now h shown) in

@@ -16,13 +16,13 @@ pub data AreAlike : Forest → Forest → Type 0 where
       → AreAlike f g → AreAlike (Holder h children f) (Holder k within g)
 
 -- no primitive of the elements is the universal 0, whose low form would be the octet 00 of end-of-contents octets
-abbrev pub HaveLowForms : Forest → Type 0
-HaveLowForms NoMore = Unit {0}
-HaveLowForms (PaddingOctet rest) = HaveLowForms rest
-HaveLowForms (Primitive h c rest) = (leading_octet h.class h.constructed h.number ≢ 0) × HaveLowForms rest
-HaveLowForms (Holder h children rest) = HaveLowForms children × HaveLowForms rest
-HaveLowForms (OpenPrimitive h c) = leading_octet h.class h.constructed h.number ≢ 0
-HaveLowForms (OpenHolder h children) = HaveLowForms children
-HaveLowForms (OpenBitString h) = Unit {0}
-HaveLowForms (OpenHeader octets) = Unit {0}
-HaveLowForms OpenEndOctets = Unit {0}
+abbrev pub HaveNoUniversalZero : Forest → Type 0
+HaveNoUniversalZero NoMore = Unit {0}
+HaveNoUniversalZero (PaddingOctet rest) = HaveNoUniversalZero rest
+HaveNoUniversalZero (Primitive h c rest) = (leading_octet h.class h.constructed h.number ≢ 0) × HaveNoUniversalZero rest
+HaveNoUniversalZero (Holder h children rest) = HaveNoUniversalZero children × HaveNoUniversalZero rest
+HaveNoUniversalZero (OpenPrimitive h c) = leading_octet h.class h.constructed h.number ≢ 0
+HaveNoUniversalZero (OpenHolder h children) = HaveNoUniversalZero children
+HaveNoUniversalZero (OpenBitString h) = Unit {0}
+HaveNoUniversalZero (OpenHeader octets) = Unit {0}
+HaveNoUniversalZero OpenEndOctets = Unit {0}

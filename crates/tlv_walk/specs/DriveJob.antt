@@ -12,7 +12,7 @@ use Rattle.tlv_walk.specs.Events.{Begin, Bytes, Close, Enter, EventValue, Open, 
 use Rattle.tlv_walk.specs.Follow.{Effect, effect_of, followed_events}
 use Rattle.tlv_walk.specs.Forest.{Forest, spelling}
 use Rattle.tlv_walk.specs.Job.{Job, Runs, drain_result}
-use Rattle.tlv_walk.specs.Wrappers.{first_other, first_without_string, wrapper_offsets}
+use Rattle.tlv_walk.specs.Wrappers.{first_other, first_without_wrapper, wrapper_offsets}
 
 -- whether a follower had enough
 abbrev pub had_enough : Go → Bool
@@ -33,7 +33,7 @@ event_octets e = []
 -- the run over a forest of which a follower followed these events: if it had enough, it ends after the last of them
 abbrev pub run_over : Framing → Forest → List EventValue → Go → Ending → Run
 run_over framing f es go.On e =
-    record { ending = e; octets = length (spelling f); enough = false; unused = first_without_string framing.inside f }
+    record { ending = e; octets = length (spelling f); enough = false; unused = first_without_wrapper framing.inside f }
 run_over framing f es go.Enough e =
     record {
       ending = e;

@@ -5,15 +5,15 @@ use Rattle.tlv_walk.specs.declared.ending.Ending.TheVariants as ending
 use Rattle.tlv_walk.specs.declared.framing.Framing.{Framing}
 use Rattle.tlv_walk.specs.declared.event.Event.{Event}
 use Rattle.tlv_walk.specs.declared.event.Event.TheVariants as event
-use Rattle.tlv_walk.specs.Phase.{Failed}
+use Rattle.tlv_walk.specs.Phase.{Refused}
 use Rattle.tlv_walk.specs.Ending.{IsEnding}
 use Rattle.tlv_walk.specs.Events.{AreEqualJoined, Begin, Bytes, Close, End, Enter, EventValue, Leave, Open, Pad, Unused, events}
-use Rattle.tlv_walk.specs.WalkerState.{WalkerState, first_without_string_in}
+use Rattle.tlv_walk.specs.WalkerState.{WalkerState, first_without_wrapper_in}
 use Rattle.tlv_walk.specs.OpenCount.{open_count}
 use Rattle.tlv_walk.specs.Stands.{IsIdle, Stands}
 use Rattle.tlv_walk.specs.Forest.{Forest, spelling}
 use Rattle.tlv_walk.specs.Reading.{CannotBecomeSound, IsReading}
-use Rattle.tlv_walk.specs.Wrappers.{first_without_string}
+use Rattle.tlv_walk.specs.Wrappers.{first_without_wrapper}
 
 -- an event, apart from where its octets lie in memory
 abbrev pub event_value : Event → EventValue
@@ -43,10 +43,10 @@ pub record IsRefusedAfter (framing : Framing) (p : List ℕ) (octet : ℕ) (past
 -- reading
 pub record StandsRefused (w : WalkerState) (b : List ℕ) (octet : ℕ) (past : List EventValue) (f : Fault) : Type 0 where
   pub refused : IsRefusedAfter w.framing b octet past f
-  pub phase : w.phase ≡ Failed f
+  pub phase : w.phase ≡ Refused f
   pub offset : w.offset ≡ length b
   pub depth : length w.stack ≡ open_count refused.reading
-  pub unused : first_without_string_in w ≡ first_without_string w.framing.inside refused.reading
+  pub unused : first_without_wrapper_in w ≡ first_without_wrapper w.framing.inside refused.reading
 
 -- what a walker has read: the octets that it took, and their reading. Once it refused an octet, these are the octets
 -- before that one

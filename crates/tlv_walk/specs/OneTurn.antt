@@ -8,7 +8,7 @@ use Rattle.tlv_walk.specs.declared.run.DeviceFault.TheVariants.{ReadFailed, Writ
 use Rattle.tlv_walk.specs.declared.run.Run.{Run}
 use Rattle.tlv_walk.specs.declared.run.Turn.{Turn}
 use Rattle.tlv_walk.specs.declared.run.Turn.TheVariants.{Again, Ended}
-use Rattle.tlv_io.specs.Device.{DrainState, Last, SourceState, failed, failures_after, gave, never, next_count}
+use Rattle.tlv_io.specs.Device.{DrainState, LastReadValue, SourceState, failed, failures_after, gave, never, next_count}
 use Rattle.tlv_walk.specs.DriveJob.{event_octets}
 use Rattle.tlv_walk.specs.Ending.{IsEnding, IsFinalEnding}
 use Rattle.tlv_walk.specs.Events.{AreEqualJoined, EventValue, events}
@@ -21,22 +21,22 @@ use Rattle.tlv_io.specs.Out.{Sends}
 use Rattle.tlv_walk.specs.Reading.{AreOctets, IsPrefixOf, IsReading}
 use Rattle.tlv_walk.specs.HasRead.{StandsAtEnd}
 use Rattle.tlv_walk.specs.Stands.{CanTake, IsIdle, Stands}
-use Rattle.tlv_walk.specs.Wrappers.{first_other, first_without_string, wrapper_offsets}
+use Rattle.tlv_walk.specs.Wrappers.{first_other, first_without_wrapper, wrapper_offsets}
 
 -- the octets that the last read gave, at the front of the piece
-abbrev pub last_octets : Last → List ℕ → List ℕ
+abbrev pub last_octets : LastReadValue → List ℕ → List ℕ
 last_octets never piece = []
 last_octets (gave n) piece = take n piece
 last_octets failed piece = []
 
 -- it gave octets, or the end, and no more octets than there was room for
-abbrev pub LastReadGaveUpTo : ℕ → Last → Type 0
+abbrev pub LastReadGaveUpTo : ℕ → LastReadValue → Type 0
 LastReadGaveUpTo room never = ⊥
 LastReadGaveUpTo room (gave n) = n ≤ room
 LastReadGaveUpTo room failed = ⊥
 
 -- what the read of a turn gave that came to this
-abbrev pub LastReadWas : ℕ → Result Turn DeviceFault → Last → Type 0
+abbrev pub LastReadWas : ℕ → Result Turn DeviceFault → LastReadValue → Type 0
 LastReadWas room (Ok turn) last = LastReadGaveUpTo room last
 LastReadWas room (Err ReadFailed) last = last ≡ failed
 LastReadWas room (Err WriteFailed) last = LastReadGaveUpTo room last
@@ -88,7 +88,7 @@ module _ {S : Type 0} (next : S → EventValue → Effect S) (before after : Tur
     pub yields : AreEqualJoined (past ++ more) (events reading)
     pub ending : IsEnding before.walker.framing octets run.ending
     pub spelled : run.octets ≡ length (spelling reading)
-    pub unused : run.unused ≡ first_without_string before.walker.framing.inside reading
+    pub unused : run.unused ≡ first_without_wrapper before.walker.framing.inside reading
     pub framing : after.walker.framing ≡ before.walker.framing
     pub walker : StandsAtEnd after.walker octets (past ++ more)
 

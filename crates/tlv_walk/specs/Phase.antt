@@ -9,10 +9,10 @@ pub data Phase : Type 0 where
   -- a header that has begun
   InHeader : (reader : HeadReaderState) → Phase
   -- a primitive's contents, of which so many octets are to follow
-  InContents : (left : ℕ) → Phase
+  InPrimitive : (left : ℕ) → Phase
   -- a wrapping BIT STRING, whose first contents octet is to follow
-  BeforeUnused : Phase
+  InBitString : Phase
   -- the end of an indefinite element, whose first 00 has come
-  InEnd : Phase
+  InEndOctets : Phase
   -- nothing: an octet was refused
-  Failed : (fault : Fault) → Phase
+  Refused : (fault : Fault) → Phase

@@ -5,31 +5,31 @@ use Rattle.tlv_walk.specs.Phase.{Phase}
 use Rattle.tlv_walk.specs.Phase as phase
 use Rattle.tlv_walk.specs.Events.{AreEqualJoined, Close, End, EventValue, Leave, events}
 use Rattle.tlv_walk.specs.Forest.{Forest}
-use Rattle.tlv_walk.specs.WalkerState.{HasNotFailed, WalkerState}
+use Rattle.tlv_walk.specs.WalkerState.{HasNotRefused, WalkerState}
 use Rattle.tlv_walk.specs.Private.Zipper.{HasPrivateState}
 use Rattle.tlv_walk.specs.Reading.{IsReading}
 
 -- 8.1.5: the end of an element that is filled
-abbrev pub ending_event : Frame → EventValue
-ending_event f = if f.wrapper then Leave else Close None
+abbrev pub frame_closing_event : Frame → EventValue
+frame_closing_event f = if f.wrapper then Leave else Close None
 
 abbrev pub is_end : Option ℕ → ℕ → Bool
 is_end None at = false
 is_end (Some e) at = eqb e at
 
 -- the ends of the elements that are filled at the offset, innermost first
-abbrev pub ending_events : ℕ → List Frame → List EventValue
-ending_events at [] = []
-ending_events at (f ∷ fs) = if is_end f.end at then ending_event f ∷ ending_events at fs else []
+abbrev pub closing_events : ℕ → List Frame → List EventValue
+closing_events at [] = []
+closing_events at (f ∷ fs) = if is_end f.end at then frame_closing_event f ∷ closing_events at fs else []
 
 -- the events that need no further octet
 abbrev pub waiting_events_in : Phase → List Frame → ℕ → List EventValue
-waiting_events_in phase.Between stack at = ending_events at stack
+waiting_events_in phase.Between stack at = closing_events at stack
 waiting_events_in (phase.InHeader r) stack at = []
-waiting_events_in (phase.InContents left) stack at = if eqb left 0 then End ∷ ending_events at stack else []
-waiting_events_in phase.BeforeUnused stack at = []
-waiting_events_in phase.InEnd stack at = []
-waiting_events_in (phase.Failed fault) stack at = []
+waiting_events_in (phase.InPrimitive left) stack at = if eqb left 0 then End ∷ closing_events at stack else []
+waiting_events_in phase.InBitString stack at = []
+waiting_events_in phase.InEndOctets stack at = []
+waiting_events_in (phase.Refused fault) stack at = []
 
 abbrev pub waiting_events : WalkerState → List EventValue
 waiting_events w = waiting_events_in w.phase w.stack w.offset
@@ -40,7 +40,7 @@ IsIdle w = waiting_events w ≡ []
 
 -- an octet can be taken: no event waits, and no octet was refused
 abbrev pub CanTake : WalkerState → Type 0
-CanTake w = IsIdle w × HasNotFailed w
+CanTake w = IsIdle w × HasNotRefused w
 
 -- what a walker stands for that refused no octet: octets, and the events yielded for them. Yielded and waiting
 -- together they are those of the reading

@@ -4,15 +4,15 @@ use Rattle.tlv_head.specs.declared.fault.Fault.{Fault}
 use Rattle.tlv_walk.specs.declared.event.Event.{Event}
 use Rattle.tlv_walk.specs.declared.event.Step.{Step}
 use Rattle.tlv_walk.specs.declared.event.Step.TheVariants as step
-use Rattle.tlv_walk.specs.Phase.{Failed}
+use Rattle.tlv_walk.specs.Phase.{Refused}
 use Rattle.tlv_walk.specs.Events.{EventValue}
-use Rattle.tlv_walk.specs.WalkerState.{HasNotFailed, HasOctets, IsAfterEvent, WalkerState}
+use Rattle.tlv_walk.specs.WalkerState.{HasNotRefused, HasOctets, IsAfterEvent, WalkerState}
 use Rattle.tlv_walk.specs.Stands.{CanTake, Stands}
 use Rattle.tlv_walk.specs.HasRead.{StandsRefused, event_value}
 
 -- octets were taken from the front of a piece, or none, and the walker stands for them and for one event more
 pub record YieldsNext (old new : WalkerState) (before after : List ℕ) (e : Event) : Type 0 where
-  pub not_failed : HasNotFailed old
+  pub not_refused : HasNotRefused old
   pub taken : List ℕ
   pub piece : before ≡ taken ++ after
   pub stands : (b : List ℕ) (past : List EventValue) → Stands old b past
@@ -27,7 +27,7 @@ pub record YieldsNext (old new : WalkerState) (before after : List ℕ) (e : Eve
 
 -- all octets of a piece were taken, and no event is to come before the next octet, which can be taken
 pub record UsesUpPiece (old new : WalkerState) (before after : List ℕ) : Type 0 where
-  pub not_failed : HasNotFailed old
+  pub not_refused : HasNotRefused old
   pub none_left : after ≡ []
   pub stands : (b : List ℕ) (past : List EventValue) → Stands old b past → Stands new (b ++ before) past
   pub ready : CanTake new
@@ -37,14 +37,14 @@ pub record UsesUpPiece (old new : WalkerState) (before after : List ℕ) : Type 
 
 -- octets were taken from the front of a piece, or none, and the next one is refused; what is open stays open
 pub record RefusesNext (old new : WalkerState) (before after : List ℕ) (f : Fault) : Type 0 where
-  pub not_failed : HasNotFailed old
+  pub not_refused : HasNotRefused old
   pub taken : List ℕ
   pub octet : ℕ
   pub rest : List ℕ
   pub before_is : before ≡ taken ++ octet ∷ rest
   pub after_is : after ≡ octet ∷ rest
   pub stands : (b : List ℕ) (past : List EventValue) → Stands old b past → StandsRefused new (b ++ taken) octet past f
-  pub phase : new.phase ≡ Failed f
+  pub phase : new.phase ≡ Refused f
   pub framing : new.framing ≡ old.framing
   pub offset : new.offset ≡ old.offset + length taken
   pub events : new.events ≡ old.events
@@ -53,7 +53,7 @@ pub record RefusesNext (old new : WalkerState) (before after : List ℕ) (f : Fa
 
 -- an octet was refused before: the same fault again, and nothing has changed
 pub record RefusesAgain (old new : WalkerState) (before after : List ℕ) (f : Fault) : Type 0 where
-  pub failed : old.phase ≡ Failed f
+  pub refused : old.phase ≡ Refused f
   pub same : new ≡ old
   pub piece : after ≡ before
 

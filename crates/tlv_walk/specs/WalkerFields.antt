@@ -1,7 +1,7 @@
 -- What the fields of a `Walker` say.
 use Rattle.tlv_head.specs.HeadReaderState.{HeadReaderState}
 use Rattle.tlv_walk.specs.WalkerState.{WalkerState}
-use Rattle.tlv_walk.specs.Phase.{Phase, Between, InHeader, InContents, BeforeUnused, InEnd, Failed}
+use Rattle.tlv_walk.specs.Phase.{Phase, Between, InHeader, InPrimitive, InBitString, InEndOctets, Refused}
 use Rattle.tlv_walk.specs.declared.walker.Phase.{Phase as Kept}
 use Rattle.tlv_walk.specs.declared.walker.Phase.TheVariants as kept
 use Rattle.tlv_walk.specs.declared.walker.Walker.TheInside.{Inside}
@@ -10,10 +10,10 @@ use Rattle.tlv_walk.specs.declared.walker.Walker.TheInside.{Inside}
 abbrev pub phase_of : Kept → HeadReaderState → Phase
 phase_of kept.Between reader = Between
 phase_of kept.InHeader reader = InHeader reader
-phase_of (kept.InContents left) reader = InContents left
-phase_of kept.BeforeUnused reader = BeforeUnused
-phase_of kept.InEnd reader = InEnd
-phase_of (kept.Failed fault) reader = Failed fault
+phase_of (kept.InPrimitive left) reader = InPrimitive left
+phase_of kept.InBitString reader = InBitString
+phase_of kept.InEndOctets reader = InEndOctets
+phase_of (kept.Refused fault) reader = Refused fault
 
 abbrev pub walker_state_of : Inside → WalkerState
 walker_state_of w = record {

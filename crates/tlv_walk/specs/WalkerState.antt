@@ -5,7 +5,7 @@ use Rattle.tlv_head.specs.HeadReaderState.{HeadReaderState}
 use Rattle.tlv_walk.specs.declared.event.Event.{Event}
 use Rattle.tlv_walk.specs.declared.event.Event.TheVariants as event
 use Rattle.tlv_walk.specs.declared.framing.Framing.{Framing}
-use Rattle.tlv_walk.specs.Phase.{Phase, Between, InHeader, InContents, BeforeUnused, InEnd, Failed}
+use Rattle.tlv_walk.specs.Phase.{Phase, Between, InHeader, InPrimitive, InBitString, InEndOctets, Refused}
 use Rattle.tlv_walk.specs.Stack.{Frame, IsInIndefinite, IsInWrapper, IsNested, IsWithin, bound_of}
 
 pub record WalkerState : Type 0 where
@@ -43,12 +43,12 @@ pub record IsInHeader (r : HeadReaderState) (at : ℕ) : Type 0 where
 abbrev pub IsPhase : Phase → List Frame → ℕ → ℕ → Type 0
 IsPhase Between stack offset events = events + length stack ≤ offset
 IsPhase (InHeader r) stack offset events = IsInHeader r offset × (events + length stack + length r.octets ≤ offset)
-IsPhase (InContents left) stack offset events =
+IsPhase (InPrimitive left) stack offset events =
     IsWithin (bound_of stack) (offset + left) × (events + length stack + 1 ≤ offset)
-IsPhase BeforeUnused stack offset events =
+IsPhase InBitString stack offset events =
     IsInWrapper stack × IsWithin (bound_of stack) (offset + 1) × (events + length stack ≤ offset)
-IsPhase InEnd stack offset events = IsInIndefinite stack × (events + length stack + 1 ≤ offset)
-IsPhase (Failed fault) stack offset events = events + length stack ≤ offset
+IsPhase InEndOctets stack offset events = IsInIndefinite stack × (events + length stack + 1 ≤ offset)
+IsPhase (Refused fault) stack offset events = events + length stack ≤ offset
 
 pub record IsWalkerState (w : WalkerState) : Type 0 where
   pub nested : IsNested w.stack
@@ -60,18 +60,18 @@ pub record IsWalkerState (w : WalkerState) : Type 0 where
   pub found : w.wrapper_count ≤ length w.framing.inside
 
 -- no octet was refused
-abbrev pub HasNotFailed : WalkerState → Type 0
-HasNotFailed w = (f : Fault) → w.phase ≢ Failed f
+abbrev pub HasNotRefused : WalkerState → Type 0
+HasNotRefused w = (f : Fault) → w.phase ≢ Refused f
 
 -- a phase in which an event was yielded for each octet taken: no header has begun, no end-of-contents octets, and no
 -- octet was refused
 abbrev pub IsAfterEvent : Phase → Type 0
 IsAfterEvent Between = Unit {0}
 IsAfterEvent (InHeader r) = ⊥
-IsAfterEvent (InContents left) = Unit {0}
-IsAfterEvent BeforeUnused = Unit {0}
-IsAfterEvent InEnd = ⊥
-IsAfterEvent (Failed fault) = ⊥
+IsAfterEvent (InPrimitive left) = Unit {0}
+IsAfterEvent InBitString = Unit {0}
+IsAfterEvent InEndOctets = ⊥
+IsAfterEvent (Refused fault) = ⊥
 
 -- parts of contents and of padding are not empty
 abbrev pub HasOctets : Event → Type 0
@@ -86,5 +86,5 @@ HasOctets event.Leave = Unit {0}
 HasOctets (event.Pad octets) = octets.now ≢ []
 
 -- the first of the named offsets that is not known to be a wrapper's
-abbrev pub first_without_string_in : WalkerState → Option ℕ
-first_without_string_in w = slice_get w.framing.inside w.wrapper_count
+abbrev pub first_without_wrapper_in : WalkerState → Option ℕ
+first_without_wrapper_in w = slice_get w.framing.inside w.wrapper_count

@@ -24,8 +24,8 @@ abbrev pub first_other : List ℕ → List ℕ → Option ℕ
 first_other ns others = find (λ n. not (is_among n others)) ns
 
 -- the first named offset that is no wrapper's
-abbrev pub first_without_string : List ℕ → Forest → Option ℕ
-first_without_string inside f = first_other inside (wrappers f)
+abbrev pub first_without_wrapper : List ℕ → Forest → Option ℕ
+first_without_wrapper inside f = first_other inside (wrappers f)
 
 -- the offsets of the wrappers that events enter
 abbrev pub wrapper_offsets : List EventValue → List ℕ

@@ -1,6 +1,6 @@
 //! What follows a walk.
 ghost use Rattle.std.specs.Prelude.{◌≡◌, true};
-ghost use Rattle.tlv_head.specs.Fields.{IsHeaderSized, header_with};
+ghost use Rattle.tlv_head.specs.HeaderFields.{IsHeaderSized, header_with};
 ghost use Rattle.tlv_walk.specs.Events.{Bytes, EventValue, Open, Pad};
 ghost use Rattle.tlv_walk.specs.Follow.{Effect, GoesOn, HasEffect, HasEffectOrNone, IsWholeElement, Joins, Rests, effect_of, put_if_followed, whole_events};
 ghost use Rattle.tlv_io.specs.Out.{Puts};

@@ -23,6 +23,7 @@ pub use framing::{Framing, Inside};
 pub use one_turn::turn;
 pub use run::{DeviceFault, INPUT_LIMIT, Run, Turn};
 pub use tlv_io::{
-    Drain, Held, MemDrain, MemSource, Out, ReadFault, ReadSource, Source, WriteDrain, WriteFault,
+    Drain, HeldOctets, MemDrain, MemSource, Out, ReadFault, ReadSource, Source, WriteDrain,
+    WriteFault,
 };
 pub use walker::Walker;

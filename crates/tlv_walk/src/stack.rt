@@ -1,14 +1,14 @@
 //! The open elements that hold others.
 ghost use Rattle.std.specs.Prelude.{◌≡◌, ◌≢◌, ◌-◌, ◌^◌, ◌<◌, ◌≤◌, ◌↔◌, ◌∷◌, IfSome, IsTrue, None, [], length, drop, true};
 ghost use Rattle.tlv_walk.specs.Stack.{IsFilled, IsInIndefinite, IsInWrapper, IsWithin, bound_of};
-ghost use Rattle.tlv_walk.specs.Private.Stack.{frame_inside, left_to, wraps_of};
+ghost use Rattle.tlv_walk.specs.Private.Stack.{frame_inside, room_to, wraps_of};
 
 use crate::frames::Frames;
 use std::marker::Model;
 
 /// What holds the elements that come next.
 #[derive(Clone, Copy, Default)]
-enum Holder {
+enum FrameKind {
     /// No element: the input itself.
     #[default]
     Input,
@@ -25,7 +25,7 @@ enum Holder {
 struct Frame {
     /// Where the innermost definite element ends that is this one or holds it; `u64::MAX` if there is none.
     bound: u64,
-    holder: Holder,
+    kind: FrameKind,
 }
 
 /// The open elements that hold others, at most 128.
@@ -60,7 +60,7 @@ impl Stack {
         Stack {
             innermost: Frame {
                 bound: u64::MAX,
-                holder: Holder::Input,
+                kind: FrameKind::Input,
             },
             outer: Frames::new(),
         }
@@ -96,13 +96,13 @@ impl Stack {
         match end {
             Some(end) => {
                 self.innermost.bound = end;
-                self.innermost.holder = if wrapper {
-                    Holder::Wrapper
+                self.innermost.kind = if wrapper {
+                    FrameKind::Wrapper
                 } else {
-                    Holder::Definite
+                    FrameKind::Definite
                 };
             }
-            None => self.innermost.holder = Holder::Indefinite,
+            None => self.innermost.kind = FrameKind::Indefinite,
         }
     }
 
@@ -128,7 +128,10 @@ impl Stack {
         ensures { IsTrue result ↔ IsFilled self.now offset }
     {
         self.innermost.bound == offset
-            && matches!(self.innermost.holder, Holder::Definite | Holder::Wrapper)
+            && matches!(
+                self.innermost.kind,
+                FrameKind::Definite | FrameKind::Wrapper
+            )
     }
 
     /// Whether the innermost element is a string that wraps encodings.
@@ -136,7 +139,7 @@ impl Stack {
     pub fn is_in_wrapper(&self) -> bool
         ensures { IsTrue result ↔ IsInWrapper self.now }
     {
-        matches!(self.innermost.holder, Holder::Wrapper)
+        matches!(self.innermost.kind, FrameKind::Wrapper)
     }
 
     /// Whether the innermost element has the indefinite length.
@@ -144,7 +147,7 @@ impl Stack {
     pub fn is_in_indefinite(&self) -> bool
         ensures { IsTrue result ↔ IsInIndefinite self.now }
     {
-        matches!(self.innermost.holder, Holder::Indefinite)
+        matches!(self.innermost.kind, FrameKind::Indefinite)
     }
 
     /// Where the innermost definite element ends.
@@ -171,7 +174,7 @@ impl Stack {
     /// How many octets there are from this offset to the bound.
     pub fn room(&self, offset: u64) -> Option<u64>
         requires { IsWithin (bound_of self.now) offset }
-        ensures { result ≡ left_to (bound_of self.now) offset }
+        ensures { result ≡ room_to (bound_of self.now) offset }
     {
         room_to(self.bound(), offset)
     }
@@ -180,7 +183,7 @@ impl Stack {
 /// How many octets there are from an offset to a bound.
 pub(crate) fn room_to(bound: Option<u64>, offset: u64) -> Option<u64>
     requires { IsWithin bound offset }
-    ensures { result ≡ left_to bound offset }
+    ensures { result ≡ room_to bound offset }
 {
     match bound {
         Some(bound) => Some(bound - offset),

@@ -21,13 +21,13 @@ enum Phase {
     /// An unfinished header: the walker's reader has its octets.
     InHeader,
     /// A primitive's contents, of which so many octets are to follow.
-    InContents(u64),
+    InPrimitive(u64),
     /// A wrapping BIT STRING, whose first contents octet is to follow.
-    BeforeUnused,
+    InBitString,
     /// The end of an indefinite element, whose first `00` has come.
-    InEnd,
+    InEndOctets,
     /// Nothing: an octet was refused.
-    Failed(Fault),
+    Refused(Fault),
 }
 
 /// Takes the octets of an input in whatever pieces they come, and yields event after event. It
@@ -64,14 +64,14 @@ impl Model for Walker {
 impl Walker {
     ghost use Rattle.std.specs.Prelude.{List, [], false};
     ghost use Rattle.tlv_walk.specs.Phase as phases;
-    ghost use Rattle.tlv_walk.specs.WalkerState.{first_without_string_in, new_walker};
+    ghost use Rattle.tlv_walk.specs.WalkerState.{first_without_wrapper_in, new_walker};
     ghost use Rattle.tlv_walk.specs.Private.WalkerState.{EventWaits, Steps, fault_at};
     ghost use Rattle.tlv_head.specs.declared.fault.Fault.{Fault as FaultOf};
     ghost use Rattle.tlv_walk.specs.Ending.{IsEnding, ShowsSoundness};
     ghost use Rattle.tlv_walk.specs.Events.{EventValue};
     ghost use Rattle.tlv_walk.specs.OpenCount.{open_count};
     ghost use Rattle.tlv_walk.specs.Stands.{CanTake, IsIdle, Stands};
-    ghost use Rattle.tlv_walk.specs.Wrappers.{first_without_string};
+    ghost use Rattle.tlv_walk.specs.Wrappers.{first_without_wrapper};
     ghost use Rattle.tlv_walk.specs.StepsTo.{RefusesAgain, StepsTo};
     ghost use Rattle.tlv_walk.specs.HasRead.{IfRead, StandsAtEnd};
     ghost use Rattle.tlv_walk.specs.Private.Steps.{YieldsStep};
@@ -124,9 +124,9 @@ impl Walker {
 
     /// The first of the named offsets at which no string was found whose contents are encodings.
     pub fn unused(&self) -> Option<u64>
-        ensures value { result ≡ first_without_string_in self.now }
+        ensures value { result ≡ first_without_wrapper_in self.now }
         ensures first { IfRead self.now
-            (λ b f. result ≡ first_without_string self.now.framing.inside f) }
+            (λ b f. result ≡ first_without_wrapper self.now.framing.inside f) }
     {
         self.framing.inside.get(self.wrapper_count)
     }
@@ -143,7 +143,7 @@ impl Walker {
         ensures { IsTrue result ↔ EventWaits self.now }
     {
         match &self.phase {
-            Phase::InContents(left) => *left == 0,
+            Phase::InPrimitive(left) => *left == 0,
             Phase::Between => self.stack.is_filled(self.offset),
             _ => false,
         }
@@ -157,10 +157,10 @@ impl Walker {
             → IsEnding self.now.framing o result }
         ensures soundness { (o : List ℕ) (past : List EventValue) → StandsAtEnd self.now o past
             → ShowsSoundness self.now.framing o result }
-        ensures failed { (f : FaultOf) → self.now.phase ≡ phases.Failed f
+        ensures refused { (f : FaultOf) → self.now.phase ≡ phases.Refused f
             → result ≡ Ending.Fault f }
     {
-        if let Phase::Failed(fault) = &self.phase {
+        if let Phase::Refused(fault) = &self.phase {
             return Ending::Fault(*fault);
         }
         if !self.is_outermost() {
@@ -211,11 +211,11 @@ impl Walker {
         requires { self.old.offset + length piece.old.now ≤ 2 ^ 40 }
         ensures steps { Steps self.old self.new piece.old.now piece.new.now result }
         ensures yields { YieldsStep self.old self.new piece.old.now piece.new.now result }
-        ensures again { (f : FaultOf) → self.old.phase ≡ phases.Failed f
+        ensures again { (f : FaultOf) → self.old.phase ≡ phases.Refused f
             → (result ≡ Step.Fault f)
             × RefusesAgain self.old self.new piece.old.now piece.new.now f }
     {
-        if let Phase::InContents(left) = self.phase {
+        if let Phase::InPrimitive(left) = self.phase {
             if left == 0 {
                 return Step::Event(self.end_primitive());
             }
@@ -230,13 +230,13 @@ impl Walker {
             }
             return self.between(piece);
         }
-        if matches!(self.phase, Phase::BeforeUnused) {
+        if matches!(self.phase, Phase::InBitString) {
             return self.unused_octet(piece);
         }
-        if matches!(self.phase, Phase::InEnd) {
+        if matches!(self.phase, Phase::InEndOctets) {
             return self.second_zero(piece);
         }
-        if let Phase::Failed(fault) = &self.phase {
+        if let Phase::Refused(fault) = &self.phase {
             return Step::Fault(*fault);
         }
         if piece.is_empty() {
@@ -246,16 +246,16 @@ impl Walker {
     }
 
     /// Refuses the next octet.
-    fn fail<'a>(&mut self, code: FaultCode) -> Step<'a>
+    fn refuse<'a>(&mut self, code: FaultCode) -> Step<'a>
         ensures { (result ≡ Step.Fault (fault_at code self.old.offset))
             × (self.new
-            ≡ record self.old { phase = phases.Failed (fault_at code self.old.offset) }) }
+            ≡ record self.old { phase = phases.Refused (fault_at code self.old.offset) }) }
     {
         let fault = Fault {
             code,
             offset: self.offset,
         };
-        self.phase = Phase::Failed(fault);
+        self.phase = Phase::Refused(fault);
         Step::Fault(fault)
     }
 }

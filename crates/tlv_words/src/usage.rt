@@ -23,13 +23,17 @@ pub fn usage_report(fault: &UsageFault) -> Report
     ensures { report_value result ≡ usage_report fault.now }
 {
     match fault {
-        UsageFault::Parser(error) => Report::silent(if error.use_stderr() { 4 } else { 0 }),
+        UsageFault::Parser(error) => Report::without_message(if error.use_stderr() {
+            4
+        } else {
+            0
+        }),
         UsageFault::Value(option) => {
             let octets = option.as_bytes();
             let shown = &octets[..64.min(octets.len())];
-            Report::saying(4, out_of_range(shown).as_slice())
+            Report::with_message(4, out_of_range(shown).as_slice())
         }
-        UsageFault::Memory => Report::saying(5, b"U3 out of memory"),
+        UsageFault::Memory => Report::with_message(5, b"U3 out of memory"),
     }
 }
 
@@ -44,7 +48,7 @@ pub fn unprinted_report() -> Report
 pub fn words_report() -> Report
     ensures { report_value result ≡ words_report }
 {
-    Report::saying(4, b"U1 an argument is not UTF-8")
+    Report::with_message(4, b"U1 an argument is not UTF-8")
 }
 
 /// The message of U2, for the option of this name.

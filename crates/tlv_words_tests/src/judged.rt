@@ -36,7 +36,7 @@ fn refusal_of(fault: &UsageFault) -> Comes<'static> {
         UsageFault::Value(name) => Comes::Value(*name),
         UsageFault::Memory => Comes::Memory,
         UsageFault::Parser(error) if error.use_stderr() => Comes::Refused,
-        UsageFault::Parser(_) => Comes::Shown,
+        UsageFault::Parser(_) => Comes::OctetsRun,
     }
 }
 

@@ -11,7 +11,7 @@ pub(crate) enum Comes<'a> {
     /// `clap` refuses them.
     Refused,
     /// They ask for help or the version.
-    Shown,
+    OctetsRun,
     /// The value of this option is not in its range.
     Value(&'a str),
     Memory,
@@ -98,10 +98,10 @@ pub(crate) static INSIDE: [Judged<'static>; 9] = [
 /// Words for help and the version, and others in their place.
 pub(crate) static SHOWN: [Judged<'static>; 9] = [
     (&["dump", "-h"], Comes::Refused),
-    (&["dump", "--help"], Comes::Shown),
+    (&["dump", "--help"], Comes::OctetsRun),
     (&["dump", "--version"], Comes::Refused),
-    (&["--version"], Comes::Shown),
-    (&["--help"], Comes::Shown),
+    (&["--version"], Comes::OctetsRun),
+    (&["--help"], Comes::OctetsRun),
     (&["-h"], Comes::Refused),
     (&["-V"], Comes::Refused),
     (&["help"], Comes::Refused),

@@ -1,7 +1,7 @@
 //! What is reported if no input is read, and how it is written.
 use crate::expect::expect_eq;
 use std::process::Abort;
-use tlv_run::{Report, closed_report, device_report, names_report, tell};
+use tlv_run::{Report, device_report, names_report, unopened_report, write_message};
 use tlv_value::NamesFault;
 use tlv_walk::{DeviceFault, MemDrain};
 use tlv_words::{UsageFault, unprinted_report, usage_report, words_report};
@@ -10,7 +10,7 @@ use tlv_words::{UsageFault, unprinted_report, usage_report, words_report};
 fn expect_written(rt: &impl Abort, report: &Report, status: u8, line: &[u8]) {
     let mut room = [0; 129];
     let mut drain = MemDrain::new(&mut room, 5);
-    expect_eq(rt, line, tell(report, &mut drain), status);
+    expect_eq(rt, line, write_message(report, &mut drain), status);
     expect_eq(rt, line, drain.written(), line);
 }
 
@@ -34,7 +34,7 @@ fn lines_of_devices_are_written(rt: HostRuntime) {
         3,
         b"E3 input too long\n",
     );
-    expect_written(&rt, &closed_report(), 3, b"E5 cannot open the file\n");
+    expect_written(&rt, &unopened_report(), 3, b"E5 cannot open the file\n");
     expect_written(&rt, &unprinted_report(), 3, b"E2 write failed\n");
 }
 
@@ -83,8 +83,13 @@ fn lines_of_names_are_written(rt: HostRuntime) {
 
 #[test]
 fn reports_are_written(rt: HostRuntime) {
-    expect_written(&rt, &Report::silent(0), 0, b"");
-    expect_written(&rt, &Report::saying(1, b"findings: 3"), 1, b"findings: 3\n");
+    expect_written(&rt, &Report::without_message(0), 0, b"");
+    expect_written(
+        &rt,
+        &Report::with_message(1, b"findings: 3"),
+        1,
+        b"findings: 3\n",
+    );
 }
 
 /// A line that is not taken whole changes no status.
@@ -92,6 +97,11 @@ fn reports_are_written(rt: HostRuntime) {
 fn failed_writes_keep_the_status(rt: HostRuntime) {
     let mut room = [0; 7];
     let mut drain = MemDrain::new(&mut room, 5);
-    expect_eq(&rt, "status", tell(&closed_report(), &mut drain), 3);
+    expect_eq(
+        &rt,
+        "status",
+        write_message(&unopened_report(), &mut drain),
+        3,
+    );
     expect_eq(&rt, "written", drain.written(), b"E5 cann".as_slice());
 }

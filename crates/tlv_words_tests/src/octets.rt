@@ -6,13 +6,13 @@ use crate::table::tables;
 use std::alloc::Global;
 use std::process::Abort;
 use std::test::Fail;
-use tlv_run::{Shown, run_octets};
+use tlv_run::{OctetsRun, run_octets};
 use tlv_value::Names;
 
 /// Expects these octets, this status and this message.
 fn expect<const N: usize>(
     rt: &impl Abort,
-    shown: &Shown<N>,
+    shown: &OctetsRun<N>,
     written: &[u8],
     status: u8,
     message: &str,

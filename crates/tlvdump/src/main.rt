@@ -5,7 +5,7 @@ use std::env;
 use std::fs::File;
 use std::io::{ErrorKind, Read};
 use std::process::ExitCode;
-use tlv_run::{Command, Report, closed_report, names_report, run, tell};
+use tlv_run::{Command, Report, names_report, run, unopened_report, write_message};
 use tlv_value::{Names, NamesFault};
 use tlv_walk::{ReadSource, WriteDrain};
 use tlv_words::{UsageFault, Words, command_of, unprinted_report, usage_report, words_report};
@@ -16,7 +16,7 @@ fn main(rt: HostRuntime) -> ExitCode {
         Err(report) => report,
     };
     let mut drain = WriteDrain::new(rt.stderr());
-    ExitCode::from(tell(&report, &mut drain))
+    ExitCode::from(write_message(&report, &mut drain))
 }
 
 /// Reads the command, then the names file, then opens the file, and runs the command. The error is the report of what
@@ -28,7 +28,7 @@ fn started(rt: &HostRuntime) -> Result<Report, Report> {
         None => Ok(run_over(rt, &command, &names, rt.stdin())),
         Some(name) => match File::open(rt, name) {
             Ok(file) => Ok(run_over(rt, &command, &names, file)),
-            Err(_) => Err(closed_report()),
+            Err(_) => Err(unopened_report()),
         },
     }
 }

@@ -10,7 +10,7 @@ use Rattle.tlv_io.specs.Out.{Puts}
 use Rattle.tlv_io.proofs.Puts.{HasPut, puts_nothing}
 use Rattle.tlv_cut.specs.declared.extract_follower.Position.{Position}
 use Rattle.tlv_cut.specs.declared.extract_follower.Position.TheVariants.{Before, Inside, After}
-use Rattle.tlv_cut.specs.ExtractStep.{ExtractState, wanted_octets, octet_step}
+use Rattle.tlv_cut.specs.ExtractStep.{ExtractState, wanted_octets, extract_octet_step}
 
 pub wanted_octets-none : (w : Position) → [] ≡ wanted_octets w []
 wanted_octets-none Before = refl
@@ -29,7 +29,7 @@ put_step s octets = record { state = s; put = octets; goes = On }
 
 -- octets that come one by one put the same as all at once
 pub all_contents : (s : ExtractState) (xs : List ℕ)
-    → each_octet octet_step s xs ≡ put_step s (wanted_octets s.position xs)
+    → each_octet extract_octet_step s xs ≡ put_step s (wanted_octets s.position xs)
 all_contents s [] = ap (put_step s) (wanted_octets-none s.position)
 all_contents s (x ∷ xs) =
     ap (λ (u : Effect ExtractState). record u { put = wanted_octets s.position (x ∷ []) ++ u.put })
@@ -37,20 +37,20 @@ all_contents s (x ∷ xs) =
     ∙ ap (put_step s) (wanted_octets-more s.position x xs)
 
 module _ (s : ExtractState) (w : Position) (xs : List ℕ) (e : s.position ≡ w) where
-  contents_put : (each_octet octet_step s xs).put ≡ wanted_octets w xs
+  contents_put : (each_octet extract_octet_step s xs).put ≡ wanted_octets w xs
   contents_put =
       ap (λ (t : Effect ExtractState). t.put) (all_contents s xs) ∙ ap (λ (w : Position). wanted_octets w xs) e
 
   -- what is put of octets at this position
   pub puts_contents : {D : Type 0} (state_of : D → DrainState) (a b : Out D) (r : Result ⊤ WriteFault)
       → Puts {T = ⊤} {E = WriteFault} state_of a b (wanted_octets w xs) r
-      → Puts state_of a b (each_octet octet_step s xs).put r
+      → Puts state_of a b (each_octet extract_octet_step s xs).put r
   puts_contents state_of a b r p = rw (contents_put) p
 
 -- outside the element wanted nothing is put
 pub puts_none : (s : ExtractState) (w : Position) (xs : List ℕ) {D : Type 0} (state_of : D → DrainState) (a : Out D)
     → s.position ≡ w
-    → ((level : ℕ) → w ≡ Inside level → ⊥) → HasPut state_of a a (each_octet octet_step s xs).put
+    → ((level : ℕ) → w ≡ Inside level → ⊥) → HasPut state_of a a (each_octet extract_octet_step s xs).put
 puts_none s Before xs state_of a e n = puts_contents s Before xs e state_of a a (Ok tt) (puts_nothing state_of a tt)
 puts_none s (Inside level) xs state_of a e n = absurd (n level refl)
 puts_none s After xs state_of a e n = puts_contents s After xs e state_of a a (Ok tt) (puts_nothing state_of a tt)

@@ -14,7 +14,7 @@ use Rattle.tlv_walk.specs.Place.{IsOpen, Place, place_after, place_of_children}
 use Rattle.tlv_walk.proofs.FollowerLemmas.Followed.{followed-enough, followed-one}
 use Rattle.tlv_cut.specs.declared.extract_follower.Position.TheVariants as position
 use Rattle.tlv_cut.specs.ExtractText.{element_at, element_text, octets_so_far}
-use Rattle.tlv_cut.specs.ExtractStep.{ExtractState, begin_step, extract_step, has_found, new_extract, outer_octets}
+use Rattle.tlv_cut.specs.ExtractStep.{ExtractState, extract_begin_step, extract_step, has_found, new_extract, outer_octets}
 use Rattle.tlv_cut.proofs.ExtractLemmas.Contents.{put_step}
 use Rattle.tlv_cut.proofs.ExtractLemmas.Inside.{made_from, IsPassedOn, whole_inside_passed_on}
 use Rattle.tlv_cut.proofs.ExtractLemmas.Inside.{made_from-begins, events-holder, made_from-closes, state_inside}
@@ -89,10 +89,10 @@ module _ (n : ℕ) (only : Bool) where
       if wanted then put_step (state_inside n only 0) (outer_octets only (octets_of h)) else no_effect before
 
   wanted_begins : (h : HeaderValue) → (h.offset == n) ≡ true
-      → begin_step before h ≡ put_step (state_inside n only 0) (outer_octets only (octets_of h))
+      → extract_begin_step before h ≡ put_step (state_inside n only 0) (outer_octets only (octets_of h))
   wanted_begins h e = ap (begins h) e
 
-  other_begins : (h : HeaderValue) → (h.offset == n) ≡ false → begin_step before h ≡ no_effect before
+  other_begins : (h : HeaderValue) → (h.offset == n) ≡ false → extract_begin_step before h ≡ no_effect before
   other_begins h e = ap (begins h) e
 
   -- the element wanted, from its header to its end

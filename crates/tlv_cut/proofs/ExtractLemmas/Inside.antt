@@ -16,7 +16,7 @@ use Rattle.tlv_walk.specs.Place.{IsOpen, Place, place_after, place_of_children}
 use Rattle.tlv_walk.proofs.FollowerLemmas.Followed.{followed-more, followed-one}
 use Rattle.tlv_cut.specs.declared.extract_follower.Position.TheVariants as position
 use Rattle.tlv_cut.specs.ExtractText.{octets_so_far}
-use Rattle.tlv_cut.specs.ExtractStep.{ExtractState, begin_step, end_step, extract_step, has_found, wanted_octets}
+use Rattle.tlv_cut.specs.ExtractStep.{ExtractState, extract_begin_step, extract_end_step, extract_step, has_found, wanted_octets}
 use Rattle.tlv_cut.proofs.Lead.{lead_by}
 use Rattle.tlv_cut.proofs.ExtractLemmas.Contents.{all_contents, wanted_octets-none, put_step}
 
@@ -34,7 +34,7 @@ then_more s t put xs ys e =
     ∙ ap (λ (k : Effect ExtractState). and_then k (λ u. made_from u ys)) e
 
 -- a primitive begins, and gives contents octets
-pub made_from-begins : (s t : ExtractState) (put : List ℕ) (h : HeaderValue) (c : List ℕ) → begin_step s h ≡ put_step t put
+pub made_from-begins : (s t : ExtractState) (put : List ℕ) (h : HeaderValue) (c : List ℕ) → extract_begin_step s h ≡ put_step t put
     → made_from s (Begin h ∷ Bytes c ∷ []) ≡ put_step t (put ++ wanted_octets t.position c)
 made_from-begins s t put h c e =
     ap (λ (k : Effect ExtractState). if_on k.goes k (λ u. made_from u (Bytes c ∷ []))) e
@@ -42,7 +42,7 @@ made_from-begins s t put h c e =
     (followed-one extract_step t (Bytes c) ∙ all_contents t c)
 
 -- an element that holds others begins
-opens_by : (k three : Bool) (s t : ExtractState) (put : List ℕ) (h : HeaderValue) → begin_step s h ≡ put_step t put
+opens_by : (k three : Bool) (s t : ExtractState) (put : List ℕ) (h : HeaderValue) → extract_begin_step s h ≡ put_step t put
     → made_from s ((if k then Open h else Enter h) ∷ map (λ z. Unused) (lead_by k three))
     ≡ put_step t (put ++ wanted_octets t.position (lead_by k three))
 opens_by true three s t put h e =
@@ -55,20 +55,20 @@ opens_by false false s t put h e =
     followed-one extract_step s (Enter h) ∙ e
     ∙ ap (put_step t) (sym (append-nil put) ∙ ap (λ (l : List ℕ). put ++ l) (wanted_octets-none t.position))
 
-pub made_from-opens : (s t : ExtractState) (put : List ℕ) (h : HeaderValue) → begin_step s h ≡ put_step t put
+pub made_from-opens : (s t : ExtractState) (put : List ℕ) (h : HeaderValue) → extract_begin_step s h ≡ put_step t put
     → made_from s (opening_events h) ≡ put_step t (put ++ wanted_octets t.position (lead h))
 made_from-opens s t put h e = opens_by h.constructed (eqb h.number 3) s t put h e
 
 -- it ends
 closes_by : (k : Bool) (size : Size) (s : ExtractState) (o : ℕ) → AllowsSize k size
-    → extract_step s (if k then Close (end_offset size o) else Leave) ≡ end_step s (end_octets size)
+    → extract_step s (if k then Close (end_offset size o) else Leave) ≡ extract_end_step s (end_octets size)
 closes_by true (Definite n) s o allowed = refl
 closes_by true Indefinite s o allowed = refl
 closes_by false (Definite n) s o allowed = refl
 closes_by false Indefinite s o allowed = absurd (cc (allowed))
 
 pub made_from-closes : (s : ExtractState) (h : HeaderValue) (inside : Forest) → AllowsSize h.constructed h.size
-    → made_from s (closing_event h inside ∷ []) ≡ end_step s (end_octets h.size)
+    → made_from s (closing_event h inside ∷ []) ≡ extract_end_step s (end_octets h.size)
 made_from-closes s h inside allowed =
     followed-one extract_step s (closing_event h inside) ∙ closes_by h.constructed h.size s _ allowed
 
@@ -118,7 +118,7 @@ module _ (n : ℕ) (only : Bool) where
 
   -- one more is open, and the count goes up
   one_more : (level : ℕ) (h : HeaderValue) → level ≤ 254
-      → begin_step (state_inside level) h ≡ put_step (state_inside (suc level)) (octets_of h)
+      → extract_begin_step (state_inside level) h ≡ put_step (state_inside (suc level)) (octets_of h)
   one_more level h low = ap (λ (m : ℕ). put_step (state_inside m) (octets_of h)) (omega (arith, low))
 
   -- a primitive

@@ -14,7 +14,7 @@ use Rattle.tlv_cut.specs.declared.extract_follower.Position.{Position}
 use Rattle.tlv_cut.specs.declared.extract_follower.Position.TheVariants as position
 use Rattle.tlv_cut.specs.ExtractText.{contents_so_far, element_at, extract_text, octets_so_far}
 use Rattle.tlv_cut.specs.ExtractLaws.{ExtractTextIsInTheInput, EnoughComesAtEnds, ExtractMakesItsText}
-use Rattle.tlv_cut.specs.ExtractStep.{ExtractState, begin_step, octet_step, outer_octets, step_to}
+use Rattle.tlv_cut.specs.ExtractStep.{ExtractState, extract_begin_step, extract_octet_step, outer_octets, extract_step_to}
 use Rattle.tlv_cut.proofs.ExtractLemmas.Elements.{makes_text}
 use Rattle.tlv_cut.proofs.ExtractLemmas.InTheInput.{find}
 
@@ -57,27 +57,27 @@ on_is_not : {A : Type 0} → go.On ≡ go.Enough → A
 on_is_not e = absurd (cc (e))
 
 begin_goes_on : (n : ℕ) (only : Bool) (w : Position) (h : HeaderValue)
-    → (begin_step (record { offset = n; contents_only = only; position = w }) h).goes ≡ go.On
+    → (extract_begin_step (record { offset = n; contents_only = only; position = w }) h).goes ≡ go.On
 begin_goes_on n only position.Before h = by (h.offset == n)
   where
     s : ExtractState
     s = record { offset = n; contents_only = only; position = position.Before }
 
     by : (k : Bool)
-        → (if k then step_to s (position.Inside 0) (outer_octets only (octets_of h)) go.On else no_effect s).goes ≡ go.On
+        → (if k then extract_step_to s (position.Inside 0) (outer_octets only (octets_of h)) go.On else no_effect s).goes ≡ go.On
     by true = refl
     by false = refl
 begin_goes_on n only (position.Inside level) h = refl
 begin_goes_on n only position.After h = refl
 
-begin_step-goes_on : (s : ExtractState) (h : HeaderValue) → (begin_step s h).goes ≡ go.On
-begin_step-goes_on s h = begin_goes_on s.offset s.contents_only s.position h
+extract_begin_step-goes_on : (s : ExtractState) (h : HeaderValue) → (extract_begin_step s h).goes ≡ go.On
+extract_begin_step-goes_on s h = begin_goes_on s.offset s.contents_only s.position h
 
 pub enough_comes_at_ends : EnoughComesAtEnds
-enough_comes_at_ends s (Open h) e = on_is_not (sym (begin_step-goes_on s h) ∙ e)
-enough_comes_at_ends s (Begin h) e = on_is_not (sym (begin_step-goes_on s h) ∙ e)
-enough_comes_at_ends s (Enter h) e = on_is_not (sym (begin_step-goes_on s h) ∙ e)
-enough_comes_at_ends s (Bytes octets) e = on_is_not (sym (each_octet-goes_on octet_step s octets) ∙ e)
+enough_comes_at_ends s (Open h) e = on_is_not (sym (extract_begin_step-goes_on s h) ∙ e)
+enough_comes_at_ends s (Begin h) e = on_is_not (sym (extract_begin_step-goes_on s h) ∙ e)
+enough_comes_at_ends s (Enter h) e = on_is_not (sym (extract_begin_step-goes_on s h) ∙ e)
+enough_comes_at_ends s (Bytes octets) e = on_is_not (sym (each_octet-goes_on extract_octet_step s octets) ∙ e)
 enough_comes_at_ends s Unused e = on_is_not e
 enough_comes_at_ends s (Pad octets) e = on_is_not e
 enough_comes_at_ends s End e = refl

@@ -17,7 +17,7 @@ use Rattle.tlv_walk.proofs.EventLemmas.Prefixes.{events-prefix}
 use Rattle.tlv_cut.specs.declared.extract_follower.Position.{Position}
 use Rattle.tlv_cut.specs.declared.extract_follower.Position.TheVariants as position
 use Rattle.tlv_cut.specs.ExtractText.{extract_text, element_at, has_element_at, has_whole_element_at}
-use Rattle.tlv_cut.specs.ExtractStep.{ExtractState, begin_step, end_step, extract_step, has_found, octet_step}
+use Rattle.tlv_cut.specs.ExtractStep.{ExtractState, extract_begin_step, extract_end_step, extract_step, has_found, extract_octet_step}
 use Rattle.tlv_cut.specs.ExtractStep.{new_extract}
 use Rattle.tlv_cut.proofs.ExtractLemmas.Inside.{made_from}
 use Rattle.tlv_cut.proofs.ExtractLemmas.Elements.{IsTextOf, makes_text}
@@ -31,35 +31,35 @@ abbrev at : ℕ → Bool → Position → ExtractState
 at n only w = record { offset = n; contents_only = only; position = w }
 
 begin_found : (n : ℕ) (only : Bool) (w : Position) (h : HeaderValue) → has_found (at n only w) ≡ true
-    → has_found (begin_step (at n only w) h).state ≡ true
+    → has_found (extract_begin_step (at n only w) h).state ≡ true
 begin_found n only position.Before h b = absurd (cc (b))
 begin_found n only (position.Inside level) h b = refl
 begin_found n only position.After h b = refl
 
-begin_step-found : (s : ExtractState) (h : HeaderValue) → has_found s ≡ true → has_found (begin_step s h).state ≡ true
-begin_step-found s h b = begin_found s.offset s.contents_only s.position h b
+extract_begin_step-found : (s : ExtractState) (h : HeaderValue) → has_found s ≡ true → has_found (extract_begin_step s h).state ≡ true
+extract_begin_step-found s h b = begin_found s.offset s.contents_only s.position h b
 
 end_found : (n : ℕ) (only : Bool) (w : Position) (octets : List ℕ) → has_found (at n only w) ≡ true
-    → has_found (end_step (at n only w) octets).state ≡ true
+    → has_found (extract_end_step (at n only w) octets).state ≡ true
 end_found n only position.Before octets b = absurd (cc (b))
 end_found n only (position.Inside zero) octets b = refl
 end_found n only (position.Inside (suc level)) octets b = refl
 end_found n only position.After octets b = refl
 
-end_step-found : (s : ExtractState) (octets : List ℕ) → has_found s ≡ true → has_found (end_step s octets).state ≡ true
-end_step-found s octets b = end_found s.offset s.contents_only s.position octets b
+extract_end_step-found : (s : ExtractState) (octets : List ℕ) → has_found s ≡ true → has_found (extract_end_step s octets).state ≡ true
+extract_end_step-found s octets b = end_found s.offset s.contents_only s.position octets b
 
 extract_step-found : (s : ExtractState) (e : EventValue) → has_found s ≡ true → has_found (extract_step s e).state ≡ true
-extract_step-found s (Open h) b = begin_step-found s h b
-extract_step-found s (Begin h) b = begin_step-found s h b
-extract_step-found s (Enter h) b = begin_step-found s h b
+extract_step-found s (Open h) b = extract_begin_step-found s h b
+extract_step-found s (Begin h) b = extract_begin_step-found s h b
+extract_step-found s (Enter h) b = extract_begin_step-found s h b
 extract_step-found s (Bytes octets) b =
     ap (λ (t : Effect ExtractState). has_found t.state) (all_contents s octets) ∙ b
 extract_step-found s Unused b = b
-extract_step-found s (Close None) b = end_step-found s [] b
-extract_step-found s (Close (Some at)) b = end_step-found s (0 ∷ 0 ∷ []) b
-extract_step-found s End b = end_step-found s [] b
-extract_step-found s Leave b = end_step-found s [] b
+extract_step-found s (Close None) b = extract_end_step-found s [] b
+extract_step-found s (Close (Some at)) b = extract_end_step-found s (0 ∷ 0 ∷ []) b
+extract_step-found s End b = extract_end_step-found s [] b
+extract_step-found s Leave b = extract_end_step-found s [] b
 extract_step-found s (Pad octets) b = b
 
 if_on-found : (g : Go) (t : Effect ExtractState) (f : ExtractState → Effect ExtractState)
@@ -93,7 +93,7 @@ module _ (framing : Framing) (b c : List ℕ) (f g : Forest) (r : IsReading fram
   -- after them the same is made as of the events of the longer input
   longer : made_from (new_extract n only) (events g) ≡ made_from (new_extract n only) (events f ++ others.0)
   longer =
-      followed-alike extract_step (each_octet-joins octet_step) (λ s. refl) (each_octet-goes_on octet_step)
+      followed-alike extract_step (each_octet-joins extract_octet_step) (λ s. refl) (each_octet-goes_on extract_octet_step)
       (λ s x y. refl) (λ s. refl) (λ s x. refl)
       (new_extract n only) (events g) (events f ++ others.0) others.1
 

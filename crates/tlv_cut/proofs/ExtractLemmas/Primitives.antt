@@ -14,7 +14,7 @@ use Rattle.tlv_walk.proofs.FollowerLemmas.Followed.{followed-one}
 use Rattle.tlv_io.proofs.Puts.{HasPut, puts_as, puts_failed_last, puts_nothing, puts_text}
 use Rattle.tlv_cut.specs.declared.extract_follower.Position.{Position}
 use Rattle.tlv_cut.specs.declared.extract_follower.Position.TheVariants.{Before, Inside, After}
-use Rattle.tlv_cut.specs.ExtractStep.{ExtractState, begin_step, end_step, extract_step, outer_octets, step_to}
+use Rattle.tlv_cut.specs.ExtractStep.{ExtractState, extract_begin_step, extract_end_step, extract_step, outer_octets, extract_step_to}
 use Rattle.tlv_cut.specs.ExtractStep.{wanted_octets}
 use Rattle.tlv_cut.proofs.ExtractLemmas.Contents.{put_step}
 use Rattle.tlv_cut.proofs.ExtractLemmas.Inside.{made_from, made_from-begins, then_more, primitive_passed_on}
@@ -42,7 +42,7 @@ module _ (s : ExtractState) (h : HeaderValue) (o : List ℕ) where
       ∙ ap (put_step s) all
 
   -- an element of which nothing is put
-  passed_by : begin_step s h ≡ no_effect s → wanted_octets s.position c ≡ [] → end_step s [] ≡ no_effect s → made ≡ no_effect s
+  passed_by : extract_begin_step s h ≡ no_effect s → wanted_octets s.position c ≡ [] → extract_end_step s [] ≡ no_effect s → made ≡ no_effect s
   passed_by b none n =
       then_more s s [] (Begin h ∷ Bytes c ∷ []) (End ∷ []) (made_from-begins s s [] h c b ∙ ap (put_step s) none)
       ∙ followed-one extract_step s End
@@ -50,18 +50,18 @@ module _ (s : ExtractState) (h : HeaderValue) (o : List ℕ) where
 
   pub whole_after : s.position ≡ After → made ≡ no_effect s
   whole_after e =
-      passed_by (subst (λ (w : Position). begin_step (at w) h ≡ no_effect (at w)) (sym e) refl)
+      passed_by (subst (λ (w : Position). extract_begin_step (at w) h ≡ no_effect (at w)) (sym e) refl)
       (subst (λ (w : Position). wanted_octets w c ≡ []) (sym e) refl)
-      (subst (λ (w : Position). end_step (at w) [] ≡ no_effect (at w)) (sym e) refl)
+      (subst (λ (w : Position). extract_end_step (at w) [] ≡ no_effect (at w)) (sym e) refl)
 
   pub whole_before : s.position ≡ Before → (h.offset == s.offset) ≡ false → made ≡ no_effect s
   whole_before e other =
       passed_by
-      (subst (λ (w : Position). begin_step (at w) h ≡ no_effect (at w)) (sym e)
-      (ap (λ (k : Bool). if k then step_to (at Before) (Inside 0)
+      (subst (λ (w : Position). extract_begin_step (at w) h ≡ no_effect (at w)) (sym e)
+      (ap (λ (k : Bool). if k then extract_step_to (at Before) (Inside 0)
       (outer_octets s.contents_only (octets_of h)) On else no_effect (at Before)) other))
       (subst (λ (w : Position). wanted_octets w c ≡ []) (sym e) refl)
-      (subst (λ (w : Position). end_step (at w) [] ≡ no_effect (at w)) (sym e) refl)
+      (subst (λ (w : Position). extract_end_step (at w) [] ≡ no_effect (at w)) (sym e) refl)
 
 not_true : (b : Bool) → not b ≡ true → b ≡ false
 not_true false e = refl

@@ -3,7 +3,7 @@ use Rattle.std.proofs.Common.{refl, sym, ap, ap₂, ◌∙◌, append_assoc, app
 use Rattle.std.specs.Prelude.{◌≡◌, ℕ, ◌+◌, Bool, true, false, eqb, if◌then◌else◌, List, [], ◌∷◌, ◌++◌, length}
 use Rattle.std.specs.Prelude.{map, Option}
 use Rattle.std.proofs.lemmas.Grind.{flat_map-append}
-use Rattle.tlv_head.specs.Header.{HeaderValue, indefinite_octets, octets_of}
+use Rattle.tlv_head.specs.Header.{HeaderValue, spell_indefinite, octets_of}
 use Rattle.tlv_walk.specs.declared.follow.Go.TheVariants.{On}
 use Rattle.tlv_walk.specs.Events.{Close, Enter, EventValue, Leave, Open, Unused, closing_event, end_offset, events, opening_events}
 use Rattle.tlv_walk.specs.Follow.{Effect, effect_of}
@@ -31,7 +31,7 @@ events_text-append xs ys = flat_map-append indef_event_text xs ys
 
 -- what comes before the elements that an element holds, and after them, with an indefinite length if it is constructed
 abbrev opening_by : Bool → HeaderValue → List ℕ
-opening_by constructed h = if constructed then indefinite_octets h else opening h
+opening_by constructed h = if constructed then spell_indefinite h else opening h
 
 abbrev end_by : Bool → List ℕ
 end_by constructed = if constructed then 0 ∷ 0 ∷ [] else []
@@ -39,9 +39,9 @@ end_by constructed = if constructed then 0 ∷ 0 ∷ [] else []
 -- what is put as an element begins that holds others
 opens_by : (constructed three : Bool) (h : HeaderValue) → constructed ≡ h.constructed
     → events_text ((if constructed then Open h else Enter h) ∷ map (λ z. Unused) (lead_by constructed three))
-    ≡ (if constructed then indefinite_octets h else octets_of h ++ lead_by constructed three)
+    ≡ (if constructed then spell_indefinite h else octets_of h ++ lead_by constructed three)
 opens_by true three h e =
-    append-nil (indef_event_text (Open h)) ∙ ap (λ (k : Bool). if k then indefinite_octets h else octets_of h) (sym e)
+    append-nil (indef_event_text (Open h)) ∙ ap (λ (k : Bool). if k then spell_indefinite h else octets_of h) (sym e)
 opens_by false true h e = refl
 opens_by false false h e = refl
 
@@ -59,9 +59,9 @@ closes_put h inside =
     closes_by h.constructed (end_offset h.size (h.offset + length (opening h) + length (spelling inside)))
 
 -- in a constructed element nothing is between the indefinite length and what it holds
-no_lead : (h : HeaderValue) → h.constructed ≡ true → indefinite_octets h ≡ opening (indefinite_header h)
+no_lead : (h : HeaderValue) → h.constructed ≡ true → spell_indefinite h ≡ opening (indefinite_header h)
 no_lead h e =
-    sym (ap (λ (k : Bool). indefinite_octets h ++ lead_by k (eqb h.number 3)) e ∙ append-nil (indefinite_octets h))
+    sym (ap (λ (k : Bool). spell_indefinite h ++ lead_by k (eqb h.number 3)) e ∙ append-nil (spell_indefinite h))
 
 -- the octets of an element that holds these, and of what follows it
 holder_spelled : (constructed : Bool) (h : HeaderValue) (inside rest : Forest) → h.constructed ≡ constructed

@@ -19,7 +19,7 @@ pub record MakesHeader (id : Identifier) (size : Size) (octets : List ℕ) : Typ
   pub few : length lengths ≤ 127
   pub some : 1 ≤ length lengths
   pub allowed : AllowsSize id.constructed size
-  pub octet : octets ≡ identifier ++ lengths
+  pub octets_are : octets ≡ identifier ++ lengths
 
 -- octets begin with the identifier
 pub record BeginsWithIdentifier (octets : List ℕ) (id : Identifier) : Type 0 where

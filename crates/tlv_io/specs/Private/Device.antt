@@ -1,9 +1,9 @@
 -- What is kept of reads, as a private function says it.
 use Rattle.std.specs.Prelude.{ℕ, Result}
-use Rattle.tlv_io.specs.Device.{Reads, failures_after, last_after, next_count}
+use Rattle.tlv_io.specs.Device.{ReadLogState, failures_after, last_after, next_count}
 
 module _ {E : Type 0} where
   -- what is kept of reads after one more with this result
-  abbrev pub after_read : Result ℕ E → Reads → Reads
+  abbrev pub after_read : Result ℕ E → ReadLogState → ReadLogState
   after_read result old =
       record { reads = next_count old.reads; last = last_after result; failures = failures_after result old.failures }

@@ -2,10 +2,10 @@
 ghost use Rattle.std.specs.Prelude.{◌≡◌, ◌+◌, ◌<◌, ◌^◌, ◌++◌, decimal, length};
 ghost use Rattle.tlv_io.specs.LineTexts.{HasRoomFor, columns, right_aligned};
 
-use super::Held;
+use super::HeldOctets;
 use itoa::{Buffer, write_digits};
 
-impl Held {
+impl HeldOctets {
     /// Adds a number.
     #[inline(always)]
     pub fn number(&mut self, number: u64)
@@ -19,20 +19,20 @@ impl Held {
 
     /// Adds a number that may have more than 64 bits.
     #[inline(always)]
-    pub fn wide(&mut self, number: u128)
+    pub fn wide_number(&mut self, number: u128)
         requires { HasRoomFor self.old 40 }
         ensures { self.new ≡ self.old ++ decimal number }
     {
         if number < 1 << 64 {
             self.number(number as u64);
         } else {
-            self.wider(number);
+            self.wider_number(number);
         }
     }
 
     /// Adds a number of more than 64 bits.
     #[inline(never)]
-    fn wider(&mut self, number: u128)
+    fn wider_number(&mut self, number: u128)
         requires { HasRoomFor self.old 40 }
         ensures { self.new ≡ self.old ++ decimal number }
     {
@@ -71,12 +71,12 @@ impl Held {
 
     /// Adds the columns that a line begins with: an offset and a word.
     #[inline(always)]
-    pub fn worded(&mut self, offset: u64, word: &[u8; 6])
+    pub fn word_columns(&mut self, offset: u64, word: &[u8; 6])
         requires { HasRoomFor self.old 29 }
         ensures { self.new ≡ self.old ++ columns offset word.now }
     {
         if offset >= 100_000_000 {
-            return self.wide_worded(offset, word);
+            return self.wide_word_columns(offset, word);
         }
         let start = self.len();
         self.octets[start..start + 17].copy_from_slice(&[b' '; 17]);
@@ -88,7 +88,7 @@ impl Held {
 
     /// Adds the same columns, one after the other, so that the offset can be as wide as it needs.
     #[inline(never)]
-    fn wide_worded(&mut self, offset: u64, word: &[u8; 6])
+    fn wide_word_columns(&mut self, offset: u64, word: &[u8; 6])
         requires { HasRoomFor self.old 29 }
         ensures { self.new ≡ self.old ++ columns offset word.now }
     {

@@ -1,6 +1,6 @@
 -- Sources over octets in memory, and a drain with room of its own, as contracts see them.
 use Rattle.std.specs.Prelude.{ℕ, zero, suc, ltb, List, [], Some, if◌then◌else◌, length}
-use Rattle.tlv_io.specs.Device.{DrainState, Last, SourceState, failed, gave, never}
+use Rattle.tlv_io.specs.Device.{DrainState, LastReadValue, SourceState, failed, gave, never}
 use Rattle.tlv_io.specs.MemSource.{MemSourceState}
 
 -- a source that fails with no read shows no failure
@@ -13,7 +13,7 @@ ending_source_state source = record {
 }
 
 -- if another would give nothing, at its end, such a source fails
-abbrev pub or_failed : Last → Last
+abbrev pub or_failed : LastReadValue → LastReadValue
 or_failed never = never
 or_failed (gave zero) = failed
 or_failed (gave (suc n)) = gave (suc n)

@@ -6,9 +6,9 @@ use Rattle.std.specs.Prelude.{flat_map, Option, Some, None, codes}
 use Rattle.tlv_head.specs.Header.{HeaderValue, announced_length, octets_of, wraps}
 use Rattle.tlv_value.specs.declared.finding.Finding.{Finding}
 use Rattle.tlv_value.specs.declared.layout.Layout.{Layout}
-use Rattle.tlv_value.specs.CheckState.{check_after, has_unused_bits, new_check}
+use Rattle.tlv_value.specs.ValueCheckState.{value_check_after, has_unused_bits, new_value_check}
 use Rattle.tlv_value.specs.Names.{Table}
-use Rattle.tlv_value.specs.TextState.{open_lines, whole_lines}
+use Rattle.tlv_value.specs.ValueTextState.{open_lines, whole_lines}
 use Rattle.tlv_value.specs.Types.{is_primitive}
 use Rattle.tlv_walk.specs.declared.follow.Go.{Go}
 use Rattle.tlv_walk.specs.Events.{Begin, Bytes, End, EventValue, Pad, closing_event, end_offset, events, opening_events}
@@ -16,7 +16,7 @@ use Rattle.tlv_walk.specs.Follow.{Effect, effect_of}
 use Rattle.tlv_walk.specs.Forest.{Forest, NoMore, PaddingOctet, Primitive, Holder, OpenPrimitive, OpenHolder, OpenBitString, OpenHeader, OpenEndOctets, end_octets, extent, is_complete, lead, opening, spelling}
 use Rattle.tlv_walk.specs.Place.{IsOpen, Place, place_after, place_of_children}
 use Rattle.tlv_walk.proofs.GrammarLemmas.Spellings.{length-holder, length-primitive}
-use Rattle.tlv_show.specs.declared.frames.SiblingFrame.{SiblingFrame}
+use Rattle.tlv_show.specs.declared.sibling_frame.SiblingFrame.{SiblingFrame}
 use Rattle.tlv_show.specs.declared.rules.Rules.{Rules}
 use Rattle.tlv_show.specs.declared.finding_lines.Style.TheVariants.{Dump}
 use Rattle.tlv_show.specs.CheckStep.{styled_lines}
@@ -28,7 +28,7 @@ use Rattle.tlv_show.specs.Found.{contents_findings, header_findings}
 use Rattle.tlv_show.proofs.FindingLemmas.EndFindings.{end_findings}
 use Rattle.tlv_show.specs.Items.{Item, FindingAt, OpeningLine, ClosingLine, PrimitiveLines, OpenPrimitiveLines, PaddingLine, headers, items}
 use Rattle.tlv_show.proofs.FindingLemmas.ElementItems.{findings_at}
-use Rattle.tlv_show.specs.Lines.{close_line, opening_line, padding_line}
+use Rattle.tlv_show.specs.Lines.{closing_line, opening_line, padding_line}
 use Rattle.tlv_show.proofs.DumpLemmas.HolderLine.{holder_line}
 use Rattle.tlv_show.specs.Site.{Before, Padding, Sibling, Site, Start, is_padding, site_of_children}
 use Rattle.tlv_show.proofs.FindingLemmas.SitesAfter.{site_after, site_after_holder, site_after_padding}
@@ -39,7 +39,7 @@ use Rattle.tlv_show.proofs.DumpLemmas.DumpTexts.{at_level, closer_shown, fill_sh
 use Rattle.tlv_show.proofs.FindingLemmas.FinderFolds.{at-under, knows-after, knows-inside, knows-padding, not-constructed, noted_all, unused-of}
 use Rattle.tlv_show.proofs.FindingLemmas.FinderItems.{after_contents, after_end, later_header, after_primitive, closed-find, opened-find, primitive-find, standing}
 use Rattle.tlv_show.proofs.FindingLemmas.HeaderFindings.{Knows, header-same}
-use Rattle.tlv_show.proofs.DumpLemmas.DumpEvents.{pair, shows, then_shown, texts, opens-by, closes-by, primitive-by, part-by}
+use Rattle.tlv_show.proofs.DumpLemmas.DumpEvents.{pair, is_shown, then_shown, texts, opens-by, closes-by, primitive-by, part-by}
 
 -- ---- elements, in this style, with these names and rules
 module _ (style : Layout) (names : Table) (rules : Rules) where
@@ -79,7 +79,7 @@ module _ (style : Layout) (names : Table) (rules : Rules) where
   -- elements after what was shown
   shown-after : (p q : Place) (padded : Bool) (w : SiblingFrame) (outer : List SiblingFrame) (n m : ℕ) (v : SiblingFrame) (holder : Option HeaderValue) (before : Before) (es : List EventValue) (put : List ℕ) (rest : Forest)
       → q.depth ≡ p.depth
-      → effect_of dump_step (start p padded w outer n) es ≡ shows (start q (is_padding before) v outer m) put → IsShown q holder before v outer rest
+      → effect_of dump_step (start p padded w outer n) es ≡ is_shown (start q (is_padding before) v outer m) put → IsShown q holder before v outer rest
       → effect_of dump_step (start p padded w outer n) (es ++ events rest)
       ≡ record (effect_of dump_step (start q (is_padding before) v outer m) (events rest)) { put = put ++ texts_of (items rules (site q holder before) rest) }
   shown-after p q padded w outer n m v holder before es put rest d e t =
@@ -93,10 +93,10 @@ module _ (style : Layout) (names : Table) (rules : Rules) where
   opened-shown : (p : Place) (holder : Option HeaderValue) (before : Before) (w : SiblingFrame) (outer : List SiblingFrame) (n : ℕ) (h : HeaderValue) → Known p holder before w outer
       → h.offset ≡ p.at → p.depth < 128 → p.at + length (opening h) ≤ 2 ^ 64 - 1
       → effect_of dump_step (start p (is_padding before) w outer n) (opening_events h)
-      ≡ shows (start (place_of_children p h) false (frame_under w h) (w ∷ outer) (later_header rules w h n)) (styled_lines (Dump style.pure) (length outer) h.offset (header_findings_in rules w h) ++ holder_line (at_level style names p.depth) h)
+      ≡ is_shown (start (place_of_children p h) false (frame_under w h) (w ∷ outer) (later_header rules w h n)) (styled_lines (Dump style.pure) (length outer) h.offset (header_findings_in rules w h) ++ holder_line (at_level style names p.depth) h)
   opened-shown p holder before w outer n h k there low far =
       opens-by (lines_at style names p.depth p.at (is_padding before)) (standing rules w outer n) h h.constructed (h.number == 3)
-      ∙ ap₂ (λ (d : Effect LinesState) (f : FinderValue). shows (pair d.state f.state) (texts style f ++ d.put))
+      ∙ ap₂ (λ (d : Effect LinesState) (f : FinderValue). is_shown (pair d.state f.state) (texts style f ++ d.put))
       (holder_shown style names p.depth p.at (is_padding before) h there (omega (arith, low)) far)
       (opened-find rules w outer n h (omega (arith, k.1, low)))
 
@@ -104,11 +104,11 @@ module _ (style : Layout) (names : Table) (rules : Rules) where
   primitive-shown : (p : Place) (padded : Bool) (w : SiblingFrame) (outer : List SiblingFrame) (n : ℕ) (h : HeaderValue) (c : List ℕ) → h.offset ≡ p.at → announced_length h.size ≡ length c
       → p.at + (length (octets_of h) + length c) ≤ 2 ^ 64 - 1
       → effect_of dump_step (start p padded w outer n) (Begin h ∷ Bytes c ∷ End ∷ [])
-      ≡ shows (start (place_after p (length (octets_of h) + length c)) false (after_primitive rules w h c) outer (after_contents rules w h c n))
+      ≡ is_shown (start (place_after p (length (octets_of h) + length c)) false (after_primitive rules w h c) outer (after_contents rules w h c n))
       (styled_lines (Dump style.pure) (length outer) h.offset (header_findings_in rules w h) ++ (whole_lines (finite.get names) h (at_level style names p.depth) c ++ styled_lines (Dump style.pure) (length outer) h.offset (contents_findings rules h c)))
   primitive-shown p padded w outer n h c there size far =
       primitive-by (lines_at style names p.depth p.at padded) (standing rules w outer n) h c
-      ∙ ap₂ (λ (d : Effect LinesState) (f : FinderValue). shows (pair d.state f.state) (styled_lines (Dump style.pure) (length outer) h.offset (header_findings_in rules w h) ++ (d.put ++ texts style f)))
+      ∙ ap₂ (λ (d : Effect LinesState) (f : FinderValue). is_shown (pair d.state f.state) (styled_lines (Dump style.pure) (length outer) h.offset (header_findings_in rules w h) ++ (d.put ++ texts style f)))
       (primitive_shown style names p.depth p.at padded h c there size far)
       (primitive-find rules w outer n h c (sym size))
 
@@ -121,8 +121,8 @@ module _ (style : Layout) (names : Table) (rules : Rules) where
   shows_forest p holder before w outer (PaddingOctet rest) v b k =
       let s : Site = site p holder before in
       let t = shows_forest (place_after p 1) holder Padding w outer rest v.1 (omega (arith, b)) (knows-padding w s k.0 (k.2 v.0.0), k.1, k.2) in
-      let one : (n : ℕ) → effect_of dump_step (start p (is_padding before) w outer n) (Pad (0 ∷ []) ∷ []) ≡ shows (start (place_after p 1) true w outer n) (if is_padding before then [] else padding_line (at_level style names p.depth) p.at) =
-      λ n. ap (λ (d : Effect LinesState). shows (pair d.state (standing rules w outer n)) d.put) (fill_shown style names p.depth p.at (is_padding before) (omega (arith, b))) in
+      let one : (n : ℕ) → effect_of dump_step (start p (is_padding before) w outer n) (Pad (0 ∷ []) ∷ []) ≡ is_shown (start (place_after p 1) true w outer n) (if is_padding before then [] else padding_line (at_level style names p.depth) p.at) =
+      λ n. ap (λ (d : Effect LinesState). is_shown (pair d.state (standing rules w outer n)) d.put) (fill_shown style names p.depth p.at (is_padding before) (omega (arith, b))) in
       let all = λ (n : ℕ). shown-after p (place_after p 1) (is_padding before) w outer n n w holder Padding (Pad (0 ∷ []) ∷ []) (if is_padding before then [] else padding_line (at_level style names p.depth) p.at) rest refl (one n) t in
       record {
         text = λ n. ap (λ (x : Effect DumpState). x.put) (all n) ∙ pads (is_padding before) p.depth p.at (items rules (site_after_padding s) rest);
@@ -140,7 +140,7 @@ module _ (style : Layout) (names : Table) (rules : Rules) where
       let q : Place = place_after p (length (octets_of h) + length c) in
       let size : announced_length h.size ≡ length c = ap announced_length v.0.1 in
       let form : h.constructed ≡ false = not-constructed h.constructed (wraps h) v.0.0.header.form in
-      let u : Bool = has_unused_bits (check_after (new_check h) c) in
+      let u : Bool = has_unused_bits (value_check_after (new_value_check h) c) in
       let known : Knows (after_primitive rules w h c) (site_after s h c) =
       subst (λ (x : Bool). Knows (frame_after w x (announced_length h.size) u) (site_after s h c)) (ap not form) (knows-after w s (site_after s h c) h (first_octet c) u k.0 refl refl (unused-of h c form)) in
       let t = shows_forest q holder (Sibling h (first_octet c)) (after_primitive rules w h c) outer rest v.1 (omega (arith, b, length-primitive h c rest)) (known, k.1, k.2) in
@@ -173,22 +173,22 @@ module _ (style : Layout) (names : Table) (rules : Rules) where
       (knows-after w s (site_after_holder s h inside) h None false k.0 refl refl refl, k.1, k.2) in
       let end : ℕ = p.at + length (opening h) + length (spelling inside) in
       let line : List ℕ = holder_line (at_level style names p.depth) h in
-      let close : List ℕ = close_line (at_level style names p.depth) (end_place h inside) in
+      let close : List ℕ = closing_line (at_level style names p.depth) (end_place h inside) in
       let first : List ℕ = styled_lines (Dump style.pure) (length outer) h.offset (header_findings_in rules w h) in
       let last : List ℕ = styled_lines (Dump style.pure) (length outer) h.offset (end_findings rules h (headers inside)) in
       let held : List ℕ = texts_of (items rules (site_of_children s h) inside) in
       let closes-shown : (m : ℕ) → effect_of dump_step (pair (lines_at style names (p.depth + 1) end false) (standing rules (noted_all (frame_under w h) inside) (w ∷ outer) m)) (closing_event h inside ∷ [])
-      ≡ shows (start q false (frame_after w (is_primitive h) (announced_length h.size) false) outer (after_end rules h inside m)) (close ++ last) =
+      ≡ is_shown (start q false (frame_after w (is_primitive h) (announced_length h.size) false) outer (after_end rules h inside m)) (close ++ last) =
       λ m.
       closes-by (lines_at style names (p.depth + 1) end false) (standing rules (noted_all (frame_under w h) inside) (w ∷ outer) m) (end_offset h.size (h.offset + length (opening h) + length (spelling inside))) h.constructed
-      ∙ ap₂ (λ (d : Effect LinesState) (f : FinderValue). shows (pair d.state f.state) (d.put ++ texts style f))
+      ∙ ap₂ (λ (d : Effect LinesState) (f : FinderValue). is_shown (pair d.state f.state) (d.put ++ texts style f))
       (closer_shown style names p.depth end h inside (omega (arith, v.0.0.header.offset)) v.0.0.header.valid.allowed (omega (arith, b, size)))
       (closed-find rules i_place w outer m h inside v.1 v.0.1)
-      ∙ ap (λ (l : List ℕ). shows (pair (lines_at style names p.depth (end + length (end_octets h.size)) false) (standing rules (frame_after w (is_primitive h) (announced_length h.size) false) outer (after_end rules h inside m))) (close ++ l))
+      ∙ ap (λ (l : List ℕ). is_shown (pair (lines_at style names p.depth (end + length (end_octets h.size)) false) (standing rules (frame_after w (is_primitive h) (announced_length h.size) false) outer (after_end rules h inside m))) (close ++ l))
       (at-under rules i_place w h inside v.1 v.0.1 (styled_lines (Dump style.pure) (length outer)) (λ at. refl))
-      ∙ ap (λ (at : ℕ). shows (pair (lines_at style names p.depth at false) (standing rules (frame_after w (is_primitive h) (announced_length h.size) false) outer (after_end rules h inside m))) (close ++ last)) (omega arith) in
+      ∙ ap (λ (at : ℕ). is_shown (pair (lines_at style names p.depth at false) (standing rules (frame_after w (is_primitive h) (announced_length h.size) false) outer (after_end rules h inside m))) (close ++ last)) (omega arith) in
       let held-shown : (m : ℕ) → (r : ℕ) × (effect_of dump_step (start i_place false (frame_under w h) (w ∷ outer) m) (events inside)
-      ≡ shows (pair (lines_at style names (p.depth + 1) end false) (standing rules (noted_all (frame_under w h) inside) (w ∷ outer) r)) held) =
+      ≡ is_shown (pair (lines_at style names (p.depth + 1) end false) (standing rules (noted_all (frame_under w h) inside) (w ∷ outer) r)) held) =
       λ m.
       let r = i.stands m v.0.1 in (
         r.0,
@@ -196,7 +196,7 @@ module _ (style : Layout) (names : Table) (rules : Rules) where
             (r.1 ∙ ap (λ (x : Bool). pair (lines_at style names (p.depth + 1) end x) (standing rules (noted_all (frame_under w h) inside) (w ∷ outer) r.0)) (no_padding style names i_place inside refl v.1)) (i.text m),
       ) in
       let element : (n : ℕ) → (m : ℕ) × (effect_of dump_step (start p (is_padding before) w outer n) (opening_events h ++ (events inside ++ closing_event h inside ∷ []))
-      ≡ shows (start q false (frame_after w (is_primitive h) (announced_length h.size) false) outer m) ((first ++ line) ++ (held ++ (close ++ last)))) =
+      ≡ is_shown (start q false (frame_after w (is_primitive h) (announced_length h.size) false) outer m) ((first ++ line) ++ (held ++ (close ++ last)))) =
       λ n.
       let a : ℕ = later_header rules w h n in
       let r = held-shown a in (
@@ -234,9 +234,9 @@ module _ (style : Layout) (names : Table) (rules : Rules) where
       six : (a b c d e f : List ℕ) → ((a ++ b) ++ (c ++ (d ++ e))) ++ f ≡ a ++ (b ++ (c ++ (d ++ (e ++ f))))
       six a b c d e f = simp append_assoc
 
-      as_shows : (s t : DumpState) (es : List EventValue) (put : List ℕ) → (effect_of dump_step s es).state ≡ t → (effect_of dump_step s es).put ≡ put → effect_of dump_step s es ≡ shows t put
+      as_shows : (s t : DumpState) (es : List EventValue) (put : List ℕ) → (effect_of dump_step s es).state ≡ t → (effect_of dump_step s es).put ≡ put → effect_of dump_step s es ≡ is_shown t put
       as_shows s t es put e f =
-          ap (λ (g : Go). record { state = (effect_of dump_step s es).state; put = (effect_of dump_step s es).put; goes = g }) (all_on s es) ∙ ap₂ (λ (u : DumpState) (l : List ℕ). shows u l) e f
+          ap (λ (g : Go). record { state = (effect_of dump_step s es).state; put = (effect_of dump_step s es).put; goes = g }) (all_on s es) ∙ ap₂ (λ (u : DumpState) (l : List ℕ). is_shown u l) e f
   shows_forest p holder before w outer (OpenPrimitive h c) v b k = record {
     text = λ n.
         part-by (lines_at style names p.depth p.at (is_padding before)) (standing rules w outer n) h c

@@ -10,7 +10,7 @@ use Rattle.tlv_head.specs.Header.{HeaderValue, announced_length, octets_of}
 use Rattle.tlv_head.specs.Private.Header.{AllowsSize}
 use Rattle.tlv_value.specs.declared.layout.Layout.{Layout}
 use Rattle.tlv_value.specs.Names.{Table}
-use Rattle.tlv_value.specs.TextState.{TextState, begin_lines, contents_lines, end_lines, new_text, open_lines, text_after, whole_lines}
+use Rattle.tlv_value.specs.ValueTextState.{ValueTextState, begin_lines, contents_lines, end_lines, new_value_text, open_lines, value_text_after, whole_lines}
 use Rattle.tlv_value.specs.Value.{NameOf}
 use Rattle.tlv_value.proofs.TextLemmas.Pieces.{lines-end, open-lines}
 use Rattle.tlv_walk.specs.Events.{Begin, Bytes, Close, End, Enter, EventValue, Leave, Open, Pad, Unused, closing_event, end_offset, opening_events}
@@ -21,7 +21,7 @@ use Rattle.tlv_walk.proofs.FollowerLemmas.Followed.{followed-more}
 use Rattle.tlv_walk.proofs.GrammarLemmas.Spellings.{length-opening}
 use Rattle.tlv_show.specs.LinesStep.{LinesState, lines_effect, lines_step, offset_after, past_header}
 use Rattle.tlv_show.specs.EndPlace.{end_place}
-use Rattle.tlv_show.specs.Lines.{close_line, opening_line, padding_line}
+use Rattle.tlv_show.specs.Lines.{closing_line, opening_line, padding_line}
 use Rattle.tlv_show.proofs.DumpLemmas.HolderLine.{holder_line}
 use Rattle.tlv_show.proofs.DumpLemmas.Dumped.{after_put, dumped_bytes, rested-new}
 use Rattle.tlv_show.proofs.DumpLemmas.Always.{all_on}
@@ -46,12 +46,12 @@ take-all n c h = grind (arith, common_steps)
 
 -- with the header, with the contents octets, and with the end
 whole_shown : (name_of : NameOf) (h : HeaderValue) (layout : Layout) (c : List ℕ) → length c ≡ announced_length h.size
-    → begin_lines (new_text h layout) ++ (contents_lines (new_text h layout) c ++ (end_lines name_of (text_after (new_text h layout) c) ++ [])) ≡ whole_lines name_of h layout c
+    → begin_lines (new_value_text h layout) ++ (contents_lines (new_value_text h layout) c ++ (end_lines name_of (value_text_after (new_value_text h layout) c) ++ [])) ≡ whole_lines name_of h layout c
 whole_shown name_of h layout c e =
-    let t : TextState = new_text h layout in
-    ap (λ (l : List ℕ). begin_lines t ++ (contents_lines t c ++ l)) (append-nil (end_lines name_of (text_after t c)))
-    ∙ sym (append_assoc (begin_lines t) (contents_lines t c) (end_lines name_of (text_after t c)))
-    ∙ ap (λ (l : List ℕ). l ++ end_lines name_of (text_after t c)) (sym (open-lines h layout c))
+    let t : ValueTextState = new_value_text h layout in
+    ap (λ (l : List ℕ). begin_lines t ++ (contents_lines t c ++ l)) (append-nil (end_lines name_of (value_text_after t c)))
+    ∙ sym (append_assoc (begin_lines t) (contents_lines t c) (end_lines name_of (value_text_after t c)))
+    ∙ ap (λ (l : List ℕ). l ++ end_lines name_of (value_text_after t c)) (sym (open-lines h layout c))
     ∙ sym (lines-end name_of h layout c e)
 
 -- whatever went before
@@ -59,14 +59,14 @@ pub primitives_shown : (s : LinesState) (h : HeaderValue) (c : List ℕ) → ann
     → effect_of lines_step s (Begin h ∷ Bytes c ∷ End ∷ [])
     ≡ lines_effect (record (past_header s h) { offset = offset_after (past_header s h).offset (length c); value = None }) (whole_lines (finite.get s.names) h s.layout c)
 primitives_shown s h c size =
-    let t : TextState = new_text h s.layout in
+    let t : ValueTextState = new_value_text h s.layout in
     let u : LinesState = record (past_header s h) { value = Some t } in
     let place_after : LinesState = record (past_header s h) { offset = offset_after (past_header s h).offset (length c); value = None } in
     let took = take-all (announced_length h.size) c (omega (arith, size)) in
     let none : announced_length h.size - length c ≡ 0 = omega (arith, size) in
     ap (λ (k : Effect LinesState). after_put (begin_lines t) (if_on k.goes k (λ w. effect_of lines_step w (End ∷ [])))) (dumped_bytes u c (λ e. rested-new h s.layout))
-    ∙ ap (λ (l : List ℕ). lines_effect place_after (begin_lines t ++ (contents_lines t l ++ ((if eqb (announced_length h.size - length l) 0 then end_lines (finite.get s.names) (text_after t l) else []) ++ [])))) took
-    ∙ ap (λ (n : ℕ). lines_effect place_after (begin_lines t ++ (contents_lines t c ++ ((if eqb n 0 then end_lines (finite.get s.names) (text_after t c) else []) ++ [])))) none
+    ∙ ap (λ (l : List ℕ). lines_effect place_after (begin_lines t ++ (contents_lines t l ++ ((if eqb (announced_length h.size - length l) 0 then end_lines (finite.get s.names) (value_text_after t l) else []) ++ [])))) took
+    ∙ ap (λ (n : ℕ). lines_effect place_after (begin_lines t ++ (contents_lines t c ++ ((if eqb n 0 then end_lines (finite.get s.names) (value_text_after t c) else []) ++ [])))) none
     ∙ ap (lines_effect place_after) (whole_shown (finite.get s.names) h s.layout c (sym size))
 
 -- of elements in this style, with these names
@@ -86,7 +86,7 @@ module _ (style : Layout) (names : Table) where
   -- ---- a primitive
 
   abbrev begun_in : ℕ → ℕ → Bool → HeaderValue → LinesState
-  begun_in level at padded h = record (past_header (standing level at padded) h) { value = Some (new_text h (at_level level)) }
+  begun_in level at padded h = record (past_header (standing level at padded) h) { value = Some (new_value_text h (at_level level)) }
 
   pub primitive_shown : (level at : ℕ) (padded : Bool) (h : HeaderValue) (c : List ℕ) → h.offset ≡ at → announced_length h.size ≡ length c → at + (length (octets_of h) + length c) ≤ 2 ^ 64 - 1
       → effect_of lines_step (standing level at padded) (Begin h ∷ Bytes c ∷ End ∷ []) ≡ lines_effect (standing level (at + (length (octets_of h) + length c)) false) (whole_lines (finite.get names) h (at_level level) c)
@@ -98,7 +98,7 @@ module _ (style : Layout) (names : Table) where
   pub part_shown : (level at : ℕ) (padded : Bool) (h : HeaderValue) (c : List ℕ) → length c ≤ announced_length h.size
       → (effect_of lines_step (standing level at padded) (Begin h ∷ Bytes c ∷ [])).put ≡ open_lines h (at_level level) c
   part_shown level at padded h c size =
-      let t : TextState = new_text h (at_level level) in
+      let t : ValueTextState = new_value_text h (at_level level) in
       ap (λ (k : Effect LinesState). (after_put (begin_lines t) (if_on k.goes k (λ w. effect_of lines_step w []))).put) (dumped_bytes (begun_in level at padded h) c (λ e. rested-new h (at_level level)))
       ∙ ap (λ (l : List ℕ). begin_lines t ++ (contents_lines t l ++ [])) (take-all (announced_length h.size) c size)
       ∙ ap (λ (l : List ℕ). begin_lines t ++ l) (append-nil (contents_lines t c))
@@ -135,21 +135,21 @@ module _ (style : Layout) (names : Table) where
 
   closer_by : (level o : ℕ) (k : Bool) (size : Size) → AllowsSize k size → o + length (end_octets size) ≤ 2 ^ 64 - 1
       → effect_of lines_step (standing (level + 1) o false) ((if k then Close (end_offset size o) else Leave) ∷ [])
-      ≡ lines_effect (standing level (o + length (end_octets size)) false) (close_line (at_level level) (if k && is_indefinite size then Some o else None))
+      ≡ lines_effect (standing level (o + length (end_octets size)) false) (closing_line (at_level level) (if k && is_indefinite size then Some o else None))
   closer_by level o true (Definite n) allowed far_enough =
-      settled (level + 1 - 1) level o (o + 0) false false _ (close_line (at_level level) None) (omega arith) (omega arith) refl (append-nil (close_line (at_level (level + 1 - 1)) None) ∙ ap (λ (l : ℕ). close_line (at_level l) None) (omega arith))
+      settled (level + 1 - 1) level o (o + 0) false false _ (closing_line (at_level level) None) (omega arith) (omega arith) refl (append-nil (closing_line (at_level (level + 1 - 1)) None) ∙ ap (λ (l : ℕ). closing_line (at_level l) None) (omega arith))
   closer_by level o true Indefinite allowed far_enough =
-      settled (level + 1 - 1) level (offset_after o 2) (o + 2) false false _ (close_line (at_level level) (Some o)) (omega arith) (omega (arith, far_enough)) refl
-      (append-nil (close_line (at_level (level + 1 - 1)) (Some o)) ∙ ap (λ (l : ℕ). close_line (at_level l) (Some o)) (omega arith))
+      settled (level + 1 - 1) level (offset_after o 2) (o + 2) false false _ (closing_line (at_level level) (Some o)) (omega arith) (omega (arith, far_enough)) refl
+      (append-nil (closing_line (at_level (level + 1 - 1)) (Some o)) ∙ ap (λ (l : ℕ). closing_line (at_level l) (Some o)) (omega arith))
   closer_by level o false (Definite n) allowed far_enough =
-      settled (level + 1 - 1) level o (o + 0) false false _ (close_line (at_level level) None) (omega arith) (omega arith) refl (append-nil (close_line (at_level (level + 1 - 1)) None) ∙ ap (λ (l : ℕ). close_line (at_level l) None) (omega arith))
+      settled (level + 1 - 1) level o (o + 0) false false _ (closing_line (at_level level) None) (omega arith) (omega arith) refl (append-nil (closing_line (at_level (level + 1 - 1)) None) ∙ ap (λ (l : ℕ). closing_line (at_level l) None) (omega arith))
   closer_by level o false Indefinite allowed far_enough = absurd (cc (allowed))
 
   pub closer_shown : (level o : ℕ) (h : HeaderValue) (inside : Forest) → h.offset + length (opening h) + length (spelling inside) ≡ o → AllowsSize h.constructed h.size → o + length (end_octets h.size) ≤ 2 ^ 64 - 1
-      → effect_of lines_step (standing (level + 1) o false) (closing_event h inside ∷ []) ≡ lines_effect (standing level (o + length (end_octets h.size)) false) (close_line (at_level level) (end_place h inside))
+      → effect_of lines_step (standing (level + 1) o false) (closing_event h inside ∷ []) ≡ lines_effect (standing level (o + length (end_octets h.size)) false) (closing_line (at_level level) (end_place h inside))
   closer_shown level o h inside there allowed far_enough =
       subst (λ (n : ℕ). effect_of lines_step (standing (level + 1) o false) ((if h.constructed then Close (end_offset h.size n) else Leave) ∷ [])
-      ≡ lines_effect (standing level (o + length (end_octets h.size)) false) (close_line (at_level level) (if h.constructed && is_indefinite h.size then Some n else None)))
+      ≡ lines_effect (standing level (o + length (end_octets h.size)) false) (closing_line (at_level level) (if h.constructed && is_indefinite h.size then Some n else None)))
       (sym there) (closer_by level o h.constructed h.size allowed far_enough)
 
   -- ---- elements

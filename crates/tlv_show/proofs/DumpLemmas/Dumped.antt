@@ -5,7 +5,7 @@ use Rattle.std.proofs.lemmas.List.{nil_from_length}
 use Rattle.std.specs.Prelude.{Option, Some, None}
 use Rattle.tlv_head.specs.Header.{HeaderValue}
 use Rattle.tlv_value.specs.declared.layout.Layout.{Layout}
-use Rattle.tlv_value.specs.TextState.{TextState, contents_lines, new_text, text_after}
+use Rattle.tlv_value.specs.ValueTextState.{ValueTextState, contents_lines, new_value_text, value_text_after}
 use Rattle.tlv_value.proofs.TextLemmas.Pieces.{after-nothing, new-nothing, pieces-join}
 use Rattle.tlv_walk.specs.Follow.{Effect, each_octet}
 use Rattle.tlv_show.specs.LinesStep.{LinesState, lines_effect, lines_octet_step, lines_padding_step, offset_after, value_after, value_contents_lines}
@@ -30,20 +30,20 @@ take-both zero x y = take-none (x ++ y) ∙ sym (ap₂ (λ (a b : List ℕ). a +
 take-both (suc n) [] y = let e : suc n ≡ suc n - 0 = omega arith in ap (λ (k : ℕ). take k y) e
 take-both (suc n) (z ∷ x) y = ap (λ (l : List ℕ). z ∷ l) (take-both n x y ∙ ap (λ (k : ℕ). take n x ++ take k y) (omega arith))
 
-value-join : (v : Option TextState) (x y : List ℕ)
+value-join : (v : Option ValueTextState) (x y : List ℕ)
     → (value_after (value_after v x) y ≡ value_after v (x ++ y)) × (value_contents_lines v (x ++ y) ≡ value_contents_lines v x ++ value_contents_lines (value_after v x) y)
 value-join None x y = (refl, refl)
 value-join (Some t) x y =
     let e = take-both t.left x y in
     let j = pieces-join t (take t.left x) (take (t.left - length (take t.left x)) y) in
-    (ap (λ (u : TextState). Some u) (j.0 ∙ ap (text_after t) (sym e)), ap (contents_lines t) e ∙ j.1)
+    (ap (λ (u : ValueTextState). Some u) (j.0 ∙ ap (value_text_after t) (sym e)), ap (contents_lines t) e ∙ j.1)
 
 -- no octets make no lines of it, and change nothing that is kept
-abbrev pub IsRested : Option TextState → Type 0
+abbrev pub IsRested : Option ValueTextState → Type 0
 IsRested v = (value_after v [] ≡ v) × (value_contents_lines v [] ≡ [])
 
 -- this stays so after an octet
-rested-after : (v : Option TextState) (x : ℕ) → IsRested (value_after v (x ∷ []))
+rested-after : (v : Option ValueTextState) (x : ℕ) → IsRested (value_after v (x ∷ []))
 rested-after v x =
     let j = value-join v (x ∷ []) [] in
     let put : List ℕ = value_contents_lines v (x ∷ []) in
@@ -51,10 +51,10 @@ rested-after v x =
     (j.0, nil_from_length more (omega (arith, ap length j.1, length-append put more)))
 
 -- it is so of a primitive that begins
-pub rested-new : (h : HeaderValue) (layout : Layout) → IsRested (Some (new_text h layout))
+pub rested-new : (h : HeaderValue) (layout : Layout) → IsRested (Some (new_value_text h layout))
 rested-new h layout =
-    let t : TextState = new_text h layout in
-    (ap (λ (u : TextState). Some u) (ap (text_after t) (take-of-none t.left) ∙ after-nothing h layout), ap (contents_lines t) (take-of-none t.left) ∙ new-nothing h layout)
+    let t : ValueTextState = new_value_text h layout in
+    (ap (λ (u : ValueTextState). Some u) (ap (value_text_after t) (take-of-none t.left) ∙ after-nothing h layout), ap (contents_lines t) (take-of-none t.left) ∙ new-nothing h layout)
   where
     take-of-none : (n : ℕ) → take {A = ℕ} n [] ≡ []
     take-of-none n = grind (arith, common_steps)
@@ -64,7 +64,7 @@ abbrev pub after_put : List ℕ → Effect LinesState → Effect LinesState
 after_put put u = record { state = u.state; put = put ++ u.put; goes = u.goes }
 
 -- a dump of contents: the offset after them, what is reported of the primitive, and what is put
-abbrev pub of_bytes : LinesState → ℕ → Option TextState → List ℕ → Effect LinesState
+abbrev pub of_bytes : LinesState → ℕ → Option ValueTextState → List ℕ → Effect LinesState
 of_bytes s offset value put = lines_effect (record s { offset = offset; value = value }) put
 
 pub dumped_bytes : (s : LinesState) (xs : List ℕ) → (xs ≡ [] → IsRested s.value)
@@ -72,13 +72,13 @@ pub dumped_bytes : (s : LinesState) (xs : List ℕ) → (xs ≡ [] → IsRested 
 dumped_bytes s [] rested =
     let r = rested refl in
     ap (λ (n : ℕ). of_bytes s n s.value []) (sym (further-none s.offset))
-    ∙ ap₂ (λ (v : Option TextState) (put : List ℕ). of_bytes s (offset_after s.offset 0) v put) (sym r.0) (sym r.1)
+    ∙ ap₂ (λ (v : Option ValueTextState) (put : List ℕ). of_bytes s (offset_after s.offset 0) v put) (sym r.0) (sym r.1)
 dumped_bytes s (x ∷ xs) rested =
     let j = value-join s.value (x ∷ []) xs in
     ap (after_put (value_contents_lines s.value (x ∷ []))) (dumped_bytes (lines_octet_step s x).state xs (λ e. rested-after s.value x))
     ∙ ap (λ (n : ℕ). of_bytes s n (value_after (value_after s.value (x ∷ [])) xs) (value_contents_lines s.value (x ∷ []) ++ value_contents_lines (value_after s.value (x ∷ [])) xs))
     (further-more s.offset 1 (length xs) ∙ ap (offset_after s.offset) (omega arith))
-    ∙ ap₂ (λ (v : Option TextState) (put : List ℕ). of_bytes s (offset_after s.offset (length (x ∷ xs))) v put) j.0 (sym j.1)
+    ∙ ap₂ (λ (v : Option ValueTextState) (put : List ℕ). of_bytes s (offset_after s.offset (length (x ∷ xs))) v put) j.0 (sym j.1)
 
 -- ---- padding
 

@@ -15,13 +15,13 @@ use Rattle.tlv_walk.specs.Follow.{Effect, HasEffectOrNone, contents_in, effect_o
 use Rattle.tlv_io.specs.Out.{Puts}
 use Rattle.tlv_walk.proofs.FollowerLemmas.Followed.{followed-one}
 use Rattle.tlv_io.proofs.Puts.{puts_nothing, puts_text}
-use Rattle.tlv_show.specs.declared.frames.SiblingFrame.{SiblingFrame}
+use Rattle.tlv_show.specs.declared.sibling_frame.SiblingFrame.{SiblingFrame}
 use Rattle.tlv_show.specs.declared.finding_lines.Style.TheVariants.{Check}
 use Rattle.tlv_show.specs.CheckStep.{check_step, findings_effect, styled_lines}
 use Rattle.tlv_show.specs.FinderState.{FinderState, FinderValue, count_up, finder_begin_step, finder_bytes_step, frame_after, frame_after_segment, header_findings_in}
 use Rattle.tlv_show.specs.Private.FinderState.{PassesOrStays, PassesPrimitive, finder_whole_step, with_state}
 use Rattle.tlv_show.specs.Private.UsualTypes.{IsUsual}
-use Rattle.tlv_show.specs.Found.{shows}
+use Rattle.tlv_show.specs.Found.{is_shown}
 use Rattle.tlv_show.proofs.FindingLemmas.CheckLaws.{each-found}
 use Rattle.tlv_show.proofs.FindingLemmas.FinderItems.{after_primitive, primitive-find, standing}
 
@@ -52,7 +52,7 @@ pub passed : (s : FinderState) (h : HeaderValue) (c : List ℕ) → announced_le
 passed s h c size w header contents =
     let at : SiblingFrame → ℕ → List Finding → FinderValue = λ (f : SiblingFrame) (n : ℕ) (fs : List Finding). record { state = standing s.rules f s.outer (count_up n (length fs)); level = length s.outer; at = h.offset; found = fs } in
     primitive-find s.rules s.frame s.outer s.count h c (sym size)
-    ∙ ap (λ (fs : List Finding). at (after_primitive s.rules s.frame h c) (count_up s.count (length (header_findings_in s.rules s.frame h))) (filter (shows s.rules) fs)) contents
+    ∙ ap (λ (fs : List Finding). at (after_primitive s.rules s.frame h c) (count_up s.count (length (header_findings_in s.rules s.frame h))) (filter (is_shown s.rules) fs)) contents
     ∙ ap (λ (fs : List Finding). at (after_primitive s.rules s.frame h c) (count_up s.count (length fs)) []) header
     ∙ ap (λ (f : SiblingFrame). at f (count_up s.count 0) []) (outside s.frame _ _ w)
     ∙ ap (λ (n : ℕ). record { state = standing s.rules s.frame s.outer n; level = length s.outer; at = h.offset; found = [] }) (none-counted (count_up s.count 0) ∙ none-counted s.count)

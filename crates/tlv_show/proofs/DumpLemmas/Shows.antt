@@ -14,7 +14,7 @@ use Rattle.tlv_walk.specs.Follow.{Effect, effect_of, followed_events}
 use Rattle.tlv_walk.specs.Forest.{Forest, spelling}
 use Rattle.tlv_walk.specs.Job.{Job, Runs}
 use Rattle.tlv_walk.specs.Reading.{IsReading}
-use Rattle.tlv_walk.specs.Wrappers.{first_without_string}
+use Rattle.tlv_walk.specs.Wrappers.{first_without_wrapper}
 use Rattle.tlv_walk.proofs.FollowerLemmas.Jobs as jobs
 use Rattle.tlv_show.specs.declared.outcome.Outcome.{Outcome}
 
@@ -25,7 +25,7 @@ showing framing text count = record {
   limit = 2 ^ 40;
   text = text;
   is_enough = λ f. false;
-  returned = λ f e. record { ending = e; findings = count f; unused = first_without_string framing.inside f };
+  returned = λ f e. record { ending = e; findings = count f; unused = first_without_wrapper framing.inside f };
 }
 
 -- a follower, and what it makes of readings: a text, and a count in its state
@@ -50,14 +50,14 @@ module _ {S : Type 0} (next : S → EventValue → Effect S) (first : S) (framin
 
   -- the run over all events
   run_on : (f : Forest) (e : Ending) → run_over framing f (followed_events next first (events f)) (effect_of next first (events f)).goes e
-      ≡ record { ending = e; octets = length (spelling f); enough = false; unused = first_without_string framing.inside f }
+      ≡ record { ending = e; octets = length (spelling f); enough = false; unused = first_without_wrapper framing.inside f }
   run_on f e = ap (λ (g : Go). run_over framing f (followed_events next first (events f)) g e) (w.goes_on first (events f))
 
   pub shows_ok : (run : Run) (outcome : Outcome) → outcome.ending ≡ run.ending → outcome.findings ≡ count_in t → outcome.unused ≡ run.unused
       → Drives next framing (2 ^ 40) (drive_state first old from) (drive_state t new to) (Ok run) → Runs (showing framing text count) old new from to (Ok outcome)
   shows_ok run outcome ending findings unused x =
       jobs.runs_ok next (showing framing text count) first w.put goes_on t old new from to run outcome x
-      (λ octets f e few r state is. outcome_is outcome e (count f) (first_without_string framing.inside f)
+      (λ octets f e few r state is. outcome_is outcome e (count f) (first_without_wrapper framing.inside f)
       (ending ∙ ap (λ (k : Run). k.ending) (is ∙ run_on f e))
       (findings ∙ ap count_in state ∙ w.counts octets f few r)
       (unused ∙ ap (λ (k : Run). k.unused) (is ∙ run_on f e)))

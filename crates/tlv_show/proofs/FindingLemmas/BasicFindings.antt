@@ -10,7 +10,7 @@ use Rattle.tlv_show.specs.declared.rules.Rules.{Rules}
 use Rattle.tlv_show.specs.declared.rules.Rules.TheVariants.{Ber, Der, Cer}
 use Rattle.tlv_show.specs.Conditions.{end_conditions, header_conditions}
 use Rattle.tlv_show.specs.EndPlace.{end_place}
-use Rattle.tlv_show.specs.Found.{contents_findings, shows}
+use Rattle.tlv_show.specs.Found.{contents_findings, is_shown}
 use Rattle.tlv_show.proofs.FindingLemmas.EndFindings.{end_findings}
 use Rattle.tlv_show.specs.Items.{Item, FindingAt, OpeningLine, ClosingLine, PrimitiveLines, OpenPrimitiveLines, PaddingLine, headers, items}
 use Rattle.tlv_show.proofs.FindingLemmas.ElementItems.{findings_at}
@@ -26,7 +26,7 @@ among-more : (k others : Bool) → (k || false) ≡ true → (k || others) ≡ t
 among-more true others e = refl
 among-more false others e = absurd (cc (e))
 
-pub still-shown : (rules : Rules) (f : Finding) → shows Ber f ≡ true → shows rules f ≡ true
+pub still-shown : (rules : Rules) (f : Finding) → is_shown Ber f ≡ true → is_shown rules f ≡ true
 still-shown Ber f e = e
 still-shown Der f e = among-more _ _ e
 still-shown Cer f e = among-more _ _ e
@@ -36,22 +36,22 @@ module _ (rules : Rules) where
   basic l = filter is_basic l
 
   -- findings, and then other items
-  basic-found : (level at : ℕ) (fs : List Finding) (rest : List Item) → basic (findings_at level at (filter (shows rules) fs) ++ rest) ≡ findings_at level at (filter (shows Ber) fs) ++ basic rest
+  basic-found : (level at : ℕ) (fs : List Finding) (rest : List Item) → basic (findings_at level at (filter (is_shown rules) fs) ++ rest) ≡ findings_at level at (filter (is_shown Ber) fs) ++ basic rest
   basic-found level at [] rest = refl
-  basic-found level at (x ∷ fs) rest = by-tests (shows Ber x) (shows rules x) refl refl (still-shown rules x) (basic-found level at fs rest)
+  basic-found level at (x ∷ fs) rest = by-tests (is_shown Ber x) (is_shown rules x) refl refl (still-shown rules x) (basic-found level at fs rest)
     where
-      by-tests : (b r : Bool) → shows Ber x ≡ b → shows rules x ≡ r → (shows Ber x ≡ true → shows rules x ≡ true)
-          → basic (findings_at level at (filter (shows rules) fs) ++ rest) ≡ findings_at level at (filter (shows Ber) fs) ++ basic rest
-          → basic (findings_at level at (filter (shows rules) (x ∷ fs)) ++ rest) ≡ findings_at level at (filter (shows Ber) (x ∷ fs)) ++ basic rest
+      by-tests : (b r : Bool) → is_shown Ber x ≡ b → is_shown rules x ≡ r → (is_shown Ber x ≡ true → is_shown rules x ≡ true)
+          → basic (findings_at level at (filter (is_shown rules) fs) ++ rest) ≡ findings_at level at (filter (is_shown Ber) fs) ++ basic rest
+          → basic (findings_at level at (filter (is_shown rules) (x ∷ fs)) ++ rest) ≡ findings_at level at (filter (is_shown Ber) (x ∷ fs)) ++ basic rest
       by-tests true true e f g h = rw (f, e) (ap (λ (l : List Item). FindingAt level at x ∷ l) h)
       by-tests true false e f g h = absurd (cc (e, f, g e))
       by-tests false true e f g h = rw (f, e) h
       by-tests false false e f g h = rw (f, e) h
 
   same-found : (level at : ℕ) (fs : List Finding) (xs ys : List Item) → only xs ≡ basic ys
-      → only (findings_at level at (filter (shows Ber) fs) ++ xs) ≡ basic (findings_at level at (filter (shows rules) fs) ++ ys)
+      → only (findings_at level at (filter (is_shown Ber) fs) ++ xs) ≡ basic (findings_at level at (filter (is_shown rules) fs) ++ ys)
   same-found level at fs xs ys e =
-      only-findings_at level at (filter (shows Ber) fs) xs ∙ ap (λ (l : List Item). findings_at level at (filter (shows Ber) fs) ++ l) e ∙ sym (basic-found level at fs ys)
+      only-findings_at level at (filter (is_shown Ber) fs) xs ∙ ap (λ (l : List Item). findings_at level at (filter (is_shown Ber) fs) ++ l) e ∙ sym (basic-found level at fs ys)
 
   same-pads : (k : Bool) (level at : ℕ) (xs ys : List Item) → only xs ≡ basic ys → only ((if k then [] else PaddingLine level at ∷ []) ++ xs) ≡ basic ((if k then [] else PaddingLine level at ∷ []) ++ ys)
   same-pads true level at xs ys e = e

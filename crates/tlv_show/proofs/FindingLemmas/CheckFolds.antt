@@ -18,7 +18,7 @@ use Rattle.tlv_walk.specs.Place.{IsOpen, Place, place_after, place_of_children, 
 use Rattle.tlv_walk.specs.Reading.{IsReading}
 use Rattle.tlv_walk.proofs.GrammarLemmas.PopHeaders.{header-length}
 use Rattle.tlv_walk.proofs.GrammarLemmas.Spellings.{length-holder, length-opening, length-primitive}
-use Rattle.tlv_show.specs.declared.frames.SiblingFrame.{SiblingFrame}
+use Rattle.tlv_show.specs.declared.sibling_frame.SiblingFrame.{SiblingFrame}
 use Rattle.tlv_show.specs.declared.rules.Rules.{Rules}
 use Rattle.tlv_show.specs.declared.finding_lines.Style.TheVariants.{Check}
 use Rattle.tlv_show.specs.CheckJob.{check_job}
@@ -27,7 +27,7 @@ use Rattle.tlv_show.specs.Conditions.{end_conditions, header_conditions}
 use Rattle.tlv_show.specs.EndPlace.{end_place}
 use Rattle.tlv_show.specs.FinderState.{FinderState, FinderValue, OpenValue, count_up, finder_frame_end_step, finder_open_step, finder_value_end_step, frame_under, header_findings_in, new_finder, open_value_after, top_frame}
 use Rattle.tlv_show.specs.Private.FinderState.{finder_step}
-use Rattle.tlv_show.specs.Found.{contents_findings, header_findings, shows}
+use Rattle.tlv_show.specs.Found.{contents_findings, header_findings, is_shown}
 use Rattle.tlv_show.proofs.FindingLemmas.EndFindings.{end_findings}
 use Rattle.tlv_show.specs.Items.{Item, FindingAt, OpeningLine, ClosingLine, PrimitiveLines, OpenPrimitiveLines, PaddingLine, headers, items}
 use Rattle.tlv_show.proofs.FindingLemmas.ElementItems.{findings_at}
@@ -115,7 +115,7 @@ counted-all s (e ∷ es) =
 -- ---- no count stops
 
 -- of each condition one finding at most
-held-few : (rules : Rules) (rows : List (Bool × Finding)) → length (filter (shows rules) (findings_by rows)) ≤ length rows
+held-few : (rules : Rules) (rows : List (Bool × Finding)) → length (filter (is_shown rules) (findings_by rows)) ≤ length rows
 held-few rules [] = omega arith
 held-few rules (row ∷ rows) = let e = one-few row.0 (held-few rules rows) in omega (arith, e)
   where
@@ -123,8 +123,8 @@ held-few rules (row ∷ rows) = let e = one-few row.0 (held-few rules rows) in o
     kept-few true f l n e = omega (arith, e)
     kept-few false f l n e = omega (arith, e)
 
-    one-few : (b : Bool) → length (filter (shows rules) (findings_by rows)) ≤ length rows → length (filter (shows rules) ((if b then row.1 ∷ [] else []) ++ findings_by rows)) ≤ length rows + 1
-    one-few true e = kept-few (shows rules row.1) row.1 (filter (shows rules) (findings_by rows)) (length rows) e
+    one-few : (b : Bool) → length (filter (is_shown rules) (findings_by rows)) ≤ length rows → length (filter (is_shown rules) ((if b then row.1 ∷ [] else []) ++ findings_by rows)) ≤ length rows + 1
+    one-few true e = kept-few (is_shown rules row.1) row.1 (filter (is_shown rules) (findings_by rows)) (length rows) e
     one-few false e = omega (arith, e)
 
 module _ (rules : Rules) where

@@ -2,7 +2,7 @@
 use Rattle.std.proofs.Common.{◌≡◌, ◌-◌, ◌==◌, Bool, true, false, ℕ, List, [], ◌∷◌, ◌++◌, length, take, refl, sym, ap, ◌∙◌, arith, append-nil}
 use Rattle.std.proofs.lemmas.Bool.Decides.{nat_tests}
 use Rattle.std.specs.Prelude.{Option, Some, None}
-use Rattle.tlv_value.specs.CheckState.{CheckState, check_after}
+use Rattle.tlv_value.specs.ValueCheckState.{ValueCheckState, value_check_after}
 use Rattle.tlv_value.proofs.CheckLemmas.CheckPieces.{checks-join}
 use Rattle.tlv_walk.specs.declared.follow.Go.TheVariants as go
 use Rattle.tlv_walk.specs.Events.{Begin, Bytes, Close, End, Enter, EventValue, Leave, Open, Pad, Unused}
@@ -18,8 +18,8 @@ use Rattle.tlv_show.proofs.DumpLemmas.Dumped.{take-both}
 value-join : (v : Option OpenValue) (x y : List ℕ) → open_value_after (open_value_after v x) y ≡ open_value_after v (x ++ y)
 value-join None x y = refl
 value-join (Some v) x y =
-    ap (λ (t : CheckState). Some (record v { check = t }))
-    (checks-join v.check (take v.check.left x) (take (v.check.left - length (take v.check.left x)) y) ∙ ap (check_after v.check) (sym (take-both v.check.left x y)))
+    ap (λ (t : ValueCheckState). Some (record v { check = t }))
+    (checks-join v.check (take v.check.left x) (take (v.check.left - length (take v.check.left x)) y) ∙ ap (value_check_after v.check) (sym (take-both v.check.left x y)))
 
 pub one-or-more : (x : ℕ) (octets : List ℕ) → (length (x ∷ octets) == 0) ≡ false
 one-or-more x octets = grind (arith, nat_tests)

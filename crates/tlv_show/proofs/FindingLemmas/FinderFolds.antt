@@ -6,12 +6,12 @@ use Rattle.std.specs.List.{fold, list_all}
 use Rattle.std.specs.Prelude.{Option, None, eqb}
 use Rattle.tlv_head.specs.Header.{HeaderValue, announced_length, is_universal, octets_of, wraps}
 use Rattle.tlv_value.specs.declared.finding.Finding.{Finding}
-use Rattle.tlv_value.specs.CheckState.{check_after, has_unused_bits, begins_nonzero, new_check, new_check_of, type_number}
+use Rattle.tlv_value.specs.ValueCheckState.{value_check_after, has_unused_bits, begins_nonzero, new_value_check, new_check_of, type_number}
 use Rattle.tlv_value.specs.Types.{bit_string, has_segments, is_a, is_primitive, octet_string}
 use Rattle.tlv_value.proofs.CheckLemmas.CheckPieces.{checked-none}
 use Rattle.tlv_walk.specs.Forest.{Forest, NoMore, PaddingOctet, Primitive, Holder, OpenPrimitive, OpenHolder, OpenBitString, OpenHeader, OpenEndOctets, extent, is_complete}
 use Rattle.tlv_walk.specs.Place.{IsOpen, Place, place_after}
-use Rattle.tlv_show.specs.declared.frames.SiblingFrame.{SiblingFrame}
+use Rattle.tlv_show.specs.declared.sibling_frame.SiblingFrame.{SiblingFrame}
 use Rattle.tlv_show.specs.declared.rules.Rules.{Rules}
 use Rattle.tlv_show.specs.declared.rules.Rules.TheVariants.{Ber, Der, Cer}
 use Rattle.tlv_show.specs.Conditions.{end_conditions, ends_empty, follows_unused_bits, is_not_full}
@@ -50,15 +50,15 @@ full-or-not : (k e : Bool) → not (not k && e) ≡ (k || not e)
 full-or-not true e = refl
 full-or-not false e = refl
 
-unused-at : (k : Bool) (n size x : ℕ) (c : List ℕ) → eqb n bit_string ≡ k → has_unused_bits (check_after (new_check_of n size) (x ∷ c)) ≡ (k && not (x == 0))
-unused-at true n size x c e = subst (λ (m : ℕ). has_unused_bits (check_after (new_check_of m size) (x ∷ c)) ≡ not (x == 0)) (sym (eqb-true n bit_string e)) refl
-unused-at false n size x c e = ap (λ (k : Bool). k && begins_nonzero (check_after (new_check_of n size) (x ∷ c)).front) e
+unused-at : (k : Bool) (n size x : ℕ) (c : List ℕ) → eqb n bit_string ≡ k → has_unused_bits (value_check_after (new_check_of n size) (x ∷ c)) ≡ (k && not (x == 0))
+unused-at true n size x c e = subst (λ (m : ℕ). has_unused_bits (value_check_after (new_check_of m size) (x ∷ c)) ≡ not (x == 0)) (sym (eqb-true n bit_string e)) refl
+unused-at false n size x c e = ap (λ (k : Bool). k && begins_nonzero (value_check_after (new_check_of n size) (x ∷ c)).front) e
 
 type-is : (universal : Bool) (n : ℕ) → eqb (if universal then n else octet_string) bit_string ≡ (universal && n == bit_string)
 type-is true n = refl
 type-is false n = refl
 
-pub unused-of : (h : HeaderValue) (c : List ℕ) → h.constructed ≡ false → has_unused_bits (check_after (new_check h) c) ≡ follows_unused_bits (Sibling h (first_octet c))
+pub unused-of : (h : HeaderValue) (c : List ℕ) → h.constructed ≡ false → has_unused_bits (value_check_after (new_value_check h) c) ≡ follows_unused_bits (Sibling h (first_octet c))
 unused-of h [] e = ap has_unused_bits (checked-none h) ∙ by-none (eqb (type_number h) bit_string)
   where
     by-none : (a : Bool) → (a && false) ≡ false
@@ -109,7 +109,7 @@ knows-padding w s k e =
 abbrev pub noted_all : SiblingFrame → Forest → SiblingFrame
 noted_all w NoMore = w
 noted_all w (PaddingOctet rest) = noted_all w rest
-noted_all w (Primitive h c rest) = noted_all (frame_after w true (announced_length h.size) (has_unused_bits (check_after (new_check h) c))) rest
+noted_all w (Primitive h c rest) = noted_all (frame_after w true (announced_length h.size) (has_unused_bits (value_check_after (new_value_check h) c))) rest
 noted_all w (Holder h inside rest) = noted_all (frame_after w (is_primitive h) (announced_length h.size) false) rest
 noted_all w (OpenPrimitive h c) = w
 noted_all w (OpenHolder h inside) = w
@@ -121,7 +121,7 @@ noted_all w OpenEndOctets = w
 abbrev segments_noted : SiblingFrame → Forest → SiblingFrame
 segments_noted w NoMore = w
 segments_noted w (PaddingOctet rest) = segments_noted w rest
-segments_noted w (Primitive h c rest) = segments_noted (frame_after_segment w true (announced_length h.size) (has_unused_bits (check_after (new_check h) c))) rest
+segments_noted w (Primitive h c rest) = segments_noted (frame_after_segment w true (announced_length h.size) (has_unused_bits (value_check_after (new_value_check h) c))) rest
 segments_noted w (Holder h inside rest) = segments_noted (frame_after_segment w (is_primitive h) (announced_length h.size) false) rest
 segments_noted w (OpenPrimitive h c) = w
 segments_noted w (OpenHolder h inside) = w
@@ -139,7 +139,7 @@ all-in-string : (w : SiblingFrame) (f : Forest) → w.has_segments ≡ true → 
 all-in-string w NoMore e = refl
 all-in-string w (PaddingOctet rest) e = all-in-string w rest e
 all-in-string w (Primitive h c rest) e =
-    let u : Bool = has_unused_bits (check_after (new_check h) c) in
+    let u : Bool = has_unused_bits (value_check_after (new_value_check h) c) in
     ap (λ (t : SiblingFrame). noted_all t rest) (in-string w true (announced_length h.size) u e) ∙ all-in-string (frame_after_segment w true (announced_length h.size) u) rest e
 all-in-string w (Holder h inside rest) e =
     ap (λ (t : SiblingFrame). noted_all t rest) (in-string w (is_primitive h) (announced_length h.size) false e) ∙ all-in-string (frame_after_segment w (is_primitive h) (announced_length h.size) false) rest e
@@ -152,7 +152,7 @@ all-in-string w OpenEndOctets e = refl
 all-outside : (w : SiblingFrame) (f : Forest) → w.has_segments ≡ false → noted_all w f ≡ w
 all-outside w NoMore e = refl
 all-outside w (PaddingOctet rest) e = all-outside w rest e
-all-outside w (Primitive h c rest) e = ap (λ (t : SiblingFrame). noted_all t rest) (outside w true (announced_length h.size) (has_unused_bits (check_after (new_check h) c)) e) ∙ all-outside w rest e
+all-outside w (Primitive h c rest) e = ap (λ (t : SiblingFrame). noted_all t rest) (outside w true (announced_length h.size) (has_unused_bits (value_check_after (new_value_check h) c)) e) ∙ all-outside w rest e
 all-outside w (Holder h inside rest) e = ap (λ (t : SiblingFrame). noted_all t rest) (outside w (is_primitive h) (announced_length h.size) false e) ∙ all-outside w rest e
 all-outside w (OpenPrimitive h c) e = refl
 all-outside w (OpenHolder h inside) e = refl
@@ -179,7 +179,7 @@ stays-then a b = record { at = b.at ∙ a.at; size = b.size ∙ a.size; primitiv
 stays : (w : SiblingFrame) (f : Forest) → Stays w (noted_all w f)
 stays w NoMore = record { at = refl; size = refl; primitive = refl }
 stays w (PaddingOctet rest) = stays w rest
-stays w (Primitive h c rest) = stays-then (stays-noted w true (announced_length h.size) (has_unused_bits (check_after (new_check h) c))) (stays (frame_after w true (announced_length h.size) (has_unused_bits (check_after (new_check h) c))) rest)
+stays w (Primitive h c rest) = stays-then (stays-noted w true (announced_length h.size) (has_unused_bits (value_check_after (new_value_check h) c))) (stays (frame_after w true (announced_length h.size) (has_unused_bits (value_check_after (new_value_check h) c))) rest)
 stays w (Holder h inside rest) = stays-then (stays-noted w (is_primitive h) (announced_length h.size) false) (stays (frame_after w (is_primitive h) (announced_length h.size) false) rest)
 stays w (OpenPrimitive h c) = record { at = refl; size = refl; primitive = refl }
 stays w (OpenHolder h inside) = record { at = refl; size = refl; primitive = refl }
@@ -221,7 +221,7 @@ sums-up p w n (PaddingOctet rest) v e o =
 sums-up p w n (Primitive h c rest) v e o =
     let d : ℕ = announced_length h.size - bit_of w.has_bits in
     let k : is_primitive h ≡ true = ap not (not-constructed h.constructed (wraps h) v.0.0.header.form) in
-    let u : Bool = has_unused_bits (check_after (new_check h) c) in
+    let u : Bool = has_unused_bits (value_check_after (new_value_check h) c) in
     let r = sums-up (place_after p (length (octets_of h) + length c)) (frame_after_segment w true (announced_length h.size) u) (n + d) rest v.1 e (more-octets w.octets n d o) in
     record {
       segments = r.segments;

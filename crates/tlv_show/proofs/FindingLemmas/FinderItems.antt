@@ -7,18 +7,18 @@ use Rattle.std.specs.List.{filter}
 use Rattle.std.specs.Prelude.{Option, Some, None}
 use Rattle.tlv_head.specs.Header.{HeaderValue, announced_length, octets_of, wraps}
 use Rattle.tlv_value.specs.declared.finding.Finding.{Finding}
-use Rattle.tlv_value.specs.CheckState.{CheckState, check_after, findings_in, has_unused_bits, new_check}
+use Rattle.tlv_value.specs.ValueCheckState.{ValueCheckState, value_check_after, findings_in, has_unused_bits, new_value_check}
 use Rattle.tlv_value.specs.Types.{is_primitive}
 use Rattle.tlv_value.proofs.CheckLemmas.CheckPieces.{checked-none, findings-end}
 use Rattle.tlv_walk.specs.Events.{Begin, Bytes, Close, End, Enter, EventValue, Leave, Open, Unused, closing_event, end_offset, events, opening_events}
 use Rattle.tlv_walk.specs.Forest.{Forest, NoMore, PaddingOctet, Primitive, Holder, OpenPrimitive, OpenHolder, OpenBitString, OpenHeader, OpenEndOctets, extent, is_complete, opening, spelling}
 use Rattle.tlv_walk.specs.Place.{IsOpen, Place, place_after, place_of_children}
-use Rattle.tlv_show.specs.declared.frames.SiblingFrame.{SiblingFrame}
+use Rattle.tlv_show.specs.declared.sibling_frame.SiblingFrame.{SiblingFrame}
 use Rattle.tlv_show.specs.declared.rules.Rules.{Rules}
 use Rattle.tlv_show.specs.EndPlace.{end_place}
 use Rattle.tlv_show.specs.FinderState.{FinderState, FinderValue, contents_findings_in, count_up, finder_begin_step, finder_bytes_step, finder_close_step, finder_end_step, finder_open_step, frame_after, frame_under, header_findings_in}
 use Rattle.tlv_show.specs.Private.FinderState.{finder_step}
-use Rattle.tlv_show.specs.Found.{contents_findings, header_findings, shows}
+use Rattle.tlv_show.specs.Found.{contents_findings, header_findings, is_shown}
 use Rattle.tlv_show.proofs.FindingLemmas.EndFindings.{end_findings}
 use Rattle.tlv_show.specs.Items.{Item, FindingAt, OpeningLine, ClosingLine, PrimitiveLines, OpenPrimitiveLines, PaddingLine, headers, items}
 use Rattle.tlv_show.proofs.FindingLemmas.ElementItems.{findings_at}
@@ -59,18 +59,18 @@ take-all : (n : ℕ) (c : List ℕ) → length c ≤ n → take n c ≡ c
 take-all n c h = grind (arith, common_steps)
 
 -- all contents octets of a primitive
-abbrev with_check : FinderState → ℕ → CheckState → FinderState
+abbrev with_check : FinderState → ℕ → ValueCheckState → FinderState
 with_check s at t = record s { value = Some (record { at = at; check = t }) }
 
-took : (s : FinderState) (at : ℕ) (h : HeaderValue) (c : List ℕ) → length c ≤ announced_length h.size → finder_bytes_step (with_check s at (new_check h)) c ≡ with_check s at (check_after (new_check h) c)
+took : (s : FinderState) (at : ℕ) (h : HeaderValue) (c : List ℕ) → length c ≤ announced_length h.size → finder_bytes_step (with_check s at (new_value_check h)) c ≡ with_check s at (value_check_after (new_value_check h) c)
 took s at h [] e = ap (with_check s at) (sym (checked-none h))
-took s at h (x ∷ c) e = rw (one-or-more x c) (ap (λ (l : List ℕ). with_check s at (check_after (new_check h) l)) (take-all (announced_length h.size) (x ∷ c) e))
+took s at h (x ∷ c) e = rw (one-or-more x c) (ap (λ (l : List ℕ). with_check s at (value_check_after (new_value_check h) l)) (take-all (announced_length h.size) (x ∷ c) e))
 
 -- what is found at their end
-ended : (rules : Rules) (h : HeaderValue) (c : List ℕ) → length c ≡ announced_length h.size → contents_findings_in rules (check_after (new_check h) c) ≡ contents_findings rules h c
+ended : (rules : Rules) (h : HeaderValue) (c : List ℕ) → length c ≡ announced_length h.size → contents_findings_in rules (value_check_after (new_value_check h) c) ≡ contents_findings rules h c
 ended rules h c e =
     let none : (announced_length h.size - length c == 0) ≡ true = grind (arith, nat_tests) in
-    ap (λ (b : Bool). if b then filter (shows rules) (findings_in (check_after (new_check h) c)) else []) none ∙ ap (filter (shows rules)) (findings-end h c e)
+    ap (λ (b : Bool). if b then filter (is_shown rules) (findings_in (value_check_after (new_value_check h) c)) else []) none ∙ ap (filter (is_shown rules)) (findings-end h c e)
 
 -- ---- items
 
@@ -90,7 +90,7 @@ pub primitive-found : (s : FinderState) (h : HeaderValue) (c : List ℕ) → len
     → (u : FinderState) × (u.value ≡ None) × (finder_end_step (finder_bytes_step (finder_begin_step s h).state c) ≡ record { state = u; level = length s.outer; at = h.offset; found = contents_findings s.rules h c })
 primitive-found s h c e =
     let n = count_up s.count (length (header_findings_in s.rules s.frame h)) in
-    let t : CheckState = check_after (new_check h) c in
+    let t : ValueCheckState = value_check_after (new_value_check h) c in
     let site_after : List Finding → FinderState = λ fs. record { rules = s.rules; frame = frame_after s.frame true (announced_length h.size) (has_unused_bits t); outer = s.outer; value = None; count = count_up n (length fs) } in (
       site_after (contents_findings s.rules h c),
       refl,
@@ -148,7 +148,7 @@ module _ (rules : Rules) where
   -- ---- a primitive
 
   abbrev pub after_primitive : SiblingFrame → HeaderValue → List ℕ → SiblingFrame
-  after_primitive w h c = frame_after w true (announced_length h.size) (has_unused_bits (check_after (new_check h) c))
+  after_primitive w h c = frame_after w true (announced_length h.size) (has_unused_bits (value_check_after (new_value_check h) c))
 
   abbrev pub after_contents : SiblingFrame → HeaderValue → List ℕ → ℕ → ℕ
   after_contents w h c n = count_up (later_header w h n) (length (contents_findings rules h c))
@@ -210,7 +210,7 @@ module _ (rules : Rules) where
   finds_forest p s w outer (Primitive h c rest) v k l d free =
       let size : length c ≡ announced_length h.size = sym (ap announced_length v.0.1) in
       let form : h.constructed ≡ false = not-constructed h.constructed (wraps h) v.0.0.header.form in
-      let u : Bool = has_unused_bits (check_after (new_check h) c) in
+      let u : Bool = has_unused_bits (value_check_after (new_value_check h) c) in
       let known : Knows (after_primitive w h c) (site_after s h c) =
       subst (λ (b : Bool). Knows (frame_after w b (announced_length h.size) u) (site_after s h c)) (ap not form) (knows-after w s (site_after s h c) h (first_octet c) u k refl refl (unused-of h c form)) in
       let r = finds_forest (place_after p (length (octets_of h) + length c)) (site_after s h c) (after_primitive w h c) outer rest v.1 known l d free in

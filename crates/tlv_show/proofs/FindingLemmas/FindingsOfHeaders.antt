@@ -7,18 +7,18 @@ use Rattle.tlv_value.specs.declared.finding.Finding.{Finding}
 use Rattle.tlv_value.specs.Checks.{findings_by}
 use Rattle.tlv_show.specs.declared.rules.Rules.{Rules}
 use Rattle.tlv_show.specs.Conditions.{header_conditions}
-use Rattle.tlv_show.specs.Found.{header_findings, shows}
+use Rattle.tlv_show.specs.Found.{header_findings, is_shown}
 use Rattle.tlv_show.specs.Site.{Site}
 
 -- one of the conditions holds whose findings are shown and pass the test
 abbrev pub any_of : (Finding → Bool) → Rules → List (Bool × Finding) → Bool
 any_of test rules [] = false
-any_of test rules (row ∷ rows) = (if shows rules row.1 && test row.1 then row.0 else false) || any_of test rules rows
+any_of test rules (row ∷ rows) = (if is_shown rules row.1 && test row.1 then row.0 else false) || any_of test rules rows
 
 -- one condition, and the findings of others
-one-found : (test : Finding → Bool) (rules : Rules) (there shown asked : Bool) (f : Finding) (fs : List Finding) → shows rules f ≡ shown → test f ≡ asked
-    → list_any test (filter (shows rules) ((if there then f ∷ [] else []) ++ fs))
-    ≡ ((if shown && asked then there else false) || list_any test (filter (shows rules) fs))
+one-found : (test : Finding → Bool) (rules : Rules) (there shown asked : Bool) (f : Finding) (fs : List Finding) → is_shown rules f ≡ shown → test f ≡ asked
+    → list_any test (filter (is_shown rules) ((if there then f ∷ [] else []) ++ fs))
+    ≡ ((if shown && asked then there else false) || list_any test (filter (is_shown rules) fs))
 one-found test rules false true true f fs s t = refl
 one-found test rules false true false f fs s t = refl
 one-found test rules false false asked f fs s t = refl
@@ -27,11 +27,11 @@ one-found test rules true true false f fs s t = rw (s, t) refl
 one-found test rules true false asked f fs s t = rw s refl
 
 pub all-found : (test : Finding → Bool) (rules : Rules) (rows : List (Bool × Finding))
-    → list_any test (filter (shows rules) (findings_by rows)) ≡ any_of test rules rows
+    → list_any test (filter (is_shown rules) (findings_by rows)) ≡ any_of test rules rows
 all-found test rules [] = refl
 all-found test rules (row ∷ rows) =
-    one-found test rules row.0 (shows rules row.1) (test row.1) row.1 (findings_by rows) refl refl
-    ∙ ap (λ (b : Bool). (if shows rules row.1 && test row.1 then row.0 else false) || b) (all-found test rules rows)
+    one-found test rules row.0 (is_shown rules row.1) (test row.1) row.1 (findings_by rows) refl refl
+    ∙ ap (λ (b : Bool). (if is_shown rules row.1 && test row.1 then row.0 else false) || b) (all-found test rules rows)
 
 pub found-with_header : (test : Finding → Bool) (rules : Rules) (s : Site) (h : HeaderValue)
     → list_any test (header_findings rules s h) ≡ any_of test rules (header_conditions s h)

@@ -10,13 +10,13 @@ use Rattle.tlv_value.specs.declared.finding.Finding.TheVariants.{B01, B02, B03, 
 use Rattle.tlv_value.specs.Checks.{findings_by}
 use Rattle.tlv_value.specs.CheckNotes.{finding_if}
 use Rattle.tlv_value.specs.Types.{bit_string, constructed_types, has_segments, is_a, is_one_of, is_primitive, is_string, is_unassigned, octet_string, primitive_types}
-use Rattle.tlv_show.specs.declared.frames.SiblingFrame.{SiblingFrame}
+use Rattle.tlv_show.specs.declared.sibling_frame.SiblingFrame.{SiblingFrame}
 use Rattle.tlv_show.specs.declared.rules.Rules.{Rules}
 use Rattle.tlv_show.specs.declared.rules.Rules.TheVariants.{Ber, Der, Cer}
 use Rattle.tlv_show.specs.Conditions.{first_length, has_high_form, has_long_form, follows_unused_bits, header_conditions, is_not_full, leading_bits}
 use Rattle.tlv_show.proofs.FindingLemmas.SegmentType.{segment_type}
 use Rattle.tlv_show.specs.FinderState.{end_findings_in, header_findings_in}
-use Rattle.tlv_show.specs.Found.{header_findings, shows}
+use Rattle.tlv_show.specs.Found.{header_findings, is_shown}
 use Rattle.tlv_show.specs.Site.{Site, in_bit_string, in_string}
 use Rattle.tlv_show.proofs.FindingLemmas.SiteWords.{is_held_by}
 
@@ -30,26 +30,26 @@ pub record Knows (w : SiblingFrame) (s : Site) : Type 0 where
 -- ---- findings that rules show, one after another
 
 abbrev pub one_shown : Rules → Bool × Finding → List Finding
-one_shown rules row = if shows rules row.1 then finding_if row.0 row.1 else []
+one_shown rules row = if is_shown rules row.1 then finding_if row.0 row.1 else []
 
 abbrev pub shown : Rules → List (Bool × Finding) → List Finding
 shown rules [] = []
 shown rules (row ∷ rows) = one_shown rules row ++ shown rules rows
 
-shown-or-not : (there shows : Bool) (f : Finding) (rest : List Finding) → (if shows then f ∷ rest else rest) ≡ (if shows then f ∷ [] else []) ++ rest
+shown-or-not : (there is_shown : Bool) (f : Finding) (rest : List Finding) → (if is_shown then f ∷ rest else rest) ≡ (if is_shown then f ∷ [] else []) ++ rest
 shown-or-not there true f rest = refl
 shown-or-not there false f rest = refl
 
-nothing-shown : (shows : Bool) (rest : List Finding) → rest ≡ (if shows then [] else []) ++ rest
+nothing-shown : (is_shown : Bool) (rest : List Finding) → rest ≡ (if is_shown then [] else []) ++ rest
 nothing-shown true rest = refl
 nothing-shown false rest = refl
 
 filter-one : (rules : Rules) (there : Bool) (f : Finding) (rest : List Finding)
-    → filter (shows rules) (finding_if there f ++ rest) ≡ (if shows rules f then finding_if there f else []) ++ filter (shows rules) rest
-filter-one rules true f rest = shown-or-not true (shows rules f) f (filter (shows rules) rest)
-filter-one rules false f rest = nothing-shown (shows rules f) (filter (shows rules) rest)
+    → filter (is_shown rules) (finding_if there f ++ rest) ≡ (if is_shown rules f then finding_if there f else []) ++ filter (is_shown rules) rest
+filter-one rules true f rest = shown-or-not true (is_shown rules f) f (filter (is_shown rules) rest)
+filter-one rules false f rest = nothing-shown (is_shown rules f) (filter (is_shown rules) rest)
 
-pub filter-held : (rules : Rules) (rows : List (Bool × Finding)) → filter (shows rules) (findings_by rows) ≡ shown rules rows
+pub filter-held : (rules : Rules) (rows : List (Bool × Finding)) → filter (is_shown rules) (findings_by rows) ≡ shown rules rows
 filter-held rules [] = refl
 filter-held rules (row ∷ rows) = filter-one rules row.0 row.1 (findings_by rows) ∙ ap (λ (l : List Finding). one_shown rules row ++ l) (filter-held rules rows)
 

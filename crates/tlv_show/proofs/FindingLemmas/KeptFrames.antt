@@ -3,8 +3,8 @@ use Rattle.std.proofs.Common.{zero, suc, ◌≡◌, ℕ, ◌+◌, ◌-◌, ◌<�
 use Rattle.std.proofs.lemmas.Bool.Decides.{nat_tests}
 use Rattle.tlv_head.specs.Header.{HeaderValue}
 use Rattle.tlv_value.specs.Types.{has_segments}
-use Rattle.tlv_show.specs.declared.frames.SiblingFrame.{SiblingFrame}
-use Rattle.tlv_show.specs.declared.frames.KeptFrame.{KeptFrame}
+use Rattle.tlv_show.specs.declared.sibling_frame.SiblingFrame.{SiblingFrame}
+use Rattle.tlv_show.specs.declared.sibling_frame.KeptFrame.{KeptFrame}
 use Rattle.tlv_show.specs.declared.rules.Rules.{Rules}
 use Rattle.tlv_show.specs.declared.rules.Rules.TheVariants.{Ber, Der, Cer}
 use Rattle.tlv_show.specs.FinderState.{frame_after, frame_after_segment, frame_of, frame_under, header_findings_in, top_frame}

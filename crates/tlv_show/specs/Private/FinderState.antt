@@ -1,12 +1,12 @@
 -- What a `Finder` makes of an event, and what it returns.
 use Rattle.std.specs.Prelude.{ℕ, ◌≡◌, Bool, true, false, if◌then◌else◌, List, [], Option, Some, None}
 use Rattle.tlv_head.specs.Header.{HeaderValue}
-use Rattle.tlv_value.specs.CheckState.{CheckState}
+use Rattle.tlv_value.specs.ValueCheckState.{ValueCheckState}
 use Rattle.tlv_walk.specs.Events.{Begin, Bytes, Close, End, Enter, EventValue, Leave, Open, Pad, Unused}
 use Rattle.tlv_show.specs.FinderState.{OpenValue, FinderState, FinderValue, without_findings, finder_open_step, finder_begin_step, finder_bytes_step, finder_end_step, finder_close_step}
 
 -- the primitive that begins at `at`, if one is open
-abbrev pub open_by : Bool → ℕ → CheckState → Option OpenValue
+abbrev pub open_by : Bool → ℕ → ValueCheckState → Option OpenValue
 open_by is_open at check = if is_open then Some (record { at = at; check = check }) else None
 
 -- the state alone changes

@@ -1,11 +1,11 @@
 -- What is made of a value that is open.
 use Rattle.std.specs.Prelude.{ℕ, if◌then◌else◌, Bool, List, length, Option, Some, None}
 use Rattle.tlv_head.specs.Header.{HeaderValue}
-use Rattle.tlv_value.specs.TextState.{TextState}
+use Rattle.tlv_value.specs.ValueTextState.{ValueTextState}
 use Rattle.tlv_show.specs.LinesStep.{LinesState, offset_after, past_header}
 
 -- a primitive, if it is open
-abbrev pub if_open : Bool → TextState → Option TextState
+abbrev pub if_open : Bool → ValueTextState → Option ValueTextState
 if_open is_open value = if is_open then Some value else None
 
 -- after a primitive with these contents

@@ -1,8 +1,8 @@
 -- The frames that are kept of the elements that are open, and all those that they stand for.
 use Rattle.std.specs.Prelude.{ℕ, zero, suc, ◌≡◌, ◌-◌, ◌<◌, ⊤, nat_lt, if◌then◌else◌, false, List, [], ◌∷◌, length, Option, Some, None}
 use Rattle.tlv_head.specs.Header.{HeaderValue}
-use Rattle.tlv_show.specs.declared.frames.SiblingFrame.{SiblingFrame}
-use Rattle.tlv_show.specs.declared.frames.KeptFrame.{KeptFrame}
+use Rattle.tlv_show.specs.declared.sibling_frame.SiblingFrame.{SiblingFrame}
+use Rattle.tlv_show.specs.declared.sibling_frame.KeptFrame.{KeptFrame}
 use Rattle.tlv_show.specs.FinderState.{frame_after, frame_under, top_frame}
 
 -- ---- All frames

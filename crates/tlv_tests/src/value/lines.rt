@@ -3,7 +3,7 @@ use super::{OneName, PLAIN};
 use crate::expect::{expect, expect_eq};
 use tlv_head::{Class, Header, read_header};
 use tlv_value::{Layout, ValueText, begin_blank, begin_word, put_whole, write_tag};
-use tlv_walk::{Held, MemDrain, Out};
+use tlv_walk::{HeldOctets, MemDrain, Out};
 
 /// The header with which these octets begin, at this offset.
 fn header_at(offset: u64, octets: &[u8]) -> Option<Header> {
@@ -66,7 +66,7 @@ fn a_primitive_is_written_in_pieces_and_at_once(rt: HostRuntime) {
 #[test]
 fn lines_are_made(rt: HostRuntime) {
     let layout = Layout { level: 1, ..PLAIN };
-    let mut held = Held::new();
+    let mut held = HeldOctets::new();
     expect(&rt, held.as_slice().is_empty(), "nothing is held at first");
     begin_word(&mut held, layout, 11, b"   end");
     held.add(b"}\n");

@@ -97,7 +97,7 @@ fn header_line(word: &[u8], header: &Header) -> ArrayVec<u8, 512>
 }
 
 /// The line of the end of a constructed element.
-fn close_line(at: Option<u64>) -> ArrayVec<u8, 11>
+fn closing_line(at: Option<u64>) -> ArrayVec<u8, 11>
     ensures { result.items ≡ test_close_line at }
 {
     let mut line = ArrayVec::new();
@@ -171,7 +171,7 @@ impl Follow for Lines {
             Event::Unused => out.put(b"unused\n")?,
             Event::End => return self.end(b" end\n", out),
             Event::Leave => return self.end(b"leave\n", out),
-            Event::Close(at) => return self.end(close_line(*at).as_slice(), out),
+            Event::Close(at) => return self.end(closing_line(*at).as_slice(), out),
         }
         Ok(Go::On)
     }

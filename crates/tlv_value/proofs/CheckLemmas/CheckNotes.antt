@@ -10,10 +10,10 @@ use Rattle.tlv_head.specs.declared.header.Size.TheVariants.{Definite}
 use Rattle.tlv_head.specs.Header.{HeaderValue}
 use Rattle.tlv_value.specs.declared.finding.Finding.{Finding}
 use Rattle.tlv_value.specs.declared.finding.Finding.TheVariants.{B06, B07, B08, B09, B10, B11, B12, B13, B14, B15, B18, B19, S02, S03, S04}
-use Rattle.tlv_value.specs.Checks.{allows, allows_octet, contents_conditions, findings_by, findings_on_contents, first, is_padded_integer, last_octet_of}
+use Rattle.tlv_value.specs.Checks.{allows, allows_octet, contents_conditions, findings_by, findings_on_contents, first, is_padded_integer, last_octet}
 use Rattle.tlv_value.proofs.CheckLemmas.CheckWords.{allows_both, is_padded_object}
 use Rattle.tlv_value.specs.CheckNotes.{Notes, finding_if, time_findings, universal_findings}
-use Rattle.tlv_value.specs.CheckState.{all_utf8, is_allowed_in, new_check_of, notes_each, notes_in, type_number, with_each, with_notes}
+use Rattle.tlv_value.specs.ValueCheckState.{all_utf8, is_allowed_in, new_check_of, notes_each, notes_in, type_number, with_each, with_notes}
 use Rattle.tlv_value.specs.Rows.{full_rows, open_row}
 use Rattle.tlv_value.specs.declared.kind.Kind.TheVariants.{Utf8}
 use Rattle.std.specs.Str.{is_utf8}
@@ -82,7 +82,7 @@ bits-same c =
     let a : List Finding = finding_if (length c == 0) B13 in
     let b : ℕ → List Finding = λ x. finding_if (nat_lt 7 x) B14 in
     let d : ℕ → List Finding = λ x. finding_if (length c == 1 && nat_le 1 x && nat_le x 7) B15 in
-    let e : ℕ → List Finding = λ x. finding_if (nat_le 2 (length c) && nat_le x 7 && not (last_octet_of 0 c % 2 ^ x == 0)) S03 in
+    let e : ℕ → List Finding = λ x. finding_if (nat_le 2 (length c) && nat_le x 7 && not (last_octet 0 c % 2 ^ x == 0)) S03 in
     let x : ℕ = first c in
     four a (b x) (d x) (e x)
     ∙ ap (λ (y : ℕ). ((a ++ b y) ++ d y) ++ e y) (first-noted c)
@@ -96,13 +96,13 @@ object-same : (c : List ℕ) → on 6 c ≡ universal_findings 6 (noted 6 c)
 object-same c =
     let a : List Finding = finding_if (length c == 0) B10 in
     let b : List Finding = finding_if (is_padded_object c) B11 in
-    let d : List Finding = finding_if (nat_le 128 (last_octet_of 0 c)) B12 in
+    let d : List Finding = finding_if (nat_le 128 (last_octet 0 c)) B12 in
     ap (λ (l : List Finding). a ++ (b ++ l)) (append-nil d)
 
 relative-same : (c : List ℕ) → on 13 c ≡ universal_findings 13 (noted 13 c)
 relative-same c =
     let b : List Finding = finding_if (is_padded_object c) B11 in
-    let d : List Finding = finding_if (nat_le 128 (last_octet_of 0 c)) B12 in
+    let d : List Finding = finding_if (nat_le 128 (last_octet 0 c)) B12 in
     ap (λ (l : List Finding). b ++ l) (append-nil d)
 
 tests : (a b : Bool) → finding_if (not a) B19 ++ (finding_if (a && not b) S04 ++ []) ≡ time_findings a b

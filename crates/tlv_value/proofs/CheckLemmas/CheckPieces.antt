@@ -7,14 +7,14 @@ use Rattle.std.specs.Str.{is_utf8}
 use Rattle.tlv_head.specs.Header.{HeaderValue, announced_length}
 use Rattle.tlv_value.specs.declared.kind.Kind.TheVariants.{Utf8}
 use Rattle.tlv_value.specs.CheckLaws.{ChecksJoin, FindingsEnd}
-use Rattle.tlv_value.specs.CheckState.{CheckState, all_utf8, check_after, new_check, new_check_of, notes_each, notes_front, notes_in, notes_time, type_number, with_each, with_front, with_notes, with_time}
-use Rattle.tlv_value.specs.Checks.{allows_octet, is_padded_after, last_octet_of}
+use Rattle.tlv_value.specs.ValueCheckState.{ValueCheckState, all_utf8, value_check_after, new_value_check, new_check_of, notes_each, notes_front, notes_in, notes_time, type_number, with_each, with_front, with_notes, with_time}
+use Rattle.tlv_value.specs.Checks.{allows_octet, is_padded_after, last_octet}
 use Rattle.tlv_value.specs.CheckNotes.{is_object, universal_findings}
 use Rattle.tlv_value.specs.Rows.{full_rows, open_row}
 use Rattle.tlv_value.proofs.CheckLemmas.CheckNotes.{noted-same}
 use Rattle.tlv_value.proofs.RowLemmas.OneCut.{rows-join}
 
-last-join : (before : ℕ) (x y : List ℕ) → last_octet_of (last_octet_of before x) y ≡ last_octet_of before (x ++ y)
+last-join : (before : ℕ) (x y : List ℕ) → last_octet (last_octet before x) y ≡ last_octet before (x ++ y)
 last-join before [] y = refl
 last-join before (z ∷ x) y = last-join z x y
 
@@ -26,10 +26,10 @@ or-assoc : (a b c : Bool) → ((a || b) || c) ≡ (a || (b || c))
 or-assoc true b c = refl
 or-assoc false b c = refl
 
-padded-join : (before : ℕ) (x y : List ℕ) → (is_padded_after before x || is_padded_after (last_octet_of before x) y) ≡ is_padded_after before (x ++ y)
+padded-join : (before : ℕ) (x y : List ℕ) → (is_padded_after before x || is_padded_after (last_octet before x) y) ≡ is_padded_after before (x ++ y)
 padded-join before [] y = refl
 padded-join before (z ∷ x) y =
-    or-assoc (nat_lt before 128 && eqb z 128) (is_padded_after z x) (is_padded_after (last_octet_of z x) y) ∙ ap (λ (b : Bool). (nat_lt before 128 && eqb z 128) || b) (padded-join z x y)
+    or-assoc (nat_lt before 128 && eqb z 128) (is_padded_after z x) (is_padded_after (last_octet z x) y) ∙ ap (λ (b : Bool). (nat_lt before 128 && eqb z 128) || b) (padded-join z x y)
 
 utf8-join : (rows more : List (List ℕ)) → (all_utf8 rows && all_utf8 more) ≡ all_utf8 (rows ++ more)
 utf8-join [] more = refl
@@ -44,10 +44,10 @@ take-join : (n : ℕ) (front x y : List ℕ) → take n (take n (front ++ x) ++ 
 take-join n front x y = take-twice n (front ++ x) y ∙ ap (take n) (append_assoc front x y)
 
 padded-at : (b padded : Bool) (before : ℕ) (x y : List ℕ)
-    → (if b then (if b then padded || is_padded_after before x else padded) || is_padded_after (last_octet_of before x) y else (if b then padded || is_padded_after before x else padded))
+    → (if b then (if b then padded || is_padded_after before x else padded) || is_padded_after (last_octet before x) y else (if b then padded || is_padded_after before x else padded))
     ≡ (if b then padded || is_padded_after before (x ++ y) else padded)
 padded-at true padded before x y =
-    or-assoc padded (is_padded_after before x) (is_padded_after (last_octet_of before x) y) ∙ ap (λ (b : Bool). padded || b) (padded-join before x y)
+    or-assoc padded (is_padded_after before x) (is_padded_after (last_octet before x) y) ∙ ap (λ (b : Bool). padded || b) (padded-join before x y)
 padded-at false padded before x y = refl
 
 formed-at : (b formed : Bool) (row x y : List ℕ)
@@ -62,7 +62,7 @@ row-at : (b : Bool) (row x y : List ℕ) → (if b then open_row Utf8 (if b then
 row-at true row x y = sym (rows-join Utf8 row x y).1
 row-at false row x y = refl
 
-abbrev built : CheckState → ℕ → List ℕ → ℕ → Bool → Bool → Bool → List ℕ → List ℕ → CheckState
+abbrev built : ValueCheckState → ℕ → List ℕ → ℕ → Bool → Bool → Bool → List ℕ → List ℕ → ValueCheckState
 built s left front last allowed padded formed row time = record {
   number = s.number;
   size = s.size;
@@ -76,29 +76,29 @@ built s left front last allowed padded formed row time = record {
   time = time;
 }
 
-built-eq : (s : CheckState) (l l' : ℕ) (f f' : List ℕ) (t t' : ℕ) (a a' p p' m m' : Bool) (r r' i i' : List ℕ) → l ≡ l' → f ≡ f' → t ≡ t' → a ≡ a' → p ≡ p' → m ≡ m' → r ≡ r' → i ≡ i' → built s l f t a p m r i ≡ built s l' f' t' a' p' m' r' i'
+built-eq : (s : ValueCheckState) (l l' : ℕ) (f f' : List ℕ) (t t' : ℕ) (a a' p p' m m' : Bool) (r r' i i' : List ℕ) → l ≡ l' → f ≡ f' → t ≡ t' → a ≡ a' → p ≡ p' → m ≡ m' → r ≡ r' → i ≡ i' → built s l f t a p m r i ≡ built s l' f' t' a' p' m' r' i'
 built-eq s l l' f f' t t' a a' p p' m m' r r' i i' e1 e2 e3 e4 e5 e6 e7 e8 = rw (e1, e2, e3, e4, e5, e6, e7, e8) refl
 
 -- what is noted, by what the type asks for
-abbrev noted_by : Bool → Bool → Bool → CheckState → List ℕ → CheckState
+abbrev noted_by : Bool → Bool → Bool → ValueCheckState → List ℕ → ValueCheckState
 noted_by front each time s octets =
     if front then with_front s octets
     else if each then with_each s octets
     else if time then with_time s octets
     else s
 
-abbrev by_kind : Bool → Bool → Bool → CheckState → List ℕ → CheckState
+abbrev by_kind : Bool → Bool → Bool → ValueCheckState → List ℕ → ValueCheckState
 by_kind f e t s octets = record (noted_by f e t s octets) { number = s.number; size = s.size; left = s.left - length octets }
 
-join-by : (f e t : Bool) (s : CheckState) (x y : List ℕ) → by_kind f e t (by_kind f e t s x) y ≡ by_kind f e t s (x ++ y)
+join-by : (f e t : Bool) (s : ValueCheckState) (x y : List ℕ) → by_kind f e t (by_kind f e t s x) y ≡ by_kind f e t s (x ++ y)
 join-by true e t s x y =
     let l : s.left - length x - length y ≡ s.left - length (x ++ y) = omega (arith, length-append x y) in
-    built-eq s (s.left - length x - length y) (s.left - length (x ++ y)) (take 2 (take 2 (s.front ++ x) ++ y)) (take 2 (s.front ++ (x ++ y))) (last_octet_of (last_octet_of s.last x) y) (last_octet_of s.last (x ++ y))
+    built-eq s (s.left - length x - length y) (s.left - length (x ++ y)) (take 2 (take 2 (s.front ++ x) ++ y)) (take 2 (s.front ++ (x ++ y))) (last_octet (last_octet s.last x) y) (last_octet s.last (x ++ y))
     s.allowed s.allowed s.padded s.padded s.formed s.formed s.row s.row s.time s.time
     l (take-join 2 s.front x y) (last-join s.last x y) refl refl refl refl refl
 join-by false true t s x y =
     let l : s.left - length x - length y ≡ s.left - length (x ++ y) = omega (arith, length-append x y) in
-    built-eq s (s.left - length x - length y) (s.left - length (x ++ y)) s.front s.front (last_octet_of (last_octet_of s.last x) y) (last_octet_of s.last (x ++ y))
+    built-eq s (s.left - length x - length y) (s.left - length (x ++ y)) s.front s.front (last_octet (last_octet s.last x) y) (last_octet s.last (x ++ y))
     (with_each (with_each s x) y).allowed (with_each s (x ++ y)).allowed (with_each (with_each s x) y).padded (with_each s (x ++ y)).padded (with_each (with_each s x) y).formed (with_each s (x ++ y)).formed
     (with_each (with_each s x) y).row (with_each s (x ++ y)).row s.time s.time
     l refl (last-join s.last x y)
@@ -118,7 +118,7 @@ checks-join s x y = join-by (notes_front s.number) (notes_each s.number) (notes_
 
 -- what is noted at the end
 
-noted-left : (f e t : Bool) (s : CheckState) (c : List ℕ) → notes_in (by_kind f e t s c) ≡ notes_in (noted_by f e t s c)
+noted-left : (f e t : Bool) (s : ValueCheckState) (c : List ℕ) → notes_in (by_kind f e t s c) ≡ notes_in (noted_by f e t s c)
 noted-left true e t s c = refl
 noted-left false true t s c = refl
 noted-left false false true s c = refl
@@ -128,7 +128,7 @@ pub findings-end : FindingsEnd
 findings-end h octets e =
     let n = type_number h in
     ap (universal_findings n)
-    (noted-left (notes_front n) (notes_each n) (notes_time n) (new_check h) octets
+    (noted-left (notes_front n) (notes_each n) (notes_time n) (new_value_check h) octets
     ∙ ap (λ (z : ℕ). notes_in (with_notes (new_check_of n z) octets)) (sym e))
     ∙ sym (noted-same h octets)
 
@@ -145,7 +145,7 @@ none-by false true t n size =
 none-by false false true n size = ap (λ (l : ℕ). record (new_check_of n size) { left = l }) (omega arith)
 none-by false false false n size = ap (λ (l : ℕ). record (new_check_of n size) { left = l }) (omega arith)
 
-pub checked-none : (h : HeaderValue) → check_after (new_check h) [] ≡ new_check h
+pub checked-none : (h : HeaderValue) → value_check_after (new_value_check h) [] ≡ new_value_check h
 checked-none h =
     let n = type_number h in
     none-by (notes_front n) (notes_each n) (notes_time n) n (announced_length h.size)

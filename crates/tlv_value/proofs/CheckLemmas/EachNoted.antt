@@ -4,8 +4,8 @@ use Rattle.std.specs.List.{list_all}
 use Rattle.std.specs.Prelude.{◌&&◌, ◌||◌, eqb}
 use Rattle.std.proofs.lemmas.Bool.Decides.{nat_tests}
 use Rattle.tlv_value.specs.CheckNotes.{is_object}
-use Rattle.tlv_value.specs.CheckState.{CheckState, all_utf8, notes_each, with_each}
-use Rattle.tlv_value.specs.Checks.{allows_octet, is_padded_after, last_octet_of}
+use Rattle.tlv_value.specs.ValueCheckState.{ValueCheckState, all_utf8, notes_each, with_each}
+use Rattle.tlv_value.specs.Checks.{allows_octet, is_padded_after, last_octet}
 use Rattle.tlv_value.specs.declared.kind.Kind.TheVariants.{Utf8}
 use Rattle.tlv_value.specs.Rows.{full_rows, open_row}
 use Rattle.tlv_value.proofs.CheckLemmas.Noting.{all-other}
@@ -14,7 +14,7 @@ and-true : (k : Bool) → (k && true) ≡ k
 and-true true = refl
 and-true false = refl
 
-pub nothing-noted : (s : CheckState) (octets : List ℕ) → notes_each s.number ≡ false → record (with_each s octets) { last = s.last } ≡ s
+pub nothing-noted : (s : ValueCheckState) (octets : List ℕ) → notes_each s.number ≡ false → record (with_each s octets) { last = s.last } ≡ s
 nothing-noted s octets none =
     let all : list_all (allows_octet s.number) octets ≡ true =
     all-other s.number octets (λ e. grind (arith, nat_tests, e, none)) (λ e. grind (arith, nat_tests, e, none)) (λ e. grind (arith, nat_tests, e, none)) (λ e. grind (arith, nat_tests, e, none)) in
@@ -23,8 +23,8 @@ nothing-noted s octets none =
     rw (all, object, text, and-true s.allowed) refl
 
 -- an object identifier
-pub object-noted : (s : CheckState) (octets : List ℕ) → is_object s.number ≡ true
-    → record s { padded = s.padded || is_padded_after s.last octets; last = last_octet_of s.last octets } ≡ with_each s octets
+pub object-noted : (s : ValueCheckState) (octets : List ℕ) → is_object s.number ≡ true
+    → record s { padded = s.padded || is_padded_after s.last octets; last = last_octet s.last octets } ≡ with_each s octets
 object-noted s octets object =
     let all : list_all (allows_octet s.number) octets ≡ true =
     all-other s.number octets (λ e. grind (arith, nat_tests, e, object)) (λ e. grind (arith, nat_tests, e, object)) (λ e. grind (arith, nat_tests, e, object)) (λ e. grind (arith, nat_tests, e, object)) in
@@ -32,8 +32,8 @@ object-noted s octets object =
     rw (all, object, text, and-true s.allowed) refl
 
 -- a UTF8String
-pub text-noted : (s : CheckState) (octets : List ℕ) → s.number ≡ 12
-    → record s { formed = s.formed && all_utf8 (full_rows Utf8 s.row octets); row = open_row Utf8 s.row octets; last = last_octet_of s.last octets } ≡ with_each s octets
+pub text-noted : (s : ValueCheckState) (octets : List ℕ) → s.number ≡ 12
+    → record s { formed = s.formed && all_utf8 (full_rows Utf8 s.row octets); row = open_row Utf8 s.row octets; last = last_octet s.last octets } ≡ with_each s octets
 text-noted s octets is_text =
     let all : list_all (allows_octet s.number) octets ≡ true =
     all-other s.number octets (λ e. grind (arith, nat_tests, e, is_text)) (λ e. grind (arith, nat_tests, e, is_text)) (λ e. grind (arith, nat_tests, e, is_text)) (λ e. grind (arith, nat_tests, e, is_text)) in
@@ -42,6 +42,6 @@ text-noted s octets is_text =
     rw (all, object, text, and-true s.allowed) refl
 
 -- a string with a test of each octet
-pub characters-noted : (s : CheckState) (octets : List ℕ) → is_object s.number ≡ false → eqb s.number 12 ≡ false
-    → record s { allowed = s.allowed && list_all (allows_octet s.number) octets; last = last_octet_of s.last octets } ≡ with_each s octets
+pub characters-noted : (s : ValueCheckState) (octets : List ℕ) → is_object s.number ≡ false → eqb s.number 12 ≡ false
+    → record s { allowed = s.allowed && list_all (allows_octet s.number) octets; last = last_octet s.last octets } ≡ with_each s octets
 characters-noted s octets object text = rw (object, text) refl

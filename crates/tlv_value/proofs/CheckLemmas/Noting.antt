@@ -6,8 +6,8 @@ use Rattle.std.proofs.lemmas.Bool.Decides.{nat_tests}
 use Rattle.std.proofs.Math.Seq.{take-append-add}
 use Rattle.std.proofs.lemmas.List.{drop_more, take_min}
 use Rattle.std.specs.Str.{is_utf8}
-use Rattle.tlv_value.specs.CheckState.{all_utf8}
-use Rattle.tlv_value.specs.Checks.{allows_octet, is_padded_after, last_octet_of}
+use Rattle.tlv_value.specs.ValueCheckState.{all_utf8}
+use Rattle.tlv_value.specs.Checks.{allows_octet, is_padded_after, last_octet}
 
 allows-other : (number x : ℕ) → (number ≡ 18 → ⊥) → (number ≡ 19 → ⊥) → (number ≡ 22 → ⊥) → (number ≡ 26 → ⊥) → allows_octet number x ≡ true
 allows-other number x a b c d =
@@ -36,11 +36,11 @@ all-next all next test xs i h e k =
     ∙ ap (λ (l : List ℕ). all && list_all test l) (sym (drop_more xs i 0 h)) ∙ k
 
 -- the last octet
-pub last-at : (before x : ℕ) (xs : List ℕ) → last_octet_of before (x ∷ xs) ≡ get_or (x ∷ xs) (length xs) 0
+pub last-at : (before x : ℕ) (xs : List ℕ) → last_octet before (x ∷ xs) ≡ get_or (x ∷ xs) (length xs) 0
 last-at before x [] = refl
 last-at before x (y ∷ xs) = last-at x y xs
 
-pub last-some : (before : ℕ) (xs : List ℕ) → 1 ≤ length xs → get_or xs (length xs - 1) 0 ≡ last_octet_of before xs
+pub last-some : (before : ℕ) (xs : List ℕ) → 1 ≤ length xs → get_or xs (length xs - 1) 0 ≡ last_octet before xs
 last-some before [] h = absurd (omega arith)
 last-some before (x ∷ xs) h =
     let e : length (x ∷ xs) - 1 ≡ length xs = omega arith in

@@ -14,7 +14,7 @@ use Rattle.tlv_value.specs.Private.ObjectLines.{object_lines, rest_of_lines}
 use Rattle.tlv_value.specs.Private.PrimitiveLines.{front_of, primitive_line, primitive_lines}
 use Rattle.tlv_value.specs.declared.primitive.Primitive.{Primitive}
 use Rattle.tlv_value.specs.Rows.{full_rows}
-use Rattle.tlv_value.specs.TextState.{RowsState, TextState, contents_lines, end_lines, line_in, row_lines}
+use Rattle.tlv_value.specs.ValueTextState.{RowsState, ValueTextState, contents_lines, end_lines, line_in, row_lines}
 use Rattle.tlv_value.specs.KindValues.{bits_value, boolean_value, integer_value, kind_value, long_text, row_octets}
 use Rattle.tlv_value.specs.Private.KindValues.{plain_text}
 use Rattle.tlv_value.specs.Value.{NameOf, Value, bit_count, is_long, is_readable, most_on_line, no_names, octets_value, row_text, used_digits, value_on_line}
@@ -108,7 +108,7 @@ pub shown-plain : (name_of : NameOf) (p : Primitive) (octets : List ℕ) → (p.
     → front_of p ++ (plain_text p.kind octets ++ 10 ∷ []) ≡ primitive_lines name_of p octets
 shown-plain name_of p octets o r h = plain_at name_of p.kind p.layout (front_of p) octets (held-plain name_of p.kind octets o r h) ∙ shown-front name_of p octets
 
-abbrev pub state_by : Primitive → ℕ → RowsState → TextState
+abbrev pub state_by : Primitive → ℕ → RowsState → ValueTextState
 state_by p left kept = record { offset = p.offset; class = p.class; number = p.number; size = p.size; layout = p.layout; left = left; kept = kept }
 
 -- with its end a primitive that is not long has all its lines
@@ -129,7 +129,7 @@ new-first_at : (kind : Kind) (wrote_line : Bool) (size : ℕ) (layout : Layout) 
     ≡ line (long_text Bits size (x ∷ [])) ++ row_lines Bits layout 0 (full_rows Bits (row_octets Bits (x ∷ [])) rest)
 new-first_at kind wrote_line size layout line x rest rows_part e u l = rw (l, u, e) refl
 
-pub new-first : (s : TextState) (x : ℕ) (rest : List ℕ) → kind_of s.class s.number ≡ Bits → s.kept.wrote_line ≡ false → is_long (kind_of s.class s.number) s.size ≡ true
+pub new-first : (s : ValueTextState) (x : ℕ) (rest : List ℕ) → kind_of s.class s.number ≡ Bits → s.kept.wrote_line ≡ false → is_long (kind_of s.class s.number) s.size ≡ true
     → contents_lines s (x ∷ rest) ≡ line_in s (long_text Bits s.size (x ∷ [])) ++ row_lines Bits s.layout 0 (full_rows Bits (row_octets Bits (x ∷ [])) rest)
 new-first s x rest e u l =
     new-first_at (kind_of s.class s.number) s.kept.wrote_line s.size s.layout (line_in s) x rest (row_lines (kind_of s.class s.number) s.layout s.kept.rows (full_rows (kind_of s.class s.number) s.kept.row (x ∷ rest))) e u l

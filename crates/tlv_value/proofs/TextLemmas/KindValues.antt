@@ -11,7 +11,7 @@ use Rattle.tlv_value.specs.Arcs.{dotted_text}
 use Rattle.tlv_value.specs.KindValues.{kind_value, long_text, object_text, row_octets}
 use Rattle.tlv_value.specs.Layout.{row_line}
 use Rattle.tlv_value.specs.Rows.{full_rows, known_rows, rows_of}
-use Rattle.tlv_value.specs.TextState.{has_line, kind_by, line_in, new_text, open_lines, row_lines, value_lines, whole_lines}
+use Rattle.tlv_value.specs.ValueTextState.{has_line, kind_by, line_in, new_value_text, open_lines, row_lines, value_lines, whole_lines}
 use Rattle.tlv_value.specs.Value.{NameOf, Value, bit_count, is_long, long_value, no_names, octets_value, row_text, short_value, value_on_line, whole_value}
 
 abbrev pub value_with : List ℕ → List (List ℕ) → Value
@@ -71,10 +71,10 @@ rows-lines kind layout i [] = refl
 rows-lines kind layout i (row ∷ rows) = ap (λ (t : List ℕ). row_line layout i (row_text kind row) ++ t) (rows-lines kind layout (i + 1) rows)
 
 abbrev pub lines_by : HeaderValue → Layout → Value → List ℕ
-lines_by h layout v = line_in (new_text h layout) v.text ++ row_lines (kind_by h) layout 0 v.rows
+lines_by h layout v = line_in (new_value_text h layout) v.text ++ row_lines (kind_by h) layout 0 v.rows
 
 value-lines : (h : HeaderValue) (layout : Layout) (v : Value) → value_lines h layout v ≡ lines_by h layout v
-value-lines h layout v = ap (λ (t : List ℕ). line_in (new_text h layout) v.text ++ t) (rows-lines (kind_by h) layout 0 v.rows)
+value-lines h layout v = ap (λ (t : List ℕ). line_in (new_value_text h layout) v.text ++ t) (rows-lines (kind_by h) layout 0 v.rows)
 
 pub whole-lines : (name_of : NameOf) (h : HeaderValue) (layout : Layout) (octets : List ℕ)
     → whole_lines name_of h layout octets ≡ lines_by h layout (whole_by_kind name_of (kind_by h) (length octets) octets)

@@ -102,9 +102,9 @@ mag-signed n (bit ∷ bits) short all =
     diff-mag (value_of 2 bits) (bit * 2 ^ length bits) (2 ^ n) (omega (arith, p, v)) (omega (arith, p, one))
 
 -- and eight bits more
-mag-wider : (n : ℕ) (bits : List ℕ) → length bits ≤ n + 1 → All (λ b. b < 2) bits → mag (signed_sum bits *ℤ pos 256) < 2 ^ n * 256
-mag-wider n [] short all = omega (arith, pow-pos n)
-mag-wider n (bit ∷ bits) short all =
+mag-wider_number : (n : ℕ) (bits : List ℕ) → length bits ≤ n + 1 → All (λ b. b < 2) bits → mag (signed_sum bits *ℤ pos 256) < 2 ^ n * 256
+mag-wider_number n [] short all = omega (arith, pow-pos n)
+mag-wider_number n (bit ∷ bits) short all =
     let p : 2 ^ length bits ≤ 2 ^ n = pow-le-pow_right {n = 2} (omega arith) {i = length bits} {j = n} (omega arith) in
     let v : value_of 2 bits < 2 ^ length bits = value_of-lt 2 bits (omega arith) (All-tail (λ b. b < 2) bit bits all) in
     let one : bit * 2 ^ length bits ≤ 2 ^ length bits = at_most_one bit (2 ^ length bits) (All-head (λ b. b < 2) bit bits all) in
@@ -113,10 +113,10 @@ mag-wider n (bit ∷ bits) short all =
 
 -- fifteen octets leave room for one more, and seven in half as many bits
 pub twos-fits : (c : List ℕ) → length c ≤ 15 → FitsSigned w128 (twos_complement c *ℤ pos 256)
-twos-fits c short = record { sfits = mag-wider 119 (bits_of c) (omega (arith, length-bits c)) (all-bits c) }
+twos-fits c short = record { sfits = mag-wider_number 119 (bits_of c) (omega (arith, length-bits c)) (all-bits c) }
 
 pub twos-fits_64 : (c : List ℕ) → length c ≤ 7 → FitsSigned w64 (twos_complement c *ℤ pos 256)
-twos-fits_64 c short = record { sfits = mag-wider 55 (bits_of c) (omega (arith, length-bits c)) (all-bits c) }
+twos-fits_64 c short = record { sfits = mag-wider_number 55 (bits_of c) (omega (arith, length-bits c)) (all-bits c) }
 
 pub twos-fits_all : (c : List ℕ) → length c ≤ 16 → FitsSigned w128 (twos_complement c)
 twos-fits_all c short = record { sfits = mag-signed 127 (bits_of c) (omega (arith, length-bits c)) (all-bits c) }

@@ -11,7 +11,7 @@ use Rattle.tlv_value.specs.Kind.{kind_of}
 use Rattle.tlv_value.specs.Laws.{LinesBegin, LinesEnd, LinesGoOn, PiecesJoin, state_for}
 use Rattle.tlv_value.specs.Rows.{full_rows, open_row, rows_of}
 use Rattle.tlv_value.specs.Private.PrimitiveLines.{lines_in_steps, new_text_of, primitive_line, primitive_lines, primitive_of}
-use Rattle.tlv_value.specs.TextState.{RowsState, TextState, begin_lines, contents_lines, end_lines, first_rows, first_rows_after, full_row_lines, has_line, kind_in, line_in, new_text, open_lines, row_lines, rows_after, rows_state_after, text_after, whole_lines}
+use Rattle.tlv_value.specs.ValueTextState.{RowsState, ValueTextState, begin_lines, contents_lines, end_lines, first_rows, first_rows_after, full_row_lines, has_line, kind_in, line_in, new_value_text, open_lines, row_lines, rows_after, rows_state_after, value_text_after, whole_lines}
 use Rattle.tlv_value.specs.KindValues.{kind_value, long_text, row_octets}
 use Rattle.tlv_value.specs.Value.{NameOf, is_long}
 use Rattle.std.proofs.lemmas.Bool.Decides.{nat_tests}
@@ -65,10 +65,10 @@ module _ (kind : Kind) (layout : Layout) (line : List ℕ → List ℕ) (size : 
       ap (λ (t : List ℕ). line (long_text kind size (u ∷ [])) ++ t) (new-join kind layout (first_rows kind layout u) x y)
       ∙ sym (append_assoc (line (long_text kind size (u ∷ []))) (full_row_lines kind layout (first_rows kind layout u) x) (full_row_lines kind layout (rows_after kind layout (first_rows kind layout u) x) y))
 
-abbrev with_kept : TextState → ℕ → RowsState → TextState
+abbrev with_kept : ValueTextState → ℕ → RowsState → ValueTextState
 with_kept s left k = record { offset = s.offset; class = s.class; number = s.number; size = s.size; layout = s.layout; left = left; kept = k }
 
-new_by-new : (s : TextState) (x : List ℕ) → new_by (kind_in s) s.layout (line_in s) s.size (is_long (kind_in s) s.size) s.kept.wrote_line s.kept x ≡ contents_lines s x
+new_by-new : (s : ValueTextState) (x : List ℕ) → new_by (kind_in s) s.layout (line_in s) s.size (is_long (kind_in s) s.size) s.kept.wrote_line s.kept x ≡ contents_lines s x
 new_by-new s [] = refl
 new_by-new s (u ∷ x) = refl
 
@@ -77,9 +77,9 @@ pieces-join s x y =
     let l : s.left - length x - length y ≡ s.left - length (x ++ y) = omega (arith, length-append x y) in
     let k = join-kept (kind_in s) s.layout (line_in s) s.size (is_long (kind_in s) s.size) s.kept.wrote_line s.kept x y refl in
     let t = join-new (kind_in s) s.layout (line_in s) s.size (is_long (kind_in s) s.size) s.kept.wrote_line s.kept x y refl in (
-      ap (λ (n : ℕ). with_kept s n (rows_state_after (text_after s x) y)) l ∙ ap (with_kept s (s.left - length (x ++ y))) k,
+      ap (λ (n : ℕ). with_kept s n (rows_state_after (value_text_after s x) y)) l ∙ ap (with_kept s (s.left - length (x ++ y))) k,
       sym (new_by-new s (x ++ y)) ∙ t ∙ ap (λ (r : List ℕ). r ++ new_by (kind_in s) s.layout (line_in s) s.size (is_long (kind_in s) s.size) (rows_state_after s x).wrote_line (rows_state_after s x) y) (new_by-new s x)
-          ∙ ap (λ (r : List ℕ). contents_lines s x ++ r) (new_by-new (text_after s x) y),
+          ∙ ap (λ (r : List ℕ). contents_lines s x ++ r) (new_by-new (value_text_after s x) y),
     )
 
 -- the octets in rows, with the first contents octet of a BIT STRING by itself
@@ -160,14 +160,14 @@ module _ (layout : Layout) (line : List ℕ → List ℕ) (size : ℕ) where
       ∙ ap (λ (t : List ℕ). (line (long_text Bits size (u ∷ [])) ++ row_lines Bits layout 0 (full_rows Bits [] (row_octets Bits (u ∷ octets)))) ++ row_lines Bits layout (0 + length (full_rows Bits (row_octets Bits (u ∷ [])) octets)) (last_rows t)) o
 
 abbrev line_for : HeaderValue → Layout → List ℕ → List ℕ
-line_for h layout = line_in (new_text h layout)
+line_for h layout = line_in (new_value_text h layout)
 
 -- all that is known of a primitive that is still open was written
-pub open-lines : (h : HeaderValue) (layout : Layout) (octets : List ℕ) → open_lines h layout octets ≡ begin_lines (new_text h layout) ++ contents_lines (new_text h layout) octets
+pub open-lines : (h : HeaderValue) (layout : Layout) (octets : List ℕ) → open_lines h layout octets ≡ begin_lines (new_value_text h layout) ++ contents_lines (new_value_text h layout) octets
 open-lines h layout octets =
     open-lines-by h layout octets
     ∙ open-new layout (line_for h layout) (size_of h.size) (kind_of h.class h.number) (is_long (kind_of h.class h.number) (size_of h.size)) octets
-    ∙ ap (λ (t : List ℕ). begin_lines (new_text h layout) ++ t) (new_by-new (new_text h layout) octets)
+    ∙ ap (λ (t : List ℕ). begin_lines (new_value_text h layout) ++ t) (new_by-new (new_value_text h layout) octets)
 
 -- with no octets a primitive that begins has no lines more, and is kept as it is
 
@@ -176,9 +176,9 @@ new-nothing_at kind layout line size false wrote_line = refl
 new-nothing_at kind layout line size true true = refl
 new-nothing_at kind layout line size true false = refl
 
-pub new-nothing : (h : HeaderValue) (layout : Layout) → contents_lines (new_text h layout) [] ≡ []
+pub new-nothing : (h : HeaderValue) (layout : Layout) → contents_lines (new_value_text h layout) [] ≡ []
 new-nothing h layout =
-    let s : TextState = new_text h layout in
+    let s : ValueTextState = new_value_text h layout in
     sym (new_by-new s []) ∙ new-nothing_at (kind_in s) s.layout (line_in s) s.size (is_long (kind_in s) s.size) s.kept.wrote_line
 
 after-nothing_at : (kind : Kind) (layout : Layout) (line : List ℕ → List ℕ) (size : ℕ) (long wrote_line : Bool) → wrote_line ≡ has_line kind [] → kept_by kind layout line size long wrote_line (begin_kept kind) [] ≡ begin_kept kind
@@ -186,20 +186,20 @@ after-nothing_at kind layout line size false wrote_line e = refl
 after-nothing_at kind layout line size true true e = ap (λ (b : Bool). record { wrote_line = b; rows = 0; row = [] }) e
 after-nothing_at kind layout line size true false e = refl
 
-pub after-nothing : (h : HeaderValue) (layout : Layout) → text_after (new_text h layout) [] ≡ new_text h layout
+pub after-nothing : (h : HeaderValue) (layout : Layout) → value_text_after (new_value_text h layout) [] ≡ new_value_text h layout
 after-nothing h layout =
-    let s : TextState = new_text h layout in
+    let s : ValueTextState = new_value_text h layout in
     let l : s.left - 0 ≡ s.left = omega arith in
     ap (λ (n : ℕ). with_kept s n (rows_state_after s [])) l ∙ ap (with_kept s s.left) (after-nothing_at (kind_in s) s.layout (line_in s) s.size (is_long (kind_in s) s.size) s.kept.wrote_line refl)
 
 pub lines-begin : LinesBegin
-lines-begin h layout = open-lines h layout [] ∙ ap (λ (t : List ℕ). begin_lines (new_text h layout) ++ t) (new-nothing h layout) ∙ append-nil (begin_lines (new_text h layout))
+lines-begin h layout = open-lines h layout [] ∙ ap (λ (t : List ℕ). begin_lines (new_value_text h layout) ++ t) (new-nothing h layout) ∙ append-nil (begin_lines (new_value_text h layout))
 
 pub lines-go_on : LinesGoOn
 lines-go_on h layout octets x =
     open-lines h layout (octets ++ x)
-    ∙ ap (λ (t : List ℕ). begin_lines (new_text h layout) ++ t) (pieces-join (new_text h layout) octets x).1
-    ∙ sym (append_assoc (begin_lines (new_text h layout)) (contents_lines (new_text h layout) octets) (contents_lines (state_for h layout octets) x))
+    ∙ ap (λ (t : List ℕ). begin_lines (new_value_text h layout) ++ t) (pieces-join (new_value_text h layout) octets x).1
+    ∙ sym (append_assoc (begin_lines (new_value_text h layout)) (contents_lines (new_value_text h layout) octets) (contents_lines (state_for h layout octets) x))
     ∙ ap (λ (t : List ℕ). t ++ contents_lines (state_for h layout octets) x) (sym (open-lines h layout octets))
 
 long-some : (kind : Kind) (n size : ℕ) → n ≡ size → is_long kind size ≡ true → 1 ≤ n
@@ -219,11 +219,11 @@ lines-end name_of h layout octets e =
 
 -- a primitive written with its header, its contents and its end has the lines of the whole
 pub whole-new : (name_of : NameOf) (h : HeaderValue) (layout : Layout) (c : List ℕ) → length c ≡ size_of h.size
-    → begin_lines (new_text h layout) ++ (contents_lines (new_text h layout) c ++ end_lines name_of (text_after (new_text h layout) c)) ≡ whole_lines name_of h layout c
+    → begin_lines (new_value_text h layout) ++ (contents_lines (new_value_text h layout) c ++ end_lines name_of (value_text_after (new_value_text h layout) c)) ≡ whole_lines name_of h layout c
 whole-new name_of h layout c e =
-    let t : TextState = new_text h layout in
-    sym (append_assoc (begin_lines t) (contents_lines t c) (end_lines name_of (text_after t c)))
-    ∙ ap (λ (l : List ℕ). l ++ end_lines name_of (text_after t c)) (sym (open-lines h layout c))
+    let t : ValueTextState = new_value_text h layout in
+    sym (append_assoc (begin_lines t) (contents_lines t c) (end_lines name_of (value_text_after t c)))
+    ∙ ap (λ (l : List ℕ). l ++ end_lines name_of (value_text_after t c)) (sym (open-lines h layout c))
     ∙ sym (lines-end name_of h layout c e)
 
 -- so has a long one: its line, and its rows
@@ -237,14 +237,14 @@ new-long name_of p c is long e =
     ap by-kind is
     ∙ ap (λ (b : Bool). whole_at p.layout (primitive_line p) p.size name_of kind b c) (sym l)
     ∙ w
-    ∙ ap (λ (t : List ℕ). t ++ end_lines name_of (text_after (started kind) c)) (o ∙ ap (λ (t : List ℕ). begin_lines (started kind) ++ t) (new_by-new (started kind) c))
-    ∙ append_assoc (begin_lines (started kind)) (contents_lines (started kind) c) (end_lines name_of (text_after (started kind) c))
+    ∙ ap (λ (t : List ℕ). t ++ end_lines name_of (value_text_after (started kind) c)) (o ∙ ap (λ (t : List ℕ). begin_lines (started kind) ++ t) (new_by-new (started kind) c))
+    ∙ append_assoc (begin_lines (started kind)) (contents_lines (started kind) c) (end_lines name_of (value_text_after (started kind) c))
     ∙ ap (λ (j : Kind). lines_in_steps name_of (started j) c) (sym is)
   where
     by-kind : Kind → List ℕ
     by-kind j = primitive_line p (long_text j p.size c) ++ row_lines j p.layout 0 (rows_of j (row_octets j c))
 
-    started : Kind → TextState
+    started : Kind → ValueTextState
     started j = record { offset = p.offset; class = p.class; number = p.number; size = p.size; layout = p.layout; left = p.size; kept = begin_kept j }
 
 -- one with its value on its line is written with its end
@@ -252,5 +252,5 @@ pub shown-new : (name_of : NameOf) (h : HeaderValue) (layout : Layout) (p : Prim
     → length c ≡ size_of h.size → primitive_lines name_of p c ≡ whole_lines name_of h layout c
 shown-new name_of h layout p c is short e = ap (λ (q : Primitive). primitive_lines name_of q c) is ∙ at-end ∙ whole-new name_of h layout c e
   where
-    at-end : primitive_lines name_of (primitive_of h layout) c ≡ begin_lines (new_text h layout) ++ (contents_lines (new_text h layout) c ++ end_lines name_of (text_after (new_text h layout) c))
+    at-end : primitive_lines name_of (primitive_of h layout) c ≡ begin_lines (new_value_text h layout) ++ (contents_lines (new_value_text h layout) c ++ end_lines name_of (value_text_after (new_value_text h layout) c))
     at-end = rw short refl

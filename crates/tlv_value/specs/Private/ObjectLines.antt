@@ -3,7 +3,7 @@ use Rattle.std.specs.Prelude.{ℕ, Bool, List, [], ◌∷◌, ◌++◌}
 use Rattle.tlv_value.specs.declared.kind.Kind.TheVariants.{Octets}
 use Rattle.tlv_value.specs.declared.layout.Layout.{Layout}
 use Rattle.tlv_value.specs.Arcs.{dotted_text}
-use Rattle.tlv_value.specs.TextState.{row_lines}
+use Rattle.tlv_value.specs.ValueTextState.{row_lines}
 use Rattle.tlv_value.specs.KindValues.{object_text}
 use Rattle.tlv_value.specs.Value.{NameOf, Value, octets_value}
 

@@ -7,7 +7,7 @@ use Rattle.tlv_value.specs.declared.primitive.Primitive.{Primitive}
 use Rattle.tlv_value.specs.Kind.{kind_of}
 use Rattle.tlv_value.specs.KindValues.{kind_value}
 use Rattle.tlv_value.specs.Layout.{columns, margin}
-use Rattle.tlv_value.specs.TextState.{TextState, begin_lines, contents_lines, element_line, end_lines, has_line, row_lines, text_after}
+use Rattle.tlv_value.specs.ValueTextState.{ValueTextState, begin_lines, contents_lines, element_line, end_lines, has_line, row_lines, value_text_after}
 use Rattle.tlv_value.specs.Value.{NameOf}
 
 abbrev pub primitive_of : HeaderValue → Layout → Primitive
@@ -35,7 +35,7 @@ primitive_lines name_of p octets =
     ++ row_lines p.kind p.layout 0 (kind_value name_of p.kind octets).rows
 
 -- what is kept of it before any octet
-abbrev pub new_text_of : Primitive → TextState
+abbrev pub new_text_of : Primitive → ValueTextState
 new_text_of p = record {
   offset = p.offset;
   class = p.class;
@@ -47,5 +47,6 @@ new_text_of p = record {
 }
 
 -- the lines that are known with the header, with all contents, and with the end
-abbrev pub lines_in_steps : NameOf → TextState → List ℕ → List ℕ
-lines_in_steps name_of s octets = begin_lines s ++ (contents_lines s octets ++ end_lines name_of (text_after s octets))
+abbrev pub lines_in_steps : NameOf → ValueTextState → List ℕ → List ℕ
+lines_in_steps name_of s octets =
+    begin_lines s ++ (contents_lines s octets ++ end_lines name_of (value_text_after s octets))

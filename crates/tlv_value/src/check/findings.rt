@@ -1,7 +1,7 @@
 //! What is found on contents by what was noted of them.
 ghost use Rattle.std.specs.Prelude.{◌≡◌, ◌<◌, ◌≤◌, ◌%◌, ◌^◌, ◌++◌, [], eqb, length, not};
 ghost use Rattle.tlv_value.specs.CheckNotes.{bits_findings, boolean_findings, finding_if, time_findings};
-ghost use Rattle.tlv_value.specs.CheckState.{findings_in, notes_in};
+ghost use Rattle.tlv_value.specs.ValueCheckState.{findings_in, notes_in};
 
 use super::ValueCheck;
 use crate::Finding;

@@ -1,7 +1,7 @@
 //! What is noted of contents octets while they come.
 ghost use Rattle.std.specs.Prelude.{◌≡◌, ◌||◌};
-ghost use Rattle.tlv_value.specs.CheckState.{notes_each, notes_front, notes_time};
-ghost use Rattle.tlv_value.specs.Checks.{is_padded_after, last_octet_of};
+ghost use Rattle.tlv_value.specs.ValueCheckState.{notes_each, notes_front, notes_time};
+ghost use Rattle.tlv_value.specs.Checks.{is_padded_after, last_octet};
 
 use tlv_head::universal;
 
@@ -44,7 +44,7 @@ pub(super) fn is_time(number: u64) -> bool
 
 /// The last of the octets, or the one before them.
 pub(crate) fn last_octet(before: u8, octets: &[u8]) -> u8
-    ensures { result ≡ last_octet_of before octets.now }
+    ensures { result ≡ last_octet before octets.now }
 {
     match octets {
         [.., last] => *last,

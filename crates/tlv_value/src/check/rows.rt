@@ -1,7 +1,7 @@
 //! Whether a UTF8String is well-formed, row by row.
 ghost use Rattle.std.specs.Prelude.{◌≡◌, ◌+◌, ◌≤◌, ◌++◌, [], length};
 ghost use Rattle.std.specs.Str.{is_utf8};
-ghost use Rattle.tlv_value.specs.CheckState.{all_utf8};
+ghost use Rattle.tlv_value.specs.ValueCheckState.{all_utf8};
 ghost use Rattle.tlv_value.specs.OpenRow.{IsOpenRow};
 ghost use Rattle.tlv_value.specs.Rows.{full_rows, open_row};
 

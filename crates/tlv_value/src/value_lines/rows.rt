@@ -7,7 +7,7 @@ ghost use Rattle.tlv_value.specs.Layout.{line, no_columns, row_line};
 ghost use Rattle.tlv_value.specs.OpenRow.{IsOpenRow};
 ghost use Rattle.tlv_value.specs.Private.Rows.{full_line, full_lines, row_indent_of};
 ghost use Rattle.tlv_value.specs.Rows.{full_rows, open_row, rows_of};
-ghost use Rattle.tlv_value.specs.TextState.{row_lines};
+ghost use Rattle.tlv_value.specs.ValueTextState.{row_lines};
 ghost use Rattle.tlv_value.specs.Value.{row_text};
 
 use crate::Layout;
@@ -16,7 +16,7 @@ use crate::line::row_indent;
 use crate::rows::{fitting, row_size};
 use crate::value::write_row;
 use arrayvec::ArrayVec;
-use tlv_io::{Drain, Held, Out, WriteFault};
+use tlv_io::{Drain, HeldOctets, Out, WriteFault};
 
 /// Puts rows of all of the octets.
 pub(super) fn put_all_rows<D: Drain>(
@@ -210,7 +210,7 @@ fn put_dots<D: Drain>(
 
 /// Adds the line of a row.
 #[inline(always)]
-fn write_line(held: &mut Held, layout: Layout, kind: Kind, row: &[u8])
+fn write_line(held: &mut HeldOctets, layout: Layout, kind: Kind, row: &[u8])
     requires room { HasRoomFor held.old 1024 }
     requires short { length row.now ≤ 64 }
     ensures { held.new
@@ -223,7 +223,7 @@ fn write_line(held: &mut Held, layout: Layout, kind: Kind, row: &[u8])
 
 /// Adds the line of a full row of pairs of digits.
 #[inline(always)]
-fn write_full_line(held: &mut Held, layout: Layout, row: &[u8; 16])
+fn write_full_line(held: &mut HeldOctets, layout: Layout, row: &[u8; 16])
     requires { HasRoomFor held.old (row_indent_of layout + 64) }
     ensures { held.new ≡ held.old ++ full_line layout row.now }
 {
@@ -234,7 +234,7 @@ fn write_full_line(held: &mut Held, layout: Layout, row: &[u8; 16])
 }
 
 /// Adds the line of three dots.
-fn write_dots(held: &mut Held, layout: Layout)
+fn write_dots(held: &mut HeldOctets, layout: Layout)
     requires { HasRoomFor held.old 1024 }
     ensures { held.new ≡ held.old ++ line layout.pure no_columns (layout.level + 1) (codes "...") }
 {

@@ -10,11 +10,11 @@ use Rattle.tlv_walk.specs.Phase as phase
 use Rattle.tlv_walk.specs.Events.{AreEqualJoined, EventValue, events}
 use Rattle.tlv_walk.specs.Forest.{Forest}
 use Rattle.tlv_walk.specs.Inside.{AreRising, CanName, is_among}
-use Rattle.tlv_walk.specs.WalkerState.{WalkerState, first_without_string_in}
+use Rattle.tlv_walk.specs.WalkerState.{WalkerState, first_without_wrapper_in}
 use Rattle.tlv_walk.specs.Private.WalkerState.{next_wrapper, wrappers_after}
 use Rattle.tlv_walk.specs.Place.{IsOpen, top_place}
-use Rattle.tlv_walk.specs.Stands.{Stands, ending_events, is_end, waiting_events, waiting_events_in}
-use Rattle.tlv_walk.specs.Wrappers.{first_other, first_without_string, wrapper_offsets, wrappers}
+use Rattle.tlv_walk.specs.Stands.{Stands, closing_events, is_end, waiting_events, waiting_events_in}
+use Rattle.tlv_walk.specs.Wrappers.{first_other, first_without_wrapper, wrapper_offsets, wrappers}
 use Rattle.tlv_walk.proofs.EventLemmas.Joined.{apart-from_joined}
 use Rattle.tlv_walk.proofs.EventLemmas.Wrappers.{Rise, enters-apart, enters-append, wrappers-entered, wrappers-rise}
 
@@ -82,7 +82,7 @@ first-found (n ∷ ns) (at ∷ ats) least low end r q = elim (cases_eq n at) [
 -- ---- of a walker
 
 -- the events that wait enter no wrapper
-ends_enter_none : (at : ℕ) (fs : List Frame) → wrapper_offsets (ending_events at fs) ≡ []
+ends_enter_none : (at : ℕ) (fs : List Frame) → wrapper_offsets (closing_events at fs) ≡ []
 ends_enter_none at [] = refl
 ends_enter_none at (f ∷ fs) = elim (cases_Bool (is_end f.end at)) [
   | inl e ↦ elim (cases_Bool f.wrapper) [
@@ -95,13 +95,13 @@ ends_enter_none at (f ∷ fs) = elim (cases_Bool (is_end f.end at)) [
 waits_enter_none : (f : Phase) (fs : List Frame) (at : ℕ) → wrapper_offsets (waiting_events_in f fs at) ≡ []
 waits_enter_none phase.Between fs at = ends_enter_none at fs
 waits_enter_none (phase.InHeader r) fs at = refl
-waits_enter_none (phase.InContents left) fs at = elim (cases_Bool (eqb left 0)) [
+waits_enter_none (phase.InPrimitive left) fs at = elim (cases_Bool (eqb left 0)) [
   | inl e ↦ rw e (ends_enter_none at fs)
   | inr e ↦ rw e refl
 ]
-waits_enter_none phase.BeforeUnused fs at = refl
-waits_enter_none phase.InEnd fs at = refl
-waits_enter_none (phase.Failed fault) fs at = refl
+waits_enter_none phase.InBitString fs at = refl
+waits_enter_none phase.InEndOctets fs at = refl
+waits_enter_none (phase.Refused fault) fs at = refl
 
 -- events that are equal joined enter the same wrappers
 enters-joined : (xs ys : List EventValue) → AreEqualJoined xs ys → wrapper_offsets xs ≡ wrapper_offsets ys
@@ -114,18 +114,18 @@ past_wrappers framing past waits f v none e =
 
 -- the count over the events yielded gives the first named offset that is no wrapper's
 pub past_unused : (framing : Framing) (past waits : List EventValue) (f : Forest) → CanName framing.inside → IsOpen (top_place framing) f → wrapper_offsets waits ≡ [] → AreEqualJoined (past ++ waits) (events f)
-    → slice_get framing.inside (wrappers_after framing.inside 0 (wrapper_offsets past)) ≡ first_without_string framing.inside f
+    → slice_get framing.inside (wrappers_after framing.inside 0 (wrapper_offsets past)) ≡ first_without_wrapper framing.inside f
 past_unused framing past waits f named v none e =
     let same : wrapper_offsets past ≡ wrappers f = past_wrappers framing past waits f v none e in
     ap (λ (ats : List ℕ). slice_get framing.inside (wrappers_after framing.inside 0 ats)) same
     ∙ first-found framing.inside (wrappers f) 0 (top_place framing).at _ named.1 (wrappers-rise (top_place framing) f v)
 
-pub stands_unused : (w : WalkerState) (b : List ℕ) (past : List EventValue) → (st : Stands w b past) → first_without_string_in w ≡ first_without_string w.framing.inside st.reading
+pub stands_unused : (w : WalkerState) (b : List ℕ) (past : List EventValue) → (st : Stands w b past) → first_without_wrapper_in w ≡ first_without_wrapper w.framing.inside st.reading
 stands_unused w b past st =
     ap (slice_get w.framing.inside) st.private_state.found ∙ past_unused w.framing past (waiting_events w) st.reading st.private_state.named st.is_reading.is_open (waits_enter_none w.phase w.stack w.offset) st.all_events
 
 -- it is the first that no event yielded entered
-pub stands-entered : (w : WalkerState) (b : List ℕ) (past : List EventValue) → Stands w b past → first_without_string_in w ≡ first_other w.framing.inside (wrapper_offsets past)
+pub stands-entered : (w : WalkerState) (b : List ℕ) (past : List EventValue) → Stands w b past → first_without_wrapper_in w ≡ first_other w.framing.inside (wrapper_offsets past)
 stands-entered w b past st =
     stands_unused w b past st
     ∙ ap (first_other w.framing.inside) (sym (past_wrappers w.framing past (waiting_events w) st.reading st.is_reading.is_open (waits_enter_none w.phase w.stack w.offset) st.all_events))

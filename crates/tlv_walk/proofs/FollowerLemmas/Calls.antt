@@ -10,7 +10,7 @@ use Rattle.tlv_io.specs.declared.source.ReadFault.{ReadFault}
 use Rattle.tlv_walk.specs.declared.one_turn.Pause.{Pause}
 use Rattle.tlv_walk.specs.declared.one_turn.Pause.TheVariants as pause
 use Rattle.tlv_io.specs.declared.out.Out.{Out}
-use Rattle.tlv_io.specs.Device.{Last, never, gave, failed, failures_after, ReadsOnce}
+use Rattle.tlv_io.specs.Device.{LastReadValue, never, gave, failed, failures_after, ReadsOnce}
 use Rattle.tlv_walk.specs.Events.{EventValue}
 use Rattle.tlv_walk.specs.Follow.{Effect}
 use Rattle.tlv_walk.specs.Job.{drain_result, source_result}
@@ -21,7 +21,7 @@ use Rattle.tlv_walk.specs.Private.ResultOfPause.{IsResultOfPause}
 use Rattle.tlv_walk.specs.OneTurn.{CallsDevices, CanGoOn, LastReadWas, TurnState, last_octets}
 
 gave-same : (m n : ℕ) → gave m ≡ gave n → m ≡ n
-gave-same m n e = ap (λ (l : Last). elim l [ never ↦ 0 | gave k ↦ k | failed ↦ 0 ]) e
+gave-same m n e = ap (λ (l : LastReadValue). elim l [ never ↦ 0 | gave k ↦ k | failed ↦ 0 ]) e
 
 module _ {S : Type 0} (before after : TurnState S) (piece : List ℕ) where
   -- a read that gave octets, and a result that blames no source for it
@@ -29,9 +29,9 @@ module _ {S : Type 0} (before after : TurnState S) (piece : List ℕ) where
       → 0 < length piece → LastReadWas (length piece) result (gave n) → source_result result ≡ Ok tt
       → after.drain.failures ≡ failures_after (drain_result result) before.drain.failures → CallsDevices before after piece result
   calls_given n result r some g s d = record {
-    octets = subst (λ (l : Last). Consumes before.source.left after.source.left (last_octets l piece)) (sym r.last) r.octets.0;
+    octets = subst (λ (l : LastReadValue). Consumes before.source.left after.source.left (last_octets l piece)) (sym r.last) r.octets.0;
     reads = r.reads;
-    last = subst (λ (l : Last). LastReadWas (length piece) result l) (sym r.last) g;
+    last = subst (λ (l : LastReadValue). LastReadWas (length piece) result l) (sym r.last) g;
     at_end = λ e. r.octets.1 (gave-same n 0 (sym r.last ∙ e)) some;
     failed_reads = r.failures ∙ ap (λ (x : Result ⊤ DeviceFault). failures_after x before.source.failures) (sym s);
     failed_writes = d;

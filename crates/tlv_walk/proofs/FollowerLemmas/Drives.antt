@@ -15,7 +15,7 @@ use Rattle.tlv_walk.specs.declared.run.Run.{Run}
 use Rattle.tlv_walk.specs.declared.run.Turn.{Turn}
 use Rattle.tlv_walk.specs.declared.run.Turn.TheVariants.{Again, Ended}
 use Rattle.std.specs.List.{concat}
-use Rattle.tlv_io.specs.Device.{DrainState, Last, SourceState, failed, failures_after, gave}
+use Rattle.tlv_io.specs.Device.{DrainState, LastReadValue, SourceState, failed, failures_after, gave}
 use Rattle.tlv_walk.specs.DriveJob.{Drives, drive_job, drive_state, event_octets, had_enough, run_over}
 use Rattle.tlv_walk.specs.Events.{AreEqualJoined, Bytes, EventValue, Pad, events}
 use Rattle.tlv_walk.specs.Follow.{Effect, GoesOn, Joins, Rests, effect_of, followed_events}
@@ -27,7 +27,7 @@ use Rattle.tlv_io.specs.Out.{Sends}
 use Rattle.tlv_walk.specs.Reading.{AreOctets, IsReading}
 use Rattle.tlv_walk.specs.Stands.{Stands}
 use Rattle.tlv_walk.specs.OneTurn.{EndsBy, EndsIn, FollowsOneRead, LastReadWas, LastReadGaveUpTo, HasEnoughIn, TurnState, TurnsTo, last_octets}
-use Rattle.tlv_walk.specs.Wrappers.{first_other, first_without_string, wrapper_offsets}
+use Rattle.tlv_walk.specs.Wrappers.{first_other, first_without_wrapper, wrapper_offsets}
 use Rattle.tlv_walk.proofs.FollowerLemmas.Followed.{events_enough, followed-alike, followed-enough, kept-alike}
 use Rattle.tlv_walk.proofs.FollowerLemmas.Following.{made_both, made_put}
 use Rattle.tlv_walk.proofs.FollowerLemmas.Enough.{comes_to, ends_so}
@@ -207,7 +207,7 @@ module _ {S : Type 0} (next : S → EventValue → Effect S)
           let is_reading : IsReading framing walked f = subst (λ (k : Framing). IsReading k walked f) x.same y.is_reading in
           let k : MadeAll s after.follower f go.On (effect_of next s es).put = made_all s after.follower es f go.On (made_both next s before.follower after.follower x.past y.more go.On x.made y.made) y.yields in
           let answer : run ≡ run_over framing f (followed_events next s (events f)) (effect_of next s (events f)).goes run.ending =
-          run_is run run.ending (length (spelling f)) false (first_without_string framing.inside f) refl y.spelled none (y.unused ∙ ap (λ (k : Framing). first_without_string k.inside f) x.same)
+          run_is run run.ending (length (spelling f)) false (first_without_wrapper framing.inside f) refl y.spelled none (y.unused ∙ ap (λ (k : Framing). first_without_wrapper k.inside f) x.same)
           ∙ ap (λ (g : Go). run_over framing f (followed_events next s (events f)) g run.ending) (sym k.goes_so) in
           let ends : EndsWith framing walked (had_enough (effect_of next s (events f)).goes) run.ending =
           subst (λ (b : Bool). EndsWith framing walked b run.ending) (sym (is_enough_so f go.On (effect_of next s es).put k))
@@ -256,7 +256,7 @@ module _ {S : Type 0} (next : S → EventValue → Effect S)
       drives_read_failed is =
           let y = turned (Err ReadFailed) is in
           let last : after.source.last ≡ failed = gave_so (Err ReadFailed) is in
-          let none : r ≡ [] = ap (λ (l : Last). last_octets l piece) last in
+          let none : r ≡ [] = ap (λ (l : LastReadValue). last_octets l piece) last in
           let f : Forest = x.stands.reading in
           let all : b ≡ walked = sym (ap (λ (o : List ℕ). take limit (b ++ o)) none ∙ ap (λ (o : List ℕ). take limit o) (append-nil b) ∙ take_all limit b within) in
           let k : MadeAll s after.follower f go.On (effect_of next s x.past).put = record { state = y.follower ∙ first_made.state; goes_so = first_made.goes_so; text_is = first_made.text_is } in

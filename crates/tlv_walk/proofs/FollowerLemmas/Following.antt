@@ -29,7 +29,7 @@ use Rattle.tlv_walk.proofs.EventLemmas.Joined.{apart-before, apart-from_joined, 
 use Rattle.tlv_walk.proofs.EventLemmas.Prefixes.{events-prefix}
 use Rattle.tlv_io.proofs.Puts.{HasPut, puts_as, puts_failed_last, puts_nothing, puts_then_as}
 use Rattle.tlv_walk.proofs.EventLemmas.Unused.{past_unused}
-use Rattle.tlv_walk.proofs.WalkerLemmas.HasRead.{never_failed}
+use Rattle.tlv_walk.proofs.WalkerLemmas.HasRead.{never_refused}
 
 -- nothing was walked over
 pub walked_none : (w : WalkerState) (piece : List ℕ) → WalksOver w w piece piece []
@@ -74,7 +74,7 @@ refused_there w u v piece mid after f more x o past st (inl r) =
           (subst (λ (es : List EventValue). AreEqualJoined es (events refused.reading)) (sym (append-nil (past ++ more))) refused.all_events);
       stands = there;
     }
-refused_there w u v piece mid after f more x o past st (inr r) = absurd (never_failed u (o ++ x.taken) (past ++ more) f st r.failed)
+refused_there w u v piece mid after f more x o past st (inr r) = absurd (never_refused u (o ++ x.taken) (past ++ more) f st r.refused)
 
 -- what a walker yielded of the front of octets, others follow
 past_front : (w v : WalkerState) (b piece after : List ℕ) (past more : List EventValue) (f : Forest) → WalksOver w v piece after more → Stands w b past → IsReading w.framing (b ++ piece) f

@@ -8,7 +8,7 @@ use Rattle.tlv_walk.specs.declared.follow.Go.TheVariants as go
 use Rattle.tlv_walk.specs.declared.framing.Framing.{Framing}
 use Rattle.tlv_walk.specs.declared.run.DeviceFault.{DeviceFault}
 use Rattle.std.specs.List.{concat}
-use Rattle.tlv_io.specs.Device.{DrainState, Last, SourceState, failed, gave, never}
+use Rattle.tlv_io.specs.Device.{DrainState, LastReadValue, SourceState, failed, gave, never}
 use Rattle.tlv_walk.specs.Events.{Begin, Bytes, Close, End, Enter, EventValue, Leave, Open, Pad, Unused}
 use Rattle.tlv_walk.specs.Follow.{Effect, effect_of}
 use Rattle.tlv_walk.specs.FollowsEvents.{FollowsEvents}
@@ -25,22 +25,22 @@ use Rattle.tlv_io.proofs.Puts.{sends_nothing}
 -- ---- reads
 
 -- what the last read gave
-pub gave_last : (last : Last) (piece : List ℕ) → LastReadGaveUpTo (length piece) last → GaveLast last (last_octets last piece)
+pub gave_last : (last : LastReadValue) (piece : List ℕ) → LastReadGaveUpTo (length piece) last → GaveLast last (last_octets last piece)
 gave_last never piece g = absurd g
 gave_last (gave n) piece g = inl (ap gave (sym (length-take n piece ∙ omega (arith, g))))
 gave_last failed piece g = absurd g
 
-pub gave_none : (last : Last) (piece : List ℕ) → LastReadGaveUpTo (length piece) last → last_octets last piece ≡ [] → last ≡ gave 0
+pub gave_none : (last : LastReadValue) (piece : List ℕ) → LastReadGaveUpTo (length piece) last → last_octets last piece ≡ [] → last ≡ gave 0
 gave_none never piece g e = absurd g
 gave_none (gave n) piece g e = ap gave (omega (arith, g, length-take n piece, ap length e))
 gave_none failed piece g e = absurd g
 
-pub given_short : (last : Last) (piece : List ℕ) (room : ℕ) → length piece ≤ room → length (last_octets last piece) ≤ room
+pub given_short : (last : LastReadValue) (piece : List ℕ) (room : ℕ) → length piece ≤ room → length (last_octets last piece) ≤ room
 given_short never piece room h = omega arith
 given_short (gave n) piece room h = omega (arith, h, length-take n piece)
 given_short failed piece room h = omega arith
 
-pub given_octets : (last : Last) (piece : List ℕ) → AreOctets piece → AreOctets (last_octets last piece)
+pub given_octets : (last : LastReadValue) (piece : List ℕ) → AreOctets piece → AreOctets (last_octets last piece)
 given_octets never piece a = All-nil (λ x. x < 256)
 given_octets (gave n) piece a = All-take (λ x. x < 256) n piece a
 given_octets failed piece a = All-nil (λ x. x < 256)

@@ -32,7 +32,7 @@ use Rattle.tlv_walk.specs.Reading.{AreOctets, IsReading}
 use Rattle.tlv_walk.specs.Stands.{Stands, waiting_events}
 use Rattle.tlv_walk.specs.HasRead.{refused_one, took_all}
 use Rattle.tlv_walk.specs.OneTurn.{EndsBy, EndsIn, HasEnoughIn, StandsOn, TurnState, TurnsTo}
-use Rattle.tlv_walk.specs.Wrappers.{first_other, first_without_string, wrapper_offsets}
+use Rattle.tlv_walk.specs.Wrappers.{first_other, first_without_wrapper, wrapper_offsets}
 use Rattle.tlv_walk.proofs.GrammarLemmas.Finals.{refused-final}
 use Rattle.tlv_walk.proofs.FollowerLemmas.Followed.{followed-front}
 use Rattle.tlv_walk.proofs.FollowerLemmas.Following.{walked_goes_on}
@@ -219,7 +219,7 @@ used_up_ends next before after o past run e x is ends =
       yields = stands_past v o (past ++ x.more) x.stands.reading x.stands x.idle x.stands.is_reading;
       ending = subst (λ (k : Ending). IsEnding w.framing o k) (sym is.ending) (subst (λ (g : Framing). IsEnding g o e) x.framing ends);
       spelled = is.octets ∙ x.stands.private_state.has_state.offset ∙ ap length (sym (stands_spelled v o (past ++ x.more) x.stands.reading x.stands x.stands.is_reading));
-      unused = is.unused ∙ stands_unused v o (past ++ x.more) x.stands ∙ ap (λ (g : Framing). first_without_string g.inside x.stands.reading) x.framing;
+      unused = is.unused ∙ stands_unused v o (past ++ x.more) x.stands ∙ ap (λ (g : Framing). first_without_wrapper g.inside x.stands.reading) x.framing;
       framing = x.framing;
       walker = took_all x.stands x.idle;
     }

@@ -7,7 +7,7 @@ use Rattle.tlv_walk.specs.declared.ending.Ending.TheVariants.{Done}
 use Rattle.tlv_walk.specs.declared.framing.Framing.{Framing}
 use Rattle.tlv_walk.specs.Ending.{fault}
 use Rattle.tlv_walk.specs.Forest.{NoMore, PaddingOctet, Primitive, Holder, OpenHolder, OpenHeader}
-use Rattle.tlv_walk.specs.Wrappers.{first_without_string}
+use Rattle.tlv_walk.specs.Wrappers.{first_without_wrapper}
 use Rattle.tlv_walk.proofs.GrammarLemmas.Readings.{reading}
 use Rattle.tlv_walk.proofs.GrammarLemmas.Endings.{ending}
 
@@ -135,10 +135,10 @@ overrun-wrapped : ending naming_first (4 ∷ 3 ∷ 2 ∷ 2 ∷ 5 ∷ []) ≡ fau
 overrun-wrapped = refl
 
 -- 03 00, named: it is no wrapper
-no-bits-to-wrap : first_without_string (0 ∷ []) (reading naming_first (3 ∷ 0 ∷ [])) ≡ Some 0
+no-bits-to-wrap : first_without_wrapper (0 ∷ []) (reading naming_first (3 ∷ 0 ∷ [])) ≡ Some 0
 no-bits-to-wrap = refl
 
-second-name-unused : first_without_string (0 ∷ 1 ∷ []) (reading naming_two (4 ∷ 2 ∷ 5 ∷ 0 ∷ [])) ≡ Some 1
+second-name-unused : first_without_wrapper (0 ∷ 1 ∷ []) (reading naming_two (4 ∷ 2 ∷ 5 ∷ 0 ∷ [])) ≡ Some 1
 second-name-unused = refl
 
 -- 00 00 05 00 00 00 05 00 00, with padding

@@ -97,7 +97,7 @@ header-popped p h k header d f = elim (back (octets_of h)) [
         last = x;
         is_open = (
           λ z. omega (arith, ap length z),
-          record { head = h; more = x ∷ []; valid = header.valid; proper = λ z. omega (arith, ap length z); front = sym e },
+          record { header = h; more = x ∷ []; valid = header.valid; proper = λ z. omega (arith, ap length z); front = sym e },
           within-le p.bound _ _ (omega arith) f,
         );
         spelled = (element_begun-sound p h k header d f).spelled ∙ e;
@@ -140,7 +140,7 @@ front-popped p (y ∷ o) x front f = record {
   is_open = (
     λ z. omega (arith, ap length z),
     record {
-      head = front.head;
+      header = front.header;
       more = x ∷ front.more;
       valid = front.valid;
       proper = λ z. omega (arith, ap length z);

@@ -5,7 +5,7 @@ use Rattle.tlv_head.specs.declared.header.Size.{Size}
 use Rattle.tlv_head.specs.declared.header.Size.TheVariants.{Definite}
 use Rattle.tlv_head.specs.Header.{HeaderValue, IsHeader, is_wrapper, leading_octet, octets_of}
 use Rattle.tlv_head.proofs.Shortest.{identifier-some, lengths-some}
-use Rattle.tlv_walk.specs.Alike.{AreAlike, HaveLowForms, holders, nothing, padding, primitives}
+use Rattle.tlv_walk.specs.Alike.{AreAlike, HaveNoUniversalZero, holders, nothing, padding, primitives}
 use Rattle.tlv_walk.specs.Forest.{Forest, NoMore, PaddingOctet, Primitive, Holder, OpenPrimitive, OpenHolder, OpenBitString, OpenHeader, OpenEndOctets, end_octets, extent, lead, opening, spelling}
 use Rattle.tlv_walk.specs.Inside.{is_among}
 use Rattle.tlv_walk.specs.Place.{Place, place_after, place_of_children}
@@ -232,7 +232,7 @@ module _ (form : Bool → Bool) (definite : form false ≡ false) where
             };
       }
 
-  pub respelled : (p : Place) (f : Forest) → length (spelling f) ≤ 2 ^ 38 → IsSound p f → HaveLowForms f → Spelling form p f
+  pub respelled : (p : Place) (f : Forest) → length (spelling f) ≤ 2 ^ 38 → IsSound p f → HaveNoUniversalZero f → Spelling form p f
   respelled p NoMore few u low = record {
     octets = [];
     names = λ at. [];

@@ -10,7 +10,7 @@ use Rattle.tlv_walk.specs.Ending.{IsEnding}
 use Rattle.tlv_walk.specs.Events.{EventValue}
 use Rattle.tlv_walk.specs.WalkerState.{WalkerState}
 use Rattle.tlv_walk.specs.Stack.{IsWithin}
-use Rattle.tlv_walk.specs.Private.Stack.{left_to}
+use Rattle.tlv_walk.specs.Private.Stack.{room_to}
 use Rattle.tlv_walk.specs.Private.Zipper.{HasZipper}
 use Rattle.tlv_walk.specs.HasRead.{event_value}
 use Rattle.tlv_walk.specs.Private.Steps.{Continues, RefusesOctet, YieldsEvent, YieldsFault, YieldsStep}
@@ -45,16 +45,16 @@ module _ (old mid new : WalkerState) (x : ℕ) (first : Continues old mid (x ∷
         };
   }
 
-  fault_after : (rest after : List ℕ) (f : Fault) → mid.phase ≡ phase.InEnd → YieldsFault mid new rest after f → YieldsFault old new (x ∷ rest) after f
+  fault_after : (rest after : List ℕ) (f : Fault) → mid.phase ≡ phase.InEndOctets → YieldsFault mid new rest after f → YieldsFault old new (x ∷ rest) after f
   fault_after rest after f z (inl r) = inl (refused_after rest after f r)
-  fault_after rest after f z (inr r) = absurd (cc (z, r.failed))
+  fault_after rest after f z (inr r) = absurd (cc (z, r.refused))
 
-  pub step_after : (rest after : List ℕ) (m : Step) → mid.phase ≡ phase.InEnd → YieldsStep mid new rest after m → YieldsStep old new (x ∷ rest) after m
+  pub step_after : (rest after : List ℕ) (m : Step) → mid.phase ≡ phase.InEndOctets → YieldsStep mid new rest after m → YieldsStep old new (x ∷ rest) after m
   step_after rest after (step.Event e) z t = event_after rest after (event_value e) t
   step_after rest after step.NeedMore z t = continues_both old mid new (x ∷ []) rest [] [] first t
   step_after rest after (step.Fault f) z t = fault_after rest after f z t
 
 -- there is room for an octet before the bound
-pub room_more : (b : Option ℕ) (n : ℕ) → IsWithin b n → (left_to b n ≡ Some 0 → ⊥) → IsWithin b (n + 1)
+pub room_more : (b : Option ℕ) (n : ℕ) → IsWithin b n → (room_to b n ≡ Some 0 → ⊥) → IsWithin b (n + 1)
 room_more None n w f = tt
 room_more (Some m) n w f = let some : m - n ≡ 0 → ⊥ = λ e. f (ap Some e) in omega arith

@@ -17,8 +17,8 @@ use Rattle.tlv_walk.proofs.GrammarLemmas.Lengths.{HasLength}
 use Rattle.tlv_walk.specs.Stack.{Frame, IsFilled, IsInIndefinite, IsInWrapper, IsWithin, bound_of}
 use Rattle.tlv_walk.specs.Private.Stack.{wraps_of, bound_in}
 use Rattle.tlv_walk.specs.Private.Steps.{Continues}
-use Rattle.tlv_walk.specs.Private.Zipper.{AreWhole, Between, HasZipper, InEnd, Layer, Tail, Zipper, events_of_layers, events_of_tail, frame_at, frames_of, place_in, place_of, spelling_of_layers, spelling_of_tail}
-use Rattle.tlv_walk.specs.Stands.{ending_event}
+use Rattle.tlv_walk.specs.Private.Zipper.{AreWhole, Between, HasZipper, InEndOctets, Layer, Tail, Zipper, events_of_layers, events_of_tail, frame_at, frames_of, place_in, place_of, spelling_of_layers, spelling_of_tail}
+use Rattle.tlv_walk.specs.Stands.{frame_closing_event}
 use Rattle.tlv_walk.proofs.WalkerLemmas.Moves.{began, between_tail, closed_here, continues_both, lone_tail, phase_at, tail_state, yields_zero, past_more, with_layers, with_tail}
 use Rattle.tlv_walk.proofs.WalkerLemmas.Places.{definite-size, place-offset}
 use Rattle.tlv_walk.proofs.GrammarLemmas.Spellings.{length-opening}
@@ -93,14 +93,14 @@ closes_indefinite h here n k s e =
     ap (λ (c : Bool). if c then Close (end_offset h.size (h.offset + length (opening h) + length (spelling here))) else Leave) k
     ∙ ap (λ (t : Size). Close (end_offset t (h.offset + length (opening h) + length (spelling here)))) s ∙ ap (λ (m : ℕ). Close (Some m)) e
 
-second_from : (w : WalkerState) (b : List ℕ) (past : List EventValue) (s : Zipper) (ls : List Layer) → HasZipper w b past (with_layers s ls InEnd) → IsOpen (place_of w.framing (with_layers s ls InEnd)) OpenEndOctets
+second_from : (w : WalkerState) (b : List ℕ) (past : List EventValue) (s : Zipper) (ls : List Layer) → HasZipper w b past (with_layers s ls InEndOctets) → IsOpen (place_of w.framing (with_layers s ls InEndOctets)) OpenEndOctets
     → IsWithin (bound_of w.stack) (w.offset + 1)
     → (t : Zipper) × HasZipper (record w { stack = drop 1 w.stack; phase = phase.Between; offset = w.offset + 1; events = w.events + 1 }) (b ++ 0 ∷ []) (past ++ Close (Some (w.offset - 1)) ∷ []) t
 second_from w b past s [] has zero room = absurd (true≢false (sym zero.0))
 second_from w b past s (l ∷ ls) has zero room =
     let p : Place = place_after (place_in w.framing ls) (length (spelling l.before)) in
     let size : l.header.size ≡ Indefinite = size_indefinite l.header.size zero.0 in
-    let at : w.offset ≡ (place_of w.framing (with_layers s (l ∷ ls) InEnd)).at + 1 = place-offset w b past _ has in
+    let at : w.offset ≡ (place_of w.framing (with_layers s (l ∷ ls) InEndOctets)).at + 1 = place-offset w b past _ has in
     let header : l.header.offset ≡ p.at = has.layers.2.header.offset in
     let k : l.header.constructed ≡ true = constructed_indefinite l.header.constructed l.header.size size has.layers.2.header.valid.allowed in
     let ends : end_octets l.header.size ≡ 0 ∷ 0 ∷ [] = ap end_octets size in
@@ -111,19 +111,19 @@ second_from w b past s (l ∷ ls) has zero room =
     let fits : Fits p (extent l.header s.here) = subst (λ (n : ℕ). IsWithin p.bound n) (omega arith) outer in (
       _,
       subst (λ (e : EventValue). HasZipper (record w { stack = drop 1 w.stack; phase = phase.Between; offset = w.offset + 1; events = w.events + 1 }) (b ++ 0 ∷ []) (past ++ e ∷ []) (record { layers = ls; here = closed_here l s.here; tail = Between })) event
-          (close_state w _ b past l ls s.here InEnd (0 ∷ []) has has.stack refl (sym ends) (length_of l.header Indefinite _ size tt) fits refl (has.element)),
+          (close_state w _ b past l ls s.here InEndOctets (0 ∷ []) has has.stack refl (sym ends) (length_of l.header Indefinite _ size tt) fits refl (has.element)),
     )
 
 -- the second of the end-of-contents octets
-pub yields_second : (w : WalkerState) → w.phase ≡ phase.InEnd → IsWithin (bound_of w.stack) (w.offset + 1)
+pub yields_second : (w : WalkerState) → w.phase ≡ phase.InEndOctets → IsWithin (bound_of w.stack) (w.offset + 1)
     → Continues w (record w { stack = drop 1 w.stack; phase = phase.Between; offset = w.offset + 1; events = w.events + 1 }) (0 ∷ []) (Close (Some (w.offset - 1)) ∷ [])
 yields_second w e room = record {
   framing = refl;
   found = refl;
   goes = λ b past s has.
       let t = lone_tail s.tail _ (phase_at w b past s _ e has) in
-      let has' : HasZipper w b past (with_tail s InEnd) = tail_state w b past s _ t has in
-      second_from w b past s s.layers has' (phase_at w b past (with_tail s InEnd) _ e has') room;
+      let has' : HasZipper w b past (with_tail s InEndOctets) = tail_state w b past s _ t has in
+      second_from w b past s s.layers has' (phase_at w b past (with_tail s InEndOctets) _ e has') room;
 }
 
 -- the event of the end of an element that is filled has no offset
@@ -137,7 +137,7 @@ head_frame f g fs gs e = cc
 
 filled_from : (w : WalkerState) (b : List ℕ) (past : List EventValue) (s : Zipper) (ls : List Layer) → HasZipper w b past (with_layers s ls Between) → w.phase ≡ phase.Between
     → (f : Frame) (fs : List Frame) → w.stack ≡ f ∷ fs → f.end ≡ Some w.offset
-    → (t : Zipper) × HasZipper (record w { stack = drop 1 w.stack; events = w.events + 1 }) (b ++ []) (past ++ ending_event f ∷ []) t
+    → (t : Zipper) × HasZipper (record w { stack = drop 1 w.stack; events = w.events + 1 }) (b ++ []) (past ++ frame_closing_event f ∷ []) t
 filled_from w b past s [] has e f fs is full = absurd (cc (has.stack))
 filled_from w b past s (l ∷ ls) has e f fs is full =
     let p : Place = place_after (place_in w.framing ls) (length (spelling l.before)) in
@@ -147,7 +147,7 @@ filled_from w b past s (l ∷ ls) has e f fs is full =
     let long : contents_length l.header s.here ≡ size.0 = omega (arith, size.2, at, length-opening l.header) in
     let none : end_octets l.header.size ≡ [] = ap end_octets size.1 in
     let zero : length (end_octets l.header.size) ≡ 0 = ap length none in
-    let event : closing_event l.header s.here ≡ ending_event f = closes_definite l.header.constructed l.header.size size.0 _ size.1 ∙ ap ending_event (sym same) in
+    let event : closing_event l.header s.here ≡ frame_closing_event f = closes_definite l.header.constructed l.header.size size.0 _ size.1 ∙ ap frame_closing_event (sym same) in
     let entry : Fits p (length (octets_of l.header) + size.0) = subst (λ (t : Size). Fits p (length (octets_of l.header) + announced_length t)) size.1 has.layers.2.fits in
     let fits : Fits p (extent l.header s.here) = subst (λ (n : ℕ). Fits p n) (omega (arith, long, zero, length-opening l.header)) entry in
     let still : w.offset ≡ w.offset + 0 = omega arith in (
@@ -158,7 +158,7 @@ filled_from w b past s (l ∷ ls) has e f fs is full =
     )
 
 -- the end of an element enters no wrapper
-ending_enters : (f : Frame) → wrapper_offsets (ending_event f ∷ []) ≡ []
+ending_enters : (f : Frame) → wrapper_offsets (frame_closing_event f ∷ []) ≡ []
 ending_enters f = elim (cases_Bool f.wrapper) [
   | inl e ↦ rw e refl
   | inr e ↦ rw e refl
@@ -166,7 +166,7 @@ ending_enters f = elim (cases_Bool f.wrapper) [
 
 -- the innermost element, which is filled, ends
 pub yields_filled : (w : WalkerState) → w.phase ≡ phase.Between → (f : Frame) (fs : List Frame) → w.stack ≡ f ∷ fs → f.end ≡ Some w.offset
-    → Continues w (record w { stack = drop 1 w.stack; events = w.events + 1 }) [] (ending_event f ∷ [])
+    → Continues w (record w { stack = drop 1 w.stack; events = w.events + 1 }) [] (frame_closing_event f ∷ [])
 yields_filled w e f fs is full = record {
   framing = refl;
   found = ap (wrappers_after w.framing.inside w.wrapper_count) (sym (ending_enters f));
@@ -215,7 +215,7 @@ within_less (Some k) m n h w = omega (arith, h, w)
 pub yields_both : (w : WalkerState) → w.phase ≡ phase.Between → IsInIndefinite w.stack → IsWithin (bound_of w.stack) (w.offset + 2)
     → Continues w (record w { stack = drop 1 w.stack; offset = w.offset + 2; events = w.events + 1 }) (0 ∷ 0 ∷ []) (Close (Some w.offset) ∷ [])
 yields_both w e inside fits =
-    let mid : WalkerState = record w { phase = phase.InEnd; offset = w.offset + 1 } in
+    let mid : WalkerState = record w { phase = phase.InEndOctets; offset = w.offset + 1 } in
     let room : IsWithin (bound_of w.stack) (w.offset + 1) = within_less (bound_of w.stack) (w.offset + 1) (w.offset + 2) (omega arith) fits in
     let two : w.offset + 1 + 1 ≡ w.offset + 2 = omega arith in
     let one : w.offset + 1 - 1 ≡ w.offset = omega arith in

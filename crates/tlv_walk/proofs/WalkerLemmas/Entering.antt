@@ -12,7 +12,7 @@ use Rattle.tlv_walk.specs.WalkerState.{WalkerState}
 use Rattle.tlv_walk.specs.Private.WalkerState.{after_header}
 use Rattle.tlv_walk.specs.Place.{Fits, IsEntry, IsHeaderAt, IsOpen, Place}
 use Rattle.tlv_walk.specs.Stack.{Frame, IsWithin, bound_of}
-use Rattle.tlv_walk.specs.Private.Zipper.{BeforeUnused, Between, HasZipper, InContents, InEnd, InHeader, IsPhaseOf, Layer, Tail, Zipper, events_of_layers, events_of_tail, frame_at, frames_of, place_in, place_of, spelling_of_layers, spelling_of_tail}
+use Rattle.tlv_walk.specs.Private.Zipper.{InBitString, Between, HasZipper, InPrimitive, InEndOctets, InHeader, IsPhaseOf, Layer, Tail, Zipper, events_of_layers, events_of_tail, frame_at, frames_of, place_in, place_of, spelling_of_layers, spelling_of_tail}
 use Rattle.tlv_walk.specs.Private.Steps.{Continues}
 use Rattle.tlv_walk.proofs.WalkerLemmas.Moves.{between_tail, phase_at, spelled_after, tail_state, past_after, with_tail}
 use Rattle.tlv_walk.proofs.WalkerLemmas.Places.{place-bound, place-depth, place-inside, place-offset}
@@ -43,10 +43,10 @@ at_new w b past s r has e none at named =
 
 front_tail : (r : HeadReaderState) (t : Tail) (p : Place) → IsPhaseOf (phase.InHeader r) t p → (o : List ℕ) × (t ≡ InHeader o)
 front_tail r Between p x = absurd x
-front_tail r (InContents h c) p x = absurd x
-front_tail r (BeforeUnused h) p x = absurd x
+front_tail r (InPrimitive h c) p x = absurd x
+front_tail r (InBitString h) p x = absurd x
 front_tail r (InHeader o) p x = (o, refl)
-front_tail r InEnd p x = absurd x
+front_tail r InEndOctets p x = absurd x
 
 pub at_front : (w : WalkerState) (b : List ℕ) (past : List EventValue) (s : Zipper) (r : HeadReaderState) → HasZipper w b past s → w.phase ≡ phase.InHeader r
     → (o : List ℕ) × AtHeader w b past (with_tail s (InHeader o)) r
@@ -111,7 +111,7 @@ header_end w b past s r t h at c =
 -- a primitive begins
 pub primitive_state : (w : WalkerState) (b : List ℕ) (past : List EventValue) (s : Zipper) (r : HeadReaderState) (t : List ℕ) (h : HeaderValue) (n : ℕ) → AtHeader w b past s r → Completed w r t h
     → holds h ≡ false → h.size ≡ Definite n
-    → HasZipper (after_header w (phase.InContents n) (h.offset + length (octets_of h))) (b ++ t) (past ++ Begin h ∷ []) (with_tail s (InContents h []))
+    → HasZipper (after_header w (phase.InPrimitive n) (h.offset + length (octets_of h))) (b ++ t) (past ++ Begin h ∷ []) (with_tail s (InPrimitive h []))
 primitive_state w b past s r t h n at c e size =
     let zero : n ≡ 0 + n = omega arith in
     record {
@@ -163,8 +163,8 @@ holding_state w b past s r t h k at c e none = record {
 -- a wrapping BIT STRING begins
 pub lead_state : (w : WalkerState) (b : List ℕ) (past : List EventValue) (s : Zipper) (r : HeadReaderState) (t : List ℕ) (h : HeaderValue) (k : ℕ) → AtHeader w b past s r → Completed w r t h
     → holds h ≡ true → lead h ≡ 0 ∷ []
-    → HasZipper (record (after_header w phase.BeforeUnused (h.offset + length (octets_of h))) { stack = frame_at (place_of w.framing s) h ∷ w.stack; wrapper_count = k }) (b ++ t) (past ++ Enter h ∷ [])
-    (with_tail s (BeforeUnused h))
+    → HasZipper (record (after_header w phase.InBitString (h.offset + length (octets_of h))) { stack = frame_at (place_of w.framing s) h ∷ w.stack; wrapper_count = k }) (b ++ t) (past ++ Enter h ∷ [])
+    (with_tail s (InBitString h))
 lead_state w b past s r t h k at c e one = record {
   spelled = spelled_after s.layers s.here (spelling_of_tail s.tail) (octets_of h) t b (c.octets ∙ ap (λ (o : List ℕ). o ++ t) (sym at.octets)) at.has.spelled;
   offset = header_end w b past s r t h at c;
@@ -177,12 +177,12 @@ lead_state w b past s r t h k at c e one = record {
 }
 
 -- its first contents octet
-pub lead_tail : (t : Tail) (p : Place) → IsPhaseOf phase.BeforeUnused t p → (h : HeaderValue) × (t ≡ BeforeUnused h)
+pub lead_tail : (t : Tail) (p : Place) → IsPhaseOf phase.InBitString t p → (h : HeaderValue) × (t ≡ InBitString h)
 lead_tail Between p x = absurd x
-lead_tail (InContents h c) p x = absurd x
-lead_tail (BeforeUnused h) p x = (h, refl)
+lead_tail (InPrimitive h c) p x = absurd x
+lead_tail (InBitString h) p x = (h, refl)
 lead_tail (InHeader o) p x = absurd x
-lead_tail InEnd p x = absurd x
+lead_tail InEndOctets p x = absurd x
 
 abbrev pub lead_by : Bool → Bool → List ℕ
 lead_by constructed bits = if constructed then [] else (if bits then 0 ∷ [] else [])
@@ -191,7 +191,7 @@ lead_primitive : (k n : Bool) → lead_by k n ≡ 0 ∷ [] → k ≡ false
 lead_primitive true n e = absurd (cc)
 lead_primitive false n e = refl
 
-unused_state : (w : WalkerState) (b : List ℕ) (past : List EventValue) (s : Zipper) (h : HeaderValue) → HasZipper w b past (with_tail s (BeforeUnused h)) → IsOpen (place_of w.framing s) (OpenBitString h)
+unused_state : (w : WalkerState) (b : List ℕ) (past : List EventValue) (s : Zipper) (h : HeaderValue) → HasZipper w b past (with_tail s (InBitString h)) → IsOpen (place_of w.framing s) (OpenBitString h)
     → HasZipper (record w { phase = phase.Between; offset = w.offset + 1; events = w.events + 1 }) (b ++ 0 ∷ []) (past ++ Unused ∷ [])
     (record { layers = record { before = s.here; header = h } ∷ s.layers; here = NoMore; tail = Between })
 unused_state w b past s h has a =
@@ -208,15 +208,15 @@ unused_state w b past s h has a =
       element = has.element;
     }
 
-pub yields_unused : (w : WalkerState) → w.phase ≡ phase.BeforeUnused
+pub yields_unused : (w : WalkerState) → w.phase ≡ phase.InBitString
     → Continues w (record w { phase = phase.Between; offset = w.offset + 1; events = w.events + 1 }) (0 ∷ []) (Unused ∷ [])
 yields_unused w e = record {
   framing = refl;
   found = refl;
   goes = λ b past s has.
       let t = lead_tail s.tail _ (phase_at w b past s _ e has) in
-      let has' : HasZipper w b past (with_tail s (BeforeUnused t.0)) = tail_state w b past s _ t.1 has in
-      (_, unused_state w b past s t.0 has' (phase_at w b past (with_tail s (BeforeUnused t.0)) _ e has'));
+      let has' : HasZipper w b past (with_tail s (InBitString t.0)) = tail_state w b past s _ t.1 has in
+      (_, unused_state w b past s t.0 has' (phase_at w b past (with_tail s (InBitString t.0)) _ e has'));
 }
 
 -- more octets of a header

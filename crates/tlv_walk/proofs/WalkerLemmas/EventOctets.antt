@@ -14,7 +14,7 @@ use Rattle.tlv_walk.specs.Events.{AreEqualJoined, Begin, Bytes, Close, End, Ente
 use Rattle.tlv_walk.specs.Forest.{Forest, NoMore, PaddingOctet, Primitive, Holder, OpenPrimitive, OpenHolder, OpenBitString, OpenHeader, OpenEndOctets, end_octets, extent, is_complete, lead, opening, spelling}
 use Rattle.tlv_walk.specs.WalkerState.{IsAfterEvent, WalkerState}
 use Rattle.tlv_walk.specs.Place.{IsHeaderAt, IsOpen, Place, place_after, place_of_children}
-use Rattle.tlv_walk.specs.Private.Zipper.{AreLayers, BeforeUnused, Between, HasZipper, InContents, InEnd, InHeader, IsPhaseOf, Layer, Tail, Zipper, events_of_layers, events_of_tail, events_of_zipper, place_in, place_of, spelling_of_layers, spelling_of_tail}
+use Rattle.tlv_walk.specs.Private.Zipper.{AreLayers, InBitString, Between, HasZipper, InPrimitive, InEndOctets, InHeader, IsPhaseOf, Layer, Tail, Zipper, events_of_layers, events_of_tail, events_of_zipper, place_in, place_of, spelling_of_layers, spelling_of_tail}
 use Rattle.tlv_walk.specs.Stands.{Stands}
 use Rattle.tlv_walk.proofs.EventLemmas.Joined.{apart-from_joined}
 
@@ -121,9 +121,9 @@ octets_layers w (l ∷ ls) a =
 octets_tail : (f : Phase) (t : Tail) (p : Place) → IsPhaseOf f t p → IsAfterEvent f → flat_map event_octets (events_of_tail t) ≡ spelling_of_tail t
 octets_tail phase.Between Between p i k = refl
 octets_tail (phase.InHeader r) (InHeader octets) p i k = absurd k
-octets_tail (phase.InContents left) (InContents h c) p i k = ap (λ (l : List ℕ). octets_of h ++ l) (append-nil c)
-octets_tail phase.BeforeUnused (BeforeUnused h) p i k = append-nil (octets_of h)
-octets_tail phase.InEnd InEnd p i k = absurd k
+octets_tail (phase.InPrimitive left) (InPrimitive h c) p i k = ap (λ (l : List ℕ). octets_of h ++ l) (append-nil c)
+octets_tail phase.InBitString (InBitString h) p i k = append-nil (octets_of h)
+octets_tail phase.InEndOctets InEndOctets p i k = absurd k
 octets_tail f t p i k = absurd i
 
 -- a walker that has yielded an event of each octet

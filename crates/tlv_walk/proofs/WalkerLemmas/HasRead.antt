@@ -6,17 +6,17 @@ use Rattle.tlv_walk.specs.declared.ending.Ending.TheVariants as ending
 use Rattle.tlv_walk.specs.Ending.{IsEnding, ShowsSoundness}
 use Rattle.tlv_walk.specs.Events.{EventValue}
 use Rattle.tlv_walk.specs.Forest.{Forest}
-use Rattle.tlv_walk.specs.WalkerState.{WalkerState, first_without_string_in}
+use Rattle.tlv_walk.specs.WalkerState.{WalkerState, first_without_wrapper_in}
 use Rattle.tlv_walk.specs.OpenCount.{open_count}
-use Rattle.tlv_walk.specs.Phase.{Phase, Failed}
+use Rattle.tlv_walk.specs.Phase.{Phase, Refused}
 use Rattle.tlv_walk.specs.Place.{Place}
 use Rattle.tlv_walk.specs.Private.Zipper.{IsPhaseOf, Tail, place_of}
 use Rattle.tlv_walk.specs.Stands.{IsIdle, Stands}
 use Rattle.tlv_walk.specs.HasRead.{HasRead, StandsAtEnd, refused_one, refused, took, took_all}
-use Rattle.tlv_walk.specs.Wrappers.{first_without_string}
+use Rattle.tlv_walk.specs.Wrappers.{first_without_wrapper}
 use Rattle.tlv_walk.proofs.WalkerLemmas.OpenCounts.{state-depth}
 use Rattle.tlv_walk.proofs.GrammarLemmas.Readings.{reading-unique}
-use Rattle.tlv_walk.proofs.GrammarLemmas.Unique.{shows-soundness}
+use Rattle.tlv_walk.proofs.GrammarLemmas.Unique.{is_shown-soundness}
 use Rattle.tlv_walk.proofs.WalkerLemmas.ZipperReading.{state-reading}
 use Rattle.tlv_walk.proofs.EventLemmas.Unused.{stands_unused}
 use Rattle.tlv_walk.proofs.WalkerLemmas.Waiting.{idle}
@@ -31,20 +31,20 @@ pub read_offset : (w : WalkerState) (b : List ℕ) (f : Forest) → HasRead w b 
 read_offset w b f (took past st e) = st.private_state.has_state.offset
 read_offset w b f (refused x past g st e) = st.offset
 
-pub read_unused : (w : WalkerState) (b : List ℕ) (f : Forest) → HasRead w b f → first_without_string_in w ≡ first_without_string w.framing.inside f
-read_unused w b f (took past st e) = stands_unused w b past st ∙ ap (first_without_string w.framing.inside) e
-read_unused w b f (refused x past g st e) = st.unused ∙ ap (first_without_string w.framing.inside) e
+pub read_unused : (w : WalkerState) (b : List ℕ) (f : Forest) → HasRead w b f → first_without_wrapper_in w ≡ first_without_wrapper w.framing.inside f
+read_unused w b f (took past st e) = stands_unused w b past st ∙ ap (first_without_wrapper w.framing.inside) e
+read_unused w b f (refused x past g st e) = st.unused ∙ ap (first_without_wrapper w.framing.inside) e
 
 -- a walker that stands for octets was refused none
-pub never_failed : (w : WalkerState) (b : List ℕ) (past : List EventValue) (f : Fault) → Stands w b past → w.phase ≡ Failed f → ⊥
-never_failed w b past f st e = no_phase st.private_state.state.tail (place_of w.framing st.private_state.state) (subst (λ (p : Phase). IsPhaseOf p st.private_state.state.tail (place_of w.framing st.private_state.state)) e st.private_state.has_state.phase)
+pub never_refused : (w : WalkerState) (b : List ℕ) (past : List EventValue) (f : Fault) → Stands w b past → w.phase ≡ Refused f → ⊥
+never_refused w b past f st e = no_phase st.private_state.state.tail (place_of w.framing st.private_state.state) (subst (λ (p : Phase). IsPhaseOf p st.private_state.state.tail (place_of w.framing st.private_state.state)) e st.private_state.has_state.phase)
   where
-    no_phase : (t : Tail) (p : Place) → IsPhaseOf (Failed f) t p → ⊥
+    no_phase : (t : Tail) (p : Place) → IsPhaseOf (Refused f) t p → ⊥
     no_phase t p h = h
 
 -- at the end of the input, also if an octet was refused
 pub ends_by : (w : WalkerState) (o : List ℕ) (past : List EventValue) (result : Ending) → ((b : List ℕ) (past : List EventValue) → Stands w b past → IsEnding w.framing b result)
-    → ((f : Fault) → w.phase ≡ Failed f → result ≡ ending.Fault f) → StandsAtEnd w o past → IsEnding w.framing o result
+    → ((f : Fault) → w.phase ≡ Refused f → result ≡ ending.Fault f) → StandsAtEnd w o past → IsEnding w.framing o result
 ends_by w o past result stands failed (took_all st none) = stands o past st
 ends_by w o past result stands failed (refused_one f at) =
     subst (λ (l : List ℕ). IsEnding w.framing l result) at.octets_is
@@ -52,5 +52,5 @@ ends_by w o past result stands failed (refused_one f at) =
 
 -- and it shows whether the input is sound
 pub shows_by : (w : WalkerState) (o : List ℕ) (past : List EventValue) (result : Ending) → ((b : List ℕ) (past : List EventValue) → Stands w b past → IsEnding w.framing b result)
-    → ((f : Fault) → w.phase ≡ Failed f → result ≡ ending.Fault f) → StandsAtEnd w o past → ShowsSoundness w.framing o result
-shows_by w o past result stands failed at = shows-soundness w.framing o result (ends_by w o past result stands failed at)
+    → ((f : Fault) → w.phase ≡ Refused f → result ≡ ending.Fault f) → StandsAtEnd w o past → ShowsSoundness w.framing o result
+shows_by w o past result stands failed at = is_shown-soundness w.framing o result (ends_by w o past result stands failed at)

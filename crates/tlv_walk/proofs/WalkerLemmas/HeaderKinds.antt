@@ -4,7 +4,7 @@ use Rattle.std.proofs.lemmas.Bool.{true≢false}
 use Rattle.std.proofs.lemmas.List.{take-append-drop}
 use Rattle.tlv_head.specs.declared.header.HeaderFields.{HeaderFields}
 use Rattle.tlv_head.specs.declared.header.Size.TheVariants.{Definite}
-use Rattle.tlv_head.specs.Fields.{header_with}
+use Rattle.tlv_head.specs.HeaderFields.{header_with}
 use Rattle.tlv_head.specs.Header.{HeaderValue, announced_length, holds, is_wrapper, octets_of}
 use Rattle.tlv_head.specs.HeadReaderState.{HeadReaderState}
 use Rattle.tlv_walk.specs.declared.event.HeaderKind.{HeaderKind}
@@ -22,7 +22,7 @@ use Rattle.tlv_walk.specs.Stack.{Frame, IsWithin, bound_of}
 use Rattle.tlv_walk.specs.Private.Steps.{Continues}
 use Rattle.tlv_head.specs.ReadHeader.{BeginsWithFields}
 use Rattle.tlv_head.specs.Refusal.{BeginsWith}
-use Rattle.tlv_walk.specs.Private.Zipper.{Between, HasZipper, InContents, Zipper, frame_at, place_of}
+use Rattle.tlv_walk.specs.Private.Zipper.{Between, HasZipper, InPrimitive, Zipper, frame_at, place_of}
 use Rattle.tlv_walk.proofs.WalkerLemmas.Entering.{AtHeader, Completed, at_new, holding_state, lead_by, lead_state, primitive_state}
 use Rattle.tlv_walk.proofs.WalkerLemmas.Moves.{with_tail}
 use Rattle.tlv_walk.proofs.WalkerLemmas.Places.{place-bound}
@@ -78,10 +78,10 @@ constructed_enters w b past s r t h at c k =
     )
 
 wrapper_enters : (w : WalkerState) (b : List ℕ) (past : List EventValue) (s : Zipper) (r : HeadReaderState) (t : List ℕ) (h : HeaderValue) (n : ℕ) → AtHeader w b past s r → Completed w r t h → h.constructed ≡ false → holds h ≡ true
-    → (bits : Bool) → eqb h.number 3 ≡ bits → (u : Zipper) × HasZipper (machine_in_element w h (if bits then phase.BeforeUnused else phase.Between) n) (b ++ t) (past ++ Enter h ∷ []) u
+    → (bits : Bool) → eqb h.number 3 ≡ bits → (u : Zipper) × HasZipper (machine_in_element w h (if bits then phase.InBitString else phase.Between) n) (b ++ t) (past ++ Enter h ∷ []) u
 wrapper_enters w b past s r t h n at c k hold true bits =
     let one : lead h ≡ 0 ∷ [] = lead_at h false true k bits in
-    (_, pushed w b past s r t h phase.BeforeUnused n (Enter h) _ at c (lead_state w b past s r t h n at c hold one))
+    (_, pushed w b past s r t h phase.InBitString n (Enter h) _ at c (lead_state w b past s r t h n at c hold one))
 wrapper_enters w b past s r t h n at c k hold false bits =
     let none : lead h ≡ [] = lead_at h false false k bits in
     let has = holding_state w b past s r t h n at c hold none in (
@@ -92,11 +92,11 @@ wrapper_enters w b past s r t h n at c k hold false bits =
     )
 
 primitive_enters : (w : WalkerState) (b : List ℕ) (past : List EventValue) (s : Zipper) (r : HeadReaderState) (t : List ℕ) (h : HeaderValue) → AtHeader w b past s r → Completed w r t h → holds h ≡ false
-    → (u : Zipper) × HasZipper (after_header w (phase.InContents (announced_length h.size)) (h.offset + length (octets_of h))) (b ++ t) (past ++ Begin h ∷ []) u
+    → (u : Zipper) × HasZipper (after_header w (phase.InPrimitive (announced_length h.size)) (h.offset + length (octets_of h))) (b ++ t) (past ++ Begin h ∷ []) u
 primitive_enters w b past s r t h at c no_hold =
     let size : (n : ℕ) × (h.size ≡ Definite n) = size-definite h c.valid no_hold in (
       _,
-      subst (λ (n : ℕ). HasZipper (after_header w (phase.InContents n) (h.offset + length (octets_of h))) (b ++ t) (past ++ Begin h ∷ []) (with_tail s (InContents h []))) (sym (ap announced_length size.1))
+      subst (λ (n : ℕ). HasZipper (after_header w (phase.InPrimitive n) (h.offset + length (octets_of h))) (b ++ t) (past ++ Begin h ∷ []) (with_tail s (InPrimitive h []))) (sym (ap announced_length size.1))
           (primitive_state w b past s r t h size.0 at c no_hold size.1),
     )
 

@@ -20,7 +20,7 @@ use Rattle.tlv_walk.specs.WalkerState.{WalkerState}
 use Rattle.tlv_walk.specs.Place.{Fits, IsHeaderAt, Place}
 use Rattle.tlv_walk.specs.Private.ReadsOn.{HandsOver}
 use Rattle.tlv_walk.specs.Stack.{Frame, IsWithin, bound_of}
-use Rattle.tlv_walk.specs.Private.Stack.{left_to}
+use Rattle.tlv_walk.specs.Private.Stack.{room_to}
 use Rattle.tlv_walk.specs.Private.Zipper.{HasZipper, InHeader, Zipper, place_of}
 use Rattle.tlv_walk.specs.Private.Steps.{RefusesOctet}
 use Rattle.tlv_walk.proofs.WalkerLemmas.HeaderSteps.{HasTaken, TakenState, in_header, taken_state}
@@ -54,14 +54,14 @@ refused-after o x code (length_too_large c k n i ds left id each octets few many
 -- so a refusal has octets before it, or no room
 pub refused-some : (code : FaultCode) (r : HeadReaderState) (x : ℕ) (room : Option ℕ) (depth : ℕ) → IsRefusedPush code r x room depth → room ≢ Some 0 → r.octets ≡ [] → ⊥
 refused-some Overrun r x room depth (inl none) some e = some none
-refused-some Overrun r x room depth (inr past) some e = completes-two r x past.1.head past.1.completes e
-refused-some TooDeep r x room depth k some e = completes-two r x k.1.head k.1.completes e
+refused-some Overrun r x room depth (inr past) some e = completes-two r x past.1.header past.1.completes e
+refused-some TooDeep r x room depth k some e = completes-two r x k.1.header k.1.completes e
 refused-some code r x room depth k some e = refused-after r.octets x code k.1 e
 
 -- ---- what a reader refuses is a fault there
 
 -- the contents end past the bound
-past_bound : (size : Size) (b : Option ℕ) (n m : ℕ) → (ContentsFit size (left_to b n) → ⊥) → n + 1 + announced_length size ≤ m → IsWithin b m → ⊥
+past_bound : (size : Size) (b : Option ℕ) (n m : ℕ) → (ContentsFit size (room_to b n) → ⊥) → n + 1 + announced_length size ≤ m → IsWithin b m → ⊥
 past_bound (Definite k) None n m past h f = past tt
 past_bound Indefinite None n m past h f = past tt
 past_bound (Definite k) (Some b) n m past h f = past (omega arith)
@@ -72,7 +72,7 @@ pub record IsReader (p : Place) (q : HeadReaderState) (room : Option ℕ) (depth
   pub offset : q.offset ≡ p.at
   pub named : q.named ≡ is_among p.at p.inside
   pub depths : depth ≡ p.depth
-  pub left : room ≡ left_to p.bound (p.at + length q.octets)
+  pub left : room ≡ room_to p.bound (p.at + length q.octets)
   pub within : IsWithin p.bound (p.at + length q.octets)
 
 -- a header that its octets make
@@ -88,13 +88,13 @@ pub refused_fault : (p : Place) (q : HeadReaderState) (room : Option ℕ) (depth
 refused_fault p q room depth x Overrun k (inl none) =
     no_room (left_none p.bound (p.at + length q.octets) (p.at + (length q.octets + 1)) (sym k.left ∙ none) (omega arith))
 refused_fault p q room depth x Overrun k (inr past) =
-    let h : HeaderValue = past.1.head in
+    let h : HeaderValue = past.1.header in
     overrun (room_there p q room depth k past.0) h (header_there p q room depth x h (holds h) refl k past.1.completes) past.1.completes.octets
     (λ e. subst (λ (n : ℕ). n < 128) k.depths (past.1.shallow e))
     (past_bound h.size p.bound (p.at + length q.octets) _ (λ f. past.1.past (subst (ContentsFit h.size) (sym k.left) f))
     (omega (arith, ap length past.1.completes.octets, length-append q.octets (x ∷ []))))
 refused_fault p q room depth x TooDeep k f =
-    too_deep (room_there p q room depth k f.0) f.1.head (header_there p q room depth x f.1.head true f.1.holding k f.1.completes) f.1.completes.octets
+    too_deep (room_there p q room depth k f.0) f.1.header (header_there p q room depth x f.1.header true f.1.holding k f.1.completes) f.1.completes.octets
     (subst (λ (n : ℕ). 128 ≤ n) k.depths f.1.deep)
 refused_fault p q room depth x code k f = refused_octet (room_there p q room depth k f.0) f.1
 
@@ -102,7 +102,7 @@ refused_fault p q room depth x code k f = refused_octet (room_there p q room dep
 
 -- the reader of a walker inside a header stands where its state says
 reader_there : (w : WalkerState) (b : List ℕ) (past : List EventValue) (s : Zipper) (q : HeadReaderState) (depth : ℕ) → w.phase ≡ phase.InHeader q → HasZipper w b past (with_tail s (InHeader q.octets)) → depth ≡ length w.stack
-    → IsReader (place_of w.framing s) q (left_to (bound_of w.stack) (q.offset + length q.octets)) depth
+    → IsReader (place_of w.framing s) q (room_to (bound_of w.stack) (q.offset + length q.octets)) depth
 reader_there w b past s q depth e has d =
     let p : Place = place_of w.framing s in
     let at = phase_at w b past (with_tail s (InHeader q.octets)) (phase.InHeader q) e has in
@@ -111,14 +111,14 @@ reader_there w b past s q depth e has d =
       offset = at.1;
       named = at.2;
       depths = d ∙ ap length has.stack ∙ sym (place-depth w.framing s.layers);
-      left = ap (λ (o : Option ℕ). left_to o (q.offset + length q.octets)) bound ∙ ap (λ (n : ℕ). left_to p.bound (n + length q.octets)) at.1;
+      left = ap (λ (o : Option ℕ). room_to o (q.offset + length q.octets)) bound ∙ ap (λ (n : ℕ). room_to p.bound (n + length q.octets)) at.1;
       within = at.3.2;
     }
 
 -- the octet that its reader refuses
 pub refuses_header : (w u : WalkerState) (r q : HeadReaderState) (before after rest : List ℕ) (x depth at : ℕ) (f : Fault) → HandsOver w u r → HasTaken r q before after → after ≡ x ∷ rest
     → IsWithin (bound_of u.stack) at → q.offset + length q.octets ≡ at → depth ≡ length u.stack
-    → (q.octets ≡ [] → left_to (bound_of u.stack) at ≢ Some 0) → IsRefusedPush f.code q x (left_to (bound_of u.stack) at) depth → f.offset ≡ q.offset + length q.octets
+    → (q.octets ≡ [] → room_to (bound_of u.stack) at ≢ Some 0) → IsRefusedPush f.code q x (room_to (bound_of u.stack) at) depth → f.offset ≡ q.offset + length q.octets
     → RefusesOctet w before after f
 refuses_header w u r q before after rest x depth at f over k e within place deep room refused there =
     let some : q.octets ≡ [] → ⊥ = λ none. refused-some f.code q x _ depth refused (room none) none in record {
@@ -132,8 +132,8 @@ refuses_header w u r q before after rest x depth at f over k e within place deep
           let has' : HasZipper (in_header w q) (b ++ k.taken) past (with_tail t.state (InHeader q.octets)) =
           subst (λ (es : List EventValue). HasZipper (in_header w q) (b ++ k.taken) es (with_tail t.state (InHeader q.octets))) (append-nil past) t.has in
           let same : u.stack ≡ w.stack = ap (λ (m : WalkerState). m.stack) t.same in
-          let left : left_to (bound_of u.stack) at ≡ left_to (bound_of w.stack) (q.offset + length q.octets) =
-          ap (λ (fs : List Frame). left_to (bound_of fs) at) same ∙ ap (left_to (bound_of w.stack)) (sym place) in
+          let left : room_to (bound_of u.stack) at ≡ room_to (bound_of w.stack) (q.offset + length q.octets) =
+          ap (λ (fs : List Frame). room_to (bound_of fs) at) same ∙ ap (room_to (bound_of w.stack)) (sym place) in
           let faulty : IsFault (place_of w.framing t.state) x (OpenHeader q.octets) f.code =
           refused_fault _ q _ depth x f.code (reader_there (in_header w q) (b ++ k.taken) past t.state q depth refl has' (deep ∙ ap length same))
           (subst (λ (o : Option ℕ). IsRefusedPush f.code q x o depth) left refused) in record {

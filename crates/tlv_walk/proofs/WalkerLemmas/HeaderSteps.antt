@@ -5,7 +5,7 @@ use Rattle.std.proofs.lemmas.List.{take_all}
 use Rattle.tlv_head.specs.declared.header.HeaderFields.{HeaderFields}
 use Rattle.tlv_head.specs.declared.header.Size.{Size}
 use Rattle.tlv_head.specs.declared.header.Size.TheVariants.{Definite, Indefinite}
-use Rattle.tlv_head.specs.Fields.{header_with}
+use Rattle.tlv_head.specs.HeaderFields.{header_with}
 use Rattle.tlv_head.specs.Header.{HeaderValue, announced_length, octets_of}
 use Rattle.tlv_head.specs.HeadReaderState.{ContentsFit, HeadReaderState, with_octet}
 use Rattle.tlv_head.specs.Push.{Completes, FitsThere}
@@ -21,7 +21,7 @@ use Rattle.tlv_walk.specs.Private.WalkerState.{CanEnter, Enters, wrappers_after}
 use Rattle.tlv_walk.specs.Wrappers.{wrapper_offsets}
 use Rattle.tlv_walk.specs.Private.ReadsOn.{CompletesHeader, HandsOver, YieldsHeader}
 use Rattle.tlv_walk.specs.Stack.{IsWithin, bound_of}
-use Rattle.tlv_walk.specs.Private.Stack.{left_to}
+use Rattle.tlv_walk.specs.Private.Stack.{room_to}
 use Rattle.tlv_walk.specs.Private.Zipper.{Between, HasZipper, InHeader, IsPhaseOf, Zipper, place_of}
 use Rattle.tlv_walk.specs.Private.Steps.{Continues, YieldsEvent}
 use Rattle.tlv_walk.proofs.WalkerLemmas.Entering.{AtHeader, Completed, at_front, at_new, front_state}
@@ -171,7 +171,7 @@ first_octet [] h = absurd (omega arith)
 first_octet (x ∷ p) h = ap (λ (l : List ℕ). x ∷ l) (sym (take_all (length (x ∷ p) - 1) p (omega arith)))
 
 -- an octet below the bound
-pub within_next : (b : Option ℕ) (n : ℕ) → IsWithin b n → left_to b n ≢ Some 0 → IsWithin b (n + 1)
+pub within_next : (b : Option ℕ) (n : ℕ) → IsWithin b n → room_to b n ≢ Some 0 → IsWithin b (n + 1)
 within_next None n h some = tt
 within_next (Some m) n h some = elim (cases_eq m n) [
   | inl e ↦ let z : m - n ≡ 0 = omega arith in absurd (some (ap Some z))
@@ -179,7 +179,7 @@ within_next (Some m) n h some = elim (cases_eq m n) [
 ]
 
 -- contents that fit after it
-within_announced : (size : Size) (b : Option ℕ) (n : ℕ) → ContentsFit size (left_to b n) → IsWithin b (n + 1 + announced_length size)
+within_announced : (size : Size) (b : Option ℕ) (n : ℕ) → ContentsFit size (room_to b n) → IsWithin b (n + 1 + announced_length size)
 within_announced (Definite k) None n h = tt
 within_announced (Definite k) (Some m) n h = omega (arith, h)
 within_announced Indefinite None n h = tt
@@ -187,7 +187,7 @@ within_announced Indefinite (Some m) n h = omega (arith, h)
 
 -- the header that it completes may stand there
 pub whole_enters : (u : WalkerState) (q : HeadReaderState) (x depth at : ℕ) (h : HeaderValue) → u.events + length u.stack ≤ q.offset → q.offset + length q.octets ≡ at → at + 1 ≤ 2 ^ 40 → depth ≡ length u.stack
-    → Completes q x h → FitsThere h (left_to (bound_of u.stack) at) depth → CanEnter u h
+    → Completes q x h → FitsThere h (room_to (bound_of u.stack) at) depth → CanEnter u h
 whole_enters u q x depth at h fewer place limit deep c f =
     let end : h.offset + length (octets_of h) ≡ at + 1 = omega (arith, c.offset, ap length c.octets, length-append q.octets (x ∷ [])) in
     record {

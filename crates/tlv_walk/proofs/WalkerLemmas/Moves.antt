@@ -15,7 +15,7 @@ use Rattle.tlv_walk.specs.Wrappers.{wrapper_offsets}
 use Rattle.tlv_walk.proofs.EventLemmas.Wrappers.{enters-append}
 use Rattle.tlv_walk.specs.Place.{Fits, IsOpen, Place, is_indefinite, place_after}
 use Rattle.tlv_walk.specs.Stack.{Frame, IsInIndefinite, IsWithin, bound_of}
-use Rattle.tlv_walk.specs.Private.Zipper.{AreWhole, BeforeUnused, Between, HasZipper, InContents, InEnd, InHeader, IsContents, IsPhaseOf, Layer, Tail, Zipper, begins_among, events_of_layers, frames_of, place_in, place_of, spelling_of_layers}
+use Rattle.tlv_walk.specs.Private.Zipper.{AreWhole, InBitString, Between, HasZipper, InPrimitive, InEndOctets, InHeader, IsContents, IsPhaseOf, Layer, Tail, Zipper, begins_among, events_of_layers, frames_of, place_in, place_of, spelling_of_layers}
 use Rattle.tlv_walk.specs.Private.Steps.{Continues}
 use Rattle.tlv_walk.proofs.EventLemmas.Joined.{apart-before, apart-from_joined, apart-more, joined-from_apart}
 use Rattle.tlv_walk.proofs.GrammarLemmas.Spellings.{append_assoc-3}
@@ -108,17 +108,17 @@ pub phase_at : (w : WalkerState) (b : List ℕ) (past : List EventValue) (s : Zi
 phase_at w b past s f e has = subst (λ (g : Phase). IsPhaseOf g s.tail (place_of w.framing s)) e has.phase
 
 -- contents of a primitive
-contents_tail : (left : ℕ) (t : Tail) (p : Place) → IsPhaseOf (phase.InContents left) t p → (h : HeaderValue) × (c : List ℕ) × (t ≡ InContents h c)
+contents_tail : (left : ℕ) (t : Tail) (p : Place) → IsPhaseOf (phase.InPrimitive left) t p → (h : HeaderValue) × (c : List ℕ) × (t ≡ InPrimitive h c)
 contents_tail left Between p x = absurd x
-contents_tail left (InContents h c) p x = (h, c, refl)
-contents_tail left (BeforeUnused h) p x = absurd x
+contents_tail left (InPrimitive h c) p x = (h, c, refl)
+contents_tail left (InBitString h) p x = absurd x
 contents_tail left (InHeader o) p x = absurd x
-contents_tail left InEnd p x = absurd x
+contents_tail left InEndOctets p x = absurd x
 
 contents_state : (w : WalkerState) (b : List ℕ) (past : List EventValue) (s : Zipper) (h : HeaderValue) (c t : List ℕ) (left : ℕ)
-    → HasZipper w b past (with_tail s (InContents h c)) → w.phase ≡ phase.InContents left → length t ≤ left
-    → HasZipper (record w { phase = phase.InContents (left - length t); offset = w.offset + length t; events = w.events + 1 }) (b ++ t) (past ++ Bytes t ∷ [])
-    (with_tail s (InContents h (c ++ t)))
+    → HasZipper w b past (with_tail s (InPrimitive h c)) → w.phase ≡ phase.InPrimitive left → length t ≤ left
+    → HasZipper (record w { phase = phase.InPrimitive (left - length t); offset = w.offset + length t; events = w.events + 1 }) (b ++ t) (past ++ Bytes t ∷ [])
+    (with_tail s (InPrimitive h (c ++ t)))
 contents_state w b past s h c t left has e most =
     let k : IsContents (place_of w.framing s) h c left = phase_at w b past _ _ e has in
     let same : length c + left ≡ length (c ++ t) + (left - length t) = omega (arith, length-append c t) in
@@ -140,10 +140,10 @@ contents_state w b past s h c t left has e most =
     bytes_more : (h : HeaderValue) (c t : List ℕ) → single_octets (Begin h ∷ Bytes (c ++ t) ∷ []) ≡ single_octets (Begin h ∷ Bytes c ∷ Bytes t ∷ [])
     bytes_more h c t = ap (λ (es : List EventValue). Begin h ∷ es) (ap (λ (es : List EventValue). es ++ []) (map-append (λ x. Bytes (x ∷ [])) c t) ∙ append_assoc (map (λ x. Bytes (x ∷ [])) c) _ [])
 
-pub yields_contents : (w : WalkerState) (left : ℕ) (t : List ℕ) (n : ℕ) → w.phase ≡ phase.InContents left → length t ≤ left → n ≡ length t
-    → Continues w (record w { phase = phase.InContents (left - n); offset = w.offset + n; events = w.events + 1 }) t (Bytes t ∷ [])
+pub yields_contents : (w : WalkerState) (left : ℕ) (t : List ℕ) (n : ℕ) → w.phase ≡ phase.InPrimitive left → length t ≤ left → n ≡ length t
+    → Continues w (record w { phase = phase.InPrimitive (left - n); offset = w.offset + n; events = w.events + 1 }) t (Bytes t ∷ [])
 yields_contents w left t n e most len =
-    subst (λ (m : ℕ). Continues w (record w { phase = phase.InContents (left - m); offset = w.offset + m; events = w.events + 1 }) t (Bytes t ∷ [])) (sym len) (record {
+    subst (λ (m : ℕ). Continues w (record w { phase = phase.InPrimitive (left - m); offset = w.offset + m; events = w.events + 1 }) t (Bytes t ∷ [])) (sym len) (record {
       framing = refl;
       found = refl;
       goes = λ b past s has.
@@ -152,7 +152,7 @@ yields_contents w left t n e most len =
     })
 
 -- the end of a primitive
-end_state : (w : WalkerState) (b : List ℕ) (past : List EventValue) (s : Zipper) (h : HeaderValue) (c : List ℕ) → HasZipper w b past (with_tail s (InContents h c)) → w.phase ≡ phase.InContents 0
+end_state : (w : WalkerState) (b : List ℕ) (past : List EventValue) (s : Zipper) (h : HeaderValue) (c : List ℕ) → HasZipper w b past (with_tail s (InPrimitive h c)) → w.phase ≡ phase.InPrimitive 0
     → HasZipper (record w { phase = phase.Between; events = w.events + 1 }) (b ++ []) (past ++ End ∷ [])
     (record { layers = s.layers; here = followed_by s.here (Primitive h c NoMore); tail = Between })
 end_state w b past s h c has e =
@@ -170,7 +170,7 @@ end_state w b past s h c has e =
       element = has.element ∙ sym (began s.layers s.here (Primitive h c NoMore) has.here.whole refl);
     }
 
-pub yields_end : (w : WalkerState) → w.phase ≡ phase.InContents 0 → Continues w (record w { phase = phase.Between; events = w.events + 1 }) [] (End ∷ [])
+pub yields_end : (w : WalkerState) → w.phase ≡ phase.InPrimitive 0 → Continues w (record w { phase = phase.Between; events = w.events + 1 }) [] (End ∷ [])
 yields_end w e = record {
   framing = refl;
   found = refl;
@@ -182,17 +182,17 @@ yields_end w e = record {
 -- between elements
 pub between_tail : (t : Tail) (p : Place) → IsPhaseOf phase.Between t p → t ≡ Between
 between_tail Between p x = refl
-between_tail (InContents h c) p x = absurd x
-between_tail (BeforeUnused h) p x = absurd x
+between_tail (InPrimitive h c) p x = absurd x
+between_tail (InBitString h) p x = absurd x
 between_tail (InHeader o) p x = absurd x
-between_tail InEnd p x = absurd x
+between_tail InEndOctets p x = absurd x
 
-pub lone_tail : (t : Tail) (p : Place) → IsPhaseOf phase.InEnd t p → t ≡ InEnd
+pub lone_tail : (t : Tail) (p : Place) → IsPhaseOf phase.InEndOctets t p → t ≡ InEndOctets
 lone_tail Between p x = absurd x
-lone_tail (InContents h c) p x = absurd x
-lone_tail (BeforeUnused h) p x = absurd x
+lone_tail (InPrimitive h c) p x = absurd x
+lone_tail (InBitString h) p x = absurd x
 lone_tail (InHeader o) p x = absurd x
-lone_tail InEnd p x = refl
+lone_tail InEndOctets p x = refl
 
 -- a state inside an element that has these layers
 abbrev pub with_layers : Zipper → List Layer → Tail → Zipper
@@ -205,7 +205,7 @@ closed_here l inside = followed_by l.before (Holder l.header inside NoMore)
 -- the first of the end-of-contents octets
 zero_state : (w : WalkerState) (b : List ℕ) (past : List EventValue) (s : Zipper) (l : Layer) (ls : List Layer)
     → HasZipper w b past (record { layers = l ∷ ls; here = s.here; tail = Between }) → l.header.size ≡ Indefinite → Fits (place_after (place_in w.framing (l ∷ ls)) (length (spelling s.here))) 1
-    → HasZipper (record w { phase = phase.InEnd; offset = w.offset + 1 }) (b ++ 0 ∷ []) (past ++ []) (record { layers = l ∷ ls; here = s.here; tail = InEnd })
+    → HasZipper (record w { phase = phase.InEndOctets; offset = w.offset + 1 }) (b ++ 0 ∷ []) (past ++ []) (record { layers = l ∷ ls; here = s.here; tail = InEndOctets })
 zero_state w b past s l ls has e f = record {
   spelled = spelled_after (l ∷ ls) s.here [] (0 ∷ []) (0 ∷ []) b refl has.spelled;
   offset = omega (arith, has.offset, length-append b (0 ∷ []));
@@ -218,7 +218,7 @@ zero_state w b past s l ls has e f = record {
 }
 
 pub yields_zero : (w : WalkerState) → w.phase ≡ phase.Between → IsInIndefinite w.stack → IsWithin (bound_of w.stack) (w.offset + 1)
-    → Continues w (record w { phase = phase.InEnd; offset = w.offset + 1 }) (0 ∷ []) []
+    → Continues w (record w { phase = phase.InEndOctets; offset = w.offset + 1 }) (0 ∷ []) []
 yields_zero w e i f = record {
   framing = refl;
   found = refl;
@@ -229,7 +229,7 @@ yields_zero w e i f = record {
 }
   where
     zero_from : (w : WalkerState) (b : List ℕ) (past : List EventValue) (s : Zipper) (ls : List Layer) → s.layers ≡ ls → HasZipper w b past (with_layers s ls Between) → IsInIndefinite w.stack
-        → IsWithin (bound_of w.stack) (w.offset + 1) → (t : Zipper) × HasZipper (record w { phase = phase.InEnd; offset = w.offset + 1 }) (b ++ 0 ∷ []) (past ++ []) t
+        → IsWithin (bound_of w.stack) (w.offset + 1) → (t : Zipper) × HasZipper (record w { phase = phase.InEndOctets; offset = w.offset + 1 }) (b ++ 0 ∷ []) (past ++ []) t
     zero_from w b past s [] q has i f = absurd (subst IsInIndefinite has.stack i)
     zero_from w b past s (l ∷ ls) q has i f =
         let inside : IsInIndefinite (frames_of w.framing (l ∷ ls)) = subst IsInIndefinite has.stack i in
@@ -253,14 +253,14 @@ counted_state w n b past s has = record {
   element = has.element;
 }
 
-pub yields_passed : (w : WalkerState) (t : List ℕ) (n : ℕ) → w.phase ≡ phase.InContents (length t)
+pub yields_passed : (w : WalkerState) (t : List ℕ) (n : ℕ) → w.phase ≡ phase.InPrimitive (length t)
     → Continues w (record w { phase = phase.Between; offset = w.offset + length t; events = n }) t (Bytes t ∷ End ∷ [])
 yields_passed w t n e =
     let left : ℕ = length t in
-    let u : WalkerState = record w { phase = phase.InContents (left - left); offset = w.offset + left; events = w.events + 1 } in
+    let u : WalkerState = record w { phase = phase.InPrimitive (left - left); offset = w.offset + left; events = w.events + 1 } in
     let none : left - left ≡ 0 = omega arith in
     let one : Continues w u t (Bytes t ∷ []) = yields_contents w left t left e (omega arith) refl in
-    let two : Continues u (record u { phase = phase.Between; events = u.events + 1 }) [] (End ∷ []) = yields_end u (ap phase.InContents none) in
+    let two : Continues u (record u { phase = phase.Between; events = u.events + 1 }) [] (End ∷ []) = yields_end u (ap phase.InPrimitive none) in
     let both = subst (λ (o : List ℕ). Continues w (record u { phase = phase.Between; events = u.events + 1 }) o (Bytes t ∷ End ∷ [])) (append-nil t) (continues_both w u _ t [] (Bytes t ∷ []) (End ∷ []) one two) in
     record {
       framing = both.framing;

@@ -9,7 +9,7 @@ use Rattle.tlv_walk.specs.WalkerState.{WalkerState}
 use Rattle.tlv_walk.specs.Private.WalkerState.{EventWaits}
 use Rattle.tlv_walk.specs.OpenCount.{open_count}
 use Rattle.tlv_walk.specs.Place.{Place}
-use Rattle.tlv_walk.specs.Private.Zipper.{AreLayers, BeforeUnused, Between, HasZipper, InContents, InEnd, InHeader, Layer, Tail, Zipper, frames_of, place_of, stack_of}
+use Rattle.tlv_walk.specs.Private.Zipper.{AreLayers, InBitString, Between, HasZipper, InPrimitive, InEndOctets, InHeader, Layer, Tail, Zipper, frames_of, place_of, stack_of}
 use Rattle.tlv_walk.proofs.WalkerLemmas.ZipperEndings.{forest_of, state-within}
 use Rattle.tlv_walk.proofs.WalkerLemmas.Zipper.{followed_by, reading_of, within}
 
@@ -39,10 +39,10 @@ length-frames w (l ∷ ls) = ap suc (length-frames w ls)
 -- and so has a wrapping BIT STRING before its first contents octet
 length-stack : (w : Framing) (ls : List Layer) (p : Place) (t : Tail) → length (stack_of w ls p t) ≡ length ls + open_count (forest_of t)
 length-stack w ls p Between = omega (arith, length-frames w ls)
-length-stack w ls p (InContents h c) = omega (arith, length-frames w ls)
-length-stack w ls p (BeforeUnused h) = omega (arith, length-frames w ls)
+length-stack w ls p (InPrimitive h c) = omega (arith, length-frames w ls)
+length-stack w ls p (InBitString h) = omega (arith, length-frames w ls)
 length-stack w ls p (InHeader octets) = omega (arith, length-frames w ls)
-length-stack w ls p InEnd = omega (arith, length-frames w ls)
+length-stack w ls p InEndOctets = omega (arith, length-frames w ls)
 
 -- the frames of a walker are as many as the open elements of its reading that hold others
 pub state-depth : (w : WalkerState) (b : List ℕ) (past : List EventValue) (s : Zipper) → HasZipper w b past s → (EventWaits w → ⊥) → length w.stack ≡ open_count (reading_of s)

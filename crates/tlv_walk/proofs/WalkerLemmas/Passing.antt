@@ -4,7 +4,7 @@ use Rattle.std.proofs.lemmas.Bool.{true≢false}
 use Rattle.std.proofs.lemmas.List.{length-drop, length-take-le, take-append-drop}
 use Rattle.std.proofs.Math.Seq.{drop-append_seam, take-add}
 use Rattle.tlv_head.specs.declared.header.HeaderFields.{HeaderFields}
-use Rattle.tlv_head.specs.Fields.{header_with}
+use Rattle.tlv_head.specs.HeaderFields.{header_with}
 use Rattle.tlv_head.specs.Header.{announced_length, is_wrapper}
 use Rattle.tlv_walk.specs.declared.event.HeaderKind.TheVariants as kind
 use Rattle.tlv_walk.specs.declared.walker.quick.WholePrimitive.{WholePrimitive}
@@ -53,7 +53,7 @@ passed w p n = record w { offset = w.offset + p.octets; events = n; has_element 
 
 -- its header begins a primitive
 yields_header : (w : WalkerState) (piece : List ℕ) (p : WholePrimitive) → CanPass w piece p
-    → Continues w (after_header w (phase.InContents (announced_length p.fields.size)) (p.fields.offset + length (take p.header piece))) (take p.header piece) (Begin (header_at p piece) ∷ [])
+    → Continues w (after_header w (phase.InPrimitive (announced_length p.fields.size)) (p.fields.offset + length (take p.header piece))) (take p.header piece) (Begin (header_at p piece) ∷ [])
 yields_header w piece p can =
     let f : HeaderFields = p.fields in
     let o : List ℕ = take p.header piece in
@@ -71,11 +71,11 @@ yields_primitive w piece p n can =
     let c : List ℕ = contents_at p piece in
     let size : length c ≡ announced_length f.size = contents_length w piece p can in
     let at : ℕ = f.offset + length o in
-    let u : WalkerState = after_header w (phase.InContents (announced_length f.size)) at in
+    let u : WalkerState = after_header w (phase.InPrimitive (announced_length f.size)) at in
     let v : Phase → ℕ → WalkerState = λ q k. record w { phase = q; offset = k; events = n; has_element = true } in
     let end : at + length c ≡ w.offset + p.octets = omega (arith, can.begins.begins.offset, can.octets, length-take-le p.header piece can.begins.within, size) in
     let both : Continues w (v phase.Between (at + length c)) (o ++ c) (Begin (header_at p piece) ∷ Bytes c ∷ End ∷ []) =
-    continues_both w u _ o c (Begin (header_at p piece) ∷ []) (Bytes c ∷ End ∷ []) (yields_header w piece p can) (yields_passed u c n (ap phase.InContents (sym size))) in
+    continues_both w u _ o c (Begin (header_at p piece) ∷ []) (Bytes c ∷ End ∷ []) (yields_header w piece p can) (yields_passed u c n (ap phase.InPrimitive (sym size))) in
     subst (λ (q : Phase). Continues w (v q (w.offset + p.octets)) (take p.octets piece) (whole_events (header_at p piece) (take p.octets piece))) (sym can.phase)
     (subst (λ (k : ℕ). Continues w (v phase.Between k) (take p.octets piece) (whole_events (header_at p piece) (take p.octets piece))) end
     (subst (λ (l : List ℕ). Continues w (v phase.Between (at + length c)) (take p.octets piece) (Begin (header_at p piece) ∷ Bytes l ∷ End ∷ [])) (sym (contents_whole w piece p can))

@@ -12,8 +12,8 @@ use Rattle.tlv_walk.specs.Events.{EventValue}
 use Rattle.tlv_walk.specs.WalkerState.{WalkerState}
 use Rattle.tlv_walk.specs.Private.WalkerState.{EventWaits, EventWaitsIn, fault_at}
 use Rattle.tlv_walk.specs.Stack.{IsFilled, IsInIndefinite, IsWithin, bound_of}
-use Rattle.tlv_walk.specs.Private.Stack.{left_to, room_in}
-use Rattle.tlv_walk.specs.Private.Zipper.{BeforeUnused, Between, HasZipper, InEnd, Layer, Zipper, frames_of, place_in, place_of}
+use Rattle.tlv_walk.specs.Private.Stack.{room_to, room_in}
+use Rattle.tlv_walk.specs.Private.Zipper.{InBitString, Between, HasZipper, InEndOctets, Layer, Zipper, frames_of, place_in, place_of}
 use Rattle.tlv_walk.specs.Private.Steps.{RefusesOctet}
 use Rattle.tlv_walk.proofs.WalkerLemmas.Entering.{lead_tail}
 use Rattle.tlv_walk.proofs.WalkerLemmas.Moves.{between_tail, lone_tail, phase_at, tail_state, with_tail}
@@ -22,12 +22,12 @@ use Rattle.tlv_walk.proofs.WalkerLemmas.ZipperEndings.{forest_of, state-fault}
 use Rattle.tlv_walk.proofs.WalkerLemmas.Zipper.{place-indefinite}
 
 -- if there is no room before the bound, an octet more passes it
-pub left_none : (b : Option ℕ) (n m : ℕ) → left_to b n ≡ Some 0 → n < m → IsWithin b m → ⊥
+pub left_none : (b : Option ℕ) (n m : ℕ) → room_to b n ≡ Some 0 → n < m → IsWithin b m → ⊥
 left_none None n m e h f = absurd (cc)
 left_none (Some k) n m e h f = let z : k - n ≡ 0 = cc in omega arith
 
 -- if room is left an octet more does not
-pub left_some : (b : Option ℕ) (n m : ℕ) → (left_to b n ≡ Some 0 → ⊥) → m ≤ n + 1 → IsWithin b m
+pub left_some : (b : Option ℕ) (n m : ℕ) → (room_to b n ≡ Some 0 → ⊥) → m ≤ n + 1 → IsWithin b m
 left_some None n m f h = tt
 left_some (Some k) n m f h = let apart : k - n ≡ 0 → ⊥ = λ z. f (ap Some z) in omega arith
 
@@ -77,7 +77,7 @@ refuses_missing w x rest e unfilled inside within room = refuses_here w x rest M
     let t = between_tail s.tail _ (phase_at w b past s _ e has) in
     let has' : HasZipper w b past (with_tail s Between) = tail_state w b past s _ t has in
     let place : w.offset ≡ (place_of w.framing (with_tail s Between)).at + 0 = place-offset w b past _ has' in
-    let none : left_to (place_of w.framing (with_tail s Between)).bound w.offset ≡ Some 0 = subst (λ (o : Option ℕ). left_to o w.offset ≡ Some 0) (bound_there w b past _ has' has'.stack) room in (
+    let none : room_to (place_of w.framing (with_tail s Between)).bound w.offset ≡ Some 0 = subst (λ (o : Option ℕ). room_to o w.offset ≡ Some 0) (bound_there w b past _ has' has'.stack) room in (
       with_tail s Between,
       has',
       no_end ((place-indefinite w.framing s.layers).1 (subst IsInIndefinite has'.stack inside)) (left_none _ w.offset _ none (omega (arith, place))),
@@ -112,28 +112,28 @@ refuses_stray_front w piece some zero e unfilled outside padding =
     (refuses_stray w (drop 1 piece) e unfilled outside padding))
 
 -- the second of the end-of-contents octets
-pub refuses_second_missing : (w : WalkerState) (x : ℕ) (rest : List ℕ) → w.phase ≡ phase.InEnd → IsWithin (bound_of w.stack) w.offset → room_in w.stack w.offset ≡ Some 0
+pub refuses_second_missing : (w : WalkerState) (x : ℕ) (rest : List ℕ) → w.phase ≡ phase.InEndOctets → IsWithin (bound_of w.stack) w.offset → room_in w.stack w.offset ≡ Some 0
     → RefusesOctet w (x ∷ rest) (x ∷ rest) (fault_at MissingEnd w.offset)
-refuses_second_missing w x rest e within room = refuses_here w x rest MissingEnd (idle_at w phase.InEnd e (λ k. k)) (λ b past s has.
+refuses_second_missing w x rest e within room = refuses_here w x rest MissingEnd (idle_at w phase.InEndOctets e (λ k. k)) (λ b past s has.
     let t = lone_tail s.tail _ (phase_at w b past s _ e has) in
-    let has' : HasZipper w b past (with_tail s InEnd) = tail_state w b past s _ t has in
-    let place : w.offset ≡ (place_of w.framing (with_tail s InEnd)).at + 1 = place-offset w b past _ has' in
-    let none : left_to (place_of w.framing (with_tail s InEnd)).bound w.offset ≡ Some 0 = subst (λ (o : Option ℕ). left_to o w.offset ≡ Some 0) (bound_there w b past _ has' has'.stack) room in
-    (with_tail s InEnd, has', missing_end (left_none _ w.offset _ none (omega (arith, place)))))
+    let has' : HasZipper w b past (with_tail s InEndOctets) = tail_state w b past s _ t has in
+    let place : w.offset ≡ (place_of w.framing (with_tail s InEndOctets)).at + 1 = place-offset w b past _ has' in
+    let none : room_to (place_of w.framing (with_tail s InEndOctets)).bound w.offset ≡ Some 0 = subst (λ (o : Option ℕ). room_to o w.offset ≡ Some 0) (bound_there w b past _ has' has'.stack) room in
+    (with_tail s InEndOctets, has', missing_end (left_none _ w.offset _ none (omega (arith, place)))))
 
-pub refuses_second : (w : WalkerState) (x : ℕ) (rest : List ℕ) → w.phase ≡ phase.InEnd → (room_in w.stack w.offset ≡ Some 0 → ⊥) → x ≢ 0
+pub refuses_second : (w : WalkerState) (x : ℕ) (rest : List ℕ) → w.phase ≡ phase.InEndOctets → (room_in w.stack w.offset ≡ Some 0 → ⊥) → x ≢ 0
     → RefusesOctet w (x ∷ rest) (x ∷ rest) (fault_at BadEnd w.offset)
-refuses_second w x rest e room nonzero = refuses_here w x rest BadEnd (idle_at w phase.InEnd e (λ k. k)) (λ b past s has.
+refuses_second w x rest e room nonzero = refuses_here w x rest BadEnd (idle_at w phase.InEndOctets e (λ k. k)) (λ b past s has.
     let t = lone_tail s.tail _ (phase_at w b past s _ e has) in
-    let has' : HasZipper w b past (with_tail s InEnd) = tail_state w b past s _ t has in
-    let place : w.offset ≡ (place_of w.framing (with_tail s InEnd)).at + 1 = place-offset w b past _ has' in (
-      with_tail s InEnd,
+    let has' : HasZipper w b past (with_tail s InEndOctets) = tail_state w b past s _ t has in
+    let place : w.offset ≡ (place_of w.framing (with_tail s InEndOctets)).at + 1 = place-offset w b past _ has' in (
+      with_tail s InEndOctets,
       has',
-      bad_end (left_some _ w.offset _ (λ none. room (subst (λ (o : Option ℕ). left_to o w.offset ≡ Some 0) (sym (bound_there w b past _ has' has'.stack)) none)) (omega (arith, place))) nonzero,
+      bad_end (left_some _ w.offset _ (λ none. room (subst (λ (o : Option ℕ). room_to o w.offset ≡ Some 0) (sym (bound_there w b past _ has' has'.stack)) none)) (omega (arith, place))) nonzero,
     ))
 
 -- the first contents octet of a wrapping BIT STRING
-pub refuses_unused : (w : WalkerState) (x : ℕ) (rest : List ℕ) → w.phase ≡ phase.BeforeUnused → x ≢ 0 → RefusesOctet w (x ∷ rest) (x ∷ rest) (fault_at BadInside w.offset)
-refuses_unused w x rest e nonzero = refuses_here w x rest BadInside (idle_at w phase.BeforeUnused e (λ k. k)) (λ b past s has.
+pub refuses_unused : (w : WalkerState) (x : ℕ) (rest : List ℕ) → w.phase ≡ phase.InBitString → x ≢ 0 → RefusesOctet w (x ∷ rest) (x ∷ rest) (fault_at BadInside w.offset)
+refuses_unused w x rest e nonzero = refuses_here w x rest BadInside (idle_at w phase.InBitString e (λ k. k)) (λ b past s has.
     let t = lead_tail s.tail _ (phase_at w b past s _ e has) in
-    (with_tail s (BeforeUnused t.0), tail_state w b past s _ t.1 has, bad_inside nonzero))
+    (with_tail s (InBitString t.0), tail_state w b past s _ t.1 has, bad_inside nonzero))

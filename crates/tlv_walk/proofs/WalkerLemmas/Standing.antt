@@ -8,9 +8,9 @@ use Rattle.tlv_walk.specs.declared.event.Step.TheVariants as step
 use Rattle.tlv_walk.specs.declared.framing.Framing.{Framing}
 use Rattle.tlv_walk.specs.Events.{AreEqualJoined, EventValue, events}
 use Rattle.tlv_walk.specs.Inside.{CanName}
-use Rattle.tlv_walk.specs.WalkerState.{HasNotFailed, HasOctets, WalkerState}
+use Rattle.tlv_walk.specs.WalkerState.{HasNotRefused, HasOctets, WalkerState}
 use Rattle.tlv_walk.specs.Private.WalkerState.{Refuses, Steps, TakesAll, YieldsOne, wrappers_after}
-use Rattle.tlv_walk.specs.Phase.{Phase, Between, InHeader, InContents, BeforeUnused, InEnd, Failed}
+use Rattle.tlv_walk.specs.Phase.{Phase, Between, InHeader, InPrimitive, InBitString, InEndOctets, Refused}
 use Rattle.tlv_walk.specs.Wrappers.{wrapper_offsets}
 use Rattle.tlv_walk.proofs.WalkerLemmas.Moves.{found_in-append}
 use Rattle.tlv_walk.proofs.EventLemmas.Wrappers.{enters-append}
@@ -94,10 +94,10 @@ refused_walker old new before after f k r b past st =
 -- ---- what a step comes to
 
 -- an event
-reports : (old new : WalkerState) (before after : List ℕ) (e : Event) → HasNotFailed old → YieldsOne old new before after → HasOctets e → YieldsEvent old new before after (event_value e) → YieldsNext old new before after e
+reports : (old new : WalkerState) (before after : List ℕ) (e : Event) → HasNotRefused old → YieldsOne old new before after → HasOctets e → YieldsEvent old new before after (event_value e) → YieldsNext old new before after e
 reports old new before after e n k has t =
     let walked = stands_all old new before after (event_value e ∷ []) t in record {
-      not_failed = n;
+      not_refused = n;
       taken = walked.taken;
       piece = walked.piece;
       stands = walked.stands;
@@ -110,10 +110,10 @@ reports old new before after e n k has t =
     }
 
 -- more is needed
-uses_up : (old new : WalkerState) (before after : List ℕ) → HasNotFailed old → TakesAll old new before after → Continues old new before [] → UsesUpPiece old new before after
+uses_up : (old new : WalkerState) (before after : List ℕ) → HasNotRefused old → TakesAll old new before after → Continues old new before [] → UsesUpPiece old new before after
 uses_up old new before after n k t =
     record {
-      not_failed = n;
+      not_refused = n;
       none_left = k.none_left;
       stands = λ b past st.
           let u = t.goes b past st.private_state.state st.private_state.has_state in
@@ -126,9 +126,9 @@ uses_up old new before after n k t =
     }
 
 -- an octet is refused
-refuses_now : (old new : WalkerState) (before after : List ℕ) (f : Fault) → HasNotFailed old → Refuses old new before after f → RefusesOctet old before after f → RefusesNext old new before after f
+refuses_now : (old new : WalkerState) (before after : List ℕ) (f : Fault) → HasNotRefused old → Refuses old new before after f → RefusesOctet old before after f → RefusesNext old new before after f
 refuses_now old new before after f n k r = record {
-  not_failed = n;
+  not_refused = n;
   taken = r.taken;
   octet = r.octet;
   rest = r.rest;
@@ -144,34 +144,34 @@ refuses_now old new before after f n k r = record {
 }
 
 -- an octet was refused before, or none was
-failed_before : (p : Phase) → ((f : Fault) × (p ≡ Failed f)) ⊎ ((f : Fault) → p ≡ Failed f → ⊥)
-failed_before Between = inr (λ f e. cc)
-failed_before (InHeader r) = inr (λ f e. cc)
-failed_before (InContents left) = inr (λ f e. cc)
-failed_before BeforeUnused = inr (λ f e. cc)
-failed_before InEnd = inr (λ f e. cc)
-failed_before (Failed f) = inl (f, refl)
+refused_before : (p : Phase) → ((f : Fault) × (p ≡ Refused f)) ⊎ ((f : Fault) → p ≡ Refused f → ⊥)
+refused_before Between = inr (λ f e. cc)
+refused_before (InHeader r) = inr (λ f e. cc)
+refused_before (InPrimitive left) = inr (λ f e. cc)
+refused_before InBitString = inr (λ f e. cc)
+refused_before InEndOctets = inr (λ f e. cc)
+refused_before (Refused f) = inl (f, refl)
 
-fault_now : (old new : WalkerState) (before after : List ℕ) (f : Fault) → HasNotFailed old → Refuses old new before after f → YieldsFault old new before after f
+fault_now : (old new : WalkerState) (before after : List ℕ) (f : Fault) → HasNotRefused old → Refuses old new before after f → YieldsFault old new before after f
     → StepsTo old new before after (step.Fault f)
 fault_now old new before after f n k (inl r) = inl (refuses_now old new before after f n k r)
-fault_now old new before after f n k (inr r) = absurd (n f r.failed)
+fault_now old new before after f n k (inr r) = absurd (n f r.refused)
 
-steps_now : (old new : WalkerState) (before after : List ℕ) (s : Step) → HasNotFailed old → Steps old new before after s → YieldsStep old new before after s → StepsTo old new before after s
+steps_now : (old new : WalkerState) (before after : List ℕ) (s : Step) → HasNotRefused old → Steps old new before after s → YieldsStep old new before after s → StepsTo old new before after s
 steps_now old new before after (step.Event e) n k t = reports old new before after e n k.0 k.1 t
 steps_now old new before after step.NeedMore n k t = uses_up old new before after n k t
 steps_now old new before after (step.Fault f) n k t = fault_now old new before after f n k t
 
 steps_by : (old new : WalkerState) (before after : List ℕ) (s : Step) → Steps old new before after s → YieldsStep old new before after s
-    → ((f : Fault) → old.phase ≡ Failed f → (s ≡ step.Fault f) × RefusesAgain old new before after f) → ((f : Fault) × (old.phase ≡ Failed f)) ⊎ HasNotFailed old
+    → ((f : Fault) → old.phase ≡ Refused f → (s ≡ step.Fault f) × RefusesAgain old new before after f) → ((f : Fault) × (old.phase ≡ Refused f)) ⊎ HasNotRefused old
     → StepsTo old new before after s
 steps_by old new before after s k t again (inl x) =
     let a = again x.0 x.1 in subst (λ (r : Step). StepsTo old new before after r) (sym a.0) (inr a.1)
 steps_by old new before after s k t again (inr n) = steps_now old new before after s n k t
 
 pub steps_to : (old new : WalkerState) (before after : List ℕ) (s : Step) → Steps old new before after s → YieldsStep old new before after s
-    → ((f : Fault) → old.phase ≡ Failed f → (s ≡ step.Fault f) × RefusesAgain old new before after f) → StepsTo old new before after s
-steps_to old new before after s k t again = steps_by old new before after s k t again (failed_before old.phase)
+    → ((f : Fault) → old.phase ≡ Refused f → (s ≡ step.Fault f) × RefusesAgain old new before after f) → StepsTo old new before after s
+steps_to old new before after s k t again = steps_by old new before after s k t again (refused_before old.phase)
 
 -- ---- what is known of a step that yielded an event
 

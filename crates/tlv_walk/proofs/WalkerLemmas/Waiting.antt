@@ -7,12 +7,12 @@ use Rattle.tlv_walk.specs.Events.{End, EventValue}
 use Rattle.tlv_walk.specs.WalkerState.{WalkerState}
 use Rattle.tlv_walk.specs.Private.WalkerState.{AwaitsOctet, AwaitsOctetIn, EventWaits, EventWaitsIn}
 use Rattle.tlv_walk.specs.Stack.{Frame, IsFilled}
-use Rattle.tlv_walk.specs.Stands.{CanTake, IsIdle, ending_event, ending_events, is_end, waiting_events, waiting_events_in}
+use Rattle.tlv_walk.specs.Stands.{CanTake, IsIdle, frame_closing_event, closing_events, is_end, waiting_events, waiting_events_in}
 
 -- if nothing waits no events do
-no_endings : (at : ℕ) (fs : List Frame) → (IsFilled fs at → ⊥) → ending_events at fs ≡ []
+no_endings : (at : ℕ) (fs : List Frame) → (IsFilled fs at → ⊥) → closing_events at fs ≡ []
 no_endings at [] n = refl
-no_endings at (f ∷ fs) n = ap (λ (k : Bool). if k then ending_event f ∷ ending_events at fs else []) (unfilled f.end n)
+no_endings at (f ∷ fs) n = ap (λ (k : Bool). if k then frame_closing_event f ∷ closing_events at fs else []) (unfilled f.end n)
   where
     unfilled : (e : Option ℕ) → (e ≡ Some at → ⊥) → is_end e at ≡ false
     unfilled None n = refl
@@ -21,10 +21,10 @@ no_endings at (f ∷ fs) n = ap (λ (k : Bool). if k then ending_event f ∷ end
 quiet_in : (f : Phase) (stack : List Frame) (at : ℕ) → (EventWaitsIn f stack at → ⊥) → waiting_events_in f stack at ≡ []
 quiet_in phase.Between stack at n = no_endings at stack n
 quiet_in (phase.InHeader r) stack at n = refl
-quiet_in (phase.InContents left) stack at n = ap (λ (k : Bool). if k then End ∷ ending_events at stack else []) (ne_eqb left 0 n)
-quiet_in phase.BeforeUnused stack at n = refl
-quiet_in phase.InEnd stack at n = refl
-quiet_in (phase.Failed fault) stack at n = refl
+quiet_in (phase.InPrimitive left) stack at n = ap (λ (k : Bool). if k then End ∷ closing_events at stack else []) (ne_eqb left 0 n)
+quiet_in phase.InBitString stack at n = refl
+quiet_in phase.InEndOctets stack at n = refl
+quiet_in (phase.Refused fault) stack at n = refl
 
 pub quiet : (w : WalkerState) → (EventWaits w → ⊥) → waiting_events w ≡ []
 quiet w n = quiet_in w.phase w.stack w.offset n
@@ -36,12 +36,12 @@ no_more e es false t n = absurd (cc)
 
 loud_in : (f : Phase) (stack : List Frame) (at : ℕ) → EventWaitsIn f stack at → waiting_events_in f stack at ≡ [] → ⊥
 loud_in phase.Between [] at i n = i
-loud_in phase.Between (f ∷ fs) at i n = no_more (ending_event f) (ending_events at fs) (is_end f.end at) (ap (λ (e : Option ℕ). is_end e at) i ∙ eq-eqb at at refl) n
+loud_in phase.Between (f ∷ fs) at i n = no_more (frame_closing_event f) (closing_events at fs) (is_end f.end at) (ap (λ (e : Option ℕ). is_end e at) i ∙ eq-eqb at at refl) n
 loud_in (phase.InHeader r) stack at i n = i
-loud_in (phase.InContents left) stack at i n = no_more End (ending_events at stack) (eqb left 0) (eq-eqb left 0 i) n
-loud_in phase.BeforeUnused stack at i n = i
-loud_in phase.InEnd stack at i n = i
-loud_in (phase.Failed fault) stack at i n = i
+loud_in (phase.InPrimitive left) stack at i n = no_more End (closing_events at stack) (eqb left 0) (eq-eqb left 0 i) n
+loud_in phase.InBitString stack at i n = i
+loud_in phase.InEndOctets stack at i n = i
+loud_in (phase.Refused fault) stack at i n = i
 
 pub idle : (w : WalkerState) → IsIdle w → EventWaits w → ⊥
 idle w n i = loud_in w.phase w.stack w.offset i n
@@ -55,27 +55,27 @@ waits w false h = (λ e. quiet w (λ i. cc (h.1 i)), λ n. refl)
 
 awaits_none : (f : Phase) (stack : List Frame) (at : ℕ) → AwaitsOctetIn f stack at → EventWaitsIn f stack at → ⊥
 awaits_none phase.Between stack at r i = r i
-awaits_none (phase.InContents left) stack at r i = r i
+awaits_none (phase.InPrimitive left) stack at r i = r i
 awaits_none (phase.InHeader p) stack at r i = i
-awaits_none phase.BeforeUnused stack at r i = i
-awaits_none phase.InEnd stack at r i = i
-awaits_none (phase.Failed f) stack at r i = i
+awaits_none phase.InBitString stack at r i = i
+awaits_none phase.InEndOctets stack at r i = i
+awaits_none (phase.Refused f) stack at r i = i
 
-awaits_unfailed : (p : Phase) (stack : List Frame) (at : ℕ) → AwaitsOctetIn p stack at → (f : Fault) → p ≡ phase.Failed f → ⊥
+awaits_unfailed : (p : Phase) (stack : List Frame) (at : ℕ) → AwaitsOctetIn p stack at → (f : Fault) → p ≡ phase.Refused f → ⊥
 awaits_unfailed phase.Between stack at r f e = cc
-awaits_unfailed (phase.InContents left) stack at r f e = cc
+awaits_unfailed (phase.InPrimitive left) stack at r f e = cc
 awaits_unfailed (phase.InHeader p) stack at r f e = cc
-awaits_unfailed phase.BeforeUnused stack at r f e = cc
-awaits_unfailed phase.InEnd stack at r f e = cc
-awaits_unfailed (phase.Failed g) stack at r f e = r
+awaits_unfailed phase.InBitString stack at r f e = cc
+awaits_unfailed phase.InEndOctets stack at r f e = cc
+awaits_unfailed (phase.Refused g) stack at r f e = r
 
-takes_in : (p : Phase) (stack : List Frame) (at : ℕ) → waiting_events_in p stack at ≡ [] → ((f : Fault) → p ≡ phase.Failed f → ⊥) → AwaitsOctetIn p stack at
+takes_in : (p : Phase) (stack : List Frame) (at : ℕ) → waiting_events_in p stack at ≡ [] → ((f : Fault) → p ≡ phase.Refused f → ⊥) → AwaitsOctetIn p stack at
 takes_in phase.Between stack at n u = λ i. loud_in phase.Between stack at i n
-takes_in (phase.InContents left) stack at n u = λ i. loud_in (phase.InContents left) stack at i n
+takes_in (phase.InPrimitive left) stack at n u = λ i. loud_in (phase.InPrimitive left) stack at i n
 takes_in (phase.InHeader p) stack at n u = tt
-takes_in phase.BeforeUnused stack at n u = tt
-takes_in phase.InEnd stack at n u = tt
-takes_in (phase.Failed f) stack at n u = u f refl
+takes_in phase.InBitString stack at n u = tt
+takes_in phase.InEndOctets stack at n u = tt
+takes_in (phase.Refused f) stack at n u = u f refl
 
 -- what the phase says, and what it means
 pub awaits-can_take : (w : WalkerState) → AwaitsOctet w → CanTake w

@@ -11,7 +11,7 @@ use Rattle.tlv_walk.specs.Place.{Fits, IsOpen, Place, is_indefinite, place_after
 use Rattle.tlv_walk.proofs.GrammarLemmas.Lengths.{LacksOctets}
 use Rattle.tlv_walk.specs.Private.Stack.{bound_in}
 use Rattle.tlv_walk.specs.Stack.{IsInIndefinite, bound_of}
-use Rattle.tlv_walk.specs.Private.Zipper.{AreLayers, AreWhole, BeforeUnused, Between, InContents, InEnd, InHeader, Layer, Tail, Zipper, frames_of, place_in, spelling_of_layers}
+use Rattle.tlv_walk.specs.Private.Zipper.{AreLayers, AreWhole, InBitString, Between, InPrimitive, InEndOctets, InHeader, Layer, Tail, Zipper, frames_of, place_in, spelling_of_layers}
 use Rattle.tlv_walk.proofs.GrammarLemmas.Bounds.{fits-inside}
 use Rattle.tlv_walk.proofs.GrammarLemmas.PushSteps.{is_filled}
 use Rattle.tlv_walk.proofs.GrammarLemmas.Spellings.{append_assoc-3, append_assoc-4, length-holder, length-primitive}
@@ -45,10 +45,10 @@ primitive_in ls here h c false = within ls (followed_by here (OpenPrimitive h c)
 -- what a state has been read as
 abbrev pub reading_in : List Layer → Forest → Tail → Forest
 reading_in ls here Between = settled ls here
-reading_in ls here (InContents h c) = primitive_in ls here h c (eqb (length c) (announced_length h.size))
-reading_in ls here (BeforeUnused h) = within ls (followed_by here (OpenBitString h))
+reading_in ls here (InPrimitive h c) = primitive_in ls here h c (eqb (length c) (announced_length h.size))
+reading_in ls here (InBitString h) = within ls (followed_by here (OpenBitString h))
 reading_in ls here (InHeader octets) = within ls (followed_by here (OpenHeader octets))
-reading_in ls here InEnd = within ls (followed_by here OpenEndOctets)
+reading_in ls here InEndOctets = within ls (followed_by here OpenEndOctets)
 
 abbrev pub reading_of : Zipper → Forest
 reading_of s = reading_in s.layers s.here s.tail

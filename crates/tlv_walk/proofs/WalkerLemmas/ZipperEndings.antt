@@ -13,7 +13,7 @@ use Rattle.tlv_walk.specs.Forest.{Forest, NoMore, OpenPrimitive, OpenBitString, 
 use Rattle.tlv_walk.specs.WalkerState.{WalkerState}
 use Rattle.tlv_walk.specs.Private.WalkerState.{EventWaits, EventWaitsIn}
 use Rattle.tlv_walk.specs.Place.{Place, top_place}
-use Rattle.tlv_walk.specs.Private.Zipper.{BeforeUnused, Between, HasZipper, InContents, InEnd, InHeader, IsPhaseOf, Layer, Tail, Zipper, begins_element, frames_of, place_in, place_of, spelling_of_tail, stack_of}
+use Rattle.tlv_walk.specs.Private.Zipper.{InBitString, Between, HasZipper, InPrimitive, InEndOctets, InHeader, IsPhaseOf, Layer, Tail, Zipper, begins_element, frames_of, place_in, place_of, spelling_of_tail, stack_of}
 use Rattle.tlv_walk.proofs.GrammarLemmas.Endings.{halt-ending}
 use Rattle.tlv_walk.proofs.GrammarLemmas.Faults.{fault-refused}
 use Rattle.tlv_walk.proofs.GrammarLemmas.PushSteps.{Spells}
@@ -25,10 +25,10 @@ use Rattle.tlv_walk.proofs.WalkerLemmas.Zipper.{followed_by, followed_by-none, r
 -- what is open after the whole elements, as a forest: of a primitive, one that lacks contents octets
 abbrev pub forest_of : Tail → Forest
 forest_of Between = NoMore
-forest_of (InContents h c) = OpenPrimitive h c
-forest_of (BeforeUnused h) = OpenBitString h
+forest_of (InPrimitive h c) = OpenPrimitive h c
+forest_of (InBitString h) = OpenBitString h
 forest_of (InHeader octets) = OpenHeader octets
-forest_of InEnd = OpenEndOctets
+forest_of InEndOctets = OpenEndOctets
 
 -- the whole elements end at the offset: no element is filled there
 filled-at : (w : Framing) (ls : List Layer) (here : Forest) (at : ℕ) → at ≡ end_in w ls here + 0 → (EventWaitsIn phase.Between (frames_of w ls) at → ⊥) → EventWaitsIn phase.Between (frames_of w ls) (end_in w ls here) → ⊥
@@ -40,10 +40,10 @@ reading-within : (w : Framing) (ls : List Layer) (here : Forest) (f : Phase) (t 
     → reading_in ls here t ≡ within ls (followed_by here (forest_of t))
 reading-within w ls here phase.Between Between at j e n =
     settled-within w ls here (filled-at w ls here at e n) ∙ ap (within ls) (sym (followed_by-none here))
-reading-within w ls here (phase.InContents left) (InContents h c) at j e n = rw (contents-less _ h c left j n) refl
+reading-within w ls here (phase.InPrimitive left) (InPrimitive h c) at j e n = rw (contents-less _ h c left j n) refl
 reading-within w ls here (phase.InHeader r) (InHeader octets) at j e n = refl
-reading-within w ls here phase.BeforeUnused (BeforeUnused h) at j e n = refl
-reading-within w ls here phase.InEnd InEnd at j e n = refl
+reading-within w ls here phase.InBitString (InBitString h) at j e n = refl
+reading-within w ls here phase.InEndOctets InEndOctets at j e n = refl
 reading-within w ls here f t at j e n = absurd j
 
 -- so what a walker with nothing waiting has read is its layers, its whole elements and what is open
@@ -57,10 +57,10 @@ state-within w b past s h n =
 -- what is open after the whole elements is the open end
 tip-tail : (p : Place) (t : Tail) → tip p (forest_of t) ≡ (p, forest_of t)
 tip-tail p Between = refl
-tip-tail p (InContents h c) = refl
-tip-tail p (BeforeUnused h) = refl
+tip-tail p (InPrimitive h c) = refl
+tip-tail p (InBitString h) = refl
 tip-tail p (InHeader octets) = refl
-tip-tail p InEnd = refl
+tip-tail p InEndOctets = refl
 
 -- the open end of the reading is that of the state
 pub state-tip : (w : WalkerState) (b : List ℕ) (past : List EventValue) (s : Zipper) → HasZipper w b past s → (EventWaits w → ⊥)
@@ -134,9 +134,9 @@ open-elsewhere : (w : Framing) (ls : List Layer) (here : Forest) (f : Phase) (t 
     → (f ≡ phase.Between → stack_of w ls (later_place w ls here) t ≡ [] → ⊥) → ls ≡ [] → is_complete (forest_of t) ≡ false
 open-elsewhere w ls here phase.Between Between j n e = absurd (n refl (ap (frames_of w) e))
 open-elsewhere w ls here (phase.InHeader r) (InHeader octets) j n e = refl
-open-elsewhere w ls here (phase.InContents left) (InContents h c) j n e = refl
-open-elsewhere w ls here phase.BeforeUnused (BeforeUnused h) j n e = refl
-open-elsewhere w ls here phase.InEnd InEnd j n e = refl
+open-elsewhere w ls here (phase.InPrimitive left) (InPrimitive h c) j n e = refl
+open-elsewhere w ls here phase.InBitString (InBitString h) j n e = refl
+open-elsewhere w ls here phase.InEndOctets InEndOctets j n e = refl
 open-elsewhere w ls here f t j n e = absurd j
 
 -- there the input is too short

@@ -13,8 +13,8 @@ use Rattle.tlv_walk.specs.WalkerState.{WalkerState, new_walker}
 use Rattle.tlv_walk.specs.Private.WalkerState.{wrappers_after}
 use Rattle.tlv_walk.specs.Place.{IsOpen, Place, place_after, top_place}
 use Rattle.tlv_walk.specs.Reading.{IsReading}
-use Rattle.tlv_walk.specs.Stands.{Stands, ending_events, waiting_events, waiting_events_in}
-use Rattle.tlv_walk.specs.Private.Zipper.{AreLayers, AreWhole, BeforeUnused, Between, HasZipper, InContents, InEnd, InHeader, IsContents, IsPhaseOf, Layer, Tail, Zipper, events_of_layers, events_of_tail, events_of_zipper, frames_of, place_in, place_of, spelling_of_layers, spelling_of_tail, spelling_of_zipper, stack_of}
+use Rattle.tlv_walk.specs.Stands.{Stands, closing_events, waiting_events, waiting_events_in}
+use Rattle.tlv_walk.specs.Private.Zipper.{AreLayers, AreWhole, InBitString, Between, HasZipper, InPrimitive, InEndOctets, InHeader, IsContents, IsPhaseOf, Layer, Tail, Zipper, events_of_layers, events_of_tail, events_of_zipper, frames_of, place_in, place_of, spelling_of_layers, spelling_of_tail, spelling_of_zipper, stack_of}
 use Rattle.tlv_walk.proofs.WalkerLemmas.ZipperWrappers.{wrappers_layers, wrappers_tail, wrappers_zipper}
 use Rattle.tlv_walk.specs.Inside.{CanName}
 use Rattle.tlv_walk.specs.Wrappers.{wrapper_offsets, wrappers}
@@ -71,11 +71,11 @@ whole-spells w ls here g a i j =
 -- they have these events, and then the ends of the elements that are filled
 whole-events : (w : Framing) (ls : List Layer) (here g : Forest) (at : ℕ) → AreLayers w ls → AreWhole (place_in w ls) here → AreWhole (later_place w ls here) g
     → at ≡ (later_place w ls here).at + length (spelling g)
-    → events (settled ls (followed_by here g)) ≡ (events_of_layers ls ++ (events here ++ events g)) ++ ending_events at (frames_of w ls)
+    → events (settled ls (followed_by here g)) ≡ (events_of_layers ls ++ (events here ++ events g)) ++ closing_events at (frames_of w ls)
 whole-events w ls here g at a i j e =
     events-settled w ls (followed_by here g) a (more-whole w ls here g i j)
-    ∙ ap (λ (t : List EventValue). (events_of_layers ls ++ t) ++ ending_events (end_in w ls (followed_by here g)) (frames_of w ls)) (events-followed_by here g i.whole)
-    ∙ ap (λ (n : ℕ). (events_of_layers ls ++ (events here ++ events g)) ++ ending_events n (frames_of w ls)) (followed_by-end w ls here g i.whole ∙ sym e)
+    ∙ ap (λ (t : List EventValue). (events_of_layers ls ++ t) ++ closing_events (end_in w ls (followed_by here g)) (frames_of w ls)) (events-followed_by here g i.whole)
+    ∙ ap (λ (n : ℕ). (events_of_layers ls ++ (events here ++ events g)) ++ closing_events n (frames_of w ls)) (followed_by-end w ls here g i.whole ∙ sym e)
 
 -- and these wrappers
 whole-wrappers : (w : Framing) (ls : List Layer) (here g : Forest) → AreLayers w ls → AreWhole (place_in w ls) here → AreWhole (later_place w ls here) g
@@ -112,18 +112,18 @@ contents-less p h c left i n =
 -- what holds of what is open after the whole elements, whatever the phase
 abbrev pub IsTailAt : Place → Tail → Type 0
 IsTailAt p Between = Unit {0}
-IsTailAt p (InContents h c) = (left : ℕ) × IsContents p h c left
-IsTailAt p (BeforeUnused h) = IsOpen p (OpenBitString h)
+IsTailAt p (InPrimitive h c) = (left : ℕ) × IsContents p h c left
+IsTailAt p (InBitString h) = IsOpen p (OpenBitString h)
 IsTailAt p (InHeader octets) = IsOpen p (OpenHeader octets)
-IsTailAt p InEnd = IsOpen p OpenEndOctets
+IsTailAt p InEndOctets = IsOpen p OpenEndOctets
 
 -- the phase says so
 pub phase-tail : (f : Phase) (t : Tail) (p : Place) → IsPhaseOf f t p → IsTailAt p t
 phase-tail phase.Between Between p i = tt
 phase-tail (phase.InHeader r) (InHeader octets) p i = i.3
-phase-tail (phase.InContents left) (InContents h c) p i = (left, i)
-phase-tail phase.BeforeUnused (BeforeUnused h) p i = i
-phase-tail phase.InEnd InEnd p i = i
+phase-tail (phase.InPrimitive left) (InPrimitive h c) p i = (left, i)
+phase-tail phase.InBitString (InBitString h) p i = i
+phase-tail phase.InEndOctets InEndOctets p i = i
 phase-tail f t p i = absurd i
 
 -- what a state has been read as is open, with the state's octets
@@ -132,7 +132,7 @@ reading-spells : (w : Framing) (ls : List Layer) (here : Forest) (t : Tail) → 
 reading-spells w ls here Between a i j =
     let r : Spells (top_place w) (spelling_of_layers ls ++ spelling here) (settled ls here) = settled-spells w ls here a i in
     record { is_open = r.is_open; spelled = r.spelled ∙ ap (λ (t : List ℕ). spelling_of_layers ls ++ t) (sym (append-nil (spelling here))) }
-reading-spells w ls here (InContents h c) a i j = elim (cases_eq j.0 0) [
+reading-spells w ls here (InPrimitive h c) a i j = elim (cases_eq j.0 0) [
   | inl z ↦
       let r : Spells (top_place w) (spelling_of_layers ls ++ (spelling here ++ (octets_of h ++ (c ++ [])))) (settled ls (followed_by here (Primitive h c NoMore))) =
       whole-spells w ls here (Primitive h c NoMore) a i (contents-whole _ h c j.0 j.1 z) in
@@ -140,21 +140,21 @@ reading-spells w ls here (InContents h c) a i j = elim (cases_eq j.0 0) [
       (record { is_open = r.is_open; spelled = r.spelled ∙ ap (λ (t : List ℕ). spelling_of_layers ls ++ (spelling here ++ (octets_of h ++ t))) (append-nil c) })
   | inr n ↦ rw (contents-less _ h c j.0 j.1 n) (open-spells w ls here (OpenPrimitive h c) a i (contents-open_primitive _ h c j.0 j.1 n) refl)
 ]
-reading-spells w ls here (BeforeUnused h) a i j = open-spells w ls here (OpenBitString h) a i j refl
+reading-spells w ls here (InBitString h) a i j = open-spells w ls here (OpenBitString h) a i j refl
 reading-spells w ls here (InHeader octets) a i j = open-spells w ls here (OpenHeader octets) a i j refl
-reading-spells w ls here InEnd a i j = open-spells w ls here OpenEndOctets a i j refl
+reading-spells w ls here InEndOctets a i j = open-spells w ls here OpenEndOctets a i j refl
 
 -- its wrappers are the state's
 reading-wrappers : (w : Framing) (ls : List Layer) (here : Forest) (t : Tail) → AreLayers w ls → AreWhole (place_in w ls) here → IsTailAt (later_place w ls here) t
     → wrappers (reading_in ls here t) ≡ wrappers_layers ls ++ (wrappers here ++ wrappers_tail t)
 reading-wrappers w ls here Between a i j = wrappers-settled w ls here a i ∙ ap (λ (t : List ℕ). wrappers_layers ls ++ t) (sym (append-nil (wrappers here)))
-reading-wrappers w ls here (InContents h c) a i j = elim (cases_eq j.0 0) [
+reading-wrappers w ls here (InPrimitive h c) a i j = elim (cases_eq j.0 0) [
   | inl z ↦ rw (contents-all _ h c j.0 j.1 z) (whole-wrappers w ls here (Primitive h c NoMore) a i (contents-whole _ h c j.0 j.1 z))
   | inr n ↦ rw (contents-less _ h c j.0 j.1 n) (open-wrappers w ls here (OpenPrimitive h c) a i)
 ]
-reading-wrappers w ls here (BeforeUnused h) a i j = open-wrappers w ls here (OpenBitString h) a i
+reading-wrappers w ls here (InBitString h) a i j = open-wrappers w ls here (OpenBitString h) a i
 reading-wrappers w ls here (InHeader octets) a i j = open-wrappers w ls here (OpenHeader octets) a i
-reading-wrappers w ls here InEnd a i j = open-wrappers w ls here OpenEndOctets a i
+reading-wrappers w ls here InEndOctets a i j = open-wrappers w ls here OpenEndOctets a i
 
 -- a primitive's end, yielded after what has been yielded of it
 contents-end : (around before ends : List EventValue) (h : HeaderValue) (c : List ℕ)
@@ -168,16 +168,16 @@ reading-events : (w : Framing) (ls : List Layer) (here : Forest) (f : Phase) (t 
 reading-events w ls here phase.Between Between at a i j e =
     let there : at ≡ end_in w ls here = omega arith in
     rw (append-nil (events here), there) (sym (events-settled w ls here a i))
-reading-events w ls here (phase.InContents left) (InContents h c) at a i j e = elim (cases_eq left 0) [
+reading-events w ls here (phase.InPrimitive left) (InPrimitive h c) at a i j e = elim (cases_eq left 0) [
   | inl z ↦
       let there : at ≡ (later_place w ls here).at + length (octets_of h ++ (c ++ [])) = e ∙ ap (λ (t : List ℕ). (later_place w ls here).at + length (octets_of h ++ t)) (sym (append-nil c)) in
       rw (contents-all _ h c left j z, eq-eqb left 0 z)
-      (contents-end (events_of_layers ls) (events here) (ending_events at (frames_of w ls)) h c ∙ sym (whole-events w ls here (Primitive h c NoMore) at a i (contents-whole _ h c left j z) there))
+      (contents-end (events_of_layers ls) (events here) (closing_events at (frames_of w ls)) h c ∙ sym (whole-events w ls here (Primitive h c NoMore) at a i (contents-whole _ h c left j z) there))
   | inr n ↦ rw (contents-less _ h c left j n, ne_eqb left 0 n) (open-events w ls here (OpenPrimitive h c) a i)
 ]
 reading-events w ls here (phase.InHeader r) (InHeader octets) at a i j e = open-events w ls here (OpenHeader octets) a i
-reading-events w ls here phase.BeforeUnused (BeforeUnused h) at a i j e = open-events w ls here (OpenBitString h) a i
-reading-events w ls here phase.InEnd InEnd at a i j e = open-events w ls here OpenEndOctets a i
+reading-events w ls here phase.InBitString (InBitString h) at a i j e = open-events w ls here (OpenBitString h) a i
+reading-events w ls here phase.InEndOctets InEndOctets at a i j e = open-events w ls here OpenEndOctets a i
 reading-events w ls here f t at a i j e = absurd j
 
 -- ---- of a walker

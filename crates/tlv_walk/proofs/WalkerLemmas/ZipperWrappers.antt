@@ -1,7 +1,7 @@
 -- The strings that wrap encodings, of what a walker stands for.
 use Rattle.std.specs.Prelude.{ℕ, List, [], ◌∷◌, ◌++◌}
 use Rattle.tlv_walk.specs.Wrappers.{wrapper_at, wrappers}
-use Rattle.tlv_walk.specs.Private.Zipper.{BeforeUnused, Between, InContents, InEnd, InHeader, Layer, Tail, Zipper}
+use Rattle.tlv_walk.specs.Private.Zipper.{InBitString, Between, InPrimitive, InEndOctets, InHeader, Layer, Tail, Zipper}
 
 -- the wrappers
 abbrev pub wrappers_layers : List Layer → List ℕ
@@ -10,10 +10,10 @@ wrappers_layers (l ∷ ls) = wrappers_layers ls ++ (wrappers l.before ++ wrapper
 
 abbrev pub wrappers_tail : Tail → List ℕ
 wrappers_tail Between = []
-wrappers_tail (InContents h c) = []
-wrappers_tail (BeforeUnused h) = wrapper_at h
+wrappers_tail (InPrimitive h c) = []
+wrappers_tail (InBitString h) = wrapper_at h
 wrappers_tail (InHeader octets) = []
-wrappers_tail InEnd = []
+wrappers_tail InEndOctets = []
 
 abbrev pub wrappers_zipper : Zipper → List ℕ
 wrappers_zipper s = wrappers_layers s.layers ++ (wrappers s.here ++ wrappers_tail s.tail)

@@ -2,29 +2,29 @@
 use Rattle.std.specs.Prelude.{◌≡◌, ◌≢◌, ℕ, ◌-◌, ◌^◌, Bool, true, false, eqb, if◌then◌else◌, List, [], ◌∷◌, Option, Some, None}
 use Rattle.tlv_walk.specs.Stack.{Frame}
 use Rattle.tlv_walk.specs.declared.stack.Frame.{Frame as Kept}
-use Rattle.tlv_walk.specs.declared.stack.Holder.{Holder}
-use Rattle.tlv_walk.specs.declared.stack.Holder.TheVariants.{Input, Definite, Indefinite, Wrapper}
+use Rattle.tlv_walk.specs.declared.stack.FrameKind.{FrameKind}
+use Rattle.tlv_walk.specs.declared.stack.FrameKind.TheVariants.{Input, Definite, Indefinite, Wrapper}
 
 -- the largest u64 stands for no bound
 abbrev pub bound_from : ℕ → Option ℕ
 bound_from n = if eqb n (2 ^ 64 - 1) then None else Some n
 
 -- where the contents end, if the length is definite: such an element is itself the innermost that is definite
-abbrev pub end_from : Holder → ℕ → Option ℕ
+abbrev pub end_from : FrameKind → ℕ → Option ℕ
 end_from Input n = None
 end_from Definite n = bound_from n
 end_from Indefinite n = None
 end_from Wrapper n = bound_from n
 
 -- it is a string that wraps encodings
-abbrev pub wraps_from : Holder → Bool
+abbrev pub wraps_from : FrameKind → Bool
 wraps_from Input = false
 wraps_from Definite = false
 wraps_from Indefinite = false
 wraps_from Wrapper = true
 
 abbrev pub frame_from : Kept → Frame
-frame_from f = record { end = end_from f.holder f.bound; bound = bound_from f.bound; wrapper = wraps_from f.holder }
+frame_from f = record { end = end_from f.kind f.bound; bound = bound_from f.bound; wrapper = wraps_from f.kind }
 
 -- the open elements, innermost first, of the innermost frame and those that hold it: all but the last, which is the
 -- input
@@ -34,10 +34,10 @@ frames_from innermost (f ∷ fs) = frame_from innermost ∷ frames_from f fs
 
 -- the input has no bound
 abbrev pub IsInput : Kept → Type 0
-IsInput f = (f.holder ≡ Input) × (f.bound ≡ 2 ^ 64 - 1)
+IsInput f = (f.kind ≡ Input) × (f.bound ≡ 2 ^ 64 - 1)
 
 -- an element, whose end is known if its length is definite
-abbrev pub HasEnd : Holder → ℕ → Type 0
+abbrev pub HasEnd : FrameKind → ℕ → Type 0
 HasEnd Input n = ⊥
 HasEnd Definite n = n ≢ 2 ^ 64 - 1
 HasEnd Indefinite n = Unit {0}
@@ -46,4 +46,4 @@ HasEnd Wrapper n = n ≢ 2 ^ 64 - 1
 -- the input holds all the others, which are elements
 abbrev pub AreHolders : Kept → List Kept → Type 0
 AreHolders innermost [] = IsInput innermost
-AreHolders innermost (f ∷ fs) = HasEnd innermost.holder innermost.bound × AreHolders f fs
+AreHolders innermost (f ∷ fs) = HasEnd innermost.kind innermost.bound × AreHolders f fs

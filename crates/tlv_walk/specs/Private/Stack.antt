@@ -15,12 +15,12 @@ abbrev pub frame_inside : List Frame → Option ℕ → Bool → Frame
 frame_inside stack end wrapper = record { end = end; bound = option_or end (bound_of stack); wrapper = wrapper }
 
 -- how many octets there are from an offset to a bound
-abbrev pub left_to : Option ℕ → ℕ → Option ℕ
-left_to None offset = None
-left_to (Some b) offset = Some (b - offset)
+abbrev pub room_to : Option ℕ → ℕ → Option ℕ
+room_to None offset = None
+room_to (Some b) offset = Some (b - offset)
 
 abbrev pub room_in : List Frame → ℕ → Option ℕ
-room_in stack offset = left_to (bound_of stack) offset
+room_in stack offset = room_to (bound_of stack) offset
 
 -- 8.1.3.3: the end of contents that begin there, or else the bound outside
 abbrev pub bound_in : Size → ℕ → Option ℕ → Option ℕ

@@ -4,7 +4,7 @@ use Rattle.tlv_head.specs.declared.fault.Fault.{Fault as FaultOf}
 use Rattle.tlv_head.specs.declared.fault.FaultCode.{FaultCode}
 use Rattle.tlv_head.specs.Header.{HeaderValue, IsHeader, announced_length, holds, is_wrapper, octets_of}
 use Rattle.tlv_head.specs.HeadReaderState.{HeadReaderState}
-use Rattle.tlv_head.specs.Fields.{header_with}
+use Rattle.tlv_head.specs.HeaderFields.{header_with}
 use Rattle.tlv_head.specs.ReadHeader.{BeginsWithFields}
 use Rattle.std.specs.Borrow.{Bor}
 use Rattle.std.specs.Option.{option_map, option_map_or}
@@ -17,7 +17,7 @@ use Rattle.tlv_walk.specs.declared.event.HeaderKind.TheVariants as kind
 use Rattle.tlv_head.specs.declared.header.HeaderFields.{HeaderFields}
 use Rattle.tlv_walk.specs.declared.walker.quick.WholePrimitive.{WholePrimitive}
 use Rattle.tlv_walk.specs.Inside.{is_among}
-use Rattle.tlv_walk.specs.Phase.{Phase, Between, InHeader, InContents, BeforeUnused, InEnd, Failed}
+use Rattle.tlv_walk.specs.Phase.{Phase, Between, InHeader, InPrimitive, InBitString, InEndOctets, Refused}
 use Rattle.tlv_walk.specs.Stack.{Frame, IsFilled, IsWithin, bound_of}
 use Rattle.tlv_walk.specs.Private.Stack.{frame_with, room_in}
 use Rattle.tlv_walk.specs.WalkerState.{HasOctets, IsAfterEvent, WalkerState}
@@ -26,10 +26,10 @@ use Rattle.tlv_walk.specs.WalkerState.{HasOctets, IsAfterEvent, WalkerState}
 abbrev pub EventWaitsIn : Phase → List Frame → ℕ → Type 0
 EventWaitsIn Between stack offset = IsFilled stack offset
 EventWaitsIn (InHeader r) stack offset = ⊥
-EventWaitsIn (InContents left) stack offset = left ≡ 0
-EventWaitsIn BeforeUnused stack offset = ⊥
-EventWaitsIn InEnd stack offset = ⊥
-EventWaitsIn (Failed fault) stack offset = ⊥
+EventWaitsIn (InPrimitive left) stack offset = left ≡ 0
+EventWaitsIn InBitString stack offset = ⊥
+EventWaitsIn InEndOctets stack offset = ⊥
+EventWaitsIn (Refused fault) stack offset = ⊥
 
 abbrev pub EventWaits : WalkerState → Type 0
 EventWaits w = EventWaitsIn w.phase w.stack w.offset
@@ -38,10 +38,10 @@ EventWaits w = EventWaitsIn w.phase w.stack w.offset
 abbrev pub AwaitsOctetIn : Phase → List Frame → ℕ → Type 0
 AwaitsOctetIn Between stack offset = IsFilled stack offset → ⊥
 AwaitsOctetIn (InHeader r) stack offset = Unit {0}
-AwaitsOctetIn (InContents left) stack offset = left ≢ 0
-AwaitsOctetIn BeforeUnused stack offset = Unit {0}
-AwaitsOctetIn InEnd stack offset = Unit {0}
-AwaitsOctetIn (Failed fault) stack offset = ⊥
+AwaitsOctetIn (InPrimitive left) stack offset = left ≢ 0
+AwaitsOctetIn InBitString stack offset = Unit {0}
+AwaitsOctetIn InEndOctets stack offset = Unit {0}
+AwaitsOctetIn (Refused fault) stack offset = ⊥
 
 abbrev pub AwaitsOctet : WalkerState → Type 0
 AwaitsOctet w = AwaitsOctetIn w.phase w.stack w.offset
@@ -66,10 +66,10 @@ pub record CanBegin (w : WalkerState) (piece : List ℕ) : Type 0 where
 abbrev pub HasBegunHeader : Phase → Type 0
 HasBegunHeader Between = ⊥
 HasBegunHeader (InHeader r) = Unit {0}
-HasBegunHeader (InContents left) = ⊥
-HasBegunHeader BeforeUnused = ⊥
-HasBegunHeader InEnd = ⊥
-HasBegunHeader (Failed fault) = ⊥
+HasBegunHeader (InPrimitive left) = ⊥
+HasBegunHeader InBitString = ⊥
+HasBegunHeader InEndOctets = ⊥
+HasBegunHeader (Refused fault) = ⊥
 
 -- the piece begins with octets of a header
 abbrev pub CanRead : WalkerState → List ℕ → Type 0
@@ -100,7 +100,7 @@ pub record TakesAll (old new : WalkerState) (before after : List ℕ) : Type 0 w
 pub record Refuses (old new : WalkerState) (before after : List ℕ) (fault : FaultOf) : Type 0 where
   pub taken : new.offset + length after ≡ old.offset + length before
   pub events : new.events ≡ old.events
-  pub phase : new.phase ≡ Failed fault
+  pub phase : new.phase ≡ Refused fault
   pub framing : new.framing ≡ old.framing
   pub wrapper_count : new.wrapper_count ≡ old.wrapper_count
   pub stack : new.stack ≡ old.stack
@@ -144,7 +144,7 @@ after_header w phase at = record w { phase = phase; offset = at; events = w.even
 abbrev pub Enters : WalkerState → WalkerState → HeaderFields → ℕ → HeaderKind → Type 0
 Enters old new f at kind.Primitive =
     ((f.constructed || is_wrapper f.named f.class f.constructed f.number f.size) ≡ false)
-    × (new ≡ after_header old (InContents (announced_length f.size)) at)
+    × (new ≡ after_header old (InPrimitive (announced_length f.size)) at)
 Enters old new f at kind.Constructed =
     (f.constructed ≡ true)
     × (new ≡ record (after_header old Between at) {
@@ -153,7 +153,7 @@ Enters old new f at kind.Constructed =
 Enters old new f at kind.Wrapper =
     (f.constructed ≡ false)
     × (is_wrapper f.named f.class f.constructed f.number f.size ≡ true)
-    × (new ≡ record (after_header old (if eqb f.number 3 then BeforeUnused else Between) at) {
+    × (new ≡ record (after_header old (if eqb f.number 3 then InBitString else Between) at) {
       stack = frame_with at (bound_of old.stack) f.size f.constructed ∷ old.stack;
       wrapper_count = next_wrapper old.framing.inside old.wrapper_count f.offset;
     })

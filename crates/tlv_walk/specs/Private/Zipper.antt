@@ -24,13 +24,13 @@ pub record Layer : Type 0 where
 pub data Tail : Type 0 where
   Between : Tail
   -- contents octets so far, which may be all: the end is then still to be yielded
-  InContents : (header : HeaderValue) (contents : List ℕ) → Tail
+  InPrimitive : (header : HeaderValue) (contents : List ℕ) → Tail
   -- a wrapping BIT STRING without its first contents octet
-  BeforeUnused : (header : HeaderValue) → Tail
+  InBitString : (header : HeaderValue) → Tail
   -- the front of a header
   InHeader : (octets : List ℕ) → Tail
   -- the first of the end-of-contents octets
-  InEnd : Tail
+  InEndOctets : Tail
 
 -- the open elements that hold others, innermost first; the whole elements in the innermost of them; and
 -- what is open after those
@@ -77,19 +77,19 @@ frames_of w (l ∷ ls) = frame_at (place_after (place_in w ls) (length (spelling
 -- the frames of a state: a wrapping BIT STRING has one before its first contents octet
 abbrev pub stack_of : Framing → List Layer → Place → Tail → List Frame
 stack_of w ls p Between = frames_of w ls
-stack_of w ls p (InContents h c) = frames_of w ls
-stack_of w ls p (BeforeUnused h) = frame_at p h ∷ frames_of w ls
+stack_of w ls p (InPrimitive h c) = frames_of w ls
+stack_of w ls p (InBitString h) = frame_at p h ∷ frames_of w ls
 stack_of w ls p (InHeader octets) = frames_of w ls
-stack_of w ls p InEnd = frames_of w ls
+stack_of w ls p InEndOctets = frames_of w ls
 
 -- the phase of a walker is what is open there
 abbrev pub IsPhaseOf : Phase → Tail → Place → Type 0
 IsPhaseOf phase.Between Between p = Unit {0}
 IsPhaseOf (phase.InHeader r) (InHeader octets) p =
     (r.octets ≡ octets) × (r.offset ≡ p.at) × (r.named ≡ is_among p.at p.inside) × IsOpen p (OpenHeader octets)
-IsPhaseOf (phase.InContents left) (InContents h c) p = IsContents p h c left
-IsPhaseOf phase.BeforeUnused (BeforeUnused h) p = IsOpen p (OpenBitString h)
-IsPhaseOf phase.InEnd InEnd p = IsOpen p OpenEndOctets
+IsPhaseOf (phase.InPrimitive left) (InPrimitive h c) p = IsContents p h c left
+IsPhaseOf phase.InBitString (InBitString h) p = IsOpen p (OpenBitString h)
+IsPhaseOf phase.InEndOctets InEndOctets p = IsOpen p OpenEndOctets
 IsPhaseOf f t p = ⊥
 
 -- the octets
@@ -99,10 +99,10 @@ spelling_of_layers (l ∷ ls) = spelling_of_layers ls ++ (spelling l.before ++ o
 
 abbrev pub spelling_of_tail : Tail → List ℕ
 spelling_of_tail Between = []
-spelling_of_tail (InContents h c) = octets_of h ++ c
-spelling_of_tail (BeforeUnused h) = octets_of h
+spelling_of_tail (InPrimitive h c) = octets_of h ++ c
+spelling_of_tail (InBitString h) = octets_of h
 spelling_of_tail (InHeader octets) = octets
-spelling_of_tail InEnd = 0 ∷ []
+spelling_of_tail InEndOctets = 0 ∷ []
 
 abbrev pub spelling_of_zipper : Zipper → List ℕ
 spelling_of_zipper s = spelling_of_layers s.layers ++ (spelling s.here ++ spelling_of_tail s.tail)
@@ -114,10 +114,10 @@ events_of_layers (l ∷ ls) = events_of_layers ls ++ (events l.before ++ opening
 
 abbrev pub events_of_tail : Tail → List EventValue
 events_of_tail Between = []
-events_of_tail (InContents h c) = Begin h ∷ Bytes c ∷ []
-events_of_tail (BeforeUnused h) = Enter h ∷ []
+events_of_tail (InPrimitive h c) = Begin h ∷ Bytes c ∷ []
+events_of_tail (InBitString h) = Enter h ∷ []
 events_of_tail (InHeader octets) = []
-events_of_tail InEnd = []
+events_of_tail InEndOctets = []
 
 abbrev pub events_of_zipper : Zipper → List EventValue
 events_of_zipper s = events_of_layers s.layers ++ (events s.here ++ events_of_tail s.tail)
@@ -129,10 +129,10 @@ begins_among (l ∷ ls) here = true
 
 abbrev pub begins_element : List Layer → Forest → Tail → Bool
 begins_element layers here Between = begins_among layers here
-begins_element layers here (InContents h c) = true
-begins_element layers here (BeforeUnused h) = true
+begins_element layers here (InPrimitive h c) = true
+begins_element layers here (InBitString h) = true
 begins_element layers here (InHeader octets) = true
-begins_element layers here InEnd = true
+begins_element layers here InEndOctets = true
 
 -- the walker has this zipper: octets so far, frames, phase and counts are the zipper's
 pub record HasZipper (w : WalkerState) (b : List ℕ) (past : List EventValue) (s : Zipper) : Type 0 where

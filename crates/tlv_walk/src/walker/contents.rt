@@ -14,7 +14,7 @@ impl Walker {
     /// Takes contents of a primitive.
     #[inline(always)]
     pub(super) fn contents<'a>(&mut self, left: u64, piece: &mut &'a [u8]) -> Event<'a>
-        requires phase { self.old.phase ≡ phases.InContents left }
+        requires phase { self.old.phase ≡ phases.InPrimitive left }
         requires some { (0 < left) × (piece.old.now ≢ []) }
         requires limit { self.old.offset + length piece.old.now ≤ 2 ^ 40 }
         ensures one { YieldsOne self.old self.new piece.old.now piece.new.now }
@@ -27,7 +27,7 @@ impl Walker {
         let (front, rest) = octets.split_at(count as usize);
         *piece = rest;
         self.offset += count;
-        self.phase = Phase::InContents(left - count);
+        self.phase = Phase::InPrimitive(left - count);
         self.events += 1;
         Event::Bytes(front)
     }
@@ -35,7 +35,7 @@ impl Walker {
     /// The end of a primitive whose contents have all come.
     #[inline(always)]
     pub(super) fn end_primitive<'a>(&mut self) -> Event<'a>
-        requires { self.old.phase ≡ phases.InContents 0 }
+        requires { self.old.phase ≡ phases.InPrimitive 0 }
         ensures yields { YieldsAt self.old self.new self.old.offset }
         ensures event { Continues self.old self.new [] (event_value result ∷ []) }
         ensures octets { HasOctets result }
@@ -68,7 +68,7 @@ impl Walker {
 
     /// Takes the first contents octet of a wrapping BIT STRING.
     pub(super) fn unused_octet<'a>(&mut self, piece: &mut &'a [u8]) -> Step<'a>
-        requires phase { self.old.phase ≡ phases.BeforeUnused }
+        requires phase { self.old.phase ≡ phases.InBitString }
         requires limit { self.old.offset + length piece.old.now ≤ 2 ^ 40 }
         ensures steps { Steps self.old self.new piece.old.now piece.new.now result }
         ensures yields { YieldsStep self.old self.new piece.old.now piece.new.now result }
@@ -78,7 +78,7 @@ impl Walker {
             return Step::NeedMore;
         };
         if *octet != 0 {
-            return self.fail(FaultCode::BadInside);
+            return self.refuse(FaultCode::BadInside);
         }
         *piece = rest;
         self.offset += 1;

@@ -26,7 +26,7 @@ impl Walker {
         };
         let indefinite = self.stack.is_in_indefinite();
         if indefinite && self.stack.room(self.offset) == Some(0) {
-            return self.fail(FaultCode::MissingEnd);
+            return self.refuse(FaultCode::MissingEnd);
         }
         if *octet != 0 {
             return self.header(piece);
@@ -34,13 +34,13 @@ impl Walker {
         if indefinite {
             *piece = rest;
             self.offset += 1;
-            self.phase = Phase::InEnd;
+            self.phase = Phase::InEndOctets;
             return self.second_zero(piece);
         }
         if self.framing.padding && self.stack.is_empty() {
             return Step::Event(self.padding(piece));
         }
-        self.fail(FaultCode::StrayEnd)
+        self.refuse(FaultCode::StrayEnd)
     }
 
     /// The end of the innermost element, which is definite and whose contents have all come.
@@ -92,7 +92,7 @@ impl Walker {
 
     /// Takes the second of the end-of-contents octets.
     pub(super) fn second_zero<'a>(&mut self, piece: &mut &'a [u8]) -> Step<'a>
-        requires phase { self.old.phase ≡ phases.InEnd }
+        requires phase { self.old.phase ≡ phases.InEndOctets }
         requires limit { self.old.offset + length piece.old.now ≤ 2 ^ 40 }
         ensures steps { Steps self.old self.new piece.old.now piece.new.now result }
         ensures yields { YieldsStep self.old self.new piece.old.now piece.new.now result }
@@ -102,10 +102,10 @@ impl Walker {
             return Step::NeedMore;
         };
         if self.stack.room(self.offset) == Some(0) {
-            return self.fail(FaultCode::MissingEnd);
+            return self.refuse(FaultCode::MissingEnd);
         }
         if *octet != 0 {
-            return self.fail(FaultCode::BadEnd);
+            return self.refuse(FaultCode::BadEnd);
         }
         *piece = rest;
         let offset = self.offset - 1;

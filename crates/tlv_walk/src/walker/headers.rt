@@ -1,6 +1,6 @@
 //! How a walker takes headers.
 ghost use Rattle.std.specs.Prelude.{◌≡◌, ◌≢◌, ℕ, ◌+◌, ◌^◌, ◌<◌, ◌≤◌, ◌∷◌, [], IsTrue, Some, length, true};
-ghost use Rattle.tlv_head.specs.Fields.{IsHeaderSized, header_with};
+ghost use Rattle.tlv_head.specs.HeaderFields.{IsHeaderSized, header_with};
 ghost use Rattle.tlv_head.specs.Header.{announced_length, holds, octets_of};
 ghost use Rattle.tlv_head.specs.ReadHeader.{BeginsWithFields};
 ghost use Rattle.tlv_walk.specs.Phase as phases;
@@ -107,7 +107,7 @@ impl Walker {
                 }
                 Head::Refused(fault) => {
                     self.offset = offset;
-                    self.phase = Phase::Failed(fault);
+                    self.phase = Phase::Refused(fault);
                     return Step::Fault(fault);
                 }
             }
@@ -151,7 +151,7 @@ impl Walker {
             Size::Indefinite => (None, 0),
         };
         if !fields.constructed && !fields.wraps() {
-            self.phase = Phase::InContents(length);
+            self.phase = Phase::InPrimitive(length);
             return HeaderKind::Primitive;
         }
         self.stack.push(end, !fields.constructed);
@@ -160,7 +160,7 @@ impl Walker {
         }
         self.found_wrapper(fields.offset);
         if fields.number == universal::BIT_STRING {
-            self.phase = Phase::BeforeUnused;
+            self.phase = Phase::InBitString;
         }
         HeaderKind::Wrapper
     }

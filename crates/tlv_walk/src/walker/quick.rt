@@ -1,6 +1,6 @@
 //! How a walker finds the next event in few instructions.
 ghost use Rattle.std.specs.Prelude.{◌≡◌, ◌+◌, ◌^◌, ◌≤◌, IfSome, length, take, true};
-ghost use Rattle.tlv_head.specs.Fields.{IsHeaderSized};
+ghost use Rattle.tlv_head.specs.HeaderFields.{IsHeaderSized};
 ghost use Rattle.tlv_walk.specs.Follow.{whole_events};
 ghost use Rattle.tlv_walk.specs.Private.WalkerState.{CanPass, Passes, StepsAtOnce, close_event, header_at, open_event};
 ghost use Rattle.tlv_walk.specs.Private.Steps.{YieldsAtOnce, YieldsEvents};
@@ -155,7 +155,7 @@ impl Walker {
         ensures steps { StepsAtOnce self.old self.new piece.old.now piece.new.now result }
         ensures yields { YieldsAtOnce self.old self.new piece.old.now piece.new.now result }
     {
-        let Phase::InContents(left) = self.phase else {
+        let Phase::InPrimitive(left) = self.phase else {
             return None;
         };
         if left == 0 {

@@ -1,5 +1,5 @@
 use Rattle.std.proofs.Common.{rules}
-use Rattle.tlv_run.proofs.report.shown_report.Goals as goal
+use Rattle.tlv_run.proofs.report.outcome_report.Goals as goal
 
 pub returns-in-Err : goal.returns-in-Err
 returns-in-Err c = search rules

@@ -7,10 +7,10 @@ use Rattle.tlv_run.proofs.JobReports.{reported_runs}
 use Rattle.tlv_run.proofs.runner.run.Goals as goal
 
 pub returns-in-Dump : goal.returns-in-Dump
-returns-in-Dump g c = rw c.in-Dump.is (reported_runs report_of_outcome (dump_job _ _) c.dump.ensures c.shown_report.ensures)
+returns-in-Dump g c = rw c.in-Dump.is (reported_runs report_of_outcome (dump_job _ _) c.dump.ensures c.outcome_report.ensures)
 
 pub returns-in-Check : goal.returns-in-Check
-returns-in-Check g c = rw c.in-Check.is (reported_runs report_of_outcome (check_job _ _) c.check.ensures c.shown_report-in-Check.ensures)
+returns-in-Check g c = rw c.in-Check.is (reported_runs report_of_outcome (check_job _ _) c.check.ensures c.outcome_report-in-Check.ensures)
 
 pub returns-in-Extract : goal.returns-in-Extract
 returns-in-Extract g c =

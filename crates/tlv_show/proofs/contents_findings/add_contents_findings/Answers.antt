@@ -3,7 +3,7 @@ use Rattle.std.proofs.lemmas.List.{take_more}
 use Rattle.std.proofs.lemmas.List.Elements.{filter-append}
 use Rattle.std.specs.List.{filter}
 use Rattle.tlv_value.specs.declared.finding.Finding.{Finding}
-use Rattle.tlv_show.specs.Found.{shows}
+use Rattle.tlv_show.specs.Found.{is_shown}
 use Rattle.tlv_show.proofs.contents_findings.add_contents_findings.Goals as goal
 use Rattle.tlv_show.proofs.contents_findings.add_contents_findings.Goals.{then-is_shown, else-is_shown}
 
@@ -36,7 +36,7 @@ loop-finding-preserved c =
       | then-is_shown w ↦
           rw w.found-is
           (record {
-            kept = kept (shows c.args.rules) l _ c.loop-finding.finding-index _ c.loop-finding-test.true old.kept _ (sym c.is_shown.ensures ∙ w.if-is_shown.true) w.push.ensures.items;
+            kept = kept (is_shown c.args.rules) l _ c.loop-finding.finding-index _ c.loop-finding-test.true old.kept _ (sym c.is_shown.ensures ∙ w.if-is_shown.true) w.push.ensures.items;
             few = more _ _ _ old.few w.push.ensures.len;
             all = old.all;
             fits = old.fits;
@@ -44,7 +44,7 @@ loop-finding-preserved c =
       | else-is_shown w ↦
           rw w.found-is
           (record {
-            kept = passed (shows c.args.rules) l _ c.loop-finding.finding-index _ c.loop-finding-test.true old.kept (sym c.is_shown.ensures ∙ w.if-is_shown.false);
+            kept = passed (is_shown c.args.rules) l _ c.loop-finding.finding-index _ c.loop-finding-test.true old.kept (sym c.is_shown.ensures ∙ w.if-is_shown.false);
             few = same _ _ old.few;
             all = old.all;
             fits = old.fits;

@@ -1,12 +1,12 @@
 use Rattle.std.proofs.Common.{◌≡◌, ◌≤◌, length, take}
 use Rattle.std.specs.List.{filter}
-use Rattle.tlv_value.specs.CheckState.{findings_in}
-use Rattle.tlv_show.specs.Found.{shows}
+use Rattle.tlv_value.specs.ValueCheckState.{findings_in}
+use Rattle.tlv_show.specs.Found.{is_shown}
 use Rattle.tlv_show.proofs.contents_findings.add_contents_findings.Given as goal
 
 abbrev pub invariant-loop-finding : goal.invariant-loop-finding
 invariant-loop-finding l = record {
-  kept : l.found.items ≡ filter (shows l.rules) (take l.finding-index l.finding-items);
+  kept : l.found.items ≡ filter (is_shown l.rules) (take l.finding-index l.finding-items);
   few : length l.found.items ≤ l.finding-index;
   all : l.finding-items ≡ findings_in l.check;
   fits : length l.finding-items ≤ 16;

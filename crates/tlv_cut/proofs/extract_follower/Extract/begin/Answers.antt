@@ -4,40 +4,40 @@ use Rattle.tlv_walk.specs.declared.follow.Go.TheVariants.{On}
 use Rattle.tlv_walk.specs.Follow.{no_effect}
 use Rattle.tlv_cut.specs.declared.extract_follower.Position.{Position}
 use Rattle.tlv_cut.specs.declared.extract_follower.Position.TheVariants.{Before, Inside}
-use Rattle.tlv_cut.specs.ExtractStep.{ExtractState, begin_step_at, outer_octets, step_to}
+use Rattle.tlv_cut.specs.ExtractStep.{ExtractState, extract_begin_step_at, outer_octets, extract_step_to}
 use Rattle.tlv_cut.proofs.extract_follower.Extract.begin.Goals as goal
 
 same : (m n : ℕ) → m ≡ n → (m == n) ≡ true
 same m n e = search rules
 
 -- the element that is wanted begins
-begin_step_at-wanted : (s : ExtractState) (offset : ℕ) (octets : List ℕ) → s.position ≡ Before → offset ≡ s.offset
-    → begin_step_at s offset octets ≡ step_to s (Inside 0) (outer_octets s.contents_only octets) On
-begin_step_at-wanted s offset octets b e =
+extract_begin_step_at-wanted : (s : ExtractState) (offset : ℕ) (octets : List ℕ) → s.position ≡ Before → offset ≡ s.offset
+    → extract_begin_step_at s offset octets ≡ extract_step_to s (Inside 0) (outer_octets s.contents_only octets) On
+extract_begin_step_at-wanted s offset octets b e =
     let at = λ (w : Position). record s { position = w } in
-    let first = step_to (at Before) (Inside 0) (outer_octets s.contents_only octets) On in
-    subst (λ (w : Position). begin_step_at (at w) offset octets
-    ≡ step_to (at w) (Inside 0) (outer_octets s.contents_only octets) On) (sym b)
+    let first = extract_step_to (at Before) (Inside 0) (outer_octets s.contents_only octets) On in
+    subst (λ (w : Position). extract_begin_step_at (at w) offset octets
+    ≡ extract_step_to (at w) (Inside 0) (outer_octets s.contents_only octets) On) (sym b)
     (ap (λ (k : Bool). if k then first else no_effect (at Before)) (same offset s.offset e))
 
 -- an element begins that the one wanted holds
-begin_step_at-inside : (s : ExtractState) (level offset : ℕ) (octets : List ℕ) → s.position ≡ Inside level
-    → begin_step_at s offset octets ≡ step_to s (Inside (min (level + 1) 255)) octets On
-begin_step_at-inside s level offset octets e =
+extract_begin_step_at-inside : (s : ExtractState) (level offset : ℕ) (octets : List ℕ) → s.position ≡ Inside level
+    → extract_begin_step_at s offset octets ≡ extract_step_to s (Inside (min (level + 1) 255)) octets On
+extract_begin_step_at-inside s level offset octets e =
     let at = λ (w : Position). record s { position = w } in
-    subst (λ (w : Position). begin_step_at (at w) offset octets
-    ≡ step_to (at w) (Inside (min (level + 1) 255)) octets On) (sym e) refl
+    subst (λ (w : Position). extract_begin_step_at (at w) offset octets
+    ≡ extract_step_to (at w) (Inside (min (level + 1) 255)) octets On) (sym e) refl
 
 pub returns-in_ok-put-in-Inside-clause-state : goal.returns-in_ok-put-in-Inside-clause-state
 returns-in_ok-put-in-Inside-clause-state g c =
     let is = ap (λ (s : ExtractState). s.position) (sym c.self.view_is) ∙ c.in-Inside.is in
-    let one_more = begin_step_at-inside c.args.self.now c.in-Inside.level c.args.offset c.args.octets.now is in
+    let one_more = extract_begin_step_at-inside c.args.self.now c.in-Inside.level c.args.offset c.args.octets.now is in
     rw (one_more, ← c.self.view_is, c.saturating_add.ensures) (refl, refl)
 
 pub returns-after-not-self-clause-state : goal.returns-after-not-self-clause-state
 returns-after-not-self-clause-state g c =
     rw (
-      (begin_step_at-wanted c.args.self.now c.args.offset c.args.octets.now
+      (extract_begin_step_at-wanted c.args.self.now c.args.offset c.args.octets.now
           (ap (λ (s : ExtractState). s.position) (sym c.self.view_is) ∙ c.in-Before.is)
           (c.if-offset-self.true ∙ ap (λ (s : ExtractState). s.offset) c.self.view_is)),
       ← c.self.view_is,
@@ -45,12 +45,12 @@ returns-after-not-self-clause-state g c =
 
 pub returns-in_err-put-in-Before-clause-puts : goal.returns-in_err-put-in-Before-clause-puts
 returns-in_err-put-in-Before-clause-puts g c =
-    rw (begin_step_at-wanted c.args.self.now c.args.offset c.args.octets.now
+    rw (extract_begin_step_at-wanted c.args.self.now c.args.offset c.args.octets.now
     (ap (λ (s : ExtractState). s.position) (sym c.self.view_is) ∙ c.in-Before.is)
     (c.if-offset-self.true ∙ ap (λ (s : ExtractState). s.offset) c.self.view_is)) (search rules)
 
 pub returns-after-not-self-clause-puts : goal.returns-after-not-self-clause-puts
 returns-after-not-self-clause-puts g c =
-    rw (begin_step_at-wanted c.args.self.now c.args.offset c.args.octets.now
+    rw (extract_begin_step_at-wanted c.args.self.now c.args.offset c.args.octets.now
     (ap (λ (s : ExtractState). s.position) (sym c.self.view_is) ∙ c.in-Before.is)
     (c.if-offset-self.true ∙ ap (λ (s : ExtractState). s.offset) c.self.view_is)) (search rules)

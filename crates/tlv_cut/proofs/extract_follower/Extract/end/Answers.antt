@@ -2,17 +2,17 @@ use Rattle.std.proofs.Common.{◌≡◌, ℕ, List, true, false, rules, refl, sy
 use Rattle.tlv_walk.specs.declared.follow.Go.TheVariants.{Enough}
 use Rattle.tlv_cut.specs.declared.extract_follower.Position.{Position}
 use Rattle.tlv_cut.specs.declared.extract_follower.Position.TheVariants.{Inside, After}
-use Rattle.tlv_cut.specs.ExtractStep.{ExtractState, end_step, outer_octets, step_to}
+use Rattle.tlv_cut.specs.ExtractStep.{ExtractState, extract_end_step, outer_octets, extract_step_to}
 use Rattle.tlv_cut.proofs.extract_follower.Extract.end.Goals as goal
 use Rattle.tlv_cut.proofs.extract_follower.Extract.end.Goals.{then-not-self+in_ok-put-in-Inside-eq0, else-not-self}
 
 -- the element wanted ends
-end_step-last : (s : ExtractState) (octets : List ℕ) → s.position ≡ Inside 0
-    → end_step s octets ≡ step_to s After (outer_octets s.contents_only octets) Enough
-end_step-last s octets e =
+extract_end_step-last : (s : ExtractState) (octets : List ℕ) → s.position ≡ Inside 0
+    → extract_end_step s octets ≡ extract_step_to s After (outer_octets s.contents_only octets) Enough
+extract_end_step-last s octets e =
     let at = λ (w : Position). record s { position = w } in
-    subst (λ (w : Position). end_step (at w) octets
-    ≡ step_to (at w) After (outer_octets s.contents_only octets) Enough) (sym e) refl
+    subst (λ (w : Position). extract_end_step (at w) octets
+    ≡ extract_step_to (at w) After (outer_octets s.contents_only octets) Enough) (sym e) refl
 
 pub returns-in_err-put-in-Inside-eq0-clause-puts : goal.returns-in_err-put-in-Inside-eq0-clause-puts
 returns-in_err-put-in-Inside-eq0-clause-puts g c =
@@ -28,7 +28,7 @@ returns-after-not-self-clause-state g c =
     let level = sym c.in-Inside-eq0.field-0-is ∙ c.in-Inside-eq0.field-0-test in
     let is : c.args.self.now.position ≡ Inside 0 =
     ap (λ (s : ExtractState). s.position) (sym c.self.view_is) ∙ c.in-Inside-eq0.is ∙ ap Inside level in
-    rw (end_step-last c.args.self.now c.args.octets.now is, ← c.self.view_is) (refl, refl)
+    rw (extract_end_step-last c.args.self.now c.args.octets.now is, ← c.self.view_is) (refl, refl)
 
 pub returns-after-not-self-clause-puts : goal.returns-after-not-self-clause-puts
 returns-after-not-self-clause-puts g c =

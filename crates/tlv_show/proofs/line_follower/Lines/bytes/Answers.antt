@@ -1,7 +1,7 @@
 use Rattle.std.proofs.Common.{◌≡◌, ◌-◌, ◌^◌, ◌<◌, ◌≤◌, ℕ, length, ap, ap₂, sym, ◌∙◌, arith}
 use Rattle.std.proofs.lemmas.Result.{on_ok_weaker}
 use Rattle.std.specs.Prelude.{Option}
-use Rattle.tlv_value.specs.TextState.{TextState}
+use Rattle.tlv_value.specs.ValueTextState.{ValueTextState}
 use Rattle.tlv_walk.specs.Follow.{Effect, each_octet}
 use Rattle.tlv_show.specs.LinesStep.{LinesState, lines_octet_step, offset_after}
 use Rattle.tlv_show.proofs.DumpLemmas.Dumped.{dumped_bytes}
@@ -17,7 +17,7 @@ returns-clause-state g c =
     let is = ap (λ (s : LinesState). each_octet lines_octet_step s octets) (sym c.self.view_is) ∙ dumped_bytes _ octets (λ e. absurd (omega (arith, some, ap length e))) in
     let there : c.saturating_add-self-inside.result ≡ offset_after s.offset (length octets) = omega (arith, c.saturating_add-self-inside.ensures, within) in
     on_ok_weaker c.put_bytes.result
-    (λ e. ap₂ (λ (o : ℕ) (v : Option TextState). record { layout = s.layout; names = s.names.now; offset = o; in_padding = s.in_padding; value = v }) there e
+    (λ e. ap₂ (λ (o : ℕ) (v : Option ValueTextState). record { layout = s.layout; names = s.names.now; offset = o; in_padding = s.in_padding; value = v }) there e
     ∙ sym (ap (λ (t : Effect LinesState). t.state) is))
     c.put_bytes.ensures.state
 

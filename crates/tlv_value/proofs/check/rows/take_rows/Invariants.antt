@@ -1,7 +1,7 @@
 use Rattle.std.proofs.Common.{◌≡◌, ◌+◌, length}
 use Rattle.std.specs.Prelude.{◌&&◌}
 use Rattle.tlv_value.specs.declared.kind.Kind.TheVariants.{Utf8}
-use Rattle.tlv_value.specs.CheckState.{all_utf8}
+use Rattle.tlv_value.specs.ValueCheckState.{all_utf8}
 use Rattle.tlv_value.specs.OpenRow.{IsOpenRow}
 use Rattle.tlv_value.proofs.RowLemmas.FilledRows.{row_begun, rows_filled}
 use Rattle.tlv_value.specs.Rows.{full_rows, open_row}

@@ -3,7 +3,7 @@ use Rattle.tlv_io.proofs.Puts.{puts_failed_in, puts_held, puts_then_as}
 use Rattle.tlv_value.specs.KindValues.{kind_value}
 use Rattle.tlv_value.specs.Private.KindValues.{plain_text}
 use Rattle.tlv_value.specs.Private.PrimitiveLines.{front_of}
-use Rattle.tlv_value.specs.TextState.{row_lines}
+use Rattle.tlv_value.specs.ValueTextState.{row_lines}
 use Rattle.tlv_value.specs.Value.{Value}
 use Rattle.tlv_value.proofs.TextLemmas.Ends.{shown-front, shown-object, shown-plain, shown-relative}
 use Rattle.tlv_value.proofs.primitive.Primitive.put.Goals as goal

@@ -3,14 +3,14 @@ use Rattle.std.specs.Prelude.{Bool, true, false, if◌then◌else◌}
 use Rattle.tlv_io.proofs.Puts.{puts_nothing, puts_text}
 use Rattle.tlv_value.specs.declared.kind.Kind.{Kind}
 use Rattle.tlv_value.specs.Kind.{kind_of}
-use Rattle.tlv_value.specs.TextState.{TextState, begin_lines, line_in}
+use Rattle.tlv_value.specs.ValueTextState.{ValueTextState, begin_lines, line_in}
 use Rattle.tlv_value.specs.TextFields.{text_state_of}
 use Rattle.tlv_value.specs.Value.{is_long}
 use Rattle.tlv_value.proofs.text.ValueText.begin.Goals.{then-not-is_long-via-then-not-is_long, then-not-is_long-via-else-not-is_long+then-not-self}
 use Rattle.tlv_value.proofs.text.ValueText.begin.Goals as goal
 
 -- with the header of a value that is not long no line is known
-begun-short : (s v : TextState) (kind : Kind) → s ≡ v → kind ≡ kind_of s.class s.number → is_long kind s.size ≡ false → [] ≡ begin_lines v
+begun-short : (s v : ValueTextState) (kind : Kind) → s ≡ v → kind ≡ kind_of s.class s.number → is_long kind s.size ≡ false → [] ≡ begin_lines v
 begun-short s v kind same k l =
     sym (ap (λ (b : Bool). if b then (if s.kept.wrote_line then line_in s [] else []) else []) (ap (λ (j : Kind). is_long j s.size) (sym k) ∙ l)) ∙ ap begin_lines same
 
@@ -19,7 +19,7 @@ either true xs = refl
 either false xs = refl
 
 -- nor is one with that of a value whose line comes later
-begun-unlined : (s v : TextState) → s ≡ v → s.kept.wrote_line ≡ false → [] ≡ begin_lines v
+begun-unlined : (s v : ValueTextState) → s ≡ v → s.kept.wrote_line ≡ false → [] ≡ begin_lines v
 begun-unlined s v same l = either (is_long (kind_of s.class s.number) s.size) [] ∙ ap (λ (b : Bool). if is_long (kind_of s.class s.number) s.size then (if b then line_in s [] else []) else []) (sym l) ∙ ap begin_lines same
 
 pub returns-then-not-is_long : goal.returns-then-not-is_long

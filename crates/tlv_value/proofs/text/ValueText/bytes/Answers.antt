@@ -6,7 +6,7 @@ use Rattle.tlv_value.specs.declared.kind.Kind.{Kind}
 use Rattle.tlv_value.specs.declared.kind.Kind.TheVariants.{Bits}
 use Rattle.tlv_value.specs.Kind.{kind_of}
 use Rattle.tlv_value.specs.Rows.{full_rows}
-use Rattle.tlv_value.specs.TextState.{TextState, contents_lines, line_in, row_lines}
+use Rattle.tlv_value.specs.ValueTextState.{ValueTextState, contents_lines, line_in, row_lines}
 use Rattle.tlv_value.specs.TextFields.{text_state_of}
 use Rattle.tlv_value.specs.KindValues.{long_text, row_octets}
 use Rattle.tlv_value.specs.Value.{is_long}
@@ -14,11 +14,11 @@ use Rattle.tlv_value.proofs.TextLemmas.Ends.{new-first, rows-first}
 use Rattle.tlv_value.proofs.text.ValueText.bytes.Goals as goal
 
 -- the line, and then the rows
-new-both : (s v : TextState) (kind : Kind) (x : ℕ) (rest octets : List ℕ) → s ≡ v → kind ≡ kind_of s.class s.number → kind ≡ Bits → s.kept.wrote_line ≡ false → is_long kind s.size ≡ true → octets ≡ x ∷ rest
+new-both : (s v : ValueTextState) (kind : Kind) (x : ℕ) (rest octets : List ℕ) → s ≡ v → kind ≡ kind_of s.class s.number → kind ≡ Bits → s.kept.wrote_line ≡ false → is_long kind s.size ≡ true → octets ≡ x ∷ rest
     → line_in s (long_text Bits s.size (x ∷ [])) ++ row_lines Bits s.layout 0 (full_rows Bits (row_octets Bits (x ∷ [])) rest) ≡ contents_lines v octets
 new-both s v kind x rest octets same k b u l e =
     let long : is_long (kind_of s.class s.number) s.size ≡ true = ap (λ (j : Kind). is_long j s.size) (sym k) ∙ l in
-    sym (new-first s x rest (sym k ∙ b) u long) ∙ ap (contents_lines s) (sym e) ∙ ap (λ (w : TextState). contents_lines w octets) same
+    sym (new-first s x rest (sym k ∙ b) u long) ∙ ap (contents_lines s) (sym e) ∙ ap (λ (w : ValueTextState). contents_lines w octets) same
 
 pub returns-in_err-put_bits-clause-puts : goal.returns-in_err-put_bits-clause-puts
 returns-in_err-put_bits-clause-puts g c =

@@ -1,7 +1,7 @@
 use Rattle.std.proofs.Common.{◌≡◌, ◌∙◌, length, sym, ap, arith}
 use Rattle.std.specs.Prelude.{false}
 use Rattle.tlv_io.proofs.Puts.{puts_text}
-use Rattle.tlv_value.specs.TextState.{TextState, end_lines}
+use Rattle.tlv_value.specs.ValueTextState.{ValueTextState, end_lines}
 use Rattle.tlv_value.specs.Value.{is_long}
 use Rattle.tlv_value.specs.Private.PrimitiveLines.{primitive_lines}
 use Rattle.tlv_value.specs.TextFields.{text_state_of}
@@ -12,7 +12,7 @@ pub put-requires : goal.put-requires
 put-requires g c =
     let t = c.self.inside in
     let l : is_long t.value.kind t.value.size ≡ false = sym c.is_long.ensures ∙ c.if-is_long.false in
-    let left : t.left ≡ 0 = ap (λ (s : TextState). s.left) c.self.view_is ∙ c.requires in
+    let left : t.left ≡ 0 = ap (λ (s : ValueTextState). s.left) c.self.view_is ∙ c.requires in
     let held = c.self.invariant.held l in
     held-most t.value.kind (length c.as_slice-contents.result.now) t.value.size l (omega (arith, ap length c.as_slice-contents.ensures.value, held, left))
 

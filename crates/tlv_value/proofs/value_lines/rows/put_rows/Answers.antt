@@ -8,7 +8,7 @@ use Rattle.tlv_value.specs.Layout.{row_line}
 use Rattle.tlv_value.specs.Cuts.{row_size}
 use Rattle.tlv_value.proofs.RowLemmas.FilledRows.{rows_filled}
 use Rattle.tlv_value.specs.Private.Rows.{full_lines}
-use Rattle.tlv_value.specs.TextState.{row_lines}
+use Rattle.tlv_value.specs.ValueTextState.{row_lines}
 use Rattle.tlv_value.specs.Value.{row_text}
 use Rattle.tlv_value.proofs.RowLemmas.FullRows.{rows_turned}
 use Rattle.tlv_value.proofs.RowLemmas.OneCut.{open-parts}

@@ -1,5 +1,5 @@
 use Rattle.std.proofs.Common.{◌≢◌, ◌-◌, ◌^◌, ◌<◌, arith, rules, subst, sym}
-use Rattle.tlv_walk.specs.declared.stack.Holder.{Holder}
+use Rattle.tlv_walk.specs.declared.stack.FrameKind.{FrameKind}
 use Rattle.tlv_walk.specs.Private.FrameFields.{HasEnd}
 use Rattle.tlv_walk.proofs.StackLemmas.{length-frames, more_indefinite}
 use Rattle.tlv_walk.proofs.stack.Stack.push.Goals.{then-wrapper, else-wrapper}
@@ -16,8 +16,8 @@ invariant_of-self c =
     let below : c.in-Some.end < 2 ^ 64 - 1 = rw c.in-Some.is at c.requires.end in
     let apart : c.in-Some.end ≢ 2 ^ 64 - 1 = λ q. omega arith in
     let known : HasEnd c.if-wrapper.self c.in-Some.end = elim c.if-wrapper.branch [
-      | then-wrapper w ↦ subst (λ (k : Holder). HasEnd k c.in-Some.end) (sym w.self-is) apart
-      | else-wrapper w ↦ subst (λ (k : Holder). HasEnd k c.in-Some.end) (sym w.self-is) apart
+      | then-wrapper w ↦ subst (λ (k : FrameKind). HasEnd k c.in-Some.end) (sym w.self-is) apart
+      | else-wrapper w ↦ subst (λ (k : FrameKind). HasEnd k c.in-Some.end) (sym w.self-is) apart
     ] in rw c.push.ensures (known, c.self.invariant)
 
 pub invariant_of-self-in-None : goal.invariant_of-self-in-None

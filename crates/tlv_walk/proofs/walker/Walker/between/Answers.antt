@@ -10,7 +10,7 @@ use Rattle.tlv_walk.proofs.walker.Walker.between.Goals as goal
 
 pub returns-then-eq-clause-yields : goal.returns-then-eq-clause-yields
 returns-then-eq-clause-yields c =
-    rw c.fail.ensures.0 (inl (rw (← c.self.view_is) (refuses_front _ c.args.piece.now.now _ c.in-len1-up.len_at_least (refuses_missing _ _ _ (search rules) (search rules) (search rules) (search rules) (search rules)))))
+    rw c.refuse.ensures.0 (inl (rw (← c.self.view_is) (refuses_front _ c.args.piece.now.now _ c.in-len1-up.len_at_least (refuses_missing _ _ _ (search rules) (search rules) (search rules) (search rules) (search rules)))))
 
 pub returns-then-indefinite-2-clause-yields : goal.returns-then-indefinite-2-clause-yields
 returns-then-indefinite-2-clause-yields c =
@@ -24,7 +24,7 @@ returns-then-indefinite-2-clause-yields c =
 
 pub returns-clause-yields : goal.returns-clause-yields
 returns-clause-yields c =
-    rw c.fail-2.ensures.0 (inl (refuses_stray_front _ c.args.piece.now.now c.in-len1-up.len_at_least (search rules) (search rules) (search rules) (search rules) (search rules)))
+    rw c.refuse-2.ensures.0 (inl (refuses_stray_front _ c.args.piece.now.now c.in-len1-up.len_at_least (search rules) (search rules) (search rules) (search rules) (search rules)))
 
 pub padding-requires-clause-top : goal.padding-requires-clause-top
 padding-requires-clause-top c = search rules

@@ -1,5 +1,5 @@
 use Rattle.std.proofs.Common.{[], ◌∷◌, subst, rules}
-use Rattle.tlv_head.specs.Fields.{header_with}
+use Rattle.tlv_head.specs.HeaderFields.{header_with}
 use Rattle.tlv_head.specs.ReadHeader.{BeginsWithFields}
 use Rattle.tlv_walk.specs.declared.event.HeaderKind.{HeaderKind}
 use Rattle.tlv_walk.specs.Private.Steps.{Continues}

@@ -1,6 +1,6 @@
 use Rattle.std.proofs.Common.{rules}
 use Rattle.tlv_walk.proofs.WalkerLemmas.Finishing.{finish_done, finish_empty, finish_short}
-use Rattle.tlv_walk.proofs.WalkerLemmas.HasRead.{ends_by, never_failed, shows_by}
+use Rattle.tlv_walk.proofs.WalkerLemmas.HasRead.{ends_by, never_refused, shows_by}
 use Rattle.tlv_walk.proofs.WalkerLemmas.Waiting.{idle}
 use Rattle.tlv_walk.proofs.walker.Walker.finish.Goals as goal
 
@@ -16,13 +16,13 @@ pub returns-clause-ending : goal.returns-clause-ending
 returns-clause-ending c = λ o past. ends_by c.args.self.now o past _
     (λ b past st. rw c.ended_by-2.ensures (finish_empty c.args.self.now b past st (search rules) (search rules) (search rules))) (search rules)
 
-pub returns-in-Failed-clause-ending : goal.returns-in-Failed-clause-ending
-returns-in-Failed-clause-ending c = λ o past. ends_by c.args.self.now o past _
-    (λ b past st. absurd (never_failed c.args.self.now b past c.in-Failed.fault st (search rules))) (search rules)
+pub returns-in-Refused-clause-ending : goal.returns-in-Refused-clause-ending
+returns-in-Refused-clause-ending c = λ o past. ends_by c.args.self.now o past _
+    (λ b past st. absurd (never_refused c.args.self.now b past c.in-Refused.fault st (search rules))) (search rules)
 
-pub returns-in-Failed-clause-soundness : goal.returns-in-Failed-clause-soundness
-returns-in-Failed-clause-soundness c = λ o past. shows_by c.args.self.now o past _
-    (λ b past st. absurd (never_failed c.args.self.now b past c.in-Failed.fault st (search rules))) (search rules)
+pub returns-in-Refused-clause-soundness : goal.returns-in-Refused-clause-soundness
+returns-in-Refused-clause-soundness c = λ o past. shows_by c.args.self.now o past _
+    (λ b past st. absurd (never_refused c.args.self.now b past c.in-Refused.fault st (search rules))) (search rules)
 
 pub returns-then-not-is_outermost-clause-soundness : goal.returns-then-not-is_outermost-clause-soundness
 returns-then-not-is_outermost-clause-soundness c = λ o past. shows_by c.args.self.now o past _

@@ -1,5 +1,5 @@
 use Rattle.std.proofs.Common.{rules}
 use Rattle.tlv_walk.proofs.walker.Walker.is_waiting.Goals as goal
 
-pub returns-in-InContents : goal.returns-in-InContents
-returns-in-InContents c = search rules
+pub returns-in-InPrimitive : goal.returns-in-InPrimitive
+returns-in-InPrimitive c = search rules

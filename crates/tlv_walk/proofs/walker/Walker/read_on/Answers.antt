@@ -4,7 +4,7 @@ use Rattle.tlv_head.specs.Push.{FitsThere, IsRefusedPush}
 use Rattle.tlv_walk.specs.WalkerState.{WalkerState}
 use Rattle.tlv_walk.specs.Private.ReadsOn.{HandsOver}
 use Rattle.tlv_walk.specs.Stack.{IsWithin, bound_of}
-use Rattle.tlv_walk.specs.Private.Stack.{left_to}
+use Rattle.tlv_walk.specs.Private.Stack.{room_to}
 use Rattle.tlv_walk.specs.HasRead.{event_value}
 use Rattle.tlv_walk.specs.WalkerFields.{walker_state_of}
 use Rattle.tlv_walk.proofs.WalkerLemmas.HeaderRefusals.{refuses_header}
@@ -31,8 +31,8 @@ enter_slowly-requires-clause-enter c =
     let a = c.in-Whole.ensures.pushes in
     let i = c.loop-piece.invariant in
     let same = c.self.view_is ∙ sym i.same in
-    let room : c.room_to.result ≡ left_to (bound_of c.loop-piece.self.stack) c.loop-piece.offset =
-    c.room_to.ensures ∙ ap (λ (b : Option ℕ). left_to b c.loop-piece.offset) (c.bound-bound.ensures ∙ ap (λ (m : WalkerState). bound_of m.stack) same) in
+    let room : c.room_to.result ≡ room_to (bound_of c.loop-piece.self.stack) c.loop-piece.offset =
+    c.room_to.ensures ∙ ap (λ (b : Option ℕ). room_to b c.loop-piece.offset) (c.bound-bound.ensures ∙ ap (λ (m : WalkerState). bound_of m.stack) same) in
     whole_enters c.loop-piece.self c.loop-piece.reader _ c.len-depth.result c.loop-piece.offset c.in-Whole.header
     (subst (λ (m : WalkerState). m.events + length m.stack ≤ c.loop-piece.reader.offset) (sym i.same) (omega (arith, c.requires.read.fewer, i.start))) i.place
     (omega (arith, c.requires.limit, i.taken, c.in-len1-up.len_at_least)) (c.len-depth.ensures.value ∙ ap (λ (m : WalkerState). length m.stack) same) a.0
@@ -50,11 +50,11 @@ returns-in-Refused-clause-yields c = λ w over.
     let i = c.loop-piece.invariant in
     let x : ℕ = get_or c.loop-piece.piece.now 0 0 in
     let bound : c.bound-bound.result ≡ bound_of c.args.self.now.stack = c.bound-bound.ensures ∙ ap (λ (m : WalkerState). bound_of m.stack) c.self.view_is in
-    let left : left_to c.bound-bound.result c.loop-piece.offset ≡ left_to (bound_of c.args.self.now.stack) c.loop-piece.offset = ap (λ (b : Option ℕ). left_to b c.loop-piece.offset) bound in
+    let left : room_to c.bound-bound.result c.loop-piece.offset ≡ room_to (bound_of c.args.self.now.stack) c.loop-piece.offset = ap (λ (b : Option ℕ). room_to b c.loop-piece.offset) bound in
     inl (refuses_header w c.args.self.now c.args.reader c.loop-piece.reader c.args.piece.now.now c.loop-piece.piece.now _ x c.len-depth.result c.loop-piece.offset c.in-Refused.fault over i.read
     (first_octet c.loop-piece.piece.now c.in-len1-up.len_at_least) (subst (λ (b : Option ℕ). IsWithin b c.loop-piece.offset) bound i.within) i.place
     (c.len-depth.ensures.value ∙ ap (λ (m : WalkerState). length m.stack) c.self.view_is)
-    (λ none e. give_room c.loop-piece.reader.octets c.loop-piece.piece.now (left_to c.bound-bound.result c.loop-piece.offset) i.first none (left ∙ e))
+    (λ none e. give_room c.loop-piece.reader.octets c.loop-piece.piece.now (room_to c.bound-bound.result c.loop-piece.offset) i.first none (left ∙ e))
     (subst (λ (o : Option ℕ). IsRefusedPush c.in-Refused.fault.code c.loop-piece.reader x o c.len-depth.result) (c.room_to.ensures ∙ left) a.0) a.1)
 
 pub returns-clause-yields : goal.returns-clause-yields

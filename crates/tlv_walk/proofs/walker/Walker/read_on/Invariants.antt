@@ -1,6 +1,6 @@
 use Rattle.std.proofs.Common.{◌≡◌, ◌+◌, false, length}
 use Rattle.tlv_walk.specs.Stack.{IsWithin}
-use Rattle.tlv_walk.specs.Private.Stack.{left_to}
+use Rattle.tlv_walk.specs.Private.Stack.{room_to}
 use Rattle.tlv_walk.proofs.WalkerLemmas.HeaderSteps.{CanGive, HasTaken}
 use Rattle.tlv_walk.proofs.walker.Walker.read_on.Given as goal
 
@@ -13,7 +13,7 @@ invariant-loop-piece l = record {
   taken : l.offset + length l.piece.now ≡ l.fn.self.offset + length l.fn.piece.now;
   within : IsWithin l.bound l.offset;
   read : HasTaken l.fn.reader l.reader l.fn.piece.now l.piece.now;
-  first : CanGive l.reader.octets l.piece.now (left_to l.bound l.offset);
+  first : CanGive l.reader.octets l.piece.now (room_to l.bound l.offset);
 }
 
 abbrev pub decreases-loop-piece : goal.decreases-loop-piece

@@ -2,8 +2,8 @@ use Rattle.std.proofs.Common.{arith, rules}
 use Rattle.std.proofs.lemmas.Grind.{common_steps}
 use Rattle.tlv_walk.proofs.walker.Walker.take.Goals as goal
 
-pub returns-in-Failed : goal.returns-in-Failed
-returns-in-Failed c = search rules
+pub returns-in-Refused : goal.returns-in-Refused
+returns-in-Refused c = search rules
 
 pub returns-then-is_empty-2 : goal.returns-then-is_empty-2
 returns-then-is_empty-2 c = grind (arith, common_steps)

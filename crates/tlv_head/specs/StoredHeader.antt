@@ -1,0 +1,53 @@
+-- What the fields of a `Header` say.
+use Rattle.std.specs.Prelude.{◌≡◌, take, drop, length, slice_index}
+use Rattle.tlv_head.specs.HeaderFields.{IsHeaderSized}
+use Rattle.tlv_head.specs.Header.{HeaderValue, octets_of}
+use Rattle.tlv_head.specs.declared.header.Header.TheInside.{Inside}
+use Rattle.tlv_head.specs.declared.header.HeaderFields.{HeaderFields}
+
+abbrev pub header_value_of : Inside → HeaderValue
+header_value_of h = record {
+  offset = h.offset;
+  named = h.named;
+  class = h.class;
+  constructed = h.constructed;
+  number = h.number;
+  size = h.size;
+  identifier = take h.id_len h.raw.items;
+  lengths = drop h.id_len h.raw.items;
+}
+
+-- the header of which contracts see this, as it is stored
+abbrev pub stored_header : HeaderValue → Inside
+stored_header h = record {
+  offset = h.offset;
+  class = h.class;
+  constructed = h.constructed;
+  number = h.number;
+  size = h.size;
+  raw = record { items = octets_of h };
+  id_len = length h.identifier;
+  named = h.named;
+  number_octet = slice_index h.identifier 1;
+  length_octet = slice_index h.lengths 1;
+}
+
+-- what is said beside the octets
+abbrev pub fields_in : Inside → HeaderFields
+fields_in h = record {
+  offset = h.offset;
+  named = h.named;
+  class = h.class;
+  constructed = h.constructed;
+  number = h.number;
+  size = h.size;
+  id_len = h.id_len;
+}
+
+-- by their number the octets may be those of a header with these fields, and the two that are kept beside them are the
+-- second ones of the identifier and of the length
+abbrev pub HeaderFieldsAgree : Inside → Type 0
+HeaderFieldsAgree h =
+    IsHeaderSized (fields_in h) h.raw.items
+    × (h.number_octet ≡ slice_index (take h.id_len h.raw.items) 1)
+    × (h.length_octet ≡ slice_index (drop h.id_len h.raw.items) 1)

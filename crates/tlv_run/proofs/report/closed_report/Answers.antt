@@ -1,5 +1,0 @@
-use Rattle.std.proofs.Common.{rules}
-use Rattle.tlv_run.proofs.report.closed_report.Goals as goal
-
-pub returns : goal.returns
-returns c = search rules

@@ -1,5 +1,0 @@
-use Rattle.std.proofs.Common.{rules}
-use Rattle.tlv_show.proofs.frames.note_element.Goals as goal
-
-pub returns : goal.returns
-returns c = search rules

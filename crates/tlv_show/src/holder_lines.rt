@@ -1,0 +1,115 @@
+//! The lines of a dump that are not those of primitives.
+ghost use Rattle.std.specs.Prelude.{◌≡◌, ◌≤◌, ◌++◌, codes, length};
+ghost use Rattle.std.specs.Option.{option_map_or};
+ghost use Rattle.tlv_io.specs.LineTexts.{GrowsBy, HasRoomFor};
+ghost use Rattle.tlv_io.specs.Out.{Puts};
+ghost use Rattle.tlv_value.specs.Layout.{columns, margin, no_columns};
+ghost use Rattle.tlv_show.specs.Lines.{closing_line, opening_line, padding_line, size_text};
+
+use tlv_head::{Header, Size};
+use tlv_value::{Layout, begin_blank, begin_sized, begin_word, write_tag};
+use tlv_walk::{Drain, HeldOctets, Out, WriteFault};
+
+/// Puts the line of an element that holds others, with a word after its tag.
+#[inline(always)]
+pub(crate) fn put_opening<D: Drain>(
+    layout: Layout,
+    header: &Header,
+    word: &[u8],
+    out: &mut Out<'_, D>,
+) -> Result<(), WriteFault>
+    requires { length word.now ≤ 16 }
+    ensures { Puts D.state out.old out.new (opening_line layout header.now word.now) result }
+{
+    out.make_room()?;
+    write_opening(&mut out.held, layout, header, word);
+    Ok(())
+}
+
+/// Puts the line of the end of an element that holds others, which has end-of-contents octets at this offset, or none.
+#[inline(always)]
+pub(crate) fn put_closing<D: Drain>(
+    layout: Layout,
+    at: Option<u64>,
+    out: &mut Out<'_, D>,
+) -> Result<(), WriteFault>
+    ensures { Puts D.state out.old out.new (closing_line layout at) result }
+{
+    out.make_room()?;
+    write_closing(&mut out.held, layout, at);
+    Ok(())
+}
+
+/// Puts the line of a run of padding.
+pub(crate) fn put_padding<D: Drain>(
+    layout: Layout,
+    at: u64,
+    out: &mut Out<'_, D>,
+) -> Result<(), WriteFault>
+    ensures { Puts D.state out.old out.new (padding_line layout at) result }
+{
+    out.make_room()?;
+    write_padding(&mut out.held, layout, at);
+    Ok(())
+}
+
+/// Adds the line of an element that holds others, with a word after its tag.
+#[inline(always)]
+fn write_opening(held: &mut HeldOctets, layout: Layout, header: &Header, word: &[u8])
+    requires room { HasRoomFor held.old 1024 }
+    requires short { length word.now ≤ 16 }
+    ensures { held.new ≡ held.old ++ opening_line layout header.now word.now }
+{
+    begin_opening(held, layout, header.offset, header.size);
+    write_tag(held, header.class, header.number);
+    held.add(word);
+    held.add(b"\n");
+}
+
+/// Begins a line with an offset and a length, or the word for the indefinite form.
+#[inline(always)]
+fn begin_opening(held: &mut HeldOctets, layout: Layout, offset: u64, size: Size)
+    requires { HasRoomFor held.old 592 }
+    ensures text { held.new
+        ≡ held.old ++ margin layout.pure (columns offset (size_text size)) layout.level }
+    ensures bound { GrowsBy 553 held.old held.new }
+{
+    match size {
+        Size::Definite(length) => begin_sized(held, layout, offset, length),
+        Size::Indefinite => begin_word(held, layout, offset, b" indef"),
+    }
+}
+
+/// Adds the line of the end of an element that holds others.
+#[inline(always)]
+fn write_closing(held: &mut HeldOctets, layout: Layout, at: Option<u64>)
+    requires { HasRoomFor held.old 1024 }
+    ensures { held.new ≡ held.old ++ closing_line layout at }
+{
+    begin_closing(held, layout, at);
+    held.add(b"}\n");
+}
+
+/// Begins a line with an offset and the word for an end, or without an offset.
+#[inline(always)]
+fn begin_closing(held: &mut HeldOctets, layout: Layout, at: Option<u64>)
+    requires { HasRoomFor held.old 592 }
+    ensures text { held.new
+        ≡ held.old ++ margin layout.pure
+        (option_map_or (λ at. columns at (codes "end")) at no_columns) layout.level }
+    ensures bound { GrowsBy 553 held.old held.new }
+{
+    match at {
+        Some(at) => begin_word(held, layout, at, b"   end"),
+        None => begin_blank(held, layout),
+    }
+}
+
+/// Adds the line of a run of padding.
+fn write_padding(held: &mut HeldOctets, layout: Layout, at: u64)
+    requires { HasRoomFor held.old 1024 }
+    ensures { held.new ≡ held.old ++ padding_line layout at }
+{
+    begin_word(held, layout, at, b"   pad");
+    held.add(b"padding\n");
+}

@@ -1,0 +1,130 @@
+-- What is to be kept of the contents of a primitive, so that what is found on them can be reported at their end.
+use Rattle.std.specs.List.{list_all}
+use Rattle.std.specs.Prelude.{ℕ, ◌-◌, ◌%◌, Bool, true, false, ◌&&◌, ◌||◌, not, eqb, if◌then◌else◌, List, [], ◌∷◌, ◌++◌, length, take}
+use Rattle.std.specs.Str.{is_utf8}
+use Rattle.tlv_head.specs.Header.{HeaderValue, announced_length, is_universal}
+use Rattle.tlv_value.specs.declared.kind.Kind.TheVariants.{Utf8}
+use Rattle.tlv_value.specs.declared.finding.Finding.{Finding}
+use Rattle.tlv_value.specs.Checks.{allows_octet, is_padded_after, last_octet}
+use Rattle.tlv_value.specs.CheckNotes.{Notes, is_object, universal_findings}
+use Rattle.tlv_value.specs.Rows.{full_rows, open_row}
+use Rattle.tlv_value.specs.Types.{bit_string, octet_string}
+
+abbrev pub all_utf8 : List (List ℕ) → Bool
+all_utf8 [] = true
+all_utf8 (row ∷ rows) = is_utf8 row && all_utf8 rows
+
+-- what contracts see of a `ValueCheck`
+pub record ValueCheckState : Type 0 where
+  -- the universal number of the type
+  pub number : ℕ
+  pub size : ℕ
+  -- how many octets are still to come
+  pub left : ℕ
+  -- the first two octets, and the last one, if the type asks for them
+  pub front : List ℕ
+  pub last : ℕ
+  -- whether each octet is one of its type, and whether a subidentifier is padded
+  pub allowed : Bool
+  pub padded : Bool
+  -- of a UTF8String whether the rows that were full are well-formed, and the row that has begun
+  pub formed : Bool
+  pub row : List ℕ
+  -- the first 64 octets of a time
+  pub time : List ℕ
+
+-- the universal number of the type; of another class that of OCTET STRING, on whose contents nothing is found
+abbrev pub type_number : HeaderValue → ℕ
+type_number h = if is_universal h.class then h.number else octet_string
+
+-- of so many octets
+abbrev pub new_check_of : ℕ → ℕ → ValueCheckState
+new_check_of number size = record {
+  number = number;
+  size = size;
+  left = size;
+  front = [];
+  last = 0;
+  allowed = true;
+  padded = false;
+  formed = true;
+  row = [];
+  time = [];
+}
+
+abbrev pub new_value_check : HeaderValue → ValueCheckState
+new_value_check h = new_check_of (type_number h) (announced_length h.size)
+
+-- the first octets are looked at, and the last one: BOOLEAN, INTEGER, BIT STRING, ENUMERATED
+abbrev pub notes_front : ℕ → Bool
+notes_front number = eqb number 1 || eqb number 2 || eqb number 3 || eqb number 10
+
+-- each octet of the type with this number is looked at: object identifiers, UTF8String, and the strings of some
+-- characters
+abbrev pub notes_each : ℕ → Bool
+notes_each number =
+    eqb number 6 || eqb number 12 || eqb number 13 || eqb number 18 || eqb number 19 || eqb number 22 || eqb number 26
+
+-- the two times
+abbrev pub notes_time : ℕ → Bool
+notes_time number = eqb number 23 || eqb number 24
+
+abbrev pub with_front : ValueCheckState → List ℕ → ValueCheckState
+with_front s octets = record s { front = take 2 (s.front ++ octets); last = last_octet s.last octets }
+
+abbrev pub with_each : ValueCheckState → List ℕ → ValueCheckState
+with_each s octets = record s {
+  allowed = s.allowed && list_all (allows_octet s.number) octets;
+  padded = if is_object s.number then s.padded || is_padded_after s.last octets else s.padded;
+  formed = if eqb s.number 12 then s.formed && all_utf8 (full_rows Utf8 s.row octets) else s.formed;
+  row = if eqb s.number 12 then open_row Utf8 s.row octets else s.row;
+  last = last_octet s.last octets;
+}
+
+abbrev pub with_time : ValueCheckState → List ℕ → ValueCheckState
+with_time s octets = record s { time = take 64 (s.time ++ octets) }
+
+-- what is noted of more octets
+abbrev pub with_notes : ValueCheckState → List ℕ → ValueCheckState
+with_notes s octets =
+    if notes_front s.number then with_front s octets
+    else if notes_each s.number then with_each s octets
+    else if notes_time s.number then with_time s octets
+    else s
+
+-- the state after more octets
+abbrev pub value_check_after : ValueCheckState → List ℕ → ValueCheckState
+value_check_after s octets =
+    record (with_notes s octets) { number = s.number; size = s.size; left = s.left - length octets }
+
+-- there is a first octet, and it is not 0
+abbrev pub begins_nonzero : List ℕ → Bool
+begins_nonzero [] = false
+begins_nonzero (x ∷ octets) = not (eqb x 0)
+
+-- 8.6.2.2: it is a BIT STRING whose first contents octet is not 0
+abbrev pub has_unused_bits : ValueCheckState → Bool
+has_unused_bits s = eqb s.number bit_string && begins_nonzero s.front
+
+-- the characters are those of the type
+abbrev pub is_allowed_in : ValueCheckState → Bool
+is_allowed_in s =
+    (if eqb s.number 12 then s.formed && is_utf8 s.row
+    else if eqb s.number 30 then eqb (s.size % 2) 0
+    else if eqb s.number 28 then eqb (s.size % 4) 0
+    else true)
+    && s.allowed
+
+abbrev pub notes_in : ValueCheckState → Notes
+notes_in s = record {
+  size = s.size;
+  front = s.front;
+  time = s.time;
+  last = s.last;
+  padded = s.padded;
+  allowed = is_allowed_in s;
+}
+
+-- what is found at the end
+abbrev pub findings_in : ValueCheckState → List Finding
+findings_in s = universal_findings s.number (notes_in s)
