@@ -24,16 +24,16 @@ pub record FitsThere (h : HeaderValue) (room : Option ℕ) (depth : ℕ) : Type 
 -- F10: the octet completes the header of an element that holds others, inside 128 of them
 pub record IsTooDeep (r : HeadReaderState) (x depth : ℕ) : Type 0 where
   pub header : HeaderValue
-  pub completes : Completes r x head
-  pub holding : holds head ≡ true
+  pub completes : Completes r x header
+  pub holding : holds header ≡ true
   pub deep : 128 ≤ depth
 
 -- F11: the octet completes a header whose contents end past the bound
 pub record EndsPast (r : HeadReaderState) (x : ℕ) (room : Option ℕ) (depth : ℕ) : Type 0 where
   pub header : HeaderValue
-  pub completes : Completes r x head
-  pub shallow : holds head ≡ true → depth < 128
-  pub past : ContentsFit head.size room → ⊥
+  pub completes : Completes r x header
+  pub shallow : holds header ≡ true → depth < 128
+  pub past : ContentsFit header.size room → ⊥
 
 -- why an octet is refused, in order: the bound is reached (F11); what the octets say (F06 to F09); the
 -- depth (F10); the bound after the contents (F11)

@@ -9,9 +9,9 @@ use Rattle.tlv_head.specs.Header.{HeaderValue, IsHeader, IsIdentifier, leading_o
 pub record IsFront (octets : List ℕ) : Type 0 where
   pub header : HeaderValue
   pub more : List ℕ
-  pub valid : IsHeader head
+  pub valid : IsHeader header
   pub proper : more ≢ []
-  pub front : octets ++ more ≡ octets_of head
+  pub front : octets ++ more ≡ octets_of header
 
 -- octets with which no header begins
 abbrev pub CannotBecomeHeader : List ℕ → Type 0

@@ -1,1 +1,2 @@
 pub mod MemoryDevices
+pub mod Reports

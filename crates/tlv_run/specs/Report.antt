@@ -79,10 +79,6 @@ device_report InputTooLong = report_with 3 (codes "E3 input too long")
 abbrev pub unopened_report : ReportValue
 unopened_report = report_with 3 (codes "E5 cannot open the file")
 
-abbrev pub report_of : {A : Type 0} → (A → ReportValue) → Result A DeviceFault → ReportValue
-report_of say (Ok a) = say a
-report_of say (Err fault) = device_report fault
-
 -- ---- the names file
 
 abbrev pub line_with : List ℕ → ℕ → List ℕ → List ℕ

@@ -1,7 +1,8 @@
 //! What is reported of a run: the exit status and the message.
 ghost use Rattle.std.specs.Prelude.{◌≡◌, ◌+◌, ◌++◌, ◌≤◌, [], decimal, length};
 ghost use Rattle.tlv_run.specs.Report.{unopened_report, device_report, ending_report, fault_line, findings_report, found_report};
-ghost use Rattle.tlv_run.specs.Report.{line_with, names_report, report_of, report_of_cut, report_of_indef, report_of_outcome};
+ghost use Rattle.tlv_run.specs.Private.Reports.{report_of};
+ghost use Rattle.tlv_run.specs.Report.{line_with, names_report, report_of_cut, report_of_indef, report_of_outcome};
 ghost use Rattle.tlv_run.specs.Report.{report_value, report_with, unused_report};
 
 use arrayvec::ArrayVec;

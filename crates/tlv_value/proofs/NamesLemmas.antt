@@ -1,4 +1,4 @@
-pub mod ReadLogState
+pub mod Reads
 pub mod Standing
 pub mod Tables
 pub mod Texts

@@ -1,4 +1,4 @@
--- The values of contents kind by kind, as private functions write them.
+-- The values of contents, kind by kind.
 use Rattle.std.specs.Prelude.{ℕ, ◌-◌, true, false, eqb, nat_le, if◌then◌else◌, List, [], ◌∷◌, ◌++◌, length, Option, codes}
 use Rattle.std.specs.Fmt.{signed_decimal}
 use Rattle.std.specs.Option.{option_map_or}

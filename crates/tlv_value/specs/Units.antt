@@ -70,9 +70,3 @@ unit_text kind (a ∷ more) = if is_printable a then printable_text a else escap
 -- a row of characters, in quotation marks
 abbrev pub quoted_text : Kind → List ℕ → List ℕ
 quoted_text kind row = 0x22 ∷ flat_map (unit_text kind) (units kind 0 row) ++ 0x22 ∷ []
-
--- ---- A word of private functions and proofs
-
--- a character of one octet, or an octet that is none
-abbrev pub octet_text : ℕ → List ℕ
-octet_text x = if is_printable x then printable_text x else escaped_octet x

@@ -4,7 +4,7 @@ ghost use Rattle.std.specs.Fmt.{signed_decimal};
 ghost use Rattle.tlv_io.specs.LineTexts.{GrowsBy, HasRoomFor};
 ghost use Rattle.tlv_value.specs.Bits.{last_bits};
 ghost use Rattle.tlv_value.specs.KindValues.{bits_value, boolean_value, integer_value, long_text};
-ghost use Rattle.tlv_value.specs.Private.KindValues.{octet_digits, joined_pairs, plain_text};
+ghost use Rattle.tlv_value.specs.Private.KindValues.{digits_of_bits, joined_pairs, plain_text};
 ghost use Rattle.tlv_value.specs.Units.{quoted_text};
 ghost use Rattle.tlv_value.specs.Value.{bit_count, is_long, is_readable, most_on_line, row_text, used_digits};
 
@@ -206,7 +206,7 @@ fn is_readable(unused: u8, octets: usize) -> bool
 
 /// The bits of an octet as digits, the most significant first.
 fn octet_digits(octet: u8) -> [u8; 8]
-    ensures { result ≡ octet_digits (last_bits 8 octet) }
+    ensures { result ≡ digits_of_bits (last_bits 8 octet) }
 {
     [
         b'0' + octet / 128 % 2,

@@ -1,4 +1,4 @@
--- Words of headers that private functions and proofs use.
+-- What the form of an element allows.
 use Rattle.std.specs.Prelude.{◌≡◌, Bool, true, ◌||◌}
 use Rattle.std.specs.Option.{is_some}
 use Rattle.tlv_head.specs.declared.header.Size.{Size}

@@ -1,4 +1,4 @@
--- What is written of findings, as private functions say it.
+-- What is written of findings.
 use Rattle.std.specs.Prelude.{ℕ, List}
 use Rattle.tlv_show.specs.declared.finding_lines.Style.{Style}
 use Rattle.tlv_show.specs.FinderState.{FinderValue}

@@ -5,43 +5,43 @@ use Rattle.std.proofs.lemmas.List.{length-map, map-append}
 use Rattle.std.specs.Prelude.{true}
 use Rattle.tlv_value.specs.Bits.{bits_of, last_bits}
 use Rattle.tlv_value.specs.KindValues.{bits_value}
-use Rattle.tlv_value.specs.Private.KindValues.{octet_digits}
+use Rattle.tlv_value.specs.Private.KindValues.{digits_of_bits}
 use Rattle.tlv_value.specs.Value.{bit_count, is_readable, used_digits}
 use Rattle.tlv_value.proofs.TextLemmas.Numbers.{bits-append, length-bits, length-last_bits}
 
 -- the bits of one octet more
 pub bits-step : (octets : List ℕ) (i : ℕ) → i < length octets
-    → octet_digits (bits_of (drop i octets)) ≡ octet_digits (last_bits 8 (get_or octets i 0)) ++ octet_digits (bits_of (drop (i + 1) octets))
+    → digits_of_bits (bits_of (drop i octets)) ≡ digits_of_bits (last_bits 8 (get_or octets i 0)) ++ digits_of_bits (bits_of (drop (i + 1) octets))
 bits-step octets i h =
     rw (drop-cons octets i 0 h, add-one) (map-append (λ bit. 48 + bit) (last_bits 8 (get_or octets i 0)) (bits_of (drop (suc i) octets)))
 
 -- eight digits of each octet
-pub length-digits : (octets : List ℕ) → length (octet_digits (bits_of octets)) ≡ 8 * length octets
+pub length-digits : (octets : List ℕ) → length (digits_of_bits (bits_of octets)) ≡ 8 * length octets
 length-digits octets = length-map (bits_of octets) (λ bit. 48 + bit) ∙ length-bits octets
 
-pub length-octet_digits : (x : ℕ) → length (octet_digits (last_bits 8 x)) ≡ 8
+pub length-octet_digits : (x : ℕ) → length (digits_of_bits (last_bits 8 x)) ≡ 8
 length-octet_digits x = length-map (last_bits 8 x) (λ bit. 48 + bit) ∙ length-last_bits 8 x
 
-take-digits : (n : ℕ) (bits : List ℕ) → octet_digits (take n bits) ≡ take n (octet_digits bits)
+take-digits : (n : ℕ) (bits : List ℕ) → digits_of_bits (take n bits) ≡ take n (digits_of_bits bits)
 take-digits zero bits = refl
 take-digits (suc n) [] = refl
 take-digits (suc n) (b ∷ bits) = ap (λ (t : List ℕ). (48 + b) ∷ t) (take-digits n bits)
 
 used-some : (unused : ℕ) (front : List ℕ) (last : ℕ)
-    → used_digits unused (front ++ last ∷ []) ≡ 32 ∷ octet_digits (take (8 * length (front ++ last ∷ []) - unused) (bits_of (front ++ last ∷ [])))
+    → used_digits unused (front ++ last ∷ []) ≡ 32 ∷ digits_of_bits (take (8 * length (front ++ last ∷ []) - unused) (bits_of (front ++ last ∷ [])))
 used-some unused [] last = refl
 used-some unused (x ∷ front) last = refl
 
 -- the bits of the last octet
 pub used-last : (unused : ℕ) (front : List ℕ) (last : ℕ) → unused ≤ 7
-    → used_digits unused (front ++ last ∷ []) ≡ 32 ∷ (octet_digits (bits_of front) ++ take (8 - unused) (octet_digits (last_bits 8 last)))
+    → used_digits unused (front ++ last ∷ []) ≡ 32 ∷ (digits_of_bits (bits_of front) ++ take (8 - unused) (digits_of_bits (last_bits 8 last)))
 used-last unused front last h =
     let l : 8 * length (front ++ last ∷ []) - unused ≡ length (bits_of front) + (8 - unused) = omega (arith, length-append front (last ∷ []), length-bits front) in
     let b : bits_of (front ++ last ∷ []) ≡ bits_of front ++ last_bits 8 last = bits-append front (last ∷ []) ∙ ap (λ (t : List ℕ). bits_of front ++ t) (append-nil (last_bits 8 last)) in
     let t : take (length (bits_of front) + (8 - unused)) (bits_of front ++ last_bits 8 last) ≡ bits_of front ++ take (8 - unused) (last_bits 8 last) =
     take-append-add (bits_of front) (last_bits 8 last) (8 - unused) in
-    let d : octet_digits (take (8 * length (front ++ last ∷ []) - unused) (bits_of (front ++ last ∷ []))) ≡ octet_digits (bits_of front) ++ take (8 - unused) (octet_digits (last_bits 8 last)) =
-    rw (l, b, t) (map-append (λ bit. 48 + bit) (bits_of front) (take (8 - unused) (last_bits 8 last)) ∙ ap (λ (t : List ℕ). octet_digits (bits_of front) ++ t) (take-digits (8 - unused) (last_bits 8 last))) in
+    let d : digits_of_bits (take (8 * length (front ++ last ∷ []) - unused) (bits_of (front ++ last ∷ []))) ≡ digits_of_bits (bits_of front) ++ take (8 - unused) (digits_of_bits (last_bits 8 last)) =
+    rw (l, b, t) (map-append (λ bit. 48 + bit) (bits_of front) (take (8 - unused) (last_bits 8 last)) ∙ ap (λ (t : List ℕ). digits_of_bits (bits_of front) ++ t) (take-digits (8 - unused) (last_bits 8 last))) in
     used-some unused front last ∙ ap (λ (t : List ℕ). 32 ∷ t) d
 
 -- the digits of the unused bits are dropped from the end

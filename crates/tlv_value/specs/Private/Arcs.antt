@@ -1,4 +1,4 @@
--- Words of object identifiers that private functions and proofs use.
+-- Texts that dotted texts are made of.
 use Rattle.std.specs.Prelude.{ℕ, Bool, true, false, List, ◌∷◌, codes, decimal}
 use Rattle.std.specs.List.{join_by}
 use Rattle.tlv_value.specs.Arcs.{first_arcs}

@@ -1,4 +1,4 @@
--- What is found on the contents of a universal type, by its number: words of the checker and of proofs.
+-- What is found on the contents of a universal type, by its number.
 use Rattle.std.specs.Prelude.{ℕ, false, List, []}
 use Rattle.tlv_head.specs.declared.header.Class.TheVariants.{Universal}
 use Rattle.tlv_head.specs.declared.header.Size.TheVariants.{Definite}

@@ -1,4 +1,4 @@
--- Words of values that private functions and proofs use.
+-- Texts that values are made of.
 use Rattle.std.specs.Prelude.{ℕ, ◌+◌, List, [], ◌∷◌, map, codes}
 use Rattle.std.specs.List.{join_by}
 use Rattle.hex.specs.Hex.{encode_lower}
@@ -9,8 +9,8 @@ use Rattle.tlv_value.specs.Value.{spaced_pairs}
 use Rattle.tlv_value.specs.KindValues.{boolean_value, integer_value, bits_value}
 
 -- bits as digits
-abbrev pub octet_digits : List ℕ → List ℕ
-octet_digits bits = map (λ bit. 48 + bit) bits
+abbrev pub digits_of_bits : List ℕ → List ℕ
+digits_of_bits bits = map (λ bit. 48 + bit) bits
 
 abbrev pub joined_pairs : List ℕ → List ℕ
 joined_pairs octets = join_by (λ x. encode_lower (x ∷ [])) (codes " ") octets

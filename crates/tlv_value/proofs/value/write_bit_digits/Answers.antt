@@ -1,7 +1,7 @@
 use Rattle.std.proofs.Common.{◌≡◌, ℕ, ◌+◌, ◌-◌, ◌++◌, ◌∷◌, [], List, length, take, get_or, sym, ap, ap₂, ◌∙◌, arith, length-append, length-take}
 use Rattle.std.proofs.lemmas.List.{take_all}
 use Rattle.tlv_value.specs.Bits.{bits_of, last_bits}
-use Rattle.tlv_value.specs.Private.KindValues.{octet_digits}
+use Rattle.tlv_value.specs.Private.KindValues.{digits_of_bits}
 use Rattle.tlv_value.specs.Value.{used_digits}
 use Rattle.tlv_value.proofs.TextLemmas.Texts.{digits-cut, length-digits, length-octet_digits, used-last}
 use Rattle.tlv_value.proofs.value.write_bit_digits.Goals as goal
@@ -15,7 +15,7 @@ add-requires-in-loop-octet c =
     omega (
       arith,
       ap length c.loop-octet.invariant,
-      length-append c.args.held.now (32 ∷ octet_digits (bits_of (take i front))),
+      length-append c.args.held.now (32 ∷ digits_of_bits (bits_of (take i front))),
       length-digits (take i front),
       length-take i front,
       all,
@@ -34,7 +34,7 @@ add-requires-2 c =
     omega (
       arith,
       ap length c.loop-octet.invariant,
-      length-append c.args.held.now (32 ∷ octet_digits (bits_of (take i front))),
+      length-append c.args.held.now (32 ∷ digits_of_bits (bits_of (take i front))),
       length-digits (take i front),
       length-take i front,
       all,
@@ -47,10 +47,10 @@ add-requires-2 c =
 pub returns : goal.returns
 returns c =
     let front : List ℕ = c.in-Some.front.now in
-    let before : List ℕ = 32 ∷ octet_digits (bits_of front) in
-    let digits : List ℕ = octet_digits (last_bits 8 c.in-Some.last.now) in
+    let before : List ℕ = 32 ∷ digits_of_bits (bits_of front) in
+    let digits : List ℕ = digits_of_bits (last_bits 8 c.in-Some.last.now) in
     let looped : c.loop-octet.held ≡ c.args.held.now ++ before =
-    c.loop-octet.invariant ∙ ap (λ (l : List ℕ). c.args.held.now ++ 32 ∷ octet_digits (bits_of l)) (take_all c.loop-octet.octet-index front (omega (arith, c.loop-octet-test.false))) in
+    c.loop-octet.invariant ∙ ap (λ (l : List ℕ). c.args.held.now ++ 32 ∷ digits_of_bits (bits_of l)) (take_all c.loop-octet.octet-index front (omega (arith, c.loop-octet-test.false))) in
     let added : c.add-2.new.self ≡ (c.args.held.now ++ before) ++ digits = c.add-2.ensures ∙ ap₂ (λ (l d : List ℕ). l ++ d) looped c.octet_digits-2.ensures in
     let n : ℕ = c.len.result - c.from.result in
     let cut = digits-cut c.args.held.now before digits c.args.unused n c.requires.unused (length-octet_digits c.in-Some.last.now)

@@ -16,27 +16,27 @@ push-requires c =
 
 pub returns-then-holds : goal.returns-then-holds
 returns-then-holds c =
-    let deep : IsTooDeep c.args.self.now c.args.octets_are c.args.depth =
-    subst (λ (p : HeadReaderState). IsTooDeep p c.args.octets_are c.args.depth) c.self.view_is
+    let deep : IsTooDeep c.args.self.now c.args.octet c.args.depth =
+    subst (λ (p : HeadReaderState). IsTooDeep p c.args.octet c.args.depth) c.self.view_is
     (made_too_deep _ _ _ _ _ _ (c.in-Finished.ensures c.self.inside.raw.items c.self.invariant) refl (sym c.holds.ensures ∙ c.if-holds.true) c.if-depth-ge128.true) in
-    let a : Pushes c.args.self.now c.args.octets_are c.args.room c.args.depth c.args.self.now c.refused-then-holds.result =
+    let a : Pushes c.args.self.now c.args.octet c.args.room c.args.depth c.args.self.now c.refused-then-holds.result =
     rw c.refused-then-holds.ensures ((search rules, deep), rw (← c.self.view_is) (ap (λ n. c.self.inside.offset + n) c.len.ensures.value), refl) in
     record { pushes = a; whole = exact _ _ _ _ _ _ a }
 
 pub returns-then-not-fits : goal.returns-then-not-fits
 returns-then-not-fits c =
-    let past : EndsPast c.args.self.now c.args.octets_are c.args.room c.args.depth =
-    subst (λ (p : HeadReaderState). EndsPast p c.args.octets_are c.args.room c.args.depth) c.self.view_is
+    let past : EndsPast c.args.self.now c.args.octet c.args.room c.args.depth =
+    subst (λ (p : HeadReaderState). EndsPast p c.args.octet c.args.room c.args.depth) c.self.view_is
     (made_ends_past _ _ _ _ _ _ _ (c.in-Finished.ensures c.self.inside.raw.items c.self.invariant) refl
     (elim c.else-depth-ge128.branch [ else-depth-ge128-via-then-depth-ge128+else-holds w ↦ λ h. absurd (false≢true (sym w.if-holds.false ∙ w.holds.ensures ∙ h)) | else-depth-ge128-via-else-depth-ge128 w ↦ λ _. w.if-depth-ge128.false ])
     (λ f. absurd (false≢true (sym c.if-not-fits.true ∙ c.fits.ensures.1 f)))) in
-    let a : Pushes c.args.self.now c.args.octets_are c.args.room c.args.depth c.args.self.now c.refused-then-not-fits.result =
+    let a : Pushes c.args.self.now c.args.octet c.args.room c.args.depth c.args.self.now c.refused-then-not-fits.result =
     rw c.refused-then-not-fits.ensures (inr (search rules, past), rw (← c.self.view_is) (ap (λ n. c.self.inside.offset + n) c.len.ensures.value), refl) in
     record { pushes = a; whole = exact _ _ _ _ _ _ a }
 
 pub returns-in-Unfinished : goal.returns-in-Unfinished
 returns-in-Unfinished c =
-    let p = unfinished_part c.in-Unfinished.part c.self.inside.raw.items c.args.octets_are (c.in-Unfinished.ensures c.self.inside.raw.items c.self.invariant) in
+    let p = unfinished_part c.in-Unfinished.part c.self.inside.raw.items c.args.octet (c.in-Unfinished.ensures c.self.inside.raw.items c.self.invariant) in
     rw (← c.self.view_is) (record {
       pushes = (search rules, p.0, rw (p.1, c.push.ensures.items) refl);
       whole = λ h d n f. absurd (front_not_whole _ _ h p.0 d);
@@ -44,15 +44,15 @@ returns-in-Unfinished c =
 
 pub returns-in-Refused : goal.returns-in-Refused
 returns-in-Refused c =
-    let q : IsRefusedPush c.in-Refused.code c.args.self.now c.args.octets_are c.args.room c.args.depth =
+    let q : IsRefusedPush c.in-Refused.code c.args.self.now c.args.octet c.args.room c.args.depth =
     refused_in _ _ _ _ _ (search rules)
-    (subst (λ (p : HeadReaderState). IsRefusedOctet p.octets c.args.octets_are c.in-Refused.code) c.self.view_is (c.in-Refused.ensures c.self.inside.raw.items c.self.invariant)) in
-    let a : Pushes c.args.self.now c.args.octets_are c.args.room c.args.depth c.args.self.now c.refused-in-Refused.result =
+    (subst (λ (p : HeadReaderState). IsRefusedOctet p.octets c.args.octet c.in-Refused.code) c.self.view_is (c.in-Refused.ensures c.self.inside.raw.items c.self.invariant)) in
+    let a : Pushes c.args.self.now c.args.octet c.args.room c.args.depth c.args.self.now c.refused-in-Refused.result =
     rw c.refused-in-Refused.ensures (q, rw (← c.self.view_is) (ap (λ n. c.self.inside.offset + n) c.len.ensures.value), refl) in
     record { pushes = a; whole = exact _ _ _ _ _ _ a }
 
 -- the header that is returned
-completes : (c : goal.After-with_raw) → Completes c.args.self.now c.args.octets_are c.with_raw.result
+completes : (c : goal.After-with_raw) → Completes c.args.self.now c.args.octet c.with_raw.result
 completes c =
     rw (← c.self.view_is, c.with_raw.ensures, c.fields_of-fields.ensures, c.take.ensures.value, c.push-in-Finished.ensures.items)
     (made_whole _ _ _ _ _ (c.in-Finished.ensures c.self.inside.raw.items c.self.invariant) refl)

@@ -1,5 +1,5 @@
 use Rattle.std.proofs.lemmas.Result.{err_from_is_err_and}
-use Rattle.tlv_value.proofs.NamesLemmas.ReadLogState.{judged, unread}
+use Rattle.tlv_value.proofs.NamesLemmas.Reads.{judged, unread}
 use Rattle.tlv_value.proofs.names.reading.read_in.Goals as goal
 
 pub returns-in_err-octets : goal.returns-in_err-octets

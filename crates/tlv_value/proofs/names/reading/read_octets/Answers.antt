@@ -1,6 +1,6 @@
 use Rattle.std.proofs.Common.{rules, arith, refl}
 use Rattle.tlv_io.proofs.Pieces.{gathered_none}
-use Rattle.tlv_value.proofs.NamesLemmas.ReadLogState.{given_more, gives_end, gives_failed, gives_long, gives_memory}
+use Rattle.tlv_value.proofs.NamesLemmas.Reads.{given_more, gives_end, gives_failed, gives_long, gives_memory}
 use Rattle.tlv_value.proofs.names.reading.read_octets.Goals as goal
 
 pub loop-count-init : goal.loop-count-init

@@ -1,5 +1,5 @@
 use Rattle.std.proofs.Common.{◌≡◌, ◌-◌, ◌≤◌, length}
-use Rattle.tlv_value.proofs.NamesLemmas.ReadLogState.{Given}
+use Rattle.tlv_value.proofs.NamesLemmas.Reads.{Given}
 use Rattle.tlv_value.proofs.names.reading.read_octets.Given as goal
 
 abbrev pub invariant-loop-count : goal.invariant-loop-count
