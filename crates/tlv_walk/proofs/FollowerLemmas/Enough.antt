@@ -11,7 +11,7 @@ use Rattle.tlv_walk.specs.declared.run.DeviceFault.TheVariants.{ReadFailed, Writ
 use Rattle.tlv_walk.specs.Ending.{IsEnding, IsFinalEnding}
 use Rattle.tlv_walk.specs.Forest.{Forest}
 use Rattle.tlv_walk.specs.Job.{ComesTo, EndsWith, HasEnding, Job, WantMore, was_enough, refused, ended, read_failed, write_failed, too_long}
-use Rattle.tlv_walk.proofs.GrammarLemmas.Unique.{is_shown-soundness}
+use Rattle.tlv_walk.proofs.GrammarLemmas.Unique.{shows-soundness}
 
 -- there was enough, or the ending is that of the octets, and this holds
 abbrev pub EndsSo : Framing → List ℕ → Bool → Ending → Type 0 → Type 0
@@ -54,7 +54,7 @@ module _ {A : Type 0} (job : Job A) (given : List ℕ) (f : Forest) (new : Sourc
   returns result (too_long many wants) = (many, wants)
 
   has_ending : (e : Ending) → job.is_enough f ≡ false → IsEnding job.framing (take job.limit given) e → HasEnding job (take job.limit given) f e
-  has_ending e k x = record { not_enough = k; is_ending = x; soundness = is_shown-soundness job.framing (take job.limit given) e x }
+  has_ending e k x = record { not_enough = k; is_ending = x; soundness = shows-soundness job.framing (take job.limit given) e x }
 
   comes_ok : (e : Ending) → EndsSo job.framing (take job.limit given) (job.is_enough f) e (Settled e) → ComesTo job given f new (Ok (job.returned f e))
   comes_ok e (inl x) = subst (λ (d : Ending). ComesTo job given f new (Ok (job.returned f d))) (sym x.1) (was_enough x.0)

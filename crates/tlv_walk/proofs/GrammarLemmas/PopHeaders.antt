@@ -38,13 +38,13 @@ pub record Popped (p : Place) (g : Forest) : Type 0 where
 
 -- identifier octets are one or more
 identifier-some : (c : Class) (k : Bool) (n : ℕ) (i : List ℕ) → IsIdentifier c k n i → 1 ≤ length i
-identifier-some c k n i (inl low) = rw low.octet (omega arith)
-identifier-some c k n i (inr high) = rw high.octet (omega arith)
+identifier-some c k n i (inl low) = rw low.octets_are (omega arith)
+identifier-some c k n i (inr high) = rw high.octets_are (omega arith)
 
 -- length octets are one or more
 lengths-some : (s : Size) (l : List ℕ) → IsLength s l → 1 ≤ length l
 lengths-some (Definite n) l (inl short) = rw (short.1) (omega arith)
-lengths-some (Definite n) l (inr long) = rw long.octet (omega arith)
+lengths-some (Definite n) l (inr long) = rw long.octets_are (omega arith)
 lengths-some Indefinite l e = rw e (omega arith)
 
 -- a header has at least two octets

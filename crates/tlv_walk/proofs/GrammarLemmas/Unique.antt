@@ -84,8 +84,8 @@ never-sound w b Done x final = absurd final
 never-sound w b (Fault f) x final = λ more. no-false-alarm w b more f.code f.offset final.0 final.1 x
 
 -- the ending of octets shows whether they are sound
-pub is_shown-soundness : (w : Framing) (b : List ℕ) (e : Ending) → IsEnding w b e → ShowsSoundness w b e
-is_shown-soundness w b e x = record {
+pub shows-soundness : (w : Framing) (b : List ℕ) (e : Ending) → IsEnding w b e → ShowsSoundness w b e
+shows-soundness w b e x = record {
   done_is_sound = (
     (λ (is : e ≡ Done). done-sound w b (subst (IsEnding w b) is x)),
     (λ (s : IsSoundList w b). ending-unique w b e Done x (sound-done w b s)),

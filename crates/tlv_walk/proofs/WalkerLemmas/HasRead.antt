@@ -16,7 +16,7 @@ use Rattle.tlv_walk.specs.HasRead.{HasRead, StandsAtEnd, refused_one, refused, t
 use Rattle.tlv_walk.specs.Wrappers.{first_without_wrapper}
 use Rattle.tlv_walk.proofs.WalkerLemmas.OpenCounts.{state-depth}
 use Rattle.tlv_walk.proofs.GrammarLemmas.Readings.{reading-unique}
-use Rattle.tlv_walk.proofs.GrammarLemmas.Unique.{is_shown-soundness}
+use Rattle.tlv_walk.proofs.GrammarLemmas.Unique.{shows-soundness}
 use Rattle.tlv_walk.proofs.WalkerLemmas.ZipperReading.{state-reading}
 use Rattle.tlv_walk.proofs.EventLemmas.Unused.{stands_unused}
 use Rattle.tlv_walk.proofs.WalkerLemmas.Waiting.{idle}
@@ -53,4 +53,4 @@ ends_by w o past result stands failed (refused_one f at) =
 -- and it shows whether the input is sound
 pub shows_by : (w : WalkerState) (o : List ℕ) (past : List EventValue) (result : Ending) → ((b : List ℕ) (past : List EventValue) → Stands w b past → IsEnding w.framing b result)
     → ((f : Fault) → w.phase ≡ Refused f → result ≡ ending.Fault f) → StandsAtEnd w o past → ShowsSoundness w.framing o result
-shows_by w o past result stands failed at = is_shown-soundness w.framing o result (ends_by w o past result stands failed at)
+shows_by w o past result stands failed at = shows-soundness w.framing o result (ends_by w o past result stands failed at)

@@ -33,8 +33,8 @@ use Rattle.tlv_walk.proofs.WalkerLemmas.ZipperEndings.{state-fault}
 
 -- an identifier has octets
 identifier-nil : (class : Class) (k : Bool) (n : ℕ) (o : List ℕ) → IsIdentifier class k n o → o ≡ [] → ⊥
-identifier-nil class k n o (inl low) e = let z : [] ≡ _ ∷ [] = sym e ∙ low.octet in absurd (cc)
-identifier-nil class k n o (inr high) e = let z : [] ≡ _ ∷ _ = sym e ∙ high.octet in absurd (cc)
+identifier-nil class k n o (inl low) e = let z : [] ≡ _ ∷ [] = sym e ∙ low.octets_are in absurd (cc)
+identifier-nil class k n o (inr high) e = let z : [] ≡ _ ∷ _ = sym e ∙ high.octets_are in absurd (cc)
 
 -- one octet is no header
 completes-two : (r : HeadReaderState) (x : ℕ) (h : HeaderValue) → Completes r x h → r.octets ≡ [] → ⊥
