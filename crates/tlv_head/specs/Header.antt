@@ -1,6 +1,7 @@
 -- Identifier and length octets of an element: X.690 8.1.2 and 8.1.3.
 use Rattle.std.specs.Prelude.{◌≡◌, ◌≢◌, ◌⊎◌, ℕ, ◌+◌, ◌*◌, ◌^◌, ◌<◌, ◌≤◌, Bool, true, not, ◌&&◌, ◌||◌, eqb, if◌then◌else◌, List, [], ◌∷◌, ◌++◌, length, map, All, Option, Some, None}
 use Rattle.std.specs.Option.{is_some, unwrap_or}
+use Rattle.tlv_head.specs.UniversalTypes as universal
 use Rattle.tlv_head.specs.declared.header.Class.{Class}
 use Rattle.tlv_head.specs.declared.header.Class.TheVariants.{Universal, Application, Context, Private}
 use Rattle.tlv_head.specs.declared.header.Size.{Size}
@@ -103,7 +104,7 @@ is_universal class = eqb (class_bits class) 0
 abbrev pub is_wrapper : Bool → Class → Bool → ℕ → Size → Bool
 is_wrapper named class constructed number size =
     named && not constructed && is_universal class
-    && (eqb number 4 || (eqb number 3 && not (eqb (announced_length size) 0)))
+    && (eqb number universal.octet_string || (eqb number universal.bit_string && not (eqb (announced_length size) 0)))
 
 -- the same, of the element with this header
 abbrev pub wraps : HeaderValue → Bool

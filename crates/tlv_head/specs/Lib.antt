@@ -1,3 +1,4 @@
+pub mod UniversalTypes
 pub mod Header
 pub mod StoredHeader
 pub mod HeaderFields

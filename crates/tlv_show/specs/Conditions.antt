@@ -4,7 +4,8 @@ use Rattle.std.specs.List.{list_all}
 use Rattle.tlv_head.specs.Header.{HeaderValue, announced_length}
 use Rattle.tlv_value.specs.declared.finding.Finding.{Finding}
 use Rattle.tlv_value.specs.declared.finding.Finding.TheVariants.{B01, B02, B03, B04, B05, B16, B17, S01, D01, D02, C01, C02, C03, C04, C05, C06}
-use Rattle.tlv_value.specs.Types.{bit_string, constructed_types, has_segments, is_a, is_one_of, is_primitive, is_string, is_unassigned, octet_string, primitive_types}
+use Rattle.tlv_head.specs.UniversalTypes as universal
+use Rattle.tlv_value.specs.Types.{constructed_types, has_segments, is_a, is_one_of, is_primitive, is_string, is_unassigned, primitive_types}
 use Rattle.tlv_walk.specs.Place.{is_indefinite}
 use Rattle.tlv_show.specs.Site.{Before, Sibling, Site, in_bit_string, in_string}
 
@@ -28,7 +29,7 @@ first_length h = slice_index h.lengths 1
 
 -- 8.6.2.2: a primitive BIT STRING with unused bits
 abbrev pub follows_unused_bits : Before → Bool
-follows_unused_bits (Sibling h (Some x)) = is_primitive h && is_a bit_string h && not (x == 0)
+follows_unused_bits (Sibling h (Some x)) = is_primitive h && is_a universal.bit_string h && not (x == 0)
 follows_unused_bits _ = false
 
 -- 9.2: an element, but no primitive of 1000 contents octets
@@ -51,7 +52,7 @@ header_conditions s h =
     -- 8.6.4: each segment of a BIT STRING but the last has a multiple of eight bits
     ∷ (in_bit_string s && follows_unused_bits s.before, B16)
     -- 8.6.4, 8.7.3: a segment has the tag of BIT STRING in a BIT STRING, and of OCTET STRING in any other string
-    ∷ (in_string s && not (is_a (if in_bit_string s then bit_string else octet_string) h), B17)
+    ∷ (in_string s && not (is_a (if in_bit_string s then universal.bit_string else universal.octet_string) h), B17)
     -- 9.1, 10.1: a definite length has the fewest octets: those of the long form are for 128 and more, and do not
     -- begin with 00
     ∷ (has_long_form h && (nat_lt (announced_length h.size) 128 || first_length h == 0), S01)
@@ -73,7 +74,7 @@ header_conditions s h =
 
 -- 8.6.2: the octet for unused bits, with which the contents of a BIT STRING begin
 abbrev pub bits_octet : HeaderValue → ℕ
-bits_octet h = if is_a bit_string h then 1 else 0
+bits_octet h = if is_a universal.bit_string h then 1 else 0
 
 -- 9.2: how many contents octets a string with these segments would have as a primitive: those of each segment but for
 -- its octet for unused bits, and one such octet for the whole string

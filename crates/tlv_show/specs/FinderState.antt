@@ -8,7 +8,8 @@ use Rattle.tlv_value.specs.declared.finding.Finding.{Finding}
 use Rattle.tlv_value.specs.declared.finding.Finding.TheVariants.{B01, B02, B03, B04, B05, B16, B17, S01, D01, D02, C01, C02, C03, C04, C05, C06}
 use Rattle.tlv_value.specs.CheckNotes.{finding_if}
 use Rattle.tlv_value.specs.ValueCheckState.{ValueCheckState, value_check_after, findings_in, has_unused_bits, new_value_check}
-use Rattle.tlv_value.specs.Types.{bit_string, constructed_types, has_segments, is_a, is_one_of, is_primitive, is_string, is_unassigned, octet_string, primitive_types}
+use Rattle.tlv_head.specs.UniversalTypes as universal
+use Rattle.tlv_value.specs.Types.{constructed_types, has_segments, is_a, is_one_of, is_primitive, is_string, is_unassigned, primitive_types}
 use Rattle.tlv_walk.specs.Place.{is_indefinite}
 use Rattle.tlv_show.specs.declared.sibling_frame.SiblingFrame.{SiblingFrame}
 use Rattle.tlv_show.specs.declared.rules.Rules.{Rules}
@@ -40,7 +41,7 @@ frame_of h = record {
   size = announced_length h.size;
   is_primitive = is_primitive h;
   has_segments = has_segments h;
-  has_bits = has_segments h && is_a bit_string h;
+  has_bits = has_segments h && is_a universal.bit_string h;
   is_unused = false;
   is_not_full = false;
   all_primitive = true;
@@ -69,6 +70,10 @@ frame_after w primitive size unused = if w.has_segments then frame_after_segment
 
 -- ---- Findings, by a frame
 
+-- 8.6.4, 8.7.3: the type of segments
+abbrev pub segment_type : SiblingFrame → ℕ
+segment_type w = if w.has_bits then universal.bit_string else universal.octet_string
+
 abbrev pub basic_findings_in : SiblingFrame → HeaderValue → List Finding
 basic_findings_in w h =
     finding_if (has_high_form h && nat_lt h.number 31) B01
@@ -77,7 +82,7 @@ basic_findings_in w h =
     ++ finding_if (h.constructed && is_one_of primitive_types h) B04
     ++ finding_if (is_primitive h && is_one_of constructed_types h) B05
     ++ finding_if (w.has_segments && w.has_bits && w.is_unused) B16
-    ++ finding_if (w.has_segments && not (is_a (if w.has_bits then bit_string else octet_string) h)) B17
+    ++ finding_if (w.has_segments && not (is_a (segment_type w) h)) B17
 
 abbrev pub length_findings : HeaderValue → List Finding
 length_findings h = finding_if (has_long_form h && (nat_lt (announced_length h.size) 128 || first_length h == 0)) S01

@@ -2,7 +2,8 @@
 use Rattle.std.specs.Prelude.{ℕ, ◌+◌, Bool, true, false, ◌&&◌, length, Option, Some, None}
 use Rattle.std.specs.Option.{option_map_or}
 use Rattle.tlv_head.specs.Header.{HeaderValue}
-use Rattle.tlv_value.specs.Types.{bit_string, has_segments, is_a}
+use Rattle.tlv_head.specs.UniversalTypes as universal
+use Rattle.tlv_value.specs.Types.{has_segments, is_a}
 use Rattle.tlv_walk.specs.Forest.{opening}
 
 -- what is right before an element, in what holds it
@@ -44,4 +45,4 @@ abbrev pub in_string : Site → Bool
 in_string s = option_map_or has_segments s.holder false
 
 abbrev pub in_bit_string : Site → Bool
-in_bit_string s = option_map_or (λ h. has_segments h && is_a bit_string h) s.holder false
+in_bit_string s = option_map_or (λ h. has_segments h && is_a universal.bit_string h) s.holder false

@@ -1,7 +1,8 @@
 //! What a header says of its element.
 ghost use Rattle.std.specs.Prelude.{◌≡◌, ◌&&◌, ◌||◌, ◌==◌, if◌then◌else◌, nat_lt};
 ghost use Rattle.tlv_head.specs.Header.{announced_length, is_universal};
-ghost use Rattle.tlv_value.specs.Types.{bit_string, constructed_types, is_a, is_one_of, is_string, is_unassigned, octet_string, primitive_types};
+ghost use Rattle.tlv_head.specs.UniversalTypes.{bit_string, octet_string};
+ghost use Rattle.tlv_value.specs.Types.{constructed_types, is_a, is_one_of, is_string, is_unassigned, primitive_types};
 ghost use Rattle.tlv_walk.specs.Place.{is_indefinite};
 ghost use Rattle.tlv_show.specs.Conditions.{first_length, has_high_form, has_long_form};
 

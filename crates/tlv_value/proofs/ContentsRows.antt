@@ -10,7 +10,7 @@ use Rattle.tlv_value.proofs.CheckLemmas.CheckNotes.{with_tag}
 use Rattle.tlv_value.specs.Kind.{kind_of}
 use Rattle.tlv_value.specs.Number.{decimal_of}
 use Rattle.tlv_value.specs.Rows.{rows_of}
-use Rattle.tlv_value.specs.Times.{canonical_general_time, canonical_utc_time, general_time, has_form, utc_time}
+use Rattle.tlv_value.specs.Times.{canonical_generalized_time_form, canonical_utc_time_form, generalized_time_form, has_form, utc_time_form}
 use Rattle.tlv_value.specs.Value.{used_digits}
 
 enumerated : kind_of Universal 10 ≡ Integer
@@ -43,19 +43,19 @@ two-rows : rows_of Octets (1 ∷ 2 ∷ 3 ∷ 4 ∷ 5 ∷ 6 ∷ 7 ∷ 8 ∷ 9 ∷
     ≡ (1 ∷ 2 ∷ 3 ∷ 4 ∷ 5 ∷ 6 ∷ 7 ∷ 8 ∷ 9 ∷ 10 ∷ 11 ∷ 12 ∷ 13 ∷ 14 ∷ 15 ∷ 16 ∷ []) ∷ (17 ∷ []) ∷ []
 two-rows = refl
 
-utc : has_form utc_time (codes "910506234540+0000") ≡ true
+utc : has_form utc_time_form (codes "910506234540+0000") ≡ true
 utc = refl
 
-utc-not-canonical : has_form canonical_utc_time (codes "910506234540+0000") ≡ false
+utc-not-canonical : has_form canonical_utc_time_form (codes "910506234540+0000") ≡ false
 utc-not-canonical = refl
 
-general : has_form general_time (codes "1992072213") ≡ true
+general : has_form generalized_time_form (codes "1992072213") ≡ true
 general = refl
 
-general-without-digits : has_form general_time (codes "19920722132100.Z") ≡ false
+general-without-digits : has_form generalized_time_form (codes "19920722132100.Z") ≡ false
 general-without-digits = refl
 
-general-canonical : has_form canonical_general_time (codes "19920722132100.3Z") ≡ true
+general-canonical : has_form canonical_generalized_time_form (codes "19920722132100.3Z") ≡ true
 general-canonical = refl
 
 padded-integer : findings_on_contents (with_tag Universal 2) (0 ∷ 127 ∷ []) ≡ B08 ∷ []

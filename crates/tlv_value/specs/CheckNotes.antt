@@ -1,9 +1,10 @@
 -- The findings on contents again, by what is noted of the contents while they come. `Checks` has their conditions.
 use Rattle.std.specs.Prelude.{ℕ, ◌%◌, ◌^◌, Bool, ◌&&◌, ◌||◌, not, eqb, nat_le, nat_lt, if◌then◌else◌, List, [], ◌∷◌, ◌++◌, slice_index}
+use Rattle.tlv_head.specs.UniversalTypes as universal
 use Rattle.tlv_value.specs.declared.finding.Finding.{Finding}
 use Rattle.tlv_value.specs.declared.finding.Finding.TheVariants.{B06, B07, B08, B09, B10, B11, B12, B13, B14, B15, B18, B19, S02, S03, S04}
 use Rattle.tlv_value.specs.Checks.{is_padded_integer}
-use Rattle.tlv_value.specs.Times.{canonical_general_time, canonical_utc_time, general_time, has_form, utc_time}
+use Rattle.tlv_value.specs.Times.{canonical_generalized_time_form, canonical_utc_time_form, generalized_time_form, has_form, utc_time_form}
 
 -- a finding, if it is there
 abbrev pub finding_if : Bool → Finding → List Finding
@@ -11,7 +12,7 @@ finding_if there finding = if there then finding ∷ [] else []
 
 -- OBJECT IDENTIFIER, RELATIVE-OID
 abbrev pub is_object : ℕ → Bool
-is_object number = eqb number 6 || eqb number 13
+is_object number = eqb number universal.object_identifier || eqb number universal.relative_oid
 
 -- what the findings go by: the number of octets, the first two, those of a time, the last, whether a subidentifier is
 -- padded, and whether the characters are those of the type
@@ -61,10 +62,10 @@ abbrev pub time_findings : Bool → Bool → List Finding
 time_findings of_grammar is_canonical = if of_grammar then finding_if (not is_canonical) S04 else B19 ∷ []
 
 abbrev pub utc_time_findings : List ℕ → List Finding
-utc_time_findings octets = time_findings (has_form utc_time octets) (has_form canonical_utc_time octets)
+utc_time_findings octets = time_findings (has_form utc_time_form octets) (has_form canonical_utc_time_form octets)
 
 abbrev pub general_time_findings : List ℕ → List Finding
-general_time_findings octets = time_findings (has_form general_time octets) (has_form canonical_general_time octets)
+general_time_findings octets = time_findings (has_form generalized_time_form octets) (has_form canonical_generalized_time_form octets)
 
 -- of a time of at most 64 octets
 abbrev pub utc_findings : Notes → List Finding
@@ -79,13 +80,13 @@ text_findings n = finding_if (not n.allowed) B18
 -- on a primitive with this universal number
 abbrev pub universal_findings : ℕ → Notes → List Finding
 universal_findings number n =
-    if eqb number 1 then boolean_findings n
-    else if eqb number 2 then integer_findings n
-    else if eqb number 3 then bits_findings n
-    else if eqb number 5 then null_findings n
-    else if eqb number 6 then object_findings n
-    else if eqb number 10 then integer_findings n
-    else if eqb number 13 then relative_findings n
-    else if eqb number 23 then utc_findings n
-    else if eqb number 24 then general_findings n
+    if eqb number universal.boolean then boolean_findings n
+    else if eqb number universal.integer then integer_findings n
+    else if eqb number universal.bit_string then bits_findings n
+    else if eqb number universal.null then null_findings n
+    else if eqb number universal.object_identifier then object_findings n
+    else if eqb number universal.enumerated then integer_findings n
+    else if eqb number universal.relative_oid then relative_findings n
+    else if eqb number universal.utc_time then utc_findings n
+    else if eqb number universal.generalized_time then general_findings n
     else text_findings n

@@ -6,10 +6,11 @@ use Rattle.std.specs.List.{list_all, list_any}
 use Rattle.std.specs.Option.{option_map_or}
 use Rattle.std.specs.Str.{is_utf8}
 use Rattle.tlv_head.specs.Header.{HeaderValue, is_universal}
+use Rattle.tlv_head.specs.UniversalTypes as universal
 use Rattle.tlv_value.specs.declared.finding.Finding.{Finding}
 use Rattle.tlv_value.specs.declared.finding.Finding.TheVariants.{B06, B07, B08, B09, B10, B11, B12, B13, B14, B15, B18, B19, S02, S03, S04}
 use Rattle.tlv_value.specs.Times as times
-use Rattle.tlv_value.specs.Types.{bit_string, boolean, integer_types, is_a, is_one_of, null, object_identifier, object_types, utc_time_type}
+use Rattle.tlv_value.specs.Types.{integer_types, is_a, is_one_of, object_types}
 use Rattle.tlv_value.specs.Units.{is_printable}
 
 abbrev pub last_octet : ℕ → List ℕ → ℕ
@@ -38,10 +39,10 @@ is_printable_string x = is_digit_or_space x || is_ascii_alphabetic x || list_any
 -- VisibleString. Other types have none
 abbrev pub octet_test : ℕ → Option (ℕ → Bool)
 octet_test number =
-    if eqb number 18 then Some is_digit_or_space
-    else if eqb number 19 then Some is_printable_string
-    else if eqb number 22 then Some (λ x. nat_lt x 128)
-    else if eqb number 26 then Some is_printable
+    if eqb number universal.numeric_string then Some is_digit_or_space
+    else if eqb number universal.printable_string then Some is_printable_string
+    else if eqb number universal.ia5_string then Some (λ x. nat_lt x 128)
+    else if eqb number universal.visible_string then Some is_printable
     else None
 
 abbrev pub allows_octet : ℕ → ℕ → Bool
@@ -51,9 +52,9 @@ allows_octet number x = option_map_or (λ test. test x) (octet_test number) true
 -- BMPString
 abbrev pub allows : ℕ → List ℕ → Bool
 allows number octets =
-    if eqb number 12 then is_utf8 octets
-    else if eqb number 28 then eqb (length octets % 4) 0
-    else if eqb number 30 then eqb (length octets % 2) 0
+    if eqb number universal.utf8_string then is_utf8 octets
+    else if eqb number universal.universal_string then eqb (length octets % 4) 0
+    else if eqb number universal.bmp_string then eqb (length octets % 2) 0
     else option_map_or (λ test. list_all test octets) (octet_test number) true
 
 -- ---- The findings
@@ -72,45 +73,45 @@ unused_bits_value c = last_octet 0 c % 2 ^ first c
 
 -- 8.25: a UTCTime or GeneralizedTime of at most 64 octets: of a longer one the form is not looked at
 abbrev pub is_short_time : HeaderValue → List ℕ → Bool
-is_short_time h c = is_one_of (23 ∷ 24 ∷ []) h && nat_le (length c) 64
+is_short_time h c = is_one_of (universal.utc_time ∷ universal.generalized_time ∷ []) h && nat_le (length c) 64
 
 abbrev pub time_form : HeaderValue → times.Form
-time_form h = if is_a utc_time_type h then times.utc_time else times.general_time
+time_form h = if is_a universal.utc_time h then times.utc_time_form else times.generalized_time_form
 
 abbrev pub canonical_form : HeaderValue → times.Form
-canonical_form h = if is_a utc_time_type h then times.canonical_utc_time else times.canonical_general_time
+canonical_form h = if is_a universal.utc_time h then times.canonical_utc_time_form else times.canonical_generalized_time_form
 
 -- what may be found on the contents of a primitive with this header
 abbrev pub contents_conditions : HeaderValue → List ℕ → List (Bool × Finding)
 contents_conditions h c =
     -- 8.2.1: a BOOLEAN has one octet
-    (is_a boolean h && not (length c == 1), B06)
+    (is_a universal.boolean h && not (length c == 1), B06)
     -- 8.3.1, 8.4: an INTEGER or ENUMERATED has one octet or more
     ∷ (is_one_of integer_types h && length c == 0, B07)
     -- 8.3.2, 8.4: its first nine bits are not all equal
     ∷ (is_one_of integer_types h && is_padded_integer c, B08)
     -- 8.8.2: a NULL has no octets
-    ∷ (is_a null h && not (length c == 0), B09)
+    ∷ (is_a universal.null h && not (length c == 0), B09)
     -- 8.19.2: an OBJECT IDENTIFIER has one subidentifier or more
-    ∷ (is_a object_identifier h && length c == 0, B10)
+    ∷ (is_a universal.object_identifier h && length c == 0, B10)
     -- 8.19.2, 8.20.2: no subidentifier begins with 80
     ∷ (is_one_of object_types h && is_padded_after 0 c, B11)
     -- 8.19.2, 8.20.2: bit 8 is clear in the last octet of a subidentifier
     ∷ (is_one_of object_types h && nat_le 128 (last_octet 0 c), B12)
     -- 8.6.2: a BIT STRING has a first octet, the number of unused bits
-    ∷ (is_a bit_string h && length c == 0, B13)
+    ∷ (is_a universal.bit_string h && length c == 0, B13)
     -- 8.6.2.2: it is at most 7
-    ∷ (is_a bit_string h && nat_lt 7 (first c), B14)
+    ∷ (is_a universal.bit_string h && nat_lt 7 (first c), B14)
     -- 8.6.2.3: it is 0 if no other octet follows
-    ∷ (is_a bit_string h && length c == 1 && nat_le 1 (first c) && nat_le (first c) 7, B15)
+    ∷ (is_a universal.bit_string h && length c == 1 && nat_le 1 (first c) && nat_le (first c) 7, B15)
     -- X.680 41: a string of characters has those of its type
     ∷ (is_universal h.class && not (allows h.number c), B18)
     -- X.680 46, 47: a time is of its grammar
     ∷ (is_short_time h c && not (times.has_form (time_form h) c), B19)
     -- 11.1: TRUE is ff
-    ∷ (is_a boolean h && length c == 1 && not (first c == 0 || first c == 0xff), S02)
+    ∷ (is_a universal.boolean h && length c == 1 && not (first c == 0 || first c == 0xff), S02)
     -- 11.2.1: unused bits are 0
-    ∷ (is_a bit_string h && nat_le 2 (length c) && nat_le (first c) 7 && not (unused_bits_value c == 0), S03)
+    ∷ (is_a universal.bit_string h && nat_le 2 (length c) && nat_le (first c) 7 && not (unused_bits_value c == 0), S03)
     -- 11.7, 11.8: a time is in the canonical form
     ∷ (is_short_time h c && times.has_form (time_form h) c && not (times.has_form (canonical_form h) c), S04)
     ∷ []

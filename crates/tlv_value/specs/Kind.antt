@@ -2,6 +2,7 @@
 use Rattle.std.specs.Prelude.{ℕ, Bool, true, false, eqb, List, [], ◌∷◌}
 use Rattle.std.specs.Map.{lookup}
 use Rattle.std.specs.Option.{unwrap_or}
+use Rattle.tlv_head.specs.UniversalTypes as universal
 use Rattle.tlv_head.specs.declared.header.Class.{Class}
 use Rattle.tlv_head.specs.declared.header.Class.TheVariants.{Universal}
 use Rattle.tlv_value.specs.declared.kind.Kind.{Kind}
@@ -10,14 +11,27 @@ use Rattle.tlv_value.specs.declared.kind.Kind.TheVariants.{Octets, Boolean, Inte
 -- the universal types whose contents are read as more than octets
 abbrev pub universal_kinds : List (ℕ × Kind)
 universal_kinds =
-    -- BOOLEAN, INTEGER, BIT STRING, OBJECT IDENTIFIER, ObjectDescriptor, ENUMERATED, UTF8String, RELATIVE-OID
-    (1, Boolean) ∷ (2, Integer) ∷ (3, Bits) ∷ (6, Object) ∷ (7, Text) ∷ (10, Integer) ∷ (12, Utf8) ∷ (13, Relative)
-    -- NumericString, PrintableString, TeletexString, VideotexString, IA5String
-    ∷ (18, Text) ∷ (19, Text) ∷ (20, Text) ∷ (21, Text) ∷ (22, Text)
-    -- UTCTime, GeneralizedTime, GraphicString, VisibleString, GeneralString
-    ∷ (23, Text) ∷ (24, Text) ∷ (25, Text) ∷ (26, Text) ∷ (27, Text)
-    -- UniversalString, BMPString
-    ∷ (28, Ucs4) ∷ (30, Ucs2) ∷ []
+    (universal.boolean, Boolean)
+    ∷ (universal.integer, Integer)
+    ∷ (universal.bit_string, Bits)
+    ∷ (universal.object_identifier, Object)
+    ∷ (universal.object_descriptor, Text)
+    ∷ (universal.enumerated, Integer)
+    ∷ (universal.utf8_string, Utf8)
+    ∷ (universal.relative_oid, Relative)
+    ∷ (universal.numeric_string, Text)
+    ∷ (universal.printable_string, Text)
+    ∷ (universal.teletex_string, Text)
+    ∷ (universal.videotex_string, Text)
+    ∷ (universal.ia5_string, Text)
+    ∷ (universal.utc_time, Text)
+    ∷ (universal.generalized_time, Text)
+    ∷ (universal.graphic_string, Text)
+    ∷ (universal.visible_string, Text)
+    ∷ (universal.general_string, Text)
+    ∷ (universal.universal_string, Ucs4)
+    ∷ (universal.bmp_string, Ucs2)
+    ∷ []
 
 abbrev pub kind_of : Class → ℕ → Kind
 kind_of Universal number = unwrap_or (lookup (eqb number) universal_kinds) Octets

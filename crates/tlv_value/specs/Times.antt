@@ -82,8 +82,8 @@ abbrev pub utc_zone : Form
 utc_zone = mark 90 or (sign then hour then minute)
 
 -- X.680 47.3
-abbrev pub utc_time : Form
-utc_time = utc_minute then maybe second then utc_zone
+abbrev pub utc_time_form : Form
+utc_time_form = utc_minute then maybe second then utc_zone
 
 abbrev pub general_hour : Form
 general_hour = two 0 99 then two 0 99 then day then hour
@@ -96,8 +96,8 @@ abbrev pub general_zone : Form
 general_zone = mark 90 or (sign then hour then maybe minute)
 
 -- X.680 46.2
-abbrev pub general_time : Form
-general_time = general_hour then maybe (minute then maybe second) then maybe fraction then maybe general_zone
+abbrev pub generalized_time_form : Form
+generalized_time_form = general_hour then maybe (minute then maybe second) then maybe fraction then maybe general_zone
 
 -- midnight is hour 0 of the following day
 abbrev pub canonical_clock : Form
@@ -107,13 +107,13 @@ abbrev pub canonical_second : Form
 canonical_second = two 0 99 then day then canonical_clock
 
 -- 11.8
-abbrev pub canonical_utc_time : Form
-canonical_utc_time = canonical_second then mark 90
+abbrev pub canonical_utc_time_form : Form
+canonical_utc_time_form = canonical_second then mark 90
 
 -- 11.7.3: no zero ends the fraction
 abbrev pub canonical_fraction : Form
 canonical_fraction = mark 46 then digits then one 49 57
 
 -- 11.7
-abbrev pub canonical_general_time : Form
-canonical_general_time = (two 0 99 then canonical_second) then maybe canonical_fraction then mark 90
+abbrev pub canonical_generalized_time_form : Form
+canonical_generalized_time_form = (two 0 99 then canonical_second) then maybe canonical_fraction then mark 90

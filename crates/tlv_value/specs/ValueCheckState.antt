@@ -2,13 +2,13 @@
 use Rattle.std.specs.List.{list_all}
 use Rattle.std.specs.Prelude.{ℕ, ◌-◌, ◌%◌, Bool, true, false, ◌&&◌, ◌||◌, not, eqb, if◌then◌else◌, List, [], ◌∷◌, ◌++◌, length, take}
 use Rattle.std.specs.Str.{is_utf8}
+use Rattle.tlv_head.specs.UniversalTypes as universal
 use Rattle.tlv_head.specs.Header.{HeaderValue, announced_length, is_universal}
 use Rattle.tlv_value.specs.declared.kind.Kind.TheVariants.{Utf8}
 use Rattle.tlv_value.specs.declared.finding.Finding.{Finding}
 use Rattle.tlv_value.specs.Checks.{allows_octet, is_padded_after, last_octet}
 use Rattle.tlv_value.specs.CheckNotes.{Notes, is_object, universal_findings}
 use Rattle.tlv_value.specs.Rows.{full_rows, open_row}
-use Rattle.tlv_value.specs.Types.{bit_string, octet_string}
 
 abbrev pub all_utf8 : List (List ℕ) → Bool
 all_utf8 [] = true
@@ -35,7 +35,7 @@ pub record ValueCheckState : Type 0 where
 
 -- the universal number of the type; of another class that of OCTET STRING, on whose contents nothing is found
 abbrev pub type_number : HeaderValue → ℕ
-type_number h = if is_universal h.class then h.number else octet_string
+type_number h = if is_universal h.class then h.number else universal.octet_string
 
 -- of so many octets
 abbrev pub new_check_of : ℕ → ℕ → ValueCheckState
@@ -57,17 +57,27 @@ new_value_check h = new_check_of (type_number h) (announced_length h.size)
 
 -- the first octets are looked at, and the last one: BOOLEAN, INTEGER, BIT STRING, ENUMERATED
 abbrev pub notes_front : ℕ → Bool
-notes_front number = eqb number 1 || eqb number 2 || eqb number 3 || eqb number 10
+notes_front number =
+    eqb number universal.boolean
+    || eqb number universal.integer
+    || eqb number universal.bit_string
+    || eqb number universal.enumerated
 
 -- each octet of the type with this number is looked at: object identifiers, UTF8String, and the strings of some
 -- characters
 abbrev pub notes_each : ℕ → Bool
 notes_each number =
-    eqb number 6 || eqb number 12 || eqb number 13 || eqb number 18 || eqb number 19 || eqb number 22 || eqb number 26
+    eqb number universal.object_identifier
+    || eqb number universal.utf8_string
+    || eqb number universal.relative_oid
+    || eqb number universal.numeric_string
+    || eqb number universal.printable_string
+    || eqb number universal.ia5_string
+    || eqb number universal.visible_string
 
 -- the two times
 abbrev pub notes_time : ℕ → Bool
-notes_time number = eqb number 23 || eqb number 24
+notes_time number = eqb number universal.utc_time || eqb number universal.generalized_time
 
 abbrev pub with_front : ValueCheckState → List ℕ → ValueCheckState
 with_front s octets = record s { front = take 2 (s.front ++ octets); last = last_octet s.last octets }
@@ -76,8 +86,8 @@ abbrev pub with_each : ValueCheckState → List ℕ → ValueCheckState
 with_each s octets = record s {
   allowed = s.allowed && list_all (allows_octet s.number) octets;
   padded = if is_object s.number then s.padded || is_padded_after s.last octets else s.padded;
-  formed = if eqb s.number 12 then s.formed && all_utf8 (full_rows Utf8 s.row octets) else s.formed;
-  row = if eqb s.number 12 then open_row Utf8 s.row octets else s.row;
+  formed = if eqb s.number universal.utf8_string then s.formed && all_utf8 (full_rows Utf8 s.row octets) else s.formed;
+  row = if eqb s.number universal.utf8_string then open_row Utf8 s.row octets else s.row;
   last = last_octet s.last octets;
 }
 
@@ -104,14 +114,14 @@ begins_nonzero (x ∷ octets) = not (eqb x 0)
 
 -- 8.6.2.2: it is a BIT STRING whose first contents octet is not 0
 abbrev pub has_unused_bits : ValueCheckState → Bool
-has_unused_bits s = eqb s.number bit_string && begins_nonzero s.front
+has_unused_bits s = eqb s.number universal.bit_string && begins_nonzero s.front
 
 -- the characters are those of the type
 abbrev pub is_allowed_in : ValueCheckState → Bool
 is_allowed_in s =
-    (if eqb s.number 12 then s.formed && is_utf8 s.row
-    else if eqb s.number 30 then eqb (s.size % 2) 0
-    else if eqb s.number 28 then eqb (s.size % 4) 0
+    (if eqb s.number universal.utf8_string then s.formed && is_utf8 s.row
+    else if eqb s.number universal.bmp_string then eqb (s.size % 2) 0
+    else if eqb s.number universal.universal_string then eqb (s.size % 4) 0
     else true)
     && s.allowed
 

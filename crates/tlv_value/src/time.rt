@@ -3,12 +3,12 @@
 //! A part of a form is a function that returns what follows the part in front of the octets, or none if they do not
 //! begin with it.
 ghost use Rattle.std.specs.Prelude.{◌≡◌, option_copied, option_to_list};
-ghost use Rattle.tlv_value.specs.Times.{canonical_clock, canonical_fraction, canonical_general_time, canonical_second, canonical_utc_time, day, digits, fraction, general_hour, general_time, general_zone, has_form, hour, mark, maybe, minute, one, second, sign, two, utc_minute, utc_time, utc_zone, ◌or◌, ◌then◌};
+ghost use Rattle.tlv_value.specs.Times.{canonical_clock, canonical_fraction, canonical_generalized_time_form, canonical_second, canonical_utc_time_form, day, digits, fraction, general_hour, generalized_time_form, general_zone, has_form, hour, mark, maybe, minute, one, second, sign, two, utc_minute, utc_time_form, utc_zone, ◌or◌, ◌then◌};
 
 /// Whether the octets are of the grammar of UTCTime: `YYMMDDhhmm`, `ss` or nothing, and `Z`, `+hhmm` or `-hhmm`.
 #[inline(never)]
 pub fn utc_ok(contents: &[u8]) -> bool
-    ensures { result ≡ has_form utc_time contents.now }
+    ensures { result ≡ has_form utc_time_form contents.now }
 {
     let Some(rest) = to_utc_minute(contents) else {
         return false;
@@ -21,7 +21,7 @@ pub fn utc_ok(contents: &[u8]) -> bool
 
 /// Whether the octets are a canonical UTCTime (11.8): `YYMMDDhhmmssZ`, with an hour of at most 23.
 pub fn utc_canonical(contents: &[u8]) -> bool
-    ensures { result ≡ has_form canonical_utc_time contents.now }
+    ensures { result ≡ has_form canonical_utc_time_form contents.now }
 {
     match to_canonical_second(contents) {
         Some(rest) => is_zulu(rest),
@@ -33,7 +33,7 @@ pub fn utc_canonical(contents: &[u8]) -> bool
 /// or more digits after `.` or `,` or nothing, and `Z`, `+hh`, `-hh`, `+hhmm`, `-hhmm` or nothing.
 #[inline(never)]
 pub fn general_ok(contents: &[u8]) -> bool
-    ensures { result ≡ has_form general_time contents.now }
+    ensures { result ≡ has_form generalized_time_form contents.now }
 {
     let Some(rest) = to_general_hour(contents) else {
         return false;
@@ -47,7 +47,7 @@ pub fn general_ok(contents: &[u8]) -> bool
 /// Whether the octets are a canonical GeneralizedTime (11.7): `YYYYMMDDhhmmssZ`, with an hour of at most 23, and before
 /// the `Z` perhaps `.` and digits, of which the last is not 0.
 pub fn general_canonical(contents: &[u8]) -> bool
-    ensures { result ≡ has_form canonical_general_time contents.now }
+    ensures { result ≡ has_form canonical_generalized_time_form contents.now }
 {
     let Some(rest) = two_digits(contents, 0, 99) else {
         return false;

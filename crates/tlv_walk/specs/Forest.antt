@@ -2,6 +2,7 @@
 use Rattle.std.specs.Prelude.{ℕ, ◌+◌, Bool, true, false, eqb, if◌then◌else◌, List, [], ◌∷◌, ◌++◌, length}
 use Rattle.tlv_head.specs.declared.header.Size.{Size}
 use Rattle.std.specs.Option.{is_some}
+use Rattle.tlv_head.specs.UniversalTypes as universal
 use Rattle.tlv_head.specs.Header.{HeaderValue, definite_length, octets_of}
 
 -- 8.1.1.1, 8.1.4: whole elements, one after another, and then at most one open end
@@ -27,7 +28,7 @@ pub data Forest : Type 0 where
 
 -- 8.6.2.2: the contents octets of a wrapper before what it holds: in a BIT STRING 00, no bit unused
 abbrev pub lead : HeaderValue → List ℕ
-lead h = if h.constructed then [] else (if eqb h.number 3 then 0 ∷ [] else [])
+lead h = if h.constructed then [] else (if eqb h.number universal.bit_string then 0 ∷ [] else [])
 
 -- 8.1.1.1: what comes before the elements that an element holds
 abbrev pub opening : HeaderValue → List ℕ

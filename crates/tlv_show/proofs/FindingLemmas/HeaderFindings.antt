@@ -9,7 +9,8 @@ use Rattle.tlv_value.specs.declared.finding.Finding.{Finding}
 use Rattle.tlv_value.specs.declared.finding.Finding.TheVariants.{B01, B02, B03, B04, B05, B16, B17, S01, D01, D02, C01, C02, C03, C04, C05, C06}
 use Rattle.tlv_value.specs.Checks.{findings_by}
 use Rattle.tlv_value.specs.CheckNotes.{finding_if}
-use Rattle.tlv_value.specs.Types.{bit_string, constructed_types, has_segments, is_a, is_one_of, is_primitive, is_string, is_unassigned, octet_string, primitive_types}
+use Rattle.tlv_head.specs.UniversalTypes.{bit_string, octet_string}
+use Rattle.tlv_value.specs.Types.{constructed_types, has_segments, is_a, is_one_of, is_primitive, is_string, is_unassigned, primitive_types}
 use Rattle.tlv_show.specs.declared.sibling_frame.SiblingFrame.{SiblingFrame}
 use Rattle.tlv_show.specs.declared.rules.Rules.{Rules}
 use Rattle.tlv_show.specs.declared.rules.Rules.TheVariants.{Ber, Der, Cer}

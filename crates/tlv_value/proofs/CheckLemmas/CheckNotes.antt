@@ -19,7 +19,7 @@ use Rattle.tlv_value.specs.declared.kind.Kind.TheVariants.{Utf8}
 use Rattle.std.specs.Str.{is_utf8}
 use Rattle.tlv_value.proofs.CheckLemmas.EachNoted.{nothing-noted}
 use Rattle.tlv_value.proofs.CheckLemmas.Formed.{rows-formed_at}
-use Rattle.tlv_value.specs.Times.{Form, canonical_general_time, canonical_utc_time, general_time, has_form, utc_time}
+use Rattle.tlv_value.specs.Times.{Form, canonical_generalized_time_form, canonical_utc_time_form, generalized_time_form, has_form, utc_time_form}
 
 -- a primitive with this tag
 abbrev pub with_tag : Class → ℕ → HeaderValue
@@ -120,11 +120,11 @@ time-by true form canonical c c' e = tests (has_form form c) (has_form canonical
 
 utc-same : (c : List ℕ) → on 23 c ≡ universal_findings 23 (noted 23 c)
 utc-same c =
-    time-by (nat_le (length c) 64) utc_time canonical_utc_time c (take 64 c) (λ e. take-all 64 c (leb-true (length c) 64 e))
+    time-by (nat_le (length c) 64) utc_time_form canonical_utc_time_form c (take 64 c) (λ e. take-all 64 c (leb-true (length c) 64 e))
 
 general-same : (c : List ℕ) → on 24 c ≡ universal_findings 24 (noted 24 c)
 general-same c =
-    time-by (nat_le (length c) 64) general_time canonical_general_time c (take 64 c) (λ e. take-all 64 c (leb-true (length c) 64 e))
+    time-by (nat_le (length c) 64) generalized_time_form canonical_generalized_time_form c (take 64 c) (λ e. take-all 64 c (leb-true (length c) 64 e))
 
 -- what the contents have as a whole, and what each octet has
 both-at : (n k : ℕ) (c : List ℕ) → eqb n k ≡ true → allows_both k c ≡ allows k c → allows_both n c ≡ allows n c

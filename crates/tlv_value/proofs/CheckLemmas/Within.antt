@@ -5,7 +5,7 @@ use Rattle.std.specs.List.{list_any}
 use Rattle.std.proofs.lemmas.Bool.{or_cases, leb-true, le-leb}
 use Rattle.std.proofs.lemmas.Bool.Decides.{nat_tests}
 use Rattle.std.proofs.lemmas.List.Folds.{list_any-append}
-use Rattle.tlv_value.specs.Times.{◌then◌, ◌or◌, Form, canonical_fraction, canonical_general_time, canonical_utc_time, day, digits, fraction, general_time, general_zone, has_form, hour, is_digit, is_rest_empty, mark, maybe, minute, no_octets, one, second, sign, two, utc_time}
+use Rattle.tlv_value.specs.Times.{◌then◌, ◌or◌, Form, canonical_fraction, canonical_generalized_time_form, canonical_utc_time_form, day, digits, fraction, generalized_time_form, general_zone, has_form, hour, is_digit, is_rest_empty, mark, maybe, minute, no_octets, one, second, sign, two, utc_time_form}
 use Rattle.tlv_value.specs.CheckNotes.{general_time_findings, time_findings, utc_time_findings}
 
 abbrev is_nil : List ℕ → Bool
@@ -181,7 +181,7 @@ within-second : {f g : Form} → Within f g → Within (second then f) (maybe se
 within-second w = within-then (within-first no_octets (within-same second)) w
 
 -- 11.8
-utc-within : Within canonical_utc_time utc_time
+utc-within : Within canonical_utc_time_form utc_time_form
 utc-within =
     within-fronts _ _ _ _ (within-same (two 0 99)) (within-fronts _ _ _ _ (within-same day) (within-fronts _ _ _ _ within-hour
     (within-front _ _ _ (within-same minute) (within-second (within-first (sign then hour then minute) (within-same (mark 90)))))))
@@ -193,7 +193,7 @@ general-tail =
     (within-first no_octets (within-first (sign then hour then maybe minute) (within-same (mark 90))))
 
 -- 11.7
-general-within : Within canonical_general_time general_time
+general-within : Within canonical_generalized_time_form generalized_time_form
 general-within =
     within-fronts _ _ _ _ (within-same (two 0 99)) (within-fronts _ _ _ _ (within-same (two 0 99)) (within-fronts _ _ _ _ (within-same day)
     (within-front _ _ _ within-hour
@@ -218,10 +218,10 @@ clear-within {f} {g} w octets =
 
 pub utc_clear :
     (octets : List ℕ)
-    → has_form canonical_utc_time octets ≡ eqb (length (utc_time_findings octets)) 0
+    → has_form canonical_utc_time_form octets ≡ eqb (length (utc_time_findings octets)) 0
 utc_clear octets = clear-within utc-within octets
 
 pub general_clear :
     (octets : List ℕ)
-    → has_form canonical_general_time octets ≡ eqb (length (general_time_findings octets)) 0
+    → has_form canonical_generalized_time_form octets ≡ eqb (length (general_time_findings octets)) 0
 general_clear octets = clear-within general-within octets

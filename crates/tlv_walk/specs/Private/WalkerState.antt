@@ -8,6 +8,7 @@ use Rattle.tlv_head.specs.HeaderFields.{header_with}
 use Rattle.tlv_head.specs.ReadHeader.{BeginsWithFields}
 use Rattle.std.specs.Borrow.{Bor}
 use Rattle.std.specs.Option.{option_map, option_map_or}
+use Rattle.tlv_head.specs.UniversalTypes as universal
 use Rattle.tlv_walk.specs.declared.event.Event.{Event}
 use Rattle.tlv_walk.specs.declared.event.Event.TheVariants as event
 use Rattle.tlv_walk.specs.declared.event.Step.{Step}
@@ -153,7 +154,7 @@ Enters old new f at kind.Constructed =
 Enters old new f at kind.Wrapper =
     (f.constructed ≡ false)
     × (is_wrapper f.named f.class f.constructed f.number f.size ≡ true)
-    × (new ≡ record (after_header old (if eqb f.number 3 then InBitString else Between) at) {
+    × (new ≡ record (after_header old (if eqb f.number universal.bit_string then InBitString else Between) at) {
       stack = frame_with at (bound_of old.stack) f.size f.constructed ∷ old.stack;
       wrapper_count = next_wrapper old.framing.inside old.wrapper_count f.offset;
     })
