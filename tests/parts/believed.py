@@ -1,0 +1,129 @@
+"""What a reader must believe: docs/PROVED.md lists the definitions that the contract of `run` reaches, and no others. And specs
+have no definition that no contract reaches."""
+import os
+import re
+
+from parts.words import DEFINITION, specs
+
+IMPORT = re.compile(r"^\s*(?:pub |ghost )*use Rattle\.(tlv_\w+)\.specs\.([\w.]+?)(?:\.\{([^}]*)\}| as (\w+))?;?$", re.M)
+TOKEN = re.compile(r"[^\s(){}\[\];,λ:]+")
+CLAUSE = re.compile(r"\b(?:requires|ensures|ghost)\b[^;{]*(\{)")
+ENTRY = re.compile(r"(?P<crate>tlv_\w+)|`(?P<file>[A-Z]\w*)`(?:\s+\((?P<but>all but\s+)?(?P<words>`[^()]*`)\))?")
+
+
+def blocks(text):
+    """Yields each definition of a file of specs as its name and its text, which ends where the next begins."""
+    name, inside, lines = None, None, []
+    for line in text.split("\n"):
+        code = line.partition("--")[0].rstrip()
+        depth = len(code) - len(code.lstrip())
+        found = DEFINITION.match(code)
+        if found and found[3] not in ("mod", "use") and (inside is None or depth <= inside):
+            if name:
+                yield name, "\n".join(lines)
+            name, inside, lines = found[3], depth if found[2] else None, [code]
+        elif code.strip():
+            inside = inside if inside is not None and depth > inside else None
+            lines += [] if code.lstrip().startswith(("use ", "pub use ", "pub mod ", "module ")) else [code]
+    if name:
+        yield name, "\n".join(lines)
+
+
+class Definitions:
+    """The definitions of all files of specs, as pairs of a file and a name, and what each cites."""
+
+    def __init__(self, root):
+        self.homes, self.texts, self.imports = {}, {}, {}
+        for path, text in specs(root):
+            file = path.split("/", 1)[1].removesuffix(".antt").replace("/specs/", ".").replace("/", ".")
+            self.imports[file] = IMPORT.findall(text)
+            for name, block in blocks(text):
+                self.texts[file, name] = block
+                self.homes[file, name] = (file, name)
+                for constructor in re.findall(r"^ +([A-Za-z]\w*) :", block, re.M) if "data " in block else ():
+                    self.homes[file, constructor] = (file, name)
+
+    def home(self, file, name):
+        """Returns where the name that this file shows is defined, if it is defined in specs."""
+        found = self.homes.get((file, name))
+        for crate, other, names, _ in () if found else self.imports.get(file, ()):
+            if name in re.findall(r"[^\s,]+", names):
+                return self.home(f"{crate}.{other}", name)
+        return found
+
+    def cited(self, text, imports, file=None):
+        """Returns the definitions that a text cites, by the imports that it is below."""
+        names, aliases = set(), {}
+        for crate, other, group, alias in imports:
+            aliases[alias] = f"{crate}.{other}"
+            names |= {(f"{crate}.{other}", name) for name in re.findall(r"[^\s,]+", group)}
+        names |= {place for place in self.homes if place[0] == file}
+        tokens = set(TOKEN.findall(text))
+        tokens |= {part for token in tokens for part in token.split(".")}
+        found = {self.home(*place) for place in names if all(part in tokens for part in place[1].split("◌") if part)}
+        for token in TOKEN.findall(text):
+            alias, _, name = token.partition(".")
+            found.add(self.home(aliases.get(alias), name.split(".")[0]))
+        return found - {None}
+
+    def closure(self, found):
+        """Returns these definitions and all that they reach."""
+        reached, left = set(), list(found)
+        while left:
+            place = left.pop()
+            if place not in reached:
+                reached.add(place)
+                left += self.cited(self.texts[place], self.imports[place[0]], place[0])
+        return reached
+
+    def of_clauses(self, source):
+        """Returns what the clauses, views and invariants of a source in Rust cite."""
+        code = re.sub(r"//.*|ghost use [^;]*;", "", source)
+        found = set()
+        for clause in CLAUSE.finditer(code):
+            end, open_braces = clause.end(), 1
+            while open_braces:
+                open_braces += {"{": 1, "}": -1}.get(code[end], 0)
+                end += 1
+            found |= self.cited(code[clause.start() : end], IMPORT.findall(source))
+        return found
+
+
+def listed(text, files):
+    """Yields each file that a list names, with whether all but the words are needed, or these alone, and the words."""
+    crate = None
+    for entry in ENTRY.finditer(text):
+        crate = entry["crate"] or crate
+        if entry["file"] and f"{crate}.{entry['file']}" in files:
+            words = re.findall(r"`([^`]+)`", entry["words"] or "")
+            yield f"{crate}.{entry['file']}", bool(entry["but"]) or not words, set(words)
+
+
+def sources(root):
+    """Yields the text of each source of the crates."""
+    for at, _, names in os.walk(os.path.join(root, "crates")):
+        for name in names if f"{os.sep}src" in at else ():
+            if name.endswith(".rt"):
+                with open(os.path.join(at, name), encoding="utf-8") as file:
+                    yield file.read()
+
+
+def test(part):
+    """Counts a test for each file that the list of docs/PROVED.md names or should, and one for each file of specs."""
+    all_of = Definitions(part.root)
+    by_file = {}
+    for file, name in all_of.texts:
+        by_file.setdefault(file, set()).add(name)
+    with open(os.path.join(part.root, "crates/tlv_run/src/runner.rt"), encoding="utf-8") as file:
+        needed = all_of.closure(all_of.of_clauses(file.read()))
+    with open(os.path.join(part.root, "docs/PROVED.md"), encoding="utf-8") as file:
+        text = file.read().partition("## What a reader must believe")[2].partition("The contract of `run_octets`")[0]
+    lists = {file: by_file[file] - words if but else words for file, but, words in listed(text, by_file)}
+    for file in sorted({place[0] for place in needed} | set(lists)):
+        there = {name for home, name in needed if home == file}
+        wrong = sorted(there ^ lists.get(file, set()))
+        part.expect(f"docs/PROVED.md lists what `run` needs of {file}", not wrong, *wrong)
+    reached = all_of.closure(set().union(*(all_of.of_clauses(source) for source in sources(part.root))))
+    for file in sorted(by_file):
+        idle = sorted(by_file[file] - {name for home, name in reached if home == file})
+        part.expect(f"contracts reach each definition of {file}", not idle, *idle)
