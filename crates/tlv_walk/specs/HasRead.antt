@@ -51,7 +51,7 @@ pub record StandsRefused (w : WalkerState) (b : List ℕ) (octet : ℕ) (past : 
 -- what a walker has read: the octets that it took, and their reading. Once it refused an octet, these are the octets
 -- before that one
 pub data HasRead (w : WalkerState) (b : List ℕ) (reading : Forest) : Type 0 where
-  took : (past : List EventValue) (stands : Stands w b past) → stands.reading ≡ reading → HasRead w b reading
+  took : (past : List EventValue) (stands : Stands w b past) → stands.reads.reading ≡ reading → HasRead w b reading
   refused : (x : ℕ) (past : List EventValue) (f : Fault) (stands : StandsRefused w b x past f)
       → stands.refused.reading ≡ reading → HasRead w b reading
 
@@ -72,3 +72,7 @@ pub record RefusesAt (w : WalkerState) (octets : List ℕ) (past : List EventVal
 pub data StandsAtEnd (w : WalkerState) (octets : List ℕ) (past : List EventValue) : Type 0 where
   took_all : Stands w octets past → IsIdle w → StandsAtEnd w octets past
   refused_one : (f : Fault) → RefusesAt w octets past f → StandsAtEnd w octets past
+
+-- of whatever input a walker walked over to the end this holds
+abbrev pub IfAtEnd : WalkerState → (List ℕ → Type 0) → Type 0
+IfAtEnd w P = (octets : List ℕ) (yielded : List EventValue) → StandsAtEnd w octets yielded → P octets

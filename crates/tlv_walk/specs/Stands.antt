@@ -1,5 +1,6 @@
 -- What a walker stands for: the octets that it took and the events that it yielded of them.
 use Rattle.std.specs.Prelude.{◌≡◌, ℕ, Bool, false, eqb, if◌then◌else◌, List, [], ◌∷◌, ◌++◌, Option, Some, None}
+use Rattle.tlv_walk.specs.declared.framing.Framing.{Framing}
 use Rattle.tlv_walk.specs.Stack.{Frame}
 use Rattle.tlv_walk.specs.Phase.{Phase}
 use Rattle.tlv_walk.specs.Phase as phase
@@ -42,11 +43,15 @@ IsIdle w = waiting_events w ≡ []
 abbrev pub CanTake : WalkerState → Type 0
 CanTake w = IsIdle w × HasNotRefused w
 
+-- octets have a reading, and these are its events, however contents and padding are cut
+pub record HasEvents (framing : Framing) (octets : List ℕ) (es : List EventValue) : Type 0 where
+  pub reading : Forest
+  pub is_reading : IsReading framing octets reading
+  pub all_events : AreEqualJoined es (events reading)
+
 -- what a walker stands for that refused no octet: octets, and the events yielded for them. Yielded and waiting
 -- together they are those of the reading
-pub record Stands (w : WalkerState) (b : List ℕ) (past : List EventValue) : Type 0 where
-  pub reading : Forest
-  pub is_reading : IsReading w.framing b reading
-  pub all_events : AreEqualJoined (past ++ waiting_events w) (events reading)
+pub record Stands (w : WalkerState) (b : List ℕ) (yielded : List EventValue) : Type 0 where
+  pub reads : HasEvents w.framing b (yielded ++ waiting_events w)
   -- of use to proofs alone
-  pub private_state : HasPrivateState w b past
+  pub private_state : HasPrivateState w b yielded

@@ -120,12 +120,12 @@ past_unused framing past waits f named v none e =
     ap (λ (ats : List ℕ). slice_get framing.inside (wrappers_after framing.inside 0 ats)) same
     ∙ first-found framing.inside (wrappers f) 0 (top_place framing).at _ named.1 (wrappers-rise (top_place framing) f v)
 
-pub stands_unused : (w : WalkerState) (b : List ℕ) (past : List EventValue) → (st : Stands w b past) → first_without_wrapper_in w ≡ first_without_wrapper w.framing.inside st.reading
+pub stands_unused : (w : WalkerState) (b : List ℕ) (past : List EventValue) → (st : Stands w b past) → first_without_wrapper_in w ≡ first_without_wrapper w.framing.inside st.reads.reading
 stands_unused w b past st =
-    ap (slice_get w.framing.inside) st.private_state.found ∙ past_unused w.framing past (waiting_events w) st.reading st.private_state.named st.is_reading.is_open (waits_enter_none w.phase w.stack w.offset) st.all_events
+    ap (slice_get w.framing.inside) st.private_state.found ∙ past_unused w.framing past (waiting_events w) st.reads.reading st.private_state.named st.reads.is_reading.is_open (waits_enter_none w.phase w.stack w.offset) st.reads.all_events
 
 -- it is the first that no event yielded entered
 pub stands-entered : (w : WalkerState) (b : List ℕ) (past : List EventValue) → Stands w b past → first_without_wrapper_in w ≡ first_other w.framing.inside (wrapper_offsets past)
 stands-entered w b past st =
     stands_unused w b past st
-    ∙ ap (first_other w.framing.inside) (sym (past_wrappers w.framing past (waiting_events w) st.reading st.is_reading.is_open (waits_enter_none w.phase w.stack w.offset) st.all_events))
+    ∙ ap (first_other w.framing.inside) (sym (past_wrappers w.framing past (waiting_events w) st.reads.reading st.reads.is_reading.is_open (waits_enter_none w.phase w.stack w.offset) st.reads.all_events))

@@ -1,5 +1,5 @@
 -- What a follower comes to, event by event.
-use Rattle.std.proofs.Common.{◌≡◌, inl, inr, ℕ, ◌+◌, List, [], ◌∷◌, ◌++◌, length, refl, sym, ap, ap₂, ◌∙◌, subst, append_assoc, append-nil}
+use Rattle.std.proofs.Common.{◌≡◌, inl, inr, ℕ, ◌+◌, List, [], ◌∷◌, ◌++◌, length, refl, sym, ap, ap₂, ◌∙◌, subst, arith, append_assoc, append-nil, length-append}
 use Rattle.std.specs.Prelude.{Ok, Err, slice_get}
 use Rattle.tlv_head.specs.declared.fault.Fault.{Fault}
 use Rattle.tlv_io.specs.declared.drain.WriteFault.{WriteFault}
@@ -55,16 +55,16 @@ walked_both w u v before mid after es fs x y = record {
 refused_there : (w u v : WalkerState) (piece mid after : List ℕ) (f : Fault) (more : List EventValue) (x : WalksOver w u piece mid more) (o : List ℕ) (past : List EventValue)
     → Stands u (o ++ x.taken) (past ++ more) → StepsTo u v mid after (step.Fault f) → WalksTo w v piece more f o past
 refused_there w u v piece mid after f more x o past st (inl r) =
-    let all : (o ++ x.taken) ++ r.taken ≡ o ++ (x.taken ++ r.taken) = append_assoc o x.taken r.taken in
-    let there : StandsRefused v (o ++ (x.taken ++ r.taken)) r.octet (past ++ more) f =
+    let all : (o ++ x.taken) ++ r.takes.taken ≡ o ++ (x.taken ++ r.takes.taken) = append_assoc o x.taken r.takes.taken in
+    let there : StandsRefused v (o ++ (x.taken ++ r.takes.taken)) r.octet (past ++ more) f =
     subst (λ (l : List ℕ). StandsRefused v l r.octet (past ++ more) f) all (r.stands (o ++ x.taken) (past ++ more) st) in
-    let framing : v.framing ≡ w.framing = r.framing ∙ x.framing in
-    let refused : IsRefusedAfter w.framing (o ++ (x.taken ++ r.taken)) r.octet (past ++ more) f =
-    subst (λ (g : Framing). IsRefusedAfter g (o ++ (x.taken ++ r.taken)) r.octet (past ++ more) f) framing there.refused in record {
-      taken = x.taken ++ r.taken;
+    let framing : v.framing ≡ w.framing = r.takes.framing ∙ x.framing in
+    let refused : IsRefusedAfter w.framing (o ++ (x.taken ++ r.takes.taken)) r.octet (past ++ more) f =
+    subst (λ (g : Framing). IsRefusedAfter g (o ++ (x.taken ++ r.takes.taken)) r.octet (past ++ more) f) framing there.refused in record {
+      taken = x.taken ++ r.takes.taken;
       octet = r.octet;
-      rest = r.rest;
-      piece = x.piece ∙ ap (λ (l : List ℕ). x.taken ++ l) r.before_is ∙ sym (append_assoc x.taken r.taken (r.octet ∷ r.rest));
+      rest = r.others;
+      piece = x.piece ∙ ap (λ (l : List ℕ). x.taken ++ l) (r.takes.piece_is ∙ ap (λ (l : List ℕ). r.takes.taken ++ l) r.rest_is) ∙ sym (append_assoc x.taken r.takes.taken (r.octet ∷ r.others));
       framing = framing;
       offset = there.offset;
       refused = refused;
@@ -84,12 +84,12 @@ past_front w v b piece after past more f walked st r =
     let all : b ++ piece ≡ (b ++ walked.taken) ++ after = ap (λ (o : List ℕ). b ++ o) walked.piece ∙ sym (append_assoc b walked.taken after) in
     let r' : IsReading v.framing ((b ++ walked.taken) ++ after) f =
     subst (λ (g : Framing). IsReading g ((b ++ walked.taken) ++ after) f) (sym walked.framing) (subst (λ (o : List ℕ). IsReading w.framing o f) all r) in
-    let goes : (es : List EventValue) × AreEqualJoined (events f) (events there.reading ++ es) = events-prefix v.framing (b ++ walked.taken) after there.reading f there.is_reading r' in (
+    let goes : (es : List EventValue) × AreEqualJoined (events f) (events there.reads.reading ++ es) = events-prefix v.framing (b ++ walked.taken) after there.reads.reading f there.reads.is_reading r' in (
       waiting_events v ++ goes.0,
       joined-from_apart (past ++ (more ++ (waiting_events v ++ goes.0))) (events f)
           (ap single_octets (sym (append_assoc past more (waiting_events v ++ goes.0)) ∙ sym (append_assoc (past ++ more) (waiting_events v) goes.0))
-          ∙ apart-before ((past ++ more) ++ waiting_events v) (events there.reading) goes.0 (apart-from_joined ((past ++ more) ++ waiting_events v) (events there.reading) there.all_events)
-          ∙ sym (apart-from_joined (events f) (events there.reading ++ goes.0) goes.1)),
+          ∙ apart-before ((past ++ more) ++ waiting_events v) (events there.reads.reading) goes.0 (apart-from_joined ((past ++ more) ++ waiting_events v) (events there.reads.reading) there.reads.all_events)
+          ∙ sym (apart-from_joined (events f) (events there.reads.reading ++ goes.0) goes.1)),
     )
 
 pub walked_goes_on : (w v : WalkerState) (piece after : List ℕ) (more : List EventValue) → WalksOver w v piece after more → (b : List ℕ) (past : List EventValue) → Stands w b past → GoesOnIn w.framing (b ++ piece) (past ++ more)
@@ -200,12 +200,12 @@ module _ {S : Type 0} (next : S → EventValue → Effect S) where
           walked = record {
             taken = h.follows.walked.taken ++ mid;
             piece = h.follows.walked.piece ∙ sym (append-nil (h.follows.walked.taken ++ mid));
-            framing = steps.framing ∙ h.follows.walked.framing;
+            framing = steps.takes.framing ∙ h.follows.walked.framing;
             stands = λ o es st.
                 subst (λ (all : List ℕ). Stands v all (es ++ h.more)) (append_assoc o h.follows.walked.taken mid) (steps.stands (o ++ h.follows.walked.taken) (es ++ h.more) (h.follows.walked.stands o es st));
           };
         };
-        offset = steps.offset ∙ walked;
+        offset = omega (arith, steps.takes.offset, ap length steps.takes.piece_is, ap length steps.none_left, length-append steps.takes.taken after, walked);
         ready = steps.ready;
       };
       puts = same_put x (walk_state v y.follower y.out) h.more pause.UsedUp h.puts;

@@ -3,7 +3,7 @@ use Rattle.std.proofs.Common.{◌≡◌, inl, inr, ℕ, ◌-◌, ◌≤◌, ◌<
 use Rattle.std.proofs.lemmas.Bool.{cases_lt}
 use Rattle.std.proofs.lemmas.List.{length-take, take_all}
 use Rattle.std.proofs.Math.Seq.{take-take}
-use Rattle.std.specs.Prelude.{Result, Ok, Err, ⊤}
+use Rattle.std.specs.Prelude.{Option, Result, Ok, Err, ⊤}
 use Rattle.tlv_head.specs.declared.fault.Fault.{Fault}
 use Rattle.tlv_io.specs.declared.drain.WriteFault.{WriteFault}
 use Rattle.tlv_walk.specs.declared.ending.Ending.{Ending}
@@ -31,7 +31,7 @@ use Rattle.tlv_walk.specs.Place.{top_place}
 use Rattle.tlv_walk.specs.Reading.{AreOctets, IsReading}
 use Rattle.tlv_walk.specs.Stands.{Stands, waiting_events}
 use Rattle.tlv_walk.specs.HasRead.{refused_one, took_all}
-use Rattle.tlv_walk.specs.OneTurn.{EndsBy, EndsIn, HasEnoughIn, StandsOn, TurnState, TurnsTo}
+use Rattle.tlv_walk.specs.OneTurn.{EndsIn, HasEnoughIn, StandsAfter, TurnState, TurnsTo, at_enough, at_fault, at_input_end}
 use Rattle.tlv_walk.specs.Wrappers.{first_other, first_without_wrapper, wrapper_offsets}
 use Rattle.tlv_walk.proofs.GrammarLemmas.Finals.{refused-final}
 use Rattle.tlv_walk.proofs.FollowerLemmas.Followed.{followed-front}
@@ -45,6 +45,14 @@ use Rattle.tlv_walk.proofs.WalkerLemmas.EventOctets.{stands-past_octets}
 use Rattle.tlv_walk.proofs.EventLemmas.Unused.{stands-entered, stands_unused}
 use Rattle.tlv_walk.proofs.WalkerLemmas.Zipper.{reading_of}
 
+-- a run with these values
+pub run_is : (run : Run) (e : Ending) (n : ℕ) (k : Bool) (u : Option ℕ) → run.ending ≡ e → run.octets ≡ n → run.enough ≡ k → run.unused ≡ u → run ≡ record { ending = e; octets = n; enough = k; unused = u }
+run_is run e n k u p q r s =
+    ap (λ (x : Ending). record { ending = x; octets = run.octets; enough = run.enough; unused = run.unused }) p
+    ∙ ap (λ (x : ℕ). record { ending = e; octets = x; enough = run.enough; unused = run.unused }) q
+    ∙ ap (λ (x : Bool). record { ending = e; octets = n; enough = x; unused = run.unused }) r
+    ∙ ap (λ (x : Option ℕ). record { ending = e; octets = n; enough = k; unused = x }) s
+
 -- ---- what a walker stands for
 
 -- a walker that stands for octets has read them all
@@ -56,9 +64,9 @@ stands_spelled v b past f st r =
 -- if nothing waits, all events of the reading were yielded
 pub stands_past : (v : WalkerState) (b : List ℕ) (past : List EventValue) (f : Forest) → Stands v b past → waiting_events v ≡ [] → IsReading v.framing b f → AreEqualJoined past (events f)
 stands_past v b past f st idle r =
-    let all : AreEqualJoined (past ++ waiting_events v) (events st.reading) = st.all_events in
+    let all : AreEqualJoined (past ++ waiting_events v) (events st.reads.reading) = st.reads.all_events in
     subst (λ (es : List EventValue). AreEqualJoined es (events f)) (ap (λ (es : List EventValue). past ++ es) idle ∙ append-nil past)
-    (subst (λ (g : Forest). AreEqualJoined (past ++ waiting_events v) (events g)) (reading-unique v.framing b st.reading f st.is_reading r) all)
+    (subst (λ (g : Forest). AreEqualJoined (past ++ waiting_events v) (events g)) (reading-unique v.framing b st.reads.reading f st.reads.is_reading r) all)
 
 -- ---- an octet that is refused
 
@@ -154,12 +162,9 @@ module _ {S D : Type 0} (next : S → EventValue → Effect S) (before after : T
   y = walk_state after.walker after.follower to
 
   -- the piece is used up
-  pub used_up_on : FollowsAll next x y piece more → StandsOn next before after (b ++ piece) past
+  pub used_up_on : FollowsAll next x y piece more → StandsAfter next before after (b ++ piece) past
   used_up_on k = record {
-    more = more;
-    made = k.follows.made;
-    put = put;
-    framing = k.follows.walked.framing;
+    follows = record { more = more; made = k.follows.made; put = put; framing = k.follows.walked.framing };
     stands = subst (λ (o : List ℕ). Stands v (b ++ o) (past ++ more)) (sym (append-nil k.follows.walked.taken) ∙ sym k.follows.walked.piece) (k.follows.walked.stands b past st);
     idle = k.ready.0;
   }
@@ -172,55 +177,47 @@ module _ {S D : Type 0} (next : S → EventValue → Effect S) (before after : T
       let further = walked_goes_on w v piece k.rest more walked b past st f read in
       let there : Stands v (b ++ walked.taken) (past ++ more) = walked.stands b past st in
       let front : flat_map event_octets (past ++ more) ≡ b ++ walked.taken = stands-past_octets v (b ++ walked.taken) (past ++ more) there k.after_event in record {
-        more = more;
-        made = k.follows.made;
-        put = put;
-        reading = f;
-        is_reading = read;
+        follows = record { more = more; made = k.follows.made; put = put; framing = walked.framing };
         others = further.0;
-        yields = further.1;
-        ending = is.ending;
-        framing = walked.framing;
-        is_front = (k.rest, ap (λ (o : List ℕ). o ++ k.rest) front ∙ append_assoc b walked.taken k.rest ∙ ap (λ (o : List ℕ). b ++ o) (sym walked.piece));
+        reads = record { reading = f; is_reading = read; all_events = further.1 };
+        is_prefix = (k.rest, ap (λ (o : List ℕ). o ++ k.rest) front ∙ append_assoc b walked.taken k.rest ∙ ap (λ (o : List ℕ). b ++ o) (sym walked.piece));
         stands = subst (λ (o : List ℕ). Stands v o (past ++ more)) (sym front) there;
-        spelled = is.octets ∙ there.private_state.has_state.offset ∙ ap length (sym front);
-        unused = is.unused ∙ stands-entered v (b ++ walked.taken) (past ++ more) there ∙ ap (λ (g : Framing). first_other g.inside (wrapper_offsets (past ++ more))) walked.framing;
+        run_is =
+            run_is run ending.Done (length (flat_map event_octets (past ++ more))) true (first_other w.framing.inside (wrapper_offsets (past ++ more))) is.ending
+            (is.octets ∙ there.private_state.has_state.offset ∙ ap length (sym front)) is.enough
+            (is.unused ∙ stands-entered v (b ++ walked.taken) (past ++ more) there ∙ ap (λ (g : Framing). first_other g.inside (wrapper_offsets (past ++ more))) walked.framing);
       }
 
   -- an octet is refused
   pub fault_ends : (e : Fault) → FollowsToFault next x y piece more e → (run : Run) → IsRun run (ending.Fault e) false v → EndsIn next before after (b ++ piece) past run
   fault_ends e to_fault run is =
       let k : WalksTo w v piece more e b past = to_fault.walked b past st in record {
-        more = more;
-        made = to_fault.made;
-        put = put;
-        reading = k.refused.reading;
-        is_reading = fault_is_reading w v b piece past more e k;
-        yields = k.refused.all_events;
+        follows = record { more = more; made = to_fault.made; put = put; framing = k.framing };
+        reads = record { reading = k.refused.reading; is_reading = fault_is_reading w v b piece past more e k; all_events = k.refused.all_events };
         ending = subst (λ (g : Ending). IsEnding w.framing (b ++ piece) g) (sym is.ending) (subst (λ (o : List ℕ). IsEnding w.framing o (ending.Fault e)) (fault_octets w v b piece past more e k) (k.refused.ends k.rest));
-        spelled = is.octets ∙ k.offset ∙ ap length (sym k.refused.spelled);
-        unused = is.unused ∙ k.unused;
-        framing = k.framing;
+        run_is =
+            run_is run run.ending (length (spelling k.refused.reading)) false (first_without_wrapper w.framing.inside k.refused.reading) refl
+            (is.octets ∙ k.offset ∙ ap length (sym k.refused.spelled)) is.enough (is.unused ∙ k.unused);
         walker = refused_one e (record { front = b ++ k.taken; octet = k.octet; rest = k.rest; octets_is = fault_octets w v b piece past more e k; stands = k.stands });
       }
 
 -- the input has ended
 used_up_ends : {S : Type 0} (next : S → EventValue → Effect S) (before after : TurnState S) (o : List ℕ) (past : List EventValue) (run : Run) (e : Ending)
-    → StandsOn next before after o past → IsRun run e false after.walker → IsEnding after.walker.framing o e → EndsIn next before after o past run
+    → StandsAfter next before after o past → IsRun run e false after.walker → IsEnding after.walker.framing o e → EndsIn next before after o past run
 used_up_ends next before after o past run e x is ends =
     let w : WalkerState = before.walker in
     let v : WalkerState = after.walker in
-    let r : IsReading w.framing o x.stands.reading = subst (λ (g : Framing). IsReading g o x.stands.reading) x.framing x.stands.is_reading in record {
-      more = x.more;
-      made = x.made;
-      put = x.put;
-      reading = x.stands.reading;
-      is_reading = r;
-      yields = stands_past v o (past ++ x.more) x.stands.reading x.stands x.idle x.stands.is_reading;
-      ending = subst (λ (k : Ending). IsEnding w.framing o k) (sym is.ending) (subst (λ (g : Framing). IsEnding g o e) x.framing ends);
-      spelled = is.octets ∙ x.stands.private_state.has_state.offset ∙ ap length (sym (stands_spelled v o (past ++ x.more) x.stands.reading x.stands x.stands.is_reading));
-      unused = is.unused ∙ stands_unused v o (past ++ x.more) x.stands ∙ ap (λ (g : Framing). first_without_wrapper g.inside x.stands.reading) x.framing;
-      framing = x.framing;
+    let all : List EventValue = past ++ x.follows.more in
+    let same : v.framing ≡ w.framing = x.follows.framing in
+    let f : Forest = x.stands.reads.reading in
+    let r : IsReading v.framing o f = x.stands.reads.is_reading in record {
+      follows = x.follows;
+      reads = record { reading = f; is_reading = subst (λ (g : Framing). IsReading g o f) same r; all_events = stands_past v o all f x.stands x.idle r };
+      ending = subst (λ (k : Ending). IsEnding w.framing o k) (sym is.ending) (subst (λ (g : Framing). IsEnding g o e) same ends);
+      run_is =
+          run_is run run.ending (length (spelling f)) false (first_without_wrapper w.framing.inside f) refl
+          (is.octets ∙ x.stands.private_state.has_state.offset ∙ ap length (sym (stands_spelled v o all f x.stands r))) is.enough
+          (is.unused ∙ stands_unused v o all x.stands ∙ ap (λ (g : Framing). first_without_wrapper g.inside f) same);
       walker = took_all x.stands x.idle;
     }
 
@@ -261,7 +258,7 @@ module _ {S D : Type 0} (next : S → EventValue → Effect S) (before after : T
   -- the reading of these
   read : (f : Forest) × IsReading before.walker.framing (b ++ piece) f
   read =
-      reading-longer before.walker.framing st.reading b piece octets st.is_reading (stands_spelled before.walker b past st.reading st st.is_reading)
+      reading-longer before.walker.framing st.reads.reading b piece octets st.reads.is_reading (stands_spelled before.walker b past st.reads.reading st st.reads.is_reading)
 
   -- all octets are within the limit
   all_within : (m < n → ⊥) → piece ≡ r
@@ -273,49 +270,43 @@ module _ {S D : Type 0} (next : S → EventValue → Effect S) (before after : T
     pauses : Pauses next (walk_state before.walker before.follower from) (walk_state after.walker after.follower to) piece more (Ok paused)
     put : Sent (Ok why) more
 
-  used : (why : Pause) → Followed why pause.UsedUp → StandsOn next before after (b ++ piece) past
+  used : (why : Pause) → Followed why pause.UsedUp → StandsAfter next before after (b ++ piece) past
   used why x = used_up_on next before after from to b piece past x.more (sent why x.more x.put) st x.pauses
 
   turns_again : (why : Pause) → Followed why pause.UsedUp → (m < n → ⊥) → (n ≡ 0 → ⊥) → TurnsTo next before after limit b past r (Ok Again)
   turns_again why x fits some' = record {
     some = λ e. some' (sym many ∙ ap length e);
     within = omega (arith, length-append b r, many, st.private_state.has_state.offset, fits, below, is_m);
-    stands_on = subst (λ (o : List ℕ). StandsOn next before after (b ++ o) past) (all_within fits) (used why x);
+    stands = subst (λ (o : List ℕ). StandsAfter next before after (b ++ o) past) (all_within fits) (used why x);
   }
 
   turns_long : (why : Pause) → Followed why pause.UsedUp → m < n → TurnsTo next before after limit b past r (Err InputTooLong)
   turns_long why x more = record {
     beyond = omega (arith, length-append b r, many, st.private_state.has_state.offset, more, below, is_m);
-    stands_on = subst (λ (o : List ℕ). StandsOn next before after o past) reached (used why x);
+    stands = subst (λ (o : List ℕ). StandsAfter next before after o past) reached (used why x);
   }
 
-  ends_by : (run : Run) → run.enough ≡ false → EndsIn next before after (b ++ piece) past run → EndsBy next before after run.enough (take limit (b ++ r)) past run
-  ends_by run is x =
-      subst (λ (k : Bool). EndsBy next before after k (take limit (b ++ r)) past run) (sym is) (subst (λ (o : List ℕ). EndsIn next before after o past run) reached x)
+  ends_in : (run : Run) → EndsIn next before after (b ++ piece) past run → EndsIn next before after (take limit (b ++ r)) past run
+  ends_in run x = subst (λ (o : List ℕ). EndsIn next before after o past run) reached x
 
   turns_end : (run : Run) (e : Ending) (why : Pause) → Followed why pause.UsedUp → (n ≡ 0) → IsRun run e false after.walker
       → ((o : List ℕ) (es : List EventValue) → Stands after.walker o es → IsEnding after.walker.framing o e) → TurnsTo next before after limit b past r (Ok (Ended run))
   turns_end run e why x none is ends =
-      let on = used why x in record {
-        ends = ends_by run is.enough (used_up_ends next before after (b ++ piece) past run e on is (ends (b ++ piece) (past ++ on.more) on.stands));
-        last = inr (inr (is_r ∙ ap (λ (k : ℕ). take k p) none));
-      }
+      let on = used why x in
+      at_input_end (ends_in run (used_up_ends next before after (b ++ piece) past run e on is (ends (b ++ piece) (past ++ on.follows.more) on.stands)))
+      (is_r ∙ ap (λ (k : ℕ). take k p) none)
 
   turns_fault : (run : Run) (e : Fault) (why : Pause) → Followed why (pause.Fault e) → IsRun run (ending.Fault e) false after.walker
       → TurnsTo next before after limit b past r (Ok (Ended run))
   turns_fault run e why x is =
-      let k : WalksTo before.walker after.walker piece x.more e b past = x.pauses.walked b past st in record {
-        ends = ends_by run is.enough (fault_ends next before after from to b piece past x.more (sent why x.more x.put) st e x.pauses run is);
-        last = inr (inl (subst IsFinalEnding (sym is.ending) (refused-final before.walker.framing (b ++ k.taken) k.octet [] e k.refused.offset (k.refused.ends []))));
-      }
+      let k : WalksTo before.walker after.walker piece x.more e b past = x.pauses.walked b past st in
+      at_fault (ends_in run (fault_ends next before after from to b piece past x.more (sent why x.more x.put) st e x.pauses run is))
+      (subst IsFinalEnding (sym is.ending) (refused-final before.walker.framing (b ++ k.taken) k.octet [] e k.refused.offset (k.refused.ends [])))
 
   turns_enough : (run : Run) (why : Pause) → Followed why pause.Enough → IsRun run ending.Done true after.walker → TurnsTo next before after limit b past r (Ok (Ended run))
-  turns_enough run why x is = record {
-    ends =
-        subst (λ (k : Bool). EndsBy next before after k (take limit (b ++ r)) past run) (sym is.enough)
-        (subst (λ (o : List ℕ). HasEnoughIn next before after o past run) reached (enough_ends next before after from to b piece past x.more (sent why x.more x.put) st x.pauses read.0 read.1 run is));
-    last = inl is.enough;
-  }
+  turns_enough run why x is =
+      at_enough
+      (subst (λ (o : List ℕ). HasEnoughIn next before after o past run) reached (enough_ends next before after from to b piece past x.more (sent why x.more x.put) st x.pauses read.0 read.1 run is))
 
   -- by why the piece is not followed any further
   answered : (why : Pause) (result : Result Turn DeviceFault) → Followed why why → IsResultOfPause n m after.walker why result → TurnsTo next before after limit b past r result
@@ -351,7 +342,9 @@ module _ {S D : Type 0} (next : S → EventValue → Effect S) (before after : T
           put =
               sends_err before.drain after.drain (effect_of next before.follower x.more).put (effect_of next before.follower (x.more ++ o.0)).put e WriteFailed (handed (Err e) x)
               (record { rest = front.0; is = sym front.1 });
-          reading = read.0;
-          is_reading = subst (λ (o : List ℕ). IsReading before.walker.framing o read.0) reached read.1;
-          yields = subst (λ (es : List EventValue). AreEqualJoined es (events read.0)) (append_assoc past x.more o.0) o.1;
+          reads = record {
+            reading = read.0;
+            is_reading = subst (λ (o : List ℕ). IsReading before.walker.framing o read.0) reached read.1;
+            all_events = subst (λ (es : List EventValue). AreEqualJoined es (events read.0)) (append_assoc past x.more o.0) o.1;
+          };
         }

@@ -97,14 +97,16 @@ refused_walker old new before after f k r b past st =
 reports : (old new : WalkerState) (before after : List ℕ) (e : Event) → HasNotRefused old → YieldsOne old new before after → HasOctets e → YieldsEvent old new before after (event_value e) → YieldsNext old new before after e
 reports old new before after e n k has t =
     let walked = stands_all old new before after (event_value e ∷ []) t in record {
-      not_refused = n;
-      taken = walked.taken;
-      piece = walked.piece;
+      takes = record {
+        not_refused = n;
+        taken = walked.taken;
+        piece_is = walked.piece;
+        framing = walked.framing;
+        offset = omega (arith, k.taken, ap length walked.piece, length-append walked.taken after);
+        events = k.events;
+      };
       stands = walked.stands;
       has_octets = has;
-      framing = walked.framing;
-      offset = omega (arith, k.taken, ap length walked.piece, length-append walked.taken after);
-      events = k.events;
       fewer = k.within;
       phase = k.after_event;
     }
@@ -113,32 +115,38 @@ reports old new before after e n k has t =
 uses_up : (old new : WalkerState) (before after : List ℕ) → HasNotRefused old → TakesAll old new before after → Continues old new before [] → UsesUpPiece old new before after
 uses_up old new before after n k t =
     record {
-      not_refused = n;
+      takes = record {
+        not_refused = n;
+        taken = before;
+        piece_is = sym (ap (λ (o : List ℕ). before ++ o) k.none_left ∙ append-nil before);
+        framing = t.framing;
+        offset = k.taken;
+        events = omega (arith, k.events);
+      };
       none_left = k.none_left;
       stands = λ b past st.
           let u = t.goes b past st.private_state.state st.private_state.has_state in
           subst (λ (es : List EventValue). Stands new (b ++ before) es) (append-nil past)
           (stands new (b ++ before) (past ++ []) u.0 u.1 (subst (λ (f : Framing). CanName f.inside) (sym t.framing) st.private_state.named) (found_on old new past [] t.framing st.private_state.found t.found));
       ready = awaits-can_take new k.ready;
-      framing = t.framing;
-      offset = k.taken;
-      events = k.events;
     }
 
 -- an octet is refused
 refuses_now : (old new : WalkerState) (before after : List ℕ) (f : Fault) → HasNotRefused old → Refuses old new before after f → RefusesOctet old before after f → RefusesNext old new before after f
 refuses_now old new before after f n k r = record {
-  not_refused = n;
-  taken = r.taken;
+  takes = record {
+    not_refused = n;
+    taken = r.taken;
+    piece_is = r.before_is ∙ ap (λ (o : List ℕ). r.taken ++ o) (sym r.after_is);
+    framing = k.framing;
+    offset = omega (arith, k.taken, ap length r.before_is, ap length r.after_is, length-append r.taken (r.octet ∷ r.rest));
+    events = omega (arith, k.events);
+  };
   octet = r.octet;
-  rest = r.rest;
-  before_is = r.before_is;
-  after_is = r.after_is;
+  others = r.rest;
+  rest_is = r.after_is;
   stands = λ b past st. refused_walker old new before after f k r b past st;
   phase = k.phase;
-  framing = k.framing;
-  offset = omega (arith, k.taken, ap length r.before_is, ap length r.after_is, length-append r.taken (r.octet ∷ r.rest));
-  events = k.events;
   stack = k.stack;
   wrapper_count = k.wrapper_count;
 }
@@ -176,7 +184,7 @@ steps_to old new before after s k t again = steps_by old new before after s k t 
 -- ---- what is known of a step that yielded an event
 
 pub walked_event : (old new : WalkerState) (before after : List ℕ) (e : Event) → YieldsNext old new before after e → WalksOver old new before after (event_value e ∷ [])
-walked_event old new before after e x = record { taken = x.taken; piece = x.piece; framing = x.framing; stands = x.stands }
+walked_event old new before after e x = record { taken = x.takes.taken; piece = x.takes.piece_is; framing = x.takes.framing; stands = x.stands }
 
 pub event_offset : (old new : WalkerState) (before after : List ℕ) (e : Event) → YieldsNext old new before after e → new.offset + length after ≡ old.offset + length before
-event_offset old new before after e x = omega (arith, x.offset, ap length x.piece, length-append x.taken after)
+event_offset old new before after e x = omega (arith, x.takes.offset, ap length x.takes.piece_is, length-append x.takes.taken after)

@@ -214,7 +214,7 @@ state-wrappers w b past s h = reading-wrappers w.framing s.layers s.here s.tail 
 -- a walker with a state stands for what was yielded and what was taken
 pub stands : (w : WalkerState) (b : List ℕ) (past : List EventValue) (s : Zipper) → HasZipper w b past s → CanName w.framing.inside → w.wrapper_count ≡ wrappers_after w.framing.inside 0 (wrapper_offsets past) → Stands w b past
 stands w b past s h n k =
-    record { reading = reading_of s; is_reading = state-reading w b past s h; all_events = state-events w b past s h; private_state = record { state = s; has_state = h; named = n; found = k } }
+    record { reads = record { reading = reading_of s; is_reading = state-reading w b past s h; all_events = state-events w b past s h }; private_state = record { state = s; has_state = h; named = n; found = k } }
 
 -- the state of a new walker: nothing is open, and nothing came
 abbrev pub new_state : Zipper
