@@ -22,7 +22,7 @@ use Rattle.tlv_walk.specs.Reading.{AreOctets, IsPrefixOf}
 use Rattle.tlv_walk.specs.HasRead.{StandsAtEnd}
 use Rattle.tlv_walk.specs.Stands.{CanTake, HasEvents, IsIdle, Stands}
 
--- the octets that the last read gave, at the front of the piece
+-- the octets that the last read gave, with which the piece begins
 abbrev pub last_octets : LastReadValue → List ℕ → List ℕ
 last_octets never piece = []
 last_octets (gave n) piece = take n piece

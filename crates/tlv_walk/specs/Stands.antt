@@ -10,24 +10,25 @@ use Rattle.tlv_walk.specs.WalkerState.{HasNotRefused, WalkerState}
 use Rattle.tlv_walk.specs.Private.Zipper.{HasPrivateState}
 use Rattle.tlv_walk.specs.Reading.{IsReading}
 
--- 8.1.5: the end of an element that is filled
-abbrev pub frame_closing_event : Frame → EventValue
-frame_closing_event f = if f.wrapper then Leave else Close None
+-- 8.1.5: the event with which a definite element ends once it is filled, by its frame
+abbrev pub filled_end : Frame → EventValue
+filled_end f = if f.wrapper then Leave else Close None
 
+-- whether an element that ends there, if it is definite, is filled at the offset
 abbrev pub is_end : Option ℕ → ℕ → Bool
 is_end None at = false
 is_end (Some e) at = eqb e at
 
--- the ends of the elements that are filled at the offset, innermost first
-abbrev pub closing_events : ℕ → List Frame → List EventValue
-closing_events at [] = []
-closing_events at (f ∷ fs) = if is_end f.end at then frame_closing_event f ∷ closing_events at fs else []
+-- the events with which those elements end that are filled at the offset, innermost first
+abbrev pub filled_ends : ℕ → List Frame → List EventValue
+filled_ends at [] = []
+filled_ends at (f ∷ fs) = if is_end f.end at then filled_end f ∷ filled_ends at fs else []
 
 -- the events that need no further octet
 abbrev pub waiting_events_in : Phase → List Frame → ℕ → List EventValue
-waiting_events_in phase.Between stack at = closing_events at stack
+waiting_events_in phase.Between stack at = filled_ends at stack
 waiting_events_in (phase.InHeader r) stack at = []
-waiting_events_in (phase.InPrimitive left) stack at = if eqb left 0 then End ∷ closing_events at stack else []
+waiting_events_in (phase.InPrimitive left) stack at = if eqb left 0 then End ∷ filled_ends at stack else []
 waiting_events_in phase.InBitString stack at = []
 waiting_events_in phase.InEndOctets stack at = []
 waiting_events_in (phase.Refused fault) stack at = []

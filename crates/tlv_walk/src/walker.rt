@@ -65,14 +65,14 @@ impl Walker {
     ghost use Rattle.std.specs.Prelude.{[], false};
     ghost use Rattle.tlv_walk.specs.Phase as phases;
     ghost use Rattle.tlv_walk.specs.WalkerState.{IfRefused, first_without_wrapper_in, new_walker};
-    ghost use Rattle.tlv_walk.specs.Private.WalkerState.{EventWaits, Steps, fault_at};
+    ghost use Rattle.tlv_walk.specs.Private.WalkerState.{CountsStep, EventWaits, fault_at};
     ghost use Rattle.tlv_walk.specs.Ending.{IsEnding, ShowsSoundness};
     ghost use Rattle.tlv_walk.specs.OpenCount.{open_count};
     ghost use Rattle.tlv_walk.specs.Stands.{CanTake, IsIdle, Stands};
     ghost use Rattle.tlv_walk.specs.Wrappers.{first_without_wrapper};
     ghost use Rattle.tlv_walk.specs.StepsTo.{RefusesAgain, StepsTo};
     ghost use Rattle.tlv_walk.specs.HasRead.{IfAtEnd, IfRead};
-    ghost use Rattle.tlv_walk.specs.Private.Steps.{YieldsStep};
+    ghost use Rattle.tlv_walk.specs.Private.Yields.{YieldsStep};
 
     /// A walker that has taken nothing.
     pub fn new(framing: &Framing) -> Walker
@@ -205,7 +205,7 @@ impl Walker {
     /// What the next octets are, by what they belong to.
     fn take<'a>(&mut self, piece: &mut &'a [u8]) -> Step<'a>
         requires { self.old.offset + length piece.old.now ≤ 2 ^ 40 }
-        ensures steps { Steps self.old self.new piece.old.now piece.new.now result }
+        ensures steps { CountsStep self.old self.new piece.old.now piece.new.now result }
         ensures yields { YieldsStep self.old self.new piece.old.now piece.new.now result }
         ensures again { IfRefused self.old (λ fault. (result ≡ Step.Fault fault)
             × RefusesAgain self.old self.new piece.old.now piece.new.now fault) }
