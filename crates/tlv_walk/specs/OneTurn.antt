@@ -73,9 +73,11 @@ module _ {S : Type 0} (next : S → EventValue → Effect S) (old new : TurnStat
   abbrev pub SendsMade : List EventValue → Result ⊤ DeviceFault → Type 0
   SendsMade more result = Sends old.drain new.drain (effect_of next old.follower more).put result
 
-  -- more events were followed, and what was made of them was handed to the drain. The framing stays
-  pub record FollowsMore (goes : Go) : Type 0 where
+  -- more events were followed, so that all these are yielded, and what was made of them was handed to the drain. The
+  -- framing stays
+  pub record FollowsMore (yielded all : List EventValue) (goes : Go) : Type 0 where
     pub more : List EventValue
+    pub all_is : yielded ++ more ≡ all
     pub made : FollowsEvents next old.follower new.follower more goes
     pub put : SendsMade more (Ok tt)
     pub framing : new.walker.framing ≡ old.walker.framing
@@ -84,27 +86,30 @@ module _ {S : Type 0} (next : S → EventValue → Effect S) (old new : TurnStat
 
   -- all events of the octets were followed, the walker stands for them, and no event waits
   pub record StandsAfter (octets : List ℕ) (yielded : List EventValue) : Type 0 where
-    pub follows : FollowsMore go.On
-    pub stands : Stands new.walker octets (yielded ++ follows.more)
+    pub all : List EventValue
+    pub follows : FollowsMore yielded all go.On
+    pub stands : Stands new.walker octets all
     pub idle : IsIdle new.walker
 
   -- all events of the octets were followed, and the run is that over their reading, with their ending
   pub record EndsIn (octets : List ℕ) (yielded : List EventValue) (run : Run) : Type 0 where
-    pub follows : FollowsMore go.On
-    pub reads : HasEvents old.walker.framing octets (yielded ++ follows.more)
+    pub all : List EventValue
+    pub follows : FollowsMore yielded all go.On
+    pub reads : HasEvents old.walker.framing octets all
     pub ending : IsEnding old.walker.framing octets run.ending
-    pub run_is : run ≡ run_over old.walker.framing reads.reading (yielded ++ follows.more) go.On run.ending
-    pub walker : StandsAtEnd new.walker octets (yielded ++ follows.more)
+    pub run_is : run ≡ run_over old.walker.framing reads.reading all go.On run.ending
+    pub walker : StandsAtEnd new.walker octets all
 
   -- the follower had enough with the last of the events that it followed, after which the octets have others; the
   -- walker stands for the octets of those that were followed, and the run is that over them
   pub record HasEnoughIn (octets : List ℕ) (yielded : List EventValue) (run : Run) : Type 0 where
-    pub follows : FollowsMore go.Enough
+    pub all : List EventValue
+    pub follows : FollowsMore yielded all go.Enough
     pub others : List EventValue
-    pub reads : HasEvents old.walker.framing octets ((yielded ++ follows.more) ++ others)
-    pub is_prefix : IsPrefixOf (flat_map event_octets (yielded ++ follows.more)) octets
-    pub stands : Stands new.walker (flat_map event_octets (yielded ++ follows.more)) (yielded ++ follows.more)
-    pub run_is : run ≡ run_over old.walker.framing reads.reading (yielded ++ follows.more) go.Enough ending.Done
+    pub reads : HasEvents old.walker.framing octets (all ++ others)
+    pub is_prefix : IsPrefixOf (flat_map event_octets all) octets
+    pub stands : Stands new.walker (flat_map event_octets all) all
+    pub run_is : run ≡ run_over old.walker.framing reads.reading all go.Enough ending.Done
 
   -- the drain failed at a prefix of what is made of all events of the octets
   pub record WriteFailsIn (octets : List ℕ) (yielded : List EventValue) : Type 0 where

@@ -25,14 +25,15 @@ use Rattle.tlv_walk.specs.Job.{ComesTo, EndsWith, Runs, WantMore, drain_result, 
 use Rattle.tlv_io.specs.Out.{Sends}
 use Rattle.tlv_walk.specs.Reading.{AreOctets, IsReading}
 use Rattle.tlv_walk.specs.Stands.{Stands}
-use Rattle.tlv_walk.specs.OneTurn.{EndsIn, FollowsOneRead, LastReadWas, LastReadGaveUpTo, HasEnoughIn, TurnState, TurnsTo, WalkEnds, at_enough, at_fault, at_input_end, last_octets}
+use Rattle.tlv_walk.specs.OneTurn.{EndsIn, FollowsMore, FollowsOneRead, LastReadWas, LastReadGaveUpTo, HasEnoughIn, TurnState, TurnsTo, WalkEnds, at_enough, at_fault, at_input_end, last_octets}
 use Rattle.tlv_walk.specs.Wrappers.{first_other, wrapper_offsets}
 use Rattle.tlv_walk.proofs.FollowerLemmas.Followed.{events_enough, followed-alike, followed-enough, kept-alike}
 use Rattle.tlv_walk.proofs.FollowerLemmas.Following.{made_both, made_put}
 use Rattle.tlv_walk.proofs.FollowerLemmas.Enough.{comes_to, ends_so}
 use Rattle.tlv_io.proofs.Pieces.{GaveLast, gathered_more, pieces_all, together_more}
 use Rattle.tlv_io.proofs.Puts.{sends_ok, sends_then}
-use Rattle.tlv_walk.proofs.FollowerLemmas.Turns.{run_is, stands_spelled, stands_yielded}
+use Rattle.tlv_walk.proofs.FollowerLemmas.Pauses.{stands_spelled, stands_yielded}
+use Rattle.tlv_walk.proofs.FollowerLemmas.Turns.{run_is}
 use Rattle.tlv_walk.proofs.FollowerLemmas.SoFar.{gave_last, gave_none, given_short, given_octets, enters_each, Walking}
 
 module _ {S : Type 0} (next : S → EventValue → Effect S)
@@ -138,6 +139,14 @@ module _ {S : Type 0} (next : S → EventValue → Effect S)
           subst (λ (l : List ℕ). Sends from new.drain l result) (made_put next s now.follower x.yielded more x.made)
           (sends_then from now.drain new.drain (effect_of next s x.yielded).put (effect_of next now.follower more).put tt result x.sends k)
 
+      -- all events that were followed, and what was sent of them
+      followed : (all : List EventValue) (goes : Go) → FollowsMore next now new x.yielded all goes → FollowsEvents next s new.follower all goes
+      followed all goes k =
+          subst (λ (es : List EventValue). FollowsEvents next s new.follower es goes) k.all_is (made_both next s now.follower new.follower x.yielded k.more goes x.made k.made)
+
+      sent_all : (all : List EventValue) (goes : Go) → FollowsMore next now new x.yielded all goes → Sends {T = ⊤} {E = DeviceFault} from new.drain (effect_of next s all).put (Ok tt)
+      sent_all all goes k = subst (λ (es : List EventValue). Sends {T = ⊤} {E = DeviceFault} from new.drain (effect_of next s es).put (Ok tt)) k.all_is (sent k.more (Ok tt) k.put)
+
       some_octets : (o : List ℕ) → o ≢ [] → 0 < length o
       some_octets [] n = absurd (n refl)
       some_octets (z ∷ o) n = omega arith
@@ -146,15 +155,15 @@ module _ {S : Type 0} (next : S → EventValue → Effect S)
       pub walking_on : result ≡ Ok Again → Walking next framing s old from new
       walking_on is =
           let y = turned (Ok Again) is in
-          let on = y.stands.follows in record {
+          let all : List EventValue = y.stands.all in record {
             gathered = gathered_more old now.source new.source x.gathered r read.calls.octets read.calls.reads (some_octets r y.some, few);
             octets = subst AreOctets (sym (together_more x.gathered.pieces r)) all_octets;
             failures = failed_so (Ok Again) is;
-            yielded = x.yielded ++ on.more;
-            made = made_both next s now.follower new.follower x.yielded on.more go.On x.made on.made;
-            sends = sent on.more (Ok tt) on.put;
-            same = on.framing ∙ x.same;
-            stands = subst (λ (o : List ℕ). Stands new.walker o (x.yielded ++ on.more)) (sym (together_more x.gathered.pieces r)) y.stands.stands;
+            yielded = all;
+            made = followed all go.On y.stands.follows;
+            sends = sent_all all go.On y.stands.follows;
+            same = y.stands.follows.framing ∙ x.same;
+            stands = subst (λ (o : List ℕ). Stands new.walker o all) (sym (together_more x.gathered.pieces r)) y.stands.stands;
             idle = y.stands.idle;
           }
 
@@ -187,10 +196,10 @@ module _ {S : Type 0} (next : S → EventValue → Effect S)
       unfolding runs_by
       ends_without run is y ended =
           let g : LastReadGaveUpTo (length piece) new.source.last = gave_so (Ok (Ended run)) is in
-          let es : List EventValue = x.yielded ++ y.follows.more in
+          let es : List EventValue = y.all in
           let f : Forest = y.reads.reading in
           let is_reading : IsReading framing walked f = subst (λ (k : Framing). IsReading k walked f) x.same y.reads.is_reading in
-          let made : FollowsEvents next s new.follower es go.On = made_both next s now.follower new.follower x.yielded y.follows.more go.On x.made y.follows.made in
+          let made : FollowsEvents next s new.follower es go.On = followed es go.On y.follows in
           let k : MadeAll s new.follower f go.On (effect_of next s es).put = made_all s new.follower es f go.On made y.reads.all_events in
           let answer : run ≡ run_over framing f (followed_events next s (events f)) (effect_of next s (events f)).goes run.ending =
           y.run_is ∙ ap (λ (k : Framing). run_over k f es go.On run.ending) x.same
@@ -198,7 +207,7 @@ module _ {S : Type 0} (next : S → EventValue → Effect S)
           let ends : EndsWith framing walked (had_enough (effect_of next s (events f)).goes) run.ending =
           subst (λ (b : Bool). EndsWith framing walked b run.ending) (sym (is_enough_so f go.On (effect_of next s es).put k))
           (subst (λ (k : Framing). EndsWith k walked false run.ending) x.same y.ending) in record {
-            runs = runs_by (Ok run) f (gave_last new.source.last piece g) is_reading es go.On k (ap source_result (sym is)) (sent y.follows.more (Ok tt) y.follows.put) (comes_to (drive_job next framing limit s) (b ++ r) f new.source (Ok run) (
+            runs = runs_by (Ok run) f (gave_last new.source.last piece g) is_reading es go.On k (ap source_result (sym is)) (sent_all es go.On y.follows) (comes_to (drive_job next framing limit s) (b ++ r) f new.source (Ok run) (
               run.ending,
               answer,
               ends_so framing walked (had_enough (effect_of next s (events f)).goes) run.ending
@@ -212,11 +221,11 @@ module _ {S : Type 0} (next : S → EventValue → Effect S)
       unfolding runs_by
       ends_with run is y =
           let g : LastReadGaveUpTo (length piece) new.source.last = gave_so (Ok (Ended run)) is in
-          let es : List EventValue = x.yielded ++ y.follows.more in
+          let es : List EventValue = y.all in
           let f : Forest = y.reads.reading in
           let is_reading : IsReading framing walked f = subst (λ (k : Framing). IsReading k walked f) x.same y.reads.is_reading in
           let others : (others : List EventValue) × AreEqualJoined (es ++ others) (events f) = (y.others, y.reads.all_events) in
-          let made : FollowsEvents next s new.follower es go.Enough = made_both next s now.follower new.follower x.yielded y.follows.more go.Enough x.made y.follows.made in
+          let made : FollowsEvents next s new.follower es go.Enough = followed es go.Enough y.follows in
           let k : MadeAll s new.follower f go.Enough (effect_of next s es).put = made_enough s new.follower es others.0 f made others.1 in
           let ending_is : run.ending ≡ Done = ap (λ (k : Run). k.ending) y.run_is in
           let answer : run ≡ run_over framing f (followed_events next s (events f)) (effect_of next s (events f)).goes run.ending =
@@ -225,7 +234,7 @@ module _ {S : Type 0} (next : S → EventValue → Effect S)
           (ap (λ (k : Run). k.unused) y.run_is ∙ ap (λ (k : Framing). first_other k.inside (wrapper_offsets es)) x.same ∙ ap (first_other framing.inside) (enough_enters s new.follower es others.0 f made others.1))
           ∙ ap (λ (g : Go). run_over framing f (followed_events next s (events f)) g run.ending) (sym k.goes_so) in
           let enough : had_enough (effect_of next s (events f)).goes ≡ true = is_enough_so f go.Enough (effect_of next s es).put k in record {
-            runs = runs_by (Ok run) f (gave_last new.source.last piece g) is_reading es go.Enough k (ap source_result (sym is)) (sent y.follows.more (Ok tt) y.follows.put)
+            runs = runs_by (Ok run) f (gave_last new.source.last piece g) is_reading es go.Enough k (ap source_result (sym is)) (sent_all es go.Enough y.follows)
                 (comes_to (drive_job next framing limit s) (b ++ r) f new.source (Ok run) (run.ending, answer, inl (enough, ending_is)));
             state = k.state;
           }
@@ -283,14 +292,14 @@ module _ {S : Type 0} (next : S → EventValue → Effect S)
           let y = turned (Err InputTooLong) is in
           let g : LastReadGaveUpTo (length piece) new.source.last = gave_so (Err InputTooLong) is in
           let z = y.stands in
-          let es : List EventValue = x.yielded ++ z.follows.more in
+          let es : List EventValue = z.all in
           let f : Forest = z.stands.reads.reading in
           let is_reading : IsReading framing walked f = subst (λ (k : Framing). IsReading k walked f) (z.follows.framing ∙ x.same) z.stands.reads.is_reading in
           let k : MadeAll s new.follower f go.On (effect_of next s es).put =
-          made_all s new.follower es f go.On (made_both next s now.follower new.follower x.yielded z.follows.more go.On x.made z.follows.made) (stands_yielded new.walker walked es f z.stands z.idle z.stands.reads.is_reading) in
+          made_all s new.follower es f go.On (followed es go.On z.follows) (stands_yielded new.walker walked es f z.stands z.idle z.stands.reads.is_reading) in
           let wants : WantMore (drive_job next framing limit s) walked =
           (f, is_reading, stands_spelled new.walker walked es f z.stands z.stands.reads.is_reading, is_enough_so f go.On (effect_of next s es).put k) in record {
-            runs = runs_by (Err InputTooLong) f (gave_last new.source.last piece g) is_reading es go.On k (ap source_result (sym is)) (sent z.follows.more (Ok tt) z.follows.put) (too_long y.beyond wants);
+            runs = runs_by (Err InputTooLong) f (gave_last new.source.last piece g) is_reading es go.On k (ap source_result (sym is)) (sent_all es go.On z.follows) (too_long y.beyond wants);
             state = k.state;
           }
 

@@ -1,5 +1,5 @@
 -- What a turn comes to, by why its piece is not followed any further.
-use Rattle.std.proofs.Common.{◌≡◌, inl, inr, ℕ, ◌-◌, ◌≤◌, ◌<◌, min, Bool, true, false, List, [], ◌∷◌, ◌++◌, length, take, flat_map, refl, sym, ap, ◌∙◌, subst, arith, append_assoc, append-nil, length-append}
+use Rattle.std.proofs.Common.{◌≡◌, inl, inr, ℕ, ◌-◌, ◌≤◌, ◌<◌, min, Bool, true, false, List, [], ◌++◌, length, take, flat_map, refl, sym, ap, ◌∙◌, subst, arith, append_assoc, append-nil, length-append}
 use Rattle.std.proofs.lemmas.Bool.{cases_lt}
 use Rattle.std.proofs.lemmas.List.{length-take, take_all}
 use Rattle.std.proofs.Math.Seq.{take-take}
@@ -23,27 +23,24 @@ use Rattle.tlv_walk.specs.Ending.{IsEnding, IsFinalEnding}
 use Rattle.tlv_walk.specs.Events.{AreEqualJoined, EventValue, events}
 use Rattle.tlv_walk.specs.Follow.{Effect, effect_of}
 use Rattle.tlv_walk.specs.Private.ResultOfPause.{IsResultOfPause, IsRun}
-use Rattle.tlv_walk.specs.Private.FollowsPiece.{Fails, FollowsAndFlushes, FollowsPiece, FollowsToFault, GoesOnIn, FollowsToEnough, Pauses, FollowsAll, WalkState, WalksOver, WalksTo, walk_state}
+use Rattle.tlv_walk.specs.Private.FollowsPiece.{FollowsAndFlushes, FollowsToFault, FollowsToEnough, Pauses, FollowsAll, WalkState, WalksOver, WalksTo, walk_state}
 use Rattle.tlv_walk.specs.Forest.{Forest, spelling}
 use Rattle.tlv_walk.specs.WalkerState.{WalkerState}
-use Rattle.tlv_io.specs.Out.{Puts, Sends, held_octets, drain_of}
-use Rattle.tlv_walk.specs.Place.{top_place}
+use Rattle.tlv_io.specs.Out.{Sends, drain_of}
 use Rattle.tlv_walk.specs.Reading.{AreOctets, IsReading}
-use Rattle.tlv_walk.specs.Stands.{Stands, waiting_events}
+use Rattle.tlv_walk.specs.Stands.{Stands}
 use Rattle.tlv_walk.specs.HasRead.{refused_one, took_all}
 use Rattle.tlv_walk.specs.OneTurn.{EndsIn, HasEnoughIn, StandsAfter, TurnState, TurnsTo, at_enough, at_fault, at_input_end}
 use Rattle.tlv_walk.specs.Wrappers.{first_other, first_without_wrapper, wrapper_offsets}
 use Rattle.tlv_walk.proofs.GrammarLemmas.Finals.{refused-final}
 use Rattle.tlv_walk.proofs.FollowerLemmas.Followed.{followed-front}
 use Rattle.tlv_walk.proofs.FollowerLemmas.Following.{walked_goes_on}
-use Rattle.tlv_io.proofs.Puts.{puts_failed_last, puts_then_as, sends_err, sends_flushed, sends_ok, sends_puts}
-use Rattle.tlv_walk.proofs.GrammarLemmas.PushSteps.{Spells}
-use Rattle.tlv_walk.proofs.GrammarLemmas.Readings.{reading-longer, reading-unique}
+use Rattle.tlv_io.proofs.Puts.{sends_err, sends_ok}
+use Rattle.tlv_walk.proofs.GrammarLemmas.Readings.{reading-longer}
 use Rattle.tlv_walk.proofs.FollowerLemmas.SoFar.{limit_after}
-use Rattle.tlv_walk.proofs.WalkerLemmas.ZipperReading.{state-reading, state-spells}
 use Rattle.tlv_walk.proofs.WalkerLemmas.EventOctets.{stands-yielded_octets}
 use Rattle.tlv_walk.proofs.EventLemmas.Unused.{stands-entered, stands_unused}
-use Rattle.tlv_walk.proofs.WalkerLemmas.Zipper.{reading_of}
+use Rattle.tlv_walk.proofs.FollowerLemmas.Pauses.{fault_octets, fault_is_reading, stands_spelled, stands_yielded}
 
 -- a run with these values
 pub run_is : (run : Run) (e : Ending) (n : ℕ) (k : Bool) (u : Option ℕ) → run.ending ≡ e → run.octets ≡ n → run.enough ≡ k → run.unused ≡ u → run ≡ record { ending = e; octets = n; enough = k; unused = u }
@@ -52,97 +49,6 @@ run_is run e n k u p q r s =
     ∙ ap (λ (x : ℕ). record { ending = e; octets = x; enough = run.enough; unused = run.unused }) q
     ∙ ap (λ (x : Bool). record { ending = e; octets = n; enough = x; unused = run.unused }) r
     ∙ ap (λ (x : Option ℕ). record { ending = e; octets = n; enough = k; unused = x }) s
-
--- ---- what a walker stands for
-
--- a walker that stands for octets has read them all
-pub stands_spelled : (v : WalkerState) (b : List ℕ) (yielded : List EventValue) (f : Forest) → Stands v b yielded → IsReading v.framing b f → spelling f ≡ b
-stands_spelled v b yielded f st r =
-    let spells : Spells (top_place v.framing) b (reading_of st.private_state.state) = state-spells v b yielded st.private_state.state st.private_state.has_state in
-    ap spelling (reading-unique v.framing b f (reading_of st.private_state.state) r (state-reading v b yielded st.private_state.state st.private_state.has_state)) ∙ spells.spelled
-
--- if nothing waits, all events of the reading were yielded
-pub stands_yielded : (v : WalkerState) (b : List ℕ) (yielded : List EventValue) (f : Forest) → Stands v b yielded → waiting_events v ≡ [] → IsReading v.framing b f → AreEqualJoined yielded (events f)
-stands_yielded v b yielded f st idle r =
-    let all : AreEqualJoined (yielded ++ waiting_events v) (events st.reads.reading) = st.reads.all_events in
-    subst (λ (es : List EventValue). AreEqualJoined es (events f)) (ap (λ (es : List EventValue). yielded ++ es) idle ∙ append-nil yielded)
-    (subst (λ (g : Forest). AreEqualJoined (yielded ++ waiting_events v) (events g)) (reading-unique v.framing b st.reads.reading f st.reads.is_reading r) all)
-
--- ---- an octet that is refused
-
-fault_octets : (w v : WalkerState) (b piece : List ℕ) (yielded more : List EventValue) (e : Fault) → (k : WalksTo w v piece more e b yielded) → (b ++ k.taken) ++ k.octet ∷ k.others ≡ b ++ piece
-fault_octets w v b piece yielded more e k = append_assoc b k.taken (k.octet ∷ k.others) ∙ ap (λ (o : List ℕ). b ++ o) (sym k.piece_is)
-
-fault_is_reading : (w v : WalkerState) (b piece : List ℕ) (yielded more : List EventValue) (e : Fault) → (k : WalksTo w v piece more e b yielded) → IsReading w.framing (b ++ piece) k.refused.reading
-fault_is_reading w v b piece yielded more e k = subst (λ (o : List ℕ). IsReading w.framing o k.refused.reading) (fault_octets w v b piece yielded more e k) (k.refused.stays k.others)
-
-fault_reading : (w v : WalkerState) (b piece : List ℕ) (yielded more : List EventValue) (e : Fault) (f : Forest) → (k : WalksTo w v piece more e b yielded) → IsReading w.framing (b ++ piece) f → k.refused.reading ≡ f
-fault_reading w v b piece yielded more e f k r =
-    reading-unique w.framing (b ++ piece) k.refused.reading f (fault_is_reading w v b piece yielded more e k) r
-
-module _ {S : Type 0} (next : S → EventValue → Effect S) where
-  -- ---- what was put is flushed, or cannot be
-
-  module _ {D : Type 0} where
-    fault_goes_on : (x y : WalkState S D) (piece : List ℕ) (more : List EventValue) (e : Fault) → FollowsToFault next x y piece more e → (b : List ℕ) (yielded : List EventValue) → Stands x.walker b yielded
-        → GoesOnIn x.walker.framing (b ++ piece) (yielded ++ more)
-    fault_goes_on x y piece more e to b yielded st f r =
-        let k : WalksTo x.walker y.walker piece more e b yielded = to.walked b yielded st in (
-          [],
-          subst (λ (es : List EventValue). AreEqualJoined es (events f)) (sym (append-nil (yielded ++ more)))
-              (subst (λ (g : Forest). AreEqualJoined (yielded ++ more) (events g)) (fault_reading x.walker y.walker b piece yielded more e f k r) k.refused.all_events),
-        )
-
-    pauses_failing : (x y : WalkState S D) (piece : List ℕ) (more : List EventValue) (why : Pause) → Pauses next x y piece more (Ok why) → Fails next x y piece more
-    pauses_failing x y piece more pause.UsedUp k = record { yields = walked_goes_on x.walker y.walker piece [] more k.follows.walked }
-    pauses_failing x y piece more (pause.Fault f) k = record { yields = fault_goes_on x y piece more f k }
-    pauses_failing x y piece more pause.Enough k = record { yields = walked_goes_on x.walker y.walker piece k.rest more k.follows.walked }
-
-    -- the walker and the follower are the same, and so is where the piece is followed no further
-    pauses_same : (x y : WalkState S D) (c : Out D) (piece : List ℕ) (more : List EventValue) (why : Pause) → Pauses next x y piece more (Ok why) → Pauses next x (walk_state y.walker y.follower c) piece more (Ok why)
-    pauses_same x y c piece more pause.UsedUp k = record { follows = record { made = k.follows.made; walked = k.follows.walked }; offset = k.offset; ready = k.ready }
-    pauses_same x y c piece more (pause.Fault f) k = record { made = k.made; walked = k.walked }
-    pauses_same x y c piece more pause.Enough k = record { rest = k.rest; follows = record { made = k.follows.made; walked = k.follows.walked }; after_event = k.after_event }
-
-    module _ (state_of : D → DrainState) (x y : WalkState S D) (c : Out D) (piece : List ℕ) (octets : AreOctets piece) (none : held_octets x.out ≡ []) where
-      -- the piece was followed, and what was put was flushed
-      pub pauses_flushed : (why : Pause) → FollowsPiece next state_of x y piece (Ok why) → Puts {T = ⊤} {E = WriteFault} state_of y.out c [] (Ok tt) → held_octets c ≡ []
-          → FollowsAndFlushes next state_of x (walk_state y.walker y.follower c) piece (Ok why)
-      pauses_flushed why k flushed empty = record {
-        octets = octets;
-        more = k.more;
-        pauses = pauses_same x y c piece k.more why k.pauses;
-        sends = sends_flushed state_of x.out y.out c (drain_of x.out).now (drain_of c).now (effect_of next x.follower k.more).put why tt refl none refl k.puts flushed empty;
-        same_reference = flushed.same_reference ∙ k.puts.same_reference;
-        empty = empty;
-      }
-
-      -- or could not be flushed
-      pub pauses_unflushed : (why : Pause) (e f : WriteFault) → FollowsPiece next state_of x y piece (Ok why) → Puts {T = ⊤} {E = WriteFault} state_of y.out c [] (Err e)
-          → FollowsAndFlushes next state_of x (walk_state y.walker y.follower c) piece (Err f)
-      pauses_unflushed why e f k unflushed =
-          let text : List ℕ = (effect_of next x.follower k.more).put in record {
-            octets = octets;
-            more = k.more;
-            pauses = record { yields = (pauses_failing x y piece k.more why k.pauses).yields };
-            sends = sends_puts state_of x.out c (drain_of x.out).now (drain_of c).now text (Err f) refl none refl
-                (puts_failed_last state_of x.out c text e (Err f) (puts_then_as state_of x.out y.out c text [] text why (Err e) k.puts unflushed (append-nil text)) refl) tt;
-            same_reference = unflushed.same_reference ∙ k.puts.same_reference;
-            empty = tt;
-          }
-
-    -- the drain failed before
-    pub fails_sent : (state_of : D → DrainState) (x y : WalkState S D) (piece : List ℕ) → AreOctets piece → held_octets x.out ≡ [] → (e f : WriteFault) → FollowsPiece next state_of x y piece (Err e)
-        → FollowsAndFlushes next state_of x y piece (Err f)
-    fails_sent state_of x y piece octets none e f k =
-        let text : List ℕ = (effect_of next x.follower k.more).put in record {
-          octets = octets;
-          more = k.more;
-          pauses = k.pauses;
-          sends = sends_puts state_of x.out y.out (drain_of x.out).now (drain_of y.out).now text (Err f) refl none refl (puts_failed_last state_of x.out y.out text e (Err f) k.puts refl) tt;
-          same_reference = k.puts.same_reference;
-          empty = tt;
-        }
 
 -- ---- what was made of a piece, by why it is not followed any further
 
@@ -164,7 +70,8 @@ module _ {S D : Type 0} (next : S → EventValue → Effect S) (old new : TurnSt
   -- the piece is used up
   pub used_up_on : FollowsAll next x y piece more → StandsAfter next old new (b ++ piece) yielded
   used_up_on k = record {
-    follows = record { more = more; made = k.follows.made; put = put; framing = k.follows.walked.framing };
+    all = yielded ++ more;
+    follows = record { more = more; all_is = refl; made = k.follows.made; put = put; framing = k.follows.walked.framing };
     stands = subst (λ (o : List ℕ). Stands v (b ++ o) (yielded ++ more)) (sym (append-nil k.follows.walked.taken) ∙ sym k.follows.walked.piece_is) (k.follows.walked.stands b yielded st);
     idle = k.ready.0;
   }
@@ -177,7 +84,8 @@ module _ {S D : Type 0} (next : S → EventValue → Effect S) (old new : TurnSt
       let further = walked_goes_on w v piece k.rest more walked b yielded st f read in
       let there : Stands v (b ++ walked.taken) (yielded ++ more) = walked.stands b yielded st in
       let front : flat_map event_octets (yielded ++ more) ≡ b ++ walked.taken = stands-yielded_octets v (b ++ walked.taken) (yielded ++ more) there k.after_event in record {
-        follows = record { more = more; made = k.follows.made; put = put; framing = walked.framing };
+        all = yielded ++ more;
+        follows = record { more = more; all_is = refl; made = k.follows.made; put = put; framing = walked.framing };
         others = further.0;
         reads = record { reading = f; is_reading = read; all_events = further.1 };
         is_prefix = (k.rest, ap (λ (o : List ℕ). o ++ k.rest) front ∙ append_assoc b walked.taken k.rest ∙ ap (λ (o : List ℕ). b ++ o) (sym walked.piece_is));
@@ -192,7 +100,8 @@ module _ {S D : Type 0} (next : S → EventValue → Effect S) (old new : TurnSt
   pub fault_ends : (e : Fault) → FollowsToFault next x y piece more e → (run : Run) → IsRun run (ending.Fault e) false v → EndsIn next old new (b ++ piece) yielded run
   fault_ends e to_fault run is =
       let k : WalksTo w v piece more e b yielded = to_fault.walked b yielded st in record {
-        follows = record { more = more; made = to_fault.made; put = put; framing = k.framing };
+        all = yielded ++ more;
+        follows = record { more = more; all_is = refl; made = to_fault.made; put = put; framing = k.framing };
         reads = record { reading = k.refused.reading; is_reading = fault_is_reading w v b piece yielded more e k; all_events = k.refused.all_events };
         ending = subst (λ (g : Ending). IsEnding w.framing (b ++ piece) g) (sym is.ending) (subst (λ (o : List ℕ). IsEnding w.framing o (ending.Fault e)) (fault_octets w v b piece yielded more e k) (k.refused.ends k.others));
         run_is =
@@ -207,10 +116,11 @@ used_up_ends : {S : Type 0} (next : S → EventValue → Effect S) (old new : Tu
 used_up_ends next old new o yielded run e x is ends =
     let w : WalkerState = old.walker in
     let v : WalkerState = new.walker in
-    let all : List EventValue = yielded ++ x.follows.more in
+    let all : List EventValue = x.all in
     let same : v.framing ≡ w.framing = x.follows.framing in
     let f : Forest = x.stands.reads.reading in
     let r : IsReading v.framing o f = x.stands.reads.is_reading in record {
+      all = x.all;
       follows = x.follows;
       reads = record { reading = f; is_reading = subst (λ (g : Framing). IsReading g o f) same r; all_events = stands_yielded v o all f x.stands x.idle r };
       ending = subst (λ (k : Ending). IsEnding w.framing o k) (sym is.ending) (subst (λ (g : Framing). IsEnding g o e) same ends);
@@ -293,7 +203,7 @@ module _ {S D : Type 0} (next : S → EventValue → Effect S) (old new : TurnSt
       → ((o : List ℕ) (es : List EventValue) → Stands new.walker o es → IsEnding new.walker.framing o e) → TurnsTo next old new limit b yielded r (Ok (Ended run))
   turns_end run e why x none is ends =
       let on = used why x in
-      at_input_end (ends_in run (used_up_ends next old new (b ++ piece) yielded run e on is (ends (b ++ piece) (yielded ++ on.follows.more) on.stands)))
+      at_input_end (ends_in run (used_up_ends next old new (b ++ piece) yielded run e on is (ends (b ++ piece) on.all on.stands)))
       (is_r ∙ ap (λ (k : ℕ). take k p) none)
 
   turns_fault : (run : Run) (e : Fault) (why : Pause) → Followed why (pause.Fault e) → IsRun run (ending.Fault e) false new.walker
