@@ -25,7 +25,7 @@ SettledResultsStay =
     (command : Command) (names : Table) (b c : List ℕ) (made : CommandResult) → AreOctets (b ++ c)
     → (x : IsResultOf command names b made) → IsSettled x → IsResultOf command names (b ++ c) made
 
--- what is written of an input, of no more octets than are read as encodings, goes on from what is written of its front
+-- what is written of an input, of no more octets than are read as encodings, goes on from what is written of a prefix
 abbrev pub OutputsGoOn : Type 0
 OutputsGoOn =
     (command : Command) (names : Table) (b c : List ℕ) (made more : CommandResult) → length (b ++ c) ≤ 2 ^ 40

@@ -129,11 +129,11 @@ module _ {S : Type 0} (next : S → EventValue → Effect S) where
   one_put s t es e m = ap (λ (f : Effect S). (effect_of next s es).put ++ f.put) (sym (followed-one next t e)) ∙ made_put s t es (e ∷ []) m
 
   module _ {D : Type 0} (state_of : D → DrainState) where
-    -- the front of a piece was followed, and what was made of it was put
-    pub record HasFollowed (before after : WalkState S D) (piece rest : List ℕ) (goes : Go) : Type 0 where
+    -- a prefix of a piece was followed, and what was made of it was put
+    pub record HasFollowed (old new : WalkState S D) (piece rest : List ℕ) (goes : Go) : Type 0 where
       pub more : List EventValue
-      pub follows : Follows next before after piece rest more goes
-      pub puts : HasPut state_of before.out after.out (effect_of next before.follower more).put
+      pub follows : Follows next old new piece rest more goes
+      pub puts : HasPut state_of old.out new.out (effect_of next old.follower more).put
 
     -- a follower that has followed nothing
     pub follows_none : (x : WalkState S D) (piece : List ℕ) → HasFollowed x x piece piece go.On

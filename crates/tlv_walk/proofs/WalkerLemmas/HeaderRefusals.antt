@@ -116,19 +116,19 @@ reader_there w b yielded s q depth e has d =
     }
 
 -- the octet that its reader refuses
-pub refuses_header : (w u : WalkerState) (r q : HeadReaderState) (before after rest : List ℕ) (x depth at : ℕ) (f : Fault) → HandsOver w u r → HasTaken r q before after → after ≡ x ∷ rest
+pub refuses_header : (w u : WalkerState) (r q : HeadReaderState) (piece rest others : List ℕ) (x depth at : ℕ) (f : Fault) → HandsOver w u r → HasTaken r q piece rest → rest ≡ x ∷ others
     → IsWithin (bound_of u.stack) at → q.offset + length q.octets ≡ at → depth ≡ length u.stack
     → (q.octets ≡ [] → room_to (bound_of u.stack) at ≢ Some 0) → IsRefusedPush f.code q x (room_to (bound_of u.stack) at) depth → f.offset ≡ q.offset + length q.octets
-    → RefusesOctet w before after f
-refuses_header w u r q before after rest x depth at f over k e within place deep room refused there =
+    → RefusesOctet w piece rest f
+refuses_header w u r q piece rest others x depth at f over k e within place deep room refused there =
     let some : q.octets ≡ [] → ⊥ = λ none. refused-some f.code q x _ depth refused (room none) none in record {
       taken = k.taken;
       octet = x;
-      others = rest;
-      piece_is = k.piece ∙ ap (λ (l : List ℕ). k.taken ++ l) e;
+      others = others;
+      piece_is = k.piece_is ∙ ap (λ (l : List ℕ). k.taken ++ l) e;
       rest_is = e;
       refuses = λ b yielded s has.
-          let t : TakenState w u q k.taken b yielded = taken_state w u r q before after over k some (subst (IsWithin (bound_of u.stack)) (sym place) within) b yielded s has in
+          let t : TakenState w u q k.taken b yielded = taken_state w u r q piece rest over k some (subst (IsWithin (bound_of u.stack)) (sym place) within) b yielded s has in
           let has' : HasZipper (in_header w q) (b ++ k.taken) yielded (with_tail t.state (InHeader q.octets)) =
           subst (λ (es : List EventValue). HasZipper (in_header w q) (b ++ k.taken) es (with_tail t.state (InHeader q.octets))) (append-nil yielded) t.has in
           let same : u.stack ≡ w.stack = ap (λ (m : WalkerState). m.stack) t.same in

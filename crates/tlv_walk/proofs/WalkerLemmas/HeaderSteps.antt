@@ -52,10 +52,10 @@ handed_front w u r (inr h) b yielded s has some = absurd (some h.0.none)
 
 -- ---- octets that a reader takes
 
--- from r to q, octets were taken from the front of a piece
-pub record HasTaken (r q : HeadReaderState) (before after : List ℕ) : Type 0 where
+-- from r to q, a prefix of a piece was taken
+pub record HasTaken (r q : HeadReaderState) (piece rest : List ℕ) : Type 0 where
   pub taken : List ℕ
-  pub piece : before ≡ taken ++ after
+  pub piece_is : piece ≡ taken ++ rest
   pub octets : q.octets ≡ r.octets ++ taken
   pub offset : q.offset ≡ r.offset
   pub named : q.named ≡ r.named
@@ -63,14 +63,14 @@ pub record HasTaken (r q : HeadReaderState) (before after : List ℕ) : Type 0 w
 
 -- none yet
 pub taken_none : (r : HeadReaderState) (piece : List ℕ) → HasTaken r r piece piece
-taken_none r piece = record { taken = []; piece = refl; octets = sym (append-nil r.octets); offset = refl; named = refl; front = inl refl }
+taken_none r piece = record { taken = []; piece_is = refl; octets = sym (append-nil r.octets); offset = refl; named = refl; front = inl refl }
 
 -- one more
-pub taken_more : (r q p : HeadReaderState) (before after rest : List ℕ) (x : ℕ) → HasTaken r q before after → after ≡ x ∷ rest → IsFront (q.octets ++ x ∷ []) → p ≡ with_octet q x → HasTaken r p before rest
-taken_more r q p before after rest x k e front same =
-    subst (λ (p : HeadReaderState). HasTaken r p before rest) (sym same) (record {
+pub taken_more : (r q p : HeadReaderState) (piece rest others : List ℕ) (x : ℕ) → HasTaken r q piece rest → rest ≡ x ∷ others → IsFront (q.octets ++ x ∷ []) → p ≡ with_octet q x → HasTaken r p piece others
+taken_more r q p piece rest others x k e front same =
+    subst (λ (p : HeadReaderState). HasTaken r p piece others) (sym same) (record {
       taken = k.taken ++ x ∷ [];
-      piece = k.piece ∙ (ap (λ (l : List ℕ). k.taken ++ l) e ∙ sym (append_assoc k.taken (x ∷ []) rest));
+      piece_is = k.piece_is ∙ (ap (λ (l : List ℕ). k.taken ++ l) e ∙ sym (append_assoc k.taken (x ∷ []) others));
       octets = ap (λ (l : List ℕ). l ++ x ∷ []) k.octets ∙ append_assoc r.octets k.taken (x ∷ []);
       offset = k.offset;
       named = k.named;
@@ -87,9 +87,9 @@ pub record TakenState (w u : WalkerState) (q : HeadReaderState) (t b : List ℕ)
   pub has : HasZipper (in_header w q) (b ++ t) (yielded ++ []) (with_tail state (InHeader q.octets))
   pub same : u ≡ record w { phase = phase.Between; has_element = true }
 
-pub taken_state : (w u : WalkerState) (r q : HeadReaderState) (before after : List ℕ) → HandsOver w u r → (k : HasTaken r q before after) → (q.octets ≡ [] → ⊥)
+pub taken_state : (w u : WalkerState) (r q : HeadReaderState) (piece rest : List ℕ) → HandsOver w u r → (k : HasTaken r q piece rest) → (q.octets ≡ [] → ⊥)
     → IsWithin (bound_of u.stack) (q.offset + length q.octets) → (b : List ℕ) (yielded : List EventValue) (s : Zipper) → HasZipper w b yielded s → TakenState w u q k.taken b yielded
-taken_state w u r q before after over k some fits b yielded s has =
+taken_state w u r q piece rest over k some fits b yielded s has =
     let h = handed w u r over b yielded s has in
     let within : IsWithin (bound_of w.stack) (q.offset + length q.octets) = subst (λ (m : WalkerState). IsWithin (bound_of m.stack) (q.offset + length q.octets)) h.2 fits in
     record { state = h.0; has = front_state w b yielded h.0 r q k.taken h.1 k.octets k.offset k.named some (front_taken k.front) within; same = h.2 }
@@ -108,18 +108,18 @@ handed_wrappers w u r (inl h) = ap (λ (m : WalkerState). m.wrapper_count) h.1
 handed_wrappers w u r (inr h) = ap (λ (m : WalkerState). m.wrapper_count) h.1
 
 -- the piece is used up inside a header
-pub yields_unfinished : (w u : WalkerState) (r q : HeadReaderState) (before : List ℕ) (at : ℕ) → HandsOver w u r → HasTaken r q before [] → (q.octets ≡ [] → ⊥) → q.offset + length q.octets ≡ at
-    → IsWithin (bound_of u.stack) at → Continues w (record u { phase = phase.InHeader q; offset = at }) before []
-yields_unfinished w u r q before at over k some e fits = record {
+pub yields_unfinished : (w u : WalkerState) (r q : HeadReaderState) (piece : List ℕ) (at : ℕ) → HandsOver w u r → HasTaken r q piece [] → (q.octets ≡ [] → ⊥) → q.offset + length q.octets ≡ at
+    → IsWithin (bound_of u.stack) at → Continues w (record u { phase = phase.InHeader q; offset = at }) piece []
+yields_unfinished w u r q piece at over k some e fits = record {
   framing = handed_framing w u r over;
   found = handed_wrappers w u r over;
   goes = λ b yielded s has.
-      let t : TakenState w u q k.taken b yielded = taken_state w u r q before [] over k some (subst (IsWithin (bound_of u.stack)) (sym e) fits) b yielded s has in
+      let t : TakenState w u q k.taken b yielded = taken_state w u r q piece [] over k some (subst (IsWithin (bound_of u.stack)) (sym e) fits) b yielded s has in
       let new : in_header w q ≡ record u { phase = phase.InHeader q; offset = at } =
       ap (λ (n : ℕ). record w { phase = phase.InHeader q; offset = n; has_element = true }) e ∙ ap (λ (m : WalkerState). record m { phase = phase.InHeader q; offset = at }) (sym t.same) in
-      let all : k.taken ≡ before = sym (k.piece ∙ append-nil k.taken) in (
+      let all : k.taken ≡ piece = sym (k.piece_is ∙ append-nil k.taken) in (
         with_tail t.state (InHeader q.octets),
-        subst (λ (m : WalkerState). HasZipper m (b ++ before) (yielded ++ []) (with_tail t.state (InHeader q.octets))) new
+        subst (λ (m : WalkerState). HasZipper m (b ++ piece) (yielded ++ []) (with_tail t.state (InHeader q.octets))) new
             (subst (λ (o : List ℕ). HasZipper (in_header w q) (b ++ o) (yielded ++ []) (with_tail t.state (InHeader q.octets))) all t.has),
       );
 }
@@ -199,11 +199,11 @@ whole_enters u q x depth at h fewer place limit deep c f =
     }
 
 -- and the walker yields it
-pub whole_yields : (w u new : WalkerState) (r q : HeadReaderState) (before after rest : List ℕ) (x : ℕ) (h : HeaderValue) (e : EventValue) → HandsOver w u r → HasTaken r q before after → after ≡ x ∷ rest → Completes q x h
-    → YieldsHeader u new h e → YieldsEvent w new before rest e
-whole_yields w u new r q before after rest x h e over k f c yields = record {
+pub whole_yields : (w u new : WalkerState) (r q : HeadReaderState) (piece rest others : List ℕ) (x : ℕ) (h : HeaderValue) (e : EventValue) → HandsOver w u r → HasTaken r q piece rest → rest ≡ x ∷ others → Completes q x h
+    → YieldsHeader u new h e → YieldsEvent w new piece others e
+whole_yields w u new r q piece rest others x h e over k f c yields = record {
   taken = k.taken ++ x ∷ [];
-  piece_is = k.piece ∙ (ap (λ (l : List ℕ). k.taken ++ l) f ∙ sym (append_assoc k.taken (x ∷ []) rest));
+  piece_is = k.piece_is ∙ (ap (λ (l : List ℕ). k.taken ++ l) f ∙ sym (append_assoc k.taken (x ∷ []) others));
   continues = yields w r (k.taken ++ x ∷ []) over (record {
     offset = c.offset ∙ k.offset;
     named = c.named ∙ k.named;
@@ -215,7 +215,7 @@ whole_yields w u new r q before after rest x h e over k f c yields = record {
 
 -- octets, or a piece that begins with another octet than 00, below the bound
 abbrev pub CanGive : List ℕ → List ℕ → Option ℕ → Type 0
-CanGive octets piece room = (octets ≢ []) ⊎ ((x : ℕ) × (rest : List ℕ) × (piece ≡ x ∷ rest) × (x ≢ 0) × (room ≢ Some 0))
+CanGive octets piece room = (octets ≢ []) ⊎ ((x : ℕ) × (others : List ℕ) × (piece ≡ x ∷ others) × (x ≢ 0) × (room ≢ Some 0))
 
 -- if it has none, there is room
 pub give_room : (octets piece : List ℕ) (room : Option ℕ) → CanGive octets piece room → octets ≡ [] → room ≢ Some 0
